@@ -1,0 +1,29 @@
+-- The root of a number is the least whose square reaches it, and there is only one.
+use Rattle.std.proofs.Common.{◌≡◌, ℕ, zero, suc, ◌*◌, ◌<◌, ◌≤◌, ltb, cond, Bool, true, false, refl, arith}
+use Rattle.std.proofs.lemmas.Nat.{mul-le}
+use Rattle.std.proofs.lemmas.Bool.Decides.{nat_tests}
+use Rattle.plan_model.specs.Roots.{IsRootAbove, root_above}
+
+-- a number with a greater square is greater
+pub lt-from_squares : (r s n : ℕ) → r * r ≤ n → n < s * s → r < s
+lt-from_squares r s n low high = grind (arith, mul-le s s r r)
+
+next_root : (b : Bool) (n r : ℕ) → ltb (r * r) (suc n) ≡ b → IsRootAbove n r → IsRootAbove (suc n) (cond b (suc r) r)
+next_root true n r e h = record {
+  reaches = (let below : r * r < suc n = grind (arith, nat_tests) in let up : r * r ≤ n = omega arith in omega (arith, h.reaches));
+  least = λ s g. let low : r * r ≤ n = (let below : r * r < suc n = grind (arith, nat_tests) in omega arith) in let more : r < s = lt-from_squares r s n low (omega arith) in omega arith;
+}
+next_root false n r e h = record {
+  reaches = grind (arith, nat_tests);
+  least = λ s g. h.least s (omega arith);
+}
+
+pub root_above-is : (n : ℕ) → IsRootAbove n (root_above n)
+unfolding root_above
+root_above-is zero = record { reaches = omega arith; least = λ s h. omega arith }
+root_above-is (suc n) = next_root (ltb (root_above n * root_above n) (suc n)) n (root_above n) refl (root_above-is n)
+
+pub root_above-unique : (n r : ℕ) → IsRootAbove n r → root_above n ≡ r
+root_above-unique n r h =
+    let own = root_above-is n in
+    omega (arith, own.least r h.reaches, h.least (root_above n) own.reaches)

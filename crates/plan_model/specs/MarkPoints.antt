@@ -1,0 +1,84 @@
+-- The mark points (the samples) of a scene.
+use Rattle.std.specs.Prelude.{ℕ, ◌+◌, ◌-◌, ◌*◌, ◌/◌, ◌%◌, ◌^◌, ◌==◌, nat_lt, ℤ, pos, negsuc, max, bit_xor, List, map, fold, count_by, if◌then◌else◌}
+use Rattle.std.specs.List.{range_with_len}
+use Rattle.plan_model.specs.declared.geometry.Point.{Point}
+use Rattle.plan_model.specs.declared.geometry.Vertex.{Vertex}
+use Rattle.plan_model.specs.declared.scenes.Scene.{Scene}
+use Rattle.plan_model.specs.declared.scenes.Marks.{Marks}
+use Rattle.plan_model.specs.declared.scenes.Marks.TheVariants.{Drawn, Listed}
+
+-- SplitMix64 (Steele, Lea and Flood, OOPSLA 2014): the state that follows a state
+abbrev pub next_state : ℕ → ℕ
+next_state state = (state + 0x9E3779B97F4A7C15) % 2 ^ 64
+
+-- a number xor itself shifted down by k bits, times a factor
+abbrev pub mixed : ℕ → ℕ → ℕ → ℕ
+mixed k factor z = (bit_xor z (z / 2 ^ k) * factor) % 2 ^ 64
+
+-- the word that a state gives
+abbrev pub word_of_state : ℕ → ℕ
+word_of_state state =
+    let z = mixed 27 0x94D049BB133111EB (mixed 30 0xBF58476D1CE4E5B9 state) in bit_xor z (z / 2 ^ 31)
+
+-- the first and the second word drawn from a state
+abbrev pub first_word : ℕ → ℕ
+first_word state = word_of_state (next_state state)
+
+abbrev pub second_word : ℕ → ℕ
+second_word state = word_of_state (next_state (next_state state))
+
+-- how far a coordinate lies below 0, and above it
+abbrev pub below_zero : ℤ → ℕ
+below_zero (pos n) = 0
+below_zero (negsuc n) = n + 1
+
+abbrev pub above_zero : ℤ → ℕ
+above_zero (pos n) = n
+above_zero (negsuc n) = 0
+
+-- how far the body reaches in a direction from its origin
+abbrev pub reach : (Vertex → ℕ) → List Vertex → ℕ
+reach extent body = fold (λ far corner. max far (extent corner)) 0 body
+
+-- Columns or rows of the room of configurations: the first of them, and how many there are.
+pub record Span : Type 0 where
+  pub first : ℕ
+  pub count : ℕ
+
+-- where a body that reaches so far back and forth fits between 0 and a side
+abbrev pub span_within : ℕ → ℕ → ℕ → Span
+span_within side back forth = record { first = back; count = (side + 1) - (back + forth) }
+
+abbrev pub columns : Scene → Span
+columns scene =
+    span_within scene.room.x (reach (λ v. below_zero v.x) scene.body) (reach (λ v. above_zero v.x) scene.body)
+
+abbrev pub rows : Scene → Span
+rows scene =
+    span_within scene.room.y (reach (λ v. below_zero v.y) scene.body) (reach (λ v. above_zero v.y) scene.body)
+
+-- Strip g of the strips that the columns are cut into; where there are fewer columns than strips, all columns.
+abbrev pub strip : Span → ℕ → ℕ → Span
+strip all strips g =
+    if nat_lt all.count strips then all else record { first = all.first + (g * all.count) / strips; count = ((g + 1) * all.count) / strips - (g * all.count) / strips }
+
+-- the place in a span that the upper half of a word picks
+abbrev pub picked : Span → ℕ → ℕ
+picked span word = span.first + ((word / 2 ^ 32) * span.count) / 2 ^ 32
+
+-- drawn mark k: a column of its strip by the first word, a row by the second
+abbrev pub drawn_mark : Scene → ℕ → Point
+drawn_mark scene k =
+    let state = (scene.seed + k) % 2 ^ 64 in record { x = picked (strip (columns scene) scene.strips (k % scene.strips)) (first_word state); y = picked (rows scene) (second_word state) }
+
+abbrev pub points_of : Scene → Marks → List Point
+points_of scene (Listed points) = points
+points_of scene (Drawn n) = map (drawn_mark scene) (range_with_len 0 n)
+
+-- the mark points of a scene, in the order of their numbers
+abbrev pub mark_points : Scene → List Point
+mark_points scene = points_of scene scene.plan
+
+-- how many marks below the limit belong to strip g
+abbrev pub quota_of : ℕ → ℕ → ℕ → ℕ
+quota_of strips g limit = count_by (λ k. k % strips == g) (range_with_len 0 limit)

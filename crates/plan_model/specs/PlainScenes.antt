@@ -1,0 +1,20 @@
+-- Scenes with a point body and no obstacle, in which nothing is rewired; and trees that lie in a room.
+use Rattle.std.specs.Prelude.{◌≡◌, ℕ, ◌≤◌, pos, Option, List, [], ◌∷◌}
+use Rattle.plan_model.specs.declared.geometry.Point.{Point}
+use Rattle.plan_model.specs.declared.trees.Twig.{Twig}
+use Rattle.plan_model.specs.declared.scenes.Scene.{Scene}
+use Rattle.plan_model.specs.Nodes.{HasPoint}
+
+pub record IsPlain (scene : Scene) : Type 0 where
+  pub body : scene.body ≡ record { x = pos 0; y = pos 0 } ∷ []
+  pub obstacles : scene.obstacles ≡ []
+  pub gamma : scene.gamma ≡ 0
+
+-- the point lies between the origin and the room's upper right corner
+pub record IsInRoom (room p : Point) : Type 0 where
+  pub across : p.x ≤ room.x
+  pub upwards : p.y ≤ room.y
+
+-- every node that is present stands in the room
+abbrev pub LiesIn : Point → List (Option Twig) → Type 0
+LiesIn room tree = (n : ℕ) (p : Point) → HasPoint tree n p → IsInRoom room p

@@ -1,0 +1,31 @@
+-- The room of configurations: where the body lies in the room, touching its walls or not.
+use Rattle.std.specs.Prelude.{ℕ, ◌*◌, ℤ, pos, ◌+ℤ◌, ◌*ℤ◌, ◌≤ℤ◌, List, All}
+use Rattle.plan_model.specs.declared.geometry.Point.{Point}
+use Rattle.plan_model.specs.declared.geometry.Vertex.{Vertex}
+
+-- The rational point (x / over, y / over), where over is above 0.
+pub record Rational : Type 0 where
+  pub x : ℤ
+  pub y : ℤ
+  pub over : ℕ
+
+-- a lattice point
+abbrev pub at_lattice : Point → Rational
+at_lattice p = record { x = pos p.x; y = pos p.y; over = 1 }
+
+-- the point moved by a corner of the body
+abbrev pub moved_by : Rational → Vertex → Rational
+moved_by q corner =
+    record { x = q.x +ℤ (pos q.over *ℤ corner.x); y = q.y +ℤ (pos q.over *ℤ corner.y); over = q.over }
+
+-- a point whose coordinates lie between 0 and the room's sides
+pub record IsInBox (room : Point) (q : Rational) : Type 0 where
+  pub left : pos 0 ≤ℤ q.x
+  pub right : q.x ≤ℤ pos (q.over * room.x)
+  pub bottom : pos 0 ≤ℤ q.y
+  pub top : q.y ≤ℤ pos (q.over * room.y)
+
+-- The room of configurations: the point itself, and each corner of the body moved by it, lie in the room.
+pub record InRoom (room : Point) (body : List Vertex) (q : Rational) : Type 0 where
+  pub here : IsInBox room q
+  pub corners : All (λ corner. IsInBox room (moved_by q corner)) body

@@ -1,0 +1,15 @@
+-- Steering from a node towards a mark by at most a step (Steer of RRT*).
+use Rattle.std.specs.Prelude.{ℕ, ◌*◌, nat_le, pos, ◌+ℤ◌, ◌-ℤ◌, ◌*ℤ◌, int_div, unsigned_abs, if◌then◌else◌}
+use Rattle.plan_model.specs.declared.geometry.Point.{Point}
+use Rattle.plan_model.specs.Geometry.{squared_distance}
+use Rattle.plan_model.specs.Roots.{root_above}
+
+-- from a coordinate by step / length of the way to another, truncated towards zero
+abbrev pub advanced : ℕ → ℕ → ℕ → ℕ → ℕ
+advanced from to step len =
+    unsigned_abs (pos from +ℤ int_div ((pos to -ℤ pos from) *ℤ pos step) (pos len))
+
+-- b where it is at most a step away, otherwise a step towards it, whose length is rounded up before the division
+abbrev pub steered : Point → Point → ℕ → Point
+steered a b step =
+    if nat_le (squared_distance a b) (step * step) then b else record { x = advanced a.x b.x step (root_above (squared_distance a b)); y = advanced a.y b.y step (root_above (squared_distance a b)) }

@@ -1,0 +1,52 @@
+-- Sources and sinks: counts of faults, and what a stream in memory is.
+use Rattle.std.specs.Prelude.{ℕ, ◌+◌, ◌-◌, ◌^◌, ◌≤◌, ◌==◌, nat_lt, ◌&&◌, ◌||◌, Bool, min, List, ◌++◌, length, take, Result, Ok, Err, if◌then◌else◌}
+use Rattle.std.specs.List.{list_any}
+use Rattle.plan_model.specs.declared.errors.Failed.{Failed}
+
+-- a count of faults has risen, or stands at its last value
+abbrev pub Rose : ℕ → ℕ → Type 0
+Rose before now = min (before + 1) (2 ^ 64 - 1) ≤ now
+
+-- bytes that are read one after another: those that are left, and whether their end was given
+pub record Stream : Type 0 where
+  pub left : List ℕ
+  pub ended : Bool
+
+-- the end is given by a read of no byte into a slice that is not empty
+abbrev pub ended_after : Bool → ℕ → ℕ → Bool
+ended_after ended len count = ended || (count == 0 && nat_lt 0 len)
+
+-- how many bytes a read or a write moves, where it does not fail
+abbrev pub moved_count : ℕ → ℕ → ℕ → ℕ
+moved_count len most free = min len (min most free)
+
+-- Bytes that were taken into a fixed room: at most so many in one call, and the calls with these numbers fail.
+pub record Taken : Type 0 where
+  pub bytes : List ℕ
+  pub room : ℕ
+  pub most : ℕ
+  pub fails : List ℕ
+  pub calls : ℕ
+  pub faults : ℕ
+
+-- one more, up to the last value of a count
+abbrev pub counted : ℕ → ℕ
+counted n = min (n + 1) (2 ^ 64 - 1)
+
+-- the next call that is handed a byte fails: its number is listed, or the room is full
+abbrev pub is_refused : Taken → Bool
+is_refused sink =
+    list_any (λ number. number == counted sink.calls) sink.fails || sink.room == length sink.bytes
+
+-- how many bytes a call takes that does not fail
+abbrev pub taken_count : Taken → List ℕ → ℕ
+taken_count sink piece = moved_count (length piece) sink.most (sink.room - length sink.bytes)
+
+-- What a call on these bytes answers, and what it leaves. A call on no byte is not numbered and changes nothing.
+abbrev pub write_result : Taken → List ℕ → Result ℕ Failed
+write_result sink piece =
+    if length piece == 0 then Ok 0 else (if is_refused sink then Err (record {}) else Ok (taken_count sink piece))
+
+abbrev pub after_write : Taken → List ℕ → Taken
+after_write sink piece =
+    if length piece == 0 then sink else (if is_refused sink then record { bytes = sink.bytes; room = sink.room; most = sink.most; fails = sink.fails; calls = counted sink.calls; faults = counted sink.faults } else record { bytes = sink.bytes ++ take (taken_count sink piece) piece; room = sink.room; most = sink.most; fails = sink.fails; calls = counted sink.calls; faults = sink.faults })

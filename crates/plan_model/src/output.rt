@@ -1,0 +1,124 @@
+//! Where bytes go.
+
+ghost use Rattle.std.specs.Prelude.{◌≡◌, ◌==◌, ℕ, ◌≤◌, ◌<◌, List, [], length, Option, Some, IfOk, OnErr, Ok};
+ghost use Rattle.std.specs.Io.KnownBytes.{Keeps, WriteAppends};
+ghost use Rattle.std.specs.List.{list_any};
+ghost use Rattle.plan_model.specs.Streams.{Rose, Taken, write_result, after_write};
+
+use crate::errors::{Failed, Memory};
+use std::alloc::Global;
+use std::marker::Model;
+
+/// Bytes that are written one after another, with a count of the writes that failed.
+pub trait Sink {
+    /// The bytes taken so far, where the sink tells them.
+    ghost bytes_taken: { Self → Option (List ℕ) };
+
+    /// How many writes have failed; it stands still at the last value of a `u64`.
+    ghost fault_count: { Self → ℕ };
+
+    /// How many writes have failed.
+    fn faults(&self) -> u64
+        ensures { result ≡ fault_count self.now };
+
+    /// Takes a front of the bytes, one at least, and answers how many; of no bytes it takes none and changes nothing.
+    ///
+    /// `Failed` comes only where the count of faults rose in this call. Then nothing is taken.
+    fn write(&mut self, bytes: &[u8]) -> Result<usize, Failed>
+        ensures bound { IfOk result (λ count. count ≤ length bytes.now) }
+        ensures some { 0 < length bytes.now → IfOk result (λ count. 0 < count) }
+        ensures bytes { WriteAppends (bytes_taken self.old) (bytes_taken self.new) result bytes.now }
+        ensures failed { OnErr result (Rose (fault_count self.old) (fault_count self.new)) }
+        ensures later { fault_count self.old ≤ fault_count self.new }
+        ensures empty { length bytes.now ≡ 0 → (result ≡ Ok 0) × (fault_count self.new ≡ fault_count self.old) };
+}
+
+/// A sink into memory with a fixed room, that takes at most so many bytes in one call, and fails the calls with the
+/// given numbers, counted from 1 over the calls that are handed a byte, and those that find the room full.
+#[derive(Debug, Drop)]
+pub struct MemSink {
+    taken: Vec<u8>,
+    room: usize,
+    most: usize,
+    fails: Vec<u32>,
+    calls: u64,
+    faults: u64,
+}
+
+impl Model for MemSink {
+    ghost use Rattle.std.specs.Prelude.{◌≤◌, length, vec_capacity};
+    ghost use Rattle.plan_model.specs.Streams.{Taken};
+
+    ghost Value = { Taken };
+
+    ghost view = { λ s. record { bytes = s.taken.items; room = s.room; most = s.most; fails = s.fails.items; calls = s.calls; faults = s.faults } };
+
+    ghost invariant = { λ s. (length s.taken.items ≤ s.room) × (s.room ≤ vec_capacity s.taken) × (1 ≤ s.most) };
+}
+
+// Whether the number of this call is one of the numbers.
+fn is_listed(numbers: &[u32], call: u64) -> bool
+    ensures { result ≡ list_any (λ number. number == call) numbers.now }
+{
+    numbers.iter().any(|number| u64::from(*number) == call)
+}
+
+impl MemSink {
+    /// An empty sink. It takes all its memory here.
+    pub fn new(alloc: Global, room: usize, most: usize, fails: &[u32]) -> Result<MemSink, Memory>
+        requires { 1 ≤ most }
+        ensures { IfOk result (λ sink. sink ≡ record { bytes = []; room = room; most = most; fails = fails.now; calls = 0; faults = 0 }) }
+    {
+        Ok(MemSink {
+            taken: Vec::with_capacity(alloc, room)?,
+            room,
+            most,
+            fails: Vec::from_slice(alloc, fails)?,
+            calls: 0,
+            faults: 0,
+        })
+    }
+
+    /// The bytes taken so far.
+    pub fn bytes(&self) -> &[u8]
+        ensures { result.now ≡ self.now.bytes }
+    {
+        self.taken.as_slice()
+    }
+}
+
+impl Sink for MemSink {
+    ghost bytes_taken = { λ s. Some s.bytes };
+
+    ghost fault_count = { λ s. s.faults };
+
+    fn faults(&self) -> u64 {
+        self.faults
+    }
+
+    fn write(&mut self, bytes: &[u8]) -> Result<usize, Failed>
+        ensures bound { IfOk result (λ count. count ≤ length bytes.now) }
+        ensures some { 0 < length bytes.now → IfOk result (λ count. 0 < count) }
+        ensures bytes { WriteAppends (Some self.old.bytes) (Some self.new.bytes) result bytes.now }
+        ensures failed { OnErr result (Rose self.old.faults self.new.faults) }
+        ensures later { self.old.faults ≤ self.new.faults }
+        ensures empty { length bytes.now ≡ 0 → (result ≡ Ok 0) × (self.new.faults ≡ self.old.faults) }
+        // which calls fail, and what is taken
+        ensures answer { result ≡ write_result self.old bytes.now }
+        ensures after { self.new ≡ after_write self.old bytes.now }
+    {
+        if bytes.is_empty() {
+            return Ok(0);
+        }
+        self.calls = self.calls.saturating_add(1);
+        if is_listed(&self.fails, self.calls) || self.room == self.taken.len() {
+            self.faults = self.faults.saturating_add(1);
+            return Err(Failed);
+        }
+        let count = bytes.len().min(self.most).min(self.room - self.taken.len());
+        match self.taken.extend_from_slice(&bytes[..count]) {
+            Ok(()) => Ok(count),
+            Err(_) => unreachable!(),
+        }
+    }
+}

@@ -1,0 +1,36 @@
+//! What became of each mark.
+
+use crate::lists::Sequence;
+
+/// What became of a mark.
+#[derive(Clone, Copy, Debug, PartialEq, Eq)]
+pub enum Outcome {
+    /// A node was placed for it.
+    Placed,
+    /// The steered point is that of the node with this number already.
+    Same(u32),
+    /// The segment from the nearest node to the steered point is not clear.
+    Blocked,
+}
+
+/// The account of one mark.
+#[derive(Clone, Copy, Debug, PartialEq, Eq)]
+pub struct Record {
+    /// The worker that handled the mark.
+    pub worker: u32,
+    /// How many marks that worker had handled before.
+    pub turn: u32,
+    /// The nearest node.
+    pub nearest: u32,
+    /// What became of the mark.
+    pub outcome: Outcome,
+    /// The parent that a placed node was given first, else 0.
+    pub first_parent: u32,
+    /// The cost that a placed node was given first, in 256ths of a lattice step, else 0.
+    pub first_cost: u64,
+    /// The number of binary digits of the number of nodes before a placed node, else 0.
+    pub class: u32,
+}
+
+/// Records, by the number of the mark.
+pub type Records = Sequence<Record>;

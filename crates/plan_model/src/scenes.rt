@@ -1,0 +1,66 @@
+//! A scene, the task that it sets, and the plan of its marks.
+
+ghost use Rattle.std.specs.Prelude.{◌≡◌, ◌≤◌, IsTrue};
+ghost use Rattle.plan_model.specs.Limits.{IsBetween, IsGoal, is_body, are_obstacles, is_plan};
+
+use crate::geometry::{Goal, Point, Vertex};
+use crate::lists::Sequence;
+
+/// The corners of a polygon, counterclockwise.
+pub type Poly = Sequence<Vertex>;
+
+/// Polygons.
+pub type Polys = Sequence<Poly>;
+
+/// Configurations.
+pub type Points = Sequence<Point>;
+
+/// Where the marks (the samples) of a scene come from.
+#[derive(Debug, Drop)]
+pub enum Marks {
+    /// So many marks, drawn from the strips of the room by SplitMix64.
+    Drawn(u32),
+    /// These marks, in this order.
+    Listed(Points),
+}
+
+/// A planning problem: a translating convex body among convex obstacles.
+///
+/// Lengths are in lattice steps. The body at a configuration `q` is `body` moved by `q`.
+#[derive(Debug, Drop)]
+pub struct Scene {
+    /// The version of the scene text, 1.
+    pub version: u8,
+    /// The upper right corner of the room, whose lower left corner is (0, 0): each coordinate 1 to 65,535.
+    pub room: Point,
+    /// One corner, or a strictly convex polygon of 3 to 16 corners, each coordinate within 4,096.
+    pub body: Poly,
+    /// Up to 1,024 strictly convex polygons of 3 to 64 corners.
+    pub obstacles: Polys,
+    /// Where the tree begins.
+    pub start: Point,
+    /// The closed box of configurations that is to be reached.
+    pub goal: Goal,
+    /// The longest edge of the tree, 4 to 4,096 (the range of RRT*).
+    pub step: u32,
+    /// The factor of the rewiring radius, 0 to 16,777,215; with 0 nothing is rewired.
+    pub gamma: u32,
+    /// The seed of drawn marks.
+    pub seed: u64,
+    /// Into how many strips the room is cut for drawn marks, 1 to 64.
+    pub strips: u32,
+    /// The marks, up to 262,143.
+    pub plan: Marks,
+    ghost version_is_one: { version ≡ 1 },
+    ghost room_within: { IsBetween 1 65535 room },
+    ghost body_within: { IsTrue (is_body body) },
+    ghost obstacles_within: { IsTrue (are_obstacles obstacles) },
+    ghost start_within: { IsBetween 0 65535 start },
+    ghost goal_within: { IsGoal goal },
+    ghost step_low: { 4 ≤ step },
+    ghost step_high: { step ≤ 4096 },
+    ghost gamma_high: { gamma ≤ 16777215 },
+    ghost strips_low: { 1 ≤ strips },
+    ghost strips_high: { strips ≤ 64 },
+    ghost plan_within: { IsTrue (is_plan plan) },
+}

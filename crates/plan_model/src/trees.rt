@@ -1,0 +1,38 @@
+//! The tree of nodes. Node 0 is the start, and node `k + 1` belongs to mark `k`.
+
+use crate::geometry::Point;
+use crate::lists::Sequence;
+use crate::records::Records;
+
+/// A node: a vertex of the tree with the edge to its parent.
+#[derive(Clone, Copy, Debug, PartialEq, Eq)]
+pub struct Twig {
+    /// Where it stands.
+    pub point: Point,
+    /// The number of its parent; the start is its own.
+    pub parent: u32,
+}
+
+/// Nodes by number; absent where the mark was not placed.
+pub type Twigs = Sequence<Option<Twig>>;
+
+/// A tree with its account of every mark.
+#[derive(Debug, Drop)]
+pub struct Tree {
+    pub twigs: Twigs,
+    pub records: Records,
+}
+
+/// A node with its kept cost-to-come, in 256ths of a lattice step.
+#[derive(Clone, Copy, Debug, PartialEq, Eq)]
+pub struct Knot {
+    /// Where it stands.
+    pub point: Point,
+    /// The number of its parent; the start is its own.
+    pub parent: u32,
+    /// The cost from the start, as it is kept.
+    pub cost: u64,
+}
+
+/// Nodes with their kept costs by number; absent where the mark was not placed.
+pub type Knots = Sequence<Option<Knot>>;
