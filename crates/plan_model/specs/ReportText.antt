@@ -19,14 +19,14 @@ abbrev pub is_in_goal : Goal → Point → Bool
 is_in_goal goal p =
     (nat_le goal.low.x p.x && nat_le p.x goal.high.x) && (nat_le goal.low.y p.y && nat_le p.y goal.high.y)
 
-abbrev pub is_goal_node : Scene → Option Twig → Bool
-is_goal_node scene None = false
-is_goal_node scene (Some node) = is_in_goal scene.goal node.point
+abbrev pub is_goal_node : Goal → Option Twig → Bool
+is_goal_node goal None = false
+is_goal_node goal (Some node) = is_in_goal goal node.point
 
 -- the nodes that lie in the goal, in rising number
-abbrev pub goal_nodes : Scene → List (Option Twig) → List ℕ
-goal_nodes scene tree =
-    filter (λ n. is_goal_node scene (node_at tree n)) (range_with_len 0 (length tree))
+abbrev pub goal_nodes : Goal → List (Option Twig) → List ℕ
+goal_nodes goal tree =
+    filter (λ n. is_goal_node goal (node_at tree n)) (range_with_len 0 (length tree))
 
 -- of a number and perhaps another that stands after it, the one with the lesser key, the first where both are equal
 abbrev pub lesser : (ℕ → ℕ) → ℕ → Option ℕ → ℕ
@@ -39,8 +39,8 @@ first_least key [] = None
 first_least key (n ∷ ns) = Some (lesser key n (first_least key ns))
 
 -- The best node: the goal node with the least pair of sum and number.
-abbrev pub best_node : Scene → List (Option Twig) → Option ℕ
-best_node scene tree = first_least (sum_of tree) (goal_nodes scene tree)
+abbrev pub best_node : Goal → List (Option Twig) → Option ℕ
+best_node goal tree = first_least (sum_of tree) (goal_nodes goal tree)
 
 abbrev pub point_line : Point → List ℕ
 point_line p = line (decimal p.x ∷ decimal p.y ∷ [])
@@ -85,7 +85,7 @@ nodes_line tree records =
 
 -- The short report: the best path, or that there is none, and the counts.
 abbrev pub short_report : Scene → List (Option Twig) → List Record → List ℕ
-short_report scene tree records = path_lines tree (best_node scene tree) ++ nodes_line tree records
+short_report scene tree records = path_lines tree (best_node scene.goal tree) ++ nodes_line tree records
 
 -- node n with its parent and its sum, if it is present
 abbrev pub node_line : List (Option Twig) → ℕ → Option Twig → List ℕ
