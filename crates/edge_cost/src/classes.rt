@@ -13,3 +13,16 @@ pub fn class(n: u64) -> u32
 {
     n.ilog2() + 1
 }
+
+#[cfg(test)]
+mod tests {
+    use super::*;
+
+    #[test]
+    fn counts_binary_digits(rt: HostRuntime) {
+        for (n, want) in [(1, 1), (2, 2), (3, 2), (4, 3), (262_144, 19)] {
+            assert!(rt; n >= 1);
+            assert_eq!(rt; class(n), want, "at {n}");
+        }
+    }
+}

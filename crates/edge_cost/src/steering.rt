@@ -53,3 +53,25 @@ fn advanced(from: u32, to: u32, step: u32, length: u64) -> u32
     let way = (u64::from(from.abs_diff(to)) * u64::from(step) / length) as u32;
     if from <= to { from + way } else { from - way }
 }
+
+#[cfg(test)]
+mod tests {
+    use super::*;
+    use crate::on_lattice;
+
+    #[test]
+    fn steers_by_at_most_a_step(rt: HostRuntime) {
+        for (a, b, want) in [
+            ((0, 0), (30, 40), (30, 40)),
+            ((0, 0), (60, 80), (30, 40)),
+            ((0, 0), (70, 70), (35, 35)),
+            ((100, 100), (0, 0), (65, 65)),
+        ] {
+            assert_eq!(rt;
+                steer(on_lattice(a), on_lattice(b), 50),
+                on_lattice(want),
+                "from {a:?} towards {b:?}"
+            );
+        }
+    }
+}
