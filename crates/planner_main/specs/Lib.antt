@@ -1,0 +1,4 @@
+pub mod Reach
+pub mod Refusals
+pub mod Delivery
+pub mod Conclusions

@@ -1,0 +1,10 @@
+//! The planner's program.
+#![tactic(auto)]
+
+mod delivery;
+mod refusals;
+mod reports;
+mod standard_streams;
+mod stubs;
+
+fn main() {}

@@ -1,0 +1,79 @@
+//! The line that the program writes in place of a report. It is made without taking memory.
+
+ghost use Rattle.std.specs.Prelude.{◌≡◌, ◌≤◌, ◌+◌, ◌++◌, length, decimal};
+ghost use Rattle.planner_main.specs.Refusals.{number_of_kind, name_of_kind, fault_line};
+
+use arrayvec::ArrayString;
+use itoa::Buffer;
+use plan_model::Kind;
+
+/// A line of a refusal: at most so many bytes.
+const MOST_BYTES: usize = 64;
+
+type Line = ArrayString<MOST_BYTES>;
+
+fn push(line: &mut Line, piece: &str)
+    requires { length line.old.bytes + length piece.now ≤ 64 }
+    ensures { line.new.bytes ≡ line.old.bytes ++ piece.now }
+{
+    line.try_push_str(piece).unwrap()
+}
+
+fn push_number(line: &mut Line, number: u32)
+    requires { length line.old.bytes + 10 ≤ 64 }
+    ensures value { line.new.bytes ≡ line.old.bytes ++ decimal number }
+    ensures short { length line.new.bytes ≤ length line.old.bytes + 10 }
+{
+    let mut buffer = Buffer::new();
+    push(line, buffer.format(number));
+}
+
+fn number_of(kind: Kind) -> u32
+    ensures value { result ≡ number_of_kind kind }
+{
+    match kind {
+        Kind::Version => 1,
+        Kind::Key => 2,
+        Kind::Words => 3,
+        Kind::Number => 4,
+        Kind::Range => 5,
+        Kind::Repeat => 6,
+        Kind::Corners => 7,
+        Kind::Many => 8,
+        Kind::Missing => 9,
+        Kind::Unbuilt => 10,
+    }
+}
+
+fn name_of(kind: Kind) -> &'static str
+    ensures value { result.now ≡ name_of_kind kind }
+    ensures short { length result.now ≤ 10 }
+{
+    match kind {
+        Kind::Version => "Version",
+        Kind::Key => "Key",
+        Kind::Words => "Words",
+        Kind::Number => "Number",
+        Kind::Range => "Range",
+        Kind::Repeat => "Repeat",
+        Kind::Corners => "Corners",
+        Kind::Many => "Many",
+        Kind::Missing => "Missing",
+        Kind::Unbuilt => "Unbuilt",
+    }
+}
+
+/// The refusal of a text, with the number of its line and its kind.
+pub fn refused_line(number: u32, kind: Kind) -> Line
+    ensures { result.bytes ≡ fault_line number kind }
+{
+    let mut line = Line::new();
+    push(&mut line, "line ");
+    push_number(&mut line, number);
+    push(&mut line, " kind ");
+    push_number(&mut line, number_of(kind));
+    push(&mut line, " ");
+    push(&mut line, name_of(kind));
+    push(&mut line, "\n");
+    line
+}
