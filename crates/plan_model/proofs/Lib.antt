@@ -1,2 +1,3 @@
 pub mod RootLaws
 pub mod PlainClearance
+pub mod SumLaws
