@@ -1,0 +1,5 @@
+use Rattle.std.proofs.Common.{arith}
+use Rattle.edge_cost.proofs.costs.cost.Goals as goal
+
+pub returns-clause-bound : goal.returns-clause-bound
+returns-clause-bound c = omega (arith, c.root_above.ensures.least.least 536870911 (omega arith))

@@ -1,0 +1,23 @@
+//! What an edge costs.
+
+ghost use Rattle.std.specs.Prelude.{◌≡◌, ◌^◌, ◌<◌};
+ghost use Rattle.plan_model.specs.Cost.{IsCost, cost_of};
+ghost use Rattle.edge_cost.specs.Lattice.{IsOnLattice};
+
+use crate::distances::{root_above, squared_distance};
+use plan_model::Point;
+
+/// The cost of the edge from `a` to `b`: its length in 256ths of a lattice step, rounded up.
+///
+/// An edge one step along an axis costs 256, and one along a diagonal of the lattice 363, since 256 times
+/// the root of 2 is 362.04. So no edge costs less than its length, and the costs along a path overestimate
+/// its length by less than a 256th of a step an edge. It takes O(1) steps.
+pub fn cost(a: Point, b: Point) -> u64
+    requires from { IsOnLattice a }
+    requires to { IsOnLattice b }
+    ensures value { result ≡ cost_of a b }
+    ensures least { IsCost a b result }
+    ensures bound { result < 2 ^ 29 }
+{
+    root_above(65536 * squared_distance(a, b))
+}

@@ -1,0 +1,55 @@
+//! Steering from a node towards a mark.
+
+ghost use Rattle.std.specs.Prelude.{◌≡◌, ◌≤◌, min, max};
+ghost use Rattle.plan_model.specs.Steering.{advanced, steered};
+ghost use Rattle.edge_cost.specs.Lattice.{IsOnLattice};
+
+use crate::distances::{root_above, squared_distance};
+use plan_model::Point;
+
+/// Steer of RRT*: the point that a new edge from `a` towards the mark `b` ends at, which is `b` itself
+/// where it is at most `step` lattice steps away, and otherwise about `step` along the straight line.
+///
+/// ```text
+///     a ------- result ------------- b        a ----- b
+///     |<-- step -->|                          |<- at most step ->|, so the result is b
+/// ```
+///
+/// With a step of 50, (0, 0) steers towards (60, 80) to (30, 40), and towards (70, 70) to (35, 35).
+/// The length is rounded up and each coordinate towards `a`, so no edge is longer than the step.
+pub fn steer(a: Point, b: Point, step: u32) -> Point
+    requires from { IsOnLattice a }
+    requires to { IsOnLattice b }
+    requires low { 4 ≤ step }
+    requires high { step ≤ 65536 }
+    ensures value { result ≡ steered a b step }
+    ensures left { min a.x b.x ≤ result.x }
+    ensures right { result.x ≤ max a.x b.x }
+    ensures bottom { min a.y b.y ≤ result.y }
+    ensures top { result.y ≤ max a.y b.y }
+{
+    let distance = squared_distance(a, b);
+    if distance <= u64::from(step) * u64::from(step) {
+        return b;
+    }
+    let length = root_above(distance);
+    Point {
+        x: advanced(a.x, b.x, step, length),
+        y: advanced(a.y, b.y, step, length),
+    }
+}
+
+/// The coordinate `from`, moved by `step / length` of the way to `to` and rounded towards `from`.
+fn advanced(from: u32, to: u32, step: u32, length: u64) -> u32
+    requires start { from ≤ 1048575 }
+    requires end { to ≤ 1048575 }
+    requires low { 4 ≤ step }
+    requires high { step ≤ 65536 }
+    requires short { step ≤ length }
+    ensures value { result ≡ advanced from to step length }
+    ensures least { min from to ≤ result }
+    ensures greatest { result ≤ max from to }
+{
+    let way = (u64::from(from.abs_diff(to)) * u64::from(step) / length) as u32;
+    if from <= to { from + way } else { from - way }
+}
