@@ -1,3 +1,5 @@
 pub mod RootLaws
 pub mod PlainClearance
 pub mod SumLaws
+pub mod RunLaws
+pub mod MarkBounds

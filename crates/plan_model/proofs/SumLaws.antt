@@ -31,9 +31,9 @@ chain_points_same (suc most) one other (suc n) h a =
     let e : node_at one (suc n) ≡ node_at other (suc n) = a.agree (suc n) (omega arith) in
     let q : parent_of one (suc n) ≡ parent_of other (suc n) = ap parent_or_start e in
     let rest : map (point_of one) (chain_within most one (parent_of other (suc n))) ≡ map (point_of other) (chain_within most other (parent_of other (suc n))) =
-      chain_points_same most one other (parent_of other (suc n)) h (record { agree = λ j l. a.agree j (omega (arith, h.earlier n)) }) in
+    chain_points_same most one other (parent_of other (suc n)) h (record { agree = λ j l. a.agree j (omega (arith, h.earlier n)) }) in
     let here : point_of one (suc n) ∷ map (point_of one) (chain_within most one (parent_of one (suc n))) ≡ point_of one (suc n) ∷ map (point_of one) (chain_within most one (parent_of other (suc n))) =
-      ap (λ m. point_of one (suc n) ∷ map (point_of one) (chain_within most one m)) q in
+    ap (λ m. point_of one (suc n) ∷ map (point_of one) (chain_within most one m)) q in
     here ∙ ap (λ node. point_or_origin node ∷ map (point_of one) (chain_within most one (parent_of other (suc n)))) e ∙ ap (λ ps. point_of other (suc n) ∷ ps) rest
 
 -- a path from p over a chain is an edge longer than the chain's
@@ -62,11 +62,11 @@ new_sum m all tree node h a e l =
     let P : List Point → Twig → ℕ = λ ps last. length_of_path (last.point ∷ ps) in
     let parent : parent_of all (suc m) ≡ node.parent = ap parent_or_start e in
     let first : length_of_path (map (point_of all) (chain_within (suc (suc m)) all (suc m))) ≡ length_of_path (point_of all (suc m) ∷ map (point_of all) (chain_within (suc m) all node.parent)) =
-      ap (λ i. length_of_path (point_of all (suc m) ∷ map (point_of all) (chain_within (suc m) all i))) parent in
+    ap (λ i. length_of_path (point_of all (suc m) ∷ map (point_of all) (chain_within (suc m) all i))) parent in
     let second : length_of_path (point_of all (suc m) ∷ map (point_of all) (chain_within (suc m) all node.parent)) ≡ length_of_path (node.point ∷ map (point_of all) (chain_within (suc m) all node.parent)) =
-      ap (λ n. length_of_path (point_or_origin n ∷ map (point_of all) (chain_within (suc m) all node.parent))) e in
+    ap (λ n. length_of_path (point_or_origin n ∷ map (point_of all) (chain_within (suc m) all node.parent))) e in
     let third : length_of_path (node.point ∷ map (point_of all) (chain_within (suc m) all node.parent)) ≡ length_of_path (node.point ∷ map (point_of tree) (chain_within (suc m) tree node.parent)) =
-      ap (λ ps. length_of_path (node.point ∷ ps)) (chain_points_same (suc m) all tree node.parent h (record { agree = λ j k. a.agree j (omega arith) })) in
+    ap (λ ps. length_of_path (node.point ∷ ps)) (chain_points_same (suc m) all tree node.parent h (record { agree = λ j k. a.agree j (omega arith) })) in
     let fourth = path_of_chain m tree node.parent node.point in
     first ∙ second ∙ third ∙ fourth ∙ omega arith
 
@@ -89,7 +89,7 @@ node_at-past tree n l = get_or_past tree n None l
 pub IsRising-push : (tree : List (Option Twig)) (node : Option Twig) → IsRising tree → parent_or_start node < length tree → IsRising (tree ++ node ∷ [])
 IsRising-push tree node h l = record {
   earlier = λ n. elim (cases_order (suc n) (length tree)) [
-      inl e ↦ omega (arith, ap parent_or_start (ap (node_at (tree ++ node ∷ [])) e ∙ node_at-push_new tree node))
+    | inl e ↦ omega (arith, ap parent_or_start (ap (node_at (tree ++ node ∷ [])) e ∙ node_at-push_new tree node))
     | inr (inl before) ↦ omega (arith, ap parent_or_start (node_at-push tree node (suc n) before), h.earlier n)
     | inr (inr after) ↦ omega (arith, ap parent_or_start (node_at-past (tree ++ node ∷ []) (suc n) (omega (arith, length-append tree (node ∷ [])))))
   ];
