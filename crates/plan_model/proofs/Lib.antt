@@ -3,3 +3,4 @@ pub mod PlainClearance
 pub mod SumLaws
 pub mod RunLaws
 pub mod MarkBounds
+pub mod PlainRuns
