@@ -1,0 +1,99 @@
+-- The marks of a plain scene are few, and lie at most a step outside of the greatest room.
+use Rattle.std.proofs.Common.{◌≡◌, ℕ, suc, ◌+◌, ◌-◌, ◌*◌, ◌/◌, ◌%◌, ◌^◌, ◌<◌, ◌≤◌, Bool, true, false, cond, ltb, List, [], ◌∷◌, length, map, arith, refl, sym, ap, ◌∙◌}
+use Rattle.std.specs.Prelude.{pos, ℤ, IsTrue, All, bit_xor, nat_le, ◌&&◌}
+use Rattle.std.specs.List.{list_all, range_with_len}
+use Rattle.std.proofs.Math.Nat.{div-le_of_le-mul, div-le_self}
+use Rattle.std.proofs.lemmas.Nat.{mul-le, xor_lt, mod_below, div_below, pow_pos}
+use Rattle.std.proofs.lemmas.List.{length-map}
+use Rattle.std.proofs.lemmas.List.FromFn.{length-range_with_len}
+use Rattle.std.proofs.lemmas.List.Sums.{AllPass-from_list_all}
+use Rattle.std.proofs.lemmas.List.Elements.{All-map, All-weaker}
+use Rattle.std.proofs.lemmas.Bool.{leb-true}
+use Rattle.plan_model.specs.declared.geometry.Point.{Point}
+use Rattle.plan_model.specs.declared.geometry.Vertex.{Vertex}
+use Rattle.plan_model.specs.declared.scenes.Scene.{Scene}
+use Rattle.plan_model.specs.declared.scenes.Marks.{Marks}
+use Rattle.plan_model.specs.declared.scenes.Marks.TheVariants.{Drawn, Listed}
+use Rattle.plan_model.specs.Limits.{IsBetween, is_mark, is_plan}
+use Rattle.plan_model.specs.PlainScenes.{IsPlain}
+use Rattle.plan_model.specs.MarkPoints.{mixed, word_of_state, first_word, second_word, next_state, below_zero, above_zero, reach, Span, span_within, columns, rows, strip, picked, drawn_mark, points_of, mark_points}
+
+-- a share of c is at most c
+share_le : (u c m : ℕ) → u ≤ m → (u * c) / m ≤ c
+share_le u c m h = div-le_of_le-mul m (mul-le u c m c h (omega arith))
+
+-- a number below 2 ^ 64 stays below it where it is mixed with itself shifted
+mixed_below : (z shift : ℕ) → z < 2 ^ 64 → bit_xor z (z / shift) < 2 ^ 64
+mixed_below z shift h = xor_lt 64 z (z / shift) h (omega (arith, div-le_self z shift))
+
+word_below : (state : ℕ) → word_of_state state < 2 ^ 64
+word_below state = mixed_below (mixed 27 0x94D049BB133111EB (mixed 30 0xBF58476D1CE4E5B9 state)) (2 ^ 31) (mod_below _ (2 ^ 64) (pow_pos 64))
+
+picked_le : (span : Span) (word m : ℕ) → 0 < m → word < m * m → span.first + ((word / m) * span.count) / m ≤ span.first + span.count
+picked_le span word m p h = omega (arith, share_le (word / m) span.count m (omega (arith, div_below word m m p h)))
+
+-- the end of a span
+end_of : Span → ℕ
+end_of span = span.first + span.count
+
+cond_end : (b : Bool) (one other : Span) (n : ℕ) → end_of one ≤ n → end_of other ≤ n → end_of (cond b one other) ≤ n
+unfolding end_of
+cond_end true one other n p q = p
+cond_end false one other n p q = q
+
+-- a strip ends where the whole does, or before
+strip_end : (all : Span) (strips g : ℕ) → g < strips → end_of (strip all strips g) ≤ end_of all
+unfolding end_of
+strip_end all strips g h =
+    let low : (g * all.count) / strips ≤ all.count = share_le g all.count strips (omega arith) in
+    let high : ((g + 1) * all.count) / strips ≤ all.count = share_le (g + 1) all.count strips (omega arith) in
+    cond_end (ltb all.count strips) all (record { first = all.first + (g * all.count) / strips; count = ((g + 1) * all.count) / strips - (g * all.count) / strips }) (end_of all) (omega arith) (omega arith)
+
+-- where a body that does not reach back fits, the side bounds
+span_end : (side back forth : ℕ) → back ≡ 0 → end_of (span_within side back forth) ≤ side + 1
+unfolding end_of
+span_end side back forth e = omega arith
+
+picked_below : (span : Span) (word : ℕ) → word < 2 ^ 64 → picked span word ≤ end_of span
+unfolding end_of
+picked_below span word h = picked_le span word (2 ^ 32) (pow_pos 32) h
+
+drawn_within : (scene : Scene) (k : ℕ) → IsPlain scene → IsBetween 1 65535 scene.room → 1 ≤ scene.strips → IsBetween 0 65536 (drawn_mark scene k)
+drawn_within scene k plain room strips =
+    let state : ℕ = (scene.seed + k) % 2 ^ 64 in
+    let back_x : reach (λ v. below_zero v.x) scene.body ≡ 0 = ap (reach (λ v. below_zero v.x)) plain.body in
+    let back_y : reach (λ v. below_zero v.y) scene.body ≡ 0 = ap (reach (λ v. below_zero v.y)) plain.body in
+    let own = strip (columns scene) scene.strips (k % scene.strips) in
+    let g : k % scene.strips < scene.strips = mod_below k scene.strips (omega arith) in
+    let x = picked_below own (first_word state) (word_below (next_state state)) in
+    let x_end = strip_end (columns scene) scene.strips (k % scene.strips) g in
+    let x_side = span_end scene.room.x (reach (λ v. below_zero v.x) scene.body) (reach (λ v. above_zero v.x) scene.body) back_x in
+    let y = picked_below (rows scene) (second_word state) (word_below (next_state (next_state state))) in
+    let y_side = span_end scene.room.y (reach (λ v. below_zero v.y) scene.body) (reach (λ v. above_zero v.y) scene.body) back_y in
+    record { left = omega arith; right = omega (arith, x, x_end, x_side, room.right); bottom = omega arith; top = omega (arith, y, y_side, room.top) }
+
+first_true : (a b : Bool) → (a && b) ≡ true → a ≡ true
+first_true true b h = refl
+first_true false b h = cc
+
+second_true : (a b : Bool) → (a && b) ≡ true → b ≡ true
+second_true true b h = h
+second_true false b h = cc
+
+listed_within : (p : Point) → is_mark p ≡ true → IsBetween 0 65536 p
+listed_within p h =
+    let x = leb-true p.x 65535 (first_true _ _ h) in
+    let y = leb-true p.y 65535 (second_true _ _ h) in
+    record { left = omega arith; right = omega (arith, x); bottom = omega arith; top = omega (arith, y) }
+
+-- no coordinate of a mark is above 65,536
+pub All-marks_within : (scene : Scene) (plan : Marks) → IsPlain scene → IsBetween 1 65535 scene.room → 1 ≤ scene.strips → IsTrue (is_plan plan) → All (IsBetween 0 65536) (points_of scene plan)
+All-marks_within scene (Drawn n) plain room strips h =
+    All-map (IsBetween 0 65536) (drawn_mark scene) (range_with_len 0 n) (λ k d l. drawn_within scene _ plain room strips)
+All-marks_within scene (Listed points) plain room strips h =
+    All-weaker (λ p. is_mark p ≡ true) (IsBetween 0 65536) listed_within points (AllPass-from_list_all is_mark points (second_true _ _ h))
+
+-- there are at most 262,143 marks
+pub length-points_of : (scene : Scene) (plan : Marks) → IsTrue (is_plan plan) → length (points_of scene plan) ≤ 262143
+length-points_of scene (Drawn n) h = omega (arith, length-map (range_with_len 0 n) (drawn_mark scene), length-range_with_len 0 n, leb-true n 262143 h)
+length-points_of scene (Listed points) h = leb-true (length points) 262143 (first_true _ _ h)
