@@ -1,5 +1,5 @@
 -- What the program may answer: each status with its cause and with the text that is written.
-use Rattle.std.specs.Prelude.{◌≡◌, ℕ, ◌+◌, ◌<◌, ◌≤◌, ◌⊎◌, Bool, true, false, List, [], ◌∷◌, length, map, codes, Option, Some, None}
+use Rattle.std.specs.Prelude.{◌≡◌, ◌≢◌, ℕ, ◌+◌, ◌<◌, ◌≤◌, ◌⊎◌, Bool, true, false, List, [], ◌∷◌, length, map, codes, is_some, Option, Some}
 use Rattle.plan_model.specs.declared.trees.Twig.{Twig}
 use Rattle.plan_model.specs.declared.records.Record.{Record}
 use Rattle.plan_model.specs.declared.scenes.Scene.{Scene}
@@ -9,16 +9,18 @@ use Rattle.plan_model.specs.MarkPoints.{mark_points}
 use Rattle.plan_model.specs.Textbook.{IsTextbookRun}
 use Rattle.plan_model.specs.ReportText.{line, best_node, short_report}
 use Rattle.plan_model.specs.SceneGrammar.{Spells, Refused, supported}
-use Rattle.planner_main.specs.Refusals.{fault_line}
+use Rattle.planner_main.specs.declared.refusals.Refusal.{Refusal}
+use Rattle.planner_main.specs.declared.refusals.Refusal.TheVariants as refusals
+use Rattle.planner_main.specs.Refusals.{words_line, long_line, fault_line, start_line, read_line, memory_line}
 
 -- the words `plain`
 abbrev pub ArePlain : List (List ℕ) → Type 0
 ArePlain words = words ≡ codes "plain" ∷ []
 
--- 0 where there is a best node, and else 1
-abbrev pub status_of : Option ℕ → ℕ
-status_of None = 1
-status_of (Some n) = 0
+-- 0 where a path was found, and else 1
+abbrev pub status_of_report : Bool → ℕ
+status_of_report true = 0
+status_of_report false = 1
 
 -- The text is the short report of the textbook run of the scene that the bytes spell, and the status says whether some
 -- node of that run lies in the goal.
@@ -29,24 +31,52 @@ pub record ReportsRun (bytes : List ℕ) (status : ℕ) (text : List ℕ) : Type
   pub spelled : Spells supported bytes scene
   pub start : ClearAt scene scene.start
   pub run : IsTextbookRun scene (mark_points scene) nodes records
-  pub best : status ≡ status_of (best_node scene.goal nodes)
+  pub best : status ≡ status_of_report (is_some (best_node scene.goal nodes))
   pub written : text ≡ short_report scene nodes records
 
 -- the bytes are too many, or the grammar refuses them, with its line and its kind
 abbrev pub RefusesText : List ℕ → List ℕ → Type 0
 RefusesText bytes text =
-    ((16777216 < length bytes) × (text ≡ line (codes "text" ∷ codes "too" ∷ codes "long" ∷ []))) ⊎ ((length bytes ≤ 16777216) × ((number : ℕ) × (kind : Kind) × Refused supported bytes number kind × (text ≡ fault_line number kind)))
+    ((16777216 < length bytes) × (text ≡ long_line)) ⊎ ((length bytes ≤ 16777216) × ((number : ℕ) × (kind : Kind) × Refused supported bytes number kind × (text ≡ fault_line number kind)))
 
 -- the bytes spell a scene whose start is not clear
-abbrev pub BlocksStart : List ℕ → List ℕ → Type 0
-BlocksStart bytes text =
-    (length bytes ≤ 16777216) × (scene : Scene) × Spells supported bytes scene × (¬ ClearAt scene scene.start) × (text ≡ line (codes "start" ∷ codes "blocked" ∷ []))
+pub record BlocksStart (bytes : List ℕ) : Type 0 where
+  pub scene : Scene
+  pub spelled : Spells supported bytes scene
+  pub blocked : ¬ ClearAt scene scene.start
 
-abbrev pub words_line : List ℕ
-words_line = line (codes "words" ∷ codes "refused" ∷ [])
+-- The answer of the program, before it is written: its status, with the cause of that status, and its text. The words
+-- are those of the command line, left are the bytes of the source before the call where it tells them, ended says
+-- whether the source has given its end after it, and rose that the source's count of faults rose in it.
+pub record IsAnswer (words : List (List ℕ)) (left : Option (List ℕ)) (ended : Bool) (rose : Type 0) (status : ℕ) (text : List ℕ) : Type 0 where
+  -- 0 and 1: the report of the textbook run, with a path and without
+  pub report : status ≤ 1 → ArePlain words × (ended ≡ true) × ((bytes : List ℕ) → left ≡ Some bytes → ReportsRun bytes status text)
+  -- 2: the words are not `plain`
+  pub words_refused : status ≡ 2 → (¬ ArePlain words) × (text ≡ words_line)
+  -- 3: the text is too long, or no scene
+  pub text_refused : status ≡ 3 → ArePlain words × ((bytes : List ℕ) → left ≡ Some bytes → RefusesText bytes text)
+  -- 4: the start is not clear
+  pub start_blocked : status ≡ 4 → ArePlain words × (ended ≡ true) × (text ≡ start_line) × ((bytes : List ℕ) → left ≡ Some bytes → BlocksStart bytes)
+  -- 5: the source could not be read
+  pub read_fault : status ≡ 5 → ArePlain words × rose × (ended ≡ false) × (text ≡ read_line)
+  -- 7: there was no memory left
+  pub no_memory : status ≡ 7 → text ≡ memory_line
+  pub other_than_6 : status ≢ 6
+  pub known : status ≤ 7
 
-abbrev pub read_line : List ℕ
-read_line = line (codes "read" ∷ codes "fault" ∷ [])
+-- the status and the line of a refusal
+abbrev pub status_of_refusal : Refusal → ℕ
+status_of_refusal refusals.Words = 2
+status_of_refusal refusals.TooLong = 3
+status_of_refusal (refusals.Text number kind) = 3
+status_of_refusal refusals.StartBlocked = 4
+status_of_refusal refusals.ReadFault = 5
+status_of_refusal refusals.Memory = 7
 
-abbrev pub memory_line : List ℕ
-memory_line = line (codes "no" ∷ codes "memory" ∷ [])
+abbrev pub line_of_refusal : Refusal → List ℕ
+line_of_refusal refusals.Words = words_line
+line_of_refusal refusals.TooLong = long_line
+line_of_refusal (refusals.Text number kind) = fault_line number kind
+line_of_refusal refusals.StartBlocked = start_line
+line_of_refusal refusals.ReadFault = read_line
+line_of_refusal refusals.Memory = memory_line

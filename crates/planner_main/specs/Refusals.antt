@@ -32,3 +32,18 @@ name_of_kind kinds.Unbuilt = codes "Unbuilt"
 abbrev pub fault_line : ℕ → Kind → List ℕ
 fault_line number kind =
     line (codes "line" ∷ decimal number ∷ codes "kind" ∷ decimal (number_of_kind kind) ∷ name_of_kind kind ∷ [])
+
+abbrev pub words_line : List ℕ
+words_line = line (codes "words" ∷ codes "refused" ∷ [])
+
+abbrev pub long_line : List ℕ
+long_line = line (codes "text" ∷ codes "too" ∷ codes "long" ∷ [])
+
+abbrev pub start_line : List ℕ
+start_line = line (codes "start" ∷ codes "blocked" ∷ [])
+
+abbrev pub read_line : List ℕ
+read_line = line (codes "read" ∷ codes "fault" ∷ [])
+
+abbrev pub memory_line : List ℕ
+memory_line = line (codes "no" ∷ codes "memory" ∷ [])

@@ -7,6 +7,23 @@ use arrayvec::ArrayString;
 use itoa::Buffer;
 use plan_model::Kind;
 
+/// Why the program writes no report.
+#[derive(Clone, Copy, Debug, PartialEq, Eq)]
+pub enum Refusal {
+    /// The words of the command line are not `plain`.
+    Words,
+    /// The text has more bytes than a scene may have.
+    TooLong,
+    /// The text is no scene: the number of the line and the kind of its fault.
+    Text(u32, Kind),
+    /// The scene's start is not clear.
+    StartBlocked,
+    /// The source could not be read.
+    ReadFault,
+    /// There was no memory left.
+    Memory,
+}
+
 /// A line of a refusal: at most so many bytes.
 const MOST_BYTES: usize = 64;
 
@@ -63,8 +80,8 @@ fn name_of(kind: Kind) -> &'static str
     }
 }
 
-/// The refusal of a text, with the number of its line and its kind.
-pub fn refused_line(number: u32, kind: Kind) -> Line
+// The line of a text that is no scene, with the number of its line and the kind of its fault.
+fn fault_line(number: u32, kind: Kind) -> Line
     ensures { result.bytes ≡ fault_line number kind }
 {
     let mut line = Line::new();
@@ -76,4 +93,44 @@ pub fn refused_line(number: u32, kind: Kind) -> Line
     push(&mut line, name_of(kind));
     push(&mut line, "\n");
     line
+}
+
+fn short_line(text: &str) -> Line
+    requires { length text.now ≤ 64 }
+    ensures { result.bytes ≡ text.now }
+{
+    let mut line = Line::new();
+    push(&mut line, text);
+    line
+}
+
+impl Refusal {
+    ghost use Rattle.planner_main.specs.Conclusions.{status_of_refusal, line_of_refusal};
+
+    /// The status that the program ends with.
+    pub fn status(&self) -> u8
+        ensures { result ≡ status_of_refusal self.now }
+    {
+        match self {
+            Refusal::Words => 2,
+            Refusal::TooLong | Refusal::Text(..) => 3,
+            Refusal::StartBlocked => 4,
+            Refusal::ReadFault => 5,
+            Refusal::Memory => 7,
+        }
+    }
+
+    /// The line that the program writes.
+    pub fn line(&self) -> Line
+        ensures { result.bytes ≡ line_of_refusal self.now }
+    {
+        match self {
+            Refusal::Words => short_line("words refused\n"),
+            Refusal::TooLong => short_line("text too long\n"),
+            Refusal::Text(number, kind) => fault_line(*number, *kind),
+            Refusal::StartBlocked => short_line("start blocked\n"),
+            Refusal::ReadFault => short_line("read fault\n"),
+            Refusal::Memory => short_line("no memory\n"),
+        }
+    }
 }
