@@ -4,7 +4,6 @@ use Rattle.std.specs.List.{range_with_len, join_with_byte}
 use Rattle.plan_model.specs.declared.geometry.Point.{Point}
 use Rattle.plan_model.specs.declared.geometry.Goal.{Goal}
 use Rattle.plan_model.specs.declared.trees.Twig.{Twig}
-use Rattle.plan_model.specs.declared.scenes.Scene.{Scene}
 use Rattle.plan_model.specs.declared.records.Outcome.{Outcome}
 use Rattle.plan_model.specs.declared.records.Outcome.TheVariants.{Placed, Same, Blocked}
 use Rattle.plan_model.specs.declared.records.Record.{Record}
@@ -84,8 +83,8 @@ nodes_line tree records =
     line (codes "nodes" ∷ decimal (count_by is_some tree) ∷ codes "placed" ∷ decimal (count_by is_placed records) ∷ codes "same" ∷ decimal (count_by is_same records) ∷ codes "blocked" ∷ decimal (count_by is_blocked records) ∷ [])
 
 -- The short report: the best path, or that there is none, and the counts.
-abbrev pub short_report : Scene → List (Option Twig) → List Record → List ℕ
-short_report scene tree records = path_lines tree (best_node scene.goal tree) ++ nodes_line tree records
+abbrev pub short_report : Goal → List (Option Twig) → List Record → List ℕ
+short_report goal tree records = path_lines tree (best_node goal tree) ++ nodes_line tree records
 
 -- node n with its parent and its sum, if it is present
 abbrev pub node_line : List (Option Twig) → ℕ → Option Twig → List ℕ
@@ -111,6 +110,6 @@ mark_lines k [] = []
 mark_lines k (entry ∷ records) = mark_line k entry ++ mark_lines (k + 1) records
 
 -- The full report: the short one, and then a line for each node that is present and for each mark.
-abbrev pub full_report : Scene → List (Option Twig) → List Record → List ℕ
-full_report scene tree records =
-    (short_report scene tree records ++ flat_map (λ n. node_line tree n (node_at tree n)) (range_with_len 0 (length tree))) ++ mark_lines 0 records
+abbrev pub full_report : Goal → List (Option Twig) → List Record → List ℕ
+full_report goal tree records =
+    (short_report goal tree records ++ flat_map (λ n. node_line tree n (node_at tree n)) (range_with_len 0 (length tree))) ++ mark_lines 0 records

@@ -3,6 +3,8 @@ use Rattle.std.specs.Prelude.{◌≡◌, ◌≢◌, ℕ, ◌+◌, ◌<◌, ◌�
 use Rattle.plan_model.specs.declared.trees.Twig.{Twig}
 use Rattle.plan_model.specs.declared.records.Record.{Record}
 use Rattle.plan_model.specs.declared.scenes.Scene.{Scene}
+use Rattle.plan_model.specs.declared.scenes.Marks.{Marks}
+use Rattle.plan_model.specs.declared.scenes.Marks.TheVariants.{Drawn, Listed}
 use Rattle.plan_model.specs.declared.text_terms.Kind.{Kind}
 use Rattle.plan_model.specs.Clearance.{ClearAt}
 use Rattle.plan_model.specs.MarkPoints.{mark_points}
@@ -22,17 +24,21 @@ abbrev pub status_of_report : Bool → ℕ
 status_of_report true = 0
 status_of_report false = 1
 
--- The text is the short report of the textbook run of the scene that the bytes spell, and the status says whether some
--- node of that run lies in the goal.
-pub record ReportsRun (bytes : List ℕ) (status : ℕ) (text : List ℕ) : Type 0 where
-  pub scene : Scene
+-- The text is the short report of the textbook run of the scene, and the status says whether some node of that run lies in
+-- the goal.
+pub record ReportsScene (scene : Scene) (status : ℕ) (text : List ℕ) : Type 0 where
   pub nodes : List (Option Twig)
   pub records : List Record
-  pub spelled : Spells supported bytes scene
-  pub start : ClearAt scene scene.start
   pub run : IsTextbookRun scene (mark_points scene) nodes records
   pub best : status ≡ status_of_report (is_some (best_node scene.goal nodes))
-  pub written : text ≡ short_report scene nodes records
+  pub written : text ≡ short_report scene.goal nodes records
+
+-- the same of the scene that the bytes spell, whose start is clear
+pub record ReportsRun (bytes : List ℕ) (status : ℕ) (text : List ℕ) : Type 0 where
+  pub scene : Scene
+  pub spelled : Spells supported bytes scene
+  pub start : ClearAt scene scene.start
+  pub report : ReportsScene scene status text
 
 -- the bytes are too many, or the grammar refuses them, with its line and its kind
 abbrev pub RefusesText : List ℕ → List ℕ → Type 0
@@ -80,3 +86,17 @@ line_of_refusal (refusals.Text number kind) = fault_line number kind
 line_of_refusal refusals.StartBlocked = start_line
 line_of_refusal refusals.ReadFault = read_line
 line_of_refusal refusals.Memory = memory_line
+
+-- what a text of permitted length is refused for
+abbrev pub RefusesPlan : List ℕ → Refusal → Type 0
+RefusesPlan bytes refusals.Words = ⊥
+RefusesPlan bytes refusals.TooLong = ⊥
+RefusesPlan bytes (refusals.Text number kind) = Refused supported bytes number kind
+RefusesPlan bytes refusals.StartBlocked = BlocksStart bytes
+RefusesPlan bytes refusals.ReadFault = ⊥
+RefusesPlan bytes refusals.Memory = Unit {0}
+
+-- the marks are listed
+abbrev pub IsListed : Marks → Type 0
+IsListed (Drawn n) = ⊥
+IsListed (Listed points) = Unit {0}

@@ -2,3 +2,4 @@ pub mod Reach
 pub mod Refusals
 pub mod Delivery
 pub mod Conclusions
+pub mod Faults

@@ -6,5 +6,6 @@ mod refusals;
 mod reports;
 mod standard_streams;
 mod stubs;
+mod top_call;
 
 fn main() {}

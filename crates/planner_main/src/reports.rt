@@ -1,13 +1,13 @@
 //! The short report of a tree: its cheapest path into the goal, and the counts.
 
-ghost use Rattle.std.specs.Prelude.{◌≡◌, ℕ, ◌≤◌, ◌+◌, ◌^◌, length, IfOk, string_bytes, count_by, OnOk, ◌++◌, map, flat_map, Some};
+ghost use Rattle.std.specs.Prelude.{◌≡◌, ℕ, ◌≤◌, ◌+◌, ◌^◌, length, IfOk, string_bytes, count_by, OnOk, ◌++◌, map, flat_map, Some, is_some};
 ghost use Rattle.plan_model.specs.Cost.{cost_of};
 ghost use Rattle.plan_model.specs.Nodes.{point_of, parent_of, sum_of, chain};
 ghost use Rattle.plan_model.specs.ReportText as spec;
 ghost use Rattle.planner_main.specs.Reach.{IsInReach};
 
 use edge_cost::cost;
-use plan_model::{Goal, Memory, Outcome, Point, Record, Scene, Tree, Twig};
+use plan_model::{Goal, Memory, Outcome, Point, Record, Tree, Twig};
 use std::alloc::{AllocError, Global};
 
 // Where a node stands, or the origin where it is absent.
@@ -194,19 +194,31 @@ fn push_counts(text: &mut String, twigs: &[Option<Twig>], records: &[Record]) ->
     Ok(())
 }
 
+/// A short report, and whether it has a path.
+#[derive(Drop)]
+pub struct Report {
+    pub found: bool,
+    pub text: Vec<u8>,
+}
+
 /// The short report of a tree: the cheapest path from the start into the goal, or that there is none, and how many
 /// nodes and marks of each outcome there are.
-pub fn short_report(alloc: Global, scene: &Scene, tree: &Tree) -> Result<Vec<u8>, Memory>
+pub fn short_report(alloc: Global, goal: Goal, tree: &Tree) -> Result<Report, Memory>
     requires in_reach { IsInReach tree.now.twigs }
     requires few { length tree.now.twigs ≤ 262144 }
-    ensures { IfOk result (λ text. text.items ≡ spec.short_report scene.now tree.now.twigs tree.now.records) }
+    ensures text { IfOk result (λ report. report.text.items ≡ spec.short_report goal tree.now.twigs tree.now.records) }
+    ensures found { IfOk result (λ report. report.found ≡ is_some (spec.best_node goal tree.now.twigs)) }
 {
     let twigs = tree.twigs.as_slice();
+    let best = best_node(goal, twigs);
     let mut text = String::new(alloc);
-    match best_node(scene.goal, twigs) {
+    match best {
         Some(node) => push_path(alloc, &mut text, twigs, node)?,
         None => text.push_str("no path\n")?,
     }
     push_counts(&mut text, twigs, tree.records.as_slice())?;
-    Ok(text.into_bytes())
+    Ok(Report {
+        found: best.is_some(),
+        text: text.into_bytes(),
+    })
 }

@@ -7,6 +7,7 @@ ghost use Rattle.plan_model.specs.SceneGrammar.{Spells, Refused, supported};
 ghost use Rattle.plan_model.specs.PlainScenes.{IsPlain, LiesIn};
 ghost use Rattle.plan_model.specs.Clearance.{ClearAt};
 ghost use Rattle.plan_model.specs.Textbook.{IsTextbookRun};
+ghost use Rattle.planner_main.specs.Conclusions.{IsListed};
 
 use plan_model::{Kind, Memory, Scene, Source, Task, Tree};
 use std::alloc::Global;
@@ -46,6 +47,7 @@ pub fn read_scene(alloc: Global, text: &[u8]) -> Result<Scene, SceneRefusal>
     ensures scene { IfOk result (Spells supported text.now) }
     ensures fault { (f : _) → result ≡ Err (SceneRefusal.Fault f) → Refused supported text.now f.line f.kind }
     ensures plain { IfOk result IsPlain }
+    ensures listed { IfOk result (λ scene. IsListed scene.plan) }
 {
     Err(SceneRefusal::Memory)
 }

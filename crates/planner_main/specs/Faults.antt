@@ -1,0 +1,16 @@
+-- Which refusal a fault of the reader becomes.
+use Rattle.planner_main.specs.declared.refusals.Refusal.{Refusal}
+use Rattle.planner_main.specs.declared.refusals.Refusal.TheVariants as refusals
+use Rattle.planner_main.specs.declared.stubs.FetchFault.{FetchFault}
+use Rattle.planner_main.specs.declared.stubs.FetchFault.TheVariants as fetching
+use Rattle.planner_main.specs.declared.stubs.SceneRefusal.{SceneRefusal}
+use Rattle.planner_main.specs.declared.stubs.SceneRefusal.TheVariants as reading
+
+abbrev pub refusal_of_fetch : FetchFault → Refusal
+refusal_of_fetch fetching.Read = refusals.ReadFault
+refusal_of_fetch fetching.TooLong = refusals.TooLong
+refusal_of_fetch fetching.Memory = refusals.Memory
+
+abbrev pub refusal_of_scene : SceneRefusal → Refusal
+refusal_of_scene (reading.Fault fault) = refusals.Text fault.line fault.kind
+refusal_of_scene reading.Memory = refusals.Memory

@@ -1,0 +1,203 @@
+//! The top call: everything that the program does, over any source and any sink.
+
+ghost use Rattle.std.specs.Prelude.{◌≡◌, ◌≢◌, ℕ, ◌≤◌, ◌+◌, false, List, length, map, string_bytes, IsTrue, ◌↔◌, is_some, IfOk, IfErr, Ok, Err, OnErr};
+ghost use Rattle.std.specs.Io.KnownBytes.{Appends, Keeps};
+ghost use Rattle.plan_model.specs.Streams.{Rose};
+ghost use Rattle.plan_model.specs.Clearance.{ClearAt};
+ghost use Rattle.plan_model.specs.PlainScenes.{IsPlain, IsInRoom};
+ghost use Rattle.plan_model.specs.MarkPoints.{mark_points};
+ghost use Rattle.plan_model.specs.ReportText.{best_node, short_report};
+ghost use Rattle.plan_model.specs.Textbook.{IsTextbookRun};
+ghost use Rattle.planner_main.specs.Conclusions.{ArePlain, IsAnswer, IsListed, ReportsRun, ReportsScene, RefusesPlan, status_of_refusal, line_of_refusal};
+ghost use Rattle.planner_main.specs.Delivery.{AppendsFront};
+
+use crate::delivery::deliver;
+use crate::refusals::Refusal;
+use crate::reports::short_report;
+use crate::stubs::{FetchFault, SceneRefusal, fetch, read_scene, textbook};
+use plan_model::{Memory, Marks, Point, Points, Scene, Sink, Source, Task};
+use std::alloc::Global;
+
+/// What the program has done.
+#[derive(Clone, Copy, Debug, PartialEq, Eq)]
+pub struct Done {
+    /// The status that it ends with.
+    pub status: u8,
+}
+
+/// Plans as the words say: for `plain`, reads a scene from the source, plans it by textbook RRT* (Karaman and Frazzoli,
+/// IJRR 2011), and writes the short report to the sink.
+///
+/// The text is made whole before anything is written. Each status but 6 has one text, which the sink takes whole; with
+/// status 6 the sink failed, and took a proper front of the text.
+pub fn run<S: Source, K: Sink>(
+    alloc: Global,
+    words: &[String],
+    source: &mut S,
+    sink: &mut K,
+) -> Done
+    requires { S.has_ended source.old ≡ false }
+    // the status has its cause, and the whole text of the answer is written
+    ensures done { result.status ≢ 6 → (text : List ℕ)
+        × IsAnswer (map string_bytes words.now) (S.bytes_left source.old) (S.has_ended source.new)
+            (Rose (S.fault_count source.old) (S.fault_count source.new)) result.status text
+        × Appends (K.bytes_taken sink.old) (K.bytes_taken sink.new) text }
+    // the sink failed, and took a proper front of the text of an answer with its cause
+    ensures cut { result.status ≡ 6 → Rose (K.fault_count sink.old) (K.fault_count sink.new) × ((status : ℕ) × (text : List ℕ)
+        × IsAnswer (map string_bytes words.now) (S.bytes_left source.old) (S.has_ended source.new)
+            (Rose (S.fault_count source.old) (S.fault_count source.new)) status text
+        × AppendsFront (K.bytes_taken sink.old) (K.bytes_taken sink.new) text) }
+    // where the words are not `plain`, nothing is read
+    ensures unread { (¬ ArePlain (map string_bytes words.now)) → Keeps (S.bytes_left source.old) (S.bytes_left source.new)
+        × (S.has_ended source.new ≡ false) × (S.fault_count source.new ≡ S.fault_count source.old) }
+{
+    match answer_to(alloc, words, source) {
+        Ok(report) => conclude(sink, &report.text, report.status),
+        Err(refusal) => {
+            let line = refusal.line();
+            conclude(sink, line.as_bytes(), refusal.status())
+        }
+    }
+}
+
+// Writes the text of an answer, and ends with its status, or with 6 where the sink fails.
+fn conclude<K: Sink>(sink: &mut K, text: &[u8], status: u8) -> Done
+    requires { status ≢ 6 }
+    ensures done { result.status ≢ 6 → (result.status ≡ status) × Appends (K.bytes_taken sink.old) (K.bytes_taken sink.new) text.now }
+    ensures cut { result.status ≡ 6 → Rose (K.fault_count sink.old) (K.fault_count sink.new)
+        × AppendsFront (K.bytes_taken sink.old) (K.bytes_taken sink.new) text.now }
+{
+    match deliver(sink, text) {
+        Ok(()) => Done { status },
+        Err(_) => Done { status: 6 },
+    }
+}
+
+impl From<FetchFault> for Refusal {
+    ghost use Rattle.planner_main.specs.Faults.{refusal_of_fetch};
+    ghost use Rattle.std.specs.Prelude.{◌≡◌};
+
+    ghost from_gives = { λ fault refusal. refusal ≡ refusal_of_fetch fault };
+
+    fn from(fault: FetchFault) -> Refusal {
+        match fault {
+            FetchFault::Read => Refusal::ReadFault,
+            FetchFault::TooLong => Refusal::TooLong,
+            FetchFault::Memory => Refusal::Memory,
+        }
+    }
+}
+
+impl From<SceneRefusal> for Refusal {
+    ghost use Rattle.planner_main.specs.Faults.{refusal_of_scene};
+    ghost use Rattle.std.specs.Prelude.{◌≡◌};
+
+    ghost from_gives = { λ fault refusal. refusal ≡ refusal_of_scene fault };
+
+    fn from(refusal: SceneRefusal) -> Refusal {
+        match refusal {
+            SceneRefusal::Fault(fault) => Refusal::Text(fault.line, fault.kind),
+            SceneRefusal::Memory => Refusal::Memory,
+        }
+    }
+}
+
+impl From<Memory> for Refusal {
+    ghost use Rattle.planner_main.specs.declared.refusals.Refusal.TheVariants as refusals;
+    ghost use Rattle.std.specs.Prelude.{◌≡◌};
+
+    ghost from_gives = { λ _ refusal. refusal ≡ refusals.Memory };
+
+    fn from(_memory: Memory) -> Refusal {
+        Refusal::Memory
+    }
+}
+
+// A report, and the status that goes with it.
+#[derive(Drop)]
+struct Answer {
+    status: u8,
+    text: Vec<u8>,
+}
+
+fn are_plain(words: &[String]) -> bool
+    ensures { IsTrue result ↔ ArePlain (map string_bytes words.now) }
+{
+    words.len() == 1 && words[0].as_str() == "plain"
+}
+
+// What is to be written, or why there is no report.
+fn answer_to<S: Source>(
+    alloc: Global,
+    words: &[String],
+    source: &mut S,
+) -> Result<Answer, Refusal>
+    requires { S.has_ended source.old ≡ false }
+    ensures report { IfOk result (λ answer. IsAnswer (map string_bytes words.now) (S.bytes_left source.old) (S.has_ended source.new)
+        (Rose (S.fault_count source.old) (S.fault_count source.new)) answer.status answer.text.items) }
+    ensures refusal { IfErr result (λ refusal. IsAnswer (map string_bytes words.now) (S.bytes_left source.old) (S.has_ended source.new)
+        (Rose (S.fault_count source.old) (S.fault_count source.new)) (status_of_refusal refusal) (line_of_refusal refusal)) }
+    ensures unread { (¬ ArePlain (map string_bytes words.now)) → Keeps (S.bytes_left source.old) (S.bytes_left source.new)
+        × (S.has_ended source.new ≡ false) × (S.fault_count source.new ≡ S.fault_count source.old) }
+{
+    if !are_plain(words) {
+        return Err(Refusal::Words);
+    }
+    let text = fetch(alloc, source)?;
+    plan(alloc, &text)
+}
+
+// Plans the scene that the text spells.
+fn plan(alloc: Global, text: &[u8]) -> Result<Answer, Refusal>
+    requires { length text.now ≤ 16777216 }
+    ensures report { IfOk result (λ answer. (answer.status ≤ 1) × ReportsRun text.now answer.status answer.text.items) }
+    ensures refusal { IfErr result (RefusesPlan text.now) }
+{
+    let scene = read_scene(alloc, text)?;
+    if !is_in_room(scene.room, scene.start) {
+        return Err(Refusal::StartBlocked);
+    }
+    Ok(report_of(alloc, scene)?)
+}
+
+fn is_in_room(room: Point, p: Point) -> bool
+    ensures { IsTrue result ↔ IsInRoom room p }
+{
+    p.x <= room.x && p.y <= room.y
+}
+
+// The short report of the textbook run of a scene.
+fn report_of(alloc: Global, scene: Scene) -> Result<Answer, Memory>
+    requires plain { IsPlain scene }
+    requires listed { IsListed scene.plan }
+    requires start { ClearAt scene scene.start }
+    ensures { IfOk result (λ answer. (answer.status ≤ 1) × ReportsScene scene answer.status answer.text.items) }
+{
+    let goal = scene.goal;
+    let task = task_of(alloc, scene)?;
+    let tree = textbook(alloc, task)?;
+    let report = short_report(alloc, goal, &tree)?;
+    Ok(Answer {
+        status: if report.found { 0 } else { 1 },
+        text: report.text,
+    })
+}
+
+// The task of a scene with listed marks.
+fn task_of(alloc: Global, scene: Scene) -> Result<Task, Memory>
+    requires { IsListed scene.plan }
+    ensures { IfOk result (λ task. task.scene ≡ scene) }
+{
+    let marks = copy_of_marks(alloc, &scene.plan)?;
+    Ok(Task { scene, marks })
+}
+
+fn copy_of_marks(alloc: Global, plan: &Marks) -> Result<Points, Memory>
+    requires { IsListed plan.now }
+    ensures { IfOk result (λ marks. plan.now ≡ Marks.Listed marks) }
+{
+    match plan {
+        Marks::Listed(points) => Ok(Points::from_vec(Vec::from_slice(alloc, points.as_slice())?)),
+        Marks::Drawn(_) => unreachable!(),
+    }
+}
