@@ -17,7 +17,7 @@ const MOST_IN_PIECE: usize = 8192;
 /// Why a source could not be read to its end.
 #[derive(Clone, Copy, Debug, PartialEq, Eq)]
 pub enum FetchFault {
-    /// A read failed, and the source's count of faults rose.
+    /// A read failed, and the source's count of faults rose. No end was given.
     Read,
     /// The source has more than `MOST_BYTES` bytes. One more than these was read, and no end was given.
     TooLong,
