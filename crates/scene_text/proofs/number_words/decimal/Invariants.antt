@@ -1,0 +1,8 @@
+use Rattle.std.proofs.Common.{◌≡◌, drop}
+use Rattle.plan_model.specs.SceneGrammar.{magnitude}
+use Rattle.scene_text.proofs.NumberLemmas.{magnitude_after}
+use Rattle.scene_text.proofs.number_words.decimal.Given as goal
+
+-- the number so far, and then the digits that are left
+abbrev pub invariant-loop-digit : goal.invariant-loop-digit
+invariant-loop-digit l = magnitude_after l.number (drop l.digit-index l.digits) ≡ magnitude l.digits

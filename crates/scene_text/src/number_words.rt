@@ -1,0 +1,70 @@
+//! Words that stand for whole numbers in decimal.
+
+ghost use Rattle.std.specs.Prelude.{◌≡◌, ◌≤◌, ◌+◌, ◌-◌, ◌*◌, ◌^◌, ◌&&◌, false, pos, int_le, IfNone, IfSome, IsTrue};
+ghost use Rattle.std.specs.List.{list_all};
+ghost use Rattle.plan_model.specs.SceneGrammar.{is_digit, is_positive, is_number as is_number_word, magnitude, value_of};
+
+/// Whether a word is a number: `0`, or digits of which the first is not `0`, and these also behind a `-`.
+pub(crate) fn is_number(word: &[u8]) -> bool
+    ensures { result ≡ is_number_word word.now }
+{
+    match word {
+        b"0" => true,
+        [b'-', digits @ ..] => is_positive(digits),
+        _ => is_positive(word),
+    }
+}
+
+/// Whether a word is digits of which the first is not `0`.
+fn is_positive(word: &[u8]) -> bool
+    ensures { result ≡ is_positive word.now }
+{
+    match word {
+        [b'1'..=b'9', digits @ ..] => are_digits(digits),
+        _ => false,
+    }
+}
+
+/// Whether each byte is a digit.
+fn are_digits(bytes: &[u8]) -> bool
+    ensures { result ≡ list_all is_digit bytes.now }
+{
+    bytes.iter().all(|byte| *byte >= b'0' && *byte <= b'9')
+}
+
+/// The number that a word stands for, where it is one from `least` to `most`.
+pub(crate) fn natural(word: &[u8], least: u64, most: u64) -> Option<u64>
+    requires { IsTrue (is_number_word word.now) }
+    ensures value { IfSome result (λ n. value_of word.now ≡ pos n) }
+    ensures within { IfSome result (λ n. (least ≤ n) × (n ≤ most)) }
+    ensures outside { IfNone result ((int_le (pos least) (value_of word.now)
+        && int_le (value_of word.now) (pos most)) ≡ false) }
+{
+    if let [b'-', ..] = word {
+        return None;
+    }
+    let number = decimal(word)?;
+    (least <= number && number <= most).then_some(number)
+}
+
+/// The number that digits stand for, where it is below 2^64.
+fn decimal(digits: &[u8]) -> Option<u64>
+    requires { IsTrue (list_all is_digit digits.now) }
+    ensures value { IfSome result (λ n. n ≡ magnitude digits.now) }
+    ensures large { IfNone result (2 ^ 64 ≤ magnitude digits.now) }
+{
+    let mut number = 0;
+    for digit in digits {
+        number = with_digit(number, *digit)?;
+    }
+    Some(number)
+}
+
+/// A number with one more digit behind it, where that is below 2^64.
+fn with_digit(number: u64, digit: u8) -> Option<u64>
+    requires { 48 ≤ digit }
+    ensures value { IfSome result (λ n. n ≡ 10 * number + (digit - 48)) }
+    ensures large { IfNone result (2 ^ 64 ≤ 10 * number + (digit - 48)) }
+{
+    number.checked_mul(10)?.checked_add(u64::from(digit - b'0'))
+}
