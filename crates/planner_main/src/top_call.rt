@@ -123,7 +123,10 @@ struct Answer {
 fn are_plain(words: &[String]) -> bool
     ensures { IsTrue result ↔ ArePlain (map string_bytes words.now) }
 {
-    words.len() == 1 && words[0].as_str() == "plain"
+    match words {
+        [word] => word.as_str() == "plain",
+        _ => false,
+    }
 }
 
 // What is to be written, or why there is no report.
