@@ -142,11 +142,11 @@ pub record Holds (fields : Fields) (statements : List (List (List ℕ))) : Type 
 pub Holds-none : Holds (fields_of []) []
 Holds-none = record { same = refl; built = λ key unbuilt. refl }
 
-behind-key : (found : Option Key) (word : List ℕ) (words : List (List ℕ)) (before : List (List (List ℕ))) → key_of word ≡ found → AreBuilt before → fault_behind (fields_of ([] ∷ before)) found words ≡ None → Holds (taken_behind (fields_of ([] ∷ before)) found (map value_of words)) ([] ∷ (before ++ (word ∷ words) ∷ []))
+pub behind-key : (found : Option Key) (word : List ℕ) (words : List (List ℕ)) (before : List (List (List ℕ))) → key_of word ≡ found → AreBuilt before → fault_behind (fields_of ([] ∷ before)) found words ≡ None → Holds (taken_behind (fields_of ([] ∷ before)) found (map value_of words)) ([] ∷ (before ++ (word ∷ words) ∷ []))
 behind-key None word words before found built sound = absurd (cc)
 behind-key (Some key) word words before found built sound =
     let fresh = fault-built (supported key) (is_given (fields_of ([] ∷ before)) key) (fits_words key (length words)) (is_full (fields_of ([] ∷ before)) key) (list_all is_number words) (is_in_range key (map value_of words)) (has_corners key (map value_of words)) sound in
     record {
-  same = sym (taken-same key word words before found fresh.0 fresh.1);
-  built = AreBuilt-push key word words before found fresh.0 built;
-}
+      same = sym (taken-same key word words before found fresh.0 fresh.1);
+      built = AreBuilt-push key word words before found fresh.0 built;
+    }

@@ -3,3 +3,4 @@ pub mod WordLemmas
 pub mod NumberLemmas
 pub mod GrammarLemmas
 pub mod DraftLemmas
+pub mod ReaderLemmas

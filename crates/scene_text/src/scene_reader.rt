@@ -38,3 +38,59 @@ pub fn read_scene(alloc: Global, text: &[u8]) -> Result<Scene, SceneRefusal>
         Err(refusal) => Err(refusal.at(number + 1)),
     }
 }
+
+#[cfg(test)]
+mod tests {
+    use super::*;
+    use crate::refusals::SceneFault;
+    use plan_model::{Goal, Kind, Marks, Point};
+
+    const SMALL: &str =
+        "# a room\nprrt 1\n\nroom 10 12\nstart 5 6\ngoal 7 8 9 10\nmark 1 2\nstep 4\nmark 3 0";
+
+    #[test]
+    fn reads_the_fields(rt: HostRuntime) {
+        let scene = read_scene(rt.alloc(), SMALL.as_bytes()).unwrap_or_else(|_| panic!(rt;
+            "not read"
+        ));
+        assert_eq!(rt; scene.room, Point { x: 10, y: 12 });
+        assert_eq!(rt; scene.start, Point { x: 5, y: 6 });
+        assert_eq!(rt;
+            scene.goal,
+            Goal {
+                low: Point { x: 7, y: 8 },
+                high: Point { x: 9, y: 10 }
+            }
+        );
+        assert_eq!(rt; scene.step, 4);
+        let Marks::Listed(marks) = &scene.plan else {
+            panic!(rt; "no listed marks");
+        };
+        assert_eq!(rt;
+            marks.as_slice(),
+            [Point { x: 1, y: 2 }, Point { x: 3, y: 0 }].as_slice()
+        );
+    }
+
+    #[test]
+    fn refuses_the_first_fault(rt: HostRuntime) {
+        for (text, line, kind) in [
+            ("prrt 1\nroom 10 10\nstart 5 5\nstep 4\n", 5, Kind::Missing),
+            ("prrt 1\nroom 10 10\nstep 4\nstep 4\n", 4, Kind::Repeat),
+            ("", 1, Kind::Version),
+            ("prrt 1\nroom 10 10\nstar\n", 3, Kind::Key),
+            ("prrt 1\nstep 04\n", 2, Kind::Number),
+            ("prrt 1\nstep 99999999999999999999999\n", 2, Kind::Range),
+            ("prrt 1\nstart -1 0\n", 2, Kind::Range),
+            ("prrt 1\ngamma 5\n", 2, Kind::Unbuilt),
+        ] {
+            match read_scene(rt.alloc(), text.as_bytes()) {
+                Err(refusal) => assert_eq!(rt;
+                    refusal,
+                    SceneRefusal::Fault(SceneFault { line, kind })
+                ),
+                Ok(_) => panic!(rt; "read"),
+            }
+        }
+    }
+}

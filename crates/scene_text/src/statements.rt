@@ -10,7 +10,6 @@ ghost use Rattle.scene_text.specs.Refusals.{IsLineRefusal};
 use crate::field_words::{read_goal, read_point, read_step};
 use crate::key_words::{fits_words, is_supported, is_text, key_of};
 use crate::line_words::{are_numbers, count_words, next_word};
-
 use crate::refusals::LineRefusal;
 use plan_model::{Goal, Key, Kind, Marks, Point, Points, Poly, Polys, Scene, Vertex};
 use std::alloc::Global;
@@ -170,9 +169,9 @@ impl Draft {
         if !self.version_read {
             return Err(LineRefusal::Fault(Kind::Version));
         }
-        let (Some(room), Some(start), Some(goal), Some(step)) =
-            (self.room, self.start, self.goal, self.step)
-        else {
+        let (Some(room), Some(start), Some(goal), Some(step)) = (
+            self.room, self.start, self.goal, self.step,
+        ) else {
             return Err(LineRefusal::Fault(Kind::Missing));
         };
         let body = vec![in alloc; Vertex { x: 0, y: 0 }]?;
