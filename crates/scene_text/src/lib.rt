@@ -1,8 +1,17 @@
-//! Reads the text of a scene: its bytes from a source, its lines, words and numbers.
+//! Reads the text of a scene: its bytes from a source, its lines, words and numbers. A text is a scene by the
+//! grammar, or it is refused at the first line that has a fault.
 #![tactic(auto)]
 
 mod byte_input;
+mod field_words;
+mod key_words;
 mod line_words;
 mod number_words;
+mod refusals;
+mod scene_reader;
+mod statements;
 
 pub use byte_input::{FetchFault, MOST_BYTES, fetch};
+pub use plan_model::Kind;
+pub use refusals::{SceneFault, SceneRefusal};
+pub use scene_reader::read_scene;

@@ -1,0 +1,23 @@
+-- What a refusal says of the text, or of the line, that is refused.
+use Rattle.std.specs.Prelude.{◌≡◌, ℕ, Option, Some, List}
+use Rattle.plan_model.specs.declared.text_terms.Kind.{Kind}
+use Rattle.plan_model.specs.SceneGrammar.{Refused, supported}
+use Rattle.scene_text.specs.declared.refusals.SceneRefusal.{SceneRefusal}
+use Rattle.scene_text.specs.declared.refusals.SceneRefusal.TheVariants as scene
+use Rattle.scene_text.specs.declared.refusals.LineRefusal.{LineRefusal}
+use Rattle.scene_text.specs.declared.refusals.LineRefusal.TheVariants as line
+
+-- the refusal of a text whose line with this number is refused
+abbrev pub refusal_at : ℕ → LineRefusal → SceneRefusal
+refusal_at number (line.Fault kind) = scene.Fault (record { line = number; kind = kind })
+refusal_at number line.Memory = scene.Memory
+
+-- a line is refused for its fault, or for want of memory
+abbrev pub IsLineRefusal : Option Kind → LineRefusal → Type 0
+IsLineRefusal fault (line.Fault kind) = fault ≡ Some kind
+IsLineRefusal fault line.Memory = Unit {0}
+
+-- a text is refused at its first line with a fault, for the first check that the line fails, or for want of memory
+abbrev pub IsRefusal : List ℕ → SceneRefusal → Type 0
+IsRefusal text (scene.Fault fault) = Refused supported text fault.line fault.kind
+IsRefusal text scene.Memory = Unit {0}
