@@ -3,12 +3,19 @@ use Rattle.std.specs.Prelude.{◌≡◌, ℕ, ◌≤◌, pos, Option, List, [], 
 use Rattle.plan_model.specs.declared.geometry.Point.{Point}
 use Rattle.plan_model.specs.declared.trees.Twig.{Twig}
 use Rattle.plan_model.specs.declared.scenes.Scene.{Scene}
+use Rattle.plan_model.specs.declared.scenes.Marks.{Marks}
+use Rattle.plan_model.specs.declared.scenes.Marks.TheVariants.{Drawn, Listed}
 use Rattle.plan_model.specs.Nodes.{HasPoint}
 
 pub record IsPlain (scene : Scene) : Type 0 where
   pub body : scene.body ≡ record { x = pos 0; y = pos 0 } ∷ []
   pub obstacles : scene.obstacles ≡ []
   pub gamma : scene.gamma ≡ 0
+
+-- the marks are listed
+abbrev pub IsListed : Marks → Type 0
+IsListed (Drawn n) = ⊥
+IsListed (Listed points) = Unit {0}
 
 -- the point lies between the origin and the room's upper right corner
 pub record IsInRoom (room p : Point) : Type 0 where

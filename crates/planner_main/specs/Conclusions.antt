@@ -3,8 +3,6 @@ use Rattle.std.specs.Prelude.{◌≡◌, ◌≢◌, ℕ, ◌+◌, ◌<◌, ◌�
 use Rattle.plan_model.specs.declared.trees.Twig.{Twig}
 use Rattle.plan_model.specs.declared.records.Record.{Record}
 use Rattle.plan_model.specs.declared.scenes.Scene.{Scene}
-use Rattle.plan_model.specs.declared.scenes.Marks.{Marks}
-use Rattle.plan_model.specs.declared.scenes.Marks.TheVariants.{Drawn, Listed}
 use Rattle.plan_model.specs.declared.text_terms.Kind.{Kind}
 use Rattle.plan_model.specs.Clearance.{ClearAt}
 use Rattle.plan_model.specs.MarkPoints.{mark_points}
@@ -95,8 +93,3 @@ RefusesPlan bytes (refusals.Text number kind) = Refused supported bytes number k
 RefusesPlan bytes refusals.StartBlocked = BlocksStart bytes
 RefusesPlan bytes refusals.ReadFault = ⊥
 RefusesPlan bytes refusals.Memory = Unit {0}
-
--- the marks are listed
-abbrev pub IsListed : Marks → Type 0
-IsListed (Drawn n) = ⊥
-IsListed (Listed points) = Unit {0}

@@ -1,10 +1,10 @@
 -- Which refusal a fault of the reader becomes.
 use Rattle.planner_main.specs.declared.refusals.Refusal.{Refusal}
 use Rattle.planner_main.specs.declared.refusals.Refusal.TheVariants as refusals
-use Rattle.planner_main.specs.declared.stubs.FetchFault.{FetchFault}
-use Rattle.planner_main.specs.declared.stubs.FetchFault.TheVariants as fetching
-use Rattle.planner_main.specs.declared.stubs.SceneRefusal.{SceneRefusal}
-use Rattle.planner_main.specs.declared.stubs.SceneRefusal.TheVariants as reading
+use Rattle.scene_text.specs.declared.byte_input.FetchFault.{FetchFault}
+use Rattle.scene_text.specs.declared.byte_input.FetchFault.TheVariants as fetching
+use Rattle.scene_text.specs.declared.refusals.SceneRefusal.{SceneRefusal}
+use Rattle.scene_text.specs.declared.refusals.SceneRefusal.TheVariants as reading
 
 abbrev pub refusal_of_fetch : FetchFault → Refusal
 refusal_of_fetch fetching.Read = refusals.ReadFault

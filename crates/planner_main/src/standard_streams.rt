@@ -1,6 +1,6 @@
 //! Standard input and output as a source and a sink. They are the edge of what is proved: neither tells its bytes.
 
-ghost use Rattle.std.specs.Prelude.{◌≡◌, None};
+ghost use Rattle.std.specs.Prelude.{◌≡◌, false, None};
 
 use plan_model::{Failed, Sink, Source};
 use std::io::{Read, Write};
@@ -13,8 +13,11 @@ pub struct StdSource<R> {
     ended: bool,
 }
 
-impl<R> StdSource<R> {
-    pub fn new(reader: R) -> Self {
+impl<R: Read> StdSource<R> {
+    /// A source over a reader whose end was not given yet.
+    pub fn new(reader: R) -> Self
+        ensures { ⟦<StdSource<R> as Source>⟧.has_ended result ≡ false }
+    {
         StdSource {
             reader,
             faults: 0,
@@ -60,6 +63,7 @@ pub struct StdSink<W> {
 }
 
 impl<W> StdSink<W> {
+    /// A sink over a writer.
     pub fn new(writer: W) -> Self {
         StdSink { writer, faults: 0 }
     }

@@ -4,18 +4,19 @@ ghost use Rattle.std.specs.Prelude.{◌≡◌, ◌≢◌, ℕ, ◌≤◌, ◌+�
 ghost use Rattle.std.specs.Io.KnownBytes.{Appends, Keeps};
 ghost use Rattle.plan_model.specs.Streams.{Rose};
 ghost use Rattle.plan_model.specs.Clearance.{ClearAt};
-ghost use Rattle.plan_model.specs.PlainScenes.{IsPlain, IsInRoom};
+ghost use Rattle.plan_model.specs.PlainScenes.{IsPlain, IsListed, IsInRoom};
 ghost use Rattle.plan_model.specs.MarkPoints.{mark_points};
 ghost use Rattle.plan_model.specs.ReportText.{best_node, short_report};
 ghost use Rattle.plan_model.specs.Textbook.{IsTextbookRun};
-ghost use Rattle.planner_main.specs.Conclusions.{ArePlain, IsAnswer, IsListed, ReportsRun, ReportsScene, RefusesPlan, status_of_refusal, line_of_refusal};
+ghost use Rattle.planner_main.specs.Conclusions.{ArePlain, IsAnswer, ReportsRun, ReportsScene, RefusesPlan, status_of_refusal, line_of_refusal};
 ghost use Rattle.planner_main.specs.Delivery.{AppendsFront};
 
 use crate::delivery::deliver;
 use crate::refusals::Refusal;
 use crate::reports::short_report;
-use crate::stubs::{FetchFault, SceneRefusal, fetch, read_scene, textbook};
+use crate::stubs::textbook;
 use plan_model::{Memory, Marks, Point, Points, Scene, Sink, Source, Task};
+use scene_text::{FetchFault, SceneRefusal, fetch, read_scene};
 use std::alloc::Global;
 
 /// What the program has done.
