@@ -8,7 +8,7 @@ ghost use Rattle.edge_cost.specs.Lattice.{IsOnLattice};
 use plan_model::Point;
 
 /// The square of the distance from `a` to `b`.
-pub(crate) fn squared_distance(a: Point, b: Point) -> u64
+pub fn squared_distance(a: Point, b: Point) -> u64
     requires from { IsOnLattice a }
     requires to { IsOnLattice b }
     ensures value { result ≡ squared_distance a b }

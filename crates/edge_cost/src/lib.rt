@@ -9,4 +9,5 @@ mod steering;
 
 pub use classes::class;
 pub use costs::cost;
+pub use distances::squared_distance;
 pub use steering::steer;

@@ -1,0 +1,2 @@
+pub mod ClearSegments
+pub mod Scans
