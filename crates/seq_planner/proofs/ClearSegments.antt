@@ -11,5 +11,5 @@ clear_by_last scene a b test plain first last =
     (λ t. Clear-from_room scene a b plain first (last.0 t), λ clear. last.1 (AreInRoom-from_clear scene a b clear).last)
 
 pub blocked_by_first : (scene : Scene) (a b : Point) (test : Bool) → test ≡ false → (IsTrue test ↔ IsInRoom scene.room a) → IsTrue test ↔ Clear scene a b
-blocked_by_first scene a b test no first =
+blocked_by_first scene a b test outside first =
     (λ t. cc, λ clear. first.1 (AreInRoom-from_clear scene a b clear).first)

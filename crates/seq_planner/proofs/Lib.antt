@@ -1,2 +1,5 @@
 pub mod ClearSegments
 pub mod Scans
+pub mod SoundTrees
+pub mod Turns
+pub mod MarkAccounts

@@ -67,19 +67,21 @@ IsNearestBelow-nearer tree q limit m distance best after here node h e own near 
       below = omega arith;
     })
 
+-- a node that is present has a number below the length
+pub present_below : (tree : Nodes) (n : ℕ) → IsSome (node_at tree n) → n < length tree
+present_below tree n own =
+    elim (cases_lt n (length tree)) [
+      | inl l ↦ l
+      | inr past ↦ (let absent : is_some (node_at tree n) ≡ false = ap is_some (node_at-past tree n past) in cc)
+    ]
+
 -- the scan went over all nodes
 pub IsNearest-all : (tree : Nodes) (q : Point) (m distance : ℕ) → IsNearestBelow tree q (length tree) m distance → IsNearest tree q m
-IsNearest-all tree q m distance h =
-    let within : (i : ℕ) → IsSome (node_at tree i) → i < length tree = λ i p.
-      elim (cases_lt i (length tree)) [
-          inl l ↦ l
-        | inr past ↦ (let no : is_some (node_at tree i) ≡ false = ap is_some (node_at-past tree i past) in cc)
-      ] in
-    record {
-      present = h.present;
-      least = λ i p. omega (arith, h.least i (within i p) p, h.is);
-      first = λ i p e. h.first i (within i p) p (e ∙ sym h.is);
-    }
+IsNearest-all tree q m distance h = record {
+  present = h.present;
+  least = λ i p. omega (arith, h.least i (present_below tree i p) p, h.is);
+  first = λ i p e. h.first i (present_below tree i p) p (e ∙ sym h.is);
+}
 
 -- a node that is present stands where distances can be taken
 pub IsOnLattice-at : (tree : Nodes) (n : ℕ) → IsOnLatticeAll tree → IsSome (node_at tree n) → IsOnLattice (point_of tree n)
@@ -122,12 +124,13 @@ HasPoint-elsewhere tree n node p e h (parent, own) =
 -- nor does an absent node
 pub HasPoint-absent : (tree : Nodes) (n : ℕ) (p : Point) → node_at tree n ≡ None → HasPoint tree n p → ⊥
 HasPoint-absent tree n p e (parent, own) =
-    let no : None ≡ Some (record { point = p; parent = parent }) = sym e ∙ own in cc
+    let here : Option Twig = Some (record { point = p; parent = parent }) in
+    let apart : is_some {T = Twig} None ≡ is_some here = ap is_some (sym e ∙ own) in cc
 
 -- no node up to the length, so none at all
 pub IsFree-all : (tree : Nodes) (p : Point) → ((j : ℕ) → j < length tree → HasPoint tree j p → ⊥) → IsFree tree p
 IsFree-all tree p h = λ j own.
     elim (cases_lt j (length tree)) [
-        inl l ↦ h j l own
+      | inl l ↦ h j l own
       | inr past ↦ HasPoint-absent tree j p (node_at-past tree j past) own
     ]

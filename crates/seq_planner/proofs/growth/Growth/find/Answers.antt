@@ -15,7 +15,7 @@ loop-number-preserved c =
     let at : node_at c.args.self.now.nodes.items c.loop-number.number ≡ node_at c.deref-node-items.result.now c.loop-number.number = ap (λ nodes. node_at nodes c.loop-number.number) (sym c.deref-node-items.ensures.value) in
     below_more _ c.loop-number.number c.loop-number.invariant
     (elim c.match-node.branch [
-        in-Some+else-eq w ↦ HasPoint-elsewhere c.args.self.now.nodes.items c.loop-number.number w.in-Some.node c.args.point (at ∙ w.in-Some.is) (sym w.eq.ensures ∙ w.if-eq.false)
+      | in-Some+else-eq w ↦ HasPoint-elsewhere c.args.self.now.nodes.items c.loop-number.number w.in-Some.node c.args.point (at ∙ w.in-Some.is) (sym w.eq.ensures ∙ w.if-eq.false)
       | in_default w ↦ HasPoint-absent c.args.self.now.nodes.items c.loop-number.number c.args.point (at ∙ w.in_default.is)
     ])
 

@@ -19,7 +19,7 @@ loop-number-preserved c =
     let tree = c.args.self.now.nodes.items in
     let at : node_at tree c.loop-number.number ≡ node_at c.deref-node-items.result.now c.loop-number.number = ap (λ nodes. node_at nodes c.loop-number.number) (sym c.deref-node-items.ensures.value) in
     elim c.match-node.branch [
-        in-Some+then-distance-least w ↦ IsNearestBelow-nearer tree c.args.mark c.loop-number.number c.loop-number.best c.loop-number.least c.match-node.best c.match-node.least w.squared_distance-distance.result w.in-Some.node c.loop-number.invariant (at ∙ w.in-Some.is) w.squared_distance-distance.ensures.value w.if-distance-least.true w.best-is w.least-is
+      | in-Some+then-distance-least w ↦ IsNearestBelow-nearer tree c.args.mark c.loop-number.number c.loop-number.best c.loop-number.least c.match-node.best c.match-node.least w.squared_distance-distance.result w.in-Some.node c.loop-number.invariant (at ∙ w.in-Some.is) w.squared_distance-distance.ensures.value w.if-distance-least.true w.best-is w.least-is
       | in-Some+else-distance-least w ↦ IsNearestBelow-farther tree c.args.mark c.loop-number.number c.loop-number.best c.loop-number.least c.match-node.best c.match-node.least w.squared_distance-distance.result w.in-Some.node c.loop-number.invariant (at ∙ w.in-Some.is) w.squared_distance-distance.ensures.value w.if-distance-least.false w.best-is w.least-is
       | in_default w ↦ IsNearestBelow-absent tree c.args.mark c.loop-number.number c.loop-number.best c.loop-number.least c.match-node.best c.match-node.least c.loop-number.invariant (at ∙ w.in_default.is) w.best-is w.least-is
     ]
