@@ -9,7 +9,7 @@ use plan_model::Point;
 
 /// The square of the distance from `a` to `b`.
 #[tactic(auto, using(crate::proofs::Gaps::square_of_gap))]
-pub(crate) fn squared_distance(a: Point, b: Point) -> u64
+pub fn squared_distance(a: Point, b: Point) -> u64
     requires from { IsOnLattice a }
     requires to { IsOnLattice b }
     ensures value { result ≡ squared_distance a b }

@@ -12,6 +12,7 @@ mod steering;
 
 pub use classes::class;
 pub use costs::cost;
+pub use distances::squared_distance;
 pub use steering::steer;
 
 /// A point of a test's table.

@@ -1,0 +1,23 @@
+use Rattle.std.proofs.Common.{rules, ◌≡◌, ◌∙◌, sym, ap, ℕ, List, Option, None, arith, below_more, length}
+use Rattle.plan_model.specs.Nodes.{HasPoint, node_at}
+use Rattle.plan_model.specs.Textbook.{Nodes}
+use Rattle.seq_planner.proofs.Scans.{HasPoint-found, HasPoint-elsewhere, HasPoint-absent, IsFree-all}
+use Rattle.seq_planner.proofs.growth.Growth.find.Goals as goal
+use Rattle.seq_planner.proofs.growth.Growth.find.Goals.{in-Some+else-eq, in_default}
+
+pub returns-then-eq : goal.returns-then-eq
+returns-then-eq c =
+    let at : node_at c.args.self.now.nodes.items c.loop-number.number ≡ node_at c.deref-node-items.result.now c.loop-number.number = ap (λ nodes. node_at nodes c.loop-number.number) (sym c.deref-node-items.ensures.value) in
+    HasPoint-found c.args.self.now.nodes.items c.loop-number.number c.in-Some.node c.args.point (at ∙ c.in-Some.is) (sym c.eq.ensures ∙ c.if-eq.true)
+
+pub loop-number-preserved : goal.loop-number-preserved
+loop-number-preserved c =
+    let at : node_at c.args.self.now.nodes.items c.loop-number.number ≡ node_at c.deref-node-items.result.now c.loop-number.number = ap (λ nodes. node_at nodes c.loop-number.number) (sym c.deref-node-items.ensures.value) in
+    below_more _ c.loop-number.number c.loop-number.invariant
+    (elim c.match-node.branch [
+      | in-Some+else-eq w ↦ HasPoint-elsewhere c.args.self.now.nodes.items c.loop-number.number w.in-Some.node c.args.point (at ∙ w.in-Some.is) (sym w.eq.ensures ∙ w.if-eq.false)
+      | in_default w ↦ HasPoint-absent c.args.self.now.nodes.items c.loop-number.number c.args.point (at ∙ w.in_default.is)
+    ])
+
+pub returns : goal.returns
+returns c = IsFree-all c.args.self.now.nodes.items c.args.point (λ j l. c.loop-number.invariant j (omega (arith, ap length c.deref-node-items.ensures.value)))
