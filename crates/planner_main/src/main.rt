@@ -5,7 +5,6 @@ mod delivery;
 mod refusals;
 mod reports;
 mod standard_streams;
-mod stubs;
 mod top_call;
 
 pub use top_call::{Done, run};

@@ -14,9 +14,9 @@ ghost use Rattle.planner_main.specs.Delivery.{AppendsFront};
 use crate::delivery::deliver;
 use crate::refusals::Refusal;
 use crate::reports::short_report;
-use crate::stubs::textbook;
 use plan_model::{Memory, Marks, Point, Points, Scene, Sink, Source, Task};
 use scene_text::{FetchFault, SceneRefusal, fetch, read_scene};
+use seq_planner::textbook;
 use std::alloc::Global;
 
 /// What the program has done.
