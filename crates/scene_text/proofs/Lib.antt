@@ -1,6 +1,7 @@
 pub mod LineLemmas
 pub mod WordLemmas
 pub mod NumberLemmas
+pub mod FetchLemmas
 pub mod GrammarLemmas
 pub mod DraftLemmas
 pub mod ReaderLemmas

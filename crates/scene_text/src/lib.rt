@@ -2,6 +2,7 @@
 //! grammar, or it is refused at the first line that has a fault.
 #![tactic(auto)]
 
+mod byte_input;
 mod field_words;
 mod key_words;
 mod line_words;
@@ -10,6 +11,7 @@ mod refusals;
 mod scene_reader;
 mod statements;
 
+pub use byte_input::{FetchFault, MOST_BYTES, fetch};
 pub use plan_model::Kind;
 pub use refusals::{SceneFault, SceneRefusal};
 pub use scene_reader::read_scene;

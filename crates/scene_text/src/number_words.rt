@@ -37,7 +37,8 @@ pub(crate) fn natural(word: &[u8], least: u64, most: u64) -> Option<u64>
     requires { IsTrue (is_number_word word.now) }
     ensures value { IfSome result (λ n. value_of word.now ≡ pos n) }
     ensures within { IfSome result (λ n. (least ≤ n) × (n ≤ most)) }
-    ensures outside { IfNone result ((int_le (pos least) (value_of word.now) && int_le (value_of word.now) (pos most)) ≡ false) }
+    ensures outside { IfNone result ((int_le (pos least) (value_of word.now)
+        && int_le (value_of word.now) (pos most)) ≡ false) }
 {
     if let [b'-', ..] = word {
         return None;
