@@ -1,16 +1,14 @@
 -- The fields that statements give, and the faults of the next one: what the reader computes is what the grammar says.
-use Rattle.std.proofs.Common.{◌≡◌, ℕ, ◌&&◌, not, Bool, true, false, cond, leb, nat_le, ℤ, Option, Some, None, is_some, List, [], ◌∷◌, ◌++◌, length, map, drop, count_by, refl, sym, ap, ◌∙◌, subst}
+use Rattle.std.proofs.Common.{◌≡◌, ℕ, not, Bool, true, false, cond, nat_le, ℤ, Option, Some, None, is_some, List, [], ◌∷◌, ◌++◌, length, map, drop, refl, sym, ap, ◌∙◌}
 use Rattle.std.specs.List.{list_all}
-use Rattle.std.proofs.lemmas.List.{map-append, append-nil, length-map}
-use Rattle.plan_model.specs.declared.geometry.Point.{Point}
-use Rattle.plan_model.specs.declared.geometry.Goal.{Goal}
+use Rattle.std.proofs.lemmas.List.{map-append, length-map}
 use Rattle.plan_model.specs.declared.text_terms.Key.{Key}
 use Rattle.plan_model.specs.declared.text_terms.Key.TheVariants as keys
 use Rattle.plan_model.specs.declared.text_terms.Kind.{Kind}
 use Rattle.plan_model.specs.declared.text_terms.Kind.TheVariants as kinds
-use Rattle.plan_model.specs.SceneGrammar.{words_of, is_skipped, is_version, statements_of, value_of, is_number, key_of, begins_with, has, numbers_of, is_repeated, is_too_many, fits_words, is_in_range, has_corners, fault_of_key, fault_at_key, fault_of_statement, fault_after, supported, point_from, goal_from, number_or}
-use Rattle.scene_text.specs.Drafts.{Fields, fields_of, first_with, is_given, is_full, IsFormed, fault_at, fault_behind, fault_in, fault_of_words, taken, taken_behind, after, after_line}
-use Rattle.scene_text.proofs.GrammarLemmas.{numbers_of-own, numbers_of-other, has-numbers, has-none, length-numbers_of, none-first_with, first_with-push, statements_of-push}
+use Rattle.plan_model.specs.SceneGrammar.{is_skipped, value_of, is_number, key_of, numbers_of, is_repeated, is_too_many, fits_words, is_in_range, has_corners, fault_of_key, fault_at_key, fault_after, supported, point_from, goal_from, number_or}
+use Rattle.scene_text.specs.Drafts.{Fields, fields_of, first_with, is_given, is_full, IsFormed, fault_at, fault_behind, fault_of_words, taken, taken_behind}
+use Rattle.scene_text.proofs.GrammarLemmas.{numbers_of-own, numbers_of-other, has-numbers, has-none, length-numbers_of, first_with-push}
 
 -- ---- the checks before that of the range
 

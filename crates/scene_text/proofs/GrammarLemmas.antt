@@ -1,7 +1,6 @@
 -- The grammar's words at one more statement and at one more line.
-use Rattle.std.proofs.Common.{◌≡◌, ℕ, ◌&&◌, ◌||◌, not, Bool, true, false, cond, ℤ, Option, Some, None, is_some, List, [], ◌∷◌, ◌++◌, length, map, take, drop, get_or, filter, count_by, refl, sym, ap, ◌∙◌}
+use Rattle.std.proofs.Common.{◌≡◌, ℕ, ◌||◌, not, Bool, true, false, cond, ℤ, Some, is_some, List, [], ◌∷◌, ◌++◌, length, map, drop, filter, count_by, refl, sym, ap, ◌∙◌}
 use Rattle.std.specs.Prelude.{bytes_eq}
-use Rattle.std.specs.List.{list_any}
 use Rattle.std.proofs.lemmas.Bool.{false_from_ne_true}
 use Rattle.std.proofs.lemmas.List.{map-append, append-nil, length-map}
 use Rattle.std.proofs.lemmas.List.Elements.{filter-append}

@@ -1,5 +1,5 @@
 -- How far a text is read: the lines so far have no fault, and the fields stand for their statements.
-use Rattle.std.proofs.Common.{◌≡◌, ℕ, ◌+◌, ◌<◌, ◌≤◌, ◌&&◌, not, Bool, true, false, cond, ℤ, Option, Some, None, is_some, List, [], ◌∷◌, ◌++◌, length, map, take, drop, get_or, refl, sym, ap, ◌∙◌, subst, inl, inr, arith}
+use Rattle.std.proofs.Common.{◌≡◌, ℕ, ◌+◌, ◌<◌, ◌≤◌, ◌&&◌, not, Bool, true, false, cond, ℤ, Option, Some, None, List, [], ◌∷◌, ◌++◌, length, map, take, drop, get_or, refl, sym, ap, ◌∙◌, subst, inl, inr, arith}
 use borrow.Author.Count.{below_more}
 use Rattle.std.proofs.lemmas.List.{append-nil, drop_more, take_more, take_all, length-drop}
 use Rattle.plan_model.specs.declared.scenes.Scene.{Scene}
@@ -8,7 +8,7 @@ use Rattle.plan_model.specs.declared.text_terms.Key.{Key}
 use Rattle.plan_model.specs.declared.text_terms.Key.TheVariants as keys
 use Rattle.plan_model.specs.declared.text_terms.Kind.{Kind}
 use Rattle.plan_model.specs.declared.text_terms.Kind.TheVariants as kinds
-use Rattle.plan_model.specs.SceneGrammar.{lines_of, words_of, key_of, is_skipped, statements_of, supported, IsSoundBelow, Refused, Spells, HasFields, fault_of_line, fault_of_end, fault_after, has, numbers_of, first_of, point_from, goal_from, number_or, body_from, corners_from, plan_from}
+use Rattle.plan_model.specs.SceneGrammar.{lines_of, words_of, key_of, is_skipped, statements_of, supported, IsSoundBelow, Spells, HasFields, fault_of_line, fault_of_end, fault_after, numbers_of, first_of, point_from, goal_from, number_or, body_from, corners_from, plan_from}
 use Rattle.scene_text.specs.declared.refusals.LineRefusal.{LineRefusal}
 use Rattle.scene_text.specs.declared.refusals.LineRefusal.TheVariants as line_refusal
 use Rattle.scene_text.specs.Refusals.{refusal_at, IsLineRefusal, IsRefusal}

@@ -1,5 +1,5 @@
 -- What the statements so far give, and how a line is read against them.
-use Rattle.std.specs.Prelude.{◌≡◌, ℕ, ◌≤◌, nat_le, ◌&&◌, not, Bool, true, false, ℤ, pos, int_le, Option, Some, None, is_some, IsTrue, List, [], ◌∷◌, ◌++◌, length, map, get_or, if◌then◌else◌}
+use Rattle.std.specs.Prelude.{◌≡◌, ℕ, ◌≤◌, nat_le, ◌&&◌, not, Bool, true, false, ℤ, pos, int_le, Option, Some, None, is_some, IsTrue, List, [], ◌∷◌, ◌++◌, length, map, if◌then◌else◌}
 use Rattle.std.specs.Option.{ForSome}
 use Rattle.std.specs.List.{list_all}
 use Rattle.plan_model.specs.declared.geometry.Point.{Point}

@@ -1,6 +1,6 @@
 //! The fields that the words behind a key give.
 
-ghost use Rattle.std.specs.Prelude.{◌≡◌, ℕ, ◌≤◌, ◌<◌, ◌&&◌, ◌∷◌, pos, false, length, map, is_some, IfSome, IfNone, IsTrue};
+ghost use Rattle.std.specs.Prelude.{◌≡◌, ◌≤◌, ◌<◌, ◌∷◌, pos, false, length, map, is_some, IfSome, IfNone, IsTrue};
 ghost use Rattle.std.specs.List.{list_all};
 ghost use Rattle.plan_model.specs.Limits.{IsBetween, IsGoal};
 ghost use Rattle.plan_model.specs.SceneGrammar.{words_of, is_number, value_of, point_from, goal_from, number_or, is_in_range};

@@ -1,9 +1,8 @@
 //! The statements of a scene text, read one after another.
 
-ghost use Rattle.std.specs.Prelude.{◌≡◌, [], ◌∷◌, Option, Some, None, true, map, IfOk, OnOk, IfErr, if◌then◌else◌};
+ghost use Rattle.std.specs.Prelude.{◌≡◌, [], ◌∷◌, Some, None, true, map, IfOk, OnOk, IfErr, if◌then◌else◌};
 ghost use Rattle.plan_model.specs.declared.text_terms.Kind.TheVariants as kinds;
-ghost use Rattle.plan_model.specs.PlainScenes.{IsPlain};
-ghost use Rattle.plan_model.specs.SceneGrammar.{words_of, value_of, is_skipped, is_version, is_in_range};
+ghost use Rattle.plan_model.specs.SceneGrammar.{words_of, value_of, is_version, is_in_range};
 ghost use Rattle.scene_text.specs.Drafts.{fields_of, fault_at, fault_in, fault_of_words, is_given, is_full, IsFormed, taken, after, after_line, missing_in, IsSceneOf};
 ghost use Rattle.scene_text.specs.Refusals.{IsLineRefusal};
 

@@ -1,4 +1,4 @@
-use Rattle.std.proofs.Common.{◌≡◌, ◌&&◌, true, false, is_some, map, arith, rules, sym, ◌∙◌}
+use Rattle.std.proofs.Common.{◌≡◌, is_some, map, arith, rules, sym, ◌∙◌}
 use Rattle.std.proofs.Math.Bool.{and-true}
 use Rattle.std.proofs.lemmas.Grind.{common_steps}
 use Rattle.plan_model.specs.SceneGrammar.{words_of, value_of, is_in_range}

@@ -1,4 +1,4 @@
-use Rattle.std.proofs.Common.{rules, arith}
+use Rattle.std.proofs.Common.{arith}
 use Rattle.std.proofs.lemmas.Grind.{common_steps}
 use Rattle.scene_text.proofs.DraftLemmas.{fault_at-formed}
 use Rattle.scene_text.proofs.statements.Draft.take_statement.Goals as goal
