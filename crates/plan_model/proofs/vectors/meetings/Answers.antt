@@ -59,9 +59,9 @@ returns c = record {
     upwards = refl;
   };
   beside_corner = λ m.
-    let o = three m.on_obstacle m.obstacle_corners in
-    let b = three m.on_body m.body_corners in
-    beside_corner m.total o.first o.second o.third b.first b.second b.third m.some_weight (rw o.are at m.obstacle_total) (rw b.are at m.body_total) (rw (o.are, b.are) at m.across) (rw (o.are, b.are) at m.upwards);
+      let o = three m.on_obstacle m.obstacle_corners in
+      let b = three m.on_body m.body_corners in
+      beside_corner m.total o.first o.second o.third b.first b.second b.third m.some_weight (rw o.are at m.obstacle_total) (rw b.are at m.body_total) (rw (o.are, b.are) at m.across) (rw (o.are, b.are) at m.upwards);
   at_edge = record {
     total = 10;
     on_obstacle = 7 ∷ 0 ∷ 0 ∷ 3 ∷ [];
@@ -75,7 +75,7 @@ returns c = record {
     upwards = refl;
   };
   beside_edge = λ m.
-    let o = four m.on_obstacle m.obstacle_corners in
-    let b = four m.on_body m.body_corners in
-    beside_edge m.total o.first o.second o.third o.fourth b.first b.second b.third b.fourth m.some_weight (rw o.are at m.obstacle_total) (rw b.are at m.body_total) (rw (o.are, b.are) at m.across);
+      let o = four m.on_obstacle m.obstacle_corners in
+      let b = four m.on_body m.body_corners in
+      beside_edge m.total o.first o.second o.third o.fourth b.first b.second b.third b.fourth m.some_weight (rw o.are at m.obstacle_total) (rw b.are at m.body_total) (rw (o.are, b.are) at m.across);
 }
