@@ -1,4 +1,3 @@
 pub mod RootBounds
-pub mod ClassLaws
 pub mod Gaps
 pub mod Shares

@@ -4,3 +4,6 @@ pub mod SumLaws
 pub mod RunLaws
 pub mod MarkBounds
 pub mod PlainRuns
+pub mod ClassLaws
+pub mod RadiusLaws
+pub mod SteeringLaws

@@ -1,5 +1,5 @@
 -- The root of a number is the least whose square reaches it, and there is only one.
-use Rattle.std.proofs.Common.{◌≡◌, ℕ, zero, suc, ◌*◌, ◌<◌, ◌≤◌, ltb, cond, Bool, true, false, refl, arith}
+use Rattle.std.proofs.Common.{◌≡◌, ℕ, zero, suc, ◌-◌, ◌*◌, ◌<◌, ◌≤◌, ltb, cond, Bool, true, false, refl, arith}
 use Rattle.std.proofs.lemmas.Nat.{mul-le}
 use Rattle.std.proofs.lemmas.Bool.Decides.{nat_tests}
 use Rattle.plan_model.specs.Roots.{IsRootAbove, root_above}
@@ -27,3 +27,15 @@ pub root_above-unique : (n r : ℕ) → IsRootAbove n r → root_above n ≡ r
 root_above-unique n r h =
     let own = root_above-is n in
     omega (arith, own.least r h.reaches, h.least (root_above n) own.reaches)
+
+-- the root is r where the square of r reaches n, and that of the number before r does not
+pub root_above-from_squares : (n r : ℕ) → n ≤ r * r → (r - 1) * (r - 1) < n → root_above n ≡ r
+root_above-from_squares n r reaches short =
+    let is_root : IsRootAbove n r = record {
+      reaches = reaches;
+      least = λ s h. let more : r - 1 < s = lt-from_squares (r - 1) s ((r - 1) * (r - 1)) (omega arith) (omega arith) in omega arith;
+    } in
+    root_above-unique n r is_root
+
+pub root_above-zero : root_above 0 ≡ 0
+root_above-zero = root_above-unique 0 0 (record { reaches = omega arith; least = λ s h. omega arith })

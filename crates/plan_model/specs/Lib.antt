@@ -16,3 +16,4 @@ pub mod ReportText
 pub mod SceneGrammar
 pub mod Streams
 pub mod PlainScenes
+pub mod Vectors

@@ -14,6 +14,7 @@ mod scenes;
 mod tasks;
 mod text_terms;
 mod trees;
+mod vectors;
 
 pub use errors::{Failed, Memory};
 pub use geometry::{Goal, Point, Vertex};

@@ -1,5 +1,5 @@
--- The number of binary digits of a number, from the greatest power of 2 in it.
-use Rattle.std.proofs.Common.{◌≡◌, inl, inr, ℕ, suc, ◌+◌, ◌*◌, ◌^◌, ◌<◌, ◌≤◌, length, subst, arith}
+-- The number of binary digits of a number, and the powers of 2 around it.
+use Rattle.std.proofs.Common.{◌≡◌, inl, inr, ℕ, suc, ◌+◌, ◌-◌, ◌*◌, ◌^◌, ◌<◌, ◌≤◌, length, subst, ap, arith}
 use Rattle.std.proofs.Math.Nat.{pow-le-pow_right, pow-suc}
 use Rattle.std.specs.Int.Digits.{digits_of}
 use Rattle.std.proofs.lemmas.Bool.{cases_lt}
@@ -7,7 +7,7 @@ use Rattle.std.proofs.lemmas.Int.Digits.{length-digits_of-le, number_lt, number_
 use Rattle.plan_model.specs.Radius.{class_of}
 
 -- a number is below the power of 2 that its binary digits give
-below_digits : (n : ℕ) → n < 2 ^ length (digits_of 2 n)
+pub below_digits : (n : ℕ) → n < 2 ^ length (digits_of 2 n)
 below_digits n =
     subst (λ (k : ℕ). k < 2 ^ length (digits_of 2 n)) (number_digits_of 2 n (omega arith)) (number_lt 2 (digits_of 2 n) (all_below_base_digits_of 2 n (omega arith)))
 
@@ -22,3 +22,14 @@ class_from_powers n k low high =
     let fits : n < 2 ^ suc k = omega (arith, pow-suc 2 k) in
     let most : length (digits_of 2 n) ≤ suc k = length-digits_of-le 2 (suc k) n (omega arith) fits in
     omega arith
+
+-- a number that is not 0 reaches the power of 2 that one digit fewer gives
+pub from_digits : (n : ℕ) → 1 ≤ n → 2 ^ (length (digits_of 2 n) - 1) ≤ n
+from_digits n some =
+    elim (cases_lt n (2 ^ (length (digits_of 2 n) - 1))) [
+      | inl h ↦ (
+          let fewer : length (digits_of 2 n) ≤ length (digits_of 2 n) - 1 = length-digits_of-le 2 (length (digits_of 2 n) - 1) n (omega arith) h in
+          let none : length (digits_of 2 n) ≡ 0 = omega arith in
+          absurd (omega (arith, below_digits n, ap (λ k. 2 ^ k) none)))
+      | inr h ↦ h
+    ]

@@ -1,0 +1,9 @@
+use Rattle.std.proofs.Common.{refl}
+use Rattle.plan_model.proofs.vectors.drawn_words.Goals as goal
+
+pub returns : goal.returns
+returns c = record {
+  first = refl;
+  second = refl;
+  mark = λ scene room body strips seed. rw (room, body, strips, seed) refl;
+}

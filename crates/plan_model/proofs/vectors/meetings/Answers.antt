@@ -1,0 +1,81 @@
+use Rattle.std.proofs.Common.{◌≡◌, ℕ, ◌<◌, List, [], ◌∷◌, length, arith, refl}
+use Rattle.std.specs.Prelude.{ℤ, pos, ◌+ℤ◌, ◌-ℤ◌, ◌*ℤ◌, sum}
+use Rattle.std.proofs.lemmas.Int.{ints}
+use Rattle.plan_model.specs.RoomOfConfigurations.{at_lattice}
+use Rattle.plan_model.specs.Meeting.{Meets, weighted}
+use Rattle.plan_model.specs.Vectors.Shapes.{at}
+use Rattle.plan_model.specs.Vectors.Meetings.{small_triangle, great_triangle, small_square, great_square}
+use Rattle.plan_model.proofs.vectors.meetings.Goals as goal
+
+-- the first weights of a list are those of its corners
+record Three (ws : List ℕ) : Type 0 where
+  first : ℕ
+  second : ℕ
+  third : ℕ
+  are : ws ≡ first ∷ second ∷ third ∷ []
+
+three : (ws : List ℕ) → length ws ≡ 3 → Three ws
+three [] h = absurd (omega arith)
+three (a ∷ []) h = absurd (omega arith)
+three (a ∷ b ∷ []) h = absurd (omega arith)
+three (a ∷ b ∷ c ∷ []) h = record { first = a; second = b; third = c; are = refl }
+three (a ∷ b ∷ c ∷ d ∷ ws) h = absurd (omega arith)
+
+-- each difference of an obstacle's and a body's point has coordinates that add up to 18 at least
+beside_corner : (t a b c d e f : ℕ) → 0 < t → sum (a ∷ b ∷ c ∷ []) ≡ t → sum (d ∷ e ∷ f ∷ []) ≡ t → pos 1 *ℤ (weighted (λ v. v.x) (a ∷ b ∷ c ∷ []) great_triangle -ℤ weighted (λ v. v.x) (d ∷ e ∷ f ∷ []) small_triangle) ≡ pos t *ℤ pos 8 → pos 1 *ℤ (weighted (λ v. v.y) (a ∷ b ∷ c ∷ []) great_triangle -ℤ weighted (λ v. v.y) (d ∷ e ∷ f ∷ []) small_triangle) ≡ pos t *ℤ pos 9 → ⊥
+beside_corner t a b c d e f some obstacle body across upwards = omega (arith, ints)
+
+record Four (ws : List ℕ) : Type 0 where
+  first : ℕ
+  second : ℕ
+  third : ℕ
+  fourth : ℕ
+  are : ws ≡ first ∷ second ∷ third ∷ fourth ∷ []
+
+four : (ws : List ℕ) → length ws ≡ 4 → Four ws
+four [] h = absurd (omega arith)
+four (a ∷ []) h = absurd (omega arith)
+four (a ∷ b ∷ []) h = absurd (omega arith)
+four (a ∷ b ∷ c ∷ []) h = absurd (omega arith)
+four (a ∷ b ∷ c ∷ d ∷ []) h = record { first = a; second = b; third = c; fourth = d; are = refl }
+four (a ∷ b ∷ c ∷ d ∷ e ∷ ws) h = absurd (omega arith)
+
+-- each difference of an obstacle's and a body's point has an x of 8 at least
+beside_edge : (t a b c d e f g h : ℕ) → 0 < t → sum (a ∷ b ∷ c ∷ d ∷ []) ≡ t → sum (e ∷ f ∷ g ∷ h ∷ []) ≡ t → pos 1 *ℤ (weighted (λ v. v.x) (a ∷ b ∷ c ∷ d ∷ []) great_square -ℤ weighted (λ v. v.x) (e ∷ f ∷ g ∷ h ∷ []) small_square) ≡ pos t *ℤ pos 7 → ⊥
+beside_edge t a b c d e f g h some obstacle body across = omega (arith, ints)
+
+pub returns : goal.returns
+returns c = record {
+  at_corner = record {
+    total = 2;
+    on_obstacle = 2 ∷ 0 ∷ 0 ∷ [];
+    on_body = 0 ∷ 1 ∷ 1 ∷ [];
+    some_weight = omega arith;
+    obstacle_corners = refl;
+    body_corners = refl;
+    obstacle_total = refl;
+    body_total = refl;
+    across = refl;
+    upwards = refl;
+  };
+  beside_corner = λ m.
+      let o = three m.on_obstacle m.obstacle_corners in
+      let b = three m.on_body m.body_corners in
+      beside_corner m.total o.first o.second o.third b.first b.second b.third m.some_weight (rw o.are at m.obstacle_total) (rw b.are at m.body_total) (rw (o.are, b.are) at m.across) (rw (o.are, b.are) at m.upwards);
+  at_edge = record {
+    total = 10;
+    on_obstacle = 7 ∷ 0 ∷ 0 ∷ 3 ∷ [];
+    on_body = 0 ∷ 10 ∷ 0 ∷ 0 ∷ [];
+    some_weight = omega arith;
+    obstacle_corners = refl;
+    body_corners = refl;
+    obstacle_total = refl;
+    body_total = refl;
+    across = refl;
+    upwards = refl;
+  };
+  beside_edge = λ m.
+      let o = four m.on_obstacle m.obstacle_corners in
+      let b = four m.on_body m.body_corners in
+      beside_edge m.total o.first o.second o.third o.fourth b.first b.second b.third b.fourth m.some_weight (rw o.are at m.obstacle_total) (rw b.are at m.body_total) (rw (o.are, b.are) at m.across);
+}

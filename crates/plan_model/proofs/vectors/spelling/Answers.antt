@@ -1,0 +1,78 @@
+use Rattle.std.proofs.Common.{◌≡◌, ℕ, zero, suc, ◌<◌, [], ◌∷◌, arith, refl}
+use Rattle.std.specs.Prelude.{None}
+use Rattle.plan_model.specs.declared.scenes.Scene.{Scene}
+use Rattle.plan_model.specs.declared.scenes.Marks.TheVariants.{Listed}
+use Rattle.plan_model.specs.SceneGrammar.{supported, lines_of, fault_of_line}
+use Rattle.plan_model.specs.Vectors.Shapes.{at, corner}
+use Rattle.plan_model.specs.Vectors.Texts.{sound_text}
+use Rattle.plan_model.proofs.vectors.spelling.Goals as goal
+
+-- none of the first n lines has a fault
+sound : (i : ℕ) → i < 8 → fault_of_line supported (lines_of sound_text) i ≡ None
+sound zero h = refl
+sound (suc zero) h = refl
+sound (suc (suc zero)) h = refl
+sound (suc (suc (suc zero))) h = refl
+sound (suc (suc (suc (suc zero)))) h = refl
+sound (suc (suc (suc (suc (suc zero))))) h = refl
+sound (suc (suc (suc (suc (suc (suc zero)))))) h = refl
+sound (suc (suc (suc (suc (suc (suc (suc zero))))))) h = refl
+sound (suc (suc (suc (suc (suc (suc (suc (suc i)))))))) h = absurd (omega arith)
+
+the_scene : Scene
+the_scene = record {
+  version = 1;
+  room = at 10 10;
+  body = corner 0 0 ∷ [];
+  obstacles = [];
+  start = at 5 5;
+  goal = record { low = at 8 8; high = at 9 9 };
+  step = 4;
+  gamma = 0;
+  seed = 0;
+  strips = 1;
+  plan = Listed (at 7 7 ∷ []);
+  version_is_one = refl;
+  room_within = record { left = omega arith; right = omega arith; bottom = omega arith; top = omega arith };
+  body_within = refl;
+  obstacles_within = refl;
+  start_within = record { left = omega arith; right = omega arith; bottom = omega arith; top = omega arith };
+  goal_within = record { right = omega arith; top = omega arith; across = omega arith; upwards = omega arith };
+  step_low = omega arith;
+  step_high = omega arith;
+  gamma_high = omega arith;
+  strips_low = omega arith;
+  strips_high = omega arith;
+  plan_within = refl;
+}
+
+pub returns : goal.returns
+unfolding the_scene
+returns c = record {
+  scene = the_scene;
+  spelled = record {
+    sound = sound;
+    whole = refl;
+    fields = record {
+      version = refl;
+      room = refl;
+      body = refl;
+      obstacles = refl;
+      start = refl;
+      goal = refl;
+      step = refl;
+      gamma = refl;
+      seed = refl;
+      strips = refl;
+      plan = refl;
+    };
+  };
+  room = refl;
+  body = refl;
+  obstacles = refl;
+  start = refl;
+  goal = refl;
+  step = refl;
+  gamma = refl;
+  plan = refl;
+}

@@ -1,0 +1,15 @@
+-- Costs of edges.
+use Rattle.std.specs.Prelude.{◌≡◌}
+use Rattle.plan_model.specs.Cost.{cost_of}
+use Rattle.plan_model.specs.Vectors.Shapes.{at}
+
+pub record CostVectors : Type 0 where
+  pub none : cost_of (at 5 5) (at 5 5) ≡ 0
+  pub straight : cost_of (at 0 0) (at 1 0) ≡ 256
+  pub diagonal : cost_of (at 0 0) (at 1 1) ≡ 363
+  pub slanted : cost_of (at 0 0) (at 2 1) ≡ 573
+  pub whole : cost_of (at 0 0) (at 30 40) ≡ 12800
+  pub long_diagonal : cost_of (at 0 0) (at 35 35) ≡ 12672
+  pub upwards : cost_of (at 0 50) (at 40 79) ≡ 12649
+  pub across : cost_of (at 20 20) (at 75 65) ≡ 18193
+  pub far : cost_of (at 0 0) (at 88 43) ≡ 25074

@@ -1,0 +1,11 @@
+-- Words of SplitMix64, and a mark that they draw.
+use Rattle.std.specs.Prelude.{◌≡◌, [], ◌∷◌}
+use Rattle.plan_model.specs.declared.scenes.Scene.{Scene}
+use Rattle.plan_model.specs.MarkPoints.{first_word, second_word, drawn_mark}
+use Rattle.plan_model.specs.Vectors.Shapes.{at, corner}
+
+pub record DrawnVectors : Type 0 where
+  pub first : first_word 0 ≡ 0xE220A8397B1DCDAF
+  pub second : second_word 0 ≡ 0x6E789E6AA1B965F4
+  -- in a room of 100 columns and 100 rows, a point body, one strip and the seed 0
+  pub mark : (scene : Scene) → scene.room ≡ at 99 99 → scene.body ≡ corner 0 0 ∷ [] → scene.strips ≡ 1 → scene.seed ≡ 0 → drawn_mark scene 0 ≡ at 88 43

@@ -1,0 +1,26 @@
+-- Bodies that touch an obstacle, and bodies that lie beside it.
+use Rattle.std.specs.Prelude.{List, [], ◌∷◌}
+use Rattle.plan_model.specs.declared.geometry.Vertex.{Vertex}
+use Rattle.plan_model.specs.RoomOfConfigurations.{at_lattice}
+use Rattle.plan_model.specs.Meeting.{Meets}
+use Rattle.plan_model.specs.Vectors.Shapes.{at, corner}
+
+abbrev pub small_triangle : List Vertex
+small_triangle = corner 0 0 ∷ corner 2 0 ∷ corner 0 2 ∷ []
+
+abbrev pub great_triangle : List Vertex
+great_triangle = corner 10 10 ∷ corner 20 10 ∷ corner 10 20 ∷ []
+
+abbrev pub small_square : List Vertex
+small_square = corner 0 0 ∷ corner 2 0 ∷ corner 2 2 ∷ corner 0 2 ∷ []
+
+abbrev pub great_square : List Vertex
+great_square = corner 10 0 ∷ corner 20 0 ∷ corner 20 10 ∷ corner 10 10 ∷ []
+
+pub record MeetingVectors : Type 0 where
+  -- the middle of the body's long edge touches the obstacle's corner
+  pub at_corner : Meets small_triangle (at_lattice (at 9 9)) great_triangle
+  pub beside_corner : ¬ Meets small_triangle (at_lattice (at 8 9)) great_triangle
+  -- two edges touch
+  pub at_edge : Meets small_square (at_lattice (at 8 3)) great_square
+  pub beside_edge : ¬ Meets small_square (at_lattice (at 7 3)) great_square

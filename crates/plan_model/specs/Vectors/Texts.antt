@@ -1,0 +1,30 @@
+-- Texts that are refused, and a text that spells a scene.
+use Rattle.std.specs.Prelude.{◌≡◌, List, ℕ, [], ◌∷◌, codes}
+use Rattle.plan_model.specs.declared.scenes.Scene.{Scene}
+use Rattle.plan_model.specs.declared.scenes.Marks.TheVariants.{Listed}
+use Rattle.plan_model.specs.declared.text_terms.Kind.TheVariants as kinds
+use Rattle.plan_model.specs.SceneGrammar.{supported, Refused, Spells}
+use Rattle.plan_model.specs.Vectors.Shapes.{at, corner}
+
+pub record RefusalVectors : Type 0 where
+  pub empty_text : Refused supported [] 1 kinds.Version
+  pub not_a_key : Refused supported (codes "prrt 1\nroom 10 10\nstar\n") 3 kinds.Key
+  pub repeated : Refused supported (codes "prrt 1\nroom 10 10\nstep 4\nstep 4\n") 4 kinds.Repeat
+  pub missing : Refused supported (codes "prrt 1\nroom 10 10\nstart 5 5\nstep 4\n") 5 kinds.Missing
+
+abbrev pub sound_text : List ℕ
+sound_text =
+    codes "prrt 1\n# a scene\nroom 10 10\nstart 5 5\n\ngoal 8 8 9 9\nstep 4\nmark 7 7\n"
+
+-- the text spells a scene, and this is the scene
+pub record SpellingVector : Type 0 where
+  pub scene : Scene
+  pub spelled : Spells supported sound_text scene
+  pub room : scene.room ≡ at 10 10
+  pub body : scene.body ≡ corner 0 0 ∷ []
+  pub obstacles : scene.obstacles ≡ []
+  pub start : scene.start ≡ at 5 5
+  pub goal : scene.goal ≡ record { low = at 8 8; high = at 9 9 }
+  pub step : scene.step ≡ 4
+  pub gamma : scene.gamma ≡ 0
+  pub plan : scene.plan ≡ Listed (at 7 7 ∷ [])
