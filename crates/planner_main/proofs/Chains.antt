@@ -1,9 +1,9 @@
 -- The chain of a node and the cost along it, one member after another.
-use Rattle.std.proofs.Common.{◌≡◌, ◌≢◌, ℕ, zero, suc, ◌+◌, ◌-◌, ◌<◌, Option, List, [], ◌∷◌, ◌++◌, length, map, refl, sym, ap, ◌∙◌, arith}
+use Rattle.std.proofs.Common.{◌≡◌, ◌≢◌, ℕ, zero, suc, ◌+◌, ◌-◌, Option, List, [], ◌∷◌, length, map, refl, sym, ap, ◌∙◌, arith}
 use Rattle.plan_model.specs.declared.geometry.Point.{Point}
 use Rattle.plan_model.specs.declared.trees.Twig.{Twig}
 use Rattle.plan_model.specs.Cost.{cost_of}
-use Rattle.plan_model.specs.Nodes.{point_of, parent_of, chain_within, chain, length_of_path, sum_of}
+use Rattle.plan_model.specs.Nodes.{point_of, parent_of, chain_within, length_of_path, sum_of}
 
 module _ (tree : List (Option Twig)) where
   pub chain_more : (f g n : ℕ) → f ≡ suc g → n ≢ 0 → chain_within f tree n ≡ n ∷ chain_within g tree (parent_of tree n)
@@ -31,7 +31,6 @@ module _ (tree : List (Option Twig)) where
   pub climbed_at_start : (f n : ℕ) → n ≡ 0 → climbed f n ≡ 0
   climbed_at_start zero n e = refl
   climbed_at_start (suc f) n e = rw e refl
-
 
   -- a chain is its node and a rest
   chain_head : (f n : ℕ) → (rest : List ℕ) × (chain_within (suc f) tree n ≡ n ∷ rest)

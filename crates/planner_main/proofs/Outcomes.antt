@@ -1,9 +1,9 @@
 -- What the answer is where the words are `plain` and the whole text was read.
-use Rattle.std.proofs.Common.{◌≡◌, ◌≢◌, ℕ, ◌≤◌, Bool, true, Option, Some, List, length, refl, sym, subst, inl, inr, arith}
+use Rattle.std.proofs.Common.{◌≡◌, ℕ, ◌≤◌, Bool, true, Option, Some, List, length, refl, subst, inr, arith}
 use Rattle.plan_model.specs.SceneGrammar.{Refused, supported}
 use Rattle.planner_main.specs.declared.refusals.Refusal.{Refusal}
 use Rattle.planner_main.specs.declared.refusals.Refusal.TheVariants as refusals
-use Rattle.planner_main.specs.Conclusions.{ArePlain, IsAnswer, BlocksStart, ReportsRun, RefusesPlan, status_of_refusal, line_of_refusal}
+use Rattle.planner_main.specs.Conclusions.{ArePlain, IsAnswer, BlocksStart, RefusesPlan, status_of_refusal, line_of_refusal}
 
 module _ (words : List (List ℕ)) (left : Option (List ℕ)) (ended : Bool) (rose : Type 0) (text : List ℕ) (plain : ArePlain words) (end : ended ≡ true) (all : (bytes : List ℕ) → left ≡ Some bytes → text ≡ bytes) (small : length text ≤ 16777216) where
   pub plan_refused : (r : Refusal) → RefusesPlan text r → IsAnswer words left ended rose (status_of_refusal r) (line_of_refusal r)

@@ -1,12 +1,12 @@
 -- Nodes within reach, and what an edge between two of them costs at the most.
-use Rattle.std.proofs.Common.{◌≡◌, ℕ, ◌+◌, ◌*◌, ◌^◌, ◌≤◌, Option, Some, None, List, refl, arith}
+use Rattle.std.proofs.Common.{◌≡◌, ℕ, ◌*◌, ◌^◌, ◌≤◌, Option, Some, None, List, refl, arith}
 use Rattle.std.proofs.lemmas.Nat.{mul-le}
 use Rattle.plan_model.specs.declared.geometry.Point.{Point}
 use Rattle.plan_model.specs.declared.trees.Twig.{Twig}
 use Rattle.plan_model.specs.Geometry.{gap, squared_distance}
 use Rattle.plan_model.specs.Limits.{IsBetween}
 use Rattle.plan_model.specs.Cost.{cost_of}
-use Rattle.plan_model.specs.Nodes.{node_at, point_or_origin, point_of, HasPoint}
+use Rattle.plan_model.specs.Nodes.{node_at, point_or_origin, point_of}
 use Rattle.plan_model.proofs.RootLaws.{root_above-is}
 use Rattle.planner_main.specs.Reach.{IsInReach}
 

@@ -1,5 +1,5 @@
 -- What the program may answer: each status with its cause and with the text that is written.
-use Rattle.std.specs.Prelude.{◌≡◌, ◌≢◌, ℕ, ◌+◌, ◌<◌, ◌≤◌, ◌⊎◌, Bool, true, false, List, [], ◌∷◌, length, map, codes, is_some, Option, Some}
+use Rattle.std.specs.Prelude.{◌≡◌, ◌≢◌, ℕ, ◌<◌, ◌≤◌, ◌⊎◌, Bool, true, false, List, [], ◌∷◌, length, codes, is_some, Option, Some}
 use Rattle.plan_model.specs.declared.trees.Twig.{Twig}
 use Rattle.plan_model.specs.declared.records.Record.{Record}
 use Rattle.plan_model.specs.declared.scenes.Scene.{Scene}
@@ -7,7 +7,7 @@ use Rattle.plan_model.specs.declared.text_terms.Kind.{Kind}
 use Rattle.plan_model.specs.Clearance.{ClearAt}
 use Rattle.plan_model.specs.MarkPoints.{mark_points}
 use Rattle.plan_model.specs.Textbook.{IsTextbookRun}
-use Rattle.plan_model.specs.ReportText.{line, best_node, short_report}
+use Rattle.plan_model.specs.ReportText.{best_node, short_report}
 use Rattle.plan_model.specs.SceneGrammar.{Spells, Refused, supported}
 use Rattle.planner_main.specs.declared.refusals.Refusal.{Refusal}
 use Rattle.planner_main.specs.declared.refusals.Refusal.TheVariants as refusals

@@ -7,12 +7,10 @@ mod reports;
 mod standard_streams;
 mod top_call;
 
-pub use top_call::{Done, run};
-
 use standard_streams::{StdSink, StdSource};
-use std::env;
-use std::io;
 use std::process::ExitCode;
+use std::{env, io};
+pub use top_call::{Done, run};
 
 /// The status where there is no memory for the words of the command line.
 const NO_MEMORY: u8 = 7;

@@ -162,14 +162,24 @@ fn push_point(text: &mut String, point: Point) -> Result<(), AllocError>
 }
 
 // The path from the start to a node, a line for each point.
-fn push_path(alloc: Global, text: &mut String, twigs: &[Option<Twig>], node: u32) -> Result<(), Memory>
+fn push_path(
+    alloc: Global,
+    text: &mut String,
+    twigs: &[Option<Twig>],
+    node: u32,
+) -> Result<(), Memory>
     requires in_reach { IsInReach twigs.now }
     requires few { length twigs.now ≤ 262144 }
     ensures { OnOk result (string_bytes text.new ≡ string_bytes text.old ++ spec.path_lines twigs.now (Some node)) }
 {
     let mut members = chain_of(alloc, twigs, node)?;
     members.reverse();
-    write!(text, "path {} cost {}\n", members.len(), sum_of(twigs, node))?;
+    write!(
+        text,
+        "path {} cost {}\n",
+        members.len(),
+        sum_of(twigs, node)
+    )?;
     push_points(text, twigs, &members)
 }
 
@@ -190,7 +200,10 @@ fn push_counts(text: &mut String, twigs: &[Option<Twig>], records: &[Record]) ->
     let placed = count_placed(records);
     let same = count_same(records);
     let blocked = count_blocked(records);
-    write!(text, "nodes {nodes} placed {placed} same {same} blocked {blocked}\n")?;
+    write!(
+        text,
+        "nodes {nodes} placed {placed} same {same} blocked {blocked}\n"
+    )?;
     Ok(())
 }
 

@@ -14,7 +14,7 @@ ghost use Rattle.planner_main.specs.Delivery.{AppendsFront};
 use crate::delivery::deliver;
 use crate::refusals::Refusal;
 use crate::reports::short_report;
-use plan_model::{Memory, Marks, Point, Points, Scene, Sink, Source, Task};
+use plan_model::{Marks, Memory, Point, Points, Scene, Sink, Source, Task};
 use scene_text::{FetchFault, SceneRefusal, fetch, read_scene};
 use seq_planner::textbook;
 use std::alloc::Global;
@@ -41,12 +41,12 @@ pub fn run<S: Source, K: Sink>(
     // the status has its cause, and the whole text of the answer is written
     ensures done { result.status ≢ 6 → (text : List ℕ)
         × IsAnswer (map string_bytes words.now) (S.bytes_left source.old) (S.has_ended source.new)
-            (Rose (S.fault_count source.old) (S.fault_count source.new)) result.status text
+        (Rose (S.fault_count source.old) (S.fault_count source.new)) result.status text
         × Appends (K.bytes_taken sink.old) (K.bytes_taken sink.new) text }
     // the sink failed, and took a proper front of the text of an answer with its cause
     ensures cut { result.status ≡ 6 → Rose (K.fault_count sink.old) (K.fault_count sink.new) × ((status : ℕ) × (text : List ℕ)
         × IsAnswer (map string_bytes words.now) (S.bytes_left source.old) (S.has_ended source.new)
-            (Rose (S.fault_count source.old) (S.fault_count source.new)) status text
+        (Rose (S.fault_count source.old) (S.fault_count source.new)) status text
         × AppendsFront (K.bytes_taken sink.old) (K.bytes_taken sink.new) text) }
     // where the words are not `plain`, nothing is read
     ensures unread { (¬ ArePlain (map string_bytes words.now)) → Keeps (S.bytes_left source.old) (S.bytes_left source.new)
@@ -131,11 +131,7 @@ fn are_plain(words: &[String]) -> bool
 }
 
 // What is to be written, or why there is no report.
-fn answer_to<S: Source>(
-    alloc: Global,
-    words: &[String],
-    source: &mut S,
-) -> Result<Answer, Refusal>
+fn answer_to<S: Source>(alloc: Global, words: &[String], source: &mut S) -> Result<Answer, Refusal>
     requires { S.has_ended source.old ≡ false }
     ensures report { IfOk result (λ answer. IsAnswer (map string_bytes words.now) (S.bytes_left source.old) (S.has_ended source.new)
         (Rose (S.fault_count source.old) (S.fault_count source.new)) answer.status answer.text.items) }
@@ -205,3 +201,6 @@ fn copy_of_marks(alloc: Global, plan: &Marks) -> Result<Points, Memory>
         Marks::Drawn(_) => unreachable!(),
     }
 }
+
+#[cfg(test)]
+mod tests;

@@ -2,7 +2,6 @@
 use Rattle.std.specs.Prelude.{◌≡◌, Option, Some, List, [], ◌∷◌, codes}
 use Rattle.plan_model.specs.declared.geometry.Goal.{Goal}
 use Rattle.plan_model.specs.declared.trees.Twig.{Twig}
-use Rattle.plan_model.specs.declared.scenes.Scene.{Scene}
 use Rattle.plan_model.specs.declared.records.Outcome.TheVariants.{Placed}
 use Rattle.plan_model.specs.declared.records.Record.{Record}
 use Rattle.plan_model.specs.ReportText.{best_node, short_report}
@@ -23,4 +22,4 @@ goal_point = record { low = at 30 40; high = at 30 40 }
 
 pub record ReportVectors : Type 0 where
   pub best : best_node goal_point two_nodes ≡ Some 1
-  pub report : (scene : Scene) → scene.goal ≡ goal_point → short_report scene two_nodes one_placed ≡ codes "path 2 cost 12800\n0 0\n30 40\nnodes 2 placed 1 same 0 blocked 0\n"
+  pub report : short_report goal_point two_nodes one_placed ≡ codes "path 2 cost 12800\n0 0\n30 40\nnodes 2 placed 1 same 0 blocked 0\n"

@@ -1,9 +1,6 @@
-use Rattle.std.proofs.Common.{◌≡◌, ◌+◌, [], ◌∷◌, ◌++◌, List, ℕ, ap, arith, refl, ◌∙◌}
-use Rattle.std.specs.Prelude.{codes, decimal, Some}
+use Rattle.std.proofs.Common.{◌≡◌, arith, refl}
 use Rattle.std.specs.Fmt.{digits}
 use Rattle.plan_model.specs.Roots.{root_above}
-use Rattle.plan_model.specs.ReportText.{path_lines, nodes_line, best_node}
-use Rattle.plan_model.specs.Vectors.Reports.{two_nodes, one_placed}
 use Rattle.plan_model.proofs.RootLaws.{root_above-from_squares}
 use Rattle.plan_model.proofs.vectors.reports.Goals as goal
 
@@ -14,5 +11,5 @@ pub returns : goal.returns
 unfolding digits
 returns c = record {
   best = refl;
-  report = λ scene h. ap (λ goal. path_lines two_nodes (best_node goal two_nodes) ++ nodes_line two_nodes one_placed) h ∙ rw edge refl;
+  report = rw edge refl;
 }

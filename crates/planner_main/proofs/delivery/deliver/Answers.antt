@@ -11,7 +11,7 @@ loop-written-preserved g c =
     let n = c.in_ok-written.field-0 in
     let rest = take_rest text m in
     let fronts : take (m + n) text ≡ take m text ++ take n (take (length text - m) (drop m text)) =
-        (take-add m n text ∙ ap (λ ys. take m text ++ take n ys) (sym rest)) in
+    (take-add m n text ∙ ap (λ ys. take m text ++ take n ys) (sym rest)) in
     record {
       within = (let bound : n ≤ length (drop m text) = (rw rest at c.in_ok-written.ensures.bound) in omega (arith, length-drop m text));
       front = rw fronts (Appends-trans (g.K.Sink.bytes_taken c.args.sink.now) (g.K.Sink.bytes_taken c.loop-written.sink) (g.K.Sink.bytes_taken c.write.new.self) _ _ c.loop-written.invariant.front c.in_ok-written.ensures.bytes);

@@ -1,4 +1,4 @@
-use Rattle.std.proofs.Common.{◌≡◌, ◌^◌, ◌≤◌, arith}
+use Rattle.std.proofs.Common.{arith}
 use Rattle.planner_main.proofs.Places.{reached, cost_small}
 use Rattle.planner_main.proofs.reports.edge_cost.Goals as goal
 

@@ -1,6 +1,5 @@
-use Rattle.std.proofs.Common.{◌≡◌, ◌-◌, ◌+◌, ◌^◌, ◌≤◌, length, sym, ap, ◌∙◌, arith}
-use Rattle.plan_model.specs.Nodes.{sum_of, parent_of, point_of}
-use Rattle.planner_main.proofs.Chains.{climbed, climbed_more, climbed_at_start, sum_is_climbed}
+use Rattle.std.proofs.Common.{◌-◌, ◌+◌, length, arith}
+use Rattle.planner_main.proofs.Chains.{climbed_more, sum_is_climbed}
 use Rattle.planner_main.proofs.reports.sum_of.Goals as goal
 
 pub loop-edge-init : goal.loop-edge-init

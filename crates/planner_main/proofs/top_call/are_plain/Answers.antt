@@ -1,4 +1,4 @@
-use Rattle.std.proofs.Common.{◌≡◌, ℕ, List, [], ◌∷◌, length, get_or, map, String, string_bytes, sym, ap, ◌∙◌, refl, arith}
+use Rattle.std.proofs.Common.{◌≡◌, ℕ, List, [], ◌∷◌, length, get_or, map, String, string_bytes, sym, ap, ◌∙◌, arith}
 use Rattle.std.specs.declared.alloc.Global.{Global}
 use Rattle.std.proofs.lemmas.Bool.Decides.{Decides-eqb}
 use Rattle.std.proofs.lemmas.Slice.Eq.{slice_eq-Decides}
@@ -16,6 +16,7 @@ same_word a b e = cc
 pub returns-in-len1 : goal.returns-in-len1
 returns-in-len1 c =
     let same = slice_eq-Decides Decides-eqb _ _ _ c.eq.ensures in
-    let one = one_word c.args.words.now c.word-item.result (omega arith) c.word-item.is in
-    (λ t. one ∙ ap (λ (w : List ℕ). w ∷ []) (sym c.as_str.ensures.value ∙ same.0 t),
-      λ h. same.1 (c.as_str.ensures.value ∙ same_word _ _ (sym one ∙ h)))
+    let one = one_word c.args.words.now c.word-item.result (omega arith) c.word-item.is in (
+      λ t. one ∙ ap (λ (w : List ℕ). w ∷ []) (sym c.as_str.ensures.value ∙ same.0 t),
+      λ h. same.1 (c.as_str.ensures.value ∙ same_word _ _ (sym one ∙ h)),
+    )

@@ -10,6 +10,7 @@ returns-then-not-is_in_room-clause-refusal c =
 
 pub returns-clause-report : goal.returns-clause-report
 returns-clause-report c =
-    let scene = c.in_ok-scene.scene in
-    (c.in_ok-report_of.ensures.0,
-      record { scene = scene; spelled = c.in_ok-scene.ensures.scene; start = ClearAt-from_room scene scene.start c.in_ok-scene.ensures.plain (c.is_in_room.ensures.0 c.if-not-is_in_room.false); report = c.in_ok-report_of.ensures.1 })
+    let scene = c.in_ok-scene.scene in (
+      c.in_ok-report_of.ensures.0,
+      record { scene = scene; spelled = c.in_ok-scene.ensures.scene; start = ClearAt-from_room scene scene.start c.in_ok-scene.ensures.plain (c.is_in_room.ensures.0 c.if-not-is_in_room.false); report = c.in_ok-report_of.ensures.1 },
+    )
