@@ -1,7 +1,7 @@
 -- The marks of a plain scene are few, and lie at most a step outside of the greatest room.
-use Rattle.std.proofs.Common.{◌≡◌, ℕ, suc, ◌+◌, ◌-◌, ◌*◌, ◌/◌, ◌%◌, ◌^◌, ◌<◌, ◌≤◌, Bool, true, false, cond, ltb, List, [], ◌∷◌, length, map, arith, refl, sym, ap, ◌∙◌}
-use Rattle.std.specs.Prelude.{pos, ℤ, IsTrue, All, bit_xor, nat_le, ◌&&◌}
-use Rattle.std.specs.List.{list_all, range_with_len}
+use Rattle.std.proofs.Common.{◌≡◌, ℕ, ◌+◌, ◌-◌, ◌*◌, ◌/◌, ◌%◌, ◌^◌, ◌<◌, ◌≤◌, Bool, true, false, cond, ltb, length, arith, refl, ap}
+use Rattle.std.specs.Prelude.{IsTrue, All, bit_xor, ◌&&◌}
+use Rattle.std.specs.List.{range_with_len}
 use Rattle.std.proofs.Math.Nat.{div-le_of_le-mul, div-le_self}
 use Rattle.std.proofs.lemmas.Nat.{mul-le, xor_lt, mod_below, div_below, pow_pos}
 use Rattle.std.proofs.lemmas.List.{length-map}
@@ -10,13 +10,12 @@ use Rattle.std.proofs.lemmas.List.Sums.{AllPass-from_list_all}
 use Rattle.std.proofs.lemmas.List.Elements.{All-map, All-weaker}
 use Rattle.std.proofs.lemmas.Bool.{leb-true}
 use Rattle.plan_model.specs.declared.geometry.Point.{Point}
-use Rattle.plan_model.specs.declared.geometry.Vertex.{Vertex}
 use Rattle.plan_model.specs.declared.scenes.Scene.{Scene}
 use Rattle.plan_model.specs.declared.scenes.Marks.{Marks}
 use Rattle.plan_model.specs.declared.scenes.Marks.TheVariants.{Drawn, Listed}
 use Rattle.plan_model.specs.Limits.{IsBetween, is_mark, is_plan}
 use Rattle.plan_model.specs.PlainScenes.{IsPlain}
-use Rattle.plan_model.specs.MarkPoints.{mixed, word_of_state, first_word, second_word, next_state, below_zero, above_zero, reach, Span, span_within, columns, rows, strip, picked, drawn_mark, points_of, mark_points}
+use Rattle.plan_model.specs.MarkPoints.{mixed, word_of_state, first_word, second_word, next_state, below_zero, above_zero, reach, Span, span_within, columns, rows, strip, picked, drawn_mark, points_of}
 
 -- a share of c is at most c
 share_le : (u c m : ℕ) → u ≤ m → (u * c) / m ≤ c

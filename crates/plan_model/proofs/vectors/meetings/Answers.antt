@@ -1,9 +1,7 @@
 use Rattle.std.proofs.Common.{◌≡◌, ℕ, ◌<◌, List, [], ◌∷◌, length, arith, refl}
-use Rattle.std.specs.Prelude.{ℤ, pos, ◌+ℤ◌, ◌-ℤ◌, ◌*ℤ◌, sum}
+use Rattle.std.specs.Prelude.{pos, ◌-ℤ◌, ◌*ℤ◌, sum}
 use Rattle.std.proofs.lemmas.Int.{ints}
-use Rattle.plan_model.specs.RoomOfConfigurations.{at_lattice}
-use Rattle.plan_model.specs.Meeting.{Meets, weighted}
-use Rattle.plan_model.specs.Vectors.Shapes.{at}
+use Rattle.plan_model.specs.Meeting.{weighted}
 use Rattle.plan_model.specs.Vectors.Meetings.{small_triangle, great_triangle, small_square, great_square}
 use Rattle.plan_model.proofs.vectors.meetings.Goals as goal
 

@@ -1,5 +1,4 @@
-use Rattle.std.proofs.Common.{◌≡◌, ◌+◌, [], ◌∷◌, ◌++◌, List, ℕ, ap, arith, refl, ◌∙◌}
-use Rattle.std.specs.Prelude.{codes, decimal, Some}
+use Rattle.std.proofs.Common.{◌≡◌, ◌++◌, ap, arith, refl, ◌∙◌}
 use Rattle.std.specs.Fmt.{digits}
 use Rattle.plan_model.specs.Roots.{root_above}
 use Rattle.plan_model.specs.ReportText.{path_lines, nodes_line, best_node}
