@@ -7,3 +7,6 @@ pub mod PlainRuns
 pub mod ClassLaws
 pub mod RadiusLaws
 pub mod SteeringLaws
+pub mod Soundness
+pub mod CostLaws
+pub mod StripLaws

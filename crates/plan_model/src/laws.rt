@@ -1,13 +1,26 @@
 //! Laws of the definitions, each the contract of a function that does nothing.
 
-ghost use Rattle.std.specs.Prelude.{◌≡◌, ℕ, ◌+◌, ◌-◌, ◌*◌, ◌/◌, ◌^◌, ◌<◌, ◌≤◌};
+ghost use Rattle.std.specs.Prelude.{◌≡◌, ℕ, Bool, List, ◌+◌, ◌-◌, ◌*◌, ◌/◌, ◌^◌, ◌<◌, ◌≤◌};
+ghost use Rattle.plan_model.specs.Cost.{cost_of};
+ghost use Rattle.plan_model.specs.MarkPoints.{Span, strip};
 ghost use Rattle.plan_model.specs.Radius.{class_of, radius_of_class};
 ghost use Rattle.plan_model.specs.Roots.{IsRootAbove, root_above};
+ghost use Rattle.plan_model.specs.SceneGrammar.{Refused, Spells};
 ghost use Rattle.plan_model.specs.Steering.{advanced};
+ghost use Rattle.plan_model.specs.declared.geometry.Point.{Point};
+ghost use Rattle.plan_model.specs.declared.scenes.Scene.{Scene};
+ghost use Rattle.plan_model.specs.declared.text_terms.Key.{Key};
+ghost use Rattle.plan_model.specs.declared.text_terms.Kind.{Kind};
 
 /// The root of a number is the least whose square reaches it.
 pub fn root_is_least()
     ensures { (n : ℕ) → IsRootAbove n (root_above n) }
+{}
+
+/// An edge costs the same in both directions, and only one without length costs nothing.
+pub fn costs_are_distances()
+    ensures both_ways { (a b : Point) → cost_of a b ≡ cost_of b a }
+    ensures apart { (a b : Point) → cost_of a b ≡ 0 → a ≡ b }
 {}
 
 /// Class b holds the numbers from 2 ^ (b - 1) up to 2 ^ b - 1.
@@ -27,4 +40,18 @@ pub fn radius_is_greatest()
 pub fn steering_rounds_to_start()
     ensures forwards { (from to step len : ℕ) → from ≤ to → advanced from to step len ≡ from + (to - from) * step / len }
     ensures backwards { (from to step len : ℕ) → to ≤ from → 0 < len → step ≤ len → advanced from to step len ≡ from - (from - to) * step / len }
+{}
+
+/// The strips of a span lie one after another from its first column to its last, where there are enough columns.
+pub fn strips_make_up_the_span()
+    ensures first { (all : Span) (strips : ℕ) → strips ≤ all.count → (strip all strips 0).first ≡ all.first }
+    ensures next { (all : Span) (strips g : ℕ) → 0 < strips → strips ≤ all.count → (strip all strips (g + 1)).first ≡ (strip all strips g).first + (strip all strips g).count }
+    ensures last { (all : Span) (strips : ℕ) → 0 < strips → strips ≤ all.count → (strip all strips strips).first ≡ all.first + all.count }
+{}
+
+/// A text is refused at one line and for one kind, and no text that spells a scene is refused.
+pub fn refusals_are_unique()
+    ensures line { (built : Key → Bool) (text : List ℕ) (m n : ℕ) (one other : Kind) → Refused built text m one → Refused built text n other → m ≡ n }
+    ensures kind { (built : Key → Bool) (text : List ℕ) (m n : ℕ) (one other : Kind) → Refused built text m one → Refused built text n other → one ≡ other }
+    ensures spelled { (built : Key → Bool) (text : List ℕ) (scene : Scene) (n : ℕ) (kind : Kind) → Spells built text scene → ¬ Refused built text n kind }
 {}

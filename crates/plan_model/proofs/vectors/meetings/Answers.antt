@@ -5,7 +5,7 @@ use Rattle.plan_model.specs.Meeting.{weighted}
 use Rattle.plan_model.specs.Vectors.Meetings.{small_triangle, great_triangle, small_square, great_square}
 use Rattle.plan_model.proofs.vectors.meetings.Goals as goal
 
--- the first weights of a list are those of its corners
+-- a list of three numbers, by its members
 record Three (ws : List ℕ) : Type 0 where
   first : ℕ
   second : ℕ
@@ -23,6 +23,7 @@ three (a ∷ b ∷ c ∷ d ∷ ws) h = absurd (omega arith)
 beside_corner : (t a b c d e f : ℕ) → 0 < t → sum (a ∷ b ∷ c ∷ []) ≡ t → sum (d ∷ e ∷ f ∷ []) ≡ t → pos 1 *ℤ (weighted (λ v. v.x) (a ∷ b ∷ c ∷ []) great_triangle -ℤ weighted (λ v. v.x) (d ∷ e ∷ f ∷ []) small_triangle) ≡ pos t *ℤ pos 8 → pos 1 *ℤ (weighted (λ v. v.y) (a ∷ b ∷ c ∷ []) great_triangle -ℤ weighted (λ v. v.y) (d ∷ e ∷ f ∷ []) small_triangle) ≡ pos t *ℤ pos 9 → ⊥
 beside_corner t a b c d e f some obstacle body across upwards = omega (arith, ints)
 
+-- a list of four numbers, by its members
 record Four (ws : List ℕ) : Type 0 where
   first : ℕ
   second : ℕ

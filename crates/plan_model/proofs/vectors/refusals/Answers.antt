@@ -1,30 +1,24 @@
-use Rattle.std.proofs.Common.{◌≡◌, ℕ, zero, suc, ◌<◌, arith, refl, inl, inr}
-use Rattle.std.specs.Prelude.{None, codes}
-use Rattle.plan_model.specs.SceneGrammar.{supported, lines_of, fault_of_line}
+use Rattle.std.proofs.Common.{arith, refl, inr}
+use Rattle.std.specs.Prelude.{codes}
+use Rattle.plan_model.specs.SceneGrammar.{all_keys, supported, lines_of}
+use Rattle.plan_model.specs.declared.text_terms.Kind.TheVariants as kinds
+use Rattle.plan_model.proofs.Soundness.{are_sound, IsSoundBelow-from_test, refused_at_line}
 use Rattle.plan_model.proofs.vectors.refusals.Goals as goal
 
-key_sound : (i : ℕ) → i < 2 → fault_of_line supported (lines_of (codes "prrt 1\nroom 10 10\nstar\n")) i ≡ None
-key_sound zero h = refl
-key_sound (suc zero) h = refl
-key_sound (suc (suc i)) h = absurd (omega arith)
-
-repeat_sound : (i : ℕ) → i < 3 → fault_of_line supported (lines_of (codes "prrt 1\nroom 10 10\nstep 4\nstep 4\n")) i ≡ None
-repeat_sound zero h = refl
-repeat_sound (suc zero) h = refl
-repeat_sound (suc (suc zero)) h = refl
-repeat_sound (suc (suc (suc i))) h = absurd (omega arith)
-
-missing_sound : (i : ℕ) → i < 4 → fault_of_line supported (lines_of (codes "prrt 1\nroom 10 10\nstart 5 5\nstep 4\n")) i ≡ None
-missing_sound zero h = refl
-missing_sound (suc zero) h = refl
-missing_sound (suc (suc zero)) h = refl
-missing_sound (suc (suc (suc zero))) h = refl
-missing_sound (suc (suc (suc (suc i)))) h = absurd (omega arith)
-
 pub returns : goal.returns
+unfolding are_sound
 returns c = record {
   empty_text = (0, refl, (λ i h. absurd (omega arith)), inr (refl, refl));
-  not_a_key = (2, refl, key_sound, inl (omega arith, refl));
-  repeated = (3, refl, repeat_sound, inl (omega arith, refl));
-  missing = (4, refl, missing_sound, inr (refl, refl));
+  other_version = refused_at_line supported (codes "# a scene\n\nprrt 2\n") 2 kinds.Version refl (omega arith) refl;
+  not_a_key = refused_at_line supported (codes "prrt 1\nroom 10 10\nstar\n") 2 kinds.Key refl (omega arith) refl;
+  not_supported = refused_at_line supported (codes "prrt 1\nroom 10 10\nbody 0 0\n") 2 kinds.Unbuilt refl (omega arith) refl;
+  repeated = refused_at_line supported (codes "prrt 1\nroom 10 10\nstep 4\nstep 4\n") 3 kinds.Repeat refl (omega arith) refl;
+  word_missing = refused_at_line supported (codes "prrt 1\nroom 10\n") 1 kinds.Words refl (omega arith) refl;
+  not_a_number = refused_at_line supported (codes "prrt 1\nroom 10 010\n") 1 kinds.Number refl (omega arith) refl;
+  too_low = refused_at_line supported (codes "prrt 1\nroom 10 0\n") 1 kinds.Range refl (omega arith) refl;
+  too_high = refused_at_line supported (codes "prrt 1\nstart 65536 0\n") 1 kinds.Range refl (omega arith) refl;
+  not_in_order = refused_at_line supported (codes "prrt 1\ngoal 8 9 9 8\n") 1 kinds.Range refl (omega arith) refl;
+  clockwise = refused_at_line all_keys (codes "prrt 1\nobstacle 0 0 0 9 9 9\n") 1 kinds.Corners refl (omega arith) refl;
+  drawn_and_listed = refused_at_line all_keys (codes "prrt 1\nmarks 5\nmark 1 1\n") 2 kinds.Repeat refl (omega arith) refl;
+  missing = (4, refl, IsSoundBelow-from_test supported (lines_of (codes "prrt 1\nroom 10 10\nstart 5 5\nstep 4\n")) 4 refl, inr (refl, refl));
 }

@@ -1,23 +1,11 @@
-use Rattle.std.proofs.Common.{◌≡◌, ℕ, zero, suc, ◌<◌, [], ◌∷◌, arith, refl}
-use Rattle.std.specs.Prelude.{None}
+use Rattle.std.proofs.Common.{[], ◌∷◌, arith, refl}
 use Rattle.plan_model.specs.declared.scenes.Scene.{Scene}
 use Rattle.plan_model.specs.declared.scenes.Marks.TheVariants.{Listed}
-use Rattle.plan_model.specs.SceneGrammar.{supported, lines_of, fault_of_line}
+use Rattle.plan_model.specs.SceneGrammar.{supported, lines_of}
 use Rattle.plan_model.specs.Vectors.Shapes.{at, corner}
 use Rattle.plan_model.specs.Vectors.Texts.{sound_text}
+use Rattle.plan_model.proofs.Soundness.{are_sound, IsSoundBelow-from_test}
 use Rattle.plan_model.proofs.vectors.spelling.Goals as goal
-
--- none of the first n lines has a fault
-sound : (i : ℕ) → i < 8 → fault_of_line supported (lines_of sound_text) i ≡ None
-sound zero h = refl
-sound (suc zero) h = refl
-sound (suc (suc zero)) h = refl
-sound (suc (suc (suc zero))) h = refl
-sound (suc (suc (suc (suc zero)))) h = refl
-sound (suc (suc (suc (suc (suc zero))))) h = refl
-sound (suc (suc (suc (suc (suc (suc zero)))))) h = refl
-sound (suc (suc (suc (suc (suc (suc (suc zero))))))) h = refl
-sound (suc (suc (suc (suc (suc (suc (suc (suc i)))))))) h = absurd (omega arith)
 
 the_scene : Scene
 the_scene = record {
@@ -47,11 +35,11 @@ the_scene = record {
 }
 
 pub returns : goal.returns
-unfolding the_scene
+unfolding the_scene are_sound
 returns c = record {
   scene = the_scene;
   spelled = record {
-    sound = sound;
+    sound = IsSoundBelow-from_test supported (lines_of sound_text) 8 refl;
     whole = refl;
     fields = record {
       version = refl;

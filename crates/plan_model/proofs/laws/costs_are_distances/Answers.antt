@@ -1,0 +1,8 @@
+use Rattle.plan_model.proofs.CostLaws.{cost_of-swap, cost_of-zero}
+use Rattle.plan_model.proofs.laws.costs_are_distances.Goals as goal
+
+pub returns-clause-both_ways : goal.returns-clause-both_ways
+returns-clause-both_ways c = cost_of-swap
+
+pub returns-clause-apart : goal.returns-clause-apart
+returns-clause-apart c = cost_of-zero
