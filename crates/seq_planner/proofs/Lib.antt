@@ -3,3 +3,4 @@ pub mod Scans
 pub mod SoundTrees
 pub mod Turns
 pub mod MarkAccounts
+pub mod RunsSoFar
