@@ -7,11 +7,12 @@ use Rattle.std.proofs.lemmas.Nat.{mul-le, xor_lt, mod_below, div_below, pow_pos}
 use Rattle.std.proofs.lemmas.List.{length-map}
 use Rattle.std.proofs.lemmas.List.FromFn.{length-range_with_len}
 use Rattle.std.proofs.lemmas.List.Sums.{AllPass-from_list_all}
-use Rattle.std.proofs.lemmas.List.Elements.{All-map, All-weaker}
+use Rattle.std.proofs.lemmas.List.Elements.{All-map, All-weaker, All-same}
 use Rattle.std.proofs.lemmas.Bool.{leb-true}
 use Rattle.plan_model.specs.declared.geometry.Point.{Point}
 use Rattle.plan_model.specs.declared.geometry.Vertex.{Vertex}
 use Rattle.plan_model.specs.declared.scenes.Scene.{Scene}
+use Rattle.plan_model.specs.declared.tasks.Task.{Task}
 use Rattle.plan_model.specs.declared.scenes.Marks.{Marks}
 use Rattle.plan_model.specs.declared.scenes.Marks.TheVariants.{Drawn, Listed}
 use Rattle.plan_model.specs.Limits.{IsBetween, is_mark, is_plan}
@@ -97,3 +98,12 @@ All-marks_within scene (Listed points) plain room strips h =
 pub length-points_of : (scene : Scene) (plan : Marks) → IsTrue (is_plan plan) → length (points_of scene plan) ≤ 262143
 length-points_of scene (Drawn n) h = omega (arith, length-map (range_with_len 0 n) (drawn_mark scene), length-range_with_len 0 n, leb-true n 262143 h)
 length-points_of scene (Listed points) h = leb-true (length points) 262143 (first_true _ _ h)
+
+-- the marks of a task
+pub length-marks : (task : Task) → length task.marks ≤ 262143
+length-marks task = omega (arith, ap length task.of_scene, length-points_of task.scene task.scene.plan task.scene.plan_within)
+
+pub All-task_marks_within : (task : Task) → IsPlain task.scene → All (IsBetween 0 65536) task.marks
+All-task_marks_within task plain =
+    let scene = task.scene in
+    All-same (IsBetween 0 65536) task.marks (mark_points scene) task.of_scene (All-marks_within scene scene.plan plain scene.room_within scene.strips_low scene.plan_within)
