@@ -1,3 +1,4 @@
 pub mod RootBounds
 pub mod ClassLaws
 pub mod Gaps
+pub mod Shares

@@ -21,3 +21,30 @@ pub fn cost(a: Point, b: Point) -> u64
 {
     root_above(65536 * squared_distance(a, b))
 }
+
+#[cfg(test)]
+mod tests {
+    use super::*;
+    use crate::on_lattice;
+
+    #[test]
+    fn rounds_lengths_up(rt: HostRuntime) {
+        for (a, b, want) in [
+            ((5, 5), (5, 5), 0),
+            ((0, 0), (1, 0), 256),
+            ((0, 0), (1, 1), 363),
+            ((0, 0), (2, 1), 573),
+            ((0, 0), (30, 40), 12_800),
+            ((0, 0), (35, 35), 12_672),
+            ((0, 50), (40, 79), 12_649),
+            ((20, 20), (75, 65), 18_193),
+            ((0, 0), (88, 43), 25_074),
+        ] {
+            assert_eq!(rt;
+                cost(on_lattice(a), on_lattice(b)),
+                want,
+                "from {a:?} to {b:?}"
+            );
+        }
+    }
+}

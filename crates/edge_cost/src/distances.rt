@@ -8,6 +8,7 @@ ghost use Rattle.edge_cost.specs.Lattice.{IsOnLattice};
 use plan_model::Point;
 
 /// The square of the distance from `a` to `b`.
+#[tactic(auto, using(crate::proofs::Gaps::square_of_gap))]
 pub fn squared_distance(a: Point, b: Point) -> u64
     requires from { IsOnLattice a }
     requires to { IsOnLattice b }
@@ -20,6 +21,7 @@ pub fn squared_distance(a: Point, b: Point) -> u64
 }
 
 /// The least number whose square is at least `n`: the square root, rounded up.
+#[tactic(auto, using(crate::proofs::RootBounds::next_is_root, crate::proofs::RootBounds::same_is_root))]
 pub(crate) fn root_above(n: u64) -> u64
     ensures value { result ≡ root_above n }
     ensures least { IsRootAbove n result }

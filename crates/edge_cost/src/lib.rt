@@ -2,6 +2,9 @@
 //! the whole-number parts of RRT* that need no obstacles.
 #![tactic(auto)]
 
+ghost use Rattle.std.specs.Prelude.{◌≡◌};
+ghost use Rattle.edge_cost.specs.Lattice.{IsOnLattice};
+
 mod classes;
 mod costs;
 mod distances;
@@ -11,3 +14,14 @@ pub use classes::class;
 pub use costs::cost;
 pub use distances::squared_distance;
 pub use steering::steer;
+
+/// A point of a test's table.
+#[cfg(test)]
+fn on_lattice(place: (u16, u16)) -> plan_model::Point
+    ensures { IsOnLattice result }
+{
+    plan_model::Point {
+        x: u32::from(place.0),
+        y: u32::from(place.1),
+    }
+}

@@ -1,6 +1,7 @@
 //! Steering from a node towards a mark.
 
-ghost use Rattle.std.specs.Prelude.{◌≡◌, ◌≤◌, min, max};
+ghost use Rattle.std.specs.Prelude.{◌≡◌, ◌*◌, ◌≤◌, min, max};
+ghost use Rattle.plan_model.specs.Geometry.{gap, squared_distance};
 ghost use Rattle.plan_model.specs.Steering.{advanced, steered};
 ghost use Rattle.edge_cost.specs.Lattice.{IsOnLattice};
 
@@ -17,6 +18,7 @@ use plan_model::Point;
 ///
 /// With a step of 50, (0, 0) steers towards (60, 80) to (30, 40), and towards (70, 70) to (35, 35).
 /// The length is rounded up and each coordinate towards `a`, so no edge is longer than the step.
+#[tactic(auto, using(crate::proofs::Shares::step_below_root))]
 pub fn steer(a: Point, b: Point, step: u32) -> Point
     requires from { IsOnLattice a }
     requires to { IsOnLattice b }
@@ -27,12 +29,32 @@ pub fn steer(a: Point, b: Point, step: u32) -> Point
     ensures right { result.x ≤ max a.x b.x }
     ensures bottom { min a.y b.y ≤ result.y }
     ensures top { result.y ≤ max a.y b.y }
+    ensures short { squared_distance a result ≤ step * step }
 {
     let distance = squared_distance(a, b);
     if distance <= u64::from(step) * u64::from(step) {
         return b;
     }
-    let length = root_above(distance);
+    partway(a, b, step, root_above(distance))
+}
+
+/// The point `step / length` of the way from `a` to `b`, each coordinate rounded towards `a`; the distance
+/// from `a` to `b` is at most `length`.
+fn partway(a: Point, b: Point, step: u32, length: u64) -> Point
+    requires from { IsOnLattice a }
+    requires to { IsOnLattice b }
+    requires low { 4 ≤ step }
+    requires high { step ≤ 65536 }
+    requires beyond { step ≤ length }
+    requires whole { squared_distance a b ≤ length * length }
+    ensures across { result.x ≡ advanced a.x b.x step length }
+    ensures upwards { result.y ≡ advanced a.y b.y step length }
+    ensures left { min a.x b.x ≤ result.x }
+    ensures right { result.x ≤ max a.x b.x }
+    ensures bottom { min a.y b.y ≤ result.y }
+    ensures top { result.y ≤ max a.y b.y }
+    ensures short { squared_distance a result ≤ step * step }
+{
     Point {
         x: advanced(a.x, b.x, step, length),
         y: advanced(a.y, b.y, step, length),
@@ -45,11 +67,34 @@ fn advanced(from: u32, to: u32, step: u32, length: u64) -> u32
     requires end { to ≤ 1048575 }
     requires low { 4 ≤ step }
     requires high { step ≤ 65536 }
-    requires short { step ≤ length }
+    requires beyond { step ≤ length }
     ensures value { result ≡ advanced from to step length }
     ensures least { min from to ≤ result }
     ensures greatest { result ≤ max from to }
+    ensures share { gap from result * length ≤ gap from to * step }
 {
     let way = (u64::from(from.abs_diff(to)) * u64::from(step) / length) as u32;
     if from <= to { from + way } else { from - way }
+}
+
+#[cfg(test)]
+mod tests {
+    use super::*;
+    use crate::on_lattice;
+
+    #[test]
+    fn steers_by_at_most_a_step(rt: HostRuntime) {
+        for (a, b, want) in [
+            ((0, 0), (30, 40), (30, 40)),
+            ((0, 0), (60, 80), (30, 40)),
+            ((0, 0), (70, 70), (35, 35)),
+            ((100, 100), (0, 0), (65, 65)),
+        ] {
+            assert_eq!(rt;
+                steer(on_lattice(a), on_lattice(b), 50),
+                on_lattice(want),
+                "from {a:?} towards {b:?}"
+            );
+        }
+    }
 }
