@@ -1,7 +1,8 @@
 //! Whole runs of the textbook planner.
 
-ghost use Rattle.std.specs.Prelude.{◌≡◌, ◌+◌, length, IfOk};
+ghost use Rattle.std.specs.Prelude.{◌≡◌, ◌+◌, length, IfOk, IsTrue};
 ghost use Rattle.plan_model.specs.Clearance.{ClearAt};
+ghost use Rattle.plan_model.specs.Limits.{is_plan};
 ghost use Rattle.plan_model.specs.PlainScenes.{IsPlain, LiesIn};
 ghost use Rattle.plan_model.specs.Textbook.{IsTextbookRun};
 
@@ -32,4 +33,101 @@ pub fn textbook(alloc: Global, task: Task) -> Result<Tree, Memory>
         growth.handle(scene, *mark)?;
     }
     Ok(growth.into_tree())
+}
+
+#[cfg(test)]
+mod tests {
+    use super::*;
+    use plan_model::{Goal, Marks, Outcome, Point, Record, Scene, Sequence, Twig, Vertex};
+
+    /// The task of these marks in a room of 100 by 100, from its lower left corner by steps of 50.
+    fn small_task(alloc: Global, marks: &[Point]) -> Result<Task, Memory>
+        requires { IsTrue (is_plan (Marks.Listed marks.now)) }
+        ensures plain { IfOk result (λ task. IsPlain task.scene) }
+        ensures start { IfOk result (λ task. ClearAt task.scene task.scene.start) }
+    {
+        let scene = Scene {
+            version: 1,
+            room: Point { x: 100, y: 100 },
+            body: Sequence::from_vec(vec![in alloc; Vertex { x: 0, y: 0 }]?),
+            obstacles: Sequence::from_vec(Vec::new(alloc)),
+            start: Point { x: 0, y: 0 },
+            goal: Goal {
+                low: Point { x: 90, y: 90 },
+                high: Point { x: 99, y: 99 },
+            },
+            step: 50,
+            gamma: 0,
+            seed: 0,
+            strips: 1,
+            plan: Marks::Listed(Sequence::from_vec(Vec::from_slice(alloc, marks)?)),
+        };
+        Ok(Task {
+            scene,
+            marks: Sequence::from_vec(Vec::from_slice(alloc, marks)?),
+        })
+    }
+
+    fn placed(turn: u32, nearest: u32, first_cost: u64, class: u32) -> Record {
+        Record {
+            worker: 0,
+            turn,
+            nearest,
+            outcome: Outcome::Placed,
+            first_parent: nearest,
+            first_cost,
+            class,
+        }
+    }
+
+    fn unplaced(turn: u32, nearest: u32, outcome: Outcome) -> Record {
+        Record {
+            worker: 0,
+            turn,
+            nearest,
+            outcome,
+            first_parent: 0,
+            first_cost: 0,
+            class: 0,
+        }
+    }
+
+    fn node(x: u32, y: u32, parent: u32) -> Option<Twig> {
+        Some(Twig {
+            point: Point { x, y },
+            parent,
+        })
+    }
+
+    #[test]
+    fn handles_five_marks(rt: HostRuntime) -> Result<(), Memory> {
+        // the fourth mark leads to the third node again, the fifth out of the room
+        let marks = [
+            Point { x: 60, y: 80 },
+            Point { x: 70, y: 70 },
+            Point { x: 60, y: 80 },
+            Point { x: 60, y: 80 },
+            Point { x: 150, y: 80 },
+        ];
+        let task = small_task(rt.alloc(), &marks)?;
+        let tree = textbook(rt.alloc(), task)?;
+        let nodes = [
+            node(0, 0, 0),
+            node(30, 40, 0),
+            node(70, 70, 1),
+            node(60, 80, 2),
+            None,
+            None,
+        ];
+        let records = [
+            placed(0, 0, 12_800, 1),
+            placed(1, 1, 25_600, 2),
+            placed(2, 2, 29_221, 2),
+            unplaced(3, 3, Outcome::Same(3)),
+            unplaced(4, 2, Outcome::Blocked),
+        ];
+        assert!(rt; tree.twigs.as_slice() == nodes.as_slice());
+        assert!(rt; tree.records.as_slice() == records.as_slice());
+        Ok(())
+    }
 }
