@@ -1,7 +1,7 @@
 -- The marks of a plain scene are few, and lie at most a step outside of the greatest room.
-use Rattle.std.proofs.Common.{◌≡◌, ℕ, suc, ◌+◌, ◌-◌, ◌*◌, ◌/◌, ◌%◌, ◌^◌, ◌<◌, ◌≤◌, Bool, true, false, cond, ltb, List, [], ◌∷◌, length, map, arith, refl, sym, ap, ◌∙◌}
-use Rattle.std.specs.Prelude.{pos, ℤ, IsTrue, All, bit_xor, nat_le, ◌&&◌}
-use Rattle.std.specs.List.{list_all, range_with_len}
+use Rattle.std.proofs.Common.{◌≡◌, ℕ, ◌+◌, ◌-◌, ◌*◌, ◌/◌, ◌%◌, ◌^◌, ◌<◌, ◌≤◌, Bool, true, false, cond, ltb, length, arith, refl, ap}
+use Rattle.std.specs.Prelude.{IsTrue, All, bit_xor, ◌&&◌}
+use Rattle.std.specs.List.{range_with_len}
 use Rattle.std.proofs.Math.Nat.{div-le_of_le-mul, div-le_self}
 use Rattle.std.proofs.lemmas.Nat.{mul-le, xor_lt, mod_below, div_below, pow_pos}
 use Rattle.std.proofs.lemmas.List.{length-map}
@@ -10,7 +10,6 @@ use Rattle.std.proofs.lemmas.List.Sums.{AllPass-from_list_all}
 use Rattle.std.proofs.lemmas.List.Elements.{All-map, All-weaker, All-same}
 use Rattle.std.proofs.lemmas.Bool.{leb-true}
 use Rattle.plan_model.specs.declared.geometry.Point.{Point}
-use Rattle.plan_model.specs.declared.geometry.Vertex.{Vertex}
 use Rattle.plan_model.specs.declared.scenes.Scene.{Scene}
 use Rattle.plan_model.specs.declared.tasks.Task.{Task}
 use Rattle.plan_model.specs.declared.scenes.Marks.{Marks}

@@ -1,13 +1,13 @@
 -- In a plain scene, where the body is a point among no obstacles, being clear is being in the room.
-use Rattle.std.proofs.Common.{◌≡◌, ℕ, suc, ◌+◌, ◌-◌, ◌*◌, ◌<◌, ◌≤◌, arith, List, [], ◌∷◌, subst, sym, ap, refl, ◌∙◌}
-use Rattle.std.specs.Prelude.{ℤ, pos, negsuc, ◌+ℤ◌, ◌-ℤ◌, ◌*ℤ◌, ◌≤ℤ◌, All}
+use Rattle.std.proofs.Common.{◌≡◌, ℕ, suc, ◌+◌, ◌-◌, ◌*◌, ◌≤◌, arith, List, [], subst, sym, refl}
+use Rattle.std.specs.Prelude.{ℤ, pos, negsuc, ◌+ℤ◌, ◌-ℤ◌, ◌*ℤ◌, ◌≤ℤ◌}
 use Rattle.std.proofs.lemmas.Int.{ints}
 use Rattle.std.proofs.lemmas.Nat.{mul-le}
 use Rattle.std.proofs.lemmas.List.Elements.{All-same, All-cons, All-nil}
 use Rattle.plan_model.specs.declared.geometry.Vertex.{Vertex}
 use Rattle.plan_model.specs.declared.geometry.Point.{Point}
 use Rattle.plan_model.specs.declared.scenes.Scene.{Scene}
-use Rattle.plan_model.specs.RoomOfConfigurations.{Rational, at_lattice, moved_by, IsInBox, InRoom}
+use Rattle.plan_model.specs.RoomOfConfigurations.{Rational, at_lattice, moved_by, IsInBox}
 use Rattle.plan_model.specs.Meeting.{Meets}
 use Rattle.plan_model.specs.Clearance.{IsClear, ClearAt, on_the_way, Clear}
 use Rattle.plan_model.specs.PlainScenes.{IsPlain, IsInRoom}

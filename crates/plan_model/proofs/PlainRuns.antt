@@ -1,11 +1,11 @@
 -- In a plain scene the radius is 0: no node is near a free point, its parent is the nearest node, and nothing is rewired.
-use Rattle.std.proofs.Common.{◌≡◌, ℕ, zero, suc, ◌+◌, ◌-◌, ◌*◌, ◌^◌, ◌<◌, ◌≤◌, Bool, true, false, cond, leb, List, [], ◌∷◌, ◌++◌, length, get_or, Option, Some, None, arith, refl, sym, ap, ◌∙◌, subst, inl, inr}
+use Rattle.std.proofs.Common.{◌≡◌, ℕ, zero, suc, ◌-◌, ◌*◌, ◌^◌, ◌<◌, ◌≤◌, Bool, false, leb, List, [], ◌∷◌, ◌++◌, length, Option, Some, None, arith, refl, sym, ap, ◌∙◌, subst, inl, inr}
 use Rattle.std.specs.Prelude.{Contains, filter}
 use Rattle.std.specs.List.{range_with_len}
 use Rattle.std.proofs.Math.Nat.{mul-pos}
-use Rattle.std.proofs.lemmas.Nat.{mul-le, pow_pos}
+use Rattle.std.proofs.lemmas.Nat.{pow_pos}
 use Rattle.std.proofs.lemmas.Bool.Decides.{nat_tests}
-use Rattle.std.proofs.lemmas.Bool.{leb-true, lt-leb, cases_lt, cases_order}
+use Rattle.std.proofs.lemmas.Bool.{lt-leb, cases_lt, cases_order}
 use Rattle.plan_model.specs.declared.geometry.Point.{Point}
 use Rattle.plan_model.specs.declared.trees.Twig.{Twig}
 use Rattle.plan_model.specs.declared.scenes.Scene.{Scene}
@@ -13,7 +13,7 @@ use Rattle.plan_model.specs.declared.records.Outcome.TheVariants.{Placed}
 use Rattle.plan_model.specs.Geometry.{gap, squared_distance}
 use Rattle.plan_model.specs.Clearance.{Clear}
 use Rattle.plan_model.specs.Radius.{class_of, greatest, radius_of}
-use Rattle.plan_model.specs.Nodes.{HasPoint, node_at, point_of}
+use Rattle.plan_model.specs.Nodes.{node_at, point_of}
 use Rattle.plan_model.specs.Nearness.{is_within, near}
 use Rattle.plan_model.specs.Textbook.{Nodes, IsFree, node_count, near_new, cost_through, IsCandidate, IsBestParent, Rewires, Places}
 

@@ -1,6 +1,6 @@
 -- What a mark adds keeps the tree sound, whether it is placed or not.
-use Rattle.std.proofs.Common.{◌≡◌, ℕ, ◌+◌, ◌*◌, ◌^◌, ◌<◌, ◌≤◌, Bool, true, false, cond, List, [], ◌∷◌, ◌++◌, length, get_or, Option, Some, None, arith, refl, sym, ap, ◌∙◌, subst, inl, inr}
-use Rattle.std.specs.Prelude.{IsSome, is_some, ◌↔◌, IsTrue}
+use Rattle.std.proofs.Common.{◌≡◌, ℕ, ◌+◌, ◌^◌, ◌<◌, cond, [], ◌∷◌, ◌++◌, length, get_or, Option, Some, None, arith, sym, ap, ◌∙◌, subst}
+use Rattle.std.specs.Prelude.{IsSome, is_some}
 use Rattle.std.proofs.lemmas.List.{get_or_default}
 use Rattle.plan_model.specs.declared.geometry.Point.{Point}
 use Rattle.plan_model.specs.declared.trees.Twig.{Twig}
@@ -10,9 +10,9 @@ use Rattle.plan_model.specs.declared.records.Record.{Record}
 use Rattle.plan_model.specs.Clearance.{Clear}
 use Rattle.plan_model.specs.Cost.{cost_of}
 use Rattle.plan_model.specs.Radius.{class_of}
-use Rattle.plan_model.specs.Nodes.{HasPoint, node_at, point_of}
+use Rattle.plan_model.specs.Nodes.{node_at, point_of}
 use Rattle.plan_model.specs.PlainScenes.{IsPlain}
-use Rattle.plan_model.specs.Textbook.{Nodes, IsFree, cost_through, Handles}
+use Rattle.plan_model.specs.Textbook.{IsFree, cost_through, Handles}
 use Rattle.plan_model.proofs.PlainClearance.{AreInRoom-from_clear}
 use Rattle.seq_planner.specs.declared.accounts.Account.{Account}
 use Rattle.seq_planner.specs.declared.growth.Growth.{Growth}

@@ -1,5 +1,5 @@
 -- Scans over the nodes of a tree: for the nearest to a point, and for one that stands at a point.
-use Rattle.std.proofs.Common.{◌≡◌, ℕ, ◌+◌, ◌<◌, ◌≤◌, Bool, true, false, eqb, length, Option, Some, None, arith, refl, sym, ap, ◌∙◌, below_more, inl, inr, subst, eq-eqb}
+use Rattle.std.proofs.Common.{◌≡◌, ℕ, ◌+◌, ◌<◌, ◌≤◌, Bool, true, false, eqb, length, Option, Some, None, arith, refl, sym, ap, ◌∙◌, below_more, inl, inr, eq-eqb}
 use Rattle.std.specs.Prelude.{IsSome, is_some, nat_eq, ◌&&◌}
 use Rattle.std.specs.Cmp.Derive.{both_true}
 use Rattle.std.proofs.lemmas.Bool.{cases_lt, eqb-true}

@@ -1,6 +1,6 @@
 -- A tree with its kept costs stays sound where a node is put at its end.
-use Rattle.std.proofs.Common.{◌≡◌, ℕ, suc, ◌+◌, ◌*◌, ◌^◌, ◌<◌, ◌≤◌, Bool, true, false, cond, List, [], ◌∷◌, ◌++◌, length, get_or, Option, Some, None, arith, refl, sym, ap, ◌∙◌, subst, inl, inr, length-append}
-use Rattle.std.specs.Prelude.{IsSome, is_some, count_by, ◌⊎◌}
+use Rattle.std.proofs.Common.{◌≡◌, ℕ, ◌+◌, ◌*◌, ◌^◌, ◌<◌, ◌≤◌, Bool, true, false, cond, List, [], ◌∷◌, ◌++◌, length, get_or, Option, Some, None, arith, sym, ap, ◌∙◌, subst, inl, inr, length-append}
+use Rattle.std.specs.Prelude.{IsSome, is_some}
 use Rattle.std.proofs.Math.Seq.{get_or-append_seam}
 use Rattle.std.proofs.lemmas.List.{get_or_append_left, get_or_past}
 use Rattle.std.proofs.lemmas.Bool.{cases_order}
@@ -10,8 +10,7 @@ use Rattle.plan_model.specs.declared.geometry.Point.{Point}
 use Rattle.plan_model.specs.declared.trees.Twig.{Twig}
 use Rattle.plan_model.specs.declared.scenes.Scene.{Scene}
 use Rattle.plan_model.specs.Cost.{cost_of}
-use Rattle.plan_model.specs.Limits.{IsBetween}
-use Rattle.plan_model.specs.Nodes.{HasPoint, node_at, point_of, point_or_origin, parent_or_start, sum_of}
+use Rattle.plan_model.specs.Nodes.{node_at, point_of, point_or_origin, parent_or_start, sum_of}
 use Rattle.plan_model.specs.PlainScenes.{IsInRoom, LiesIn}
 use Rattle.plan_model.specs.Textbook.{Nodes, node_count}
 use Rattle.plan_model.proofs.SumLaws.{IsRising, IsRising-push, node_at-push, node_at-push_new, node_at-past, sum_of-push, sum_of-push_new}

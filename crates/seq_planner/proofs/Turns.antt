@@ -1,16 +1,13 @@
 -- How the textbook run handles one mark of a plain scene, by its outcome.
-use Rattle.std.proofs.Common.{◌≡◌, ℕ, ◌+◌, List, [], ◌∷◌, ◌++◌, Option, Some, None, refl, sym, ap, ◌∙◌, subst, get_or}
-use Rattle.std.specs.Prelude.{IsSome, MatchOption}
+use Rattle.std.proofs.Common.{◌≡◌, ℕ, [], ◌∷◌, ◌++◌, Some, None, refl, sym, ap, ◌∙◌, subst}
 use Rattle.plan_model.specs.declared.geometry.Point.{Point}
-use Rattle.plan_model.specs.declared.trees.Twig.{Twig}
 use Rattle.plan_model.specs.declared.scenes.Scene.{Scene}
 use Rattle.plan_model.specs.declared.records.Outcome.TheVariants.{Placed, Same, Blocked}
 use Rattle.plan_model.specs.declared.records.Record.{Record}
 use Rattle.plan_model.specs.Clearance.{Clear}
-use Rattle.plan_model.specs.Cost.{cost_of}
 use Rattle.plan_model.specs.Radius.{class_of}
 use Rattle.plan_model.specs.Steering.{steered}
-use Rattle.plan_model.specs.Nodes.{HasPoint, node_at, point_of, sum_of}
+use Rattle.plan_model.specs.Nodes.{HasPoint, point_of}
 use Rattle.plan_model.specs.Nearness.{IsNearest}
 use Rattle.plan_model.specs.PlainScenes.{IsPlain}
 use Rattle.plan_model.specs.Textbook.{Nodes, IsFree, node_count, cost_through, record_of, Handles, Places}

@@ -1,8 +1,6 @@
-use Rattle.std.proofs.Common.{◌≡◌, ◌∙◌, sym, ap, arith, rules, length, ℕ, ◌+◌, ◌<◌, ◌≤◌, take, get_or}
-use Rattle.std.specs.Prelude.{All}
+use Rattle.std.proofs.Common.{◌≡◌, ◌∙◌, sym, ap, arith, length}
 use Rattle.std.proofs.lemmas.List.{length-take, get_or_default}
 use Rattle.plan_model.specs.declared.geometry.Point.{Point}
-use Rattle.plan_model.specs.Limits.{IsBetween}
 use Rattle.plan_model.specs.Nodes.{node_at}
 use Rattle.plan_model.proofs.MarkBounds.{length-marks, All-task_marks_within}
 use Rattle.seq_planner.proofs.RunsSoFar.{IsRunSoFar-more}

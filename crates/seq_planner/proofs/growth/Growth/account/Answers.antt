@@ -1,5 +1,4 @@
-use Rattle.std.proofs.Common.{true, ◌≡◌, ◌∙◌, sym, ap, arith, rules, length, ℕ, ◌+◌, ◌*◌, ◌^◌, ◌<◌, ◌≤◌}
-use Rattle.plan_model.specs.Nodes.{node_at, point_of}
+use Rattle.std.proofs.Common.{true, ◌≡◌, arith, rules, length}
 use Rattle.plan_model.specs.Textbook.{record_of}
 use Rattle.plan_model.specs.declared.records.Outcome.TheVariants.{Same, Blocked}
 use Rattle.edge_cost.specs.Lattice.{IsOnLattice}

@@ -1,6 +1,5 @@
-use Rattle.std.proofs.Common.{rules, ◌≡◌, ◌∙◌, sym, ap, ℕ, List, Option, None, arith, below_more, length}
-use Rattle.plan_model.specs.Nodes.{HasPoint, node_at}
-use Rattle.plan_model.specs.Textbook.{Nodes}
+use Rattle.std.proofs.Common.{◌≡◌, ◌∙◌, sym, ap, arith, below_more, length}
+use Rattle.plan_model.specs.Nodes.{node_at}
 use Rattle.seq_planner.proofs.Scans.{HasPoint-found, HasPoint-elsewhere, HasPoint-absent, IsFree-all}
 use Rattle.seq_planner.proofs.growth.Growth.find.Goals as goal
 use Rattle.seq_planner.proofs.growth.Growth.find.Goals.{in-Some+else-eq, in_default}

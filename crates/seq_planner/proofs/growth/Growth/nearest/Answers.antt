@@ -1,7 +1,5 @@
-use Rattle.std.proofs.Common.{◌≡◌, ◌∙◌, sym, ap, subst, arith, length}
-use Rattle.plan_model.specs.declared.geometry.Point.{Point}
+use Rattle.std.proofs.Common.{◌≡◌, ◌∙◌, sym, ap}
 use Rattle.plan_model.specs.Nodes.{node_at}
-use Rattle.edge_cost.specs.Lattice.{IsOnLattice}
 use Rattle.seq_planner.proofs.Scans.{IsOnLattice-at, IsNearestBelow-absent, IsNearestBelow-farther, IsNearestBelow-nearer}
 use Rattle.seq_planner.proofs.growth.Growth.nearest.Goals as goal
 use Rattle.seq_planner.proofs.growth.Growth.nearest.Goals.{in-Some+then-distance-least, in-Some+else-distance-least, in_default}
