@@ -65,7 +65,7 @@ impl Growth {
         self.present += u64::from(account.node.is_some());
         self.nodes.push(account.node)?;
         self.costs.push(account.cost)?;
-        self.records.push(account.record)?;
+        self.records.push(account.entry)?;
         Ok(())
     }
 
@@ -106,7 +106,7 @@ impl Growth {
         Account {
             node: Some(Twig { point, parent }),
             cost: first_cost,
-            record: Record {
+            entry: Record {
                 worker: 0,
                 turn,
                 nearest,
