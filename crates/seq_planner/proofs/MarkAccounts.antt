@@ -22,12 +22,12 @@ use Rattle.seq_planner.proofs.SoundTrees.{IsSound-put, MayBePut-absent, MayBePut
 use Rattle.seq_planner.proofs.Turns.{Steers, Handles-placed}
 
 -- a mark that is not placed
-pub IsAccountOf-unplaced : (scene : Scene) (growth : Growth) (mark : Point) (account : Account) (k : ℕ) (entry : Record) → IsGrown scene growth → k ≡ length growth.records.items → Handles scene growth.nodes.items k mark entry (growth.nodes.items ++ None ∷ []) → account.node ≡ None → account.cost ≡ 0 → account.record ≡ entry → IsAccountOf scene growth mark account
+pub IsAccountOf-unplaced : (scene : Scene) (growth : Growth) (mark : Point) (account : Account) (k : ℕ) (entry : Record) → IsGrown scene growth → k ≡ length growth.records.items → Handles scene growth.nodes.items k mark entry (growth.nodes.items ++ None ∷ []) → account.node ≡ None → account.cost ≡ 0 → account.entry ≡ entry → IsAccountOf scene growth mark account
 IsAccountOf-unplaced scene growth mark account k entry grown turn handles node cost entered =
     let tree = growth.nodes.items in
     let T : ℕ → Type 0 = λ n. Handles scene tree n mark entry (tree ++ None ∷ []) in
     let E : Record → Type 0 = λ r. Handles scene tree (length growth.records.items) mark r (tree ++ None ∷ []) in
-    let N : Option Twig → Type 0 = λ n. Handles scene tree (length growth.records.items) mark account.record (tree ++ n ∷ []) in
+    let N : Option Twig → Type 0 = λ n. Handles scene tree (length growth.records.items) mark account.entry (tree ++ n ∷ []) in
     let C : ℕ → Type 0 = λ c. IsSound scene (tree ++ None ∷ []) (growth.costs.items ++ c ∷ []) (growth.present + 0) in
     let S : Option Twig → Type 0 = λ n. IsSound scene (tree ++ n ∷ []) (growth.costs.items ++ account.cost ∷ []) (growth.present + cond (is_some n) 1 0) in
     let some_nodes : 0 < length tree = omega (arith, grown.some, grown.few) in
@@ -42,7 +42,7 @@ kept_cost scene growth n kept grown own e =
     e ∙ get_or_default growth.costs.items n kept 0 (omega (arith, present_below growth.nodes.items n own, grown.cost_count))
 
 -- a mark that is placed, at the cost kept of its parent and the edge
-pub IsAccountOf-placed : (scene : Scene) (growth : Growth) (mark : Point) (k nearest : ℕ) (from point : Point) (kept edge class : ℕ) → IsPlain scene → IsGrown scene growth → k ≡ length growth.records.items → Steers scene growth.nodes.items mark nearest from point → IsFree growth.nodes.items point → Clear scene from point → kept ≡ get_or growth.costs.items nearest kept → edge ≡ cost_of from point → edge < 2 ^ 29 → class ≡ class_of growth.present → IsAccountOf scene growth mark (record { node = Some (record { point = point; parent = nearest }); cost = kept + edge; «record» = record { worker = 0; turn = k; nearest = nearest; outcome = Placed; first_parent = nearest; first_cost = kept + edge; class = class } })
+pub IsAccountOf-placed : (scene : Scene) (growth : Growth) (mark : Point) (k nearest : ℕ) (from point : Point) (kept edge class : ℕ) → IsPlain scene → IsGrown scene growth → k ≡ length growth.records.items → Steers scene growth.nodes.items mark nearest from point → IsFree growth.nodes.items point → Clear scene from point → kept ≡ get_or growth.costs.items nearest kept → edge ≡ cost_of from point → edge < 2 ^ 29 → class ≡ class_of growth.present → IsAccountOf scene growth mark (record { node = Some (record { point = point; parent = nearest }); cost = kept + edge; entry = record { worker = 0; turn = k; nearest = nearest; outcome = Placed; first_parent = nearest; first_cost = kept + edge; class = class } })
 IsAccountOf-placed scene growth mark k nearest from point kept edge class plain grown turn steers free clear read priced low classed =
     let tree = growth.nodes.items in
     let costs = growth.costs.items in

@@ -32,7 +32,7 @@ IsGrown scene growth = IsSound scene growth.nodes.items growth.costs.items growt
 
 -- The next mark is handled by adding this node and this record, and the tree stays sound.
 pub record IsAccountOf (scene : Scene) (growth : Growth) (mark : Point) (account : Account) : Type 0 where
-  pub handles : Handles scene growth.nodes.items (length growth.records.items) mark account.record (growth.nodes.items ++ account.node ∷ [])
+  pub handles : Handles scene growth.nodes.items (length growth.records.items) mark account.entry (growth.nodes.items ++ account.node ∷ [])
   pub sound : IsSound scene (growth.nodes.items ++ account.node ∷ []) (growth.costs.items ++ account.cost ∷ []) (growth.present + (if is_some account.node then 1 else 0))
 
 -- The growth has handled the next mark, and has its record at the end.

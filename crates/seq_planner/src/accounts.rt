@@ -13,7 +13,7 @@ pub(crate) struct Account {
     /// The cost of the new node, else 0.
     pub(crate) cost: u64,
     /// The record of the mark.
-    pub(crate) record: Record,
+    pub(crate) entry: Record,
 }
 
 impl Account {
@@ -21,12 +21,12 @@ impl Account {
     pub(crate) fn unplaced(turn: u32, nearest: u32, outcome: Outcome) -> Account
         ensures node { result.node ≡ None }
         ensures cost { result.cost ≡ 0 }
-        ensures record { result.record ≡ record_of turn nearest outcome }
+        ensures entry { result.entry ≡ record_of turn nearest outcome }
     {
         Account {
             node: None,
             cost: 0,
-            record: Record {
+            entry: Record {
                 worker: 0,
                 turn,
                 nearest,

@@ -65,7 +65,7 @@ impl Growth {
         self.present += u64::from(account.node.is_some());
         self.nodes.push(account.node)?;
         self.costs.push(account.cost)?;
-        self.records.push(account.record)?;
+        self.records.push(account.entry)?;
         Ok(())
     }
 
@@ -100,19 +100,18 @@ impl Growth {
         if !is_clear(scene, from, point) {
             return Account::unplaced(turn, nearest, Outcome::Blocked);
         }
-        let first_cost = self.costs[nearest as usize] + cost(from, point);
+        // at radius 0 no node is near a free point, so the nearest one is the only choice
+        let parent = nearest;
+        let first_cost = self.costs[parent as usize] + cost(from, point);
         Account {
-            node: Some(Twig {
-                point,
-                parent: nearest,
-            }),
+            node: Some(Twig { point, parent }),
             cost: first_cost,
-            record: Record {
+            entry: Record {
                 worker: 0,
                 turn,
                 nearest,
                 outcome: Outcome::Placed,
-                first_parent: nearest,
+                first_parent: parent,
                 first_cost,
                 class: class(self.present),
             },

@@ -1,5 +1,5 @@
 //! The textbook planner: RRT* over the marks (the samples) in rising number, one after another, on plain
-//! lists. It is meant for scenes without obstacles and for checking faster planners against.
+//! lists, with the nearest node found by scanning all of them.
 #![tactic(auto)]
 
 mod accounts;

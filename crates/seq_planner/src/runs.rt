@@ -12,9 +12,9 @@ use std::alloc::Global;
 
 /// RRT* over the marks of a task in rising number, from its start.
 ///
-/// Each mark is looked at from every node, once for the nearest node and once for one that stands at the
-/// steered point already, so n marks take O(n) steps each. Today the scene has a point body, no obstacle
-/// and gamma 0: the parent of a new node is then the nearest node, and no node gets another parent later.
+/// Every node is looked at for each mark, once for the nearest and once for one that stands at the steered
+/// point already: O(n) for each of n marks. The scene has a point body, no obstacle and gamma 0, so the
+/// parent of a new node is the nearest node, and no node gets another parent later.
 ///
 /// # Errors
 ///

@@ -20,14 +20,14 @@ returns-in-Some c =
     let steers : Steers c.args.scene.now c.args.self.now.nodes.items c.args.mark c.nearest-nearest.result c.point-from.result c.steer-point.result =
     record { is_nearest = c.nearest-nearest.ensures; begins = c.point-from.ensures; ends = c.steer-point.ensures.value } in
     let turn : c.len-turn.result ≡ length c.args.self.now.records.items = search (rules, c.len-turn.ensures) in
-    IsAccountOf-unplaced c.args.scene.now c.args.self.now c.args.mark c.unplaced.result c.len-turn.result (record_of c.len-turn.result c.nearest-nearest.result (Same c.in-Some.number)) c.requires.grown turn (Handles-same c.args.scene.now c.args.self.now.nodes.items c.len-turn.result c.args.mark c.nearest-nearest.result c.point-from.result c.steer-point.result c.in-Some.number steers c.in-Some.ensures) c.unplaced.ensures.node c.unplaced.ensures.cost c.unplaced.ensures.record
+    IsAccountOf-unplaced c.args.scene.now c.args.self.now c.args.mark c.unplaced.result c.len-turn.result (record_of c.len-turn.result c.nearest-nearest.result (Same c.in-Some.number)) c.requires.grown turn (Handles-same c.args.scene.now c.args.self.now.nodes.items c.len-turn.result c.args.mark c.nearest-nearest.result c.point-from.result c.steer-point.result c.in-Some.number steers c.in-Some.ensures) c.unplaced.ensures.node c.unplaced.ensures.cost c.unplaced.ensures.entry
 
 pub returns-then-not-is_clear : goal.returns-then-not-is_clear
 returns-then-not-is_clear c =
     let steers : Steers c.args.scene.now c.args.self.now.nodes.items c.args.mark c.nearest-nearest.result c.point-from.result c.steer-point.result =
     record { is_nearest = c.nearest-nearest.ensures; begins = c.point-from.ensures; ends = c.steer-point.ensures.value } in
     let turn : c.len-turn.result ≡ length c.args.self.now.records.items = search (rules, c.len-turn.ensures) in
-    IsAccountOf-unplaced c.args.scene.now c.args.self.now c.args.mark c.unplaced-then-not-is_clear.result c.len-turn.result (record_of c.len-turn.result c.nearest-nearest.result Blocked) c.requires.grown turn (Handles-blocked c.args.scene.now c.args.self.now.nodes.items c.len-turn.result c.args.mark c.nearest-nearest.result c.point-from.result c.steer-point.result steers c.in_default.ensures (λ clear. (let yes : c.is_clear.result ≡ true = c.is_clear.ensures.1 clear in cc))) c.unplaced-then-not-is_clear.ensures.node c.unplaced-then-not-is_clear.ensures.cost c.unplaced-then-not-is_clear.ensures.record
+    IsAccountOf-unplaced c.args.scene.now c.args.self.now c.args.mark c.unplaced-then-not-is_clear.result c.len-turn.result (record_of c.len-turn.result c.nearest-nearest.result Blocked) c.requires.grown turn (Handles-blocked c.args.scene.now c.args.self.now.nodes.items c.len-turn.result c.args.mark c.nearest-nearest.result c.point-from.result c.steer-point.result steers c.in_default.ensures (λ clear. (let yes : c.is_clear.result ≡ true = c.is_clear.ensures.1 clear in cc))) c.unplaced-then-not-is_clear.ensures.node c.unplaced-then-not-is_clear.ensures.cost c.unplaced-then-not-is_clear.ensures.entry
 
 pub cost-requires-clause-from : goal.cost-requires-clause-from
 cost-requires-clause-from c =
