@@ -16,7 +16,7 @@ use Rattle.plan_model.specs.declared.scenes.Marks.{Marks}
 use Rattle.plan_model.specs.declared.scenes.Marks.TheVariants.{Drawn, Listed}
 use Rattle.plan_model.specs.Limits.{IsBetween, is_mark, is_plan}
 use Rattle.plan_model.specs.PlainScenes.{IsPlain}
-use Rattle.plan_model.specs.MarkPoints.{mixed, word_of_state, first_word, second_word, next_state, below_zero, above_zero, reach, Span, span_within, columns, rows, strip, picked, drawn_mark, points_of}
+use Rattle.plan_model.specs.MarkPoints.{mark_points, mixed, word_of_state, first_word, second_word, next_state, below_zero, above_zero, reach, Span, span_within, columns, rows, strip, picked, drawn_mark, points_of}
 
 -- a share of c is at most c
 share_le : (u c m : ℕ) → u ≤ m → (u * c) / m ≤ c
