@@ -8,5 +8,6 @@ pub mod ClassLaws
 pub mod RadiusLaws
 pub mod SteeringLaws
 pub mod Soundness
+pub mod SpelledScenes
 pub mod CostLaws
 pub mod StripLaws

@@ -13,7 +13,7 @@ module _ (words : List (List ℕ)) (left : Option (List ℕ)) (ended : Bool) (ro
   plan_refused (refusals.Text number kind) h = record {
     report = λ e. absurd (omega arith);
     words_refused = λ e. absurd (omega arith);
-    text_refused = λ e. (plain, λ bytes is. inr (subst (λ (t : List ℕ). length t ≤ 16777216) (all bytes is) small, (number, kind, subst (λ (t : List ℕ). Refused supported t number kind) (all bytes is) h, refl)));
+    text_refused = λ e. (plain, inr end, λ bytes is. inr (subst (λ (t : List ℕ). length t ≤ 16777216) (all bytes is) small, (number, kind, subst (λ (t : List ℕ). Refused supported t number kind) (all bytes is) h, refl)));
     start_blocked = λ e. absurd (omega arith);
     read_fault = λ e. absurd (omega arith);
     no_memory = λ e. absurd (omega arith);
@@ -36,7 +36,7 @@ module _ (words : List (List ℕ)) (left : Option (List ℕ)) (ended : Bool) (ro
     text_refused = λ e. absurd (omega arith);
     start_blocked = λ e. absurd (omega arith);
     read_fault = λ e. absurd (omega arith);
-    no_memory = λ e. refl;
+    no_memory = λ e. (plain, refl);
     other_than_6 = λ e. omega arith;
     known = omega arith;
   }

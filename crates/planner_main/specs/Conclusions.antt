@@ -34,6 +34,7 @@ pub record ReportsScene (scene : Scene) (status : ℕ) (text : List ℕ) : Type 
 -- the same of the scene that the bytes spell, whose start is clear
 pub record ReportsRun (bytes : List ℕ) (status : ℕ) (text : List ℕ) : Type 0 where
   pub scene : Scene
+  pub short : length bytes ≤ 16777216
   pub spelled : Spells supported bytes scene
   pub start : ClearAt scene scene.start
   pub report : ReportsScene scene status text
@@ -46,6 +47,7 @@ RefusesText bytes text =
 -- the bytes spell a scene whose start is not clear
 pub record BlocksStart (bytes : List ℕ) : Type 0 where
   pub scene : Scene
+  pub short : length bytes ≤ 16777216
   pub spelled : Spells supported bytes scene
   pub blocked : ¬ ClearAt scene scene.start
 
@@ -57,16 +59,24 @@ pub record IsAnswer (words : List (List ℕ)) (left : Option (List ℕ)) (ended 
   pub report : status ≤ 1 → ArePlain words × (ended ≡ true) × ((bytes : List ℕ) → left ≡ Some bytes → ReportsRun bytes status text)
   -- 2: the words are not `plain`
   pub words_refused : status ≡ 2 → (¬ ArePlain words) × (text ≡ words_line)
-  -- 3: the text is too long, or no scene
-  pub text_refused : status ≡ 3 → ArePlain words × ((bytes : List ℕ) → left ≡ Some bytes → RefusesText bytes text)
+  -- 3: the text is too long, or was read to its end and is no scene
+  pub text_refused : status ≡ 3 → ArePlain words × ((text ≡ long_line) ⊎ (ended ≡ true)) × ((bytes : List ℕ) → left ≡ Some bytes → RefusesText bytes text)
   -- 4: the start is not clear
   pub start_blocked : status ≡ 4 → ArePlain words × (ended ≡ true) × (text ≡ start_line) × ((bytes : List ℕ) → left ≡ Some bytes → BlocksStart bytes)
   -- 5: the source could not be read
   pub read_fault : status ≡ 5 → ArePlain words × rose × (ended ≡ false) × (text ≡ read_line)
   -- 7: there was no memory left
-  pub no_memory : status ≡ 7 → text ≡ memory_line
+  pub no_memory : status ≡ 7 → ArePlain words × (text ≡ memory_line)
   pub other_than_6 : status ≢ 6
   pub known : status ≤ 7
+
+-- Which status the bytes of the source decide: where the text is a scene with a clear start it is planned, and else it is
+-- refused.
+pub record IsDecided (bytes : List ℕ) (status : ℕ) : Type 0 where
+  pub planned : (scene : Scene) → length bytes ≤ 16777216 → Spells supported bytes scene → ClearAt scene scene.start → status ≤ 1
+  pub blocked : (scene : Scene) → length bytes ≤ 16777216 → Spells supported bytes scene → (¬ ClearAt scene scene.start) → status ≡ 4
+  pub refused : (number : ℕ) (kind : Kind) → length bytes ≤ 16777216 → Refused supported bytes number kind → status ≡ 3
+  pub long : 16777216 < length bytes → status ≡ 3
 
 -- the status and the line of a refusal
 abbrev pub status_of_refusal : Refusal → ℕ

@@ -1,6 +1,6 @@
 //! The top call: everything that the program does, over any source and any sink.
 
-ghost use Rattle.std.specs.Prelude.{◌≡◌, ◌≢◌, ℕ, ◌≤◌, ◌+◌, false, List, length, map, string_bytes, IsTrue, ◌↔◌, is_some, IfOk, IfErr, Ok, Err, OnErr};
+ghost use Rattle.std.specs.Prelude.{◌≡◌, ◌≢◌, ℕ, ◌≤◌, ◌+◌, ◌⊎◌, false, List, length, map, string_bytes, IsTrue, ◌↔◌, IfOk, IfErr, Some};
 ghost use Rattle.std.specs.Io.KnownBytes.{Appends, Keeps};
 ghost use Rattle.plan_model.specs.Streams.{Rose};
 ghost use Rattle.plan_model.specs.Clearance.{ClearAt};
@@ -8,7 +8,7 @@ ghost use Rattle.plan_model.specs.PlainScenes.{IsPlain, IsListed, IsInRoom};
 ghost use Rattle.plan_model.specs.MarkPoints.{mark_points};
 ghost use Rattle.plan_model.specs.ReportText.{best_node, short_report};
 ghost use Rattle.plan_model.specs.Textbook.{IsTextbookRun};
-ghost use Rattle.planner_main.specs.Conclusions.{ArePlain, IsAnswer, ReportsRun, ReportsScene, RefusesPlan, status_of_refusal, line_of_refusal};
+ghost use Rattle.planner_main.specs.Conclusions.{ArePlain, IsAnswer, IsDecided, ReportsRun, ReportsScene, RefusesPlan, status_of_refusal, line_of_refusal};
 ghost use Rattle.planner_main.specs.Delivery.{AppendsFront};
 
 use crate::delivery::deliver;
@@ -48,7 +48,12 @@ pub fn run<S: Source, K: Sink>(
         × IsAnswer (map string_bytes words.now) (S.bytes_left source.old) (S.has_ended source.new)
         (Rose (S.fault_count source.old) (S.fault_count source.new)) status text
         × AppendsFront (K.bytes_taken sink.old) (K.bytes_taken sink.new) text) }
-    // where the words are not `plain`, nothing is read
+    // where no count of faults rose, the bytes decide the status, unless there is no memory
+    ensures decided { (bytes : List ℕ) → ArePlain (map string_bytes words.now) → S.bytes_left source.old ≡ Some bytes
+        → (¬ Rose (S.fault_count source.old) (S.fault_count source.new)) → (¬ Rose (K.fault_count sink.old) (K.fault_count sink.new))
+        → (result.status ≡ 7) ⊎ IsDecided bytes result.status }
+    // other words are refused, and then nothing is read
+    ensures words { (¬ ArePlain (map string_bytes words.now)) → (result.status ≡ 2) ⊎ (result.status ≡ 6) }
     ensures unread { (¬ ArePlain (map string_bytes words.now)) → Keeps (S.bytes_left source.old) (S.bytes_left source.new)
         × (S.has_ended source.new ≡ false) × (S.fault_count source.new ≡ S.fault_count source.old) }
 {

@@ -6,11 +6,11 @@ use Rattle.planner_main.proofs.top_call.plan.Goals as goal
 pub returns-then-not-is_in_room-clause-refusal : goal.returns-then-not-is_in_room-clause-refusal
 returns-then-not-is_in_room-clause-refusal c =
     let scene = c.in_ok-scene.scene in
-    record { scene = scene; spelled = c.in_ok-scene.ensures.scene; blocked = λ clear. false≢true (sym c.if-not-is_in_room.true ∙ c.is_in_room.ensures.1 (IsInRoom-from_clear_at scene scene.start clear)) }
+    record { scene = scene; short = c.requires; spelled = c.in_ok-scene.ensures.scene; blocked = λ clear. false≢true (sym c.if-not-is_in_room.true ∙ c.is_in_room.ensures.1 (IsInRoom-from_clear_at scene scene.start clear)) }
 
 pub returns-clause-report : goal.returns-clause-report
 returns-clause-report c =
     let scene = c.in_ok-scene.scene in (
       c.in_ok-report_of.ensures.0,
-      record { scene = scene; spelled = c.in_ok-scene.ensures.scene; start = ClearAt-from_room scene scene.start c.in_ok-scene.ensures.plain (c.is_in_room.ensures.0 c.if-not-is_in_room.false); report = c.in_ok-report_of.ensures.1 },
+      record { scene = scene; short = c.requires; spelled = c.in_ok-scene.ensures.scene; start = ClearAt-from_room scene scene.start c.in_ok-scene.ensures.plain (c.is_in_room.ensures.0 c.if-not-is_in_room.false); report = c.in_ok-report_of.ensures.1 },
     )
