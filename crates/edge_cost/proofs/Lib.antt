@@ -1,3 +1,2 @@
 pub mod RootBounds
-pub mod Gaps
 pub mod Shares

@@ -2,9 +2,9 @@
 
 ghost use Rattle.std.specs.Prelude.{◌≡◌, ◌^◌, ◌<◌};
 ghost use Rattle.plan_model.specs.Cost.{IsCost, cost_of};
-ghost use Rattle.edge_cost.specs.Lattice.{IsOnLattice};
+ghost use Rattle.plan_model.specs.Lattice.{IsOnLattice};
 
-use crate::distances::{root_above, squared_distance};
+use crate::roots::root_above;
 use plan_model::Point;
 
 /// The cost of the edge from `a` to `b`: its length in 256ths of a lattice step, rounded up.
@@ -19,7 +19,7 @@ pub fn cost(a: Point, b: Point) -> u64
     ensures least { IsCost a b result }
     ensures bound { result < 2 ^ 29 }
 {
-    root_above(65536 * squared_distance(a, b))
+    root_above(65536 * a.squared_distance(b))
 }
 
 #[cfg(test)]

@@ -3,16 +3,15 @@
 #![tactic(auto)]
 
 ghost use Rattle.std.specs.Prelude.{◌≡◌};
-ghost use Rattle.edge_cost.specs.Lattice.{IsOnLattice};
+ghost use Rattle.plan_model.specs.Lattice.{IsOnLattice};
 
 mod classes;
 mod costs;
-mod distances;
+mod roots;
 mod steering;
 
 pub use classes::class;
 pub use costs::cost;
-pub use distances::squared_distance;
 pub use steering::steer;
 
 /// A point of a test's table.

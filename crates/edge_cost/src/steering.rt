@@ -3,9 +3,9 @@
 ghost use Rattle.std.specs.Prelude.{◌≡◌, ◌*◌, ◌≤◌, min, max};
 ghost use Rattle.plan_model.specs.Geometry.{gap, squared_distance};
 ghost use Rattle.plan_model.specs.Steering.{advanced, steered};
-ghost use Rattle.edge_cost.specs.Lattice.{IsOnLattice};
+ghost use Rattle.plan_model.specs.Lattice.{IsOnLattice};
 
-use crate::distances::{root_above, squared_distance};
+use crate::roots::root_above;
 use plan_model::Point;
 
 /// Steer of RRT*: the point that a new edge from `a` towards the mark `b` ends at, which is `b` itself
@@ -31,7 +31,7 @@ pub fn steer(a: Point, b: Point, step: u32) -> Point
     ensures top { result.y ≤ max a.y b.y }
     ensures short { squared_distance a result ≤ step * step }
 {
-    let distance = squared_distance(a, b);
+    let distance = a.squared_distance(b);
     if distance <= u64::from(step) * u64::from(step) {
         return b;
     }

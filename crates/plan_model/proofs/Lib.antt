@@ -11,3 +11,4 @@ pub mod Soundness
 pub mod SpelledScenes
 pub mod CostLaws
 pub mod StripLaws
+pub mod Gaps

@@ -1,4 +1,5 @@
 pub mod Geometry
+pub mod Lattice
 pub mod Convexity
 pub mod Limits
 pub mod RoomOfConfigurations

@@ -9,7 +9,7 @@ use Rattle.plan_model.specs.Geometry.{squared_distance}
 use Rattle.plan_model.specs.Nodes.{HasPoint, node_at, point_of, point_or_origin}
 use Rattle.plan_model.specs.Nearness.{IsNearest}
 use Rattle.plan_model.specs.Textbook.{Nodes, IsFree}
-use Rattle.edge_cost.specs.Lattice.{IsOnLattice}
+use Rattle.plan_model.specs.Lattice.{IsOnLattice}
 use Rattle.plan_model.proofs.SumLaws.{node_at-past}
 use Rattle.seq_planner.specs.Growing.{IsOnLatticeAll}
 

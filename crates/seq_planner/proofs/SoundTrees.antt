@@ -14,7 +14,7 @@ use Rattle.plan_model.specs.Nodes.{node_at, point_of, point_or_origin, parent_or
 use Rattle.plan_model.specs.PlainScenes.{IsInRoom, LiesIn}
 use Rattle.plan_model.specs.Textbook.{Nodes, node_count}
 use Rattle.plan_model.proofs.SumLaws.{IsRising, IsRising-push, node_at-push, node_at-push_new, node_at-past, sum_of-push, sum_of-push_new}
-use Rattle.edge_cost.specs.Lattice.{IsOnLattice}
+use Rattle.plan_model.specs.Lattice.{IsOnLattice}
 use Rattle.seq_planner.proofs.Scans.{HasPoint-absent}
 use Rattle.seq_planner.specs.Growing.{IsOnLatticeAll, IsSound}
 

@@ -6,7 +6,7 @@ use Rattle.plan_model.specs.declared.records.Record.{Record}
 use Rattle.plan_model.specs.Nodes.{HasPoint, node_at, parent_of, sum_of}
 use Rattle.plan_model.specs.PlainScenes.{LiesIn}
 use Rattle.plan_model.specs.Textbook.{Nodes, node_count, Handles}
-use Rattle.edge_cost.specs.Lattice.{IsOnLattice}
+use Rattle.plan_model.specs.Lattice.{IsOnLattice}
 use Rattle.seq_planner.specs.declared.accounts.Account.{Account}
 use Rattle.seq_planner.specs.declared.growth.Growth.{Growth}
 

@@ -1,7 +1,7 @@
 //! The growing tree: its nodes, what it costs to come to each, and the records of the marks.
 
 ghost use Rattle.std.specs.Prelude.{◌≡◌, ℕ, ◌<◌, ◌≤◌, [], length, IfOk, OnOk, IsSome, MatchOption};
-ghost use Rattle.edge_cost.specs.Lattice.{IsOnLattice};
+ghost use Rattle.plan_model.specs.Lattice.{IsOnLattice};
 ghost use Rattle.plan_model.specs.Nodes.{HasPoint, node_at, point_of};
 ghost use Rattle.plan_model.specs.Nearness.{IsNearest};
 ghost use Rattle.plan_model.specs.PlainScenes.{IsPlain, IsInRoom};
@@ -10,7 +10,7 @@ ghost use Rattle.seq_planner.specs.Growing.{IsOnLatticeAll, IsGrown, IsAccountOf
 
 use crate::accounts::Account;
 use crate::rooms::is_clear;
-use edge_cost::{class, cost, squared_distance, steer};
+use edge_cost::{class, cost, steer};
 use plan_model::{Memory, Outcome, Point, Record, Scene, Sequence, Tree, Twig};
 use std::alloc::Global;
 
@@ -138,10 +138,10 @@ impl Growth {
         ensures { IsNearest self.now.nodes.items mark result }
     {
         let mut best = 0;
-        let mut least = squared_distance(self.point(0), mark);
+        let mut least = self.point(0).squared_distance(mark);
         for (number, node) in self.nodes.iter().enumerate() {
             if let Some(node) = node {
-                let distance = squared_distance(node.point, mark);
+                let distance = node.point.squared_distance(mark);
                 if distance < least {
                     best = number;
                     least = distance;

@@ -1,7 +1,7 @@
 use Rattle.std.proofs.Common.{true, ◌≡◌, arith, rules, length}
 use Rattle.plan_model.specs.Textbook.{record_of}
 use Rattle.plan_model.specs.declared.records.Outcome.TheVariants.{Same, Blocked}
-use Rattle.edge_cost.specs.Lattice.{IsOnLattice}
+use Rattle.plan_model.specs.Lattice.{IsOnLattice}
 use Rattle.seq_planner.proofs.Scans.{IsOnLattice-at, present_below}
 use Rattle.seq_planner.proofs.SoundTrees.{IsOnLatticeAll-in_room}
 use Rattle.seq_planner.proofs.Turns.{Steers, Handles-same, Handles-blocked}
