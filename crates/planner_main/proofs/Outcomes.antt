@@ -1,42 +1,43 @@
--- What the answer is where the words are `plain` and the whole text was read.
-use Rattle.std.proofs.Common.{◌≡◌, ℕ, ◌≤◌, Bool, true, Option, Some, List, length, refl, subst, inr, arith}
+-- What the answer is where the words are of a form and the whole text was read.
+use Rattle.std.proofs.Common.{◌≡◌, ◌≢◌, ℕ, ◌≤◌, Bool, true, Option, Some, IsSome, List, length, refl, sym, subst, ap, inl, inr, arith}
 use Rattle.plan_model.specs.SceneGrammar.{Refused, supported}
+use Rattle.planner_main.specs.declared.forms.Form.{Form}
 use Rattle.planner_main.specs.declared.refusals.Refusal.{Refusal}
 use Rattle.planner_main.specs.declared.refusals.Refusal.TheVariants as refusals
-use Rattle.planner_main.specs.Conclusions.{ArePlain, IsAnswer, BlocksStart, RefusesPlan, status_of_refusal, line_of_refusal}
+use Rattle.planner_main.specs.Conclusions.{IsAnswer, BlocksStart, RefusesForm, status_of_refusal, line_of_refusal}
 
-module _ (words : List (List ℕ)) (left : Option (List ℕ)) (ended : Bool) (rose : Type 0) (text : List ℕ) (plain : ArePlain words) (end : ended ≡ true) (all : (bytes : List ℕ) → left ≡ Some bytes → text ≡ bytes) (small : length text ≤ 16777216) where
-  pub plan_refused : (r : Refusal) → RefusesPlan text r → IsAnswer words left ended rose (status_of_refusal r) (line_of_refusal r)
-  plan_refused refusals.Words h = absurd h
-  plan_refused refusals.TooLong h = absurd h
-  plan_refused refusals.ReadFault h = absurd h
-  plan_refused (refusals.Text number kind) h = record {
-    report = λ e. absurd (omega arith);
+module _ (form : Form) (left : Option (List ℕ)) (ended : Bool) (rose : Type 0) (text : List ℕ) (end : ended ≡ true) (all : (bytes : List ℕ) → left ≡ Some bytes → text ≡ bytes) (small : length text ≤ 16777216) where
+  pub form_refused : (r : Refusal) → RefusesForm form text r → IsAnswer (Some form) left ended rose (status_of_refusal r) (line_of_refusal r)
+  form_refused refusals.Words h = absurd h
+  form_refused refusals.TooLong h = absurd h
+  form_refused refusals.ReadFault h = absurd h
+  form_refused (refusals.Text number kind) h = record {
+    success = λ e. absurd (omega arith);
     words_refused = λ e. absurd (omega arith);
-    text_refused = λ e. (plain, inr end, λ bytes is. inr (subst (λ (t : List ℕ). length t ≤ 16777216) (all bytes is) small, (number, kind, subst (λ (t : List ℕ). Refused supported t number kind) (all bytes is) h, refl)));
+    text_refused = λ e. (refl, inr end, λ bytes is. inr (subst (λ (t : List ℕ). length t ≤ 16777216) (all bytes is) small, (number, kind, subst (λ (t : List ℕ). Refused supported t number kind) (all bytes is) h, refl)));
     start_blocked = λ e. absurd (omega arith);
     read_fault = λ e. absurd (omega arith);
     no_memory = λ e. absurd (omega arith);
     other_than_6 = λ e. omega arith;
     known = omega arith;
   }
-  plan_refused refusals.StartBlocked h = record {
-    report = λ e. absurd (omega arith);
+  form_refused refusals.StartBlocked h = record {
+    success = λ e. absurd (omega arith);
     words_refused = λ e. absurd (omega arith);
     text_refused = λ e. absurd (omega arith);
-    start_blocked = λ e. (plain, end, refl, λ bytes is. subst BlocksStart (all bytes is) h);
+    start_blocked = λ e. (ap Some h.0, end, refl, λ bytes is. subst BlocksStart (all bytes is) h.1);
     read_fault = λ e. absurd (omega arith);
     no_memory = λ e. absurd (omega arith);
     other_than_6 = λ e. omega arith;
     known = omega arith;
   }
-  plan_refused refusals.Memory h = record {
-    report = λ e. absurd (omega arith);
+  form_refused refusals.Memory h = record {
+    success = λ e. absurd (omega arith);
     words_refused = λ e. absurd (omega arith);
     text_refused = λ e. absurd (omega arith);
     start_blocked = λ e. absurd (omega arith);
     read_fault = λ e. absurd (omega arith);
-    no_memory = λ e. (plain, refl);
+    no_memory = λ e. (refl, refl);
     other_than_6 = λ e. omega arith;
     known = omega arith;
   }

@@ -1,5 +1,5 @@
 -- What the program may answer: each status with its cause and with the text that is written.
-use Rattle.std.specs.Prelude.{◌≡◌, ◌≢◌, ℕ, ◌<◌, ◌≤◌, ◌⊎◌, Bool, true, false, List, [], ◌∷◌, length, codes, is_some, Option, Some}
+use Rattle.std.specs.Prelude.{◌≡◌, ◌≢◌, ℕ, ◌<◌, ◌≤◌, ◌⊎◌, Bool, true, false, List, [], ◌∷◌, length, is_some, IsSome, Option, Some, None}
 use Rattle.plan_model.specs.declared.trees.Twig.{Twig}
 use Rattle.plan_model.specs.declared.records.Record.{Record}
 use Rattle.plan_model.specs.declared.scenes.Scene.{Scene}
@@ -8,14 +8,13 @@ use Rattle.plan_model.specs.Clearance.{ClearAt}
 use Rattle.plan_model.specs.MarkPoints.{mark_points}
 use Rattle.plan_model.specs.Textbook.{IsTextbookRun}
 use Rattle.plan_model.specs.ReportText.{best_node, short_report}
+use Rattle.plan_model.specs.CanonicalText.{canonical_text}
 use Rattle.plan_model.specs.SceneGrammar.{Spells, Refused, supported}
+use Rattle.planner_main.specs.declared.forms.Form.{Form}
+use Rattle.planner_main.specs.declared.forms.Form.TheVariants as forms
 use Rattle.planner_main.specs.declared.refusals.Refusal.{Refusal}
 use Rattle.planner_main.specs.declared.refusals.Refusal.TheVariants as refusals
 use Rattle.planner_main.specs.Refusals.{words_line, long_line, fault_line, start_line, read_line, memory_line}
-
--- the words `plain`
-abbrev pub ArePlain : List (List ℕ) → Type 0
-ArePlain words = words ≡ codes "plain" ∷ []
 
 -- 0 where a path was found, and else 1
 abbrev pub status_of_report : Bool → ℕ
@@ -51,30 +50,43 @@ pub record BlocksStart (bytes : List ℕ) : Type 0 where
   pub spelled : Spells supported bytes scene
   pub blocked : ¬ ClearAt scene scene.start
 
--- The answer of the program, before it is written: its status, with the cause of that status, and its text. The words
--- are those of the command line, left are the bytes of the source before the call where it tells them, ended says
--- whether the source has given its end after it, and rose that the source's count of faults rose in it.
-pub record IsAnswer (words : List (List ℕ)) (left : Option (List ℕ)) (ended : Bool) (rose : Type 0) (status : ℕ) (text : List ℕ) : Type 0 where
-  -- 0 and 1: the report of the textbook run, with a path and without
-  pub report : status ≤ 1 → ArePlain words × (ended ≡ true) × ((bytes : List ℕ) → left ≡ Some bytes → ReportsRun bytes status text)
-  -- 2: the words are not `plain`
-  pub words_refused : status ≡ 2 → (¬ ArePlain words) × (text ≡ words_line)
+-- the text is the canonical text of the scene that the bytes spell
+pub record ShowsScene (bytes text : List ℕ) : Type 0 where
+  pub scene : Scene
+  pub short : length bytes ≤ 16777216
+  pub spelled : Spells supported bytes scene
+  pub written : text ≡ canonical_text scene
+
+-- what a status of 0 or 1 means, by the form of the words
+abbrev pub Succeeds : Option Form → List ℕ → ℕ → List ℕ → Type 0
+Succeeds None bytes status text = ⊥
+Succeeds (Some forms.Plain) bytes status text = ReportsRun bytes status text
+Succeeds (Some forms.Show) bytes status text = (status ≡ 0) × ShowsScene bytes text
+
+-- The answer of the program, before it is written: its status, with the cause of that status, and its text. The form is
+-- that of the words of the command line, left are the bytes of the source before the call where it tells them, ended
+-- says whether the source has given its end after it, and rose that the source's count of faults rose in it.
+pub record IsAnswer (form : Option Form) (left : Option (List ℕ)) (ended : Bool) (rose : Type 0) (status : ℕ) (text : List ℕ) : Type 0 where
+  -- 0 and 1: the text of the form; for `plain` the report of the textbook run, with a path and without
+  pub success : status ≤ 1 → IsSome form × (ended ≡ true) × ((bytes : List ℕ) → left ≡ Some bytes → Succeeds form bytes status text)
+  -- 2: the words are of no form
+  pub words_refused : status ≡ 2 → (form ≡ None) × (text ≡ words_line)
   -- 3: the text is too long, or was read to its end and is no scene
-  pub text_refused : status ≡ 3 → ArePlain words × ((text ≡ long_line) ⊎ (ended ≡ true)) × ((bytes : List ℕ) → left ≡ Some bytes → RefusesText bytes text)
+  pub text_refused : status ≡ 3 → IsSome form × ((text ≡ long_line) ⊎ (ended ≡ true)) × ((bytes : List ℕ) → left ≡ Some bytes → RefusesText bytes text)
   -- 4: the start is not clear
-  pub start_blocked : status ≡ 4 → ArePlain words × (ended ≡ true) × (text ≡ start_line) × ((bytes : List ℕ) → left ≡ Some bytes → BlocksStart bytes)
+  pub start_blocked : status ≡ 4 → (form ≡ Some forms.Plain) × (ended ≡ true) × (text ≡ start_line) × ((bytes : List ℕ) → left ≡ Some bytes → BlocksStart bytes)
   -- 5: the source could not be read
-  pub read_fault : status ≡ 5 → ArePlain words × rose × (ended ≡ false) × (text ≡ read_line)
+  pub read_fault : status ≡ 5 → IsSome form × rose × (ended ≡ false) × (text ≡ read_line)
   -- 7: there was no memory left
-  pub no_memory : status ≡ 7 → ArePlain words × (text ≡ memory_line)
+  pub no_memory : status ≡ 7 → IsSome form × (text ≡ memory_line)
   pub other_than_6 : status ≢ 6
   pub known : status ≤ 7
 
--- Which status the bytes of the source decide: where the text is a scene with a clear start it is planned, and else it is
--- refused.
-pub record IsDecided (bytes : List ℕ) (status : ℕ) : Type 0 where
-  pub planned : (scene : Scene) → length bytes ≤ 16777216 → Spells supported bytes scene → ClearAt scene scene.start → status ≤ 1
-  pub blocked : (scene : Scene) → length bytes ≤ 16777216 → Spells supported bytes scene → (¬ ClearAt scene scene.start) → status ≡ 4
+-- Which status the bytes of the source decide: a scene is planned or shown, and any other text is refused.
+pub record IsDecided (form : Option Form) (bytes : List ℕ) (status : ℕ) : Type 0 where
+  pub planned : form ≡ Some forms.Plain → (scene : Scene) → length bytes ≤ 16777216 → Spells supported bytes scene → ClearAt scene scene.start → status ≤ 1
+  pub blocked : form ≡ Some forms.Plain → (scene : Scene) → length bytes ≤ 16777216 → Spells supported bytes scene → (¬ ClearAt scene scene.start) → status ≡ 4
+  pub shown : form ≡ Some forms.Show → (scene : Scene) → length bytes ≤ 16777216 → Spells supported bytes scene → status ≡ 0
   pub refused : (number : ℕ) (kind : Kind) → length bytes ≤ 16777216 → Refused supported bytes number kind → status ≡ 3
   pub long : 16777216 < length bytes → status ≡ 3
 
@@ -95,11 +107,11 @@ line_of_refusal refusals.StartBlocked = start_line
 line_of_refusal refusals.ReadFault = read_line
 line_of_refusal refusals.Memory = memory_line
 
--- what a text of permitted length is refused for
-abbrev pub RefusesPlan : List ℕ → Refusal → Type 0
-RefusesPlan bytes refusals.Words = ⊥
-RefusesPlan bytes refusals.TooLong = ⊥
-RefusesPlan bytes (refusals.Text number kind) = Refused supported bytes number kind
-RefusesPlan bytes refusals.StartBlocked = BlocksStart bytes
-RefusesPlan bytes refusals.ReadFault = ⊥
-RefusesPlan bytes refusals.Memory = Unit {0}
+-- what a text of permitted length is refused for, by the form of the words
+abbrev pub RefusesForm : Form → List ℕ → Refusal → Type 0
+RefusesForm form bytes refusals.Words = ⊥
+RefusesForm form bytes refusals.TooLong = ⊥
+RefusesForm form bytes (refusals.Text number kind) = Refused supported bytes number kind
+RefusesForm form bytes refusals.StartBlocked = (form ≡ forms.Plain) × BlocksStart bytes
+RefusesForm form bytes refusals.ReadFault = ⊥
+RefusesForm form bytes refusals.Memory = Unit {0}

@@ -3,3 +3,4 @@ pub mod Refusals
 pub mod Delivery
 pub mod Conclusions
 pub mod Faults
+pub mod Forms

@@ -2,9 +2,11 @@
 #![tactic(auto)]
 
 mod delivery;
+mod forms;
 mod refusals;
 mod reports;
 mod standard_streams;
+mod stubs;
 mod top_call;
 
 use standard_streams::{StdSink, StdSource};

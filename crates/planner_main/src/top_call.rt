@@ -1,6 +1,6 @@
 //! The top call: everything that the program does, over any source and any sink.
 
-ghost use Rattle.std.specs.Prelude.{◌≡◌, ◌≢◌, ℕ, ◌≤◌, ◌+◌, ◌⊎◌, false, List, length, map, string_bytes, IsTrue, ◌↔◌, IfOk, IfErr, Some};
+ghost use Rattle.std.specs.Prelude.{◌≡◌, ◌≢◌, ℕ, ◌≤◌, ◌+◌, ◌⊎◌, false, List, length, map, string_bytes, IsTrue, ◌↔◌, IfOk, IfErr, IsSome, Some, None};
 ghost use Rattle.std.specs.Io.KnownBytes.{Appends, Keeps};
 ghost use Rattle.plan_model.specs.Streams.{Rose};
 ghost use Rattle.plan_model.specs.Clearance.{ClearAt};
@@ -8,10 +8,13 @@ ghost use Rattle.plan_model.specs.PlainScenes.{IsPlain, IsListed, IsInRoom};
 ghost use Rattle.plan_model.specs.MarkPoints.{mark_points};
 ghost use Rattle.plan_model.specs.ReportText.{best_node, short_report};
 ghost use Rattle.plan_model.specs.Textbook.{IsTextbookRun};
-ghost use Rattle.planner_main.specs.Conclusions.{ArePlain, IsAnswer, IsDecided, ReportsRun, ReportsScene, RefusesPlan, status_of_refusal, line_of_refusal};
+ghost use Rattle.planner_main.specs.Conclusions.{IsAnswer, IsDecided, ReportsRun, ReportsScene, ShowsScene, Succeeds, RefusesForm, status_of_refusal, line_of_refusal};
+ghost use Rattle.planner_main.specs.Forms.{form_of};
 ghost use Rattle.planner_main.specs.Delivery.{AppendsFront};
 
 use crate::delivery::deliver;
+use crate::forms::{Form, form_of};
+use crate::stubs::write_scene;
 use crate::refusals::Refusal;
 use crate::reports::short_report;
 use plan_model::{Marks, Memory, Point, Points, Scene, Sink, Source, Task};
@@ -26,8 +29,8 @@ pub struct Done {
     pub status: u8,
 }
 
-/// Plans as the words say: for `plain`, reads a scene from the source, plans it by textbook RRT* (Karaman and Frazzoli,
-/// IJRR 2011), and writes the short report to the sink.
+/// Does as the words say: for `plain`, reads a scene from the source, plans it by textbook RRT* (Karaman and Frazzoli,
+/// IJRR 2011), and writes the short report to the sink; for `show`, reads a scene and writes its canonical text.
 ///
 /// The text is made whole before anything is written. Each status but 6 has one text, which the sink takes whole; with
 /// status 6 the sink failed, and took a proper front of the text.
@@ -40,21 +43,21 @@ pub fn run<S: Source, K: Sink>(
     requires { S.has_ended source.old ≡ false }
     // the status has its cause, and the whole text of the answer is written
     ensures done { result.status ≢ 6 → (text : List ℕ)
-        × IsAnswer (map string_bytes words.now) (S.bytes_left source.old) (S.has_ended source.new)
+        × IsAnswer (form_of (map string_bytes words.now)) (S.bytes_left source.old) (S.has_ended source.new)
         (Rose (S.fault_count source.old) (S.fault_count source.new)) result.status text
         × Appends (K.bytes_taken sink.old) (K.bytes_taken sink.new) text }
     // the sink failed, and took a proper front of the text of an answer with its cause
     ensures cut { result.status ≡ 6 → Rose (K.fault_count sink.old) (K.fault_count sink.new) × ((status : ℕ) × (text : List ℕ)
-        × IsAnswer (map string_bytes words.now) (S.bytes_left source.old) (S.has_ended source.new)
+        × IsAnswer (form_of (map string_bytes words.now)) (S.bytes_left source.old) (S.has_ended source.new)
         (Rose (S.fault_count source.old) (S.fault_count source.new)) status text
         × AppendsFront (K.bytes_taken sink.old) (K.bytes_taken sink.new) text) }
     // where no count of faults rose, the bytes decide the status, unless there is no memory
-    ensures decided { (bytes : List ℕ) → ArePlain (map string_bytes words.now) → S.bytes_left source.old ≡ Some bytes
+    ensures decided { (bytes : List ℕ) → IsSome (form_of (map string_bytes words.now)) → S.bytes_left source.old ≡ Some bytes
         → (¬ Rose (S.fault_count source.old) (S.fault_count source.new)) → (¬ Rose (K.fault_count sink.old) (K.fault_count sink.new))
-        → (result.status ≡ 7) ⊎ IsDecided bytes result.status }
-    // other words are refused, and then nothing is read
-    ensures words { (¬ ArePlain (map string_bytes words.now)) → (result.status ≡ 2) ⊎ (result.status ≡ 6) }
-    ensures unread { (¬ ArePlain (map string_bytes words.now)) → Keeps (S.bytes_left source.old) (S.bytes_left source.new)
+        → (result.status ≡ 7) ⊎ IsDecided (form_of (map string_bytes words.now)) bytes result.status }
+    // words of no form are refused, and then nothing is read
+    ensures words { form_of (map string_bytes words.now) ≡ None → (result.status ≡ 2) ⊎ (result.status ≡ 6) }
+    ensures unread { form_of (map string_bytes words.now) ≡ None → Keeps (S.bytes_left source.old) (S.bytes_left source.new)
         × (S.has_ended source.new ≡ false) × (S.fault_count source.new ≡ S.fault_count source.old) }
 {
     match answer_to(alloc, words, source) {
@@ -126,37 +129,53 @@ struct Answer {
     text: Vec<u8>,
 }
 
-fn are_plain(words: &[String]) -> bool
-    ensures { IsTrue result ↔ ArePlain (map string_bytes words.now) }
-{
-    match words {
-        [word] => word.as_str() == "plain",
-        _ => false,
-    }
-}
-
 // What is to be written, or why there is no report.
 fn answer_to<S: Source>(alloc: Global, words: &[String], source: &mut S) -> Result<Answer, Refusal>
     requires { S.has_ended source.old ≡ false }
-    ensures report { IfOk result (λ answer. IsAnswer (map string_bytes words.now) (S.bytes_left source.old) (S.has_ended source.new)
+    ensures report { IfOk result (λ answer. IsAnswer (form_of (map string_bytes words.now)) (S.bytes_left source.old) (S.has_ended source.new)
         (Rose (S.fault_count source.old) (S.fault_count source.new)) answer.status answer.text.items) }
-    ensures refusal { IfErr result (λ refusal. IsAnswer (map string_bytes words.now) (S.bytes_left source.old) (S.has_ended source.new)
+    ensures refusal { IfErr result (λ refusal. IsAnswer (form_of (map string_bytes words.now)) (S.bytes_left source.old) (S.has_ended source.new)
         (Rose (S.fault_count source.old) (S.fault_count source.new)) (status_of_refusal refusal) (line_of_refusal refusal)) }
-    ensures unread { (¬ ArePlain (map string_bytes words.now)) → Keeps (S.bytes_left source.old) (S.bytes_left source.new)
+    ensures unread { form_of (map string_bytes words.now) ≡ None → Keeps (S.bytes_left source.old) (S.bytes_left source.new)
         × (S.has_ended source.new ≡ false) × (S.fault_count source.new ≡ S.fault_count source.old) }
 {
-    if !are_plain(words) {
+    let Some(form) = form_of(words) else {
         return Err(Refusal::Words);
-    }
+    };
     let text = fetch(alloc, source)?;
-    plan(alloc, &text)
+    perform(alloc, form, &text)
+}
+
+// Does what the form asks for, with the text that was read.
+fn perform(alloc: Global, form: Form, text: &[u8]) -> Result<Answer, Refusal>
+    requires { length text.now ≤ 16777216 }
+    ensures success { IfOk result (λ answer. (answer.status ≤ 1) × Succeeds (Some form) text.now answer.status answer.text.items) }
+    ensures refusal { IfErr result (RefusesForm form text.now) }
+{
+    match form {
+        Form::Plain => plan(alloc, text),
+        Form::Show => show(alloc, text),
+    }
+}
+
+// Shows the scene that the text spells.
+fn show(alloc: Global, text: &[u8]) -> Result<Answer, Refusal>
+    requires { length text.now ≤ 16777216 }
+    ensures shown { IfOk result (λ answer. (answer.status ≡ 0) × ShowsScene text.now answer.text.items) }
+    ensures refusal { IfErr result (RefusesForm Form.Show text.now) }
+{
+    let scene = read_scene(alloc, text)?;
+    Ok(Answer {
+        status: 0,
+        text: write_scene(alloc, &scene)?,
+    })
 }
 
 // Plans the scene that the text spells.
 fn plan(alloc: Global, text: &[u8]) -> Result<Answer, Refusal>
     requires { length text.now ≤ 16777216 }
     ensures report { IfOk result (λ answer. (answer.status ≤ 1) × ReportsRun text.now answer.status answer.text.items) }
-    ensures refusal { IfErr result (RefusesPlan text.now) }
+    ensures refusal { IfErr result (RefusesForm Form.Plain text.now) }
 {
     let scene = read_scene(alloc, text)?;
     if !is_in_room(scene.room, scene.start) {
