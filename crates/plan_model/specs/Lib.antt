@@ -15,6 +15,7 @@ pub mod Nearness
 pub mod Textbook
 pub mod ReportText
 pub mod SceneGrammar
+pub mod CanonicalText
 pub mod Streams
 pub mod PlainScenes
 pub mod Vectors

@@ -5,3 +5,4 @@ pub mod FetchLemmas
 pub mod GrammarLemmas
 pub mod DraftLemmas
 pub mod ReaderLemmas
+pub mod TextLemmas

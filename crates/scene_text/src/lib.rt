@@ -1,5 +1,5 @@
 //! Reads the text of a scene: its bytes from a source, its lines, words and numbers. A text is a scene by the
-//! grammar, or it is refused at the first line that has a fault.
+//! grammar, or it is refused at the first line that has a fault. And writes the canonical text of a scene.
 #![tactic(auto)]
 
 mod byte_input;
@@ -9,9 +9,11 @@ mod line_words;
 mod number_words;
 mod refusals;
 mod scene_reader;
+mod scene_writer;
 mod statements;
 
 pub use byte_input::{FetchFault, MOST_BYTES, fetch};
 pub use plan_model::Kind;
 pub use refusals::{SceneFault, SceneRefusal};
 pub use scene_reader::read_scene;
+pub use scene_writer::write_scene;

@@ -1,0 +1,22 @@
+-- The text of a line, word by word.
+use Rattle.std.proofs.Common.{◌≡◌, ℕ, ℤ, List, [], ◌∷◌, ◌++◌, map, refl, sym, ap, ◌∙◌}
+use Rattle.std.specs.Fmt.{signed_decimal}
+use Rattle.std.specs.List.{flat_map, join_with_byte}
+use Rattle.std.proofs.lemmas.List.{append_assoc, append-nil}
+use Rattle.plan_model.specs.ReportText.{line}
+
+-- a word, and then each number behind a blank
+join-spaced : (word : List ℕ) (zs : List ℤ) → join_with_byte 32 (word ∷ map signed_decimal zs) ≡ word ++ flat_map (λ z. 32 ∷ signed_decimal z) zs
+join-spaced word [] = sym (append-nil word)
+join-spaced word (z ∷ zs) =
+    ap (λ text. word ++ 32 ∷ text) (join-spaced (signed_decimal z) zs)
+
+-- the line of a word and numbers, from its pieces
+pub line-spaced : (word : List ℕ) (zs : List ℤ) → line (word ∷ map signed_decimal zs) ≡ word ++ (flat_map (λ z. 32 ∷ signed_decimal z) zs ++ 10 ∷ [])
+line-spaced word zs =
+    ap (λ text. text ++ 10 ∷ []) (join-spaced word zs) ∙ append_assoc word (flat_map (λ z. 32 ∷ signed_decimal z) zs) (10 ∷ [])
+
+-- a text after the word, the numbers and the line feed
+pub line-pushed : (before named spaced after word : List ℕ) (zs : List ℤ) → named ≡ before ++ word → spaced ≡ named ++ flat_map (λ z. 32 ∷ signed_decimal z) zs → after ≡ spaced ++ 10 ∷ [] → after ≡ before ++ line (word ∷ map signed_decimal zs)
+line-pushed before named spaced after word zs e f g =
+    rw (line-spaced word zs, g, f, e, append_assoc, append_assoc) refl
