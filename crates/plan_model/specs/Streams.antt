@@ -1,5 +1,5 @@
 -- Sources and sinks: counts of faults, and what a stream in memory is.
-use Rattle.std.specs.Prelude.{ℕ, ◌+◌, ◌-◌, ◌^◌, ◌≤◌, ◌==◌, nat_lt, ◌&&◌, ◌||◌, Bool, min, List, ◌++◌, length, take, Result, Ok, Err, if◌then◌else◌}
+use Rattle.std.specs.Prelude.{ℕ, ◌+◌, ◌-◌, ◌^◌, ◌≤◌, ◌==◌, nat_lt, ◌&&◌, ◌||◌, Bool, min, List, ◌++◌, length, take, drop, Result, Ok, Err, if◌then◌else◌}
 use Rattle.std.specs.List.{list_any}
 use Rattle.plan_model.specs.declared.errors.Failed.{Failed}
 
@@ -50,3 +50,35 @@ write_result sink piece =
 abbrev pub after_write : Taken → List ℕ → Taken
 after_write sink piece =
     if length piece == 0 then sink else (if is_refused sink then record { bytes = sink.bytes; room = sink.room; most = sink.most; fails = sink.fails; calls = counted sink.calls; faults = counted sink.faults } else record { bytes = sink.bytes ++ take (taken_count sink piece) piece; room = sink.room; most = sink.most; fails = sink.fails; calls = counted sink.calls; faults = sink.faults })
+
+-- Bytes that are given in pieces: those that are left, whether their end was given, at most so many bytes in one call,
+-- and the calls with these numbers fail.
+pub record Given : Type 0 where
+  pub left : List ℕ
+  pub ended : Bool
+  pub most : ℕ
+  pub fails : List ℕ
+  pub calls : ℕ
+  pub faults : ℕ
+
+-- the next call that is handed a slice with a place fails: its number is listed
+abbrev pub is_failing : Given → Bool
+is_failing source = list_any (λ number. number == counted source.calls) source.fails
+
+-- how many bytes a call gives that does not fail, into a slice of so many places
+abbrev pub given_count : Given → ℕ → ℕ
+given_count source len = moved_count len source.most (length source.left)
+
+-- What a call on a slice of so many places answers, what it leaves, and what the slice then holds. A call on a slice
+-- without a place is not numbered and changes nothing.
+abbrev pub read_result : Given → ℕ → Result ℕ Failed
+read_result source len =
+    if len == 0 then Ok 0 else (if is_failing source then Err (record {}) else Ok (given_count source len))
+
+abbrev pub after_read : Given → ℕ → Given
+after_read source len =
+    if len == 0 then source else (if is_failing source then record { left = source.left; ended = source.ended; most = source.most; fails = source.fails; calls = counted source.calls; faults = counted source.faults } else record { left = drop (given_count source len) source.left; ended = ended_after source.ended len (given_count source len); most = source.most; fails = source.fails; calls = counted source.calls; faults = source.faults })
+
+abbrev pub read_into : Given → List ℕ → List ℕ
+read_into source into =
+    if length into == 0 then into else (if is_failing source then into else take (given_count source (length into)) source.left ++ drop (given_count source (length into)) into)

@@ -1,12 +1,10 @@
 //! Where bytes come from.
 
-ghost use Rattle.std.specs.Prelude.{◌≡◌, ℕ, ◌≤◌, ◌<◌, Bool, false, List, [], length, Option, Some, take, drop, IfOk, OnErr, Ok};
+ghost use Rattle.std.specs.Prelude.{◌≡◌, ℕ, ◌≤◌, Bool, List, length, Option, IfOk, OnErr, Ok};
 ghost use Rattle.std.specs.Io.KnownBytes.{Keeps, ReadConsumes};
-ghost use Rattle.plan_model.specs.Streams.{Rose, ended_after, Stream};
+ghost use Rattle.plan_model.specs.Streams.{Rose, ended_after};
 
-use crate::errors::{Failed, Memory};
-use std::alloc::Global;
-use std::marker::Model;
+use crate::errors::Failed;
 
 /// Bytes that are read one after another, with a count of the reads that failed.
 pub trait Source {
@@ -35,81 +33,4 @@ pub trait Source {
         ensures failed { OnErr result (Rose (fault_count self.old) (fault_count self.new)) }
         ensures later { fault_count self.old ≤ fault_count self.new }
         ensures empty { length into.old ≡ 0 → (result ≡ Ok 0) × Keeps (bytes_left self.old) (bytes_left self.new) × (fault_count self.new ≡ fault_count self.old) };
-}
-
-/// A source over bytes in memory that never fails.
-#[derive(Debug, Drop)]
-pub struct SureSource {
-    bytes: Vec<u8>,
-    read: usize,
-    ended: bool,
-}
-
-impl Model for SureSource {
-    ghost use Rattle.std.specs.Prelude.{◌≤◌, length, drop};
-    ghost use Rattle.plan_model.specs.Streams.{Stream};
-
-    ghost Value = { Stream };
-
-    ghost view = { λ s. record { left = drop s.read s.bytes.items; ended = s.ended } };
-
-    ghost invariant = { λ s. s.read ≤ length s.bytes.items };
-}
-
-impl SureSource {
-    /// A source of these bytes.
-    pub fn new(alloc: Global, bytes: &[u8]) -> Result<SureSource, Memory>
-        ensures { IfOk result (λ source. source ≡ record { left = bytes.now; ended = false }) }
-    {
-        Ok(SureSource {
-            bytes: Vec::from_slice(alloc, bytes)?,
-            read: 0,
-            ended: false,
-        })
-    }
-}
-
-impl Source for SureSource {
-    ghost bytes_left = { λ s. Some s.left };
-
-    ghost has_ended = { λ s. s.ended };
-
-    ghost fault_count = { λ _. 0 };
-
-    fn faults(&self) -> u64 {
-        0
-    }
-
-    fn read(&mut self, into: &mut [u8]) -> Result<usize, Failed> {
-        if into.is_empty() {
-            return Ok(0);
-        }
-        let left = &self.bytes[self.read..];
-        let count = left.len().min(into.len());
-        into[..count].copy_from_slice(&left[..count]);
-        self.read += count;
-        if count == 0 {
-            self.ended = true;
-        }
-        Ok(count)
-    }
-}
-
-#[cfg(test)]
-mod tests {
-    use super::*;
-    use std::test::Fail;
-
-    #[test]
-    fn reads_in_pieces(rt: HostRuntime) -> Result<(), Fail> {
-        let mut source = SureSource::new(rt.alloc(), b"prrt 1\n")?;
-        let mut piece = [0; 3];
-        for want in ["prr", "t 1", "\n", ""] {
-            let count = source.read(&mut piece)?;
-            assert_eq!(rt; &piece[..count], want.as_bytes());
-        }
-        assert_eq!(rt; source.read(&mut [])?, 0);
-        assert_eq!(rt; source.faults(), 0);
-        Ok(())
-    }
 }

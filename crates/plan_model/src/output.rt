@@ -1,11 +1,11 @@
 //! Where bytes go.
 
-ghost use Rattle.std.specs.Prelude.{◌≡◌, ◌==◌, ℕ, ◌≤◌, ◌<◌, List, [], length, Option, Some, IfOk, OnErr, Ok};
+ghost use Rattle.std.specs.Prelude.{◌≡◌, ℕ, ◌≤◌, ◌<◌, List, [], length, Option, Some, IfOk, OnErr, Ok};
 ghost use Rattle.std.specs.Io.KnownBytes.{Keeps, WriteAppends};
-ghost use Rattle.std.specs.List.{list_any};
 ghost use Rattle.plan_model.specs.Streams.{Rose, Taken, write_result, after_write};
 
 use crate::errors::{Failed, Memory};
+use crate::numbered_calls::is_listed;
 use std::alloc::Global;
 use std::marker::Model;
 
@@ -54,13 +54,6 @@ impl Model for MemSink {
     ghost view = { λ s. record { bytes = s.taken.items; room = s.room; most = s.most; fails = s.fails.items; calls = s.calls; faults = s.faults } };
 
     ghost invariant = { λ s. (length s.taken.items ≤ s.room) × (s.room ≤ vec_capacity s.taken) × (1 ≤ s.most) };
-}
-
-// Whether the number of this call is one of the numbers.
-fn is_listed(numbers: &[u32], call: u64) -> bool
-    ensures { result ≡ list_any (λ number. number == call) numbers.now }
-{
-    numbers.iter().any(|number| u64::from(*number) == call)
 }
 
 impl MemSink {

@@ -6,7 +6,6 @@ mod forms;
 mod refusals;
 mod reports;
 mod standard_streams;
-mod stubs;
 mod top_call;
 
 use standard_streams::{StdSink, StdSource};

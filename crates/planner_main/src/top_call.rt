@@ -14,11 +14,10 @@ ghost use Rattle.planner_main.specs.Delivery.{AppendsFront};
 
 use crate::delivery::deliver;
 use crate::forms::{Form, form_of};
-use crate::stubs::write_scene;
 use crate::refusals::Refusal;
 use crate::reports::short_report;
 use plan_model::{Marks, Memory, Point, Points, Scene, Sink, Source, Task};
-use scene_text::{FetchFault, SceneRefusal, fetch, read_scene};
+use scene_text::{FetchFault, SceneRefusal, fetch, read_scene, write_scene};
 use seq_planner::textbook;
 use std::alloc::Global;
 
