@@ -1,20 +1,33 @@
 //! Whole calls, over a source and a sink in memory.
 
+ghost use Rattle.std.specs.Prelude.{◌≡◌, false};
+
 use super::*;
-use plan_model::{MemSink, SureSource};
+use plan_model::{MemSink, MemSource, SureSource};
 use std::test::Fail;
 
-// What the call writes for these words and this text, and its status.
-fn plan_text(alloc: Global, words: &[&str], text: &str) -> Result<(u8, String), Fail> {
+// What the call writes for these words and the bytes of this source, and its status.
+fn answer_over<S: Source>(
+    alloc: Global,
+    words: &[&str],
+    source: &mut S,
+) -> Result<(u8, String), Fail>
+    requires { S.has_ended source.old ≡ false }
+{
     let mut given = Vec::new(alloc);
     for word in words {
         given.push(String::from_str(alloc, word)?)?;
     }
-    let mut source = SureSource::new(alloc, text.as_bytes())?;
-    let mut sink = MemSink::new(alloc, 1 << 20, 1 << 20, &[])?;
-    let done = run(alloc, &given, &mut source, &mut sink);
+    let mut sink = MemSink::new(alloc, 1 << 23, 1 << 23, &[])?;
+    let done = run(alloc, &given, source, &mut sink);
     let written = String::from_utf8(Vec::from_slice(alloc, sink.bytes())?)?;
     Ok((done.status, written))
+}
+
+// The same for a text.
+fn plan_text(alloc: Global, words: &[&str], text: &str) -> Result<(u8, String), Fail> {
+    let mut source = SureSource::new(alloc, text.as_bytes())?;
+    answer_over(alloc, words, &mut source)
 }
 
 #[test]
@@ -93,39 +106,147 @@ fn plans_one_branch_of_a_thousand_nodes(rt: HostRuntime) -> Result<(), Fail> {
 #[test]
 fn refuses_with_the_cause(rt: HostRuntime) -> Result<(), Fail> {
     let scene = "prrt 1\nroom 10 10\nstart 5 5\ngoal 0 0 9 9\nstep 4\n";
-    let words: [&[&str]; 4] = [&[], &["plan", "4"], &["plain", "full"], &["plan"]];
+    let words: [&[&str]; 6] = [
+        &[],
+        &["plan", "4"],
+        &["plain", "full"],
+        &["plan"],
+        &["show", "show"],
+        &["Show"],
+    ];
     for form in words {
         let (status, written) = plan_text(rt.alloc(), form, scene)?;
         assert_eq!(rt; written.as_str(), "words refused\n", "{form:?}");
         assert_eq!(rt; status, 2);
     }
-    for (text, status, line) in [
+    let blocked = "prrt 1\nroom 10 10\nstart 11 5\ngoal 0 0 9 9\nstep 4\n";
+    let (status, written) = plan_text(rt.alloc(), &["plain"], blocked)?;
+    assert_eq!(rt; written.as_str(), "start blocked\n");
+    assert_eq!(rt; status, 4);
+    Ok(())
+}
+
+#[test]
+fn refuses_texts_with_line_and_kind(rt: HostRuntime) -> Result<(), Fail> {
+    for (shows, text, line) in [
         (
-            "prrt 1\nroom 10 10\nstart 11 5\ngoal 0 0 9 9\nstep 4\n",
-            4,
-            "start blocked\n",
-        ),
-        (
+            "a missing key",
             "prrt 1\nroom 10 10\nstart 5 5\nstep 4\n",
-            3,
             "line 5 kind 9 Missing\n",
         ),
         (
+            "a repeated step",
             "prrt 1\nroom 10 10\nstep 4\nstep 4\n",
-            3,
             "line 4 kind 6 Repeat\n",
         ),
-        ("", 3, "line 1 kind 1 Version\n"),
-        ("prrt 1\nroom 10 10\nstar\n", 3, "line 3 kind 2 Key\n"),
+        ("the empty text", "", "line 1 kind 1 Version\n"),
         (
-            "prrt 1\nroom 10 10\ngamma 5\n",
-            3,
-            "line 3 kind 10 Unbuilt\n",
+            "an unknown key",
+            "prrt 1\nroom 10 10\nstar\n",
+            "line 3 kind 2 Key\n",
+        ),
+        (
+            "a leading zero",
+            "prrt 1\nstep 04\n",
+            "line 2 kind 4 Number\n",
+        ),
+        (
+            "a number of 23 digits",
+            "prrt 1\nstep 99999999999999999999999\n",
+            "line 2 kind 5 Range\n",
+        ),
+        (
+            "a start below 0",
+            "prrt 1\nstart -1 0\n",
+            "line 2 kind 5 Range\n",
+        ),
+        (
+            "a key that is not supported",
+            "prrt 1\ngamma 5\n",
+            "line 2 kind 10 Unbuilt\n",
+        ),
+        ("too few words", "prrt 1\nroom 5\n", "line 2 kind 3 Words\n"),
+        (
+            "a tab within a word",
+            "prrt 1\nroom 5\t5\n",
+            "line 2 kind 3 Words\n",
+        ),
+        (
+            "a carriage return",
+            "prrt 1\r\nroom 5 5\r\n",
+            "line 1 kind 1 Version\n",
         ),
     ] {
-        let (ended, written) = plan_text(rt.alloc(), &["plain"], text)?;
-        assert_eq!(rt; written.as_str(), line);
-        assert_eq!(rt; ended, status, "{line}");
+        for words in ["plain", "show"] {
+            let (status, written) = plan_text(rt.alloc(), &[words], text)?;
+            assert_eq!(rt; written.as_str(), line, "{shows}");
+            assert_eq!(rt; status, 3, "{shows}");
+        }
+    }
+    Ok(())
+}
+
+#[test]
+fn shows_a_scattered_scene(rt: HostRuntime) -> Result<(), Fail> {
+    let text = "# a note\nprrt  1\nstep 4\ngoal 1 1 2 2\nstart 0 0\nroom 9 9";
+    let (status, written) = plan_text(rt.alloc(), &["show"], text)?;
+    assert_eq!(rt;
+        written.as_str(),
+        "prrt 1\nroom 9 9\nbody 0 0\nstart 0 0\ngoal 1 1 2 2\nstep 4\ngamma 0\nseed 0\nstrips 1\n"
+    );
+    assert_eq!(rt; status, 0);
+    Ok(())
+}
+
+#[test]
+fn shows_as_many_marks_as_there_may_be(rt: HostRuntime) -> Result<(), Fail> {
+    let alloc = rt.alloc();
+    let mut text = String::from_str(alloc, "prrt 1\nroom 9 9\nstart 0 0\ngoal 1 1 2 2\nstep 4\n")?;
+    for _ in 0..262_143 {
+        text.push_str("mark 0 0\n")?;
+    }
+    let (status, written) = plan_text(alloc, &["show"], &text)?;
+    assert_eq!(rt; status, 0);
+    assert_eq!(rt; written.lines().count(), 262_152);
+    text.push_str("mark 0 0\n")?;
+    let (status, written) = plan_text(alloc, &["show"], &text)?;
+    assert_eq!(rt; written.as_str(), "line 262149 kind 8 Many\n");
+    assert_eq!(rt; status, 3);
+    Ok(())
+}
+
+#[test]
+fn reads_as_many_bytes_as_there_may_be(rt: HostRuntime) -> Result<(), Fail> {
+    let alloc = rt.alloc();
+    let mut text = vec![in alloc; b'#'; 16_777_216]?;
+    let mut source = SureSource::new(alloc, &text)?;
+    let (status, written) = answer_over(alloc, &["show"], &mut source)?;
+    assert_eq!(rt; written.as_str(), "line 2 kind 1 Version\n");
+    assert_eq!(rt; status, 3);
+    text.push(b'#')?;
+    let mut source = SureSource::new(alloc, &text)?;
+    let (status, written) = answer_over(alloc, &["show"], &mut source)?;
+    assert_eq!(rt; written.as_str(), "text too long\n");
+    assert_eq!(rt; status, 3);
+    Ok(())
+}
+
+#[test]
+fn reads_pieces_and_tells_faults(rt: HostRuntime) -> Result<(), Fail> {
+    let alloc = rt.alloc();
+    let text = b"prrt 1\nroom 100 100\nstart 0 0\ngoal 30 40 30 40\nstep 100\nmark 30 40\n";
+    let mut in_bytes = MemSource::new(alloc, text, 1, &[])?;
+    let (status, written) = answer_over(alloc, &["plain"], &mut in_bytes)?;
+    assert_eq!(rt;
+        written.as_str(),
+        "path 2 cost 12800\n0 0\n30 40\nnodes 2 placed 1 same 0 blocked 0\n"
+    );
+    assert_eq!(rt; status, 0);
+    for fails in [1, 2, 8] {
+        let mut failing = MemSource::new(alloc, text, 10, &[fails])?;
+        let (status, written) = answer_over(alloc, &["plain"], &mut failing)?;
+        assert_eq!(rt; written.as_str(), "read fault\n");
+        assert_eq!(rt; status, 5);
     }
     Ok(())
 }
