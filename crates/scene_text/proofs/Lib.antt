@@ -6,3 +6,9 @@ pub mod GrammarLemmas
 pub mod DraftLemmas
 pub mod ReaderLemmas
 pub mod TextLemmas
+pub mod StatementTexts
+pub mod DecimalWords
+pub mod CanonicalWords
+pub mod CanonicalNumbers
+pub mod CanonicalFaults
+pub mod CanonicalFields

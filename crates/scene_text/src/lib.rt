@@ -1,5 +1,7 @@
 //! Reads the text of a scene: its bytes from a source, its lines, words and numbers. A text is a scene by the
-//! grammar, or it is refused at the first line that has a fault. And writes the canonical text of a scene.
+//! grammar, or it is refused at the first line that has a fault.
+//!
+//! And writes a scene as its canonical text, which by the grammar spells that scene.
 #![tactic(auto)]
 
 mod byte_input;

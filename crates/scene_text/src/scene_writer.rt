@@ -1,9 +1,10 @@
 //! The writer of a scene's canonical text.
 
-ghost use Rattle.std.specs.Prelude.{◌≡◌, ◌∷◌, ◌++◌, map, flat_map, string_bytes, IfOk, OnOk};
+ghost use Rattle.std.specs.Prelude.{◌≡◌, ◌<◌, ◌^◌, ◌∷◌, ◌++◌, map, flat_map, string_bytes, IfOk, OnOk};
 ghost use Rattle.std.specs.Fmt.{signed_decimal};
 ghost use Rattle.plan_model.specs.CanonicalText.{canonical_text, corner_numbers, obstacle_statement, mark_statement, plan_statements, task_statements};
 ghost use Rattle.plan_model.specs.ReportText.{line};
+ghost use Rattle.plan_model.specs.SceneGrammar.{Spells, all_keys};
 
 use plan_model::{Marks, Memory, Point, Poly, Scene, Vertex};
 use std::alloc::{AllocError, Global};
@@ -14,6 +15,8 @@ use std::alloc::{AllocError, Global};
 /// `Memory` comes where there was no memory left for the text.
 pub fn write_scene(alloc: Global, scene: &Scene) -> Result<Vec<u8>, Memory>
     ensures text { IfOk result (λ text. text.items ≡ canonical_text scene.now) }
+    // read with every key supported, it spells this scene
+    ensures spells { IfOk result (λ text. Spells all_keys text.items scene.now) }
 {
     let mut text = String::new(alloc);
     write!(text, "prrt 1\nroom {} {}\n", scene.room.x, scene.room.y)?;
@@ -59,13 +62,16 @@ fn push_obstacles(text: &mut String, obstacles: &[Poly]) -> Result<(), AllocErro
 
 // The lines of what is to be planned in the room.
 fn push_task(text: &mut String, scene: &Scene) -> Result<(), AllocError>
-    ensures { OnOk result (string_bytes text.new ≡ string_bytes text.old ++ flat_map line (task_statements scene.now)) }
+    ensures text { OnOk result (string_bytes text.new ≡ string_bytes text.old ++ flat_map line (task_statements scene.now)) }
+    // what the type of the seed says, for callers that do not read it
+    ensures seed { OnOk result (scene.now.seed < 2 ^ 64) }
 {
     let (low, high) = (scene.goal.low, scene.goal.high);
+    let seed = scene.seed;
     write!(text, "start {} {}\n", scene.start.x, scene.start.y)?;
     write!(text, "goal {} {} {} {}\n", low.x, low.y, high.x, high.y)?;
     write!(text, "step {}\ngamma {}\n", scene.step, scene.gamma)?;
-    write!(text, "seed {}\nstrips {}\n", scene.seed, scene.strips)
+    write!(text, "seed {seed}\nstrips {}\n", scene.strips)
 }
 
 // The line of how many marks are drawn, or those of the listed marks.
