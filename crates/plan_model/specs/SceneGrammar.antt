@@ -276,5 +276,7 @@ supported keys.Room = true
 supported keys.Start = true
 supported keys.Goal = true
 supported keys.Step = true
+supported keys.Seed = true
+supported keys.Strips = true
 supported keys.Mark = true
 supported key = false

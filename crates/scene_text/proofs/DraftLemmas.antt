@@ -1,14 +1,17 @@
 -- The fields that statements give, and the faults of the next one: what the reader computes is what the grammar says.
-use Rattle.std.proofs.Common.{◌≡◌, ℕ, not, Bool, true, false, cond, nat_le, ℤ, Option, Some, None, is_some, List, [], ◌∷◌, ◌++◌, length, map, drop, refl, sym, ap, ◌∙◌}
+use Rattle.std.proofs.Common.{◌≡◌, ℕ, not, Bool, true, false, cond, nat_le, ℤ, Option, Some, None, List, [], ◌∷◌, ◌++◌, length, map, drop, refl, sym, ap, ◌∙◌}
+use mathlib.Core.Path.{fun_ext}
 use Rattle.std.specs.List.{list_all}
 use Rattle.std.proofs.lemmas.List.{map-append, length-map}
+use Rattle.plan_model.specs.declared.geometry.Point.{Point}
+use Rattle.plan_model.specs.declared.geometry.Goal.{Goal}
 use Rattle.plan_model.specs.declared.text_terms.Key.{Key}
 use Rattle.plan_model.specs.declared.text_terms.Key.TheVariants as keys
 use Rattle.plan_model.specs.declared.text_terms.Kind.{Kind}
 use Rattle.plan_model.specs.declared.text_terms.Kind.TheVariants as kinds
-use Rattle.plan_model.specs.SceneGrammar.{is_skipped, value_of, is_number, key_of, numbers_of, is_repeated, is_too_many, fits_words, is_in_range, has_corners, fault_of_key, fault_at_key, fault_after, supported, point_from, goal_from, number_or}
-use Rattle.scene_text.specs.Drafts.{Fields, fields_of, first_with, is_given, is_full, IsFormed, fault_at, fault_behind, fault_of_words, taken, taken_behind}
-use Rattle.scene_text.proofs.GrammarLemmas.{numbers_of-own, numbers_of-other, has-numbers, has-none, length-numbers_of, first_with-push}
+use Rattle.plan_model.specs.SceneGrammar.{is_skipped, name_of, value_of, is_number, key_of, numbers_of, is_repeated, is_too_many, fits_words, is_in_range, has_corners, fault_of_key, fault_at_key, fault_after, supported, point_from, goal_from, number_or}
+use Rattle.scene_text.specs.Drafts.{Fields, fields_of, fields_by, is_given, is_full, IsFormed, fault_at, fault_behind, fault_of_words, taken, taken_behind}
+use Rattle.scene_text.proofs.GrammarLemmas.{name-key_of, numbers_of-other, numbers_of-push, pushed, has-numbers, has-none, length-numbers_of, first_with-push}
 
 -- ---- the checks before that of the range
 
@@ -41,37 +44,32 @@ fault_at-formed fields key words h =
 abbrev pub AreBuilt : List (List (List ℕ)) → Type 0
 AreBuilt statements = (key : Key) → supported key ≡ false → numbers_of key statements ≡ []
 
-checked-same : (built given fits full numbers ranged corners given' full' : Bool) → given ≡ given' → full ≡ full' → checked built given fits full numbers ranged corners ≡ checked built given' fits full' numbers ranged corners
-checked-same built given fits full numbers ranged corners given' full' e f = rw (e, f) refl
+-- of a key that is not supported, nothing else is checked
+checked-same : (built given fits full numbers ranged corners given' full' : Bool) → (built ≡ true → given ≡ given') → (built ≡ true → full ≡ full') → checked built given fits full numbers ranged corners ≡ checked built given' fits full' numbers ranged corners
+checked-same true given fits full numbers ranged corners given' full' e f =
+    rw (e refl, f refl) refl
+checked-same false given fits full numbers ranged corners given' full' e f = refl
 
 is_given-same : (key : Key) (before : List (List (List ℕ))) → supported key ≡ true → AreBuilt before → is_given (fields_of ([] ∷ before)) key ≡ is_repeated key before
 is_given-same keys.Room before e h = sym (has-numbers point_from keys.Room before)
 is_given-same keys.Start before e h = sym (has-numbers point_from keys.Start before)
 is_given-same keys.Goal before e h = sym (has-numbers goal_from keys.Goal before)
 is_given-same keys.Step before e h = sym (has-numbers (number_or 0) keys.Step before)
+is_given-same keys.Seed before e h = sym (has-numbers (number_or 0) keys.Seed before)
+is_given-same keys.Strips before e h = sym (has-numbers (number_or 1) keys.Strips before)
 is_given-same keys.Mark before e h = sym (has-none keys.Marks before (h keys.Marks refl))
 is_given-same key before e h = absurd (cc)
 
 is_full-same : (key : Key) (n : ℕ) (before : List (List (List ℕ))) → supported key ≡ true → is_full (fields_of ([] ∷ before)) key ≡ is_too_many key n before
 is_full-same keys.Mark n before e =
     ap (nat_le 262143) (length-map (numbers_of keys.Mark before) point_from ∙ length-numbers_of keys.Mark before)
-is_full-same keys.Room n before e = refl
-is_full-same keys.Start n before e = refl
-is_full-same keys.Goal n before e = refl
-is_full-same keys.Step n before e = refl
-is_full-same key n before e = absurd (cc)
-
-fault_at-built : (key : Key) (words : List (List ℕ)) (before : List (List (List ℕ))) → supported key ≡ true → AreBuilt before → fault_at (fields_of ([] ∷ before)) key words ≡ fault_of_key supported before key words
-fault_at-built key words before e h =
-    checked-same (supported key) (is_given (fields_of ([] ∷ before)) key) (fits_words key (length words)) (is_full (fields_of ([] ∷ before)) key) (list_all is_number words) (is_in_range key (map value_of words)) (has_corners key (map value_of words)) (is_repeated key before) (is_too_many key (length words) before) (is_given-same key before e h) (is_full-same key (length words) before e)
+is_full-same keys.Body n before e = absurd (cc)
+is_full-same keys.Obstacle n before e = absurd (cc)
+is_full-same key n before e = refl
 
 fault_at-same : (key : Key) (words : List (List ℕ)) (before : List (List (List ℕ))) → AreBuilt before → fault_at (fields_of ([] ∷ before)) key words ≡ fault_of_key supported before key words
-fault_at-same keys.Room words before h = fault_at-built keys.Room words before refl h
-fault_at-same keys.Start words before h = fault_at-built keys.Start words before refl h
-fault_at-same keys.Goal words before h = fault_at-built keys.Goal words before refl h
-fault_at-same keys.Step words before h = fault_at-built keys.Step words before refl h
-fault_at-same keys.Mark words before h = fault_at-built keys.Mark words before refl h
-fault_at-same key words before h = refl
+fault_at-same key words before h =
+    checked-same (supported key) (is_given (fields_of ([] ∷ before)) key) (fits_words key (length words)) (is_full (fields_of ([] ∷ before)) key) (list_all is_number words) (is_in_range key (map value_of words)) (has_corners key (map value_of words)) (is_repeated key before) (is_too_many key (length words) before) (λ e. is_given-same key before e h) (λ e. is_full-same key (length words) before e)
 
 fault_behind-same : (found : Option Key) (words : List (List ℕ)) (before : List (List (List ℕ))) → AreBuilt before → fault_behind (fields_of ([] ∷ before)) found words ≡ fault_at_key supported before found words
 fault_behind-same None words before h = refl
@@ -86,41 +84,30 @@ fault_of_words-same (version ∷ before) (word ∷ words) h =
 
 -- ---- one more statement
 
-same_fields : (a b : Fields) → a.version_read ≡ b.version_read → a.room ≡ b.room → a.start ≡ b.start → a.goal ≡ b.goal → a.step ≡ b.step → a.marks ≡ b.marks → a ≡ b
-same_fields a b version room start goal step marks =
-    let e : record { version_read = a.version_read; room = a.room; start = a.start; goal = a.goal; step = a.step; marks = a.marks } ≡ record { version_read = b.version_read; room = b.room; start = b.start; goal = b.goal; step = b.step; marks = b.marks } = cc in
-    e
-
--- a key that may stand once and does not stand yet
-first-own : {A : Type 0} (f : List ℤ → A) (word : List ℕ) (words : List (List ℕ)) (key : Key) (before : List (List (List ℕ))) → key_of word ≡ Some key → is_some (first_with f (numbers_of key before)) ≡ false → first_with f (numbers_of key (before ++ (word ∷ words) ∷ [])) ≡ Some (f (map value_of words))
-first-own f word words key before e fresh =
-    ap (first_with f) (numbers_of-own word words key before e) ∙ first_with-push f (numbers_of key before) (map value_of words) fresh
-
-first-other : {A : Type 0} (f : List ℤ → A) (word : List ℕ) (words : List (List ℕ)) (key other : Key) (before : List (List (List ℕ))) → key_of word ≡ Some key → (key ≡ other → ⊥) → first_with f (numbers_of other (before ++ (word ∷ words) ∷ [])) ≡ first_with f (numbers_of other before)
-first-other f word words key other before e differ =
-    ap (first_with f) (numbers_of-other word words key other before e differ)
-
-marks-own : (word : List ℕ) (words : List (List ℕ)) (before : List (List (List ℕ))) → key_of word ≡ Some keys.Mark → map point_from (numbers_of keys.Mark (before ++ (word ∷ words) ∷ [])) ≡ map point_from (numbers_of keys.Mark before) ++ point_from (map value_of words) ∷ []
-marks-own word words before e =
-    ap (map point_from) (numbers_of-own word words keys.Mark before e) ∙ map-append point_from (numbers_of keys.Mark before) (map value_of words ∷ [])
-
-marks-other : (word : List ℕ) (words : List (List ℕ)) (key : Key) (before : List (List (List ℕ))) → key_of word ≡ Some key → (key ≡ keys.Mark → ⊥) → map point_from (numbers_of keys.Mark (before ++ (word ∷ words) ∷ [])) ≡ map point_from (numbers_of keys.Mark before)
-marks-other word words key before e differ =
-    ap (map point_from) (numbers_of-other word words key keys.Mark before e differ)
+-- a line more gives the field of its key, and leaves the others
+taken-pushed : (key : Key) (numbers : Key → List (List ℤ)) (zs : List ℤ) → supported key ≡ true → is_given (fields_by numbers) key ≡ false → fields_by (pushed numbers (name_of key) zs) ≡ taken (fields_by numbers) key zs
+taken-pushed keys.Room numbers zs built fresh =
+    ap (λ (field : Option Point). record (fields_by numbers) { room = field }) (first_with-push point_from (numbers keys.Room) zs fresh)
+taken-pushed keys.Start numbers zs built fresh =
+    ap (λ (field : Option Point). record (fields_by numbers) { start = field }) (first_with-push point_from (numbers keys.Start) zs fresh)
+taken-pushed keys.Goal numbers zs built fresh =
+    ap (λ (field : Option Goal). record (fields_by numbers) { goal = field }) (first_with-push goal_from (numbers keys.Goal) zs fresh)
+taken-pushed keys.Step numbers zs built fresh =
+    ap (λ (field : Option ℕ). record (fields_by numbers) { step = field }) (first_with-push (number_or 0) (numbers keys.Step) zs fresh)
+taken-pushed keys.Seed numbers zs built fresh =
+    ap (λ (field : Option ℕ). record (fields_by numbers) { seed = field }) (first_with-push (number_or 0) (numbers keys.Seed) zs fresh)
+taken-pushed keys.Strips numbers zs built fresh =
+    ap (λ (field : Option ℕ). record (fields_by numbers) { strips = field }) (first_with-push (number_or 1) (numbers keys.Strips) zs fresh)
+taken-pushed keys.Mark numbers zs built fresh =
+    ap (λ (field : List Point). record (fields_by numbers) { marks = field }) (map-append point_from (numbers keys.Mark) (zs ∷ []))
+taken-pushed key numbers zs built fresh = absurd (cc)
 
 -- the fields behind one more statement
 taken-same : (key : Key) (word : List ℕ) (words : List (List ℕ)) (before : List (List (List ℕ))) → key_of word ≡ Some key → supported key ≡ true → is_given (fields_of ([] ∷ before)) key ≡ false → fields_of ([] ∷ (before ++ (word ∷ words) ∷ [])) ≡ taken (fields_of ([] ∷ before)) key (map value_of words)
-taken-same keys.Room word words before e built fresh =
-    same_fields _ _ refl (first-own point_from word words keys.Room before e fresh) (first-other point_from word words keys.Room keys.Start before e (λ h. cc)) (first-other goal_from word words keys.Room keys.Goal before e (λ h. cc)) (first-other (number_or 0) word words keys.Room keys.Step before e (λ h. cc)) (marks-other word words keys.Room before e (λ h. cc))
-taken-same keys.Start word words before e built fresh =
-    same_fields _ _ refl (first-other point_from word words keys.Start keys.Room before e (λ h. cc)) (first-own point_from word words keys.Start before e fresh) (first-other goal_from word words keys.Start keys.Goal before e (λ h. cc)) (first-other (number_or 0) word words keys.Start keys.Step before e (λ h. cc)) (marks-other word words keys.Start before e (λ h. cc))
-taken-same keys.Goal word words before e built fresh =
-    same_fields _ _ refl (first-other point_from word words keys.Goal keys.Room before e (λ h. cc)) (first-other point_from word words keys.Goal keys.Start before e (λ h. cc)) (first-own goal_from word words keys.Goal before e fresh) (first-other (number_or 0) word words keys.Goal keys.Step before e (λ h. cc)) (marks-other word words keys.Goal before e (λ h. cc))
-taken-same keys.Step word words before e built fresh =
-    same_fields _ _ refl (first-other point_from word words keys.Step keys.Room before e (λ h. cc)) (first-other point_from word words keys.Step keys.Start before e (λ h. cc)) (first-other goal_from word words keys.Step keys.Goal before e (λ h. cc)) (first-own (number_or 0) word words keys.Step before e fresh) (marks-other word words keys.Step before e (λ h. cc))
-taken-same keys.Mark word words before e built fresh =
-    same_fields _ _ refl (first-other point_from word words keys.Mark keys.Room before e (λ h. cc)) (first-other point_from word words keys.Mark keys.Start before e (λ h. cc)) (first-other goal_from word words keys.Mark keys.Goal before e (λ h. cc)) (first-other (number_or 0) word words keys.Mark keys.Step before e (λ h. cc)) (marks-own word words before e)
-taken-same key word words before e built fresh = absurd (cc)
+taken-same key word words before e built fresh =
+    let numbers : Key → List (List ℤ) = λ k. numbers_of k before in
+    let more : (λ k. numbers_of k (before ++ (word ∷ words) ∷ [])) ≡ pushed numbers word (map value_of words) = fun_ext (λ k. numbers_of-push word words k before) in
+    ap fields_by more ∙ ap (λ w. fields_by (pushed numbers w (map value_of words))) (name-key_of word key e) ∙ taken-pushed key numbers (map value_of words) built fresh
 
 -- a statement without a fault has a key that is supported, and that does not stand yet if it may stand once
 fault-built : (built given fits full numbers ranged corners : Bool) → checked built given fits full numbers ranged corners ≡ None → (built ≡ true) × (given ≡ false)

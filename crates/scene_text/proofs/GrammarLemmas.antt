@@ -36,9 +36,6 @@ key_of-name key = refl
 
 -- ---- the statements with a key
 
-pub begins_with-own : (word : List ℕ) (words : List (List ℕ)) (key : Key) → key_of word ≡ Some key → begins_with key (word ∷ words) ≡ true
-begins_with-own word words key e = (bytes_eq-Decides word (name_of key)).1 (name-key_of word key e)
-
 pub begins_with-other : (word : List ℕ) (words : List (List ℕ)) (key other : Key) → key_of word ≡ Some key → (key ≡ other → ⊥) → begins_with other (word ∷ words) ≡ false
 begins_with-other word words key other e differ =
     false_from_ne_true (bytes_eq word (name_of other)) (λ same. let named : word ≡ name_of other = (bytes_eq-Decides word (name_of other)).0 same in let found : Some key ≡ Some other = sym e ∙ ap key_of named ∙ key_of-name other in differ (cc))
@@ -50,10 +47,15 @@ numbers_of-append : (key : Key) (xs ys : List (List (List ℕ))) → numbers_of 
 numbers_of-append key xs ys =
     ap (map numbers_in) (filter-append (begins_with key) xs ys) ∙ map-append numbers_in (filter (begins_with key) xs) (filter (begins_with key) ys)
 
--- a statement gives its numbers to its own key
-pub numbers_of-own : (word : List ℕ) (words : List (List ℕ)) (key : Key) (before : List (List (List ℕ))) → key_of word ≡ Some key → numbers_of key (before ++ (word ∷ words) ∷ []) ≡ numbers_of key before ++ map value_of words ∷ []
-numbers_of-own word words key before e =
-    numbers_of-append key before ((word ∷ words) ∷ []) ∙ ap (λ b. numbers_of key before ++ map numbers_in (cond b ((word ∷ words) ∷ []) [])) (begins_with-own word words key e)
+-- the numbers of each key's lines, with a line more that begins with this word
+abbrev pub pushed : (Key → List (List ℤ)) → List ℕ → List ℤ → Key → List (List ℤ)
+pushed numbers word zs key =
+    cond (bytes_eq word (name_of key)) (numbers key ++ zs ∷ []) (numbers key)
+
+-- a statement gives its numbers to the key that its word names
+pub numbers_of-push : (word : List ℕ) (words : List (List ℕ)) (key : Key) (before : List (List (List ℕ))) → numbers_of key (before ++ (word ∷ words) ∷ []) ≡ pushed (λ k. numbers_of k before) word (map value_of words) key
+numbers_of-push word words key before =
+    numbers_of-append key before ((word ∷ words) ∷ []) ∙ elim (bytes_eq word (name_of key)) as (λ b. numbers_of key before ++ map numbers_in (cond b ((word ∷ words) ∷ []) []) ≡ cond b (numbers_of key before ++ map value_of words ∷ []) (numbers_of key before)) [ true ↦ refl | false ↦ append-nil (numbers_of key before) ]
 
 -- and to no other key
 pub numbers_of-other : (word : List ℕ) (words : List (List ℕ)) (key other : Key) (before : List (List (List ℕ))) → key_of word ≡ Some key → (key ≡ other → ⊥) → numbers_of other (before ++ (word ∷ words) ∷ []) ≡ numbers_of other before

@@ -2,6 +2,7 @@
 use Rattle.std.proofs.Common.{◌≡◌, ℕ, ◌+◌, ◌<◌, ◌≤◌, ◌&&◌, not, Bool, true, false, cond, ℤ, Option, Some, None, List, [], ◌∷◌, ◌++◌, length, map, take, drop, get_or, refl, sym, ap, ◌∙◌, subst, inl, inr, arith}
 use borrow.Author.Count.{below_more}
 use Rattle.std.proofs.lemmas.List.{append-nil, drop_more, take_more, take_all, length-drop}
+use Rattle.std.specs.Option.{unwrap_or}
 use Rattle.plan_model.specs.declared.scenes.Scene.{Scene}
 use Rattle.plan_model.specs.declared.scenes.Marks.TheVariants.{Listed}
 use Rattle.plan_model.specs.declared.text_terms.Key.{Key}
@@ -140,6 +141,11 @@ first_with-value : {A : Type 0} (f : List ℤ → A) (lists : List (List ℤ)) (
 first_with-value f [] x e = absurd (cc)
 first_with-value f (zs ∷ lists) x e = cc
 
+-- the number of a line, or the one that holds without it
+number-without : (n : ℕ) (lists : List (List ℤ)) → unwrap_or (first_with (number_or n) lists) n ≡ number_or n (first_of lists)
+number-without n [] = refl
+number-without n (zs ∷ lists) = refl
+
 HasFields-from_scene : (fields : Fields) (statements : List (List (List ℕ))) (scene : Scene) → Holds fields statements → IsSceneOf fields scene → HasFields (drop 1 statements) scene
 HasFields-from_scene fields [] scene h s =
     let clash : true ≡ false = sym s.version_read ∙ ap (λ f. f.version_read) h.same in
@@ -155,8 +161,8 @@ HasFields-from_scene fields (version ∷ statements) scene h s =
       goal = first_with-value goal_from (numbers_of keys.Goal statements) scene.goal (sym (ap (λ f. f.goal) h.same) ∙ s.goal);
       step = first_with-value (number_or 0) (numbers_of keys.Step statements) scene.step (sym (ap (λ f. f.step) h.same) ∙ s.step);
       gamma = s.gamma ∙ ap (λ lists. number_or 0 (first_of lists)) (none keys.Gamma refl);
-      seed = s.seed ∙ ap (λ lists. number_or 0 (first_of lists)) (none keys.Seed refl);
-      strips = s.strips ∙ ap (λ lists. number_or 1 (first_of lists)) (none keys.Strips refl);
+      seed = s.seed ∙ ap (λ f. unwrap_or f.seed 0) h.same ∙ number-without 0 (numbers_of keys.Seed statements);
+      strips = s.strips ∙ ap (λ f. unwrap_or f.strips 1) h.same ∙ number-without 1 (numbers_of keys.Strips statements);
       plan = s.plan ∙ ap Listed (ap (λ f. f.marks) h.same) ∙ ap (λ lists. plan_from lists (numbers_of keys.Mark statements)) (none keys.Marks refl);
     }
 

@@ -1,6 +1,6 @@
 -- What the statements so far give, and how a line is read against them.
 use Rattle.std.specs.Prelude.{◌≡◌, ℕ, ◌≤◌, nat_le, ◌&&◌, not, Bool, true, false, ℤ, pos, int_le, Option, Some, None, is_some, IsTrue, List, [], ◌∷◌, ◌++◌, length, map, if◌then◌else◌}
-use Rattle.std.specs.Option.{ForSome}
+use Rattle.std.specs.Option.{ForSome, unwrap_or}
 use Rattle.std.specs.List.{list_all}
 use Rattle.plan_model.specs.declared.geometry.Point.{Point}
 use Rattle.plan_model.specs.declared.geometry.Goal.{Goal}
@@ -20,6 +20,8 @@ pub record Fields : Type 0 where
   pub start : Option Point
   pub goal : Option Goal
   pub step : Option ℕ
+  pub seed : Option ℕ
+  pub strips : Option ℕ
   pub marks : List Point
 
 -- the field that the first of these lines gives
@@ -27,11 +29,14 @@ abbrev pub first_with : {A : Type 0} → (List ℤ → A) → List (List ℤ) �
 first_with f [] = None
 first_with f (zs ∷ rest) = Some (f zs)
 
+-- the fields that lines behind the version give, by the numbers of each key's lines
+abbrev pub fields_by : (Key → List (List ℤ)) → Fields
+fields_by numbers =
+    record { version_read = true; room = first_with point_from (numbers keys.Room); start = first_with point_from (numbers keys.Start); goal = first_with goal_from (numbers keys.Goal); step = first_with (number_or 0) (numbers keys.Step); seed = first_with (number_or 0) (numbers keys.Seed); strips = first_with (number_or 1) (numbers keys.Strips); marks = map point_from (numbers keys.Mark) }
+
 abbrev pub fields_of : List (List (List ℕ)) → Fields
-fields_of [] =
-    record { version_read = false; room = None; start = None; goal = None; step = None; marks = [] }
-fields_of (version ∷ statements) =
-    record { version_read = true; room = first_with point_from (numbers_of keys.Room statements); start = first_with point_from (numbers_of keys.Start statements); goal = first_with goal_from (numbers_of keys.Goal statements); step = first_with (number_or 0) (numbers_of keys.Step statements); marks = map point_from (numbers_of keys.Mark statements) }
+fields_of [] = record (fields_by (λ key. [])) { version_read = false }
+fields_of (version ∷ statements) = fields_by (λ key. numbers_of key statements)
 
 -- the key may stand once, and stands already
 abbrev pub is_given : Fields → Key → Bool
@@ -39,6 +44,8 @@ is_given fields keys.Room = is_some fields.room
 is_given fields keys.Start = is_some fields.start
 is_given fields keys.Goal = is_some fields.goal
 is_given fields keys.Step = is_some fields.step
+is_given fields keys.Seed = is_some fields.seed
+is_given fields keys.Strips = is_some fields.strips
 is_given fields key = false
 
 -- as many marks as there may be stand already
@@ -79,6 +86,8 @@ taken fields keys.Room zs = record fields { room = Some (point_from zs) }
 taken fields keys.Start zs = record fields { start = Some (point_from zs) }
 taken fields keys.Goal zs = record fields { goal = Some (goal_from zs) }
 taken fields keys.Step zs = record fields { step = Some (number_or 0 zs) }
+taken fields keys.Seed zs = record fields { seed = Some (number_or 0 zs) }
+taken fields keys.Strips zs = record fields { strips = Some (number_or 1 zs) }
 taken fields keys.Mark zs = record fields { marks = fields.marks ++ point_from zs ∷ [] }
 taken fields key zs = fields
 
@@ -101,16 +110,17 @@ abbrev pub missing_in : Fields → Option Kind
 missing_in fields =
     if fields.version_read then (if (is_some fields.room && is_some fields.start) && (is_some fields.goal && is_some fields.step) then None else Some kinds.Missing) else Some kinds.Version
 
--- each field is within its range
-pub record IsWithin (room start : Option Point) (goal : Option Goal) (step : Option ℕ) (marks : List Point) : Type 0 where
+-- each field is within its range (a seed may be any number of its type)
+pub record IsWithin (room start : Option Point) (goal : Option Goal) (step strips : Option ℕ) (marks : List Point) : Type 0 where
   pub room_within : ForSome room (IsBetween 1 65535)
   pub start_within : ForSome start (IsBetween 0 65535)
   pub goal_within : ForSome goal IsGoal
   pub step_within : ForSome step (λ n. (4 ≤ n) × (n ≤ 4096))
+  pub strips_within : ForSome strips (λ n. (1 ≤ n) × (n ≤ 64))
   pub few_marks : length marks ≤ 262143
   pub marks_within : IsTrue (list_all is_mark marks)
 
--- the scene has these fields, and the rest as it is without a line
+-- the scene has these fields, and what no line gives is as it is without one
 pub record IsSceneOf (fields : Fields) (scene : Scene) : Type 0 where
   pub version_read : fields.version_read ≡ true
   pub version : scene.version ≡ 1
@@ -121,8 +131,8 @@ pub record IsSceneOf (fields : Fields) (scene : Scene) : Type 0 where
   pub goal : fields.goal ≡ Some scene.goal
   pub step : fields.step ≡ Some scene.step
   pub gamma : scene.gamma ≡ 0
-  pub seed : scene.seed ≡ 0
-  pub strips : scene.strips ≡ 1
+  pub seed : scene.seed ≡ unwrap_or fields.seed 0
+  pub strips : scene.strips ≡ unwrap_or fields.strips 1
   pub plan : scene.plan ≡ Listed fields.marks
 
 -- each number is between the least and the greatest

@@ -1,9 +1,9 @@
 //! The fields that the words behind a key give.
 
-ghost use Rattle.std.specs.Prelude.{◌≡◌, ◌≤◌, ◌<◌, ◌∷◌, pos, false, length, map, is_some, IfSome, IfNone, IsTrue};
+ghost use Rattle.std.specs.Prelude.{◌≡◌, ◌≤◌, ◌<◌, [], ◌∷◌, pos, false, length, map, is_some, IfSome, IfNone, IsTrue};
 ghost use Rattle.std.specs.List.{list_all};
 ghost use Rattle.plan_model.specs.Limits.{IsBetween, IsGoal};
-ghost use Rattle.plan_model.specs.SceneGrammar.{words_of, is_number, value_of, point_from, goal_from, number_or, is_in_range};
+ghost use Rattle.plan_model.specs.SceneGrammar.{words_of, is_number, value_of, point_from, goal_from, is_in_range};
 ghost use Rattle.plan_model.specs.declared.text_terms.Key.TheVariants as keys;
 ghost use Rattle.scene_text.specs.Drafts.{are_within};
 
@@ -68,14 +68,14 @@ pub(crate) fn read_goal(words: &[u8]) -> Option<Goal>
     })
 }
 
-/// The step that one number gives, where it is between 4 and 4,096.
-pub(crate) fn read_step(words: &[u8]) -> Option<u32>
+/// The number that stands alone, where it is in the range.
+pub(crate) fn read_amount(words: &[u8], least: u64, most: u64) -> Option<u64>
     requires numbers { IsTrue (list_all is_number (words_of words.now)) }
     requires one { length (words_of words.now) ≡ 1 }
-    ensures value { IfSome result (λ step. step ≡ number_or 0 (map value_of (words_of words.now))) }
-    ensures within { IfSome result (λ step. (4 ≤ step) × (step ≤ 4096)) }
-    ensures inside { is_some result ≡ are_within 4 4096 (map value_of (words_of words.now)) }
+    ensures value { IfSome result (λ amount. map value_of (words_of words.now) ≡ pos amount ∷ []) }
+    ensures within { IfSome result (λ amount. (least ≤ amount) × (amount ≤ most)) }
+    ensures inside { is_some result ≡ are_within least most (map value_of (words_of words.now)) }
 {
-    let (step, _) = read_number(words, 4, 4_096)?;
-    Some(step as u32)
+    let (amount, _) = read_number(words, least, most)?;
+    Some(amount)
 }

@@ -49,7 +49,7 @@ pub(crate) fn is_supported(key: Key) -> bool
 {
     matches!(
         key,
-        Key::Room | Key::Start | Key::Goal | Key::Step | Key::Mark
+        Key::Room | Key::Start | Key::Goal | Key::Step | Key::Seed | Key::Strips | Key::Mark
     )
 }
 

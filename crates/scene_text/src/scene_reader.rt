@@ -49,6 +49,9 @@ mod tests {
     const SMALL: &str =
         "# a room\nprrt 1\n\nroom 10 12\nstart 5 6\ngoal 7 8 9 10\nmark 1 2\nstep 4\nmark 3 0";
 
+    const SEEDED: &str =
+        "prrt 1\nseed 18446744073709551615\nroom 9 9\nstart 1 1\ngoal 2 2 2 2\nstep 4\nstrips 64\n";
+
     #[test]
     fn reads_the_fields(rt: HostRuntime) {
         let scene = read_scene(rt.alloc(), SMALL.as_bytes()).unwrap_or_else(|_| panic!(rt;
@@ -74,6 +77,17 @@ mod tests {
     }
 
     #[test]
+    fn reads_seed_and_strips(rt: HostRuntime) {
+        for (text, seed, strips) in [(SMALL, 0, 1), (SEEDED, u64::MAX, 64)] {
+            let scene = read_scene(rt.alloc(), text.as_bytes()).unwrap_or_else(|_| panic!(rt;
+                "not read"
+            ));
+            assert_eq!(rt; scene.seed, seed);
+            assert_eq!(rt; scene.strips, strips);
+        }
+    }
+
+    #[test]
     fn refuses_the_first_fault(rt: HostRuntime) {
         for (text, line, kind) in [
             ("prrt 1\nroom 10 10\nstart 5 5\nstep 4\n", 5, Kind::Missing),
@@ -83,6 +97,10 @@ mod tests {
             ("prrt 1\nstep 04\n", 2, Kind::Number),
             ("prrt 1\nstep 99999999999999999999999\n", 2, Kind::Range),
             ("prrt 1\nstart -1 0\n", 2, Kind::Range),
+            ("prrt 1\nseed 18446744073709551616\n", 2, Kind::Range),
+            ("prrt 1\nseed 1\nseed 1\n", 3, Kind::Repeat),
+            ("prrt 1\nstrips 0\n", 2, Kind::Range),
+            ("prrt 1\nstrips 65\n", 2, Kind::Range),
             ("prrt 1\ngamma 5\n", 2, Kind::Unbuilt),
         ] {
             match read_scene(rt.alloc(), text.as_bytes()) {

@@ -6,7 +6,7 @@ ghost use Rattle.plan_model.specs.SceneGrammar.{words_of, value_of, is_version, 
 ghost use Rattle.scene_text.specs.Drafts.{fields_of, fault_at, fault_in, fault_of_words, is_given, is_full, IsFormed, taken, after, after_line, missing_in, IsSceneOf};
 ghost use Rattle.scene_text.specs.Refusals.{IsLineRefusal};
 
-use crate::field_words::{read_goal, read_point, read_step};
+use crate::field_words::{read_amount, read_goal, read_point};
 use crate::key_words::{fits_words, is_supported, is_text, key_of};
 use crate::line_words::{are_numbers, count_words, next_word};
 use crate::refusals::LineRefusal;
@@ -22,6 +22,8 @@ pub(crate) struct Draft {
     start: Option<Point>,
     goal: Option<Goal>,
     step: Option<u32>,
+    seed: Option<u64>,
+    strips: Option<u32>,
     marks: Vec<Point>,
 }
 
@@ -30,9 +32,9 @@ impl Model for Draft {
 
     ghost Value = { Fields };
 
-    ghost view = { λ d. record { version_read = d.version_read; room = d.room; start = d.start; goal = d.goal; step = d.step; marks = d.marks.items } };
+    ghost view = { λ d. record { version_read = d.version_read; room = d.room; start = d.start; goal = d.goal; step = d.step; seed = d.seed; strips = d.strips; marks = d.marks.items } };
 
-    ghost invariant = { λ d. IsWithin d.room d.start d.goal d.step d.marks.items };
+    ghost invariant = { λ d. IsWithin d.room d.start d.goal d.step d.strips d.marks.items };
 }
 
 // Whether a statement is the version, by its first word and the words behind it.
@@ -59,6 +61,8 @@ impl Draft {
             start: None,
             goal: None,
             step: None,
+            seed: None,
+            strips: None,
             marks: Vec::new(alloc),
         }
     }
@@ -72,6 +76,8 @@ impl Draft {
             Key::Start => self.start.is_some(),
             Key::Goal => self.goal.is_some(),
             Key::Step => self.step.is_some(),
+            Key::Seed => self.seed.is_some(),
+            Key::Strips => self.strips.is_some(),
             _ => false,
         }
     }
@@ -117,7 +123,9 @@ impl Draft {
             Key::Room => self.room = Some(read_point(words, 1).ok_or(Kind::Range)?),
             Key::Start => self.start = Some(read_point(words, 0).ok_or(Kind::Range)?),
             Key::Goal => self.goal = Some(read_goal(words).ok_or(Kind::Range)?),
-            Key::Step => self.step = Some(read_step(words).ok_or(Kind::Range)?),
+            Key::Step => self.step = Some(read_amount(words, 4, 4_096).ok_or(Kind::Range)? as u32),
+            Key::Seed => self.seed = Some(read_amount(words, 0, u64::MAX).ok_or(Kind::Range)?),
+            Key::Strips => self.strips = Some(read_amount(words, 1, 64).ok_or(Kind::Range)? as u32),
             Key::Mark => self.marks.push(read_point(words, 0).ok_or(Kind::Range)?)?,
             _ => unreachable!(),
         }
@@ -183,8 +191,8 @@ impl Draft {
             goal,
             step,
             gamma: 0,
-            seed: 0,
-            strips: 1,
+            seed: self.seed.unwrap_or(0),
+            strips: self.strips.unwrap_or(1),
             plan: Marks::Listed(Points::from_vec(self.marks)),
         })
     }
