@@ -70,6 +70,12 @@ fn plans_scenes(rt: HostRuntime) -> Result<(), Fail> {
             "path 2 cost 12800\n0 0\n30 40\nnodes 2 placed 1 same 1 blocked 0\n",
         ),
         (
+            "the example of the scene format",
+            "# A robot that starts in the lower left corner.\nprrt 1\nroom 100 100\nstart 0 0\ngoal 30 40 35 45\nstep 25\nmark 15 20\nmark 30 40\n",
+            0,
+            "path 3 cost 12800\n0 0\n15 20\n30 40\nnodes 3 placed 2 same 0 blocked 0\n",
+        ),
+        (
             "a mark outside the room",
             "prrt 1\nroom 10 10\nstart 5 5\ngoal 0 0 1 1\nstep 100\nmark 20 20\n",
             1,
@@ -172,6 +178,21 @@ fn refuses_texts_with_line_and_kind(rt: HostRuntime) -> Result<(), Fail> {
             "line 2 kind 3 Words\n",
         ),
         (
+            "a start below 0 in a room",
+            "prrt 1\nroom 10 10\nstart -1 5\n",
+            "line 3 kind 5 Range\n",
+        ),
+        (
+            "a start with a leading zero",
+            "prrt 1\nroom 10 10\nstart 05 5\n",
+            "line 3 kind 4 Number\n",
+        ),
+        (
+            "a start with one number",
+            "prrt 1\nroom 10 10\nstart 5\n",
+            "line 3 kind 3 Words\n",
+        ),
+        (
             "a carriage return",
             "prrt 1\r\nroom 5 5\r\n",
             "line 1 kind 1 Version\n",
@@ -195,6 +216,13 @@ fn shows_a_scattered_scene(rt: HostRuntime) -> Result<(), Fail> {
         "prrt 1\nroom 9 9\nbody 0 0\nstart 0 0\ngoal 1 1 2 2\nstep 4\ngamma 0\nseed 0\nstrips 1\n"
     );
     assert_eq!(rt; status, 0);
+    let text =
+        "prrt 1\nseed 7\nmark 3 4\nstrips 5\nroom 9 9\nstart 0 0\ngoal 1 1 2 2\nstep 4\nmark 1 2\n";
+    let (_, written) = plan_text(rt.alloc(), &["show"], text)?;
+    assert_eq!(rt;
+        written.as_str(),
+        "prrt 1\nroom 9 9\nbody 0 0\nstart 0 0\ngoal 1 1 2 2\nstep 4\ngamma 0\nseed 7\nstrips 5\nmark 3 4\nmark 1 2\n"
+    );
     Ok(())
 }
 
