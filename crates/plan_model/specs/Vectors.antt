@@ -10,3 +10,8 @@ pub mod Polygons
 pub mod Reports
 pub mod Words
 pub mod Texts
+pub mod Limits
+pub mod Ranges
+pub mod Trees
+pub mod Rooms
+pub mod Streams

@@ -2,13 +2,18 @@
 
 ghost use Rattle.plan_model.specs.Vectors.Costs.{CostVectors};
 ghost use Rattle.plan_model.specs.Vectors.Drawn.{DrawnVectors};
+ghost use Rattle.plan_model.specs.Vectors.Limits.{LimitVectors};
 ghost use Rattle.plan_model.specs.Vectors.Meetings.{MeetingVectors};
 ghost use Rattle.plan_model.specs.Vectors.Polygons.{ConvexityVectors};
 ghost use Rattle.plan_model.specs.Vectors.Radii.{RadiusVectors};
+ghost use Rattle.plan_model.specs.Vectors.Ranges.{RangeVectors};
 ghost use Rattle.plan_model.specs.Vectors.Reports.{ReportVectors};
+ghost use Rattle.plan_model.specs.Vectors.Rooms.{RoomVectors};
 ghost use Rattle.plan_model.specs.Vectors.Steps.{SteeringVectors};
+ghost use Rattle.plan_model.specs.Vectors.Streams.{StreamVectors};
 ghost use Rattle.plan_model.specs.Vectors.Strips.{StripVectors};
 ghost use Rattle.plan_model.specs.Vectors.Texts.{RefusalVectors, SpellingVector};
+ghost use Rattle.plan_model.specs.Vectors.Trees.{TreeVectors};
 ghost use Rattle.plan_model.specs.Vectors.Words.{LineVectors, NumberVectors};
 
 /// What edges cost.
@@ -16,12 +21,12 @@ pub fn costs()
     ensures { CostVectors }
 {}
 
-/// Where a step of 50 leads.
+/// Where a step leads.
 pub fn steps()
     ensures { SteeringVectors }
 {}
 
-/// The radii of the first ten classes.
+/// Classes, and the radii of the first ten.
 pub fn radii()
     ensures { RadiusVectors }
 {}
@@ -31,7 +36,7 @@ pub fn drawn_words()
     ensures { DrawnVectors }
 {}
 
-/// Three strips of a hundred columns, and their quotas.
+/// Three strips and their quotas, and the columns in which a body fits.
 pub fn strips()
     ensures { StripVectors }
 {}
@@ -46,7 +51,7 @@ pub fn polygons()
     ensures { ConvexityVectors }
 {}
 
-/// The short report of two nodes.
+/// Best nodes and reports of small trees.
 pub fn reports()
     ensures { ReportVectors }
 {}
@@ -69,4 +74,29 @@ pub fn refusals()
 /// A text that spells a scene.
 pub fn spelling()
     ensures { SpellingVector }
+{}
+
+/// Lines at the limits of the grammar.
+pub fn limits()
+    ensures { LimitVectors }
+{}
+
+/// Bodies, obstacles and plans at the limits of a scene.
+pub fn ranges()
+    ensures { RangeVectors }
+{}
+
+/// Chains, sums and near nodes of small trees.
+pub fn trees()
+    ensures { TreeVectors }
+{}
+
+/// A body at a wall, and points of a segment.
+pub fn rooms()
+    ensures { RoomVectors }
+{}
+
+/// Counts of faults, and calls on streams in memory.
+pub fn streams()
+    ensures { StreamVectors }
 {}

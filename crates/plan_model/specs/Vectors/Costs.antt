@@ -13,3 +13,7 @@ pub record CostVectors : Type 0 where
   pub upwards : cost_of (at 0 50) (at 40 79) ≡ 12649
   pub across : cost_of (at 20 20) (at 75 65) ≡ 18193
   pub far : cost_of (at 0 0) (at 88 43) ≡ 25074
+  pub backwards : cost_of (at 1 1) (at 0 0) ≡ 363
+  -- the longest step, and the diagonal of the largest room
+  pub longest_step : cost_of (at 0 0) (at 4096 0) ≡ 1048576
+  pub largest_room : cost_of (at 0 0) (at 65535 65535) ≡ 23726205

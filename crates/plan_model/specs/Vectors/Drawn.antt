@@ -1,7 +1,7 @@
 -- Words of SplitMix64, and a mark that they draw.
 use Rattle.std.specs.Prelude.{◌≡◌, [], ◌∷◌}
 use Rattle.plan_model.specs.declared.scenes.Scene.{Scene}
-use Rattle.plan_model.specs.MarkPoints.{first_word, second_word, drawn_mark}
+use Rattle.plan_model.specs.MarkPoints.{picked, first_word, second_word, drawn_mark}
 use Rattle.plan_model.specs.Vectors.Shapes.{at, corner}
 
 pub record DrawnVectors : Type 0 where
@@ -9,3 +9,9 @@ pub record DrawnVectors : Type 0 where
   pub second : second_word 0 ≡ 0x6E789E6AA1B965F4
   -- in a room of 100 columns and 100 rows, a point body, one strip and the seed 0
   pub mark : (scene : Scene) → scene.room ≡ at 99 99 → scene.body ≡ corner 0 0 ∷ [] → scene.strips ≡ 1 → scene.seed ≡ 0 → drawn_mark scene 0 ≡ at 88 43
+  -- the same state again: seed and mark are added modulo 2 ^ 64
+  pub wrapped : (scene : Scene) → scene.room ≡ at 99 99 → scene.body ≡ corner 0 0 ∷ [] → scene.strips ≡ 1 → scene.seed ≡ 18446744073709551615 → drawn_mark scene 1 ≡ at 88 43
+  -- the least and the greatest word pick the first and the last of ten columns; of no column the first is picked
+  pub least_word : picked (record { first = 5; count = 10 }) 0 ≡ 5
+  pub greatest_word : picked (record { first = 5; count = 10 }) 18446744073709551615 ≡ 14
+  pub no_column : picked (record { first = 5; count = 0 }) 18446744073709551615 ≡ 5

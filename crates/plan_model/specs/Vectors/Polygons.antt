@@ -11,3 +11,7 @@ pub record ConvexityVectors : Type 0 where
   pub dented : is_strictly_convex (corner 0 0 ∷ corner 9 0 ∷ corner 3 3 ∷ corner 0 9 ∷ []) ≡ false
   pub twice_round : is_strictly_convex (corner 0 0 ∷ corner 9 0 ∷ corner 0 9 ∷ corner 0 0 ∷ corner 9 0 ∷ corner 0 9 ∷ []) ≡ false
   pub too_few : is_strictly_convex (corner 0 0 ∷ corner 9 0 ∷ []) ≡ false
+  pub no_corner : is_strictly_convex [] ≡ false
+  pub one_corner : is_strictly_convex (corner 0 0 ∷ []) ≡ false
+  pub doubled : is_strictly_convex (corner 0 0 ∷ corner 9 0 ∷ corner 9 9 ∷ corner 9 9 ∷ []) ≡ false
+  pub star : is_strictly_convex (corner 0 6 ∷ corner 10 6 ∷ corner 2 0 ∷ corner 5 9 ∷ corner 8 0 ∷ []) ≡ false

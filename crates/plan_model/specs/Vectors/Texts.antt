@@ -4,6 +4,7 @@ use Rattle.plan_model.specs.declared.scenes.Scene.{Scene}
 use Rattle.plan_model.specs.declared.scenes.Marks.TheVariants.{Listed}
 use Rattle.plan_model.specs.declared.text_terms.Kind.TheVariants as kinds
 use Rattle.plan_model.specs.SceneGrammar.{all_keys, supported, Refused, Spells}
+use Rattle.plan_model.specs.CanonicalText.{canonical_text}
 use Rattle.plan_model.specs.Vectors.Shapes.{at, corner}
 
 pub record RefusalVectors : Type 0 where
@@ -20,6 +21,12 @@ pub record RefusalVectors : Type 0 where
   pub clockwise : Refused all_keys (codes "prrt 1\nobstacle 0 0 0 9 9 9\n") 2 kinds.Corners
   pub drawn_and_listed : Refused all_keys (codes "prrt 1\nmarks 5\nmark 1 1\n") 3 kinds.Repeat
   pub missing : Refused supported (codes "prrt 1\nroom 10 10\nstart 5 5\nstep 4\n") 5 kinds.Missing
+  pub comments_alone : Refused supported (codes "# a\n\n  # b") 4 kinds.Version
+  pub third_word : Refused supported (codes "prrt 1 1\n") 1 kinds.Version
+  pub version_again : Refused supported (codes "prrt 1\nprrt 1\n") 2 kinds.Key
+  pub version_alone : Refused supported (codes "prrt 1") 2 kinds.Missing
+  pub listed_and_drawn : Refused all_keys (codes "prrt 1\nmark 1 1\nmarks 5\n") 3 kinds.Repeat
+  pub first_of_two_faults : Refused all_keys (codes "prrt 1\nroom 0 1\nstar\n") 2 kinds.Range
 
 abbrev pub sound_text : List ℕ
 sound_text =
@@ -37,3 +44,7 @@ pub record SpellingVector : Type 0 where
   pub step : scene.step ≡ 4
   pub gamma : scene.gamma ≡ 0
   pub plan : scene.plan ≡ Listed (at 7 7 ∷ [])
+  pub seed : scene.seed ≡ 0
+  pub strips : scene.strips ≡ 1
+  -- its canonical text, with a line for each field, whether the text has one or not
+  pub canonical : canonical_text scene ≡ codes "prrt 1\nroom 10 10\nbody 0 0\nstart 5 5\ngoal 8 8 9 9\nstep 4\ngamma 0\nseed 0\nstrips 1\nmark 7 7\n"

@@ -1,6 +1,6 @@
 -- Lines, words and numbers of the grammar.
 use Rattle.std.specs.Prelude.{◌≡◌, true, false, pos, negsuc, [], ◌∷◌, codes}
-use Rattle.plan_model.specs.SceneGrammar.{lines_of, words_of, is_number, value_of}
+use Rattle.plan_model.specs.SceneGrammar.{lines_of, words_of, is_skipped, is_number, value_of}
 
 pub record LineVectors : Type 0 where
   pub unended : lines_of (codes "one\ntwo") ≡ codes "one" ∷ codes "two" ∷ []
@@ -10,6 +10,10 @@ pub record LineVectors : Type 0 where
   pub spaces : words_of (codes "  step   50 ") ≡ codes "step" ∷ codes "50" ∷ []
   pub tab : words_of (codes "step\t50  x") ≡ codes "step\t50" ∷ codes "x" ∷ []
   pub blank : words_of (codes "   ") ≡ []
+  pub two_empty_lines : lines_of (codes "\n\n") ≡ [] ∷ [] ∷ []
+  pub no_words : is_skipped (words_of []) ≡ true
+  pub comment : is_skipped (words_of (codes "  #room 1 1")) ≡ true
+  pub mark_inside : is_skipped (words_of (codes "room# 1 1")) ≡ false
 
 pub record NumberVectors : Type 0 where
   pub zero : is_number (codes "0") ≡ true
@@ -23,3 +27,11 @@ pub record NumberVectors : Type 0 where
   pub no_byte : is_number [] ≡ false
   pub twelve : value_of (codes "12") ≡ pos 12
   pub minus_twelve : value_of (codes "-12") ≡ negsuc 11
+  pub two_zeros : is_number (codes "00") ≡ false
+  pub ten : is_number (codes "10") ≡ true
+  pub minus_twice : is_number (codes "--1") ≡ false
+  pub minus_behind : is_number (codes "1-") ≡ false
+  pub minus_leading_zero : is_number (codes "-01") ≡ false
+  pub nought : value_of (codes "0") ≡ pos 0
+  -- one more than the last value of a u64
+  pub long : value_of (codes "18446744073709551616") ≡ pos 18446744073709551616

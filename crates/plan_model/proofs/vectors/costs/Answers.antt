@@ -13,4 +13,7 @@ returns c = record {
   upwards = root_above-from_squares _ 12649 (omega arith) (omega arith);
   across = root_above-from_squares _ 18193 (omega arith) (omega arith);
   far = root_above-from_squares _ 25074 (omega arith) (omega arith);
+  backwards = root_above-from_squares _ 363 (omega arith) (omega arith);
+  longest_step = root_above-from_squares _ 1048576 (omega arith) (omega arith);
+  largest_room = root_above-from_squares _ 23726205 (omega arith) (omega arith);
 }

@@ -6,4 +6,8 @@ returns c = record {
   first = refl;
   second = refl;
   mark = λ scene room body strips seed. rw (room, body, strips, seed) refl;
+  wrapped = λ scene room body strips seed. rw (room, body, strips, seed) refl;
+  least_word = refl;
+  greatest_word = refl;
+  no_column = refl;
 }

@@ -21,4 +21,10 @@ returns c = record {
   clockwise = refused_at_line all_keys (codes "prrt 1\nobstacle 0 0 0 9 9 9\n") 1 kinds.Corners refl (omega arith) refl;
   drawn_and_listed = refused_at_line all_keys (codes "prrt 1\nmarks 5\nmark 1 1\n") 2 kinds.Repeat refl (omega arith) refl;
   missing = (4, refl, IsSoundBelow-from_test supported (lines_of (codes "prrt 1\nroom 10 10\nstart 5 5\nstep 4\n")) 4 refl, inr (refl, refl));
+  comments_alone = (3, refl, IsSoundBelow-from_test supported (lines_of (codes "# a\n\n  # b")) 3 refl, inr (refl, refl));
+  third_word = refused_at_line supported (codes "prrt 1 1\n") 0 kinds.Version refl (omega arith) refl;
+  version_again = refused_at_line supported (codes "prrt 1\nprrt 1\n") 1 kinds.Key refl (omega arith) refl;
+  version_alone = (1, refl, IsSoundBelow-from_test supported (lines_of (codes "prrt 1")) 1 refl, inr (refl, refl));
+  listed_and_drawn = refused_at_line all_keys (codes "prrt 1\nmark 1 1\nmarks 5\n") 2 kinds.Repeat refl (omega arith) refl;
+  first_of_two_faults = refused_at_line all_keys (codes "prrt 1\nroom 0 1\nstar\n") 1 kinds.Range refl (omega arith) refl;
 }

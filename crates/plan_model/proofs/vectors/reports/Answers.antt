@@ -12,4 +12,13 @@ unfolding digits
 returns c = record {
   best = refl;
   report = rw edge refl;
+  low_corner = refl;
+  high_corner = refl;
+  left_of_it = refl;
+  above_it = refl;
+  tied = rw edge refl;
+  none_reached = refl;
+  no_path = refl;
+  start_in_goal = refl;
+  in_full = rw edge refl;
 }

@@ -1,4 +1,5 @@
 use Rattle.std.proofs.Common.{[], ◌∷◌, arith, refl}
+use Rattle.std.specs.Fmt.{digits}
 use Rattle.plan_model.specs.declared.scenes.Scene.{Scene}
 use Rattle.plan_model.specs.declared.scenes.Marks.TheVariants.{Listed}
 use Rattle.plan_model.specs.SceneGrammar.{supported, lines_of}
@@ -35,7 +36,7 @@ the_scene = record {
 }
 
 pub returns : goal.returns
-unfolding the_scene are_sound
+unfolding the_scene are_sound digits
 returns c = record {
   scene = the_scene;
   spelled = record {
@@ -63,4 +64,7 @@ returns c = record {
   step = refl;
   gamma = refl;
   plan = refl;
+  seed = refl;
+  strips = refl;
+  canonical = refl;
 }

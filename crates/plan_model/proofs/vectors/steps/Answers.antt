@@ -14,10 +14,25 @@ rounded = root_above-from_squares 9800 99 (omega arith) (omega arith)
 backwards : root_above 20000 ≡ 142
 backwards = root_above-from_squares 20000 142 (omega arith) (omega arith)
 
+just_beyond : root_above 2581 ≡ 51
+just_beyond = root_above-from_squares 2581 51 (omega arith) (omega arith)
+
+shortest : root_above 10001 ≡ 101
+shortest = root_above-from_squares 10001 101 (omega arith) (omega arith)
+
+longest : root_above 8589672450 ≡ 92681
+longest = root_above-from_squares 8589672450 92681 (omega arith) (omega arith)
+
 pub returns : goal.returns
 returns c = record {
   reached = refl;
   halfway = ap (λ len. at (advanced 0 60 50 len) (advanced 0 80 50 len)) halfway;
   rounded = ap (λ len. at (advanced 0 70 50 len) (advanced 0 70 50 len)) rounded;
   backwards = ap (λ len. at (advanced 100 0 50 len) (advanced 100 0 50 len)) backwards;
+  stays = refl;
+  just_beyond = ap (λ len. at (advanced 0 30 50 len) (advanced 0 41 50 len)) just_beyond;
+  along_a_row = ap (λ len. at (advanced 100 0 50 len) (advanced 7 7 50 len)) halfway;
+  up_and_left = ap (λ len. at (advanced 100 0 50 len) (advanced 0 100 50 len)) backwards;
+  shortest_step = ap (λ len. at (advanced 0 1 4 len) (advanced 0 100 4 len)) shortest;
+  longest_step = ap (λ len. at (advanced 0 65535 4096 len) (advanced 0 65535 4096 len)) longest;
 }

@@ -1,0 +1,65 @@
+-- Lines behind the version at the limits of the grammar, and just beyond them.
+use Rattle.std.specs.Prelude.{◌≡◌, ℕ, true, false, Option, Some, None, List, [], ◌∷◌, codes, replicate}
+use Rattle.plan_model.specs.declared.text_terms.Key.TheVariants as keys
+use Rattle.plan_model.specs.declared.text_terms.Kind.{Kind}
+use Rattle.plan_model.specs.declared.text_terms.Kind.TheVariants as kinds
+use Rattle.plan_model.specs.SceneGrammar.{all_keys, words_of, fault_of_statement, is_too_many}
+
+-- the fault of a line right behind the version, where every key is supported
+abbrev pub fault_alone : List ℕ → Option Kind
+fault_alone line = fault_of_statement all_keys [] (words_of line)
+
+pub record LimitVectors : Type 0 where
+  -- the least and the greatest numbers of each key, and the numbers just beyond
+  pub room_least : fault_alone (codes "room 1 1") ≡ None
+  pub room_most : fault_alone (codes "room 65535 65535") ≡ None
+  pub room_none : fault_alone (codes "room 1 0") ≡ Some kinds.Range
+  pub room_beyond : fault_alone (codes "room 65536 1") ≡ Some kinds.Range
+  pub body_corner : fault_alone (codes "body -4096 4096") ≡ None
+  pub body_below : fault_alone (codes "body -4097 0") ≡ Some kinds.Range
+  pub body_beyond : fault_alone (codes "body 0 4097") ≡ Some kinds.Range
+  pub obstacle_widest : fault_alone (codes "obstacle -131072 0 131071 0 0 131071") ≡ None
+  pub obstacle_below : fault_alone (codes "obstacle -131073 0 9 0 0 9") ≡ Some kinds.Range
+  pub obstacle_beyond : fault_alone (codes "obstacle 0 0 131072 0 0 9") ≡ Some kinds.Range
+  pub start_least : fault_alone (codes "start 0 0") ≡ None
+  pub start_most : fault_alone (codes "start 65535 65535") ≡ None
+  pub start_below : fault_alone (codes "start -1 0") ≡ Some kinds.Range
+  pub start_beyond : fault_alone (codes "start 0 65536") ≡ Some kinds.Range
+  pub goal_point : fault_alone (codes "goal 5 5 5 5") ≡ None
+  pub goal_reversed : fault_alone (codes "goal 5 5 4 5") ≡ Some kinds.Range
+  pub goal_upside_down : fault_alone (codes "goal 5 5 5 4") ≡ Some kinds.Range
+  pub step_least : fault_alone (codes "step 4") ≡ None
+  pub step_most : fault_alone (codes "step 4096") ≡ None
+  pub step_below : fault_alone (codes "step 3") ≡ Some kinds.Range
+  pub step_beyond : fault_alone (codes "step 4097") ≡ Some kinds.Range
+  pub gamma_most : fault_alone (codes "gamma 16777215") ≡ None
+  pub gamma_beyond : fault_alone (codes "gamma 16777216") ≡ Some kinds.Range
+  pub seed_most : fault_alone (codes "seed 18446744073709551615") ≡ None
+  pub seed_beyond : fault_alone (codes "seed 18446744073709551616") ≡ Some kinds.Range
+  pub strips_least : fault_alone (codes "strips 1") ≡ None
+  pub strips_most : fault_alone (codes "strips 64") ≡ None
+  pub strips_none : fault_alone (codes "strips 0") ≡ Some kinds.Range
+  pub strips_beyond : fault_alone (codes "strips 65") ≡ Some kinds.Range
+  pub marks_none : fault_alone (codes "marks 0") ≡ None
+  pub marks_most : fault_alone (codes "marks 262143") ≡ None
+  pub marks_beyond : fault_alone (codes "marks 262144") ≡ Some kinds.Range
+  pub mark_most : fault_alone (codes "mark 65535 65535") ≡ None
+  pub mark_beyond : fault_alone (codes "mark 65536 0") ≡ Some kinds.Range
+  -- how many words: those of a body are of one corner, or of three at least
+  pub key_alone : fault_alone (codes "step") ≡ Some kinds.Words
+  pub two_corners : fault_alone (codes "body 0 0 1 0") ≡ Some kinds.Words
+  pub half_a_corner : fault_alone (codes "body 0 0 4 0 4 4 0") ≡ Some kinds.Words
+  pub obstacle_of_a_point : fault_alone (codes "obstacle 0 0") ≡ Some kinds.Words
+  -- the first check that fails is told
+  pub words_before_number : fault_alone (codes "step x 4") ≡ Some kinds.Words
+  pub number_before_range : fault_alone (codes "start -1 x") ≡ Some kinds.Number
+  pub range_before_corners : fault_alone (codes "obstacle 0 0 0 9 9 131072") ≡ Some kinds.Range
+  pub long_number : fault_alone (codes "step 99999999999999999999999") ≡ Some kinds.Range
+  -- 17 corners of a body, and 65 of an obstacle; that the words are no numbers is not told
+  pub corners_of_a_body : fault_alone (codes "body x x x x x x x x x x x x x x x x x x x x x x x x x x x x x x x x x x") ≡ Some kinds.Many
+  pub fewer_corners_of_a_body : fault_alone (codes "body x x x x x x x x x x x x x x x x x x x x x x x x x x x x x x x x") ≡ Some kinds.Number
+  pub corners_of_an_obstacle : fault_alone (codes "obstacle x x x x x x x x x x x x x x x x x x x x x x x x x x x x x x x x x x x x x x x x x x x x x x x x x x x x x x x x x x x x x x x x x x x x x x x x x x x x x x x x x x x x x x x x x x x x x x x x x x x x x x x x x x x x x x x x x x x x x x x x x x x x x x x x x x") ≡ Some kinds.Many
+  pub fewer_corners_of_an_obstacle : fault_alone (codes "obstacle x x x x x x x x x x x x x x x x x x x x x x x x x x x x x x x x x x x x x x x x x x x x x x x x x x x x x x x x x x x x x x x x x x x x x x x x x x x x x x x x x x x x x x x x x x x x x x x x x x x x x x x x x x x x x x x x x x x x x x x x x x x x x x x x") ≡ Some kinds.Number
+  -- the obstacle after the last that there may be
+  pub obstacles : is_too_many keys.Obstacle 6 (replicate 1024 (codes "obstacle" ∷ [])) ≡ true
+  pub fewer_obstacles : is_too_many keys.Obstacle 6 (replicate 1023 (codes "obstacle" ∷ [])) ≡ false
