@@ -8,7 +8,12 @@ pub mod ClassLaws
 pub mod RadiusLaws
 pub mod SteeringLaws
 pub mod Soundness
+pub mod SameScenes
 pub mod SpelledScenes
+pub mod StatementNumbers
+pub mod SoundStatements
+pub mod SceneParts
+pub mod GivenScenes
 pub mod CostLaws
 pub mod StripLaws
 pub mod Gaps

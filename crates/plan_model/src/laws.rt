@@ -1,6 +1,6 @@
 //! Laws of the definitions, each the contract of a function that does nothing.
 
-ghost use Rattle.std.specs.Prelude.{◌≡◌, ℕ, Bool, List, ◌+◌, ◌-◌, ◌*◌, ◌/◌, ◌^◌, ◌<◌, ◌≤◌};
+ghost use Rattle.std.specs.Prelude.{◌≡◌, ℕ, Bool, List, ◌+◌, ◌-◌, ◌*◌, ◌/◌, ◌^◌, ◌<◌, ◌≤◌, ◌⊎◌};
 ghost use Rattle.plan_model.specs.Cost.{cost_of};
 ghost use Rattle.plan_model.specs.MarkPoints.{Span, strip};
 ghost use Rattle.plan_model.specs.Radius.{class_of, radius_of_class};
@@ -54,4 +54,15 @@ pub fn refusals_are_unique()
     ensures line { (built : Key → Bool) (text : List ℕ) (m n : ℕ) (one other : Kind) → Refused built text m one → Refused built text n other → m ≡ n }
     ensures kind { (built : Key → Bool) (text : List ℕ) (m n : ℕ) (one other : Kind) → Refused built text m one → Refused built text n other → one ≡ other }
     ensures spelled { (built : Key → Bool) (text : List ℕ) (scene : Scene) (n : ℕ) (kind : Kind) → Spells built text scene → ¬ Refused built text n kind }
+{}
+
+/// A text spells one scene at most, whichever keys are supported.
+pub fn scenes_are_unique()
+    ensures { (built : Key → Bool) (text : List ℕ) (one other : Scene) → Spells built text one → Spells built text other → one ≡ other }
+{}
+
+/// Each text, of bytes or of any numbers, spells a scene or is refused, whichever keys are supported. With the two
+/// laws above it spells exactly one scene, or else is refused at exactly one line and for exactly one kind.
+pub fn each_text_is_decided()
+    ensures { (built : Key → Bool) (text : List ℕ) → ((scene : Scene) × Spells built text scene) ⊎ ((number : ℕ) × (kind : Kind) × Refused built text number kind) }
 {}

@@ -9,7 +9,7 @@ use Rattle.plan_model.specs.declared.text_terms.Key.TheVariants as keys
 use Rattle.plan_model.specs.declared.text_terms.Kind.TheVariants as kinds
 use Rattle.plan_model.specs.SceneGrammar.{is_number, value_of, name_of, least_of, most_of, is_repeated, fits_words, is_too_many, is_in_range, is_ordered, has_corners, fault_at_key, fault_of_statement, all_keys}
 use Rattle.plan_model.specs.CanonicalText.{statement}
-use Rattle.scene_text.proofs.GrammarLemmas.{key_of-name}
+use Rattle.plan_model.proofs.StatementNumbers.{key_of-name}
 use Rattle.scene_text.proofs.StatementTexts.{both, is_word, is_clean}
 use Rattle.scene_text.proofs.DecimalWords.{IsShort, is_word-signed, is_number-signed, value_of-signed}
 

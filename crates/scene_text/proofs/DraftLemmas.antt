@@ -11,7 +11,8 @@ use Rattle.plan_model.specs.declared.text_terms.Kind.{Kind}
 use Rattle.plan_model.specs.declared.text_terms.Kind.TheVariants as kinds
 use Rattle.plan_model.specs.SceneGrammar.{is_skipped, name_of, value_of, is_number, key_of, numbers_of, is_repeated, is_too_many, fits_words, is_in_range, has_corners, fault_of_key, fault_at_key, fault_after, supported, point_from, goal_from, number_or}
 use Rattle.scene_text.specs.Drafts.{Fields, fields_of, fields_by, is_given, is_full, IsFormed, fault_at, fault_behind, fault_of_words, taken, taken_behind}
-use Rattle.scene_text.proofs.GrammarLemmas.{name-key_of, numbers_of-other, numbers_of-push, pushed, has-numbers, has-none, length-numbers_of, first_with-push}
+use Rattle.plan_model.proofs.StatementNumbers.{name-key_of, numbers_of-other, numbers_of-push, pushed, length-numbers_of}
+use Rattle.scene_text.proofs.GrammarLemmas.{has-numbers, has-none, first_with-push}
 
 -- ---- the checks before that of the range
 

@@ -1,66 +1,9 @@
--- The grammar's words at one more statement and at one more line.
-use Rattle.std.proofs.Common.{◌≡◌, ℕ, ◌||◌, not, Bool, true, false, cond, ℤ, Some, is_some, List, [], ◌∷◌, ◌++◌, length, map, drop, filter, count_by, refl, sym, ap, ◌∙◌}
-use Rattle.std.specs.Prelude.{bytes_eq}
-use Rattle.std.proofs.lemmas.Bool.{false_from_ne_true}
-use Rattle.std.proofs.lemmas.List.{map-append, append-nil, length-map}
-use Rattle.std.proofs.lemmas.List.Elements.{filter-append}
-use Rattle.std.proofs.lemmas.List.Sums.{length-filter}
-use Rattle.std.proofs.lemmas.Slice.Eq.{bytes_eq-Decides}
+-- Whether a key stands, by the numbers of its statements.
+use Rattle.std.proofs.Common.{◌≡◌, ℕ, ◌||◌, Bool, true, false, cond, ℤ, Some, is_some, List, [], ◌∷◌, ◌++◌, map, filter, refl, ap, ◌∙◌}
 use Rattle.plan_model.specs.declared.text_terms.Key.{Key}
-use Rattle.plan_model.specs.declared.text_terms.Key.TheVariants as keys
-use Rattle.plan_model.specs.SceneGrammar.{words_of, is_skipped, statements_of, value_of, name_of, every_key, key_among, key_of, begins_with, has, numbers_of}
+use Rattle.plan_model.specs.SceneGrammar.{begins_with, has, numbers_of}
+use Rattle.plan_model.proofs.StatementNumbers.{numbers_in}
 use Rattle.scene_text.specs.Drafts.{first_with}
-
--- ---- keys
-
-name-among_by : (b : Bool) (word : List ℕ) (k key : Key) (ks : List Key) → bytes_eq word (name_of k) ≡ b → (key_among word ks ≡ Some key → word ≡ name_of key) → cond b (Some k) (key_among word ks) ≡ Some key → word ≡ name_of key
-name-among_by true word k key ks same rest e =
-    let named : word ≡ name_of k = (bytes_eq-Decides word (name_of k)).0 same in
-    let this : k ≡ key = cc in
-    named ∙ ap name_of this
-name-among_by false word k key ks same rest e = rest e
-
--- a word is the name of the key that it names
-name-among : (word : List ℕ) (keys : List Key) (key : Key) → key_among word keys ≡ Some key → word ≡ name_of key
-name-among word [] key e = absurd (cc)
-name-among word (k ∷ ks) key e =
-    name-among_by (bytes_eq word (name_of k)) word k key ks refl (name-among word ks key) e
-
-pub name-key_of : (word : List ℕ) (key : Key) → key_of word ≡ Some key → word ≡ name_of key
-name-key_of word key e = name-among word every_key key e
-
--- the name of a key names it
-pub key_of-name : (key : Key) → key_of (name_of key) ≡ Some key
-key_of-name keys.Room = refl
-key_of-name key = refl
-
--- ---- the statements with a key
-
-pub begins_with-other : (word : List ℕ) (words : List (List ℕ)) (key other : Key) → key_of word ≡ Some key → (key ≡ other → ⊥) → begins_with other (word ∷ words) ≡ false
-begins_with-other word words key other e differ =
-    false_from_ne_true (bytes_eq word (name_of other)) (λ same. let named : word ≡ name_of other = (bytes_eq-Decides word (name_of other)).0 same in let found : Some key ≡ Some other = sym e ∙ ap key_of named ∙ key_of-name other in differ (cc))
-
-abbrev numbers_in : List (List ℕ) → List ℤ
-numbers_in words = map value_of (drop 1 words)
-
-numbers_of-append : (key : Key) (xs ys : List (List (List ℕ))) → numbers_of key (xs ++ ys) ≡ numbers_of key xs ++ numbers_of key ys
-numbers_of-append key xs ys =
-    ap (map numbers_in) (filter-append (begins_with key) xs ys) ∙ map-append numbers_in (filter (begins_with key) xs) (filter (begins_with key) ys)
-
--- the numbers of each key's lines, with a line more that begins with this word
-abbrev pub pushed : (Key → List (List ℤ)) → List ℕ → List ℤ → Key → List (List ℤ)
-pushed numbers word zs key =
-    cond (bytes_eq word (name_of key)) (numbers key ++ zs ∷ []) (numbers key)
-
--- a statement gives its numbers to the key that its word names
-pub numbers_of-push : (word : List ℕ) (words : List (List ℕ)) (key : Key) (before : List (List (List ℕ))) → numbers_of key (before ++ (word ∷ words) ∷ []) ≡ pushed (λ k. numbers_of k before) word (map value_of words) key
-numbers_of-push word words key before =
-    numbers_of-append key before ((word ∷ words) ∷ []) ∙ elim (bytes_eq word (name_of key)) as (λ b. numbers_of key before ++ map numbers_in (cond b ((word ∷ words) ∷ []) []) ≡ cond b (numbers_of key before ++ map value_of words ∷ []) (numbers_of key before)) [ true ↦ refl | false ↦ append-nil (numbers_of key before) ]
-
--- and to no other key
-pub numbers_of-other : (word : List ℕ) (words : List (List ℕ)) (key other : Key) (before : List (List (List ℕ))) → key_of word ≡ Some key → (key ≡ other → ⊥) → numbers_of other (before ++ (word ∷ words) ∷ []) ≡ numbers_of other before
-numbers_of-other word words key other before e differ =
-    numbers_of-append other before ((word ∷ words) ∷ []) ∙ ap (λ b. numbers_of other before ++ map numbers_in (cond b ((word ∷ words) ∷ []) [])) (begins_with-other word words key other e differ) ∙ append-nil (numbers_of other before)
 
 -- a key stands where it gives numbers
 pub has-numbers : {A : Type 0} (f : List ℤ → A) (key : Key) (statements : List (List (List ℕ))) → has key statements ≡ is_some (first_with f (numbers_of key statements))
@@ -72,23 +15,6 @@ pub has-none : (key : Key) (statements : List (List (List ℕ))) → numbers_of 
 has-none key statements e =
     has-numbers (λ zs. zs) key statements ∙ ap (λ lists. is_some (first_with (λ zs. zs) lists)) e
 
-pub length-numbers_of : (key : Key) (statements : List (List (List ℕ))) → length (numbers_of key statements) ≡ count_by (begins_with key) statements
-length-numbers_of key statements =
-    length-map (filter (begins_with key) statements) numbers_in ∙ length-filter (begins_with key) statements
-
-pub none-first_with : {A : Type 0} (f : List ℤ → A) (lists : List (List ℤ)) → is_some (first_with f lists) ≡ false → lists ≡ []
-none-first_with f [] e = refl
-none-first_with f (zs ∷ lists) e = absurd (cc)
-
 pub first_with-push : {A : Type 0} (f : List ℤ → A) (lists : List (List ℤ)) (zs : List ℤ) → is_some (first_with f lists) ≡ false → first_with f (lists ++ zs ∷ []) ≡ Some (f zs)
 first_with-push f [] zs e = refl
 first_with-push f (ys ∷ lists) zs e = absurd (cc)
-
--- ---- one more line
-
-abbrev is_kept : List (List ℕ) → Bool
-is_kept words = not (is_skipped words)
-
-pub statements_of-push : (lines : List (List ℕ)) (line : List ℕ) → statements_of (lines ++ line ∷ []) ≡ statements_of lines ++ cond (is_kept (words_of line)) (words_of line ∷ []) []
-statements_of-push lines line =
-    ap (filter is_kept) (map-append words_of lines (line ∷ [])) ∙ filter-append is_kept (map words_of lines) (words_of line ∷ [])

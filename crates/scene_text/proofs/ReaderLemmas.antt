@@ -14,7 +14,8 @@ use Rattle.scene_text.specs.declared.refusals.LineRefusal.{LineRefusal}
 use Rattle.scene_text.specs.declared.refusals.LineRefusal.TheVariants as line_refusal
 use Rattle.scene_text.specs.Refusals.{refusal_at, IsLineRefusal, IsRefusal}
 use Rattle.scene_text.specs.Drafts.{Fields, fields_of, first_with, fault_in, fault_of_words, after, after_line, missing_in, IsSceneOf}
-use Rattle.scene_text.proofs.GrammarLemmas.{has-numbers, statements_of-push}
+use Rattle.plan_model.proofs.StatementNumbers.{statements_of-push}
+use Rattle.scene_text.proofs.GrammarLemmas.{has-numbers}
 use Rattle.scene_text.proofs.DraftLemmas.{AreBuilt, Holds, Holds-none, behind-key, fault_of_words-same}
 
 -- ---- one more line

@@ -1,0 +1,183 @@
+-- The parts of a scene, from numbers that may stand behind its keys.
+use Rattle.std.proofs.Common.{◌≡◌, ℕ, ◌+◌, ◌*◌, ◌≤◌, ◌&&◌, ◌||◌, ◌⊎◌, Bool, true, false, eqb, ltb, leb, ℤ, pos, negsuc, int_le, unsigned_abs, List, [], ◌∷◌, length, map, All, refl, inl, inr, arith}
+use Rattle.std.specs.List.{list_all}
+use Rattle.std.proofs.lemmas.Bool.{and_parts, and_from, or_cases, or_parts, or_left, or_right, leb-true, le-leb, eqb-true, eq-eqb, ltb-false}
+use Rattle.std.proofs.lemmas.List.{length-map}
+use Rattle.std.proofs.lemmas.List.Elements.{All-head, All-tail}
+use Rattle.plan_model.specs.declared.geometry.Vertex.{Vertex}
+use Rattle.plan_model.specs.declared.text_terms.Key.TheVariants as keys
+use Rattle.plan_model.specs.Convexity.{is_strictly_convex}
+use Rattle.plan_model.specs.Limits.{IsBetween, IsGoal, is_body, is_obstacle, is_mark, is_plan}
+use Rattle.plan_model.specs.SceneGrammar.{corners_from, point_from, goal_from, number_or, body_from, plan_from}
+use Rattle.plan_model.proofs.SoundStatements.{MayStand}
+
+-- ---- one number
+
+-- the numbers are from low to high
+abbrev are_within : ℤ → ℤ → List ℤ → Bool
+are_within low high zs = list_all (λ z. int_le low z && int_le z high) zs
+
+-- a number from low to high, both of which are natural numbers
+pub record IsWithin (low high n : ℕ) : Type 0 where
+  pub above : low ≤ n
+  pub below : n ≤ high
+
+within : (low high : ℕ) (z : ℤ) → (int_le (pos low) z && int_le z (pos high)) ≡ true → IsWithin low high (unsigned_abs z)
+within low high (pos n) h =
+    let parts = and_parts (leb low n) (leb n high) h in
+    record { above = leb-true low n parts.0; below = leb-true n high parts.1 }
+within low high (negsuc n) h = absurd (cc)
+
+-- natural numbers are in the order of their integers
+in_order : (a b : ℤ) → int_le (pos 0) a ≡ true → int_le a b ≡ true → unsigned_abs a ≤ unsigned_abs b
+in_order (pos m) (pos n) h e = leb-true m n e
+in_order (pos m) (negsuc n) h e = absurd (cc)
+in_order (negsuc m) b h e = absurd (cc)
+
+single : (low high default : ℕ) (zs : List ℤ) → eqb (length zs) 1 ≡ true → (are_within (pos low) (pos high) zs && true) ≡ true → IsWithin low high (number_or default zs)
+single low high default [] count h = absurd (cc)
+single low high default (z ∷ zs) count h =
+    let all = and_parts (are_within (pos low) (pos high) (z ∷ zs)) true h in
+    within low high z (and_parts (int_le (pos low) z && int_le z (pos high)) (are_within (pos low) (pos high) zs) all.0).0
+
+-- ---- points
+
+pair : (low : ℕ) (zs : List ℤ) → 2 ≤ length zs → are_within (pos low) (pos 65535) zs ≡ true → IsBetween low 65535 (point_from zs)
+pair low [] long h = absurd (omega arith)
+pair low (x ∷ []) long h = absurd (omega arith)
+pair low (x ∷ y ∷ zs) long h =
+    let first = and_parts (int_le (pos low) x && int_le x (pos 65535)) (are_within (pos low) (pos 65535) (y ∷ zs)) h in
+    let second = and_parts (int_le (pos low) y && int_le y (pos 65535)) (are_within (pos low) (pos 65535) zs) first.1 in
+    let across = within low 65535 x first.0 in
+    let upwards = within low 65535 y second.0 in
+    record {
+      left = across.above;
+      right = across.below;
+      bottom = upwards.above;
+      top = upwards.below;
+    }
+
+point : (low : ℕ) (zs : List ℤ) → eqb (length zs) 2 ≡ true → (are_within (pos low) (pos 65535) zs && true) ≡ true → IsBetween low 65535 (point_from zs)
+point low zs count h =
+    pair low zs (omega (arith, eqb-true (length zs) 2 count)) (and_parts (are_within (pos low) (pos 65535) zs) true h).0
+
+pub room-within : (zs : List ℤ) → MayStand keys.Room zs → IsBetween 1 65535 (point_from zs)
+room-within zs h = point 1 zs h.count h.ranged
+
+pub start-within : (zs : List ℤ) → MayStand keys.Start zs → IsBetween 0 65535 (point_from zs)
+start-within zs h = point 0 zs h.count h.ranged
+
+pub mark-within : (zs : List ℤ) → MayStand keys.Mark zs → is_mark (point_from zs) ≡ true
+mark-within zs h =
+    let p = point_from zs in
+    let between = point 0 zs h.count h.ranged in
+    and_from (leb p.x 65535) (leb p.y 65535) (le-leb p.x 65535 between.right) (le-leb p.y 65535 between.top)
+
+pub goal-within : (zs : List ℤ) → MayStand keys.Goal zs → IsGoal (goal_from zs)
+goal-within [] h = let none = h.count in absurd (cc)
+goal-within (a ∷ []) h = let none = h.count in absurd (cc)
+goal-within (a ∷ b ∷ []) h = let none = h.count in absurd (cc)
+goal-within (a ∷ b ∷ c ∷ []) h = let none = h.count in absurd (cc)
+goal-within (a ∷ b ∷ c ∷ d ∷ zs) h =
+    let parts = and_parts (are_within (pos 0) (pos 65535) (a ∷ b ∷ c ∷ d ∷ zs)) (int_le a c && int_le b d) h.ranged in
+    let order = and_parts (int_le a c) (int_le b d) parts.1 in
+    let first = and_parts (int_le (pos 0) a && int_le a (pos 65535)) (are_within (pos 0) (pos 65535) (b ∷ c ∷ d ∷ zs)) parts.0 in
+    let second = and_parts (int_le (pos 0) b && int_le b (pos 65535)) (are_within (pos 0) (pos 65535) (c ∷ d ∷ zs)) first.1 in
+    let high = pair 0 (c ∷ d ∷ zs) (omega arith) second.1 in
+    record {
+      right = high.right;
+      top = high.top;
+      across = in_order a c (and_parts (int_le (pos 0) a) (int_le a (pos 65535)) first.0).0 order.0;
+      upwards = in_order b d (and_parts (int_le (pos 0) b) (int_le b (pos 65535)) second.0).0 order.1;
+    }
+
+-- ---- numbers
+
+pub step-within : (zs : List ℤ) → MayStand keys.Step zs → IsWithin 4 4096 (number_or 0 zs)
+step-within zs h = single 4 4096 0 zs h.count h.ranged
+
+pub gamma-within : (zs : List ℤ) → MayStand keys.Gamma zs → number_or 0 zs ≤ 16777215
+gamma-within zs h = (single 0 16777215 0 zs h.count h.ranged).below
+
+pub strips-within : (zs : List ℤ) → MayStand keys.Strips zs → IsWithin 1 64 (number_or 1 zs)
+strips-within zs h = single 1 64 1 zs h.count h.ranged
+
+pub marks-within : (zs : List ℤ) → MayStand keys.Marks zs → number_or 0 zs ≤ 262143
+marks-within zs h = (single 0 262143 0 zs h.count h.ranged).below
+
+-- ---- polygons
+
+-- two coordinates for each corner
+record AreCorners (zs : List ℤ) : Type 0 where
+  most : 2 * length (corners_from zs) ≤ length zs
+  least : length zs ≤ 2 * length (corners_from zs) + 1
+
+corners : (zs : List ℤ) → AreCorners zs
+corners [] = record { most = omega arith; least = omega arith }
+corners (x ∷ []) = record { most = omega arith; least = omega arith }
+corners (x ∷ y ∷ zs) =
+    let rest = corners zs in
+    record { most = omega arith; least = omega arith }
+
+-- the coordinates of a corner are from low to high
+abbrev is_corner_within : ℤ → ℤ → Vertex → Bool
+is_corner_within low high v =
+    int_le low v.x && (int_le v.x high && (int_le low v.y && int_le v.y high))
+
+corners-within : (low high : ℤ) (zs : List ℤ) → are_within low high zs ≡ true → list_all (is_corner_within low high) (corners_from zs) ≡ true
+corners-within low high [] h = refl
+corners-within low high (x ∷ []) h = refl
+corners-within low high (x ∷ y ∷ zs) h =
+    let first = and_parts (int_le low x && int_le x high) (are_within low high (y ∷ zs)) h in
+    let second = and_parts (int_le low y && int_le y high) (are_within low high zs) first.1 in
+    let across = and_parts (int_le low x) (int_le x high) first.0 in
+    let upwards = and_parts (int_le low y) (int_le y high) second.0 in
+    rw (across.0, across.1, upwards.0, upwards.1, corners-within low high zs second.1) refl
+
+-- one corner, or up to 16 that are strictly convex
+body-shape : (n count : ℕ) (convex : Bool) → 2 * n ≤ count → count ≤ 2 * n + 1 → ltb 32 count ≡ false → (eqb count 2 ≡ true) ⊎ (convex ≡ true) → (eqb n 1 || (leb n 16 && convex)) ≡ true
+body-shape n count convex most least few (inl two) =
+    or_left (eqb n 1) (leb n 16 && convex) (eq-eqb n 1 (omega (arith, eqb-true count 2 two)))
+body-shape n count convex most least few (inr h) =
+    or_right (eqb n 1) (leb n 16 && convex) (and_from (leb n 16) convex (le-leb n 16 (omega (arith, ltb-false 32 count few))) h)
+
+pub polygon-of_body : (zs : List ℤ) → MayStand keys.Body zs → is_body (corners_from zs) ≡ true
+polygon-of_body zs h =
+    let vs = corners_from zs in
+    let many = corners zs in
+    let ranged = (and_parts (are_within (negsuc 4095) (pos 4096) zs) true h.ranged).0 in
+    let shape = body-shape (length vs) (length zs) (is_strictly_convex vs) many.most many.least h.few (or_cases (eqb (length zs) 2) (is_strictly_convex vs) h.corners) in
+    and_from (eqb (length vs) 1 || (leb (length vs) 16 && is_strictly_convex vs)) (list_all (is_corner_within (negsuc 4095) (pos 4096)) vs) shape (corners-within (negsuc 4095) (pos 4096) zs ranged)
+
+pub polygon-of_obstacle : (zs : List ℤ) → MayStand keys.Obstacle zs → is_obstacle (corners_from zs) ≡ true
+polygon-of_obstacle zs h =
+    let vs = corners_from zs in
+    let many = corners zs in
+    let ranged = (and_parts (are_within (negsuc 131071) (pos 131071) zs) true h.ranged).0 in
+    let few : length zs ≤ 128 = ltb-false 128 (length zs) (or_parts (ltb 128 (length zs)) false h.few).0 in
+    let small : leb (length vs) 64 ≡ true = le-leb (length vs) 64 (omega arith) in
+    let shape : (leb (length vs) 64 && is_strictly_convex vs) ≡ true = and_from (leb (length vs) 64) (is_strictly_convex vs) small h.corners in
+    and_from (leb (length vs) 64 && is_strictly_convex vs) (list_all (is_corner_within (negsuc 131071) (pos 131071)) vs) shape (corners-within (negsuc 131071) (pos 131071) zs ranged)
+
+-- ---- lists of parts
+
+pub obstacles-within : (lists : List (List ℤ)) → All (MayStand keys.Obstacle) lists → list_all is_obstacle (map corners_from lists) ≡ true
+obstacles-within [] h = refl
+obstacles-within (zs ∷ lists) h =
+    and_from (is_obstacle (corners_from zs)) (list_all is_obstacle (map corners_from lists)) (polygon-of_obstacle zs (All-head (MayStand keys.Obstacle) zs lists h)) (obstacles-within lists (All-tail (MayStand keys.Obstacle) zs lists h))
+
+pub points-within : (lists : List (List ℤ)) → All (MayStand keys.Mark) lists → list_all is_mark (map point_from lists) ≡ true
+points-within [] h = refl
+points-within (zs ∷ lists) h =
+    and_from (is_mark (point_from zs)) (list_all is_mark (map point_from lists)) (mark-within zs (All-head (MayStand keys.Mark) zs lists h)) (points-within lists (All-tail (MayStand keys.Mark) zs lists h))
+
+pub body-within : (lists : List (List ℤ)) → All (MayStand keys.Body) lists → is_body (body_from lists) ≡ true
+body-within [] h = refl
+body-within (zs ∷ lists) h =
+    polygon-of_body zs (All-head (MayStand keys.Body) zs lists h)
+
+pub plan-within : (drawn listed : List (List ℤ)) → All (MayStand keys.Marks) drawn → All (MayStand keys.Mark) listed → length listed ≤ 262143 → is_plan (plan_from drawn listed) ≡ true
+plan-within [] listed h g few =
+    and_from (leb (length (map point_from listed)) 262143) (list_all is_mark (map point_from listed)) (le-leb (length (map point_from listed)) 262143 (omega (arith, length-map listed point_from))) (points-within listed g)
+plan-within (zs ∷ drawn) listed h g few =
+    le-leb (number_or 0 zs) 262143 (marks-within zs (All-head (MayStand keys.Marks) zs drawn h))
