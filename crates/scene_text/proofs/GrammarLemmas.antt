@@ -1,5 +1,5 @@
 -- Whether a key stands, by the numbers of its statements.
-use Rattle.std.proofs.Common.{◌≡◌, ℕ, ◌||◌, Bool, true, false, cond, ℤ, Some, is_some, List, [], ◌∷◌, ◌++◌, map, filter, refl, ap, ◌∙◌}
+use Rattle.std.proofs.Common.{◌≡◌, ℕ, ◌||◌, true, false, cond, ℤ, Some, is_some, List, [], ◌∷◌, ◌++◌, map, filter, refl, ap, ◌∙◌}
 use Rattle.plan_model.specs.declared.text_terms.Key.{Key}
 use Rattle.plan_model.specs.SceneGrammar.{begins_with, has, numbers_of}
 use Rattle.plan_model.proofs.StatementNumbers.{numbers_in}
