@@ -1,6 +1,6 @@
 //! Sources over bytes in memory.
 
-ghost use Rattle.std.specs.Prelude.{◌≡◌, ◌++◌, ◌≤◌, false, length, min, Some, take, drop, IfOk, OnErr, Ok};
+ghost use Rattle.std.specs.Prelude.{◌≡◌, ◌++◌, ◌≤◌, false, length, min, Some, take, drop, IfOk, OnErr, Ok, ◌^◌, ◌<◌};
 ghost use Rattle.std.specs.Io.KnownBytes.{Keeps, ReadConsumes};
 ghost use Rattle.plan_model.specs.Streams.{Rose, ended_after, Stream, Given, read_result, after_read, read_into};
 
@@ -111,14 +111,15 @@ pub struct MemSource {
 }
 
 impl Model for MemSource {
-    ghost use Rattle.std.specs.Prelude.{◌≤◌};
+    ghost use Rattle.std.specs.Prelude.{◌≤◌, ◌<◌, ◌^◌};
     ghost use Rattle.plan_model.specs.Streams.{Given};
 
     ghost Value = { Given };
 
     ghost view = { λ s. record { left = s.unread; ended = s.ended; most = s.most; fails = s.fails.items; calls = s.calls; faults = s.faults } };
 
-    ghost invariant = { λ s. 1 ≤ s.most };
+    // a call that fails has one of the numbers, so the count of faults stays far from its last value
+    ghost invariant = { λ s. (1 ≤ s.most) × (s.faults ≤ s.calls) × (s.faults < 2 ^ 32) };
 }
 
 impl MemSource {
@@ -145,7 +146,11 @@ impl Source for MemSource {
 
     ghost fault_count = { λ s. s.faults };
 
-    fn faults(&self) -> u64 {
+    fn faults(&self) -> u64
+        ensures value { result ≡ self.now.faults }
+        // the count never reaches its last value
+        ensures few { result < 2 ^ 32 }
+    {
         self.faults
     }
 

@@ -1,5 +1,5 @@
 -- What the program may answer: each status with its cause and with the text that is written.
-use Rattle.std.specs.Prelude.{◌≡◌, ◌≢◌, ℕ, ◌<◌, ◌≤◌, ◌⊎◌, Bool, true, false, List, [], ◌∷◌, length, is_some, IsSome, Option, Some, None}
+use Rattle.std.specs.Prelude.{◌≡◌, ◌≢◌, ℕ, ◌<◌, ◌≤◌, ◌⊎◌, Bool, true, false, List, length, is_some, IsSome, Option, Some, None}
 use Rattle.plan_model.specs.declared.trees.Twig.{Twig}
 use Rattle.plan_model.specs.declared.records.Record.{Record}
 use Rattle.plan_model.specs.declared.scenes.Scene.{Scene}
@@ -10,6 +10,7 @@ use Rattle.plan_model.specs.Textbook.{IsTextbookRun}
 use Rattle.plan_model.specs.ReportText.{best_node, short_report}
 use Rattle.plan_model.specs.CanonicalText.{canonical_text}
 use Rattle.plan_model.specs.SceneGrammar.{Spells, Refused, supported}
+use Rattle.scene_text.specs.Fetching.{IsAllOf}
 use Rattle.planner_main.specs.declared.forms.Form.{Form}
 use Rattle.planner_main.specs.declared.forms.Form.TheVariants as forms
 use Rattle.planner_main.specs.declared.refusals.Refusal.{Refusal}
@@ -38,10 +39,22 @@ pub record ReportsRun (bytes : List ℕ) (status : ℕ) (text : List ℕ) : Type
   pub start : ClearAt scene scene.start
   pub report : ReportsScene scene status text
 
--- the bytes are too many, or the grammar refuses them, with its line and its kind
-abbrev pub RefusesText : List ℕ → List ℕ → Type 0
-RefusesText bytes text =
-    ((16777216 < length bytes) × (text ≡ long_line)) ⊎ ((length bytes ≤ 16777216) × ((number : ℕ) × (kind : Kind) × Refused supported bytes number kind × (text ≡ fault_line number kind)))
+-- the grammar refuses the bytes, with its line and its kind
+pub record RefusesScene (bytes : List ℕ) (text : List ℕ) : Type 0 where
+  pub short : length bytes ≤ 16777216
+  pub number : ℕ
+  pub kind : Kind
+  pub refused : Refused supported bytes number kind
+  pub written : text ≡ fault_line number kind
+
+-- the source has more bytes than a text may have, where it tells them
+abbrev pub IsTooLong : Option (List ℕ) → Type 0
+IsTooLong left = (told : List ℕ) → left ≡ Some told → 16777216 < length told
+
+-- The text is too long, or it was read to its end and is no scene. The bytes are those of the source, where it tells them.
+abbrev pub RefusesText : Option (List ℕ) → Bool → List ℕ → Type 0
+RefusesText left ended text =
+    ((text ≡ long_line) × IsTooLong left) ⊎ ((ended ≡ true) × ((bytes : List ℕ) × IsAllOf left bytes × RefusesScene bytes text))
 
 -- the bytes spell a scene whose start is not clear
 pub record BlocksStart (bytes : List ℕ) : Type 0 where
@@ -68,13 +81,13 @@ Succeeds (Some forms.Show) bytes status text = (status ≡ 0) × ShowsScene byte
 -- says whether the source has given its end after it, and rose that the source's count of faults rose in it.
 pub record IsAnswer (form : Option Form) (left : Option (List ℕ)) (ended : Bool) (rose : Type 0) (status : ℕ) (text : List ℕ) : Type 0 where
   -- 0 and 1: the text of the form; for `plain` the report of the textbook run, with a path and without
-  pub success : status ≤ 1 → IsSome form × (ended ≡ true) × ((bytes : List ℕ) → left ≡ Some bytes → Succeeds form bytes status text)
+  pub success : status ≤ 1 → IsSome form × (ended ≡ true) × ((bytes : List ℕ) × IsAllOf left bytes × Succeeds form bytes status text)
   -- 2: the words are of no form
   pub words_refused : status ≡ 2 → (form ≡ None) × (text ≡ words_line)
   -- 3: the text is too long, or was read to its end and is no scene
-  pub text_refused : status ≡ 3 → IsSome form × ((text ≡ long_line) ⊎ (ended ≡ true)) × ((bytes : List ℕ) → left ≡ Some bytes → RefusesText bytes text)
+  pub text_refused : status ≡ 3 → IsSome form × RefusesText left ended text
   -- 4: the start is not clear
-  pub start_blocked : status ≡ 4 → (form ≡ Some forms.Plain) × (ended ≡ true) × (text ≡ start_line) × ((bytes : List ℕ) → left ≡ Some bytes → BlocksStart bytes)
+  pub start_blocked : status ≡ 4 → (form ≡ Some forms.Plain) × (ended ≡ true) × (text ≡ start_line) × ((bytes : List ℕ) × IsAllOf left bytes × BlocksStart bytes)
   -- 5: the source could not be read
   pub read_fault : status ≡ 5 → IsSome form × rose × (ended ≡ false) × (text ≡ read_line)
   -- 7: there was no memory left

@@ -10,7 +10,7 @@ use plan_model::Kind;
 /// Why the program writes no report.
 #[derive(Clone, Copy, Debug, PartialEq, Eq)]
 pub enum Refusal {
-    /// The words of the command line are not `plain`.
+    /// The words of the command line are of no known form.
     Words,
     /// The text has more bytes than a scene may have.
     TooLong,

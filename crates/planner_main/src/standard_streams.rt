@@ -16,7 +16,8 @@ pub struct StdSource<R> {
 impl<R: Read> StdSource<R> {
     /// A source over a reader whose end was not given yet.
     pub fn new(reader: R) -> Self
-        ensures { ⟦<StdSource<R> as Source>⟧.has_ended result ≡ false }
+        ensures open { ⟦<StdSource<R> as Source>⟧.has_ended result ≡ false }
+        ensures faultless { ⟦<StdSource<R> as Source>⟧.fault_count result ≡ 0 }
     {
         StdSource {
             reader,
@@ -62,9 +63,11 @@ pub struct StdSink<W> {
     faults: u64,
 }
 
-impl<W> StdSink<W> {
+impl<W: Write> StdSink<W> {
     /// A sink over a writer.
-    pub fn new(writer: W) -> Self {
+    pub fn new(writer: W) -> Self
+        ensures { ⟦<StdSink<W> as Sink>⟧.fault_count result ≡ 0 }
+    {
         StdSink { writer, faults: 0 }
     }
 }

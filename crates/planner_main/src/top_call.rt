@@ -5,6 +5,7 @@ ghost use Rattle.std.specs.Io.KnownBytes.{Appends, Keeps};
 ghost use Rattle.plan_model.specs.Streams.{Rose};
 ghost use Rattle.plan_model.specs.Clearance.{ClearAt};
 ghost use Rattle.plan_model.specs.PlainScenes.{IsPlain, IsListed, IsInRoom};
+ghost use Rattle.scene_text.specs.Fetching.{ReadsWithin};
 ghost use Rattle.planner_main.specs.Conclusions.{IsAnswer, IsDecided, ReportsRun, ReportsScene, ShowsScene, Succeeds, RefusesForm, status_of_refusal, line_of_refusal};
 ghost use Rattle.planner_main.specs.Forms.{form_of};
 ghost use Rattle.planner_main.specs.Delivery.{AppendsFront};
@@ -51,6 +52,8 @@ pub fn run<S: Source, K: Sink>(
     ensures decided { (bytes : List ℕ) → IsSome (form_of (map string_bytes words.now)) → S.bytes_left source.old ≡ Some bytes
         → (¬ Rose (S.fault_count source.old) (S.fault_count source.new)) → (¬ Rose (K.fault_count sink.old) (K.fault_count sink.new))
         → (result.status ≡ 7) ⊎ IsDecided (form_of (map string_bytes words.now)) bytes result.status }
+    // never more than one byte past the limit of a text is read
+    ensures within { ReadsWithin (S.bytes_left source.old) (S.bytes_left source.new) }
     // words of no form are refused, and then nothing is read
     ensures words { form_of (map string_bytes words.now) ≡ None → (result.status ≡ 2) ⊎ (result.status ≡ 6) }
     ensures unread { form_of (map string_bytes words.now) ≡ None → Keeps (S.bytes_left source.old) (S.bytes_left source.new)
@@ -132,6 +135,7 @@ fn answer_to<S: Source>(alloc: Global, words: &[String], source: &mut S) -> Resu
         (Rose (S.fault_count source.old) (S.fault_count source.new)) answer.status answer.text.items) }
     ensures refusal { IfErr result (λ refusal. IsAnswer (form_of (map string_bytes words.now)) (S.bytes_left source.old) (S.has_ended source.new)
         (Rose (S.fault_count source.old) (S.fault_count source.new)) (status_of_refusal refusal) (line_of_refusal refusal)) }
+    ensures within { ReadsWithin (S.bytes_left source.old) (S.bytes_left source.new) }
     ensures unread { form_of (map string_bytes words.now) ≡ None → Keeps (S.bytes_left source.old) (S.bytes_left source.new)
         × (S.has_ended source.new ≡ false) × (S.fault_count source.new ≡ S.fault_count source.old) }
 {

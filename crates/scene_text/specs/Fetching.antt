@@ -1,5 +1,6 @@
 -- What a source that is read to its end gives, and what is left of it: `left` is what it tells of its bytes.
-use Rattle.std.specs.Prelude.{◌≡◌, ℕ, ◌<◌, Option, Some, List, [], length, drop}
+use Rattle.std.specs.Io.KnownBytes.{Consumes}
+use Rattle.std.specs.Prelude.{◌≡◌, ℕ, ◌<◌, ◌≤◌, Option, Some, List, [], length, drop}
 
 -- the bytes are all that the source had, where it told them
 abbrev pub IsAllOf : Option (List ℕ) → List ℕ → Type 0
@@ -13,3 +14,7 @@ IsSpent left = (told : List ℕ) → left ≡ Some told → told ≡ []
 abbrev pub IsPastLimit : Option (List ℕ) → Option (List ℕ) → Type 0
 IsPastLimit before now =
     (told : List ℕ) → before ≡ Some told → (16777216 < length told) × (now ≡ Some (drop 16777217 told))
+
+-- what was read is a front of the bytes, of at most one byte more than a text may have
+abbrev pub ReadsWithin : Option (List ℕ) → Option (List ℕ) → Type 0
+ReadsWithin before now = (front : List ℕ) × (length front ≤ 16777217) × Consumes before now front

@@ -2,7 +2,7 @@
 
 ghost use Rattle.std.specs.Prelude.{◌≡◌, ◌≤◌, length, true, false, IfOk, OnOk, OnErr, IsErrOf};
 ghost use Rattle.plan_model.specs.Streams.{Rose};
-ghost use Rattle.scene_text.specs.Fetching.{IsAllOf, IsSpent, IsPastLimit};
+ghost use Rattle.scene_text.specs.Fetching.{IsAllOf, IsSpent, IsPastLimit, ReadsWithin};
 ghost use Rattle.scene_text.specs.declared.byte_input.FetchFault.TheVariants as faults;
 
 use plan_model::{Failed, Source};
@@ -56,6 +56,8 @@ pub fn fetch<S: Source>(alloc: Global, source: &mut S) -> Result<Vec<u8>, FetchF
     // one byte more than the limit is read, and no further one
     ensures too_long { IsErrOf result FetchFault.TooLong
         → (S.has_ended source.new ≡ false) × IsPastLimit (S.bytes_left source.old) (S.bytes_left source.new) }
+    // never more than one byte past the limit is read
+    ensures within { ReadsWithin (S.bytes_left source.old) (S.bytes_left source.new) }
     ensures later { S.fault_count source.old ≤ S.fault_count source.new }
 {
     let mut text = Vec::new(alloc);

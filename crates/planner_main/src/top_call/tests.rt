@@ -24,9 +24,9 @@ fn answer_over<S: Source>(
     Ok((done.status, written))
 }
 
-// The same for a text.
+// The same for a text that comes in pieces.
 fn plan_text(alloc: Global, words: &[&str], text: &str) -> Result<(u8, String), Fail> {
-    let mut source = SureSource::new(alloc, text.as_bytes())?;
+    let mut source = MemSource::new(alloc, text.as_bytes(), 1 << 16, &[])?;
     answer_over(alloc, words, &mut source)
 }
 
@@ -83,6 +83,10 @@ fn plans_scenes(rt: HostRuntime) -> Result<(), Fail> {
         ),
     ] {
         let (ended, written) = plan_text(rt.alloc(), &["plain"], text)?;
+        assert_eq!(rt; written.as_str(), report, "{shows}");
+        assert_eq!(rt; ended, status, "{shows}");
+        let mut whole = SureSource::new(rt.alloc(), text.as_bytes())?;
+        let (ended, written) = answer_over(rt.alloc(), &["plain"], &mut whole)?;
         assert_eq!(rt; written.as_str(), report, "{shows}");
         assert_eq!(rt; ended, status, "{shows}");
     }

@@ -1,5 +1,4 @@
 use Rattle.std.proofs.Common.{arith, refl, [], ◌∷◌}
-use Rattle.std.specs.Prelude.{pos}
 use Rattle.std.proofs.lemmas.Int.{ints}
 use Rattle.std.proofs.lemmas.List.Elements.{All-cons, All-nil}
 use Rattle.plan_model.specs.declared.geometry.Vertex.{Vertex}

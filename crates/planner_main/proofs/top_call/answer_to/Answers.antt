@@ -1,4 +1,4 @@
-use Rattle.std.proofs.Common.{◌≡◌, ◌≤◌, ◌∙◌, List, ℕ, Some, length, subst, sym}
+use Rattle.std.proofs.Common.{◌≤◌, ◌∙◌, List, ℕ, Some, length, subst, sym}
 use Rattle.std.proofs.lemmas.Result.{IfErr-weaker}
 use Rattle.plan_model.specs.Streams.{Rose}
 use Rattle.planner_main.specs.Conclusions.{IsAnswer, RefusesForm, status_of_refusal, line_of_refusal}
