@@ -1,6 +1,6 @@
 //! A list that a contract sees as a list.
 
-ghost use Rattle.std.specs.Prelude.{◌≡◌, length};
+ghost use Rattle.std.specs.Prelude.{◌≡◌, ◌==◌, length};
 
 use std::marker::Model;
 
@@ -48,7 +48,9 @@ impl<T> Sequence<T> {
     }
 
     /// Whether there is no value.
-    pub fn is_empty(&self) -> bool {
+    pub fn is_empty(&self) -> bool
+        ensures { result ≡ (length self.now == 0) }
+    {
         self.items.is_empty()
     }
 }
