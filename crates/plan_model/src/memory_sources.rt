@@ -51,7 +51,7 @@ impl Unread {
     }
 }
 
-/// A source of bytes in memory that never fails.
+/// A source of bytes in memory that never fails, and gives as many of them as a slice has places for.
 #[derive(Debug, Drop)]
 pub struct SureSource {
     unread: Unread,
@@ -68,6 +68,10 @@ impl Model for SureSource {
 
 impl SureSource {
     /// A source of these bytes.
+    ///
+    /// # Errors
+    ///
+    /// `Memory` where there is no memory for a copy of the bytes.
     pub fn new(alloc: Global, bytes: &[u8]) -> Result<SureSource, Memory>
         ensures { IfOk result (λ source. source ≡ record { left = bytes.now; ended = false }) }
     {
@@ -89,7 +93,12 @@ impl Source for SureSource {
         0
     }
 
-    fn read(&mut self, into: &mut [u8]) -> Result<usize, Failed> {
+    fn read(&mut self, into: &mut [u8]) -> Result<usize, Failed>
+        // how many are moved, what is left, and what the slice then holds
+        ensures answer { result ≡ Ok (min (length into.old) (length self.old.left)) }
+        ensures after { IfOk result (λ count. self.new ≡ record { left = drop count self.old.left; ended = ended_after self.old.ended (length into.old) count }) }
+        ensures slice { IfOk result (λ count. into.new ≡ take count self.old.left ++ drop count into.old) }
+    {
         let count = self.unread.move_into(into);
         if count == 0 && !into.is_empty() {
             self.ended = true;
@@ -124,6 +133,10 @@ impl Model for MemSource {
 
 impl MemSource {
     /// A source of these bytes, of which nothing was read.
+    ///
+    /// # Errors
+    ///
+    /// `Memory` where there is no memory for a copy of the bytes or of the numbers.
     pub fn new(alloc: Global, bytes: &[u8], most: usize, fails: &[u32]) -> Result<MemSource, Memory>
         requires { 1 ≤ most }
         ensures { IfOk result (λ source. source ≡ record { left = bytes.now; ended = false; most = most; fails = fails.now; calls = 0; faults = 0 }) }

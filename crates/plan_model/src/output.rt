@@ -58,6 +58,10 @@ impl Model for MemSink {
 
 impl MemSink {
     /// An empty sink. It takes all its memory here.
+    ///
+    /// # Errors
+    ///
+    /// `Memory` where there is no memory for the room or for a copy of the numbers.
     pub fn new(alloc: Global, room: usize, most: usize, fails: &[u32]) -> Result<MemSink, Memory>
         requires { 1 ≤ most }
         ensures { IfOk result (λ sink. sink ≡ record { bytes = []; room = room; most = most; fails = fails.now; calls = 0; faults = 0 }) }

@@ -15,7 +15,7 @@ use Rattle.plan_model.specs.PlainScenes.{IsInRoom, LiesIn}
 use Rattle.plan_model.specs.Textbook.{Nodes, node_count}
 use Rattle.plan_model.proofs.SumLaws.{IsRising, IsRising-push, node_at-push, node_at-push_new, node_at-past, sum_of-push, sum_of-push_new}
 use Rattle.plan_model.specs.Lattice.{IsOnLattice}
-use Rattle.seq_planner.proofs.Scans.{HasPoint-absent}
+use Rattle.seq_planner.proofs.Scans.{HasPoint-absent, IsOnLattice-at}
 use Rattle.seq_planner.specs.Growing.{IsOnLatticeAll, IsSound}
 
 -- a node that may be put at the end, at this cost
@@ -113,3 +113,8 @@ IsOnLattice-in_room scene p h =
 
 pub IsOnLatticeAll-in_room : (scene : Scene) (tree : Nodes) → LiesIn scene.room tree → IsOnLatticeAll tree
 IsOnLatticeAll-in_room scene tree h = λ n p own. IsOnLattice-in_room scene p (h n p own)
+
+-- the point of a present node of a sound tree
+pub IsOnLattice-present : (scene : Scene) (tree : Nodes) (costs : List ℕ) (present n : ℕ) (p : Point) → IsSound scene tree costs present → IsSome (node_at tree n) → p ≡ point_of tree n → IsOnLattice p
+IsOnLattice-present scene tree costs present n p h own e =
+    subst IsOnLattice (sym e) (IsOnLattice-at tree n (IsOnLatticeAll-in_room scene tree h.in_room) own)

@@ -100,6 +100,15 @@ mod tests {
     }
 
     #[test]
+    fn leaves_the_start_alone_without_marks(rt: HostRuntime) -> Result<(), Memory> {
+        let task = small_task(rt.alloc(), &[])?;
+        let tree = textbook(rt.alloc(), task)?;
+        assert!(rt; tree.twigs.as_slice() == [node(0, 0, 0)].as_slice());
+        assert!(rt; tree.records.is_empty());
+        Ok(())
+    }
+
+    #[test]
     fn handles_five_marks(rt: HostRuntime) -> Result<(), Memory> {
         // the fourth mark leads to the third node again, the fifth out of the room
         let marks = [

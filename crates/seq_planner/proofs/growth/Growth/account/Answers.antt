@@ -2,8 +2,8 @@ use Rattle.std.proofs.Common.{true, ◌≡◌, arith, rules, length}
 use Rattle.plan_model.specs.Textbook.{record_of}
 use Rattle.plan_model.specs.declared.records.Outcome.TheVariants.{Same, Blocked}
 use Rattle.plan_model.specs.Lattice.{IsOnLattice}
-use Rattle.seq_planner.proofs.Scans.{IsOnLattice-at, present_below}
-use Rattle.seq_planner.proofs.SoundTrees.{IsOnLatticeAll-in_room}
+use Rattle.seq_planner.proofs.Scans.{present_below}
+use Rattle.seq_planner.proofs.SoundTrees.{IsOnLatticeAll-in_room, IsOnLattice-present}
 use Rattle.seq_planner.proofs.Turns.{Steers, Handles-same, Handles-blocked}
 use Rattle.seq_planner.proofs.MarkAccounts.{IsAccountOf-unplaced, IsAccountOf-placed, kept_cost}
 use Rattle.seq_planner.proofs.growth.Growth.account.Goals as goal
@@ -13,7 +13,7 @@ nearest-nearest-requires-clause-nodes c = IsOnLatticeAll-in_room c.args.scene.no
 
 pub steer-point-requires-clause-from : goal.steer-point-requires-clause-from
 steer-point-requires-clause-from c =
-    rw c.point-from.ensures (IsOnLattice-at c.args.self.now.nodes.items c.nearest-nearest.result (IsOnLatticeAll-in_room c.args.scene.now c.args.self.now.nodes.items c.requires.grown.in_room) c.nearest-nearest.ensures.present)
+    IsOnLattice-present c.args.scene.now c.args.self.now.nodes.items c.args.self.now.costs.items c.args.self.now.present c.nearest-nearest.result c.point-from.result c.requires.grown c.nearest-nearest.ensures.present c.point-from.ensures
 
 pub returns-in-Some : goal.returns-in-Some
 returns-in-Some c =
@@ -31,12 +31,11 @@ returns-then-not-is_clear c =
 
 pub cost-requires-clause-from : goal.cost-requires-clause-from
 cost-requires-clause-from c =
-    rw c.point-from.ensures (IsOnLattice-at c.args.self.now.nodes.items c.nearest-nearest.result (IsOnLatticeAll-in_room c.args.scene.now c.args.self.now.nodes.items c.requires.grown.in_room) c.nearest-nearest.ensures.present)
+    IsOnLattice-present c.args.scene.now c.args.self.now.nodes.items c.args.self.now.costs.items c.args.self.now.present c.nearest-nearest.result c.point-from.result c.requires.grown c.nearest-nearest.ensures.present c.point-from.ensures
 
 pub cost-requires-clause-to : goal.cost-requires-clause-to
 cost-requires-clause-to c =
-    let near = IsOnLattice-at c.args.self.now.nodes.items c.nearest-nearest.result (IsOnLatticeAll-in_room c.args.scene.now c.args.self.now.nodes.items c.requires.grown.in_room) c.nearest-nearest.ensures.present in
-    let from : IsOnLattice c.point-from.result = rw c.point-from.ensures near in
+    let from : IsOnLattice c.point-from.result = IsOnLattice-present c.args.scene.now c.args.self.now.nodes.items c.args.self.now.costs.items c.args.self.now.present c.nearest-nearest.result c.point-from.result c.requires.grown c.nearest-nearest.ensures.present c.point-from.ensures in
     record { right = omega (arith, c.steer-point.ensures.right); top = omega (arith, c.steer-point.ensures.top) }
 
 pub overflow_add-first_cost : goal.overflow_add-first_cost
