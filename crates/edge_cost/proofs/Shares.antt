@@ -2,11 +2,11 @@
 use Rattle.std.proofs.Common.{ℕ, ◌+◌, ◌*◌, ◌<◌, ◌≤◌, inl, inr, arith}
 use Rattle.std.proofs.lemmas.Bool.{cases_lt}
 use Rattle.std.proofs.lemmas.Nat.{mul-le}
-use Rattle.plan_model.specs.Roots.{IsRootAbove}
+use Rattle.plan_model.specs.Roots.{IsRootCeiling}
 use Rattle.plan_model.proofs.RootLaws.{lt-from_squares}
 
 -- a step whose square is below n is below the root of n
-pub step_below_root : (s n r : ℕ) → s * s < n → IsRootAbove n r → s < r
+pub step_below_root : (s n r : ℕ) → s * s < n → IsRootCeiling n r → s < r
 step_below_root s n r below root = lt-from_squares s r (s * s) (omega arith) (omega (arith, root.reaches))
 
 -- the square of a share, from the share

@@ -2,9 +2,9 @@
 
 ghost use Rattle.std.specs.Prelude.{◌≡◌, ◌^◌, ◌<◌};
 ghost use Rattle.plan_model.specs.Cost.{IsCost, cost_of};
-ghost use Rattle.plan_model.specs.Lattice.{IsOnLattice};
+ghost use Rattle.plan_model.specs.Bounds.{IsBounded};
 
-use crate::roots::root_above;
+use crate::roots::root_ceiling;
 use plan_model::Point;
 
 /// The cost of the edge from `a` to `b`: its length in 256ths of a lattice step, rounded up.
@@ -13,19 +13,19 @@ use plan_model::Point;
 /// the root of 2 is 362.04. So no edge costs less than its length, and the costs along a path overestimate
 /// its length by less than a 256th of a step an edge. It takes O(1) steps.
 pub fn cost(a: Point, b: Point) -> u64
-    requires from { IsOnLattice a }
-    requires to { IsOnLattice b }
+    requires from { IsBounded a }
+    requires to { IsBounded b }
     ensures value { result ≡ cost_of a b }
     ensures least { IsCost a b result }
     ensures bound { result < 2 ^ 29 }
 {
-    root_above(65536 * a.squared_distance(b))
+    root_ceiling(65536 * a.squared_distance(b))
 }
 
 #[cfg(test)]
 mod tests {
     use super::*;
-    use crate::on_lattice;
+    use crate::bounded;
 
     #[test]
     fn rounds_lengths_up(rt: HostRuntime) {
@@ -40,11 +40,7 @@ mod tests {
             ((20, 20), (75, 65), 18_193),
             ((0, 0), (88, 43), 25_074),
         ] {
-            assert_eq!(rt;
-                cost(on_lattice(a), on_lattice(b)),
-                want,
-                "from {a:?} to {b:?}"
-            );
+            assert_eq!(rt; cost(bounded(a), bounded(b)), want, "from {a:?} to {b:?}");
         }
     }
 }

@@ -3,7 +3,7 @@
 #![tactic(auto)]
 
 ghost use Rattle.std.specs.Prelude.{◌≡◌};
-ghost use Rattle.plan_model.specs.Lattice.{IsOnLattice};
+ghost use Rattle.plan_model.specs.Bounds.{IsBounded};
 
 mod classes;
 mod costs;
@@ -16,8 +16,8 @@ pub use steering::steer;
 
 /// A point of a test's table.
 #[cfg(test)]
-fn on_lattice(place: (u16, u16)) -> plan_model::Point
-    ensures { IsOnLattice result }
+fn bounded(place: (u16, u16)) -> plan_model::Point
+    ensures { IsBounded result }
 {
     plan_model::Point {
         x: u32::from(place.0),

@@ -1,12 +1,13 @@
 //! Steering from a node towards a mark.
 
 ghost use Rattle.std.specs.Prelude.{◌≡◌, ◌*◌, ◌≤◌, min, max};
-ghost use Rattle.plan_model.specs.Geometry.{gap, squared_distance};
+ghost use Rattle.std.specs.Int.{abs_diff};
+ghost use Rattle.plan_model.specs.Geometry.{squared_distance};
 ghost use Rattle.plan_model.specs.Steering.{advanced, steered};
-ghost use Rattle.plan_model.specs.Lattice.{IsOnLattice};
+ghost use Rattle.plan_model.specs.Bounds.{IsBounded};
 
-use crate::roots::root_above;
-use plan_model::Point;
+use crate::roots::root_ceiling;
+use plan_model::{LEAST_STEP, MOST_COORDINATE, MOST_STEERING_STEP, Point};
 
 /// Steer of RRT*: the point that a new edge from `a` towards the mark `b` ends at, which is `b` itself
 /// where it is at most `step` lattice steps away, and otherwise about `step` along the straight line.
@@ -20,10 +21,10 @@ use plan_model::Point;
 /// The length is rounded up and each coordinate towards `a`, so no edge is longer than the step.
 #[tactic(auto, using(crate::proofs::Shares::step_below_root))]
 pub fn steer(a: Point, b: Point, step: u32) -> Point
-    requires from { IsOnLattice a }
-    requires to { IsOnLattice b }
-    requires low { 4 ≤ step }
-    requires high { step ≤ 65536 }
+    requires from { IsBounded a }
+    requires to { IsBounded b }
+    requires low { LEAST_STEP ≤ step }
+    requires high { step ≤ MOST_STEERING_STEP }
     ensures value { result ≡ steered a b step }
     ensures left { min a.x b.x ≤ result.x }
     ensures right { result.x ≤ max a.x b.x }
@@ -35,20 +36,20 @@ pub fn steer(a: Point, b: Point, step: u32) -> Point
     if distance <= u64::from(step) * u64::from(step) {
         return b;
     }
-    partway(a, b, step, root_above(distance))
+    partway(a, b, step, root_ceiling(distance))
 }
 
 /// The point `step / length` of the way from `a` to `b`, each coordinate rounded towards `a`; the distance
 /// from `a` to `b` is at most `length`.
 fn partway(a: Point, b: Point, step: u32, length: u64) -> Point
-    requires from { IsOnLattice a }
-    requires to { IsOnLattice b }
-    requires low { 4 ≤ step }
-    requires high { step ≤ 65536 }
+    requires from { IsBounded a }
+    requires to { IsBounded b }
+    requires low { LEAST_STEP ≤ step }
+    requires high { step ≤ MOST_STEERING_STEP }
     requires beyond { step ≤ length }
     requires whole { squared_distance a b ≤ length * length }
-    ensures across { result.x ≡ advanced a.x b.x step length }
-    ensures upwards { result.y ≡ advanced a.y b.y step length }
+    ensures horizontal { result.x ≡ advanced a.x b.x step length }
+    ensures vertical { result.y ≡ advanced a.y b.y step length }
     ensures left { min a.x b.x ≤ result.x }
     ensures right { result.x ≤ max a.x b.x }
     ensures bottom { min a.y b.y ≤ result.y }
@@ -63,15 +64,15 @@ fn partway(a: Point, b: Point, step: u32, length: u64) -> Point
 
 /// The coordinate `from`, moved by `step / length` of the way to `to` and rounded towards `from`.
 fn advanced(from: u32, to: u32, step: u32, length: u64) -> u32
-    requires start { from ≤ 1048575 }
-    requires end { to ≤ 1048575 }
-    requires low { 4 ≤ step }
-    requires high { step ≤ 65536 }
+    requires start { from ≤ MOST_COORDINATE }
+    requires end { to ≤ MOST_COORDINATE }
+    requires low { LEAST_STEP ≤ step }
+    requires high { step ≤ MOST_STEERING_STEP }
     requires beyond { step ≤ length }
     ensures value { result ≡ advanced from to step length }
     ensures least { min from to ≤ result }
     ensures greatest { result ≤ max from to }
-    ensures share { gap from result * length ≤ gap from to * step }
+    ensures share { abs_diff from result * length ≤ abs_diff from to * step }
 {
     let way = (u64::from(from.abs_diff(to)) * u64::from(step) / length) as u32;
     if from <= to { from + way } else { from - way }
@@ -80,7 +81,7 @@ fn advanced(from: u32, to: u32, step: u32, length: u64) -> u32
 #[cfg(test)]
 mod tests {
     use super::*;
-    use crate::on_lattice;
+    use crate::bounded;
 
     #[test]
     fn steers_by_at_most_a_step(rt: HostRuntime) {
@@ -91,8 +92,8 @@ mod tests {
             ((100, 100), (0, 0), (65, 65)),
         ] {
             assert_eq!(rt;
-                steer(on_lattice(a), on_lattice(b), 50),
-                on_lattice(want),
+                steer(bounded(a), bounded(b), 50),
+                bounded(want),
                 "from {a:?} towards {b:?}"
             );
         }

@@ -1,9 +1,9 @@
 pub mod RootLaws
-pub mod PlainClearance
+pub mod EmptyRoomClearance
 pub mod SumLaws
 pub mod RunLaws
 pub mod MarkBounds
-pub mod PlainRuns
+pub mod EmptyRoomRuns
 pub mod ClassLaws
 pub mod RadiusLaws
 pub mod SteeringLaws
@@ -16,4 +16,4 @@ pub mod SceneParts
 pub mod GivenScenes
 pub mod CostLaws
 pub mod StripLaws
-pub mod Gaps
+pub mod Differences

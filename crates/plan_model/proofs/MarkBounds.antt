@@ -15,7 +15,7 @@ use Rattle.plan_model.specs.declared.tasks.Task.{Task}
 use Rattle.plan_model.specs.declared.scenes.Marks.{Marks}
 use Rattle.plan_model.specs.declared.scenes.Marks.TheVariants.{Drawn, Listed}
 use Rattle.plan_model.specs.Limits.{IsBetween, is_mark, is_plan}
-use Rattle.plan_model.specs.PlainScenes.{IsPlain}
+use Rattle.plan_model.specs.EmptyRooms.{IsPointInEmptyRoom}
 use Rattle.plan_model.specs.MarkPoints.{mark_points, mixed, word_of_state, first_word, second_word, next_state, below_zero, above_zero, reach, Span, span_within, columns, rows, strip, picked, drawn_mark, points_of}
 
 -- a share of c is at most c
@@ -58,7 +58,7 @@ picked_below : (span : Span) (word : ℕ) → word < 2 ^ 64 → picked span word
 unfolding end_of
 picked_below span word h = picked_le span word (2 ^ 32) (pow_pos 32) h
 
-drawn_within : (scene : Scene) (k : ℕ) → IsPlain scene → IsBetween 1 65535 scene.room → 1 ≤ scene.strips → IsBetween 0 65536 (drawn_mark scene k)
+drawn_within : (scene : Scene) (k : ℕ) → IsPointInEmptyRoom scene → IsBetween 1 65535 scene.room → 1 ≤ scene.strips → IsBetween 0 65536 (drawn_mark scene k)
 drawn_within scene k plain room strips =
     let state : ℕ = (scene.seed + k) % 2 ^ 64 in
     let back_x : reach (λ v. below_zero v.x) scene.body ≡ 0 = ap (reach (λ v. below_zero v.x)) plain.body in
@@ -87,7 +87,7 @@ listed_within p h =
     record { left = omega arith; right = omega (arith, x); bottom = omega arith; top = omega (arith, y) }
 
 -- no coordinate of a mark is above 65,536
-pub All-marks_within : (scene : Scene) (plan : Marks) → IsPlain scene → IsBetween 1 65535 scene.room → 1 ≤ scene.strips → IsTrue (is_plan plan) → All (IsBetween 0 65536) (points_of scene plan)
+pub All-marks_within : (scene : Scene) (plan : Marks) → IsPointInEmptyRoom scene → IsBetween 1 65535 scene.room → 1 ≤ scene.strips → IsTrue (is_plan plan) → All (IsBetween 0 65536) (points_of scene plan)
 All-marks_within scene (Drawn n) plain room strips h =
     All-map (IsBetween 0 65536) (drawn_mark scene) (range_with_len 0 n) (λ k d l. drawn_within scene _ plain room strips)
 All-marks_within scene (Listed points) plain room strips h =
@@ -102,7 +102,7 @@ length-points_of scene (Listed points) h = leb-true (length points) 262143 (firs
 pub length-marks : (task : Task) → length task.marks ≤ 262143
 length-marks task = omega (arith, ap length task.of_scene, length-points_of task.scene task.scene.plan task.scene.plan_within)
 
-pub All-task_marks_within : (task : Task) → IsPlain task.scene → All (IsBetween 0 65536) task.marks
+pub All-task_marks_within : (task : Task) → IsPointInEmptyRoom task.scene → All (IsBetween 0 65536) task.marks
 All-task_marks_within task plain =
     let scene = task.scene in
     All-same (IsBetween 0 65536) task.marks (mark_points scene) task.of_scene (All-marks_within scene scene.plan plain scene.room_within scene.strips_low scene.plan_within)

@@ -48,13 +48,13 @@ pair low (x ∷ []) long h = absurd (omega arith)
 pair low (x ∷ y ∷ zs) long h =
     let first = and_parts (int_le (pos low) x && int_le x (pos 65535)) (are_within (pos low) (pos 65535) (y ∷ zs)) h in
     let second = and_parts (int_le (pos low) y && int_le y (pos 65535)) (are_within (pos low) (pos 65535) zs) first.1 in
-    let across = within low 65535 x first.0 in
-    let upwards = within low 65535 y second.0 in
+    let horizontal = within low 65535 x first.0 in
+    let vertical = within low 65535 y second.0 in
     record {
-      left = across.above;
-      right = across.below;
-      bottom = upwards.above;
-      top = upwards.below;
+      left = horizontal.above;
+      right = horizontal.below;
+      bottom = vertical.above;
+      top = vertical.below;
     }
 
 point : (low : ℕ) (zs : List ℤ) → eqb (length zs) 2 ≡ true → (are_within (pos low) (pos 65535) zs && true) ≡ true → IsBetween low 65535 (point_from zs)
@@ -87,8 +87,8 @@ goal-within (a ∷ b ∷ c ∷ d ∷ zs) h =
     record {
       right = high.right;
       top = high.top;
-      across = in_order a c (and_parts (int_le (pos 0) a) (int_le a (pos 65535)) first.0).0 order.0;
-      upwards = in_order b d (and_parts (int_le (pos 0) b) (int_le b (pos 65535)) second.0).0 order.1;
+      horizontal = in_order a c (and_parts (int_le (pos 0) a) (int_le a (pos 65535)) first.0).0 order.0;
+      vertical = in_order b d (and_parts (int_le (pos 0) b) (int_le b (pos 65535)) second.0).0 order.1;
     }
 
 -- ---- numbers
@@ -130,9 +130,9 @@ corners-within low high (x ∷ []) h = refl
 corners-within low high (x ∷ y ∷ zs) h =
     let first = and_parts (int_le low x && int_le x high) (are_within low high (y ∷ zs)) h in
     let second = and_parts (int_le low y && int_le y high) (are_within low high zs) first.1 in
-    let across = and_parts (int_le low x) (int_le x high) first.0 in
-    let upwards = and_parts (int_le low y) (int_le y high) second.0 in
-    rw (across.0, across.1, upwards.0, upwards.1, corners-within low high zs second.1) refl
+    let horizontal = and_parts (int_le low x) (int_le x high) first.0 in
+    let vertical = and_parts (int_le low y) (int_le y high) second.0 in
+    rw (horizontal.0, horizontal.1, vertical.0, vertical.1, corners-within low high zs second.1) refl
 
 -- one corner, or up to 16 that are strictly convex
 body-shape : (n count : ℕ) (convex : Bool) → 2 * n ≤ count → count ≤ 2 * n + 1 → ltb 32 count ≡ false → (eqb count 2 ≡ true) ⊎ (convex ≡ true) → (eqb n 1 || (leb n 16 && convex)) ≡ true

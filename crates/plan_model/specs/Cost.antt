@@ -2,12 +2,12 @@
 use Rattle.std.specs.Prelude.{ℕ, ◌*◌}
 use Rattle.plan_model.specs.declared.geometry.Point.{Point}
 use Rattle.plan_model.specs.Geometry.{squared_distance}
-use Rattle.plan_model.specs.Roots.{IsRootAbove, root_above}
+use Rattle.plan_model.specs.Roots.{IsRootCeiling, root_ceiling}
 
 -- c is the least whole number with c * c ≥ 65536 * |ab| ^ 2: 256 times the length, rounded up
 abbrev pub IsCost : Point → Point → ℕ → Type 0
-IsCost a b c = IsRootAbove (65536 * squared_distance a b) c
+IsCost a b c = IsRootCeiling (65536 * squared_distance a b) c
 
 -- that number
 abbrev pub cost_of : Point → Point → ℕ
-cost_of a b = root_above (65536 * squared_distance a b)
+cost_of a b = root_ceiling (65536 * squared_distance a b)

@@ -1,5 +1,5 @@
 pub mod Geometry
-pub mod Lattice
+pub mod Bounds
 pub mod Convexity
 pub mod Limits
 pub mod RoomOfConfigurations
@@ -17,5 +17,5 @@ pub mod ReportText
 pub mod SceneGrammar
 pub mod CanonicalText
 pub mod Streams
-pub mod PlainScenes
+pub mod EmptyRooms
 pub mod Vectors

@@ -21,5 +21,5 @@ pub record Meets (body : List Vertex) (q : Rational) (obstacle : List Vertex) : 
   pub body_corners : length on_body ≡ length body
   pub obstacle_total : sum on_obstacle ≡ total
   pub body_total : sum on_body ≡ total
-  pub across : pos q.over *ℤ (weighted (λ v. v.x) on_obstacle obstacle -ℤ weighted (λ v. v.x) on_body body) ≡ pos total *ℤ q.x
-  pub upwards : pos q.over *ℤ (weighted (λ v. v.y) on_obstacle obstacle -ℤ weighted (λ v. v.y) on_body body) ≡ pos total *ℤ q.y
+  pub horizontal : pos q.over *ℤ (weighted (λ v. v.x) on_obstacle obstacle -ℤ weighted (λ v. v.x) on_body body) ≡ pos total *ℤ q.x
+  pub vertical : pos q.over *ℤ (weighted (λ v. v.y) on_obstacle obstacle -ℤ weighted (λ v. v.y) on_body body) ≡ pos total *ℤ q.y

@@ -2,7 +2,7 @@
 use Rattle.std.specs.Prelude.{ℕ, ◌*◌, nat_le, pos, ◌+ℤ◌, ◌-ℤ◌, ◌*ℤ◌, int_div, unsigned_abs, if◌then◌else◌}
 use Rattle.plan_model.specs.declared.geometry.Point.{Point}
 use Rattle.plan_model.specs.Geometry.{squared_distance}
-use Rattle.plan_model.specs.Roots.{root_above}
+use Rattle.plan_model.specs.Roots.{root_ceiling}
 
 -- from a coordinate by step / length of the way to another, truncated towards zero
 abbrev pub advanced : ℕ → ℕ → ℕ → ℕ → ℕ
@@ -12,4 +12,4 @@ advanced from to step len =
 -- b where it is at most a step away, otherwise a step towards it, whose length is rounded up before the division
 abbrev pub steered : Point → Point → ℕ → Point
 steered a b step =
-    if nat_le (squared_distance a b) (step * step) then b else record { x = advanced a.x b.x step (root_above (squared_distance a b)); y = advanced a.y b.y step (root_above (squared_distance a b)) }
+    if nat_le (squared_distance a b) (step * step) then b else record { x = advanced a.x b.x step (root_ceiling (squared_distance a b)); y = advanced a.y b.y step (root_ceiling (squared_distance a b)) }

@@ -4,8 +4,8 @@ use Rattle.std.specs.List.{list_any}
 use Rattle.plan_model.specs.declared.errors.Failed.{Failed}
 
 -- a count of faults has risen, or stands at its last value
-abbrev pub Rose : ℕ → ℕ → Type 0
-Rose before now = min (before + 1) (2 ^ 64 - 1) ≤ now
+abbrev pub FaultsRose : ℕ → ℕ → Type 0
+FaultsRose before now = min (before + 1) (2 ^ 64 - 1) ≤ now
 
 -- bytes that are read one after another: those that are left, and whether their end was given
 pub record Stream : Type 0 where

@@ -1,4 +1,4 @@
-//! Points and corners of the plane, in lattice steps; the y axis points upwards.
+//! Points and corners of the plane, in lattice steps; the y axis points vertical.
 
 /// A configuration: where the body's origin stands.
 #[derive(Clone, Copy, Debug, PartialEq, Eq)]
@@ -10,19 +10,19 @@ pub struct Point {
 impl Point {
     ghost use Rattle.std.specs.Prelude.{◌≡◌, ◌^◌, ◌<◌};
     ghost use Rattle.plan_model.specs.Geometry.{squared_distance};
-    ghost use Rattle.plan_model.specs.Lattice.{IsOnLattice};
+    ghost use Rattle.plan_model.specs.Bounds.{IsBounded};
 
     /// The square of the distance to another point, in square lattice steps.
-    #[tactic(auto, using(crate::proofs::Gaps::square_of_gap))]
+    #[tactic(auto, using(crate::proofs::Differences::square_of_difference))]
     pub fn squared_distance(self, other: Point) -> u64
-        requires from { IsOnLattice self }
-        requires to { IsOnLattice other }
+        requires from { IsBounded self }
+        requires to { IsBounded other }
         ensures value { result ≡ squared_distance self other }
         ensures bound { result < 2 ^ 41 }
     {
-        let across = u64::from(self.x.abs_diff(other.x));
-        let upwards = u64::from(self.y.abs_diff(other.y));
-        across * across + upwards * upwards
+        let horizontal = u64::from(self.x.abs_diff(other.x));
+        let vertical = u64::from(self.y.abs_diff(other.y));
+        horizontal * horizontal + vertical * vertical
     }
 }
 

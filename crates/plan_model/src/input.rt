@@ -2,7 +2,7 @@
 
 ghost use Rattle.std.specs.Prelude.{◌≡◌, ℕ, ◌≤◌, Bool, List, length, Option, IfOk, OnErr, Ok};
 ghost use Rattle.std.specs.Io.KnownBytes.{Keeps, ReadConsumes};
-ghost use Rattle.plan_model.specs.Streams.{Rose, ended_after};
+ghost use Rattle.plan_model.specs.Streams.{FaultsRose, ended_after};
 
 use crate::errors::Failed;
 
@@ -30,7 +30,7 @@ pub trait Source {
         ensures bytes { ReadConsumes (bytes_left self.old) (bytes_left self.new) result into.new }
         ensures end { IfOk result (λ count. has_ended self.new ≡ ended_after (has_ended self.old) (length into.old) count) }
         ensures no_end { OnErr result (has_ended self.new ≡ has_ended self.old) }
-        ensures failed { OnErr result (Rose (fault_count self.old) (fault_count self.new)) }
+        ensures failed { OnErr result (FaultsRose (fault_count self.old) (fault_count self.new)) }
         ensures later { fault_count self.old ≤ fault_count self.new }
         ensures empty { length into.old ≡ 0 → (result ≡ Ok 0) × Keeps (bytes_left self.old) (bytes_left self.new) × (fault_count self.new ≡ fault_count self.old) };
 }

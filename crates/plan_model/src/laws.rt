@@ -4,7 +4,7 @@ ghost use Rattle.std.specs.Prelude.{◌≡◌, ℕ, Bool, List, ◌+◌, ◌-◌
 ghost use Rattle.plan_model.specs.Cost.{cost_of};
 ghost use Rattle.plan_model.specs.MarkPoints.{Span, strip};
 ghost use Rattle.plan_model.specs.Radius.{class_of, radius_of_class};
-ghost use Rattle.plan_model.specs.Roots.{IsRootAbove, root_above};
+ghost use Rattle.plan_model.specs.Roots.{IsRootCeiling, root_ceiling};
 ghost use Rattle.plan_model.specs.SceneGrammar.{Refused, Spells};
 ghost use Rattle.plan_model.specs.Steering.{advanced};
 ghost use Rattle.plan_model.specs.declared.geometry.Point.{Point};
@@ -14,7 +14,7 @@ ghost use Rattle.plan_model.specs.declared.text_terms.Kind.{Kind};
 
 /// The root of a number is the least whose square reaches it.
 pub fn root_is_least()
-    ensures { (n : ℕ) → IsRootAbove n (root_above n) }
+    ensures { (n : ℕ) → IsRootCeiling n (root_ceiling n) }
 {}
 
 /// An edge costs the same in both directions, and only one without length costs nothing.

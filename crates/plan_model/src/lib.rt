@@ -7,6 +7,7 @@ mod errors;
 mod geometry;
 mod input;
 mod laws;
+mod limits;
 mod lists;
 mod memory_sources;
 mod numbered_calls;
@@ -21,6 +22,12 @@ mod vectors;
 pub use errors::{Failed, Memory};
 pub use geometry::{Goal, Point, Vertex};
 pub use input::Source;
+pub use limits::{
+    LEAST_BODY_COORDINATE, LEAST_CORNERS, LEAST_OBSTACLE_COORDINATE, LEAST_SIDE, LEAST_STEP,
+    MOST_BODY_COORDINATE, MOST_BODY_CORNERS, MOST_COORDINATE, MOST_GAMMA, MOST_MARKS, MOST_NODES,
+    MOST_OBSTACLE_COORDINATE, MOST_OBSTACLE_CORNERS, MOST_OBSTACLES, MOST_SIDE, MOST_STEERING_STEP,
+    MOST_STEP, MOST_STRIPS, MOST_TEXT_BYTES, MOST_WORKERS,
+};
 pub use lists::Sequence;
 pub use memory_sources::{MemSource, SureSource};
 pub use output::{MemSink, Sink};

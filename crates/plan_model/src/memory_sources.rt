@@ -2,7 +2,7 @@
 
 ghost use Rattle.std.specs.Prelude.{◌≡◌, ◌++◌, ◌≤◌, false, length, min, Some, take, drop, IfOk, OnErr, Ok, ◌^◌, ◌<◌};
 ghost use Rattle.std.specs.Io.KnownBytes.{Keeps, ReadConsumes};
-ghost use Rattle.plan_model.specs.Streams.{Rose, ended_after, Stream, Given, read_result, after_read, read_into};
+ghost use Rattle.plan_model.specs.Streams.{FaultsRose, ended_after, Stream, Given, read_result, after_read, read_into};
 
 use crate::errors::{Failed, Memory};
 use crate::input::Source;
@@ -172,7 +172,7 @@ impl Source for MemSource {
         ensures bytes { ReadConsumes (Some self.old.left) (Some self.new.left) result into.new }
         ensures end { IfOk result (λ count. self.new.ended ≡ ended_after self.old.ended (length into.old) count) }
         ensures no_end { OnErr result (self.new.ended ≡ self.old.ended) }
-        ensures failed { OnErr result (Rose self.old.faults self.new.faults) }
+        ensures failed { OnErr result (FaultsRose self.old.faults self.new.faults) }
         ensures later { self.old.faults ≤ self.new.faults }
         ensures empty { length into.old ≡ 0 → (result ≡ Ok 0) × Keeps (Some self.old.left) (Some self.new.left) × (self.new.faults ≡ self.old.faults) }
         // which calls fail, and what is moved

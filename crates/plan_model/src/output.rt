@@ -2,7 +2,7 @@
 
 ghost use Rattle.std.specs.Prelude.{◌≡◌, ℕ, ◌≤◌, ◌<◌, List, [], length, Option, Some, IfOk, OnErr, Ok};
 ghost use Rattle.std.specs.Io.KnownBytes.{Keeps, WriteAppends};
-ghost use Rattle.plan_model.specs.Streams.{Rose, Taken, write_result, after_write};
+ghost use Rattle.plan_model.specs.Streams.{FaultsRose, Taken, write_result, after_write};
 
 use crate::errors::{Failed, Memory};
 use crate::numbered_calls::is_listed;
@@ -28,7 +28,7 @@ pub trait Sink {
         ensures bound { IfOk result (λ count. count ≤ length bytes.now) }
         ensures some { 0 < length bytes.now → IfOk result (λ count. 0 < count) }
         ensures bytes { WriteAppends (bytes_taken self.old) (bytes_taken self.new) result bytes.now }
-        ensures failed { OnErr result (Rose (fault_count self.old) (fault_count self.new)) }
+        ensures failed { OnErr result (FaultsRose (fault_count self.old) (fault_count self.new)) }
         ensures later { fault_count self.old ≤ fault_count self.new }
         ensures empty { length bytes.now ≡ 0 → (result ≡ Ok 0) × (fault_count self.new ≡ fault_count self.old) };
 }
@@ -97,7 +97,7 @@ impl Sink for MemSink {
         ensures bound { IfOk result (λ count. count ≤ length bytes.now) }
         ensures some { 0 < length bytes.now → IfOk result (λ count. 0 < count) }
         ensures bytes { WriteAppends (Some self.old.bytes) (Some self.new.bytes) result bytes.now }
-        ensures failed { OnErr result (Rose self.old.faults self.new.faults) }
+        ensures failed { OnErr result (FaultsRose self.old.faults self.new.faults) }
         ensures later { self.old.faults ≤ self.new.faults }
         ensures empty { length bytes.now ≡ 0 → (result ≡ Ok 0) × (self.new.faults ≡ self.old.faults) }
         // which calls fail, and what is taken

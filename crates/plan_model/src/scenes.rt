@@ -2,6 +2,7 @@
 
 ghost use Rattle.std.specs.Prelude.{◌≡◌, ◌≤◌, IsTrue};
 ghost use Rattle.plan_model.specs.Limits.{IsBetween, IsGoal, is_body, are_obstacles, is_plan};
+ghost use Rattle.plan_model.specs.declared.limits.TheConstants.{LEAST_SIDE, LEAST_STEP, MOST_GAMMA, MOST_SIDE, MOST_STEP, MOST_STRIPS};
 
 use crate::geometry::{Goal, Point, Vertex};
 use crate::lists::Sequence;
@@ -52,15 +53,15 @@ pub struct Scene {
     /// The marks, up to 262,143.
     pub plan: Marks,
     ghost version_is_one: { version ≡ 1 },
-    ghost room_within: { IsBetween 1 65535 room },
+    ghost room_within: { IsBetween LEAST_SIDE MOST_SIDE room },
     ghost body_within: { IsTrue (is_body body) },
     ghost obstacles_within: { IsTrue (are_obstacles obstacles) },
-    ghost start_within: { IsBetween 0 65535 start },
+    ghost start_within: { IsBetween 0 MOST_SIDE start },
     ghost goal_within: { IsGoal goal },
-    ghost step_low: { 4 ≤ step },
-    ghost step_high: { step ≤ 4096 },
-    ghost gamma_high: { gamma ≤ 16777215 },
+    ghost step_low: { LEAST_STEP ≤ step },
+    ghost step_high: { step ≤ MOST_STEP },
+    ghost gamma_high: { gamma ≤ MOST_GAMMA },
     ghost strips_low: { 1 ≤ strips },
-    ghost strips_high: { strips ≤ 64 },
+    ghost strips_high: { strips ≤ MOST_STRIPS },
     ghost plan_within: { IsTrue (is_plan plan) },
 }

@@ -2,7 +2,7 @@
 
 ghost use Rattle.std.specs.Prelude.{◌≡◌, ◌≤◌, ℕ, ◌<◌, length, take, OnOk, OnErr};
 ghost use Rattle.std.specs.Io.KnownBytes.{Appends};
-ghost use Rattle.plan_model.specs.Streams.{Rose};
+ghost use Rattle.plan_model.specs.Streams.{FaultsRose};
 ghost use Rattle.planner_main.specs.Delivery.{AppendsFront};
 
 use plan_model::{Failed, Sink};
@@ -14,7 +14,7 @@ use plan_model::{Failed, Sink};
 pub fn deliver<K: Sink>(sink: &mut K, text: &[u8]) -> Result<(), Failed>
     ensures whole { OnOk result (Appends (K.bytes_taken sink.old) (K.bytes_taken sink.new) text.now) }
     ensures front { OnErr result (AppendsFront (K.bytes_taken sink.old) (K.bytes_taken sink.new) text.now) }
-    ensures failed { OnErr result (Rose (K.fault_count sink.old) (K.fault_count sink.new)) }
+    ensures failed { OnErr result (FaultsRose (K.fault_count sink.old) (K.fault_count sink.new)) }
     ensures later { K.fault_count sink.old ≤ K.fault_count sink.new }
 {
     let mut written = 0;

@@ -2,9 +2,9 @@
 
 ghost use Rattle.std.specs.Prelude.{◌≡◌, ◌≢◌, ℕ, ◌≤◌, ◌+◌, ◌⊎◌, false, List, length, map, string_bytes, IsTrue, ◌↔◌, IfOk, IfErr, IsSome, Some, None};
 ghost use Rattle.std.specs.Io.KnownBytes.{Appends, Keeps};
-ghost use Rattle.plan_model.specs.Streams.{Rose};
+ghost use Rattle.plan_model.specs.Streams.{FaultsRose};
 ghost use Rattle.plan_model.specs.Clearance.{ClearAt};
-ghost use Rattle.plan_model.specs.PlainScenes.{IsPlain, IsListed, IsInRoom};
+ghost use Rattle.plan_model.specs.EmptyRooms.{IsPointInEmptyRoom, IsListed, IsInRoom};
 ghost use Rattle.scene_text.specs.Fetching.{ReadsWithin};
 ghost use Rattle.planner_main.specs.Conclusions.{IsAnswer, IsDecided, ReportsRun, ReportsScene, ShowsScene, Succeeds, RefusesForm, status_of_refusal, line_of_refusal};
 ghost use Rattle.planner_main.specs.Forms.{form_of};
@@ -41,16 +41,16 @@ pub fn run<S: Source, K: Sink>(
     // the status has its cause, and the whole text of the answer is written
     ensures done { result.status ≢ 6 → (text : List ℕ)
         × IsAnswer (form_of (map string_bytes words.now)) (S.bytes_left source.old) (S.has_ended source.new)
-        (Rose (S.fault_count source.old) (S.fault_count source.new)) result.status text
+        (FaultsRose (S.fault_count source.old) (S.fault_count source.new)) result.status text
         × Appends (K.bytes_taken sink.old) (K.bytes_taken sink.new) text }
     // the sink failed, and took a proper front of the text of an answer with its cause
-    ensures cut { result.status ≡ 6 → Rose (K.fault_count sink.old) (K.fault_count sink.new) × ((status : ℕ) × (text : List ℕ)
+    ensures cut { result.status ≡ 6 → FaultsRose (K.fault_count sink.old) (K.fault_count sink.new) × ((status : ℕ) × (text : List ℕ)
         × IsAnswer (form_of (map string_bytes words.now)) (S.bytes_left source.old) (S.has_ended source.new)
-        (Rose (S.fault_count source.old) (S.fault_count source.new)) status text
+        (FaultsRose (S.fault_count source.old) (S.fault_count source.new)) status text
         × AppendsFront (K.bytes_taken sink.old) (K.bytes_taken sink.new) text) }
     // where no count of faults rose, the bytes decide the status, unless there is no memory
     ensures decided { (bytes : List ℕ) → IsSome (form_of (map string_bytes words.now)) → S.bytes_left source.old ≡ Some bytes
-        → (¬ Rose (S.fault_count source.old) (S.fault_count source.new)) → (¬ Rose (K.fault_count sink.old) (K.fault_count sink.new))
+        → (¬ FaultsRose (S.fault_count source.old) (S.fault_count source.new)) → (¬ FaultsRose (K.fault_count sink.old) (K.fault_count sink.new))
         → (result.status ≡ 7) ⊎ IsDecided (form_of (map string_bytes words.now)) bytes result.status }
     // never more than one byte past the limit of a text is read
     ensures within { ReadsWithin (S.bytes_left source.old) (S.bytes_left source.new) }
@@ -72,7 +72,7 @@ pub fn run<S: Source, K: Sink>(
 fn conclude<K: Sink>(sink: &mut K, text: &[u8], status: u8) -> Done
     requires { status ≢ 6 }
     ensures done { result.status ≢ 6 → (result.status ≡ status) × Appends (K.bytes_taken sink.old) (K.bytes_taken sink.new) text.now }
-    ensures cut { result.status ≡ 6 → Rose (K.fault_count sink.old) (K.fault_count sink.new)
+    ensures cut { result.status ≡ 6 → FaultsRose (K.fault_count sink.old) (K.fault_count sink.new)
         × AppendsFront (K.bytes_taken sink.old) (K.bytes_taken sink.new) text.now }
 {
     match deliver(sink, text) {
@@ -132,9 +132,9 @@ struct Answer {
 fn answer_to<S: Source>(alloc: Global, words: &[String], source: &mut S) -> Result<Answer, Refusal>
     requires { S.has_ended source.old ≡ false }
     ensures report { IfOk result (λ answer. IsAnswer (form_of (map string_bytes words.now)) (S.bytes_left source.old) (S.has_ended source.new)
-        (Rose (S.fault_count source.old) (S.fault_count source.new)) answer.status answer.text.items) }
+        (FaultsRose (S.fault_count source.old) (S.fault_count source.new)) answer.status answer.text.items) }
     ensures refusal { IfErr result (λ refusal. IsAnswer (form_of (map string_bytes words.now)) (S.bytes_left source.old) (S.has_ended source.new)
-        (Rose (S.fault_count source.old) (S.fault_count source.new)) (status_of_refusal refusal) (line_of_refusal refusal)) }
+        (FaultsRose (S.fault_count source.old) (S.fault_count source.new)) (status_of_refusal refusal) (line_of_refusal refusal)) }
     ensures within { ReadsWithin (S.bytes_left source.old) (S.bytes_left source.new) }
     ensures unread { form_of (map string_bytes words.now) ≡ None → Keeps (S.bytes_left source.old) (S.bytes_left source.new)
         × (S.has_ended source.new ≡ false) × (S.fault_count source.new ≡ S.fault_count source.old) }
@@ -192,7 +192,7 @@ fn is_in_room(room: Point, p: Point) -> bool
 
 // The short report of the textbook run of a scene.
 fn report_of(alloc: Global, scene: Scene) -> Result<Answer, Memory>
-    requires plain { IsPlain scene }
+    requires plain { IsPointInEmptyRoom scene }
     requires listed { IsListed scene.plan }
     requires start { ClearAt scene scene.start }
     ensures { IfOk result (λ answer. (answer.status ≤ 1) × ReportsScene scene answer.status answer.text.items) }

@@ -63,7 +63,7 @@ fit-mark p h =
 
 -- both pairs in range, and in order
 ordered : (a b c d : ℕ) → c ≤ 65535 → d ≤ 65535 → a ≤ c → b ≤ d → (((leb 0 a && leb a 65535) && ((leb 0 b && leb b 65535) && ((leb 0 c && leb c 65535) && ((leb 0 d && leb d 65535) && true)))) && (leb a c && leb b d)) ≡ true
-ordered a b c d right top across upwards =
+ordered a b c d right top horizontal vertical =
     let bound : (n : ℕ) → n ≤ 65535 → leb n 65535 ≡ true = λ n h. grind (arith, nat_tests) in
     let none : (n : ℕ) → leb 0 n ≡ true = λ n. grind (arith, nat_tests) in
     let p : leb a c ≡ true = grind (arith, nat_tests) in
@@ -73,7 +73,7 @@ ordered a b c d right top across upwards =
 pub fit-goal : (goal : Goal) → IsGoal goal → IsFit keys.Goal (goal_numbers goal)
 fit-goal goal h = record {
   words = refl;
-  ranged = ordered goal.low.x goal.low.y goal.high.x goal.high.y h.right h.top h.across h.upwards;
+  ranged = ordered goal.low.x goal.low.y goal.high.x goal.high.y h.right h.top h.horizontal h.vertical;
   convex = refl;
 }
 

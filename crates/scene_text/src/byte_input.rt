@@ -1,7 +1,7 @@
 //! The bytes of a source, read to its end.
 
 ghost use Rattle.std.specs.Prelude.{◌≡◌, ◌≤◌, length, true, false, IfOk, OnOk, OnErr, IsErrOf};
-ghost use Rattle.plan_model.specs.Streams.{Rose};
+ghost use Rattle.plan_model.specs.Streams.{FaultsRose};
 ghost use Rattle.scene_text.specs.Fetching.{IsAllOf, IsSpent, IsPastLimit, ReadsWithin};
 ghost use Rattle.scene_text.specs.declared.byte_input.FetchFault.TheVariants as faults;
 
@@ -52,7 +52,7 @@ pub fn fetch<S: Source>(alloc: Global, source: &mut S) -> Result<Vec<u8>, FetchF
     ensures small { IfOk result (λ text. length text.items ≤ 16777216) }
     ensures no_end { OnErr result (S.has_ended source.new ≡ false) }
     ensures read { IsErrOf result FetchFault.Read
-        → Rose (S.fault_count source.old) (S.fault_count source.new) × (S.has_ended source.new ≡ false) }
+        → FaultsRose (S.fault_count source.old) (S.fault_count source.new) × (S.has_ended source.new ≡ false) }
     // one byte more than the limit is read, and no further one
     ensures too_long { IsErrOf result FetchFault.TooLong
         → (S.has_ended source.new ≡ false) × IsPastLimit (S.bytes_left source.old) (S.bytes_left source.new) }

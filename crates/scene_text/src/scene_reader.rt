@@ -1,7 +1,7 @@
 //! The reader of a scene text.
 
 ghost use Rattle.std.specs.Prelude.{◌<◌, length, IfOk, IfErr};
-ghost use Rattle.plan_model.specs.PlainScenes.{IsPlain, IsListed};
+ghost use Rattle.plan_model.specs.EmptyRooms.{IsPointInEmptyRoom, IsListed};
 ghost use Rattle.plan_model.specs.SceneGrammar.{Spells, supported};
 ghost use Rattle.scene_text.specs.Refusals.{IsRefusal};
 
@@ -21,7 +21,7 @@ pub fn read_scene(alloc: Global, text: &[u8]) -> Result<Scene, SceneRefusal>
     // with the number of the line and the kind of the first check that fails
     ensures fault { IfErr result (IsRefusal text.now) }
     // today's keys give no other scenes
-    ensures plain { IfOk result (λ scene. IsPlain scene) }
+    ensures plain { IfOk result (λ scene. IsPointInEmptyRoom scene) }
     ensures listed { IfOk result (λ scene. IsListed scene.plan) }
 {
     let mut draft = Draft::new(alloc);

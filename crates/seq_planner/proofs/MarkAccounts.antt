@@ -11,9 +11,9 @@ use Rattle.plan_model.specs.Clearance.{Clear}
 use Rattle.plan_model.specs.Cost.{cost_of}
 use Rattle.plan_model.specs.Radius.{class_of}
 use Rattle.plan_model.specs.Nodes.{node_at, point_of}
-use Rattle.plan_model.specs.PlainScenes.{IsPlain}
+use Rattle.plan_model.specs.EmptyRooms.{IsPointInEmptyRoom}
 use Rattle.plan_model.specs.Textbook.{IsFree, cost_through, Handles}
-use Rattle.plan_model.proofs.PlainClearance.{AreInRoom-from_clear}
+use Rattle.plan_model.proofs.EmptyRoomClearance.{AreInRoom-from_clear}
 use Rattle.seq_planner.specs.declared.accounts.Account.{Account}
 use Rattle.seq_planner.specs.declared.growth.Growth.{Growth}
 use Rattle.seq_planner.specs.Growing.{IsSound, IsGrown, IsAccountOf}
@@ -42,7 +42,7 @@ kept_cost scene growth n kept grown own e =
     e ∙ get_or_default growth.costs.items n kept 0 (omega (arith, present_below growth.nodes.items n own, grown.cost_count))
 
 -- a mark that is placed, at the cost kept of its parent and the edge
-pub IsAccountOf-placed : (scene : Scene) (growth : Growth) (mark : Point) (k nearest : ℕ) (from point : Point) (kept edge class : ℕ) → IsPlain scene → IsGrown scene growth → k ≡ length growth.records.items → Steers scene growth.nodes.items mark nearest from point → IsFree growth.nodes.items point → Clear scene from point → kept ≡ get_or growth.costs.items nearest kept → edge ≡ cost_of from point → edge < 2 ^ 29 → class ≡ class_of growth.present → IsAccountOf scene growth mark (record { node = Some (record { point = point; parent = nearest }); cost = kept + edge; entry = record { worker = 0; turn = k; nearest = nearest; outcome = Placed; first_parent = nearest; first_cost = kept + edge; class = class } })
+pub IsAccountOf-placed : (scene : Scene) (growth : Growth) (mark : Point) (k nearest : ℕ) (from point : Point) (kept edge class : ℕ) → IsPointInEmptyRoom scene → IsGrown scene growth → k ≡ length growth.records.items → Steers scene growth.nodes.items mark nearest from point → IsFree growth.nodes.items point → Clear scene from point → kept ≡ get_or growth.costs.items nearest kept → edge ≡ cost_of from point → edge < 2 ^ 29 → class ≡ class_of growth.present → IsAccountOf scene growth mark (record { node = Some (record { point = point; parent = nearest }); cost = kept + edge; entry = record { worker = 0; turn = k; nearest = nearest; outcome = Placed; first_parent = nearest; first_cost = kept + edge; class = class } })
 IsAccountOf-placed scene growth mark k nearest from point kept edge class plain grown turn steers free clear read priced low classed =
     let tree = growth.nodes.items in
     let costs = growth.costs.items in

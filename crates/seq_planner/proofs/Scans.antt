@@ -9,9 +9,9 @@ use Rattle.plan_model.specs.Geometry.{squared_distance}
 use Rattle.plan_model.specs.Nodes.{HasPoint, node_at, point_of, point_or_origin}
 use Rattle.plan_model.specs.Nearness.{IsNearest}
 use Rattle.plan_model.specs.Textbook.{Nodes, IsFree}
-use Rattle.plan_model.specs.Lattice.{IsOnLattice}
+use Rattle.plan_model.specs.Bounds.{IsBounded}
 use Rattle.plan_model.proofs.SumLaws.{node_at-past}
-use Rattle.seq_planner.specs.Growing.{IsOnLatticeAll}
+use Rattle.seq_planner.specs.Growing.{AreBounded}
 
 -- m is the nearest to q of itself and the nodes below the limit, at this squared distance
 pub record IsNearestBelow (tree : Nodes) (q : Point) (limit m distance : ℕ) : Type 0 where
@@ -84,10 +84,10 @@ IsNearest-all tree q m distance h = record {
 }
 
 -- a node that is present stands where distances can be taken
-pub IsOnLattice-at : (tree : Nodes) (n : ℕ) → IsOnLatticeAll tree → IsSome (node_at tree n) → IsOnLattice (point_of tree n)
-IsOnLattice-at tree n all h = by_node (node_at tree n) refl h
+pub IsBounded-at : (tree : Nodes) (n : ℕ) → AreBounded tree → IsSome (node_at tree n) → IsBounded (point_of tree n)
+IsBounded-at tree n all h = by_node (node_at tree n) refl h
   where
-    by_node : (node : Option Twig) → node_at tree n ≡ node → IsSome node → IsOnLattice (point_or_origin node)
+    by_node : (node : Option Twig) → node_at tree n ≡ node → IsSome node → IsBounded (point_or_origin node)
     by_node None e p = cc
     by_node (Some twig) e p = all n twig.point (twig.parent, e)
 
@@ -97,9 +97,9 @@ same_point a b = nat_eq a.x b.x && nat_eq a.y b.y
 
 point_is : (a b : Point) → a.x ≡ b.x → a.y ≡ b.y → a ≡ b
 point_is a b x y =
-    let across : ℕ → Point = λ u. record { x = u; y = a.y } in
-    let upwards : ℕ → Point = λ v. record { x = b.x; y = v } in
-    ap across x ∙ ap upwards y
+    let horizontal : ℕ → Point = λ u. record { x = u; y = a.y } in
+    let vertical : ℕ → Point = λ v. record { x = b.x; y = v } in
+    ap horizontal x ∙ ap vertical y
 
 both_parts : (a b c d : ℕ) (s t : Bool) → eqb a b ≡ s → eqb c d ≡ t → (s && t) ≡ true → (a ≡ b) × (c ≡ d)
 both_parts a b c d true true x y h = (eqb-true a b x, eqb-true c d y)

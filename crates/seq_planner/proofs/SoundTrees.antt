@@ -11,12 +11,12 @@ use Rattle.plan_model.specs.declared.trees.Twig.{Twig}
 use Rattle.plan_model.specs.declared.scenes.Scene.{Scene}
 use Rattle.plan_model.specs.Cost.{cost_of}
 use Rattle.plan_model.specs.Nodes.{node_at, point_of, point_or_origin, parent_or_start, sum_of}
-use Rattle.plan_model.specs.PlainScenes.{IsInRoom, LiesIn}
+use Rattle.plan_model.specs.EmptyRooms.{IsInRoom, LiesIn}
 use Rattle.plan_model.specs.Textbook.{Nodes, node_count}
 use Rattle.plan_model.proofs.SumLaws.{IsRising, IsRising-push, node_at-push, node_at-push_new, node_at-past, sum_of-push, sum_of-push_new}
-use Rattle.plan_model.specs.Lattice.{IsOnLattice}
-use Rattle.seq_planner.proofs.Scans.{HasPoint-absent, IsOnLattice-at}
-use Rattle.seq_planner.specs.Growing.{IsOnLatticeAll, IsSound}
+use Rattle.plan_model.specs.Bounds.{IsBounded}
+use Rattle.seq_planner.proofs.Scans.{HasPoint-absent, IsBounded-at}
+use Rattle.seq_planner.specs.Growing.{AreBounded, IsSound}
 
 -- a node that may be put at the end, at this cost
 pub record MayBePut (scene : Scene) (tree : Nodes) (node : Option Twig) (cost : ℕ) : Type 0 where
@@ -106,15 +106,15 @@ MayBePut-node scene tree costs present p parent edge h l own room e low = record
 }
 
 -- in a room of at most 65,535 by 65,535, distances can be taken
-pub IsOnLattice-in_room : (scene : Scene) (p : Point) → IsInRoom scene.room p → IsOnLattice p
-IsOnLattice-in_room scene p h =
+pub IsBounded-in_room : (scene : Scene) (p : Point) → IsInRoom scene.room p → IsBounded p
+IsBounded-in_room scene p h =
     let within = scene.room_within in
-    record { right = omega (arith, h.across, within.right); top = omega (arith, h.upwards, within.top) }
+    record { right = omega (arith, h.horizontal, within.right); top = omega (arith, h.vertical, within.top) }
 
-pub IsOnLatticeAll-in_room : (scene : Scene) (tree : Nodes) → LiesIn scene.room tree → IsOnLatticeAll tree
-IsOnLatticeAll-in_room scene tree h = λ n p own. IsOnLattice-in_room scene p (h n p own)
+pub AreBounded-in_room : (scene : Scene) (tree : Nodes) → LiesIn scene.room tree → AreBounded tree
+AreBounded-in_room scene tree h = λ n p own. IsBounded-in_room scene p (h n p own)
 
 -- the point of a present node of a sound tree
-pub IsOnLattice-present : (scene : Scene) (tree : Nodes) (costs : List ℕ) (present n : ℕ) (p : Point) → IsSound scene tree costs present → IsSome (node_at tree n) → p ≡ point_of tree n → IsOnLattice p
-IsOnLattice-present scene tree costs present n p h own e =
-    subst IsOnLattice (sym e) (IsOnLattice-at tree n (IsOnLatticeAll-in_room scene tree h.in_room) own)
+pub IsBounded-present : (scene : Scene) (tree : Nodes) (costs : List ℕ) (present n : ℕ) (p : Point) → IsSound scene tree costs present → IsSome (node_at tree n) → p ≡ point_of tree n → IsBounded p
+IsBounded-present scene tree costs present n p h own e =
+    subst IsBounded (sym e) (IsBounded-at tree n (AreBounded-in_room scene tree h.in_room) own)

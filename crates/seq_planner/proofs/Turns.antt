@@ -9,9 +9,9 @@ use Rattle.plan_model.specs.Radius.{class_of}
 use Rattle.plan_model.specs.Steering.{steered}
 use Rattle.plan_model.specs.Nodes.{HasPoint, point_of}
 use Rattle.plan_model.specs.Nearness.{IsNearest}
-use Rattle.plan_model.specs.PlainScenes.{IsPlain}
+use Rattle.plan_model.specs.EmptyRooms.{IsPointInEmptyRoom}
 use Rattle.plan_model.specs.Textbook.{Nodes, IsFree, node_count, cost_through, record_of, Handles, Places}
-use Rattle.plan_model.proofs.PlainRuns.{Places-plain}
+use Rattle.plan_model.proofs.EmptyRoomRuns.{Places-plain}
 
 -- A mark steers from its nearest node, which stands at from, to the point.
 pub record Steers (scene : Scene) (tree : Nodes) (mark : Point) (nearest : ℕ) (from point : Point) : Type 0 where
@@ -44,7 +44,7 @@ Handles-blocked scene tree k mark nearest from point h free blocked =
     }
 
 -- a node is placed at the point
-pub Handles-placed : (scene : Scene) (tree : Nodes) (k : ℕ) (mark : Point) (nearest : ℕ) (from point : Point) (cost class : ℕ) → IsPlain scene → Steers scene tree mark nearest from point → IsFree tree point → Clear scene from point → cost ≡ cost_through tree point nearest → class ≡ class_of (node_count tree) → Handles scene tree k mark (record { worker = 0; turn = k; nearest = nearest; outcome = Placed; first_parent = nearest; first_cost = cost; class = class }) (tree ++ Some (record { point = point; parent = nearest }) ∷ [])
+pub Handles-placed : (scene : Scene) (tree : Nodes) (k : ℕ) (mark : Point) (nearest : ℕ) (from point : Point) (cost class : ℕ) → IsPointInEmptyRoom scene → Steers scene tree mark nearest from point → IsFree tree point → Clear scene from point → cost ≡ cost_through tree point nearest → class ≡ class_of (node_count tree) → Handles scene tree k mark (record { worker = 0; turn = k; nearest = nearest; outcome = Placed; first_parent = nearest; first_cost = cost; class = class }) (tree ++ Some (record { point = point; parent = nearest }) ∷ [])
 Handles-placed scene tree k mark nearest from point cost class plain h free clear c d =
     let e = ends_at scene tree mark nearest from point h in
     let Q : Point → Type 0 = λ p. Clear scene p point in

@@ -4,15 +4,15 @@ use Rattle.plan_model.specs.declared.geometry.Point.{Point}
 use Rattle.plan_model.specs.declared.scenes.Scene.{Scene}
 use Rattle.plan_model.specs.declared.records.Record.{Record}
 use Rattle.plan_model.specs.Nodes.{HasPoint, node_at, parent_of, sum_of}
-use Rattle.plan_model.specs.PlainScenes.{LiesIn}
+use Rattle.plan_model.specs.EmptyRooms.{LiesIn}
 use Rattle.plan_model.specs.Textbook.{Nodes, node_count, Handles}
-use Rattle.plan_model.specs.Lattice.{IsOnLattice}
+use Rattle.plan_model.specs.Bounds.{IsBounded}
 use Rattle.seq_planner.specs.declared.accounts.Account.{Account}
 use Rattle.seq_planner.specs.declared.growth.Growth.{Growth}
 
 -- every node that is present stands where distances can be taken
-abbrev pub IsOnLatticeAll : Nodes → Type 0
-IsOnLatticeAll tree = (n : ℕ) (p : Point) → HasPoint tree n p → IsOnLattice p
+abbrev pub AreBounded : Nodes → Type 0
+AreBounded tree = (n : ℕ) (p : Point) → HasPoint tree n p → IsBounded p
 
 -- The start is there, every parent is earlier than its child, every node is in the room, and the kept costs
 -- and the kept number of nodes are right.

@@ -1,12 +1,12 @@
 //! The growing tree: its nodes, what it costs to come to each, and the records of the marks.
 
 ghost use Rattle.std.specs.Prelude.{◌≡◌, ℕ, ◌<◌, ◌≤◌, [], length, IfOk, OnOk, IsSome, MatchOption};
-ghost use Rattle.plan_model.specs.Lattice.{IsOnLattice};
+ghost use Rattle.plan_model.specs.Bounds.{IsBounded};
 ghost use Rattle.plan_model.specs.Nodes.{HasPoint, node_at, point_of};
 ghost use Rattle.plan_model.specs.Nearness.{IsNearest};
-ghost use Rattle.plan_model.specs.PlainScenes.{IsPlain, IsInRoom};
+ghost use Rattle.plan_model.specs.EmptyRooms.{IsPointInEmptyRoom, IsInRoom};
 ghost use Rattle.plan_model.specs.Textbook.{IsFree, start_alone};
-ghost use Rattle.seq_planner.specs.Growing.{IsOnLatticeAll, IsGrown, IsAccountOf, HandlesNext};
+ghost use Rattle.seq_planner.specs.Growing.{AreBounded, IsGrown, IsAccountOf, HandlesNext};
 
 use crate::accounts::Account;
 use crate::rooms::is_clear;
@@ -53,11 +53,11 @@ impl Growth {
     ///
     /// `Memory` where there is no memory left; the growth is then of no more use.
     pub(crate) fn handle(&mut self, scene: &Scene, mark: Point) -> Result<(), Memory>
-        requires plain { IsPlain scene.now }
+        requires plain { IsPointInEmptyRoom scene.now }
         requires grown { IsGrown scene.now self.old }
         requires few { length self.old.nodes.items ≤ 262143 }
         requires turn { length self.old.records.items < length self.old.nodes.items }
-        requires on_lattice { IsOnLattice mark }
+        requires bounded { IsBounded mark }
         ensures handles { OnOk result (HandlesNext scene.now self.old mark self.new) }
         ensures grown { OnOk result (IsGrown scene.now self.new) }
     {
@@ -83,11 +83,11 @@ impl Growth {
     /// What the next mark adds: the nearest node steers towards it, and a node is placed where it then
     /// comes to, unless one stands there already or the segment is not clear.
     fn account(&self, scene: &Scene, mark: Point) -> Account
-        requires plain { IsPlain scene.now }
+        requires plain { IsPointInEmptyRoom scene.now }
         requires grown { IsGrown scene.now self.now }
         requires few { length self.now.nodes.items ≤ 262143 }
         requires turn { length self.now.records.items < length self.now.nodes.items }
-        requires on_lattice { IsOnLattice mark }
+        requires bounded { IsBounded mark }
         ensures { IsAccountOf scene.now self.now mark result }
     {
         let turn = self.records.len() as u32;
@@ -133,8 +133,8 @@ impl Growth {
     fn nearest(&self, mark: Point) -> u32
         requires start { IsSome (node_at self.now.nodes.items 0) }
         requires few { length self.now.nodes.items ≤ 262144 }
-        requires nodes { IsOnLatticeAll self.now.nodes.items }
-        requires on_lattice { IsOnLattice mark }
+        requires nodes { AreBounded self.now.nodes.items }
+        requires bounded { IsBounded mark }
         ensures { IsNearest self.now.nodes.items mark result }
     {
         let mut best = 0;

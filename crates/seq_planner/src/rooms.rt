@@ -2,7 +2,7 @@
 
 ghost use Rattle.std.specs.Prelude.{◌↔◌, IsTrue};
 ghost use Rattle.plan_model.specs.Clearance.{Clear};
-ghost use Rattle.plan_model.specs.PlainScenes.{IsPlain, IsInRoom};
+ghost use Rattle.plan_model.specs.EmptyRooms.{IsPointInEmptyRoom, IsInRoom};
 
 use plan_model::{Point, Scene};
 
@@ -15,7 +15,7 @@ fn is_in_room(room: Point, point: Point) -> bool
 
 /// Whether the segment from `a` to `b` is clear: in a plain scene, where both ends are in the room.
 pub(crate) fn is_clear(scene: &Scene, a: Point, b: Point) -> bool
-    requires { IsPlain scene.now }
+    requires { IsPointInEmptyRoom scene.now }
     ensures { IsTrue result ↔ Clear scene.now a b }
 {
     is_in_room(scene.room, a) && is_in_room(scene.room, b)

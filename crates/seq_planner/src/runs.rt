@@ -3,7 +3,7 @@
 ghost use Rattle.std.specs.Prelude.{◌≡◌, ◌+◌, length, IfOk, IsTrue};
 ghost use Rattle.plan_model.specs.Clearance.{ClearAt};
 ghost use Rattle.plan_model.specs.Limits.{is_plan};
-ghost use Rattle.plan_model.specs.PlainScenes.{IsPlain, LiesIn};
+ghost use Rattle.plan_model.specs.EmptyRooms.{IsPointInEmptyRoom, LiesIn};
 ghost use Rattle.plan_model.specs.Textbook.{IsTextbookRun};
 
 use crate::growth::Growth;
@@ -20,7 +20,7 @@ use std::alloc::Global;
 ///
 /// `Memory` where there is no memory for the nodes or the records.
 pub fn textbook(alloc: Global, task: Task) -> Result<Tree, Memory>
-    requires plain { IsPlain task.scene }
+    requires plain { IsPointInEmptyRoom task.scene }
     requires start { ClearAt task.scene task.scene.start }
     ensures run { IfOk result (λ tree. IsTextbookRun task.scene task.marks tree.twigs tree.records) }
     ensures nodes { IfOk result (λ tree. length tree.twigs ≡ length task.marks + 1) }
@@ -43,7 +43,7 @@ mod tests {
     /// The task of these marks in a room of 100 by 100, from its lower left corner by steps of 50.
     fn small_task(alloc: Global, marks: &[Point]) -> Result<Task, Memory>
         requires { IsTrue (is_plan (Marks.Listed marks.now)) }
-        ensures plain { IfOk result (λ task. IsPlain task.scene) }
+        ensures plain { IfOk result (λ task. IsPointInEmptyRoom task.scene) }
         ensures start { IfOk result (λ task. ClearAt task.scene task.scene.start) }
     {
         let scene = Scene {

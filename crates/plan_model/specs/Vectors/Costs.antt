@@ -10,8 +10,8 @@ pub record CostVectors : Type 0 where
   pub slanted : cost_of (at 0 0) (at 2 1) ≡ 573
   pub whole : cost_of (at 0 0) (at 30 40) ≡ 12800
   pub long_diagonal : cost_of (at 0 0) (at 35 35) ≡ 12672
-  pub upwards : cost_of (at 0 50) (at 40 79) ≡ 12649
-  pub across : cost_of (at 20 20) (at 75 65) ≡ 18193
+  pub vertical : cost_of (at 0 50) (at 40 79) ≡ 12649
+  pub horizontal : cost_of (at 20 20) (at 75 65) ≡ 18193
   pub far : cost_of (at 0 0) (at 88 43) ≡ 25074
   pub backwards : cost_of (at 1 1) (at 0 0) ≡ 363
   -- the longest step, and the diagonal of the largest room

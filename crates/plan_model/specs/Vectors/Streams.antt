@@ -1,6 +1,6 @@
 -- Counts of faults, and calls on streams in memory.
 use Rattle.std.specs.Prelude.{◌≡◌, ℕ, true, false, List, [], ◌∷◌, Ok, Err}
-use Rattle.plan_model.specs.Streams.{Rose, Taken, Given, ended_after, counted, write_result, after_write, read_result, after_read, read_into}
+use Rattle.plan_model.specs.Streams.{FaultsRose, Taken, Given, ended_after, counted, write_result, after_write, read_result, after_read, read_into}
 
 -- room for so many bytes, of which one is taken; the third call fails
 abbrev pub sink_with : ℕ → ℕ → Taken
@@ -13,11 +13,11 @@ source_of left calls =
     record { left = left; ended = false; most = 2; fails = 3 ∷ []; calls = calls; faults = 0 }
 
 pub record StreamVectors : Type 0 where
-  pub risen : Rose 0 1
-  pub not_risen : ¬ Rose 7 7
+  pub risen : FaultsRose 0 1
+  pub not_risen : ¬ FaultsRose 7 7
   -- a count at the last value of a u64 counts as risen
-  pub at_last_value : Rose 18446744073709551615 18446744073709551615
-  pub before_last_value : ¬ Rose 18446744073709551614 18446744073709551614
+  pub at_last_value : FaultsRose 18446744073709551615 18446744073709551615
+  pub before_last_value : ¬ FaultsRose 18446744073709551614 18446744073709551614
   pub stops : counted 18446744073709551615 ≡ 18446744073709551615
   -- the end is given by a read of no byte into a place, and stays given
   pub end : ended_after false 5 0 ≡ true

@@ -21,7 +21,7 @@ three (a ∷ b ∷ c ∷ d ∷ ws) h = absurd (omega arith)
 
 -- each difference of an obstacle's and a body's point has coordinates that add up to 18 at least
 beside_corner : (t a b c d e f : ℕ) → 0 < t → sum (a ∷ b ∷ c ∷ []) ≡ t → sum (d ∷ e ∷ f ∷ []) ≡ t → pos 1 *ℤ (weighted (λ v. v.x) (a ∷ b ∷ c ∷ []) great_triangle -ℤ weighted (λ v. v.x) (d ∷ e ∷ f ∷ []) small_triangle) ≡ pos t *ℤ pos 8 → pos 1 *ℤ (weighted (λ v. v.y) (a ∷ b ∷ c ∷ []) great_triangle -ℤ weighted (λ v. v.y) (d ∷ e ∷ f ∷ []) small_triangle) ≡ pos t *ℤ pos 9 → ⊥
-beside_corner t a b c d e f some obstacle body across upwards = omega (arith, ints)
+beside_corner t a b c d e f some obstacle body horizontal vertical = omega (arith, ints)
 
 -- a list of four numbers, by its members
 record Four (ws : List ℕ) : Type 0 where
@@ -41,7 +41,7 @@ four (a ∷ b ∷ c ∷ d ∷ e ∷ ws) h = absurd (omega arith)
 
 -- each difference of an obstacle's and a body's point has an x of 8 at least
 beside_edge : (t a b c d e f g h : ℕ) → 0 < t → sum (a ∷ b ∷ c ∷ d ∷ []) ≡ t → sum (e ∷ f ∷ g ∷ h ∷ []) ≡ t → pos 1 *ℤ (weighted (λ v. v.x) (a ∷ b ∷ c ∷ d ∷ []) great_square -ℤ weighted (λ v. v.x) (e ∷ f ∷ g ∷ h ∷ []) small_square) ≡ pos t *ℤ pos 7 → ⊥
-beside_edge t a b c d e f g h some obstacle body across = omega (arith, ints)
+beside_edge t a b c d e f g h some obstacle body horizontal = omega (arith, ints)
 
 pub returns : goal.returns
 returns c = record {
@@ -54,13 +54,13 @@ returns c = record {
     body_corners = refl;
     obstacle_total = refl;
     body_total = refl;
-    across = refl;
-    upwards = refl;
+    horizontal = refl;
+    vertical = refl;
   };
   beside_corner = λ m.
       let o = three m.on_obstacle m.obstacle_corners in
       let b = three m.on_body m.body_corners in
-      beside_corner m.total o.first o.second o.third b.first b.second b.third m.some_weight (rw o.are at m.obstacle_total) (rw b.are at m.body_total) (rw (o.are, b.are) at m.across) (rw (o.are, b.are) at m.upwards);
+      beside_corner m.total o.first o.second o.third b.first b.second b.third m.some_weight (rw o.are at m.obstacle_total) (rw b.are at m.body_total) (rw (o.are, b.are) at m.horizontal) (rw (o.are, b.are) at m.vertical);
   at_edge = record {
     total = 10;
     on_obstacle = 7 ∷ 0 ∷ 0 ∷ 3 ∷ [];
@@ -70,11 +70,11 @@ returns c = record {
     body_corners = refl;
     obstacle_total = refl;
     body_total = refl;
-    across = refl;
-    upwards = refl;
+    horizontal = refl;
+    vertical = refl;
   };
   beside_edge = λ m.
       let o = four m.on_obstacle m.obstacle_corners in
       let b = four m.on_body m.body_corners in
-      beside_edge m.total o.first o.second o.third o.fourth b.first b.second b.third b.fourth m.some_weight (rw o.are at m.obstacle_total) (rw b.are at m.body_total) (rw (o.are, b.are) at m.across);
+      beside_edge m.total o.first o.second o.third o.fourth b.first b.second b.third b.fourth m.some_weight (rw o.are at m.obstacle_total) (rw b.are at m.body_total) (rw (o.are, b.are) at m.horizontal);
 }

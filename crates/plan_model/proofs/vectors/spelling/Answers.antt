@@ -26,7 +26,7 @@ the_scene = record {
   body_within = refl;
   obstacles_within = refl;
   start_within = record { left = omega arith; right = omega arith; bottom = omega arith; top = omega arith };
-  goal_within = record { right = omega arith; top = omega arith; across = omega arith; upwards = omega arith };
+  goal_within = record { right = omega arith; top = omega arith; horizontal = omega arith; vertical = omega arith };
   step_low = omega arith;
   step_high = omega arith;
   gamma_high = omega arith;

@@ -1,27 +1,27 @@
 use Rattle.std.proofs.Common.{◌≡◌, ap, arith, refl}
-use Rattle.plan_model.specs.Roots.{root_above}
+use Rattle.plan_model.specs.Roots.{root_ceiling}
 use Rattle.plan_model.specs.Steering.{advanced}
 use Rattle.plan_model.specs.Vectors.Shapes.{at}
-use Rattle.plan_model.proofs.RootLaws.{root_above-from_squares}
+use Rattle.plan_model.proofs.RootLaws.{root_ceiling-from_squares}
 use Rattle.plan_model.proofs.vectors.steps.Goals as goal
 
-halfway : root_above 10000 ≡ 100
-halfway = root_above-from_squares 10000 100 (omega arith) (omega arith)
+halfway : root_ceiling 10000 ≡ 100
+halfway = root_ceiling-from_squares 10000 100 (omega arith) (omega arith)
 
-rounded : root_above 9800 ≡ 99
-rounded = root_above-from_squares 9800 99 (omega arith) (omega arith)
+rounded : root_ceiling 9800 ≡ 99
+rounded = root_ceiling-from_squares 9800 99 (omega arith) (omega arith)
 
-backwards : root_above 20000 ≡ 142
-backwards = root_above-from_squares 20000 142 (omega arith) (omega arith)
+backwards : root_ceiling 20000 ≡ 142
+backwards = root_ceiling-from_squares 20000 142 (omega arith) (omega arith)
 
-just_beyond : root_above 2581 ≡ 51
-just_beyond = root_above-from_squares 2581 51 (omega arith) (omega arith)
+just_beyond : root_ceiling 2581 ≡ 51
+just_beyond = root_ceiling-from_squares 2581 51 (omega arith) (omega arith)
 
-shortest : root_above 10001 ≡ 101
-shortest = root_above-from_squares 10001 101 (omega arith) (omega arith)
+shortest : root_ceiling 10001 ≡ 101
+shortest = root_ceiling-from_squares 10001 101 (omega arith) (omega arith)
 
-longest : root_above 8589672450 ≡ 92681
-longest = root_above-from_squares 8589672450 92681 (omega arith) (omega arith)
+longest : root_ceiling 8589672450 ≡ 92681
+longest = root_ceiling-from_squares 8589672450 92681 (omega arith) (omega arith)
 
 pub returns : goal.returns
 returns c = record {

@@ -1,10 +1,10 @@
 use Rattle.std.proofs.Common.{◌≡◌, arith, refl}
-use Rattle.plan_model.specs.Roots.{root_above}
-use Rattle.plan_model.proofs.RootLaws.{root_above-from_squares}
+use Rattle.plan_model.specs.Roots.{root_ceiling}
+use Rattle.plan_model.proofs.RootLaws.{root_ceiling-from_squares}
 use Rattle.plan_model.proofs.vectors.trees.Goals as goal
 
-edge : root_above 163840000 ≡ 12800
-edge = root_above-from_squares 163840000 12800 (omega arith) (omega arith)
+edge : root_ceiling 163840000 ≡ 12800
+edge = root_ceiling-from_squares 163840000 12800 (omega arith) (omega arith)
 
 pub returns : goal.returns
 returns c = record {

@@ -1,6 +1,6 @@
 use Rattle.std.proofs.Common.{◌≤◌, ◌∙◌, List, ℕ, Some, length, subst, sym}
 use Rattle.std.proofs.lemmas.Result.{IfErr-weaker}
-use Rattle.plan_model.specs.Streams.{Rose}
+use Rattle.plan_model.specs.Streams.{FaultsRose}
 use Rattle.planner_main.specs.Conclusions.{IsAnswer, RefusesForm, status_of_refusal, line_of_refusal}
 use Rattle.planner_main.proofs.Outcomes.{form_refused}
 use Rattle.planner_main.proofs.top_call.answer_to.Goals as goal
@@ -10,7 +10,7 @@ returns-clause-refusal g c =
     let form = c.in-Some.form in
     let left = g.S.Source.bytes_left c.args.source.now in
     let ended = g.S.Source.has_ended c.fetch.new.source in
-    let rose = Rose (g.S.Source.fault_count c.args.source.now) (g.S.Source.fault_count c.fetch.new.source) in
+    let rose = FaultsRose (g.S.Source.fault_count c.args.source.now) (g.S.Source.fault_count c.fetch.new.source) in
     let text = c.deref.result.now in
     let read = c.in_ok-text.ensures in
     let same = c.deref.ensures.value in

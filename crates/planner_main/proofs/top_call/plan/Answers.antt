@@ -1,6 +1,6 @@
 use Rattle.std.proofs.lemmas.Bool.{false≢true}
 use Rattle.std.proofs.Common.{refl, sym, ◌∙◌}
-use Rattle.plan_model.proofs.PlainClearance.{IsInRoom-from_clear_at, ClearAt-from_room}
+use Rattle.plan_model.proofs.EmptyRoomClearance.{IsInRoom-from_clear_at, ClearAt-from_room}
 use Rattle.planner_main.proofs.top_call.plan.Goals as goal
 
 pub returns-then-not-is_in_room-clause-refusal : goal.returns-then-not-is_in_room-clause-refusal

@@ -7,7 +7,7 @@ short_report-requires-clause-in_reach c = λ n p h.
     let q = c.in_ok-tree.ensures.in_room n p h in
     record {
       left = omega arith;
-      right = omega (arith, room.right, q.across);
+      right = omega (arith, room.right, q.horizontal);
       bottom = omega arith;
-      top = omega (arith, room.top, q.upwards);
+      top = omega (arith, room.top, q.vertical);
     }

@@ -11,8 +11,8 @@ handle-requires-clause-few c =
     let marks : length c.as_slice-marks.result.now ≡ length c.args.task.marks = ap length c.as_slice-marks.ensures in
     omega (arith, c.loop-mark.invariant.nodes, length-take c.loop-mark.mark-index c.as_slice-marks.result.now, length-marks c.args.task)
 
-pub handle-requires-clause-on_lattice : goal.handle-requires-clause-on_lattice
-handle-requires-clause-on_lattice c =
+pub handle-requires-clause-bounded : goal.handle-requires-clause-bounded
+handle-requires-clause-bounded c =
     let marks : length c.as_slice-marks.result.now ≡ length c.args.task.marks = ap length c.as_slice-marks.ensures in
     let mark : Point = record { x = 0; y = 0 } in
     let here = All-task_marks_within c.args.task c.requires.plain c.loop-mark.mark-index mark (omega arith) in

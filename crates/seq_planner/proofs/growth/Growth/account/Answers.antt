@@ -1,19 +1,19 @@
 use Rattle.std.proofs.Common.{true, ◌≡◌, arith, rules, length}
 use Rattle.plan_model.specs.Textbook.{record_of}
 use Rattle.plan_model.specs.declared.records.Outcome.TheVariants.{Same, Blocked}
-use Rattle.plan_model.specs.Lattice.{IsOnLattice}
+use Rattle.plan_model.specs.Bounds.{IsBounded}
 use Rattle.seq_planner.proofs.Scans.{present_below}
-use Rattle.seq_planner.proofs.SoundTrees.{IsOnLatticeAll-in_room, IsOnLattice-present}
+use Rattle.seq_planner.proofs.SoundTrees.{AreBounded-in_room, IsBounded-present}
 use Rattle.seq_planner.proofs.Turns.{Steers, Handles-same, Handles-blocked}
 use Rattle.seq_planner.proofs.MarkAccounts.{IsAccountOf-unplaced, IsAccountOf-placed, kept_cost}
 use Rattle.seq_planner.proofs.growth.Growth.account.Goals as goal
 
 pub nearest-nearest-requires-clause-nodes : goal.nearest-nearest-requires-clause-nodes
-nearest-nearest-requires-clause-nodes c = IsOnLatticeAll-in_room c.args.scene.now c.args.self.now.nodes.items c.requires.grown.in_room
+nearest-nearest-requires-clause-nodes c = AreBounded-in_room c.args.scene.now c.args.self.now.nodes.items c.requires.grown.in_room
 
 pub steer-point-requires-clause-from : goal.steer-point-requires-clause-from
 steer-point-requires-clause-from c =
-    IsOnLattice-present c.args.scene.now c.args.self.now.nodes.items c.args.self.now.costs.items c.args.self.now.present c.nearest-nearest.result c.point-from.result c.requires.grown c.nearest-nearest.ensures.present c.point-from.ensures
+    IsBounded-present c.args.scene.now c.args.self.now.nodes.items c.args.self.now.costs.items c.args.self.now.present c.nearest-nearest.result c.point-from.result c.requires.grown c.nearest-nearest.ensures.present c.point-from.ensures
 
 pub returns-in-Some : goal.returns-in-Some
 returns-in-Some c =
@@ -31,11 +31,11 @@ returns-then-not-is_clear c =
 
 pub cost-requires-clause-from : goal.cost-requires-clause-from
 cost-requires-clause-from c =
-    IsOnLattice-present c.args.scene.now c.args.self.now.nodes.items c.args.self.now.costs.items c.args.self.now.present c.nearest-nearest.result c.point-from.result c.requires.grown c.nearest-nearest.ensures.present c.point-from.ensures
+    IsBounded-present c.args.scene.now c.args.self.now.nodes.items c.args.self.now.costs.items c.args.self.now.present c.nearest-nearest.result c.point-from.result c.requires.grown c.nearest-nearest.ensures.present c.point-from.ensures
 
 pub cost-requires-clause-to : goal.cost-requires-clause-to
 cost-requires-clause-to c =
-    let from : IsOnLattice c.point-from.result = IsOnLattice-present c.args.scene.now c.args.self.now.nodes.items c.args.self.now.costs.items c.args.self.now.present c.nearest-nearest.result c.point-from.result c.requires.grown c.nearest-nearest.ensures.present c.point-from.ensures in
+    let from : IsBounded c.point-from.result = IsBounded-present c.args.scene.now c.args.self.now.nodes.items c.args.self.now.costs.items c.args.self.now.present c.nearest-nearest.result c.point-from.result c.requires.grown c.nearest-nearest.ensures.present c.point-from.ensures in
     record { right = omega (arith, c.steer-point.ensures.right); top = omega (arith, c.steer-point.ensures.top) }
 
 pub overflow_add-first_cost : goal.overflow_add-first_cost

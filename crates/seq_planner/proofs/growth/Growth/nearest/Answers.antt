@@ -1,12 +1,12 @@
 use Rattle.std.proofs.Common.{◌≡◌, ◌∙◌, sym, ap}
 use Rattle.plan_model.specs.Nodes.{node_at}
-use Rattle.seq_planner.proofs.Scans.{IsOnLattice-at, IsNearestBelow-absent, IsNearestBelow-farther, IsNearestBelow-nearer}
+use Rattle.seq_planner.proofs.Scans.{IsBounded-at, IsNearestBelow-absent, IsNearestBelow-farther, IsNearestBelow-nearer}
 use Rattle.seq_planner.proofs.growth.Growth.nearest.Goals as goal
 use Rattle.seq_planner.proofs.growth.Growth.nearest.Goals.{in-Some+then-distance-least, in-Some+else-distance-least, in_default}
 
 pub squared_distance-least-requires-clause-from : goal.squared_distance-least-requires-clause-from
 squared_distance-least-requires-clause-from c =
-    rw c.point.ensures (IsOnLattice-at c.args.self.now.nodes.items 0 c.requires.nodes c.requires.start)
+    rw c.point.ensures (IsBounded-at c.args.self.now.nodes.items 0 c.requires.nodes c.requires.start)
 
 pub squared_distance-distance-requires-clause-from : goal.squared_distance-distance-requires-clause-from
 squared_distance-distance-requires-clause-from c =

@@ -10,7 +10,8 @@ use Rattle.plan_model.specs.declared.geometry.Point.{Point}
 use Rattle.plan_model.specs.declared.trees.Twig.{Twig}
 use Rattle.plan_model.specs.declared.scenes.Scene.{Scene}
 use Rattle.plan_model.specs.declared.records.Outcome.TheVariants.{Placed}
-use Rattle.plan_model.specs.Geometry.{gap, squared_distance}
+use Rattle.std.specs.Int.{abs_diff}
+use Rattle.plan_model.specs.Geometry.{squared_distance}
 use Rattle.plan_model.specs.Clearance.{Clear}
 use Rattle.plan_model.specs.Radius.{class_of, greatest, radius_of}
 use Rattle.plan_model.specs.Nodes.{node_at, point_of}
@@ -32,18 +33,18 @@ radius_of-zero : (step n : ℕ) → radius_of step 0 n ≡ 0
 radius_of-zero step n = greatest-none (λ r. leb (r * r * 2 ^ (class_of n - 1)) (0 * 0 * class_of n)) step (λ r. not_within_zero r (2 ^ (class_of n - 1)) (class_of n) (pow_pos (class_of n - 1)))
 
 -- points with no distance are the same
-zero_gap : (a b : ℕ) → gap a b * gap a b ≤ 0 → a ≡ b
-zero_gap a b h =
+zero_difference : (a b : ℕ) → abs_diff a b * abs_diff a b ≤ 0 → a ≡ b
+zero_difference a b h =
     elim (cases_order a b) [
       | inl e ↦ e
-      | inr (inl before) ↦ (let far : 0 < gap a b = omega arith in absurd (omega (arith, mul-pos far far)))
-      | inr (inr after) ↦ (let far : 0 < gap a b = omega arith in absurd (omega (arith, mul-pos far far)))
+      | inr (inl before) ↦ (let far : 0 < abs_diff a b = omega arith in absurd (omega (arith, mul-pos far far)))
+      | inr (inr after) ↦ (let far : 0 < abs_diff a b = omega arith in absurd (omega (arith, mul-pos far far)))
     ]
 
 pub same-from_distance : (a b : Point) → squared_distance a b ≤ 0 → a ≡ b
 same-from_distance a b h =
-    let x : a.x ≡ b.x = zero_gap a.x b.x (omega arith) in
-    let y : a.y ≡ b.y = zero_gap a.y b.y (omega arith) in
+    let x : a.x ≡ b.x = zero_difference a.x b.x (omega arith) in
+    let y : a.y ≡ b.y = zero_difference a.y b.y (omega arith) in
     let move_x : ℕ → Point = λ u. record { x = u; y = a.y } in
     let move_y : ℕ → Point = λ v. record { x = b.x; y = v } in
     ap move_x x ∙ ap move_y y

@@ -7,7 +7,7 @@ use Rattle.plan_model.specs.declared.scenes.Marks.{Marks}
 use Rattle.plan_model.specs.declared.scenes.Marks.TheVariants.{Drawn, Listed}
 use Rattle.plan_model.specs.Nodes.{HasPoint}
 
-pub record IsPlain (scene : Scene) : Type 0 where
+pub record IsPointInEmptyRoom (scene : Scene) : Type 0 where
   pub body : scene.body ≡ record { x = pos 0; y = pos 0 } ∷ []
   pub obstacles : scene.obstacles ≡ []
   pub gamma : scene.gamma ≡ 0
@@ -19,8 +19,8 @@ IsListed (Listed points) = Unit {0}
 
 -- the point lies between the origin and the room's upper right corner
 pub record IsInRoom (room p : Point) : Type 0 where
-  pub across : p.x ≤ room.x
-  pub upwards : p.y ≤ room.y
+  pub horizontal : p.x ≤ room.x
+  pub vertical : p.y ≤ room.y
 
 -- every node that is present stands in the room
 abbrev pub LiesIn : Point → List (Option Twig) → Type 0

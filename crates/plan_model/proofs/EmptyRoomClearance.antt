@@ -10,7 +10,7 @@ use Rattle.plan_model.specs.declared.scenes.Scene.{Scene}
 use Rattle.plan_model.specs.RoomOfConfigurations.{Rational, at_lattice, moved_by, IsInBox}
 use Rattle.plan_model.specs.Meeting.{Meets}
 use Rattle.plan_model.specs.Clearance.{IsClear, ClearAt, on_the_way, Clear}
-use Rattle.plan_model.specs.PlainScenes.{IsPlain, IsInRoom}
+use Rattle.plan_model.specs.EmptyRooms.{IsPointInEmptyRoom, IsInRoom}
 
 -- s of the d = s + k parts of the way from a to b, in a whole number of parts
 part_of_way : (s k a b : ℕ) (z : ℤ) → z ≡ pos b -ℤ pos a → (pos (s + k) *ℤ pos a) +ℤ (pos s *ℤ z) ≡ pos (k * a + s * b)
@@ -46,7 +46,7 @@ corner_in_box room q h = record {
 }
 
 -- in a plain scene a point within the box of the room is clear
-pub IsClear-from_box : (scene : Scene) (q : Rational) → IsPlain scene → IsInBox scene.room q → IsClear scene q
+pub IsClear-from_box : (scene : Scene) (q : Rational) → IsPointInEmptyRoom scene → IsInBox scene.room q → IsClear scene q
 IsClear-from_box scene q plain h =
     let P : Vertex → Type 0 = λ corner. IsInBox scene.room (moved_by q corner) in
     let Q : List Vertex → Type 0 = λ obstacle. ¬ Meets scene.body q obstacle in
@@ -58,13 +58,13 @@ IsClear-from_box scene q plain h =
 box_at : (room p : Point) → IsInRoom room p → IsInBox room (at_lattice p)
 box_at room p h = record {
   left = omega (arith, ints);
-  right = omega (arith, ints, h.across);
+  right = omega (arith, ints, h.horizontal);
   bottom = omega (arith, ints);
-  top = omega (arith, ints, h.upwards);
+  top = omega (arith, ints, h.vertical);
 }
 
 -- the body at a point of the room is clear
-pub ClearAt-from_room : (scene : Scene) (p : Point) → IsPlain scene → IsInRoom scene.room p → ClearAt scene p
+pub ClearAt-from_room : (scene : Scene) (p : Point) → IsPointInEmptyRoom scene → IsInRoom scene.room p → ClearAt scene p
 ClearAt-from_room scene p plain h = IsClear-from_box scene (at_lattice p) plain (box_at scene.room p h)
 
 -- where the body is clear at a point, the point is in the room
@@ -72,13 +72,13 @@ pub IsInRoom-from_clear_at : (scene : Scene) (p : Point) → ClearAt scene p →
 IsInRoom-from_clear_at scene p h =
     let x = h.in_room.here.right in
     let y = h.in_room.here.top in
-    record { across = omega (arith, ints); upwards = omega (arith, ints) }
+    record { horizontal = omega (arith, ints); vertical = omega (arith, ints) }
 
 -- a segment between two points of the room is clear
-pub Clear-from_room : (scene : Scene) (a b : Point) → IsPlain scene → IsInRoom scene.room a → IsInRoom scene.room b → Clear scene a b
+pub Clear-from_room : (scene : Scene) (a b : Point) → IsPointInEmptyRoom scene → IsInRoom scene.room a → IsInRoom scene.room b → Clear scene a b
 Clear-from_room scene a b plain f g = λ s d p q.
-    let x = way_on_side s d a.x b.x scene.room.x p f.across g.across in
-    let y = way_on_side s d a.y b.y scene.room.y p f.upwards g.upwards in
+    let x = way_on_side s d a.x b.x scene.room.x p f.horizontal g.horizontal in
+    let y = way_on_side s d a.y b.y scene.room.y p f.vertical g.vertical in
     IsClear-from_box scene (on_the_way a b s d) plain (record { left = x.low; right = x.high; bottom = y.low; top = y.high })
 
 -- both ends of a segment are in the room
@@ -96,6 +96,6 @@ AreInRoom-from_clear scene a b h =
     let ex = e.in_room.here.right in
     let ey = e.in_room.here.top in
     record {
-      first = record { across = omega (arith, ints); upwards = omega (arith, ints) };
-      last = record { across = omega (arith, ints); upwards = omega (arith, ints) };
+      first = record { horizontal = omega (arith, ints); vertical = omega (arith, ints) };
+      last = record { horizontal = omega (arith, ints); vertical = omega (arith, ints) };
     }

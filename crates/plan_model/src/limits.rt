@@ -1,0 +1,61 @@
+//! The limits of scene texts, scenes and runs, each said once.
+
+/// The most bytes of a scene text.
+pub const MOST_TEXT_BYTES: usize = 16_777_216;
+
+/// The most marks (samples) of a plan.
+pub const MOST_MARKS: u32 = 262_143;
+
+/// The most nodes of a tree, the start included.
+pub const MOST_NODES: u32 = 262_144;
+
+/// The most workers that grow a tree.
+pub const MOST_WORKERS: u32 = 64;
+
+/// The most strips that a room is cut into.
+pub const MOST_STRIPS: u32 = 64;
+
+/// The most obstacles of a scene.
+pub const MOST_OBSTACLES: usize = 1_024;
+
+/// The fewest corners of a polygon.
+pub const LEAST_CORNERS: usize = 3;
+
+/// The most corners of an obstacle.
+pub const MOST_OBSTACLE_CORNERS: usize = 64;
+
+/// The most corners of a body.
+pub const MOST_BODY_CORNERS: usize = 16;
+
+/// The least side of a room, in lattice steps.
+pub const LEAST_SIDE: u32 = 1;
+
+/// The greatest side of a room, and the greatest coordinate of a start, a goal and a listed mark, in lattice steps.
+pub const MOST_SIDE: u32 = 65_535;
+
+/// The least step (the longest edge of a tree), in lattice steps.
+pub const LEAST_STEP: u32 = 4;
+
+/// The greatest step, in lattice steps.
+pub const MOST_STEP: u32 = 4_096;
+
+/// The greatest factor of the rewiring radius.
+pub const MOST_GAMMA: u32 = 16_777_215;
+
+/// The least coordinate of a body's corner, in lattice steps.
+pub const LEAST_BODY_COORDINATE: i32 = -4_096;
+
+/// The greatest coordinate of a body's corner, in lattice steps.
+pub const MOST_BODY_COORDINATE: i32 = 4_096;
+
+/// The least coordinate of an obstacle's corner, in lattice steps.
+pub const LEAST_OBSTACLE_COORDINATE: i32 = -131_072;
+
+/// The greatest coordinate of an obstacle's corner, in lattice steps.
+pub const MOST_OBSTACLE_COORDINATE: i32 = 131_071;
+
+/// The greatest coordinate of a point whose distances are taken, in lattice steps: no square of a distance passes 2^41.
+pub const MOST_COORDINATE: u32 = 1_048_575;
+
+/// The greatest step that a point is steered by, in lattice steps.
+pub const MOST_STEERING_STEP: u32 = 65_536;
