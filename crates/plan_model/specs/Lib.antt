@@ -2,6 +2,7 @@ pub mod Geometry
 pub mod Bounds
 pub mod Convexity
 pub mod Limits
+pub mod ConfigurationSpace
 pub mod RoomOfConfigurations
 pub mod Meeting
 pub mod Clearance

@@ -1,22 +1,29 @@
 -- The room of configurations: where the body lies in the room, touching its walls or not.
-use Rattle.std.specs.Prelude.{ℕ, ◌*◌, ℤ, pos, ◌+ℤ◌, ◌*ℤ◌, ◌≤ℤ◌, List, All}
+use Rattle.std.specs.Prelude.{ℕ, ◌*◌, ◌<◌, ℤ, pos, ◌+ℤ◌, ◌*ℤ◌, ◌≤ℤ◌, All}
 use Rattle.plan_model.specs.declared.geometry.Point.{Point}
 use Rattle.plan_model.specs.declared.geometry.Vertex.{Vertex}
+use Rattle.plan_model.specs.ConfigurationSpace.{ConfigurationSpace}
 
--- The rational point (x / over, y / over), where over is above 0.
+-- the rational point (x / over, y / over)
 pub record Rational : Type 0 where
   pub x : ℤ
   pub y : ℤ
   pub over : ℕ
+  pub positive : 0 < over
 
 -- a lattice point
 abbrev pub at_lattice : Point → Rational
-at_lattice p = record { x = pos p.x; y = pos p.y; over = 1 }
+at_lattice p = record { x = pos p.x; y = pos p.y; over = 1; positive = tt }
 
 -- the point moved by a corner of the body
 abbrev pub moved_by : Rational → Vertex → Rational
 moved_by q corner =
-    record { x = q.x +ℤ (pos q.over *ℤ corner.x); y = q.y +ℤ (pos q.over *ℤ corner.y); over = q.over }
+    record {
+      x = q.x +ℤ (pos q.over *ℤ corner.x);
+      y = q.y +ℤ (pos q.over *ℤ corner.y);
+      over = q.over;
+      positive = q.positive
+    }
 
 -- a point whose coordinates lie between 0 and the room's sides
 pub record IsInBox (room : Point) (q : Rational) : Type 0 where
@@ -26,6 +33,6 @@ pub record IsInBox (room : Point) (q : Rational) : Type 0 where
   pub top : q.y ≤ℤ pos (q.over * room.y)
 
 -- The room of configurations: the point itself, and each corner of the body moved by it, lie in the room.
-pub record InRoom (room : Point) (body : List Vertex) (q : Rational) : Type 0 where
-  pub here : IsInBox room q
-  pub corners : All (λ corner. IsInBox room (moved_by q corner)) body
+pub record InRoom (space : ConfigurationSpace) (q : Rational) : Type 0 where
+  pub here : IsInBox space.room q
+  pub corners : All (λ corner. IsInBox space.room (moved_by q corner)) space.body
