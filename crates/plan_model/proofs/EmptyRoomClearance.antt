@@ -1,16 +1,18 @@
--- In a plain scene, where the body is a point among no obstacles, being clear is being in the room.
-use Rattle.std.proofs.Common.{◌≡◌, ℕ, suc, ◌+◌, ◌-◌, ◌*◌, ◌≤◌, arith, List, [], subst, sym, refl}
+-- A point body in an empty room is clear exactly if it is in the room.
+use Rattle.std.proofs.Common.{◌≡◌, ℕ, suc, ◌+◌, ◌-◌, ◌*◌, ◌≤◌, arith, List, [], subst, sym, refl, ap, ◌∙◌}
 use Rattle.std.specs.Prelude.{ℤ, pos, negsuc, ◌+ℤ◌, ◌-ℤ◌, ◌*ℤ◌, ◌≤ℤ◌}
+use Rattle.std.proofs.Math.Nat.{le_refl}
 use Rattle.std.proofs.lemmas.Int.{ints}
 use Rattle.std.proofs.lemmas.Nat.{mul-le}
-use Rattle.std.proofs.lemmas.List.Elements.{All-same, All-cons, All-nil}
+use Rattle.std.proofs.lemmas.List.Elements.{All-cons, All-nil}
 use Rattle.plan_model.specs.declared.geometry.Vertex.{Vertex}
 use Rattle.plan_model.specs.declared.geometry.Point.{Point}
 use Rattle.plan_model.specs.declared.scenes.Scene.{Scene}
+use Rattle.plan_model.specs.ConfigurationSpace.{ConfigurationSpace, space_of}
 use Rattle.plan_model.specs.RoomOfConfigurations.{Rational, at_lattice, moved_by, IsInBox}
 use Rattle.plan_model.specs.Meeting.{Meets}
 use Rattle.plan_model.specs.Clearance.{IsClear, ClearAt, on_the_way, Clear}
-use Rattle.plan_model.specs.EmptyRooms.{IsPointInEmptyRoom, IsInRoom}
+use Rattle.plan_model.specs.EmptyRooms.{empty_room, IsPointInEmptyRoom, IsInRoom}
 
 -- s of the d = s + k parts of the way from a to b, in a whole number of parts
 part_of_way : (s k a b : ℕ) (z : ℤ) → z ≡ pos b -ℤ pos a → (pos (s + k) *ℤ pos a) +ℤ (pos s *ℤ z) ≡ pos (k * a + s * b)
@@ -36,7 +38,7 @@ way_on_side s d a b w h p q =
     let Q : ℕ → Type 0 = λ n. IsOnSide w n ((pos n *ℤ pos a) +ℤ (pos s *ℤ (pos b -ℤ pos a))) in
     subst Q (sym e) (subst P (sym whole) (record { low = omega (arith, ints); high = omega (arith, ints, below) }))
 
--- the body of a plain scene has one corner, which moves nothing
+-- the only corner of a point body moves nothing
 corner_in_box : (room : Point) (q : Rational) → IsInBox room q → IsInBox room (moved_by q (record { x = pos 0; y = pos 0 }))
 corner_in_box room q h = record {
   left = omega (arith, ints, h.left);
@@ -45,14 +47,14 @@ corner_in_box room q h = record {
   top = omega (arith, ints, h.top);
 }
 
--- in a plain scene a point within the box of the room is clear
-pub IsClear-from_box : (scene : Scene) (q : Rational) → IsPointInEmptyRoom scene → IsInBox scene.room q → IsClear scene q
-IsClear-from_box scene q plain h =
-    let P : Vertex → Type 0 = λ corner. IsInBox scene.room (moved_by q corner) in
-    let Q : List Vertex → Type 0 = λ obstacle. ¬ Meets scene.body q obstacle in
+-- in an empty room a point within the box of the room is clear
+IsClear-from_box : (room : Point) (q : Rational) → IsInBox room q → IsClear (empty_room room) q
+IsClear-from_box room q h =
+    let P : Vertex → Type 0 = λ corner. IsInBox room (moved_by q corner) in
+    let Q : List Vertex → Type 0 = λ obstacle. ¬ Meets (empty_room room).body q obstacle in
     record {
-      in_room = record { here = h; corners = All-same P scene.body _ plain.body (All-cons P _ [] (corner_in_box scene.room q h) (All-nil P)) };
-      meets_none = All-same Q scene.obstacles [] plain.obstacles (All-nil Q);
+      in_room = record { here = h; corners = All-cons P _ [] (corner_in_box room q h) (All-nil P) };
+      meets_none = All-nil Q;
     }
 
 box_at : (room p : Point) → IsInRoom room p → IsInBox room (at_lattice p)
@@ -63,34 +65,34 @@ box_at room p h = record {
   top = omega (arith, ints, h.vertical);
 }
 
--- the body at a point of the room is clear
-pub ClearAt-from_room : (scene : Scene) (p : Point) → IsPointInEmptyRoom scene → IsInRoom scene.room p → ClearAt scene p
-ClearAt-from_room scene p plain h = IsClear-from_box scene (at_lattice p) plain (box_at scene.room p h)
+-- the body at a point of an empty room is clear
+pub ClearAt-empty_room : (room p : Point) → IsInRoom room p → ClearAt (empty_room room) p
+ClearAt-empty_room room p h = IsClear-from_box room (at_lattice p) (box_at room p h)
 
--- where the body is clear at a point, the point is in the room
-pub IsInRoom-from_clear_at : (scene : Scene) (p : Point) → ClearAt scene p → IsInRoom scene.room p
-IsInRoom-from_clear_at scene p h =
+-- if the body is clear at a point, the point is in the room
+pub IsInRoom-from_clear_at : (space : ConfigurationSpace) (p : Point) → ClearAt space p → IsInRoom space.room p
+IsInRoom-from_clear_at space p h =
     let x = h.in_room.here.right in
     let y = h.in_room.here.top in
     record { horizontal = omega (arith, ints); vertical = omega (arith, ints) }
 
--- a segment between two points of the room is clear
-pub Clear-from_room : (scene : Scene) (a b : Point) → IsPointInEmptyRoom scene → IsInRoom scene.room a → IsInRoom scene.room b → Clear scene a b
-Clear-from_room scene a b plain f g = λ s d p q.
-    let x = way_on_side s d a.x b.x scene.room.x p f.horizontal g.horizontal in
-    let y = way_on_side s d a.y b.y scene.room.y p f.vertical g.vertical in
-    IsClear-from_box scene (on_the_way a b s d) plain (record { left = x.low; right = x.high; bottom = y.low; top = y.high })
+-- a segment between two points of an empty room is clear
+pub Clear-empty_room : (room a b : Point) → IsInRoom room a → IsInRoom room b → Clear (empty_room room) a b
+Clear-empty_room room a b f g = λ s d positive h.
+    let x = way_on_side s d a.x b.x room.x h f.horizontal g.horizontal in
+    let y = way_on_side s d a.y b.y room.y h f.vertical g.vertical in
+    IsClear-from_box room (on_the_way a b s d positive) (record { left = x.low; right = x.high; bottom = y.low; top = y.high })
 
 -- both ends of a segment are in the room
 pub record AreInRoom (room a b : Point) : Type 0 where
   pub first : IsInRoom room a
   pub last : IsInRoom room b
 
--- where a segment is clear, both ends are in the room
-pub AreInRoom-from_clear : (scene : Scene) (a b : Point) → Clear scene a b → AreInRoom scene.room a b
-AreInRoom-from_clear scene a b h =
-    let s = h 0 1 (omega arith) (omega arith) in
-    let e = h 1 1 (omega arith) (omega arith) in
+-- if a segment is clear, both ends are in the room
+pub AreInRoom-from_clear : (space : ConfigurationSpace) (a b : Point) → Clear space a b → AreInRoom space.room a b
+AreInRoom-from_clear space a b h =
+    let s = h 0 1 (le_refl 1) (omega arith) in
+    let e = h 1 1 (le_refl 1) (omega arith) in
     let sx = s.in_room.here.right in
     let sy = s.in_room.here.top in
     let ex = e.in_room.here.right in
@@ -99,3 +101,28 @@ AreInRoom-from_clear scene a b h =
       first = record { horizontal = omega (arith, ints); vertical = omega (arith, ints) };
       last = record { horizontal = omega (arith, ints); vertical = omega (arith, ints) };
     }
+
+-- the space of a scene with a point body in an empty room
+pub space_of-empty : (scene : Scene) → IsPointInEmptyRoom scene → space_of scene ≡ empty_room scene.room
+space_of-empty scene plain =
+    let bodied : List Vertex → ConfigurationSpace = λ body. record { room = scene.room; body = body; obstacles = scene.obstacles } in
+    let among : List (List Vertex) → ConfigurationSpace = λ obstacles. record { room = scene.room; body = (empty_room scene.room).body; obstacles = obstacles } in
+    ap bodied plain.body ∙ ap among plain.obstacles
+
+-- such a scene is clear at the points of its room
+pub ClearAt-from_room : (scene : Scene) (p : Point) → IsPointInEmptyRoom scene → IsInRoom scene.room p → ClearAt (space_of scene) p
+ClearAt-from_room scene p plain h =
+    let P : ConfigurationSpace → Type 0 = λ space. ClearAt space p in
+    subst P (sym (space_of-empty scene plain)) (ClearAt-empty_room scene.room p h)
+
+-- a segment is clear in the scene if it is in the empty room
+pub Clear-in_scene : (scene : Scene) (a b : Point) → IsPointInEmptyRoom scene → Clear (empty_room scene.room) a b → Clear (space_of scene) a b
+Clear-in_scene scene a b plain h =
+    let P : ConfigurationSpace → Type 0 = λ space. Clear space a b in
+    subst P (sym (space_of-empty scene plain)) h
+
+-- and in the empty room if it is in the scene
+pub Clear-in_empty_room : (scene : Scene) (a b : Point) → IsPointInEmptyRoom scene → Clear (space_of scene) a b → Clear (empty_room scene.room) a b
+Clear-in_empty_room scene a b plain h =
+    let P : ConfigurationSpace → Type 0 = λ space. Clear space a b in
+    subst P (space_of-empty scene plain) h

@@ -12,6 +12,7 @@ use Rattle.plan_model.specs.declared.scenes.Scene.{Scene}
 use Rattle.plan_model.specs.declared.records.Outcome.TheVariants.{Placed}
 use Rattle.std.specs.Int.{abs_diff}
 use Rattle.plan_model.specs.Geometry.{squared_distance}
+use Rattle.plan_model.specs.ConfigurationSpace.{space_of}
 use Rattle.plan_model.specs.Clearance.{Clear}
 use Rattle.plan_model.specs.Radius.{class_of, greatest, radius_of}
 use Rattle.plan_model.specs.Nodes.{node_at, point_of}
@@ -74,7 +75,7 @@ alone n i (zero, l, e) = sym e
 alone n i (suc k, l, e) = absurd (omega arith)
 
 -- the nearest node is the best parent of a free point, where the edge is clear
-pub IsBestParent-nearest : (scene : Scene) (tree : Nodes) (nearest : ℕ) (p : Point) → scene.gamma ≡ 0 → IsFree tree p → Clear scene (point_of tree nearest) p → IsBestParent scene tree nearest p nearest
+pub IsBestParent-nearest : (scene : Scene) (tree : Nodes) (nearest : ℕ) (p : Point) → scene.gamma ≡ 0 → IsFree tree p → Clear (space_of scene) (point_of tree nearest) p → IsBestParent scene tree nearest p nearest
 IsBestParent-nearest scene tree nearest p gamma free clear =
     let only : (i : ℕ) → IsCandidate scene tree nearest p i → i ≡ nearest =
     λ i own. (let P : List ℕ → Type 0 = λ ns. Contains (nearest ∷ ns) i in alone nearest i (subst P (near_new-none scene tree p gamma free) own.among)) in
@@ -85,7 +86,7 @@ IsBestParent-nearest scene tree nearest p gamma free clear =
     }
 
 -- a free point with a clear edge is placed under the nearest node, and that is all
-pub Places-plain : (scene : Scene) (tree : Nodes) (k nearest : ℕ) (p : Point) → scene.gamma ≡ 0 → IsFree tree p → Clear scene (point_of tree nearest) p → Places scene tree k nearest p (record { worker = 0; turn = k; nearest = nearest; outcome = Placed; first_parent = nearest; first_cost = cost_through tree p nearest; class = class_of (node_count tree) }) (tree ++ Some (record { point = p; parent = nearest }) ∷ [])
+pub Places-plain : (scene : Scene) (tree : Nodes) (k nearest : ℕ) (p : Point) → scene.gamma ≡ 0 → IsFree tree p → Clear (space_of scene) (point_of tree nearest) p → Places scene tree k nearest p (record { worker = 0; turn = k; nearest = nearest; outcome = Placed; first_parent = nearest; first_cost = cost_through tree p nearest; class = class_of (node_count tree) }) (tree ++ Some (record { point = p; parent = nearest }) ∷ [])
 Places-plain scene tree k nearest p gamma free clear =
     let after : Nodes = tree ++ Some (record { point = p; parent = nearest }) ∷ [] in
     let P : List ℕ → Type 0 = λ ns. Rewires scene after (suc k) ns after in

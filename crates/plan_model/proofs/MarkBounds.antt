@@ -16,6 +16,7 @@ use Rattle.plan_model.specs.declared.scenes.Marks.{Marks}
 use Rattle.plan_model.specs.declared.scenes.Marks.TheVariants.{Drawn, Listed}
 use Rattle.plan_model.specs.Limits.{IsBetween, is_mark, is_plan}
 use Rattle.plan_model.specs.EmptyRooms.{IsPointInEmptyRoom}
+use Rattle.plan_model.specs.ConfigurationSpace.{space_of}
 use Rattle.plan_model.specs.MarkPoints.{mark_points, mixed, word_of_state, first_word, second_word, next_state, below_zero, above_zero, reach, Span, span_within, columns, rows, strip, picked, drawn_mark, points_of}
 
 -- a share of c is at most c
@@ -63,12 +64,12 @@ drawn_within scene k plain room strips =
     let state : ℕ = (scene.seed + k) % 2 ^ 64 in
     let back_x : reach (λ v. below_zero v.x) scene.body ≡ 0 = ap (reach (λ v. below_zero v.x)) plain.body in
     let back_y : reach (λ v. below_zero v.y) scene.body ≡ 0 = ap (reach (λ v. below_zero v.y)) plain.body in
-    let own = strip (columns scene) scene.strips (k % scene.strips) in
+    let own = strip (columns (space_of scene)) scene.strips (k % scene.strips) in
     let g : k % scene.strips < scene.strips = mod_below k scene.strips (omega arith) in
     let x = picked_below own (first_word state) (word_below (next_state state)) in
-    let x_end = strip_end (columns scene) scene.strips (k % scene.strips) g in
+    let x_end = strip_end (columns (space_of scene)) scene.strips (k % scene.strips) g in
     let x_side = span_end scene.room.x (reach (λ v. below_zero v.x) scene.body) (reach (λ v. above_zero v.x) scene.body) back_x in
-    let y = picked_below (rows scene) (second_word state) (word_below (next_state (next_state state))) in
+    let y = picked_below (rows (space_of scene)) (second_word state) (word_below (next_state (next_state state))) in
     let y_side = span_end scene.room.y (reach (λ v. below_zero v.y) scene.body) (reach (λ v. above_zero v.y) scene.body) back_y in
     record { left = omega arith; right = omega (arith, x, x_end, x_side, room.right); bottom = omega arith; top = omega (arith, y, y_side, room.top) }
 

@@ -3,9 +3,10 @@ use Rattle.std.proofs.Common.{Bool, List, ℕ, subst}
 use Rattle.plan_model.specs.declared.scenes.Scene.{Scene}
 use Rattle.plan_model.specs.declared.text_terms.Key.{Key}
 use Rattle.plan_model.specs.SceneGrammar.{Spells}
+use Rattle.plan_model.specs.ConfigurationSpace.{space_of}
 use Rattle.plan_model.specs.Clearance.{ClearAt}
 use Rattle.plan_model.proofs.SameScenes.{Spells-one_scene}
 
-pub ClearAt-spelled : (built : Key → Bool) (text : List ℕ) (one other : Scene) → Spells built text one → Spells built text other → ClearAt one one.start → ClearAt other other.start
+pub ClearAt-spelled : (built : Key → Bool) (text : List ℕ) (one other : Scene) → Spells built text one → Spells built text other → ClearAt (space_of one) one.start → ClearAt (space_of other) other.start
 ClearAt-spelled built text one other a b clear =
-    subst (λ scene. ClearAt scene scene.start) (Spells-one_scene built text one other a b) clear
+    subst (λ scene. ClearAt (space_of scene) scene.start) (Spells-one_scene built text one other a b) clear

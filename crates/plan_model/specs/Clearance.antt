@@ -21,7 +21,7 @@ on_the_way a b s d positive =
       x = (pos d *ℤ pos a.x) +ℤ (pos s *ℤ (pos b.x -ℤ pos a.x));
       y = (pos d *ℤ pos a.y) +ℤ (pos s *ℤ (pos b.y -ℤ pos a.y));
       over = d;
-      positive = positive
+      positive = positive;
     }
 
 -- clear along the segment from a to b

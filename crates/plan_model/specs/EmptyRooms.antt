@@ -1,12 +1,18 @@
--- Scenes with a point body and no obstacle, in which nothing is rewired; and trees that lie in a room.
+-- Rooms with a point body and no obstacle, scenes in which nothing is rewired, and trees that lie in a room.
 use Rattle.std.specs.Prelude.{◌≡◌, ℕ, ◌≤◌, pos, Option, List, [], ◌∷◌}
 use Rattle.plan_model.specs.declared.geometry.Point.{Point}
 use Rattle.plan_model.specs.declared.trees.Twig.{Twig}
 use Rattle.plan_model.specs.declared.scenes.Scene.{Scene}
 use Rattle.plan_model.specs.declared.scenes.Marks.{Marks}
 use Rattle.plan_model.specs.declared.scenes.Marks.TheVariants.{Drawn, Listed}
+use Rattle.plan_model.specs.ConfigurationSpace.{ConfigurationSpace}
 use Rattle.plan_model.specs.Nodes.{HasPoint}
 
+-- the configuration space of a body that is a point, in a room without obstacles
+abbrev pub empty_room : Point → ConfigurationSpace
+empty_room room = record { room = room; body = record { x = pos 0; y = pos 0 } ∷ []; obstacles = [] }
+
+-- a scene of a point body in an empty room, without rewiring
 pub record IsPointInEmptyRoom (scene : Scene) : Type 0 where
   pub body : scene.body ≡ record { x = pos 0; y = pos 0 } ∷ []
   pub obstacles : scene.obstacles ≡ []

@@ -1,11 +1,12 @@
 -- The mark points (the samples) of a scene.
-use Rattle.std.specs.Prelude.{ℕ, ◌+◌, ◌-◌, ◌*◌, ◌/◌, ◌%◌, ◌^◌, ◌==◌, nat_lt, ℤ, pos, negsuc, max, bit_xor, List, map, fold, count_by, if◌then◌else◌}
+use Rattle.std.specs.Prelude.{ℕ, ◌+◌, ◌-◌, ◌*◌, ◌/◌, ◌%◌, ◌^◌, ◌==◌, ◌<◌, ◌≤◌, nat_lt, ℤ, pos, negsuc, max, bit_xor, List, map, fold, count_by, if◌then◌else◌}
 use Rattle.std.specs.List.{range_with_len}
 use Rattle.plan_model.specs.declared.geometry.Point.{Point}
 use Rattle.plan_model.specs.declared.geometry.Vertex.{Vertex}
 use Rattle.plan_model.specs.declared.scenes.Scene.{Scene}
 use Rattle.plan_model.specs.declared.scenes.Marks.{Marks}
 use Rattle.plan_model.specs.declared.scenes.Marks.TheVariants.{Drawn, Listed}
+use Rattle.plan_model.specs.ConfigurationSpace.{ConfigurationSpace, space_of}
 
 -- SplitMix64 (Steele, Lea and Flood, OOPSLA 2014): the state that follows a state
 abbrev pub next_state : ℕ → ℕ
@@ -45,22 +46,33 @@ pub record Span : Type 0 where
   pub first : ℕ
   pub count : ℕ
 
--- where a body that reaches so far back and forth fits between 0 and a side
+-- the span has the coordinate
+pub record IsInSpan (span : Span) (n : ℕ) : Type 0 where
+  pub low : span.first ≤ n
+  pub high : n < span.first + span.count
+
+-- the coordinates at which a body that reaches so far back and forth fits between 0 and a side
 abbrev pub span_within : ℕ → ℕ → ℕ → Span
 span_within side back forth = record { first = back; count = (side + 1) - (back + forth) }
 
-abbrev pub columns : Scene → Span
-columns scene =
-    span_within scene.room.x (reach (λ v. below_zero v.x) scene.body) (reach (λ v. above_zero v.x) scene.body)
+-- the columns of the room of configurations
+abbrev pub columns : ConfigurationSpace → Span
+columns space =
+    span_within space.room.x (reach (λ v. below_zero v.x) space.body) (reach (λ v. above_zero v.x) space.body)
 
-abbrev pub rows : Scene → Span
-rows scene =
-    span_within scene.room.y (reach (λ v. below_zero v.y) scene.body) (reach (λ v. above_zero v.y) scene.body)
+-- the rows of the room of configurations
+abbrev pub rows : ConfigurationSpace → Span
+rows space =
+    span_within space.room.y (reach (λ v. below_zero v.y) space.body) (reach (λ v. above_zero v.y) space.body)
 
--- Strip g of the strips that the columns are cut into; where there are fewer columns than strips, all columns.
+-- Strip g of the strips that the columns are cut into; if there are fewer columns than strips, all columns.
 abbrev pub strip : Span → ℕ → ℕ → Span
 strip all strips g =
-    if nat_lt all.count strips then all else record { first = all.first + (g * all.count) / strips; count = ((g + 1) * all.count) / strips - (g * all.count) / strips }
+    if nat_lt all.count strips then all else
+    record {
+      first = all.first + (g * all.count) / strips;
+      count = ((g + 1) * all.count) / strips - (g * all.count) / strips;
+    }
 
 -- the place in a span that the upper half of a word picks
 abbrev pub picked : Span → ℕ → ℕ
@@ -69,8 +81,11 @@ picked span word = span.first + ((word / 2 ^ 32) * span.count) / 2 ^ 32
 -- drawn mark k: a column of its strip by the first word, a row by the second
 abbrev pub drawn_mark : Scene → ℕ → Point
 drawn_mark scene k =
-    let state = (scene.seed + k) % 2 ^ 64 in record { x = picked (strip (columns scene) scene.strips (k % scene.strips)) (first_word state); y = picked (rows scene) (second_word state) }
+    let state = (scene.seed + k) % 2 ^ 64 in
+    let own_strip = strip (columns (space_of scene)) scene.strips (k % scene.strips) in
+    record { x = picked own_strip (first_word state); y = picked (rows (space_of scene)) (second_word state) }
 
+-- the points of listed marks, and of marks that are drawn
 abbrev pub points_of : Scene → Marks → List Point
 points_of scene (Listed points) = points
 points_of scene (Drawn n) = map (drawn_mark scene) (range_with_len 0 n)

@@ -1,5 +1,6 @@
 -- The room of configurations: where the body lies in the room, touching its walls or not.
 use Rattle.std.specs.Prelude.{ℕ, ◌*◌, ◌<◌, ℤ, pos, ◌+ℤ◌, ◌*ℤ◌, ◌≤ℤ◌, All}
+use Rattle.std.proofs.Math.Nat.{le_refl}
 use Rattle.plan_model.specs.declared.geometry.Point.{Point}
 use Rattle.plan_model.specs.declared.geometry.Vertex.{Vertex}
 use Rattle.plan_model.specs.ConfigurationSpace.{ConfigurationSpace}
@@ -13,7 +14,7 @@ pub record Rational : Type 0 where
 
 -- a lattice point
 abbrev pub at_lattice : Point → Rational
-at_lattice p = record { x = pos p.x; y = pos p.y; over = 1; positive = tt }
+at_lattice p = record { x = pos p.x; y = pos p.y; over = 1; positive = le_refl 1 }
 
 -- the point moved by a corner of the body
 abbrev pub moved_by : Rational → Vertex → Rational
@@ -22,7 +23,7 @@ moved_by q corner =
       x = q.x +ℤ (pos q.over *ℤ corner.x);
       y = q.y +ℤ (pos q.over *ℤ corner.y);
       over = q.over;
-      positive = q.positive
+      positive = q.positive;
     }
 
 -- a point whose coordinates lie between 0 and the room's sides

@@ -6,6 +6,7 @@ use Rattle.plan_model.specs.declared.scenes.Scene.{Scene}
 use Rattle.plan_model.specs.declared.records.Outcome.{Outcome}
 use Rattle.plan_model.specs.declared.records.Outcome.TheVariants.{Placed, Same, Blocked}
 use Rattle.plan_model.specs.declared.records.Record.{Record}
+use Rattle.plan_model.specs.ConfigurationSpace.{space_of}
 use Rattle.plan_model.specs.Clearance.{Clear}
 use Rattle.plan_model.specs.Cost.{cost_of}
 use Rattle.plan_model.specs.Steering.{steered}
@@ -40,7 +41,7 @@ near_new scene tree p = near tree p (radius_of scene.step scene.gamma (node_coun
 -- a parent that may be chosen: the nearest node or a near one, with a clear edge
 pub record IsCandidate (scene : Scene) (tree : Nodes) (nearest : ℕ) (p : Point) (i : ℕ) : Type 0 where
   pub among : Contains (nearest ∷ near_new scene tree p) i
-  pub clear : Clear scene (point_of tree i) p
+  pub clear : Clear (space_of scene) (point_of tree i) p
 
 -- f is the candidate with the least pair of cost through it and number
 pub record IsBestParent (scene : Scene) (tree : Nodes) (nearest : ℕ) (p : Point) (f : ℕ) : Type 0 where
@@ -51,7 +52,7 @@ pub record IsBestParent (scene : Scene) (tree : Nodes) (nearest : ℕ) (p : Poin
 -- the way through node n to node i is strictly cheaper than the way that i has, and the edge is clear
 pub record IsCheaperThrough (scene : Scene) (tree : Nodes) (n i : ℕ) : Type 0 where
   pub cheaper : cost_through tree (point_of tree i) n < sum_of tree i
-  pub clear : Clear scene (point_of tree n) (point_of tree i)
+  pub clear : Clear (space_of scene) (point_of tree n) (point_of tree i)
 
 -- node i with node n as its parent
 abbrev pub with_parent : Nodes → ℕ → ℕ → Nodes
@@ -76,7 +77,7 @@ record_of k nearest outcome =
 -- The new node stands at p under its best parent, and near nodes that are cheaper through it are rewired.
 pub record Places (scene : Scene) (tree : Nodes) (k nearest : ℕ) (p : Point) (entry : Record) (after : Nodes) : Type 0 where
   pub free : IsFree tree p
-  pub clear : Clear scene (point_of tree nearest) p
+  pub clear : Clear (space_of scene) (point_of tree nearest) p
   pub parent : IsBestParent scene tree nearest p entry.first_parent
   pub account : entry ≡ record { worker = 0; turn = k; nearest = nearest; outcome = Placed; first_parent = entry.first_parent; first_cost = cost_through tree p entry.first_parent; class = class_of (node_count tree) }
   pub rewired : Rewires scene (tree ++ Some (record { point = p; parent = entry.first_parent }) ∷ []) (suc k) (near_new scene tree p) after
@@ -86,7 +87,7 @@ abbrev pub Ends : Scene → Nodes → ℕ → ℕ → Point → Outcome → Reco
 Ends scene tree k nearest p (Same j) entry after =
     HasPoint tree j p × (entry ≡ record_of k nearest (Same j)) × (after ≡ tree ++ None ∷ [])
 Ends scene tree k nearest p Blocked entry after =
-    IsFree tree p × (¬ Clear scene (point_of tree nearest) p) × (entry ≡ record_of k nearest Blocked) × (after ≡ tree ++ None ∷ [])
+    IsFree tree p × (¬ Clear (space_of scene) (point_of tree nearest) p) × (entry ≡ record_of k nearest Blocked) × (after ≡ tree ++ None ∷ [])
 Ends scene tree k nearest p Placed entry after = Places scene tree k nearest p entry after
 
 -- Mark k at the point mark is handled: from tree to after, with this record.

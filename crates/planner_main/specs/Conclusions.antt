@@ -4,6 +4,7 @@ use Rattle.plan_model.specs.declared.trees.Twig.{Twig}
 use Rattle.plan_model.specs.declared.records.Record.{Record}
 use Rattle.plan_model.specs.declared.scenes.Scene.{Scene}
 use Rattle.plan_model.specs.declared.text_terms.Kind.{Kind}
+use Rattle.plan_model.specs.ConfigurationSpace.{space_of}
 use Rattle.plan_model.specs.Clearance.{ClearAt}
 use Rattle.plan_model.specs.MarkPoints.{mark_points}
 use Rattle.plan_model.specs.Textbook.{IsTextbookRun}
@@ -36,7 +37,7 @@ pub record ReportsRun (bytes : List ℕ) (status : ℕ) (text : List ℕ) : Type
   pub scene : Scene
   pub short : length bytes ≤ 16777216
   pub spelled : Spells supported bytes scene
-  pub start : ClearAt scene scene.start
+  pub start : ClearAt (space_of scene) scene.start
   pub report : ReportsScene scene status text
 
 -- the grammar refuses the bytes, with its line and its kind
@@ -61,7 +62,7 @@ pub record BlocksStart (bytes : List ℕ) : Type 0 where
   pub scene : Scene
   pub short : length bytes ≤ 16777216
   pub spelled : Spells supported bytes scene
-  pub blocked : ¬ ClearAt scene scene.start
+  pub blocked : ¬ ClearAt (space_of scene) scene.start
 
 -- the text is the canonical text of the scene that the bytes spell
 pub record ShowsScene (bytes text : List ℕ) : Type 0 where
@@ -97,8 +98,8 @@ pub record IsAnswer (form : Option Form) (left : Option (List ℕ)) (ended : Boo
 
 -- Which status the bytes of the source decide: a scene is planned or shown, and any other text is refused.
 pub record IsDecided (form : Option Form) (bytes : List ℕ) (status : ℕ) : Type 0 where
-  pub planned : form ≡ Some forms.Plain → (scene : Scene) → length bytes ≤ 16777216 → Spells supported bytes scene → ClearAt scene scene.start → status ≤ 1
-  pub blocked : form ≡ Some forms.Plain → (scene : Scene) → length bytes ≤ 16777216 → Spells supported bytes scene → (¬ ClearAt scene scene.start) → status ≡ 4
+  pub planned : form ≡ Some forms.Plain → (scene : Scene) → length bytes ≤ 16777216 → Spells supported bytes scene → ClearAt (space_of scene) scene.start → status ≤ 1
+  pub blocked : form ≡ Some forms.Plain → (scene : Scene) → length bytes ≤ 16777216 → Spells supported bytes scene → (¬ ClearAt (space_of scene) scene.start) → status ≡ 4
   pub shown : form ≡ Some forms.Show → (scene : Scene) → length bytes ≤ 16777216 → Spells supported bytes scene → status ≡ 0
   pub refused : (number : ℕ) (kind : Kind) → length bytes ≤ 16777216 → Refused supported bytes number kind → status ≡ 3
   pub long : 16777216 < length bytes → status ≡ 3

@@ -4,6 +4,7 @@ ghost use Rattle.std.specs.Prelude.{◌≡◌, ◌≢◌, ℕ, ◌≤◌, ◌+�
 ghost use Rattle.std.specs.Io.KnownBytes.{Appends, Keeps};
 ghost use Rattle.plan_model.specs.Streams.{FaultsRose};
 ghost use Rattle.plan_model.specs.Clearance.{ClearAt};
+ghost use Rattle.plan_model.specs.ConfigurationSpace.{space_of};
 ghost use Rattle.plan_model.specs.EmptyRooms.{IsPointInEmptyRoom, IsListed, IsInRoom};
 ghost use Rattle.scene_text.specs.Fetching.{ReadsWithin};
 ghost use Rattle.planner_main.specs.Conclusions.{IsAnswer, IsDecided, ReportsRun, ReportsScene, ShowsScene, Succeeds, RefusesForm, status_of_refusal, line_of_refusal};
@@ -194,7 +195,7 @@ fn is_in_room(room: Point, p: Point) -> bool
 fn report_of(alloc: Global, scene: Scene) -> Result<Answer, Memory>
     requires plain { IsPointInEmptyRoom scene }
     requires listed { IsListed scene.plan }
-    requires start { ClearAt scene scene.start }
+    requires start { ClearAt (space_of scene) scene.start }
     ensures { IfOk result (λ answer. (answer.status ≤ 1) × ReportsScene scene answer.status answer.text.items) }
 {
     let goal = scene.goal;

@@ -7,6 +7,7 @@ use Rattle.plan_model.specs.declared.trees.Twig.{Twig}
 use Rattle.plan_model.specs.declared.scenes.Scene.{Scene}
 use Rattle.plan_model.specs.declared.records.Outcome.TheVariants.{Placed}
 use Rattle.plan_model.specs.declared.records.Record.{Record}
+use Rattle.plan_model.specs.ConfigurationSpace.{space_of}
 use Rattle.plan_model.specs.Clearance.{Clear}
 use Rattle.plan_model.specs.Cost.{cost_of}
 use Rattle.plan_model.specs.Radius.{class_of}
@@ -42,7 +43,7 @@ kept_cost scene growth n kept grown own e =
     e ∙ get_or_default growth.costs.items n kept 0 (omega (arith, present_below growth.nodes.items n own, grown.cost_count))
 
 -- a mark that is placed, at the cost kept of its parent and the edge
-pub IsAccountOf-placed : (scene : Scene) (growth : Growth) (mark : Point) (k nearest : ℕ) (from point : Point) (kept edge class : ℕ) → IsPointInEmptyRoom scene → IsGrown scene growth → k ≡ length growth.records.items → Steers scene growth.nodes.items mark nearest from point → IsFree growth.nodes.items point → Clear scene from point → kept ≡ get_or growth.costs.items nearest kept → edge ≡ cost_of from point → edge < 2 ^ 29 → class ≡ class_of growth.present → IsAccountOf scene growth mark (record { node = Some (record { point = point; parent = nearest }); cost = kept + edge; entry = record { worker = 0; turn = k; nearest = nearest; outcome = Placed; first_parent = nearest; first_cost = kept + edge; class = class } })
+pub IsAccountOf-placed : (scene : Scene) (growth : Growth) (mark : Point) (k nearest : ℕ) (from point : Point) (kept edge class : ℕ) → IsPointInEmptyRoom scene → IsGrown scene growth → k ≡ length growth.records.items → Steers scene growth.nodes.items mark nearest from point → IsFree growth.nodes.items point → Clear (space_of scene) from point → kept ≡ get_or growth.costs.items nearest kept → edge ≡ cost_of from point → edge < 2 ^ 29 → class ≡ class_of growth.present → IsAccountOf scene growth mark (record { node = Some (record { point = point; parent = nearest }); cost = kept + edge; entry = record { worker = 0; turn = k; nearest = nearest; outcome = Placed; first_parent = nearest; first_cost = kept + edge; class = class } })
 IsAccountOf-placed scene growth mark k nearest from point kept edge class plain grown turn steers free clear read priced low classed =
     let tree = growth.nodes.items in
     let costs = growth.costs.items in
@@ -53,7 +54,7 @@ IsAccountOf-placed scene growth mark k nearest from point kept edge class plain 
     let entry : ℕ → Record = λ n. record { worker = 0; turn = n; nearest = nearest; outcome = Placed; first_parent = nearest; first_cost = kept + edge; class = class } in
     let node : Option Twig = Some (record { point = point; parent = nearest }) in
     let C : ℕ → Type 0 = λ n. IsSound scene (tree ++ node ∷ []) (costs ++ (n + edge) ∷ []) (growth.present + 1) in
-    let put = MayBePut-node scene tree costs growth.present point nearest edge grown (present_below tree nearest own) own (AreInRoom-from_clear scene from point clear).last price low in
+    let put = MayBePut-node scene tree costs growth.present point nearest edge grown (present_below tree nearest own) own (AreInRoom-from_clear (space_of scene) from point clear).last price low in
     let handled : Handles scene tree k mark (entry k) (tree ++ node ∷ []) = Handles-placed scene tree k mark nearest from point (kept + edge) class plain steers free clear through (classed ∙ ap class_of grown.counted) in
     let T : ℕ → Type 0 = λ n. Handles scene tree n mark (entry k) (tree ++ node ∷ []) in
     record {

@@ -4,6 +4,7 @@ use Rattle.plan_model.specs.declared.geometry.Point.{Point}
 use Rattle.plan_model.specs.declared.scenes.Scene.{Scene}
 use Rattle.plan_model.specs.declared.records.Outcome.TheVariants.{Placed, Same, Blocked}
 use Rattle.plan_model.specs.declared.records.Record.{Record}
+use Rattle.plan_model.specs.ConfigurationSpace.{space_of}
 use Rattle.plan_model.specs.Clearance.{Clear}
 use Rattle.plan_model.specs.Radius.{class_of}
 use Rattle.plan_model.specs.Steering.{steered}
@@ -32,22 +33,22 @@ Handles-same scene tree k mark nearest from point number h own =
     }
 
 -- the segment to the point is not clear
-pub Handles-blocked : (scene : Scene) (tree : Nodes) (k : ℕ) (mark : Point) (nearest : ℕ) (from point : Point) → Steers scene tree mark nearest from point → IsFree tree point → (Clear scene from point → ⊥) → Handles scene tree k mark (record_of k nearest Blocked) (tree ++ None ∷ [])
+pub Handles-blocked : (scene : Scene) (tree : Nodes) (k : ℕ) (mark : Point) (nearest : ℕ) (from point : Point) → Steers scene tree mark nearest from point → IsFree tree point → (Clear (space_of scene) from point → ⊥) → Handles scene tree k mark (record_of k nearest Blocked) (tree ++ None ∷ [])
 Handles-blocked scene tree k mark nearest from point h free blocked =
     let e = ends_at scene tree mark nearest from point h in
     let P : Point → Type 0 = λ p. IsFree tree p in
-    let Q : Point → Type 0 = λ p. Clear scene p point → ⊥ in
-    let R : Point → Type 0 = λ p. Clear scene (point_of tree nearest) p → ⊥ in
+    let Q : Point → Type 0 = λ p. Clear (space_of scene) p point → ⊥ in
+    let R : Point → Type 0 = λ p. Clear (space_of scene) (point_of tree nearest) p → ⊥ in
     record {
       nearest = h.is_nearest;
       ends = (subst P e free, subst R e (subst Q h.begins blocked), refl, refl);
     }
 
 -- a node is placed at the point
-pub Handles-placed : (scene : Scene) (tree : Nodes) (k : ℕ) (mark : Point) (nearest : ℕ) (from point : Point) (cost class : ℕ) → IsPointInEmptyRoom scene → Steers scene tree mark nearest from point → IsFree tree point → Clear scene from point → cost ≡ cost_through tree point nearest → class ≡ class_of (node_count tree) → Handles scene tree k mark (record { worker = 0; turn = k; nearest = nearest; outcome = Placed; first_parent = nearest; first_cost = cost; class = class }) (tree ++ Some (record { point = point; parent = nearest }) ∷ [])
+pub Handles-placed : (scene : Scene) (tree : Nodes) (k : ℕ) (mark : Point) (nearest : ℕ) (from point : Point) (cost class : ℕ) → IsPointInEmptyRoom scene → Steers scene tree mark nearest from point → IsFree tree point → Clear (space_of scene) from point → cost ≡ cost_through tree point nearest → class ≡ class_of (node_count tree) → Handles scene tree k mark (record { worker = 0; turn = k; nearest = nearest; outcome = Placed; first_parent = nearest; first_cost = cost; class = class }) (tree ++ Some (record { point = point; parent = nearest }) ∷ [])
 Handles-placed scene tree k mark nearest from point cost class plain h free clear c d =
     let e = ends_at scene tree mark nearest from point h in
-    let Q : Point → Type 0 = λ p. Clear scene p point in
+    let Q : Point → Type 0 = λ p. Clear (space_of scene) p point in
     let entry : ℕ → ℕ → Record = λ first class. record { worker = 0; turn = k; nearest = nearest; outcome = Placed; first_parent = nearest; first_cost = first; class = class } in
     let after : Nodes = tree ++ Some (record { point = point; parent = nearest }) ∷ [] in
     let R : Point → Type 0 = λ p. Places scene tree k nearest p (entry cost class) after in

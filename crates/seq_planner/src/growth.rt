@@ -97,7 +97,7 @@ impl Growth {
         if let Some(number) = self.find(point) {
             return Account::unplaced(turn, nearest, Outcome::Same(number));
         }
-        if !is_clear(scene, from, point) {
+        if !is_clear(scene.room, from, point) {
             return Account::unplaced(turn, nearest, Outcome::Blocked);
         }
         // at radius 0 no node is near a free point, so the nearest one is the only choice

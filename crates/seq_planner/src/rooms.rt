@@ -1,10 +1,10 @@
-//! Where a point body is clear: in a room without obstacles.
+//! The collision checker of a point body in a room without obstacles.
 
 ghost use Rattle.std.specs.Prelude.{◌↔◌, IsTrue};
 ghost use Rattle.plan_model.specs.Clearance.{Clear};
-ghost use Rattle.plan_model.specs.EmptyRooms.{IsPointInEmptyRoom, IsInRoom};
+ghost use Rattle.plan_model.specs.EmptyRooms.{IsInRoom, empty_room};
 
-use plan_model::{Point, Scene};
+use plan_model::Point;
 
 /// Whether a point lies in the room, its walls included.
 fn is_in_room(room: Point, point: Point) -> bool
@@ -13,10 +13,9 @@ fn is_in_room(room: Point, point: Point) -> bool
     point.x <= room.x && point.y <= room.y
 }
 
-/// Whether the segment from `a` to `b` is clear: in a plain scene, where both ends are in the room.
-pub(crate) fn is_clear(scene: &Scene, a: Point, b: Point) -> bool
-    requires { IsPointInEmptyRoom scene.now }
-    ensures { IsTrue result ↔ Clear scene.now a b }
+/// Whether the segment from `a` to `b` is clear: in an empty room, if both ends are in the room.
+pub(crate) fn is_clear(room: Point, a: Point, b: Point) -> bool
+    ensures { IsTrue result ↔ Clear (empty_room room) a b }
 {
-    is_in_room(scene.room, a) && is_in_room(scene.room, b)
+    is_in_room(room, a) && is_in_room(room, b)
 }

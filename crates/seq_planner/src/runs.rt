@@ -2,6 +2,7 @@
 
 ghost use Rattle.std.specs.Prelude.{◌≡◌, ◌+◌, length, IfOk, IsTrue};
 ghost use Rattle.plan_model.specs.Clearance.{ClearAt};
+ghost use Rattle.plan_model.specs.ConfigurationSpace.{space_of};
 ghost use Rattle.plan_model.specs.Limits.{is_plan};
 ghost use Rattle.plan_model.specs.EmptyRooms.{IsPointInEmptyRoom, LiesIn};
 ghost use Rattle.plan_model.specs.Textbook.{IsTextbookRun};
@@ -21,7 +22,7 @@ use std::alloc::Global;
 /// `Memory` where there is no memory for the nodes or the records.
 pub fn textbook(alloc: Global, task: Task) -> Result<Tree, Memory>
     requires plain { IsPointInEmptyRoom task.scene }
-    requires start { ClearAt task.scene task.scene.start }
+    requires start { ClearAt (space_of task.scene) task.scene.start }
     ensures run { IfOk result (λ tree. IsTextbookRun task.scene task.marks tree.twigs tree.records) }
     ensures nodes { IfOk result (λ tree. length tree.twigs ≡ length task.marks + 1) }
     ensures in_room { IfOk result (λ tree. LiesIn task.scene.room tree.twigs) }
@@ -44,7 +45,7 @@ mod tests {
     fn small_task(alloc: Global, marks: &[Point]) -> Result<Task, Memory>
         requires { IsTrue (is_plan (Marks.Listed marks.now)) }
         ensures plain { IfOk result (λ task. IsPointInEmptyRoom task.scene) }
-        ensures start { IfOk result (λ task. ClearAt task.scene task.scene.start) }
+        ensures start { IfOk result (λ task. ClearAt (space_of task.scene) task.scene.start) }
     {
         let scene = Scene {
             version: 1,

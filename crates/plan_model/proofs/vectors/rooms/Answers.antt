@@ -17,10 +17,10 @@ returns c = record {
     corners = All-cons IsInside (corner 0 0) (corner 4 0 ∷ corner 0 4 ∷ []) (record { left = omega (arith, ints); right = omega (arith, ints); bottom = omega (arith, ints); top = omega (arith, ints) }) (All-cons IsInside (corner 4 0) (corner 0 4 ∷ []) (record { left = omega (arith, ints); right = omega (arith, ints); bottom = omega (arith, ints); top = omega (arith, ints) }) (All-cons IsInside (corner 0 4) [] (record { left = omega (arith, ints); right = omega (arith, ints); bottom = omega (arith, ints); top = omega (arith, ints) }) (All-nil IsInside)));
   };
   past_wall = λ h. let right = (h.corners 1 (corner 0 0) (omega arith)).right in omega (arith, ints);
-  between = λ h. let right = (h.corners 1 (corner 0 0) (omega arith)).right in omega (arith, ints);
+  between = λ positive h. let right = (h.corners 1 (corner 0 0) (omega arith)).right in omega (arith, ints);
   origin_outside = λ h. let right = h.here.right in omega (arith, ints);
   first = refl;
   last = refl;
-  halfway = refl;
-  halfway_back = refl;
+  halfway = λ positive. refl;
+  halfway_back = λ positive. refl;
 }

@@ -1,12 +1,13 @@
 use Rattle.std.proofs.lemmas.Bool.{false≢true}
 use Rattle.std.proofs.Common.{refl, sym, ◌∙◌}
+use Rattle.plan_model.specs.ConfigurationSpace.{space_of}
 use Rattle.plan_model.proofs.EmptyRoomClearance.{IsInRoom-from_clear_at, ClearAt-from_room}
 use Rattle.planner_main.proofs.top_call.plan.Goals as goal
 
 pub returns-then-not-is_in_room-clause-refusal : goal.returns-then-not-is_in_room-clause-refusal
 returns-then-not-is_in_room-clause-refusal c =
     let scene = c.in_ok-scene.scene in
-    (refl, record { scene = scene; short = c.requires; spelled = c.in_ok-scene.ensures.scene; blocked = λ clear. false≢true (sym c.if-not-is_in_room.true ∙ c.is_in_room.ensures.1 (IsInRoom-from_clear_at scene scene.start clear)) })
+    (refl, record { scene = scene; short = c.requires; spelled = c.in_ok-scene.ensures.scene; blocked = λ clear. false≢true (sym c.if-not-is_in_room.true ∙ c.is_in_room.ensures.1 (IsInRoom-from_clear_at (space_of scene) scene.start clear)) })
 
 pub returns-clause-report : goal.returns-clause-report
 returns-clause-report c =
