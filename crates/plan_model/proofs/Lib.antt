@@ -1,6 +1,7 @@
 pub mod RootLaws
 pub mod EmptyRoomClearance
-pub mod SumLaws
+pub mod ChainLaws
+pub mod TreeChanges
 pub mod RunLaws
 pub mod MarkBounds
 pub mod EmptyRoomRuns

@@ -1,12 +1,11 @@
 -- Rooms with a point body and no obstacle, scenes in which nothing is rewired, and trees that lie in a room.
 use Rattle.std.specs.Prelude.{◌≡◌, ℕ, ◌≤◌, pos, Option, List, [], ◌∷◌}
 use Rattle.plan_model.specs.declared.geometry.Point.{Point}
-use Rattle.plan_model.specs.declared.trees.Twig.{Twig}
 use Rattle.plan_model.specs.declared.scenes.Scene.{Scene}
 use Rattle.plan_model.specs.declared.scenes.Marks.{Marks}
 use Rattle.plan_model.specs.declared.scenes.Marks.TheVariants.{Drawn, Listed}
 use Rattle.plan_model.specs.ConfigurationSpace.{ConfigurationSpace}
-use Rattle.plan_model.specs.Nodes.{HasPoint}
+use Rattle.plan_model.specs.PointsByNumber.{StandsAt}
 
 -- the configuration space of a body that is a point, in a room without obstacles
 abbrev pub empty_room : Point → ConfigurationSpace
@@ -29,5 +28,5 @@ pub record IsInRoom (room p : Point) : Type 0 where
   pub vertical : p.y ≤ room.y
 
 -- every node that is present stands in the room
-abbrev pub LiesIn : Point → List (Option Twig) → Type 0
-LiesIn room tree = (n : ℕ) (p : Point) → HasPoint tree n p → IsInRoom room p
+abbrev pub LiesIn : Point → List (Option Point) → Type 0
+LiesIn room points = (n : ℕ) (p : Point) → StandsAt points n p → IsInRoom room p

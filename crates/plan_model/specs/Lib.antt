@@ -11,8 +11,12 @@ pub mod Cost
 pub mod Steering
 pub mod Radius
 pub mod MarkPoints
-pub mod Nodes
+pub mod PointsByNumber
+pub mod LeastPairs
 pub mod Nearness
+pub mod Trees
+pub mod Outcomes
+pub mod BestNode
 pub mod Textbook
 pub mod ReportText
 pub mod SceneGrammar

@@ -1,108 +1,157 @@
 -- The textbook run: RRT* as in Karaman and Frazzoli, IJRR 2011, algorithm 6, one mark after another.
-use Rattle.std.specs.Prelude.{◌≡◌, ℕ, suc, ◌+◌, ◌<◌, ◌≤◌, ◌⊎◌, Option, Some, None, List, [], ◌∷◌, ◌++◌, slice_set}
+use Rattle.std.specs.Prelude.{◌≡◌, ℕ, suc, ◌+◌, ◌<◌, ◌⊎◌, refl, Contains, Option, Some, None, List, [], ◌∷◌, ◌++◌, slice_set}
 use Rattle.plan_model.specs.declared.geometry.Point.{Point}
 use Rattle.plan_model.specs.declared.trees.Twig.{Twig}
 use Rattle.plan_model.specs.declared.scenes.Scene.{Scene}
 use Rattle.plan_model.specs.declared.records.Outcome.{Outcome}
 use Rattle.plan_model.specs.declared.records.Outcome.TheVariants.{Placed, Same, Blocked}
 use Rattle.plan_model.specs.declared.records.Record.{Record}
-use Rattle.plan_model.specs.ConfigurationSpace.{space_of}
+use Rattle.plan_model.specs.ConfigurationSpace.{ConfigurationSpace, space_of}
 use Rattle.plan_model.specs.Clearance.{Clear}
 use Rattle.plan_model.specs.Cost.{cost_of}
 use Rattle.plan_model.specs.Steering.{steered}
 use Rattle.plan_model.specs.Radius.{class_of, radius_of}
-use Rattle.plan_model.specs.Nodes.{HasPoint, point_of, sum_of}
+use Rattle.plan_model.specs.PointsByNumber.{StandsAt, IsFree, point_of, node_count}
+use Rattle.plan_model.specs.LeastPairs.{IsFirstLeast}
 use Rattle.plan_model.specs.Nearness.{IsNearest, near}
-use Rattle.std.specs.Prelude.{count_by, is_some, Contains}
+use Rattle.plan_model.specs.Trees.{points_of, sum_of}
 
 abbrev pub Nodes : Type 0
 Nodes = List (Option Twig)
 
+-- What the handling of a mark depends on: the configuration space, the longest edge and the factor of the radius.
+pub record Setup : Type 0 where
+  pub space : ConfigurationSpace
+  pub step : ℕ
+  pub gamma : ℕ
+
+abbrev pub setup_of : Scene → Setup
+setup_of scene = record { space = space_of scene; step = scene.step; gamma = scene.gamma }
+
 -- the tree of the start alone
-abbrev pub start_alone : Scene → Nodes
-start_alone scene = Some (record { point = scene.start; parent = 0 }) ∷ []
+abbrev pub start_alone : Point → Nodes
+start_alone start = Some (record { point = start; parent = 0 }) ∷ []
 
--- how many nodes are present
-abbrev pub node_count : Nodes → ℕ
-node_count tree = count_by is_some tree
-
--- no present node stands at p
-abbrev pub IsFree : Nodes → Point → Type 0
-IsFree tree p = (j : ℕ) → HasPoint tree j p → ⊥
+-- ---- the parent of a new node
 
 -- the cost of reaching p through node i
 abbrev pub cost_through : Nodes → Point → ℕ → ℕ
-cost_through tree p i = sum_of tree i + cost_of (point_of tree i) p
+cost_through tree p i = sum_of tree i + cost_of (point_of (points_of tree) i) p
 
 -- the nodes within the radius of a new node at p
-abbrev pub near_new : Scene → Nodes → Point → List ℕ
-near_new scene tree p = near tree p (radius_of scene.step scene.gamma (node_count tree))
+abbrev pub near_new : Setup → List (Option Point) → Point → List ℕ
+near_new setup points p = near points p (radius_of setup.step setup.gamma (node_count points))
 
 -- a parent that may be chosen: the nearest node or a near one, with a clear edge
-pub record IsCandidate (scene : Scene) (tree : Nodes) (nearest : ℕ) (p : Point) (i : ℕ) : Type 0 where
-  pub among : Contains (nearest ∷ near_new scene tree p) i
-  pub clear : Clear (space_of scene) (point_of tree i) p
+pub record IsCandidate (setup : Setup) (points : List (Option Point)) (nearest : ℕ) (p : Point) (i : ℕ) : Type 0 where
+  pub among : Contains (nearest ∷ near_new setup points p) i
+  pub clear : Clear setup.space (point_of points i) p
 
 -- f is the candidate with the least pair of cost through it and number
-pub record IsBestParent (scene : Scene) (tree : Nodes) (nearest : ℕ) (p : Point) (f : ℕ) : Type 0 where
-  pub candidate : IsCandidate scene tree nearest p f
-  pub least : (i : ℕ) → IsCandidate scene tree nearest p i → cost_through tree p f ≤ cost_through tree p i
-  pub first : (i : ℕ) → IsCandidate scene tree nearest p i → cost_through tree p i ≡ cost_through tree p f → f ≤ i
+abbrev pub IsBestParent : Setup → Nodes → ℕ → Point → ℕ → Type 0
+IsBestParent setup tree nearest p f =
+    IsFirstLeast (cost_through tree p) (IsCandidate setup (points_of tree) nearest p) f
+
+-- ---- rewiring
 
 -- the way through node n to node i is strictly cheaper than the way that i has, and the edge is clear
-pub record IsCheaperThrough (scene : Scene) (tree : Nodes) (n i : ℕ) : Type 0 where
-  pub cheaper : cost_through tree (point_of tree i) n < sum_of tree i
-  pub clear : Clear (space_of scene) (point_of tree n) (point_of tree i)
+pub record IsCheaperThrough (space : ConfigurationSpace) (tree : Nodes) (n i : ℕ) : Type 0 where
+  pub cheaper : cost_through tree (point_of (points_of tree) i) n < sum_of tree i
+  pub clear : Clear space (point_of (points_of tree) n) (point_of (points_of tree) i)
 
 -- node i with node n as its parent
 abbrev pub with_parent : Nodes → ℕ → ℕ → Nodes
-with_parent tree i n = slice_set tree i (Some (record { point = point_of tree i; parent = n }))
+with_parent tree i n = slice_set tree i (Some (record { point = point_of (points_of tree) i; parent = n }))
 
--- One near node is looked at: it gets the new node n as its parent, exactly where that is cheaper.
-abbrev pub RewiresOne : Scene → Nodes → ℕ → ℕ → Nodes → Type 0
-RewiresOne scene tree n i after =
-    (IsCheaperThrough scene tree n i × (after ≡ with_parent tree i n)) ⊎ ((¬ IsCheaperThrough scene tree n i) × (after ≡ tree))
+-- One near node is looked at: it gets the new node n as its parent exactly if that is cheaper.
+abbrev pub RewiresOne : ConfigurationSpace → Nodes → ℕ → ℕ → Nodes → Type 0
+RewiresOne space tree n i after =
+    (IsCheaperThrough space tree n i × (after ≡ with_parent tree i n))
+    ⊎ ((¬ IsCheaperThrough space tree n i) × (after ≡ tree))
 
 -- the near nodes are looked at one after another, each by the sums as they then stand
-abbrev pub Rewires : Scene → Nodes → ℕ → List ℕ → Nodes → Type 0
-Rewires scene tree n [] after = after ≡ tree
-Rewires scene tree n (i ∷ near) after =
-    (mid : Nodes) × RewiresOne scene tree n i mid × Rewires scene mid n near after
+abbrev pub Rewires : ConfigurationSpace → Nodes → ℕ → List ℕ → Nodes → Type 0
+Rewires space tree n [] after = after ≡ tree
+Rewires space tree n (i ∷ near) after =
+    (mid : Nodes) × RewiresOne space tree n i mid × Rewires space mid n near after
 
--- the record of mark k, which worker 0 handles in its turn k
-abbrev pub record_of : ℕ → ℕ → Outcome → Record
-record_of k nearest outcome =
-    record { worker = 0; turn = k; nearest = nearest; outcome = outcome; first_parent = 0; first_cost = 0; class = 0 }
+-- ---- one mark
 
--- The new node stands at p under its best parent, and near nodes that are cheaper through it are rewired.
-pub record Places (scene : Scene) (tree : Nodes) (k nearest : ℕ) (p : Point) (entry : Record) (after : Nodes) : Type 0 where
-  pub free : IsFree tree p
-  pub clear : Clear (space_of scene) (point_of tree nearest) p
-  pub parent : IsBestParent scene tree nearest p entry.first_parent
-  pub account : entry ≡ record { worker = 0; turn = k; nearest = nearest; outcome = Placed; first_parent = entry.first_parent; first_cost = cost_through tree p entry.first_parent; class = class_of (node_count tree) }
-  pub rewired : Rewires scene (tree ++ Some (record { point = p; parent = entry.first_parent }) ∷ []) (suc k) (near_new scene tree p) after
+-- m is the nearest node to the mark, and steers towards it to p
+pub record SteersTo (setup : Setup) (points : List (Option Point)) (mark : Point) (m : ℕ) (p : Point) : Type 0 where
+  pub nearest : IsNearest points mark m
+  pub reached : p ≡ steered (point_of points m) mark setup.step
 
--- What becomes of mark k at the steered point p, by the outcome that is recorded.
-abbrev pub Ends : Scene → Nodes → ℕ → ℕ → Point → Outcome → Record → Nodes → Type 0
-Ends scene tree k nearest p (Same j) entry after =
-    HasPoint tree j p × (entry ≡ record_of k nearest (Same j)) × (after ≡ tree ++ None ∷ [])
-Ends scene tree k nearest p Blocked entry after =
-    IsFree tree p × (¬ Clear (space_of scene) (point_of tree nearest) p) × (entry ≡ record_of k nearest Blocked) × (after ≡ tree ++ None ∷ [])
-Ends scene tree k nearest p Placed entry after = Places scene tree k nearest p entry after
+-- the records of mark k, which worker 0 handles in its turn k, by the outcome
+abbrev pub same_record : ℕ → ℕ → ℕ → Record
+same_record k nearest j =
+    record {
+      worker = 0; turn = k; nearest = nearest; outcome = Same j;
+      first_parent = 0; first_cost = 0; class = 0; unplaced = refl
+    }
 
--- Mark k at the point mark is handled: from tree to after, with this record.
-pub record Handles (scene : Scene) (tree : Nodes) (k : ℕ) (mark : Point) (entry : Record) (after : Nodes) : Type 0 where
-  pub nearest : IsNearest tree mark entry.nearest
-  pub ends : Ends scene tree k entry.nearest (steered (point_of tree entry.nearest) mark scene.step) entry.outcome entry after
+abbrev pub blocked_record : ℕ → ℕ → Record
+blocked_record k nearest =
+    record {
+      worker = 0; turn = k; nearest = nearest; outcome = Blocked;
+      first_parent = 0; first_cost = 0; class = 0; unplaced = refl
+    }
+
+abbrev pub placed_record : ℕ → ℕ → ℕ → ℕ → ℕ → Record
+placed_record k nearest parent cost class =
+    record {
+      worker = 0; turn = k; nearest = nearest; outcome = Placed;
+      first_parent = parent; first_cost = cost; class = class; unplaced = refl
+    }
+
+-- Mark k ends where node j stands already: nothing is placed.
+pub record EndsSame (setup : Setup) (tree : Nodes) (k : ℕ) (mark : Point) (j : ℕ) (entry : Record) (after : Nodes) : Type 0 where
+  pub point : Point
+  pub steers : SteersTo setup (points_of tree) mark entry.nearest point
+  pub stands : StandsAt (points_of tree) j point
+  pub account : entry ≡ same_record k entry.nearest j
+  pub added : after ≡ tree ++ None ∷ []
+
+-- The segment to the point that mark k steers to is not clear: nothing is placed.
+pub record EndsBlocked (setup : Setup) (tree : Nodes) (k : ℕ) (mark : Point) (entry : Record) (after : Nodes) : Type 0 where
+  pub point : Point
+  pub steers : SteersTo setup (points_of tree) mark entry.nearest point
+  pub free : IsFree (points_of tree) point
+  pub blocked : ¬ Clear setup.space (point_of (points_of tree) entry.nearest) point
+  pub account : entry ≡ blocked_record k entry.nearest
+  pub added : after ≡ tree ++ None ∷ []
+
+-- Mark k is placed: the new node stands under its best parent, and near nodes that are cheaper through it are rewired.
+pub record EndsPlaced (setup : Setup) (tree : Nodes) (k : ℕ) (mark : Point) (entry : Record) (after : Nodes) : Type 0 where
+  pub point : Point
+  pub steers : SteersTo setup (points_of tree) mark entry.nearest point
+  pub free : IsFree (points_of tree) point
+  pub clear : Clear setup.space (point_of (points_of tree) entry.nearest) point
+  pub parent : IsBestParent setup tree entry.nearest point entry.first_parent
+  pub account :
+    entry ≡ placed_record k entry.nearest entry.first_parent (cost_through tree point entry.first_parent) (class_of (node_count (points_of tree)))
+  pub rewired :
+    Rewires setup.space (tree ++ Some (record { point = point; parent = entry.first_parent }) ∷ []) (suc k) (near_new setup (points_of tree) point) after
+
+-- Mark k is handled, by the outcome that is recorded: from tree to after.
+abbrev pub Ends : Setup → Nodes → ℕ → Point → Outcome → Record → Nodes → Type 0
+Ends setup tree k mark (Same j) entry after = EndsSame setup tree k mark j entry after
+Ends setup tree k mark Blocked entry after = EndsBlocked setup tree k mark entry after
+Ends setup tree k mark Placed entry after = EndsPlaced setup tree k mark entry after
+
+abbrev pub Handles : Setup → Nodes → ℕ → Point → Record → Nodes → Type 0
+Handles setup tree k mark entry after = Ends setup tree k mark entry.outcome entry after
+
+-- ---- whole runs
 
 -- The marks from mark k on are handled, one after another.
-abbrev pub HandlesAll : Scene → ℕ → Nodes → List Point → List Record → Nodes → Type 0
-HandlesAll scene k tree [] [] after = after ≡ tree
-HandlesAll scene k tree (mark ∷ marks) (entry ∷ entries) after =
-    (mid : Nodes) × Handles scene tree k mark entry mid × HandlesAll scene (k + 1) mid marks entries after
-HandlesAll scene k tree [] (entry ∷ entries) after = ⊥
-HandlesAll scene k tree (mark ∷ marks) [] after = ⊥
+abbrev pub HandlesAll : Setup → ℕ → Nodes → List Point → List Record → Nodes → Type 0
+HandlesAll setup k tree [] [] after = after ≡ tree
+HandlesAll setup k tree (mark ∷ marks) (entry ∷ entries) after =
+    (mid : Nodes) × Handles setup tree k mark entry mid × HandlesAll setup (k + 1) mid marks entries after
+HandlesAll setup k tree [] (entry ∷ entries) after = ⊥
+HandlesAll setup k tree (mark ∷ marks) [] after = ⊥
 
--- The textbook run over these marks ends with this tree and these records.
-abbrev pub IsTextbookRun : Scene → List Point → Nodes → List Record → Type 0
-IsTextbookRun scene marks tree records = HandlesAll scene 0 (start_alone scene) marks records tree
+-- The textbook run over these marks, from the start alone, ends with this tree and these records.
+abbrev pub IsTextbookRun : Setup → Point → List Point → Nodes → List Record → Type 0
+IsTextbookRun setup start marks tree records = HandlesAll setup 0 (start_alone start) marks records tree

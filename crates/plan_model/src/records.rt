@@ -1,4 +1,7 @@
-//! What became of each mark.
+//! What became of each mark (each sample).
+
+ghost use Rattle.std.specs.Prelude.{IsTrue};
+ghost use Rattle.plan_model.specs.Outcomes.{is_zero_unless_placed};
 
 use crate::lists::Sequence;
 
@@ -30,6 +33,8 @@ pub struct Record {
     pub first_cost: u64,
     /// The number of binary digits of the number of nodes before a placed node, else 0.
     pub class: u32,
+    // a mark that was not placed has no first parent, no first cost and no class
+    ghost unplaced: { IsTrue (is_zero_unless_placed outcome first_parent first_cost class) },
 }
 
 /// Records, by the number of the mark.

@@ -1,0 +1,81 @@
+-- What a number at the end changes in a tree: nothing of the earlier nodes, and nothing at all if it is absent.
+use Rattle.std.proofs.Common.{◌≡◌, ℕ, zero, suc, ◌+◌, ◌<◌, ◌≤◌, List, [], ◌∷◌, ◌++◌, length, map, get_or, Option, Some, None, arith, refl, sym, ap, ◌∙◌, inl, inr, length-append}
+use Rattle.std.specs.Prelude.{option_map, count_by, is_some, cond}
+use Rattle.std.proofs.lemmas.List.{get_or_append_left, get_or_past}
+use Rattle.std.proofs.lemmas.List.Sums.{sum_by-append}
+use Rattle.std.proofs.lemmas.Bool.{cases_order}
+use Rattle.std.proofs.Math.Seq.{get_or-append_seam}
+use Rattle.std.proofs.Math.ListN.{get_or-map}
+use Rattle.std.proofs.lemmas.List.{map-append}
+use Rattle.plan_model.specs.declared.geometry.Point.{Point}
+use Rattle.plan_model.specs.declared.trees.Twig.{Twig}
+use Rattle.plan_model.specs.PointsByNumber.{point_at, point_of, node_count}
+use Rattle.plan_model.specs.Trees.{node_at, points_of, parent_or_start, parent_of, chain_within, chain, length_of_path, sum_of}
+
+-- where node n stands, by the node itself
+pub point_at-points_of : (tree : List (Option Twig)) (n : ℕ) → point_at (points_of tree) n ≡ option_map (λ node. node.point) (node_at tree n)
+point_at-points_of tree n = get_or-map (option_map (λ node. node.point)) tree n None
+
+-- a number at the end leaves the earlier nodes as they are
+pub node_at-push : (tree : List (Option Twig)) (node : Option Twig) (n : ℕ) → n < length tree → node_at (tree ++ node ∷ []) n ≡ node_at tree n
+node_at-push tree node n l = get_or_append_left tree (node ∷ []) None n l
+
+pub node_at-push_new : (tree : List (Option Twig)) (node : Option Twig) → node_at (tree ++ node ∷ []) (length tree) ≡ node
+node_at-push_new tree node = get_or-append_seam tree node [] None
+
+-- a number past the end is absent
+pub node_at-past : (tree : List (Option Twig)) (n : ℕ) → length tree ≤ n → node_at tree n ≡ None
+node_at-past tree n l = get_or_past tree n None l
+
+-- an absent number at the end changes no node
+pub node_at-absent : (tree : List (Option Twig)) (n : ℕ) → node_at (tree ++ None ∷ []) n ≡ node_at tree n
+node_at-absent tree n =
+    elim (cases_order n (length tree)) [
+      | inl e ↦ ap (node_at (tree ++ None ∷ [])) e ∙ node_at-push_new tree None ∙ sym (node_at-past tree n (omega arith))
+      | inr (inl before) ↦ node_at-push tree None n before
+      | inr (inr after) ↦ node_at-past (tree ++ None ∷ []) n (omega (arith, length-append tree (None ∷ []))) ∙ sym (node_at-past tree n (omega arith))
+    ]
+
+-- ---- the points of a longer tree
+
+pub points_of-push : (tree : List (Option Twig)) (node : Option Twig) → points_of (tree ++ node ∷ []) ≡ points_of tree ++ option_map (λ n. n.point) node ∷ []
+points_of-push tree node = map-append (option_map (λ n. n.point)) tree (node ∷ [])
+
+pub node_count-push : (points : List (Option Point)) (o : Option Point) → node_count (points ++ o ∷ []) ≡ node_count points + cond (is_some o) 1 0
+node_count-push points o = sum_by-append (λ q. cond (is_some q) 1 0) points (o ∷ []) ∙ omega arith
+
+-- ---- chains and sums by nodes
+
+-- two trees with the same nodes
+pub record HaveSameNodes (one other : List (Option Twig)) : Type 0 where
+  pub same : (n : ℕ) → node_at one n ≡ node_at other n
+  pub count : node_count (points_of one) ≡ node_count (points_of other)
+
+chain_within-same : (one other : List (Option Twig)) (most n : ℕ) → HaveSameNodes one other → chain_within most (parent_of one) n ≡ chain_within most (parent_of other) n
+chain_within-same one other zero n h = refl
+chain_within-same one other (suc most) zero h = refl
+chain_within-same one other (suc most) (suc n) h =
+    let parent : parent_of one (suc n) ≡ parent_of other (suc n) = ap parent_or_start (h.same (suc n)) in
+    ap (λ m. suc n ∷ chain_within most (parent_of one) m) parent ∙ ap (λ ns. suc n ∷ ns) (chain_within-same one other most (parent_of other (suc n)) h)
+
+pub chain-same : (one other : List (Option Twig)) (n : ℕ) → HaveSameNodes one other → chain one n ≡ chain other n
+chain-same one other n h =
+    ap (λ most. chain_within most (parent_of one) n) h.count ∙ chain_within-same one other (node_count (points_of other)) n h
+
+pub point_of-same : (one other : List (Option Twig)) (n : ℕ) → HaveSameNodes one other → point_of (points_of one) n ≡ point_of (points_of other) n
+point_of-same one other n h = rw (point_at-points_of one n, point_at-points_of other n, h.same n) refl
+
+path-same : (one other : List (Option Twig)) (ns : List ℕ) → HaveSameNodes one other → map (point_of (points_of one)) ns ≡ map (point_of (points_of other)) ns
+path-same one other [] h = refl
+path-same one other (n ∷ ns) h = rw (point_of-same one other n h, path-same one other ns h) refl
+
+pub sum-same : (one other : List (Option Twig)) (n : ℕ) → HaveSameNodes one other → sum_of one n ≡ sum_of other n
+sum-same one other n h =
+    ap (λ ns. length_of_path (map (point_of (points_of one)) ns)) (chain-same one other n h) ∙ ap length_of_path (path-same one other (chain other n) h)
+
+-- absent numbers at the end change no chain and no sum
+pub HaveSameNodes-absent : (tree : List (Option Twig)) → HaveSameNodes (tree ++ None ∷ []) tree
+HaveSameNodes-absent tree = record {
+  same = node_at-absent tree;
+  count = ap node_count (points_of-push tree None) ∙ node_count-push (points_of tree) None ∙ omega arith;
+}

@@ -1,0 +1,22 @@
+-- The order of pairs (key, number), by which the nearest node, the best parent and the best node are chosen: the lesser key, and of equal keys the lesser number.
+use Rattle.std.specs.Prelude.{◌≡◌, ℕ, ◌≤◌, nat_lt, Option, Some, None, List, [], ◌∷◌, if◌then◌else◌}
+
+-- the pair of m is not above the pair of i
+pub record IsNotAbove (key : ℕ → ℕ) (m i : ℕ) : Type 0 where
+  pub least : key m ≤ key i
+  pub first : key i ≡ key m → m ≤ i
+
+-- m has the least pair among these numbers
+pub record IsFirstLeast (key : ℕ → ℕ) (among : ℕ → Type 0) (m : ℕ) : Type 0 where
+  pub member : among m
+  pub not_above : (i : ℕ) → among i → IsNotAbove key m i
+
+-- of a number and perhaps another that stands after it, the one with the lesser key, the first if both are equal
+abbrev pub lesser : (ℕ → ℕ) → ℕ → Option ℕ → ℕ
+lesser key n None = n
+lesser key n (Some m) = if nat_lt (key m) (key n) then m else n
+
+-- the first of the numbers with the least key
+abbrev pub first_least : (ℕ → ℕ) → List ℕ → Option ℕ
+first_least key [] = None
+first_least key (n ∷ ns) = Some (lesser key n (first_least key ns))

@@ -1,0 +1,27 @@
+-- Points by number: where each node of a tree stands. Node 0 is the start, node k + 1 belongs to mark k; a number without a node has no point.
+use Rattle.std.specs.Prelude.{◌≡◌, ℕ, Option, Some, None, IsSome, is_some, unwrap_or, List, count_by, slice_index_or}
+use Rattle.plan_model.specs.declared.geometry.Point.{Point}
+
+-- where node n stands, if it is present
+abbrev pub point_at : List (Option Point) → ℕ → Option Point
+point_at points n = slice_index_or points n None
+
+-- node n is present and stands at p
+abbrev pub StandsAt : List (Option Point) → ℕ → Point → Type 0
+StandsAt points n p = point_at points n ≡ Some p
+
+-- node n is present
+abbrev pub IsPresent : List (Option Point) → ℕ → Type 0
+IsPresent points n = IsSome (point_at points n)
+
+-- the point of a present node (definitions ask it of present nodes alone)
+abbrev pub point_of : List (Option Point) → ℕ → Point
+point_of points n = unwrap_or (point_at points n) (record { x = 0; y = 0 })
+
+-- no node stands at p
+abbrev pub IsFree : List (Option Point) → Point → Type 0
+IsFree points p = (j : ℕ) → ¬ StandsAt points j p
+
+-- how many nodes are present
+abbrev pub node_count : List (Option Point) → ℕ
+node_count points = count_by is_some points

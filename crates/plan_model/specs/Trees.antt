@@ -1,0 +1,69 @@
+-- Trees: nodes by number, each absent or a point with a parent. Node 0 is the start, and node k + 1 belongs to mark k.
+use Rattle.std.specs.Prelude.{◌≡◌, ℕ, zero, suc, ◌+◌, ◌<◌, Option, Some, None, List, [], ◌∷◌, map, slice_get, slice_index_or, option_map}
+use Rattle.plan_model.specs.declared.geometry.Point.{Point}
+use Rattle.plan_model.specs.declared.trees.Twig.{Twig}
+use Rattle.plan_model.specs.declared.trees.Knot.{Knot}
+use Rattle.plan_model.specs.Cost.{cost_of}
+use Rattle.plan_model.specs.PointsByNumber.{IsPresent, point_of, node_count}
+
+-- the node with this number, if it is present
+abbrev pub node_at : List (Option Twig) → ℕ → Option Twig
+node_at tree n = slice_index_or tree n None
+
+-- where each node stands
+abbrev pub points_of : List (Option Twig) → List (Option Point)
+points_of tree = map (option_map (λ node. node.point)) tree
+
+abbrev pub parent_or_start : Option Twig → ℕ
+parent_or_start None = 0
+parent_or_start (Some node) = node.parent
+
+-- the parent of a present node (definitions ask it of present nodes alone)
+abbrev pub parent_of : List (Option Twig) → ℕ → ℕ
+parent_of tree n = parent_or_start (node_at tree n)
+
+-- node n, its parent, and so on up to node 0, as far as so many members go
+abbrev pub chain_within : ℕ → (ℕ → ℕ) → ℕ → List ℕ
+chain_within zero parents n = []
+chain_within (suc most) parents zero = 0 ∷ []
+chain_within (suc most) parents (suc n) = suc n ∷ chain_within most parents (parents (suc n))
+
+-- The chain of a node: it has at most as many members as nodes are present.
+abbrev pub chain : List (Option Twig) → ℕ → List ℕ
+chain tree n = chain_within (node_count (points_of tree)) (parent_of tree) n
+
+-- the edge costs along a list of points, added up
+abbrev pub length_of_path : List Point → ℕ
+length_of_path [] = 0
+length_of_path (p ∷ []) = 0
+length_of_path (p ∷ q ∷ path) = cost_of q p + length_of_path (q ∷ path)
+
+-- the cost-to-come of a node, by its chain
+abbrev pub sum_of : List (Option Twig) → ℕ → ℕ
+sum_of tree n = length_of_path (map (point_of (points_of tree)) (chain tree n))
+
+-- ---- kept costs
+
+-- Each present node but the start has a present parent, which costs strictly less.
+pub record CostsFall (costs : ℕ → ℕ) (tree : List (Option Twig)) : Type 0 where
+  pub start : IsPresent (points_of tree) 0
+  pub parent : (n : ℕ) → IsPresent (points_of tree) (suc n) → IsPresent (points_of tree) (parent_of tree (suc n))
+  pub falls : (n : ℕ) → IsPresent (points_of tree) (suc n) → costs (parent_of tree (suc n)) < costs (suc n)
+
+-- the cost of the edge from a node's parent
+abbrev pub edge_of : List (Option Twig) → ℕ → ℕ
+edge_of tree n = cost_of (point_of (points_of tree) (parent_of tree n)) (point_of (points_of tree) n)
+
+-- The start costs nothing, and every other present node its parent's cost and the edge.
+pub record AreTight (costs : ℕ → ℕ) (tree : List (Option Twig)) : Type 0 where
+  pub start : costs 0 ≡ 0
+  pub edges : (n : ℕ) → IsPresent (points_of tree) (suc n) → costs (suc n) ≡ costs (parent_of tree (suc n)) + edge_of tree (suc n)
+
+-- the nodes without their kept costs
+abbrev pub without_costs : List (Option Knot) → List (Option Twig)
+without_costs knots = map (option_map (λ k. record { point = k.point; parent = k.parent })) knots
+
+-- each kept cost is the node's sum
+abbrev pub IsSettled : List (Option Knot) → Type 0
+IsSettled knots =
+    (n : ℕ) (k : Knot) → slice_get knots n ≡ Some (Some k) → k.cost ≡ sum_of (without_costs knots) n
