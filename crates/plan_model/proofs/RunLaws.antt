@@ -1,19 +1,22 @@
 -- A textbook run goes on by one mark at its end.
 use Rattle.std.proofs.Common.{◌≡◌, ℕ, ◌+◌, List, [], ◌∷◌, ◌++◌, length, arith, refl, subst}
 use Rattle.plan_model.specs.declared.geometry.Point.{Point}
-use Rattle.plan_model.specs.declared.scenes.Scene.{Scene}
 use Rattle.plan_model.specs.declared.records.Record.{Record}
-use Rattle.plan_model.specs.Textbook.{Nodes, Handles, HandlesAll}
+use Rattle.plan_model.specs.Textbook.{Nodes, Setup, Handles, HandlesAll}
 
-pub HandlesAll-push : (scene : Scene) (k : ℕ) (tree : Nodes) (marks : List Point) (entries : List Record) (mid : Nodes) (mark : Point) (entry : Record) (after : Nodes) → HandlesAll scene k tree marks entries mid → Handles scene mid (k + length marks) mark entry after → HandlesAll scene k tree (marks ++ mark ∷ []) (entries ++ entry ∷ []) after
-HandlesAll-push scene k tree [] [] mid mark entry after run last =
-    let P : Nodes → Type 0 = λ t. Handles scene t k mark entry after in
-    let Q : ℕ → Type 0 = λ n. Handles scene mid n mark entry after in
+pub HandlesAll-push :
+    (setup : Setup) (k : ℕ) (tree : Nodes) (marks : List Point) (entries : List Record) (mid : Nodes) (mark : Point) (entry : Record) (after : Nodes)
+    → HandlesAll setup k tree marks entries mid
+    → Handles setup mid (k + length marks) mark entry after
+    → HandlesAll setup k tree (marks ++ mark ∷ []) (entries ++ entry ∷ []) after
+HandlesAll-push setup k tree [] [] mid mark entry after run last =
+    let P : Nodes → Type 0 = λ t. Handles setup t k mark entry after in
+    let Q : ℕ → Type 0 = λ n. Handles setup mid n mark entry after in
     let e : k + 0 ≡ k = omega arith in
     (after, subst P run (subst Q e last), refl)
-HandlesAll-push scene k tree (m ∷ marks) (e ∷ entries) mid mark entry after run last =
-    let Q : ℕ → Type 0 = λ n. Handles scene mid n mark entry after in
+HandlesAll-push setup k tree (m ∷ marks) (e ∷ entries) mid mark entry after run last =
+    let Q : ℕ → Type 0 = λ n. Handles setup mid n mark entry after in
     let q : k + length (m ∷ marks) ≡ k + 1 + length marks = omega arith in
-    (run.0, run.1, HandlesAll-push scene (k + 1) run.0 marks entries mid mark entry after run.2 (subst Q q last))
-HandlesAll-push scene k tree [] (e ∷ entries) mid mark entry after run last = absurd run
-HandlesAll-push scene k tree (m ∷ marks) [] mid mark entry after run last = absurd run
+    (run.0, run.1, HandlesAll-push setup (k + 1) run.0 marks entries mid mark entry after run.2 (subst Q q last))
+HandlesAll-push setup k tree [] (e ∷ entries) mid mark entry after run last = absurd run
+HandlesAll-push setup k tree (m ∷ marks) [] mid mark entry after run last = absurd run

@@ -10,15 +10,15 @@ edge = root_ceiling-from_squares 163840000 12800 (omega arith) (omega arith)
 pub returns : goal.returns
 unfolding digits
 returns c = record {
-  best = refl;
-  report = rw edge refl;
+  best = λ scene e. rw e refl;
+  report = λ scene e. rw (e, edge) refl;
   low_corner = refl;
   high_corner = refl;
   left_of_it = refl;
   above_it = refl;
-  tied = rw edge refl;
-  none_reached = refl;
-  no_path = refl;
-  start_in_goal = refl;
-  in_full = rw edge refl;
+  tied = λ scene e. rw (e, edge) refl;
+  none_reached = λ scene e. rw e refl;
+  no_path = λ scene e. rw e refl;
+  start_in_goal = λ scene e. rw e refl;
+  in_full = λ scene e. rw (e, edge) refl;
 }
