@@ -65,7 +65,7 @@ filter-none test (x ∷ xs) h = rw (h x) (filter-none test xs h)
 pub near_new-none : (setup : Setup) (points : List (Option Point)) (p : Point) → setup.gamma ≡ 0 → IsFree points p → near_new setup points p ≡ []
 near_new-none setup points p gamma free =
     let radius : radius_of setup.step setup.gamma (node_count points) ≡ 0 =
-      ap (λ g. radius_of setup.step g (node_count points)) gamma ∙ radius_of-zero setup.step (node_count points) in
+    ap (λ g. radius_of setup.step g (node_count points)) gamma ∙ radius_of-zero setup.step (node_count points) in
     ap (near points p) radius
     ∙ filter-none (λ i. is_within p 0 (point_at points i)) (range_with_len 0 (length points)) (λ i. is_near_free points p i free (point_at points i) refl)
 
@@ -79,7 +79,7 @@ pub IsBestParent-nearest :
     → Clear setup.space (point_of (points_of tree) nearest) p → IsBestParent setup tree nearest p nearest
 IsBestParent-nearest setup tree nearest p gamma free clear =
     let only : (i : ℕ) → IsCandidate setup (points_of tree) nearest p i → i ≡ nearest =
-      λ i own. (let P : List ℕ → Type 0 = λ ns. Contains (nearest ∷ ns) i in alone nearest i (subst P (near_new-none setup (points_of tree) p gamma free) own.among)) in
+    λ i own. (let P : List ℕ → Type 0 = λ ns. Contains (nearest ∷ ns) i in alone nearest i (subst P (near_new-none setup (points_of tree) p gamma free) own.among)) in
     record {
       member = record { among = (0, omega arith, refl); clear = clear };
       not_above = λ i own. record {

@@ -56,8 +56,8 @@ count_of number records = count_by (λ entry. number_of_outcome entry.outcome ==
 abbrev pub counts_line : ℕ → List Record → List ℕ
 counts_line nodes records =
     line (
-      codes "nodes" ∷ decimal nodes ∷ codes "placed" ∷ decimal (count_of 0 records)
-      ∷ codes "same" ∷ decimal (count_of 1 records) ∷ codes "blocked" ∷ decimal (count_of 2 records) ∷ []
+    codes "nodes" ∷ decimal nodes ∷ codes "placed" ∷ decimal (count_of 0 records)
+    ∷ codes "same" ∷ decimal (count_of 1 records) ∷ codes "blocked" ∷ decimal (count_of 2 records) ∷ []
     )
 
 -- ---- the reports
@@ -73,8 +73,8 @@ abbrev pub node_line : List (Option Twig) → ℕ → Option Twig → List ℕ
 node_line tree n None = []
 node_line tree n (Some node) =
     line (
-      codes "node" ∷ decimal n ∷ codes "at" ∷ decimal node.point.x ∷ decimal node.point.y
-      ∷ codes "parent" ∷ decimal node.parent ∷ codes "cost" ∷ decimal (sum_of tree n) ∷ []
+    codes "node" ∷ decimal n ∷ codes "at" ∷ decimal node.point.x ∷ decimal node.point.y
+    ∷ codes "parent" ∷ decimal node.parent ∷ codes "cost" ∷ decimal (sum_of tree n) ∷ []
     )
 
 -- a line for each node that is present
@@ -92,8 +92,8 @@ outcome_words entry Blocked = codes "blocked" ∷ []
 abbrev pub mark_line : ℕ → Record → List ℕ
 mark_line k entry =
     line (
-      (codes "mark" ∷ decimal k ∷ codes "worker" ∷ decimal entry.worker ∷ codes "turn" ∷ decimal entry.turn
-      ∷ codes "nearest" ∷ decimal entry.nearest ∷ []) ++ outcome_words entry entry.outcome
+    (codes "mark" ∷ decimal k ∷ codes "worker" ∷ decimal entry.worker ∷ codes "turn" ∷ decimal entry.turn
+    ∷ codes "nearest" ∷ decimal entry.nearest ∷ []) ++ outcome_words entry entry.outcome
     )
 
 -- the records' lines, from mark k on

@@ -86,22 +86,40 @@ pub record SteersTo (setup : Setup) (points : List (Option Point)) (mark : Point
 abbrev pub same_record : ℕ → ℕ → ℕ → Record
 same_record k nearest j =
     record {
-      worker = 0; turn = k; nearest = nearest; outcome = Same j;
-      first_parent = 0; first_cost = 0; class = 0; unplaced = refl
+      worker = 0;
+      turn = k;
+      nearest = nearest;
+      outcome = Same j;
+      first_parent = 0;
+      first_cost = 0;
+      class = 0;
+      unplaced = refl;
     }
 
 abbrev pub blocked_record : ℕ → ℕ → Record
 blocked_record k nearest =
     record {
-      worker = 0; turn = k; nearest = nearest; outcome = Blocked;
-      first_parent = 0; first_cost = 0; class = 0; unplaced = refl
+      worker = 0;
+      turn = k;
+      nearest = nearest;
+      outcome = Blocked;
+      first_parent = 0;
+      first_cost = 0;
+      class = 0;
+      unplaced = refl;
     }
 
 abbrev pub placed_record : ℕ → ℕ → ℕ → ℕ → ℕ → Record
 placed_record k nearest parent cost class =
     record {
-      worker = 0; turn = k; nearest = nearest; outcome = Placed;
-      first_parent = parent; first_cost = cost; class = class; unplaced = refl
+      worker = 0;
+      turn = k;
+      nearest = nearest;
+      outcome = Placed;
+      first_parent = parent;
+      first_cost = cost;
+      class = class;
+      unplaced = refl;
     }
 
 -- Mark k ends where node j stands already: nothing is placed.
@@ -129,9 +147,9 @@ pub record EndsPlaced (setup : Setup) (tree : Nodes) (k : ℕ) (mark : Point) (e
   pub clear : Clear setup.space (point_of (points_of tree) entry.nearest) point
   pub parent : IsBestParent setup tree entry.nearest point entry.first_parent
   pub account :
-    entry ≡ placed_record k entry.nearest entry.first_parent (cost_through tree point entry.first_parent) (class_of (node_count (points_of tree)))
+      entry ≡ placed_record k entry.nearest entry.first_parent (cost_through tree point entry.first_parent) (class_of (node_count (points_of tree)))
   pub rewired :
-    Rewires setup.space (tree ++ Some (record { point = point; parent = entry.first_parent }) ∷ []) (suc k) (near_new setup (points_of tree) point) after
+      Rewires setup.space (tree ++ Some (record { point = point; parent = entry.first_parent }) ∷ []) (suc k) (near_new setup (points_of tree) point) after
 
 -- Mark k is handled, by the outcome that is recorded: from tree to after.
 abbrev pub Ends : Setup → Nodes → ℕ → Point → Outcome → Record → Nodes → Type 0

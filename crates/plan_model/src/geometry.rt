@@ -26,6 +26,18 @@ impl Point {
     }
 }
 
+impl Point {
+    ghost use Rattle.std.specs.Prelude.{◌↔◌, IsTrue};
+    ghost use Rattle.plan_model.specs.EmptyRooms.{IsInRoom};
+
+    /// Whether the point lies between the origin and the room's upper right corner, on the walls or within them.
+    pub fn is_in_room(self, room: Point) -> bool
+        ensures { IsTrue result ↔ IsInRoom room self }
+    {
+        self.x <= room.x && self.y <= room.y
+    }
+}
+
 /// A corner of a polygon.
 #[derive(Clone, Copy, Debug, PartialEq, Eq)]
 pub struct Vertex {
@@ -38,4 +50,19 @@ pub struct Vertex {
 pub struct Goal {
     pub low: Point,
     pub high: Point,
+}
+
+impl Goal {
+    ghost use Rattle.std.specs.Prelude.{◌≡◌};
+    ghost use Rattle.plan_model.specs.BestNode.{is_in_goal};
+
+    /// Whether the point lies in the box, on its edges or within them.
+    pub fn contains(self, point: Point) -> bool
+        ensures { result ≡ is_in_goal self point }
+    {
+        self.low.x <= point.x
+            && point.x <= self.high.x
+            && self.low.y <= point.y
+            && point.y <= self.high.y
+    }
 }

@@ -43,8 +43,8 @@ goal_point = record { low = at 30 40; high = at 30 40 }
 pub record ReportVectors : Type 0 where
   pub best : (scene : Scene) → scene.goal ≡ goal_point → best_node scene two_nodes ≡ Some 1
   pub report :
-    (scene : Scene) → scene.goal ≡ goal_point → short_report scene two_nodes one_placed
-    ≡ codes "path 2 cost 12800\n0 0\n30 40\nnodes 2 placed 1 same 0 blocked 0\n"
+      (scene : Scene) → scene.goal ≡ goal_point → short_report scene two_nodes one_placed
+      ≡ codes "path 2 cost 12800\n0 0\n30 40\nnodes 2 placed 1 same 0 blocked 0\n"
   -- the box is closed
   pub low_corner : is_in_goal (box 1 2 3 4) (at 1 2) ≡ true
   pub high_corner : is_in_goal (box 1 2 3 4) (at 3 4) ≡ true
@@ -54,12 +54,12 @@ pub record ReportVectors : Type 0 where
   pub tied : (scene : Scene) → scene.goal ≡ box 30 30 40 40 → best_node scene two_branches ≡ Some 1
   pub none_reached : (scene : Scene) → scene.goal ≡ box 41 41 50 50 → best_node scene two_branches ≡ None
   pub no_path :
-    (scene : Scene) → scene.goal ≡ box 41 41 50 50 → short_report scene two_nodes one_placed
-    ≡ codes "no path\nnodes 2 placed 1 same 0 blocked 0\n"
+      (scene : Scene) → scene.goal ≡ box 41 41 50 50 → short_report scene two_nodes one_placed
+      ≡ codes "no path\nnodes 2 placed 1 same 0 blocked 0\n"
   pub start_in_goal :
-    (scene : Scene) → scene.goal ≡ box 0 0 9 9 → short_report scene two_nodes []
-    ≡ codes "path 1 cost 0\n0 0\nnodes 2 placed 0 same 0 blocked 0\n"
+      (scene : Scene) → scene.goal ≡ box 0 0 9 9 → short_report scene two_nodes []
+      ≡ codes "path 1 cost 0\n0 0\nnodes 2 placed 0 same 0 blocked 0\n"
   -- absent nodes have no line
   pub in_full :
-    (scene : Scene) → scene.goal ≡ box 41 41 50 50 → full_report scene one_of_three three_records
-    ≡ codes "no path\nnodes 2 placed 1 same 1 blocked 1\nnode 0 at 0 0 parent 0 cost 0\nnode 1 at 30 40 parent 0 cost 12800\nmark 0 worker 0 turn 0 nearest 0 placed class 1 first 0 12800\nmark 1 worker 0 turn 1 nearest 1 same 1\nmark 2 worker 0 turn 2 nearest 1 blocked\n"
+      (scene : Scene) → scene.goal ≡ box 41 41 50 50 → full_report scene one_of_three three_records
+      ≡ codes "no path\nnodes 2 placed 1 same 1 blocked 1\nnode 0 at 0 0 parent 0 cost 0\nnode 1 at 30 40 parent 0 cost 12800\nmark 0 worker 0 turn 0 nearest 0 placed class 1 first 0 12800\nmark 1 worker 0 turn 1 nearest 1 same 1\nmark 2 worker 0 turn 2 nearest 1 blocked\n"
