@@ -1,6 +1,6 @@
 -- A point body in an empty room is clear exactly if it is in the room.
-use Rattle.std.proofs.Common.{◌≡◌, ℕ, suc, ◌+◌, ◌-◌, ◌*◌, ◌≤◌, arith, List, [], subst, sym, refl, ap, ◌∙◌}
-use Rattle.std.specs.Prelude.{ℤ, pos, negsuc, ◌+ℤ◌, ◌-ℤ◌, ◌*ℤ◌, ◌≤ℤ◌}
+use Rattle.std.proofs.Common.{◌≡◌, ℕ, ◌+◌, ◌-◌, ◌*◌, ◌≤◌, arith, List, [], subst, sym, ap, ◌∙◌}
+use Rattle.std.specs.Prelude.{ℤ, pos, ◌+ℤ◌, ◌-ℤ◌, ◌*ℤ◌, ◌≤ℤ◌}
 use Rattle.std.proofs.Math.Nat.{le_refl}
 use Rattle.std.proofs.lemmas.Int.{ints}
 use Rattle.std.proofs.lemmas.Nat.{mul-le}
@@ -13,15 +13,7 @@ use Rattle.plan_model.specs.RoomOfConfigurations.{Rational, at_lattice, moved_by
 use Rattle.plan_model.specs.Meeting.{Meets}
 use Rattle.plan_model.specs.Clearance.{IsClear, ClearAt, on_the_way, Clear}
 use Rattle.plan_model.specs.EmptyRooms.{empty_room, IsPointInEmptyRoom, IsInRoom}
-
--- s of the d = s + k parts of the way from a to b, in a whole number of parts
-part_of_way : (s k a b : ℕ) (z : ℤ) → z ≡ pos b -ℤ pos a → (pos (s + k) *ℤ pos a) +ℤ (pos s *ℤ z) ≡ pos (k * a + s * b)
-part_of_way s k a b (pos e) h =
-    let g : b ≡ a + e = omega (arith, ints) in
-    rw g (omega (arith, ints))
-part_of_way s k a b (negsuc e) h =
-    let g : a ≡ b + suc e = omega (arith, ints) in
-    rw g (omega (arith, ints))
+use Rattle.plan_model.proofs.SegmentLaws.{part_and_rest, way_is}
 
 -- a coordinate on the way lies between 0 and the side
 record IsOnSide (side d : ℕ) (z : ℤ) : Type 0 where
@@ -30,13 +22,9 @@ record IsOnSide (side d : ℕ) (z : ℤ) : Type 0 where
 
 way_on_side : (s d a b w : ℕ) → s ≤ d → a ≤ w → b ≤ w → IsOnSide w d ((pos d *ℤ pos a) +ℤ (pos s *ℤ (pos b -ℤ pos a)))
 way_on_side s d a b w h p q =
-    let k : ℕ = d - s in
-    let e : d ≡ s + k = omega arith in
-    let whole : (pos (s + k) *ℤ pos a) +ℤ (pos s *ℤ (pos b -ℤ pos a)) ≡ pos (k * a + s * b) = part_of_way s k a b (pos b -ℤ pos a) refl in
-    let below : k * a + s * b ≤ (s + k) * w = omega (arith, mul-le k a k w (omega arith) p, mul-le s b s w (omega arith) q) in
-    let P : ℤ → Type 0 = λ z. IsOnSide w (s + k) z in
-    let Q : ℕ → Type 0 = λ n. IsOnSide w n ((pos n *ℤ pos a) +ℤ (pos s *ℤ (pos b -ℤ pos a))) in
-    subst Q (sym e) (subst P (sym whole) (record { low = omega (arith, ints); high = omega (arith, ints, below) }))
+    let way = way_is s d a b h in
+    let below : (d - s) * a + s * b ≤ d * w = omega (arith, mul-le (d - s) a (d - s) w (omega arith) p, mul-le s b s w (omega arith) q, part_and_rest s d w h) in
+    record { low = omega (arith, ints); high = omega (arith, ints) }
 
 -- the only corner of a point body moves nothing
 corner_in_box : (room : Point) (q : Rational) → IsInBox room q → IsInBox room (moved_by q (record { x = pos 0; y = pos 0 }))

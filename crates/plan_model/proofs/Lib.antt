@@ -18,3 +18,8 @@ pub mod GivenScenes
 pub mod CostLaws
 pub mod StripLaws
 pub mod Differences
+pub mod RationalPoints
+pub mod SegmentLaws
+pub mod SpanLaws
+pub mod QuotaLaws
+pub mod DrawnMarks

@@ -27,7 +27,7 @@ share_le u c m h = div-le_of_le-mul m (mul-le u c m c h (omega arith))
 mixed_below : (z shift : ℕ) → z < 2 ^ 64 → bit_xor z (z / shift) < 2 ^ 64
 mixed_below z shift h = xor_lt 64 z (z / shift) h (omega (arith, div-le_self z shift))
 
-word_below : (state : ℕ) → word_of_state state < 2 ^ 64
+pub word_below : (state : ℕ) → word_of_state state < 2 ^ 64
 word_below state = mixed_below (mixed 27 0x94D049BB133111EB (mixed 30 0xBF58476D1CE4E5B9 state)) (2 ^ 31) (mod_below _ (2 ^ 64) (pow_pos 64))
 
 picked_le : (span : Span) (word m : ℕ) → 0 < m → word < m * m → span.first + ((word / m) * span.count) / m ≤ span.first + span.count

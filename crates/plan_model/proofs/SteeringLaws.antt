@@ -1,10 +1,17 @@
--- A coordinate is moved by a share of the way, rounded towards where it stands.
-use Rattle.std.proofs.Common.{◌≡◌, ℕ, zero, suc, ◌+◌, ◌-◌, ◌*◌, ◌/◌, ◌<◌, ◌≤◌, refl, ap, arith}
+-- A coordinate is moved by a share of the way, rounded towards where it stands. So a step is short, and leads nearer.
+use Rattle.std.proofs.Common.{◌≡◌, ℕ, zero, suc, ◌+◌, ◌-◌, ◌*◌, ◌/◌, ◌<◌, ◌≤◌, ◌≢◌, Bool, true, false, cond, leb, refl, ap, ◌∙◌, subst, arith, inl, inr}
 use Rattle.std.specs.Prelude.{ℤ, pos, neg_ℤ, ◌+ℤ◌, ◌-ℤ◌, ◌*ℤ◌, int_div, unsigned_abs}
-use Rattle.std.proofs.Math.Nat.{div-le_of_le-mul}
+use Rattle.std.specs.Prelude.{min, max}
+use Rattle.std.specs.Int.{abs_diff}
+use Rattle.std.proofs.Math.Nat.{div-le_of_le-mul, div-mul-le_self, le_of_mul-le-mul_right}
+use Rattle.std.proofs.lemmas.Bool.{cases_lt, le-leb, leb-true, leb-false}
 use Rattle.std.proofs.lemmas.Int.{ints}
 use Rattle.std.proofs.lemmas.Nat.{mul-le}
-use Rattle.plan_model.specs.Steering.{advanced}
+use Rattle.plan_model.specs.declared.geometry.Point.{Point}
+use Rattle.plan_model.specs.Geometry.{squared_distance, IsInBoxOf}
+use Rattle.plan_model.specs.Roots.{IsRootCeiling, root_ceiling}
+use Rattle.plan_model.specs.Steering.{advanced, steered}
+use Rattle.plan_model.proofs.RootLaws.{root_ceiling-is, lt-from_squares}
 
 forwards : (from step len d : ℕ) (z : ℤ) → z ≡ pos d → unsigned_abs (pos from +ℤ int_div (z *ℤ pos step) (pos len)) ≡ from + (d * step) / len
 forwards from step len d z e = rw e refl
@@ -37,3 +44,121 @@ backwards from step len d z e low some short =
 pub advanced-backwards : (from to step len : ℕ) → to ≤ from → 0 < len → step ≤ len → advanced from to step len ≡ from - ((from - to) * step) / len
 advanced-backwards from to step len h some short =
     backwards from step len (from - to) (pos to -ℤ pos from) (omega (arith, ints)) (omega arith) some short
+
+-- ---- one coordinate
+-- p is on the way between two coordinates, and at most step / len of it away from the first
+pub record IsShare (from to step len p : ℕ) : Type 0 where
+  pub least : min from to ≤ p
+  pub greatest : p ≤ max from to
+  pub share : abs_diff from p * len ≤ abs_diff from to * step
+
+share-forwards : (from to step len w : ℕ) → from ≤ to → step ≤ len → w * len ≤ (to - from) * step → 0 < len → IsShare from to step len (from + w)
+share-forwards from to step len w h short share some =
+    let way : w ≤ to - from = le_of_mul-le-mul_right (omega (arith, mul-le (to - from) step (to - from) len (omega arith) short)) some in
+    let moved : abs_diff from (from + w) ≡ w = omega arith in
+    let whole : abs_diff from to ≡ to - from = omega arith in
+    record { least = omega arith; greatest = omega arith; share = rw (moved, whole) share }
+
+share-backwards : (from to step len w : ℕ) → to ≤ from → step ≤ len → w * len ≤ (from - to) * step → 0 < len → IsShare from to step len (from - w)
+share-backwards from to step len w h short share some =
+    let way : w ≤ from - to = le_of_mul-le-mul_right (omega (arith, mul-le (from - to) step (from - to) len (omega arith) short)) some in
+    let moved : abs_diff from (from - w) ≡ w = omega arith in
+    let whole : abs_diff from to ≡ from - to = omega arith in
+    record { least = omega arith; greatest = omega arith; share = rw (moved, whole) share }
+
+pub IsShare-advanced : (from to step len : ℕ) → 0 < len → step ≤ len → IsShare from to step len (advanced from to step len)
+IsShare-advanced from to step len some short =
+    elim (cases_lt from to) [
+      | inl before ↦ rw (advanced-forwards from to step len (omega arith)) (share-forwards from to step len (((to - from) * step) / len) (omega arith) short (div-mul-le_self ((to - from) * step) len) some)
+      | inr after ↦ rw (advanced-backwards from to step len after some short) (share-backwards from to step len (((from - to) * step) / len) after short (div-mul-le_self ((from - to) * step) len) some)
+    ]
+
+-- ---- both coordinates
+-- the square of a share, from the share
+square_share : (w d s l : ℕ) → w * l ≤ d * s → (w * w) * (l * l) ≤ (d * d) * (s * s)
+square_share w d s l h = omega (arith, mul-le (w * l) (w * l) (d * s) (d * s) h h)
+
+-- v and w are at most the shares s / l of d and e, and (d, e) is no longer than l
+shares_within_step : (v w d e s l : ℕ) → 0 < l → v * l ≤ d * s → w * l ≤ e * s → d * d + e * e ≤ l * l → v * v + w * w ≤ s * s
+shares_within_step v w d e s l some h k whole =
+    elim (cases_lt (s * s) (v * v + w * w)) [
+      | inl more ↦ absurd (omega (arith, square_share v d s l h, square_share w e s l k, mul-le (d * d + e * e) (s * s) (l * l) (s * s) whole (omega arith), mul-le (s * s + 1) (l * l) (v * v + w * w) (l * l) (omega arith) (omega arith), mul-le 1 1 l l (omega arith) (omega arith)))
+      | inr fits ↦ fits
+    ]
+
+zero_square : (v : ℕ) → v * v ≤ 0 → v ≡ 0
+zero_square zero h = refl
+zero_square (suc v) h = absurd (omega (arith, mul-le 1 1 (suc v) (suc v) (omega arith) (omega arith)))
+
+square_of_parts : (x v d : ℕ) → d ≡ x + v → x * x + v * v ≤ d * d
+square_of_parts x v d e = rw e (omega arith)
+
+-- the length of (d, e) is above that of the parts x and y, unless the rests v and w are 0
+rests_are_none : (d e x y v w : ℕ) → d ≡ x + v → e ≡ y + w → d * d + e * e ≤ x * x + y * y → (v ≡ 0) × (w ≡ 0)
+rests_are_none d e x y v w h k far =
+    let of_d = square_of_parts x v d h in
+    let of_e = square_of_parts y w e k in
+    (zero_square v (omega arith), zero_square w (omega arith))
+
+-- p is where a step from a towards b may end
+pub record IsStep (a b : Point) (step : ℕ) (p : Point) : Type 0 where
+  pub short : squared_distance a p ≤ step * step
+  pub box : IsInBoxOf a b p
+
+step_by_shares : (a b p : Point) (step len : ℕ) → 0 < len → squared_distance a b ≤ len * len → IsShare a.x b.x step len p.x → IsShare a.y b.y step len p.y → IsStep a b step p
+step_by_shares a b p step len some whole x y = record {
+  short = shares_within_step (abs_diff a.x p.x) (abs_diff a.y p.y) (abs_diff a.x b.x) (abs_diff a.y b.y) step len some x.share y.share whole;
+  box = record { left = x.least; right = x.greatest; bottom = y.least; top = y.greatest };
+}
+
+whole_step : (a b : Point) (step : ℕ) → squared_distance a b ≤ step * step → IsStep a b step b
+whole_step a b step near = record {
+  short = near;
+  box = record { left = omega arith; right = omega arith; bottom = omega arith; top = omega arith };
+}
+
+partial_step : (a b : Point) (step len : ℕ) → step * step < squared_distance a b → IsRootCeiling (squared_distance a b) len → IsStep a b step (record { x = advanced a.x b.x step len; y = advanced a.y b.y step len })
+partial_step a b step len far root =
+    let short : step < len = lt-from_squares step len (step * step) (omega arith) (omega (arith, root.reaches)) in
+    let some : 0 < len = omega arith in
+    let x = IsShare-advanced a.x b.x step len some (omega arith) in
+    let y = IsShare-advanced a.y b.y step len some (omega arith) in
+    step_by_shares a b _ step len some root.reaches x y
+
+step_by_test : (test : Bool) (a b : Point) (step len : ℕ) → leb (squared_distance a b) (step * step) ≡ test → IsRootCeiling (squared_distance a b) len → IsStep a b step (cond test b (record { x = advanced a.x b.x step len; y = advanced a.y b.y step len }))
+step_by_test true a b step len e root = whole_step a b step (leb-true _ _ e)
+step_by_test false a b step len e root = partial_step a b step len (leb-false _ _ e) root
+
+pub IsStep-steered : (a b : Point) (step : ℕ) → IsStep a b step (steered a b step)
+IsStep-steered a b step =
+    step_by_test (leb (squared_distance a b) (step * step)) a b step (root_ceiling (squared_distance a b)) refl (root_ceiling-is (squared_distance a b))
+
+pub steered-near : (a b : Point) (step : ℕ) → squared_distance a b ≤ step * step → steered a b step ≡ b
+steered-near a b step near = rw (le-leb (squared_distance a b) (step * step) near) refl
+
+pub near-from_steered : (a b : Point) (step : ℕ) → steered a b step ≡ b → squared_distance a b ≤ step * step
+near-from_steered a b step e = subst (λ p. squared_distance a p ≤ step * step) e (IsStep-steered a b step).short
+
+-- between two coordinates
+split : (from to p : ℕ) → min from to ≤ p → p ≤ max from to → abs_diff from to ≡ abs_diff p to + abs_diff from p
+split from to p low high = omega arith
+
+same_coordinate : (a b : ℕ) → abs_diff a b ≡ 0 → b ≡ a
+same_coordinate a b h = omega arith
+
+-- a point of the box of a and b that is no nearer to b than a is, is a
+pub corner_of_box : (a b p : Point) → IsInBoxOf a b p → squared_distance a b ≤ squared_distance p b → p ≡ a
+corner_of_box a b p box far =
+    let x = split a.x b.x p.x box.left box.right in
+    let y = split a.y b.y p.y box.bottom box.top in
+    let rests = rests_are_none _ _ _ _ (abs_diff a.x p.x) (abs_diff a.y p.y) x y far in
+    let move_x : ℕ → Point = λ u. record { x = u; y = p.y } in
+    let move_y : ℕ → Point = λ v. record { x = a.x; y = v } in
+    ap move_x (same_coordinate a.x p.x rests.0) ∙ ap move_y (same_coordinate a.y p.y rests.1)
+
+pub steered-nearer : (a b : Point) (step : ℕ) → steered a b step ≢ a → squared_distance (steered a b step) b < squared_distance a b
+steered-nearer a b step moved =
+    elim (cases_lt (squared_distance (steered a b step) b) (squared_distance a b)) [
+      | inl nearer ↦ nearer
+      | inr far ↦ absurd (moved (corner_of_box a b (steered a b step) (IsStep-steered a b step).box far))
+    ]

@@ -65,6 +65,11 @@ abbrev pub rows : ConfigurationSpace → Span
 rows space =
     span_within space.room.y (reach (λ v. below_zero v.y) space.body) (reach (λ v. above_zero v.y) space.body)
 
+-- the body fits into the room: there is a column for it, and a row
+pub record BodyFits (space : ConfigurationSpace) : Type 0 where
+  pub some_column : 0 < (columns space).count
+  pub some_row : 0 < (rows space).count
+
 -- Strip g of the strips that the columns are cut into; if there are fewer columns than strips, all columns.
 abbrev pub strip : Span → ℕ → ℕ → Span
 strip all strips g =

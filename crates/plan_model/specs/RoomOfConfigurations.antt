@@ -1,6 +1,6 @@
 -- The room of configurations: where the body lies in the room, touching its walls or not.
-use Rattle.std.specs.Prelude.{ℕ, ◌*◌, ◌<◌, ℤ, pos, ◌+ℤ◌, ◌*ℤ◌, ◌≤ℤ◌, All}
-use Rattle.std.proofs.Math.Nat.{le_refl}
+use Rattle.std.specs.Prelude.{◌≡◌, ℕ, ◌*◌, ◌<◌, ℤ, pos, ◌+ℤ◌, ◌*ℤ◌, ◌≤ℤ◌, All}
+use Rattle.std.proofs.Math.Nat.{le_refl, mul-pos}
 use Rattle.plan_model.specs.declared.geometry.Point.{Point}
 use Rattle.plan_model.specs.declared.geometry.Vertex.{Vertex}
 use Rattle.plan_model.specs.ConfigurationSpace.{ConfigurationSpace}
@@ -15,6 +15,16 @@ pub record Rational : Type 0 where
 -- a lattice point
 abbrev pub at_lattice : Point → Rational
 at_lattice p = record { x = pos p.x; y = pos p.y; over = 1; positive = le_refl 1 }
+
+-- one point, written with two denominators
+pub record IsSamePoint (q r : Rational) : Type 0 where
+  pub horizontal : q.x *ℤ pos r.over ≡ r.x *ℤ pos q.over
+  pub vertical : q.y *ℤ pos r.over ≡ r.y *ℤ pos q.over
+
+-- the point with k times its denominator
+abbrev pub scaled : (k : ℕ) → 0 < k → Rational → Rational
+scaled k positive q =
+    record { x = pos k *ℤ q.x; y = pos k *ℤ q.y; over = k * q.over; positive = mul-pos positive q.positive }
 
 -- the point moved by a corner of the body
 abbrev pub moved_by : Rational → Vertex → Rational

@@ -1,16 +1,18 @@
 //! Laws of the definitions, each the contract of a function that does nothing.
 
-ghost use Rattle.std.specs.Prelude.{◌≡◌, ℕ, Bool, List, ◌+◌, ◌-◌, ◌*◌, ◌/◌, ◌^◌, ◌<◌, ◌≤◌, ◌⊎◌};
+ghost use Rattle.std.specs.Prelude.{◌≡◌, ℕ, Bool, List, ◌-◌, ◌*◌, ◌^◌, ◌<◌, ◌≤◌, ◌⊎◌};
 ghost use Rattle.plan_model.specs.Cost.{cost_of};
-ghost use Rattle.plan_model.specs.MarkPoints.{Span, strip};
 ghost use Rattle.plan_model.specs.Radius.{class_of, radius_of_class};
 ghost use Rattle.plan_model.specs.Roots.{IsRootCeiling, root_ceiling};
 ghost use Rattle.plan_model.specs.SceneGrammar.{Refused, Spells};
-ghost use Rattle.plan_model.specs.Steering.{advanced};
 ghost use Rattle.plan_model.specs.declared.geometry.Point.{Point};
 ghost use Rattle.plan_model.specs.declared.scenes.Scene.{Scene};
 ghost use Rattle.plan_model.specs.declared.text_terms.Key.{Key};
 ghost use Rattle.plan_model.specs.declared.text_terms.Kind.{Kind};
+
+mod clearance;
+mod marks;
+mod steering;
 
 /// The root of a number is the least whose square reaches it.
 pub fn root_is_least()
@@ -34,19 +36,6 @@ pub fn radius_is_greatest()
     ensures within { (step gamma b : ℕ) → radius_of_class step gamma b ≤ step }
     ensures meets { (step gamma b : ℕ) → radius_of_class step gamma b * radius_of_class step gamma b * 2 ^ (b - 1) ≤ gamma * gamma * b }
     ensures greatest { (step gamma b r : ℕ) → r ≤ step → r * r * 2 ^ (b - 1) ≤ gamma * gamma * b → r ≤ radius_of_class step gamma b }
-{}
-
-/// Steering moves a coordinate by its share of the way, rounded towards where it stands.
-pub fn steering_rounds_to_start()
-    ensures forwards { (from to step len : ℕ) → from ≤ to → advanced from to step len ≡ from + (to - from) * step / len }
-    ensures backwards { (from to step len : ℕ) → to ≤ from → 0 < len → step ≤ len → advanced from to step len ≡ from - (from - to) * step / len }
-{}
-
-/// The strips of a span lie one after another from its first column to its last, where there are enough columns.
-pub fn strips_make_up_the_span()
-    ensures first { (all : Span) (strips : ℕ) → strips ≤ all.count → (strip all strips 0).first ≡ all.first }
-    ensures next { (all : Span) (strips g : ℕ) → 0 < strips → strips ≤ all.count → (strip all strips (g + 1)).first ≡ (strip all strips g).first + (strip all strips g).count }
-    ensures last { (all : Span) (strips : ℕ) → 0 < strips → strips ≤ all.count → (strip all strips strips).first ≡ all.first + all.count }
 {}
 
 /// A text is refused at one line and for one kind, and no text that spells a scene is refused.

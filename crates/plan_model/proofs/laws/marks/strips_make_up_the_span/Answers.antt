@@ -1,5 +1,5 @@
 use Rattle.plan_model.proofs.StripLaws.{strip-first, strip-next, strip-last}
-use Rattle.plan_model.proofs.laws.strips_make_up_the_span.Goals as goal
+use Rattle.plan_model.proofs.laws.marks.strips_make_up_the_span.Goals as goal
 
 pub returns-clause-first : goal.returns-clause-first
 returns-clause-first c = strip-first

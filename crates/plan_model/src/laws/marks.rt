@@ -1,0 +1,32 @@
+//! Laws of strips, quotas, and marks that are drawn.
+
+ghost use Rattle.std.specs.Prelude.{◌≡◌, ℕ, ◌+◌, ◌*◌, ◌%◌, ◌<◌, ◌≤◌, ◌↔◌};
+ghost use Rattle.plan_model.specs.ConfigurationSpace.{space_of};
+ghost use Rattle.plan_model.specs.MarkPoints.{BodyFits, IsInSpan, Span, columns, drawn_mark, quota_of, rows, strip};
+ghost use Rattle.plan_model.specs.RoomOfConfigurations.{InRoom, at_lattice};
+ghost use Rattle.plan_model.specs.declared.scenes.Scene.{Scene};
+
+/// The strips of a span lie one after another from its first column to its last, if there are enough columns.
+pub fn strips_make_up_the_span()
+    ensures first { (all : Span) (strips : ℕ) → strips ≤ all.count → (strip all strips 0).first ≡ all.first }
+    ensures next { (all : Span) (strips g : ℕ) → 0 < strips → strips ≤ all.count → (strip all strips (g + 1)).first ≡ (strip all strips g).first + (strip all strips g).count }
+    ensures last { (all : Span) (strips : ℕ) → 0 < strips → strips ≤ all.count → (strip all strips strips).first ≡ all.first + all.count }
+{}
+
+/// Each strip lies within the span, and has a column if the span has one, however many strips there are.
+pub fn strips_have_columns_of_the_span()
+    ensures some { (all : Span) (strips g : ℕ) → 0 < all.count → g < strips → 0 < (strip all strips g).count }
+    ensures within { (all : Span) (strips g n : ℕ) → g < strips → IsInSpan (strip all strips g) n → IsInSpan all n }
+{}
+
+/// A mark is drawn from the columns of its strip and from the rows, so it is in the room of configurations.
+pub fn marks_are_drawn_in_the_room()
+    ensures column { (scene : Scene) (k : ℕ) → BodyFits (space_of scene) → IsInSpan (strip (columns (space_of scene)) scene.strips (k % scene.strips)) (drawn_mark scene k).x }
+    ensures row { (scene : Scene) (k : ℕ) → BodyFits (space_of scene) → IsInSpan (rows (space_of scene)) (drawn_mark scene k).y }
+    ensures in_room { (scene : Scene) (k : ℕ) → BodyFits (space_of scene) → InRoom (space_of scene) (at_lattice (drawn_mark scene k)) }
+{}
+
+/// The c-th mark of a strip is below a limit exactly if c is below the quota of the strip.
+pub fn quotas_count_the_marks_of_a_strip()
+    ensures { (strips g limit c : ℕ) → g < strips → (c * strips + g < limit) ↔ (c < quota_of strips g limit) }
+{}
