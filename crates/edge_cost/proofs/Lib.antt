@@ -1,2 +1,1 @@
 pub mod RootBounds
-pub mod Shares

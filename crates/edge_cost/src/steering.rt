@@ -1,16 +1,15 @@
 //! Steering from a node towards a mark.
 
 ghost use Rattle.std.specs.Prelude.{◌≡◌, ◌*◌, ◌≤◌, min, max};
-ghost use Rattle.std.specs.Int.{abs_diff};
 ghost use Rattle.plan_model.specs.Geometry.{squared_distance};
-ghost use Rattle.plan_model.specs.Steering.{advanced, steered};
+ghost use Rattle.plan_model.specs.Steering.{IsStep, advanced, steered};
 ghost use Rattle.plan_model.specs.Bounds.{IsBounded};
 
 use crate::roots::root_ceiling;
 use plan_model::{LEAST_STEP, MOST_COORDINATE, MOST_STEERING_STEP, Point};
 
 /// Steer of RRT*: the point that a new edge from `a` towards the mark `b` ends at, which is `b` itself
-/// where it is at most `step` lattice steps away, and otherwise about `step` along the straight line.
+/// if it is at most `step` lattice steps away, and otherwise about `step` along the straight line.
 ///
 /// ```text
 ///     a ------- result ------------- b        a ----- b
@@ -19,7 +18,7 @@ use plan_model::{LEAST_STEP, MOST_COORDINATE, MOST_STEERING_STEP, Point};
 ///
 /// With a step of 50, (0, 0) steers towards (60, 80) to (30, 40), and towards (70, 70) to (35, 35).
 /// The length is rounded up and each coordinate towards `a`, so no edge is longer than the step.
-#[tactic(auto, using(crate::proofs::Shares::step_below_root))]
+#[tactic(auto, using(plan_model::proofs::SteeringLaws::step_below_root))]
 pub fn steer(a: Point, b: Point, step: u32) -> Point
     requires from { IsBounded a }
     requires to { IsBounded b }
@@ -50,11 +49,7 @@ fn partway(a: Point, b: Point, step: u32, length: u64) -> Point
     requires whole { squared_distance a b ≤ length * length }
     ensures horizontal { result.x ≡ advanced a.x b.x step length }
     ensures vertical { result.y ≡ advanced a.y b.y step length }
-    ensures left { min a.x b.x ≤ result.x }
-    ensures right { result.x ≤ max a.x b.x }
-    ensures bottom { min a.y b.y ≤ result.y }
-    ensures top { result.y ≤ max a.y b.y }
-    ensures short { squared_distance a result ≤ step * step }
+    ensures steps { IsStep a b step result }
 {
     Point {
         x: advanced(a.x, b.x, step, length),
@@ -69,10 +64,7 @@ fn advanced(from: u32, to: u32, step: u32, length: u64) -> u32
     requires low { LEAST_STEP ≤ step }
     requires high { step ≤ MOST_STEERING_STEP }
     requires beyond { step ≤ length }
-    ensures value { result ≡ advanced from to step length }
-    ensures least { min from to ≤ result }
-    ensures greatest { result ≤ max from to }
-    ensures share { abs_diff from result * length ≤ abs_diff from to * step }
+    ensures { result ≡ advanced from to step length }
 {
     let way = (u64::from(from.abs_diff(to)) * u64::from(step) / length) as u32;
     if from <= to { from + way } else { from - way }

@@ -10,7 +10,7 @@ use Rattle.std.proofs.lemmas.Nat.{mul-le}
 use Rattle.plan_model.specs.declared.geometry.Point.{Point}
 use Rattle.plan_model.specs.Geometry.{squared_distance, IsInBoxOf}
 use Rattle.plan_model.specs.Roots.{IsRootCeiling, root_ceiling}
-use Rattle.plan_model.specs.Steering.{advanced, steered}
+use Rattle.plan_model.specs.Steering.{IsStep, advanced, steered}
 use Rattle.plan_model.proofs.RootLaws.{root_ceiling-is, lt-from_squares}
 
 forwards : (from step len d : ℕ) (z : ℤ) → z ≡ pos d → unsigned_abs (pos from +ℤ int_div (z *ℤ pos step) (pos len)) ≡ from + (d * step) / len
@@ -100,34 +100,32 @@ rests_are_none d e x y v w h k far =
     let of_e = square_of_parts y w e k in
     (zero_square v (omega arith), zero_square w (omega arith))
 
--- p is where a step from a towards b may end
-pub record IsStep (a b : Point) (step : ℕ) (p : Point) : Type 0 where
-  pub short : squared_distance a p ≤ step * step
-  pub box : IsInBoxOf a b p
+-- a step whose square is below n is below the root of n
+pub step_below_root : (s n r : ℕ) → s * s < n → IsRootCeiling n r → s < r
+step_below_root s n r below root = lt-from_squares s r (s * s) (omega arith) (omega (arith, root.reaches))
 
-step_by_shares : (a b p : Point) (step len : ℕ) → 0 < len → squared_distance a b ≤ len * len → IsShare a.x b.x step len p.x → IsShare a.y b.y step len p.y → IsStep a b step p
-step_by_shares a b p step len some whole x y = record {
-  short = shares_within_step (abs_diff a.x p.x) (abs_diff a.y p.y) (abs_diff a.x b.x) (abs_diff a.y b.y) step len some x.share y.share whole;
-  box = record { left = x.least; right = x.greatest; bottom = y.least; top = y.greatest };
-}
+-- x and y are the shares step / len of the way from a to b, which is no longer than len
+pub IsStep-partial : (a b : Point) (step len x y : ℕ) → 0 < len → step ≤ len → squared_distance a b ≤ len * len → x ≡ advanced a.x b.x step len → y ≡ advanced a.y b.y step len → IsStep a b step (record { x = x; y = y })
+IsStep-partial a b step len x y some beyond whole e f =
+    let across : IsShare a.x b.x step len x = rw e (IsShare-advanced a.x b.x step len some beyond) in
+    let up : IsShare a.y b.y step len y = rw f (IsShare-advanced a.y b.y step len some beyond) in
+    record {
+      short = shares_within_step (abs_diff a.x x) (abs_diff a.y y) (abs_diff a.x b.x) (abs_diff a.y b.y) step len some across.share up.share whole;
+      within = record { left = across.least; right = across.greatest; bottom = up.least; top = up.greatest };
+    }
 
-whole_step : (a b : Point) (step : ℕ) → squared_distance a b ≤ step * step → IsStep a b step b
-whole_step a b step near = record {
+IsStep-whole : (a b : Point) (step : ℕ) → squared_distance a b ≤ step * step → IsStep a b step b
+IsStep-whole a b step near = record {
   short = near;
-  box = record { left = omega arith; right = omega arith; bottom = omega arith; top = omega arith };
+  within = record { left = omega arith; right = omega arith; bottom = omega arith; top = omega arith };
 }
-
-partial_step : (a b : Point) (step len : ℕ) → step * step < squared_distance a b → IsRootCeiling (squared_distance a b) len → IsStep a b step (record { x = advanced a.x b.x step len; y = advanced a.y b.y step len })
-partial_step a b step len far root =
-    let short : step < len = lt-from_squares step len (step * step) (omega arith) (omega (arith, root.reaches)) in
-    let some : 0 < len = omega arith in
-    let x = IsShare-advanced a.x b.x step len some (omega arith) in
-    let y = IsShare-advanced a.y b.y step len some (omega arith) in
-    step_by_shares a b _ step len some root.reaches x y
 
 step_by_test : (test : Bool) (a b : Point) (step len : ℕ) → leb (squared_distance a b) (step * step) ≡ test → IsRootCeiling (squared_distance a b) len → IsStep a b step (cond test b (record { x = advanced a.x b.x step len; y = advanced a.y b.y step len }))
-step_by_test true a b step len e root = whole_step a b step (leb-true _ _ e)
-step_by_test false a b step len e root = partial_step a b step len (leb-false _ _ e) root
+step_by_test true a b step len e root = IsStep-whole a b step (leb-true _ _ e)
+step_by_test false a b step len e root =
+    let far : step * step < squared_distance a b = leb-false _ _ e in
+    let beyond : step < len = step_below_root step (squared_distance a b) len far root in
+    IsStep-partial a b step len (advanced a.x b.x step len) (advanced a.y b.y step len) (omega arith) (omega arith) root.reaches refl refl
 
 pub IsStep-steered : (a b : Point) (step : ℕ) → IsStep a b step (steered a b step)
 IsStep-steered a b step =
@@ -160,5 +158,5 @@ pub steered-nearer : (a b : Point) (step : ℕ) → steered a b step ≢ a → s
 steered-nearer a b step moved =
     elim (cases_lt (squared_distance (steered a b step) b) (squared_distance a b)) [
       | inl nearer ↦ nearer
-      | inr far ↦ absurd (moved (corner_of_box a b (steered a b step) (IsStep-steered a b step).box far))
+      | inr far ↦ absurd (moved (corner_of_box a b (steered a b step) (IsStep-steered a b step).within far))
     ]

@@ -1,11 +1,8 @@
 use Rattle.plan_model.proofs.SteeringLaws.{IsStep-steered, steered-near, near-from_steered, steered-nearer}
 use Rattle.plan_model.proofs.laws.steering.steps_are_short_and_lead_nearer.Goals as goal
 
-pub returns-clause-short : goal.returns-clause-short
-returns-clause-short c = λ a b step. (IsStep-steered a b step).short
-
-pub returns-clause-within : goal.returns-clause-within
-returns-clause-within c = λ a b step. (IsStep-steered a b step).box
+pub returns-clause-steps : goal.returns-clause-steps
+returns-clause-steps c = IsStep-steered
 
 pub returns-clause-reached : goal.returns-clause-reached
 returns-clause-reached c = λ a b step. (near-from_steered a b step, steered-near a b step)
