@@ -8,6 +8,7 @@ pub mod EmptyRoomRuns
 pub mod ClassLaws
 pub mod RadiusLaws
 pub mod SteeringLaws
+pub mod SteeredNodes
 pub mod Soundness
 pub mod SameScenes
 pub mod SpelledScenes

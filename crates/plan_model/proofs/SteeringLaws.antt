@@ -1,12 +1,12 @@
 -- A coordinate is moved by a share of the way, rounded towards where it stands. So a step is short, and leads nearer.
-use Rattle.std.proofs.Common.{◌≡◌, ℕ, zero, suc, ◌+◌, ◌-◌, ◌*◌, ◌/◌, ◌<◌, ◌≤◌, ◌≢◌, Bool, true, false, cond, leb, refl, ap, ◌∙◌, subst, arith, inl, inr}
+use Rattle.std.proofs.Common.{◌≡◌, ℕ, zero, suc, ◌+◌, ◌-◌, ◌*◌, ◌/◌, ◌<◌, ◌≤◌, ◌≢◌, Bool, true, false, cond, leb, refl, sym, ap, ◌∙◌, subst, arith, inl, inr}
 use Rattle.std.specs.Prelude.{ℤ, pos, neg_ℤ, ◌+ℤ◌, ◌-ℤ◌, ◌*ℤ◌, int_div, unsigned_abs}
 use Rattle.std.specs.Prelude.{min, max}
 use Rattle.std.specs.Int.{abs_diff}
 use Rattle.std.proofs.Math.Nat.{div-le_of_le-mul, div-mul-le_self, le_of_mul-le-mul_right}
-use Rattle.std.proofs.lemmas.Bool.{cases_lt, le-leb, leb-true, leb-false}
+use Rattle.std.proofs.lemmas.Bool.{cases_lt, le-leb, lt-leb, leb-true, leb-false}
 use Rattle.std.proofs.lemmas.Int.{ints}
-use Rattle.std.proofs.lemmas.Nat.{mul-le}
+use Rattle.std.proofs.lemmas.Nat.{mul-le, mod_below, div-add-mod'}
 use Rattle.plan_model.specs.declared.geometry.Point.{Point}
 use Rattle.plan_model.specs.Geometry.{squared_distance, IsInBoxOf}
 use Rattle.plan_model.specs.Roots.{IsRootCeiling, root_ceiling}
@@ -159,4 +159,58 @@ steered-nearer a b step moved =
     elim (cases_lt (squared_distance (steered a b step) b) (squared_distance a b)) [
       | inl nearer ↦ nearer
       | inr far ↦ absurd (moved (corner_of_box a b (steered a b step) (IsStep-steered a b step).within far))
+    ]
+
+-- ---- steps that are cut to nothing
+pub steered-far : (a b : Point) (step : ℕ) → step * step < squared_distance a b → steered a b step ≡ record { x = advanced a.x b.x step (root_ceiling (squared_distance a b)); y = advanced a.y b.y step (root_ceiling (squared_distance a b)) }
+steered-far a b step far = rw (lt-leb (squared_distance a b) (step * step) far) refl
+
+share_below : (m len : ℕ) → 0 < len → m / len ≡ 0 → m < len
+share_below m len some none = omega (arith, div-add-mod' m len, mod_below m len some, ap (λ k. k * len) none)
+
+-- a coordinate that stays where it is has a share of less than one column
+stays_below : (from to step len : ℕ) → 0 < len → step ≤ len → advanced from to step len ≡ from → abs_diff from to * step < len
+stays_below from to step len some short stays =
+    elim (cases_lt from to) [
+      | inl before ↦ (
+          let whole : abs_diff from to ≡ to - from = omega arith in
+          rw whole (share_below ((to - from) * step) len some (omega (arith, advanced-forwards from to step len (omega arith)))))
+      | inr after ↦ (
+          let whole : abs_diff from to ≡ from - to = omega arith in
+          let way : ((from - to) * step) / len ≤ from - to = div-le_of_le-mul len (omega (arith, mul-le (from - to) step (from - to) len (omega arith) short)) in
+          rw whole (share_below ((from - to) * step) len some (omega (arith, advanced-backwards from to step len after some short))))
+    ]
+
+-- by a step of 2 at least, the shares of a way of length r + 1, rounded up, are not both below one column
+one_moves : (d e step r : ℕ) → 1 < step → r * r < d * d + e * e → d * step < r + 1 → e * step < r + 1 → ⊥
+one_moves d e step r more long h k =
+    let of_d = mul-le (d * step) (d * step) r r (omega arith) (omega arith) in
+    let of_e = mul-le (e * step) (e * step) r r (omega arith) (omega arith) in
+    let squares : 2 * 2 ≤ step * step = mul-le 2 2 step step (omega arith) (omega arith) in
+    omega (arith, of_d, of_e, mul-le (d * d + e * e) 4 (d * d + e * e) (step * step) (omega arith) (omega arith))
+
+-- the square of the number before a root falls short
+before_root : (n r : ℕ) → 0 < r → IsRootCeiling n r → (r - 1) * (r - 1) < n
+before_root n r some root =
+    elim (cases_lt ((r - 1) * (r - 1)) n) [
+      | inl short ↦ short
+      | inr reached ↦ absurd (omega (arith, root.least (r - 1) reached))
+    ]
+
+far_moves : (a b : Point) (step : ℕ) → 1 < step → step * step < squared_distance a b → steered a b step ≡ a → ⊥
+far_moves a b step more far stays =
+    let len : ℕ = root_ceiling (squared_distance a b) in
+    let root : IsRootCeiling (squared_distance a b) len = root_ceiling-is (squared_distance a b) in
+    let beyond : step < len = step_below_root step (squared_distance a b) len far root in
+    let place = sym (steered-far a b step far) ∙ stays in
+    let x = stays_below a.x b.x step len (omega arith) (omega arith) (ap (λ p. p.x) place) in
+    let y = stays_below a.y b.y step len (omega arith) (omega arith) (ap (λ p. p.y) place) in
+    one_moves (abs_diff a.x b.x) (abs_diff a.y b.y) step (len - 1) more (before_root (squared_distance a b) len (omega arith) root) (omega arith) (omega arith)
+
+-- a step of 2 at least leads away from a, unless b is a
+pub steered-moves : (a b : Point) (step : ℕ) → 1 < step → steered a b step ≡ a → a ≡ b
+steered-moves a b step more stays =
+    elim (cases_lt (step * step) (squared_distance a b)) [
+      | inl far ↦ absurd (far_moves a b step more far stays)
+      | inr near ↦ sym stays ∙ steered-near a b step near
     ]

@@ -1,7 +1,9 @@
 //! Laws of steering.
 
-ghost use Rattle.std.specs.Prelude.{◌≡◌, ◌≢◌, ℕ, ◌+◌, ◌-◌, ◌*◌, ◌/◌, ◌<◌, ◌≤◌, ◌↔◌};
+ghost use Rattle.std.specs.Prelude.{◌≡◌, ◌≢◌, ℕ, List, Option, ◌+◌, ◌-◌, ◌*◌, ◌/◌, ◌<◌, ◌≤◌, ◌↔◌};
 ghost use Rattle.plan_model.specs.Geometry.{squared_distance};
+ghost use Rattle.plan_model.specs.Nearness.{IsNearest};
+ghost use Rattle.plan_model.specs.PointsByNumber.{StandsAt, point_of};
 ghost use Rattle.plan_model.specs.Steering.{IsStep, advanced, steered};
 ghost use Rattle.plan_model.specs.declared.geometry.Point.{Point};
 
@@ -12,9 +14,17 @@ pub fn steering_rounds_to_start()
 {}
 
 /// A step from `a` towards `b` is no longer than a step may be, and ends in their box: at `b` exactly if `b` is that near,
-/// and otherwise strictly nearer to `b` than `a` is, unless it is cut to nothing.
+/// and strictly nearer to `b` than `a` is if it moves at all. By two lattice steps or more it does, unless `a` is `b`.
 pub fn steps_are_short_and_lead_nearer()
     ensures steps { (a b : Point) (step : ℕ) → IsStep a b step (steered a b step) }
     ensures reached { (a b : Point) (step : ℕ) → (steered a b step ≡ b) ↔ (squared_distance a b ≤ step * step) }
+    ensures moves { (a b : Point) (step : ℕ) → 1 < step → steered a b step ≡ a → a ≡ b }
     ensures nearer { (a b : Point) (step : ℕ) → steered a b step ≢ a → squared_distance (steered a b step) b < squared_distance a b }
+{}
+
+/// A node that stands where the nearest node steers to stands where the nearest node does, and by two lattice steps or
+/// more the mark is there too.
+pub fn steps_lead_to_no_other_node()
+    ensures stays { (points : List (Option Point)) (q : Point) (step m n : ℕ) → IsNearest points q m → StandsAt points n (steered (point_of points m) q step) → steered (point_of points m) q step ≡ point_of points m }
+    ensures arrived { (points : List (Option Point)) (q : Point) (step m n : ℕ) → 1 < step → IsNearest points q m → StandsAt points n (steered (point_of points m) q step) → point_of points m ≡ q }
 {}
