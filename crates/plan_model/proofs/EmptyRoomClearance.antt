@@ -27,7 +27,7 @@ way_on_side s d a b w h p q =
     record { low = omega (arith, ints); high = omega (arith, ints) }
 
 -- the only corner of a point body moves nothing
-corner_in_box : (room : Point) (q : Rational) → IsInBox room q → IsInBox room (moved_by q (record { x = pos 0; y = pos 0 }))
+pub corner_in_box : (room : Point) (q : Rational) → IsInBox room q → IsInBox room (moved_by q (record { x = pos 0; y = pos 0 }))
 corner_in_box room q h = record {
   left = omega (arith, ints, h.left);
   right = omega (arith, ints, h.right);

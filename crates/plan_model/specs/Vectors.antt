@@ -6,6 +6,7 @@ pub mod Radii
 pub mod Drawn
 pub mod Strips
 pub mod Meetings
+pub mod Clearances
 pub mod Polygons
 pub mod Reports
 pub mod Words

@@ -1,5 +1,6 @@
 //! Worked examples of the definitions, each the contract of a function that does nothing.
 
+ghost use Rattle.plan_model.specs.Vectors.Clearances.{ClearanceVectors};
 ghost use Rattle.plan_model.specs.Vectors.Costs.{CostVectors};
 ghost use Rattle.plan_model.specs.Vectors.Drawn.{DrawnVectors};
 ghost use Rattle.plan_model.specs.Vectors.Limits.{LimitVectors};
@@ -44,6 +45,11 @@ pub fn strips()
 /// Bodies that touch an obstacle, and bodies beside it.
 pub fn meetings()
     ensures { MeetingVectors }
+{}
+
+/// Points and segments of a point body beside a square.
+pub fn clearances()
+    ensures { ClearanceVectors }
 {}
 
 /// Corners that are strictly convex, and others.

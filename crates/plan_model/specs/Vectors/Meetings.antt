@@ -1,9 +1,9 @@
 -- Bodies that touch an obstacle, and bodies that lie beside it.
-use Rattle.std.specs.Prelude.{List, [], ◌∷◌}
+use Rattle.std.specs.Prelude.{pos, List, [], ◌∷◌}
 use Rattle.plan_model.specs.declared.geometry.Vertex.{Vertex}
 use Rattle.plan_model.specs.RoomOfConfigurations.{at_lattice}
 use Rattle.plan_model.specs.Meeting.{Meets}
-use Rattle.plan_model.specs.Vectors.Shapes.{at, corner}
+use Rattle.plan_model.specs.Vectors.Shapes.{at, corner, halves}
 
 abbrev pub small_triangle : List Vertex
 small_triangle = corner 0 0 ∷ corner 2 0 ∷ corner 0 2 ∷ []
@@ -21,6 +21,11 @@ pub record MeetingVectors : Type 0 where
   -- the middle of the body's long edge touches the obstacle's corner
   pub at_corner : Meets small_triangle (at_lattice (at 9 9)) great_triangle
   pub beside_corner : ¬ Meets small_triangle (at_lattice (at 8 9)) great_triangle
+  -- the same in halves of a step
+  pub at_corner_in_halves : Meets small_triangle (halves (pos 18) (pos 18)) great_triangle
+  pub half_beside_corner : ¬ Meets small_triangle (halves (pos 17) (pos 18)) great_triangle
+  -- the body lies within the obstacle
+  pub inside : Meets small_triangle (at_lattice (at 12 12)) great_triangle
   -- two edges touch
   pub at_edge : Meets small_square (at_lattice (at 8 3)) great_square
   pub beside_edge : ¬ Meets small_square (at_lattice (at 7 3)) great_square

@@ -15,4 +15,7 @@ pub record SteeringVectors : Type 0 where
   pub up_and_left : steered (at 100 0) (at 0 100) 50 ≡ at 65 35
   -- a share of less than one column is cut to none
   pub shortest_step : steered (at 0 0) (at 1 100) 4 ≡ at 0 3
+  -- by one column or row the way to a neighbour across a corner is cut to nothing, by two no way is
+  pub cut_to_nothing : steered (at 0 0) (at 1 1) 1 ≡ at 0 0
+  pub by_two : steered (at 0 0) (at 2 1) 2 ≡ at 1 0
   pub longest_step : steered (at 0 0) (at 65535 65535) 4096 ≡ at 2896 2896

@@ -1,10 +1,14 @@
 -- Columns cut into three strips, the quotas of three strips, and the columns in which a body fits.
 use Rattle.std.specs.Prelude.{◌≡◌, [], ◌∷◌}
-use Rattle.plan_model.specs.MarkPoints.{Span, strip, quota_of, span_within, reach, below_zero, above_zero}
-use Rattle.plan_model.specs.Vectors.Shapes.{corner, corner_below}
+use Rattle.plan_model.specs.ConfigurationSpace.{ConfigurationSpace}
+use Rattle.plan_model.specs.MarkPoints.{Span, IsInSpan, strip, quota_of, span_within, columns, rows, reach, below_zero, above_zero}
+use Rattle.plan_model.specs.Vectors.Shapes.{at, corner, corner_below}
 
 abbrev pub hundred : Span
 hundred = record { first = 0; count = 100 }
+
+abbrev pub kite_in_room : ConfigurationSpace
+kite_in_room = record { room = at 10 20; body = corner_below 3 0 ∷ corner 4 0 ∷ corner 0 5 ∷ []; obstacles = [] }
 
 pub record StripVectors : Type 0 where
   pub left : strip hundred 3 0 ≡ record { first = 0; count = 33 }
@@ -19,11 +23,23 @@ pub record StripVectors : Type 0 where
   pub no_mark : quota_of 3 0 0 ≡ 0
   pub before_own_mark : quota_of 3 2 2 ≡ 0
   pub with_own_mark : quota_of 3 2 3 ≡ 1
+  -- mark 5 is the second one of the last strip
+  pub before_second_mark : quota_of 3 2 5 ≡ 1
+  pub with_second_mark : quota_of 3 2 6 ≡ 2
   -- a point body, a body as wide as the side, and a wider one
   pub all_columns : span_within 10 0 0 ≡ record { first = 0; count = 11 }
   pub last_column : span_within 10 4 6 ≡ record { first = 4; count = 1 }
   pub nowhere : span_within 10 5 6 ≡ record { first = 5; count = 0 }
-  -- a body reaches from its origin, also where all corners are on one side of it
+  -- the coordinates of a span, and those beside it; a span without columns has none
+  pub first_of_span : IsInSpan (record { first = 4; count = 2 }) 4
+  pub last_of_span : IsInSpan (record { first = 4; count = 2 }) 5
+  pub before_span : ¬ IsInSpan (record { first = 4; count = 2 }) 3
+  pub after_span : ¬ IsInSpan (record { first = 4; count = 2 }) 6
+  pub empty_span : ¬ IsInSpan (record { first = 5; count = 0 }) 5
+  -- the columns and the rows of a body that is wider than high, in a room that is higher than wide
+  pub columns_of_room : columns kite_in_room ≡ record { first = 3; count = 4 }
+  pub rows_of_room : rows kite_in_room ≡ record { first = 0; count = 16 }
+  -- a body reaches from its origin, also if all corners are on one side of it
   pub reaches_back : reach (λ v. below_zero v.x) (corner_below 3 0 ∷ corner 4 0 ∷ corner 0 5 ∷ []) ≡ 3
   pub reaches_forth : reach (λ v. above_zero v.x) (corner_below 3 0 ∷ corner 4 0 ∷ corner 0 5 ∷ []) ≡ 4
   pub reaches_none_back : reach (λ v. below_zero v.x) (corner 2 0 ∷ corner 4 0 ∷ corner 3 1 ∷ []) ≡ 0

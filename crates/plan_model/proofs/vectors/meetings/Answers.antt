@@ -23,6 +23,10 @@ three (a ∷ b ∷ c ∷ d ∷ ws) h = absurd (omega arith)
 beside_corner : (t a b c d e f : ℕ) → 0 < t → sum (a ∷ b ∷ c ∷ []) ≡ t → sum (d ∷ e ∷ f ∷ []) ≡ t → pos 1 *ℤ (weighted (λ v. v.x) (a ∷ b ∷ c ∷ []) great_triangle -ℤ weighted (λ v. v.x) (d ∷ e ∷ f ∷ []) small_triangle) ≡ pos t *ℤ pos 8 → pos 1 *ℤ (weighted (λ v. v.y) (a ∷ b ∷ c ∷ []) great_triangle -ℤ weighted (λ v. v.y) (d ∷ e ∷ f ∷ []) small_triangle) ≡ pos t *ℤ pos 9 → ⊥
 beside_corner t a b c d e f some obstacle body horizontal vertical = omega (arith, ints)
 
+-- the same in halves of a step: the sum is 35 halves, and would have to be 36 at least
+half_beside_corner : (t a b c d e f : ℕ) → 0 < t → sum (a ∷ b ∷ c ∷ []) ≡ t → sum (d ∷ e ∷ f ∷ []) ≡ t → pos 2 *ℤ (weighted (λ v. v.x) (a ∷ b ∷ c ∷ []) great_triangle -ℤ weighted (λ v. v.x) (d ∷ e ∷ f ∷ []) small_triangle) ≡ pos t *ℤ pos 17 → pos 2 *ℤ (weighted (λ v. v.y) (a ∷ b ∷ c ∷ []) great_triangle -ℤ weighted (λ v. v.y) (d ∷ e ∷ f ∷ []) small_triangle) ≡ pos t *ℤ pos 18 → ⊥
+half_beside_corner t a b c d e f some obstacle body horizontal vertical = omega (arith, ints)
+
 -- a list of four numbers, by its members
 record Four (ws : List ℕ) : Type 0 where
   first : ℕ
@@ -61,6 +65,34 @@ returns c = record {
       let o = three m.on_obstacle m.obstacle_corners in
       let b = three m.on_body m.body_corners in
       beside_corner m.total o.first o.second o.third b.first b.second b.third m.some_weight (rw o.are at m.obstacle_total) (rw b.are at m.body_total) (rw (o.are, b.are) at m.horizontal) (rw (o.are, b.are) at m.vertical);
+  at_corner_in_halves = record {
+    total = 2;
+    on_obstacle = 2 ∷ 0 ∷ 0 ∷ [];
+    on_body = 0 ∷ 1 ∷ 1 ∷ [];
+    some_weight = omega arith;
+    obstacle_corners = refl;
+    body_corners = refl;
+    obstacle_total = refl;
+    body_total = refl;
+    horizontal = refl;
+    vertical = refl;
+  };
+  half_beside_corner = λ m.
+      let o = three m.on_obstacle m.obstacle_corners in
+      let b = three m.on_body m.body_corners in
+      half_beside_corner m.total o.first o.second o.third b.first b.second b.third m.some_weight (rw o.are at m.obstacle_total) (rw b.are at m.body_total) (rw (o.are, b.are) at m.horizontal) (rw (o.are, b.are) at m.vertical);
+  inside = record {
+    total = 10;
+    on_obstacle = 6 ∷ 2 ∷ 2 ∷ [];
+    on_body = 10 ∷ 0 ∷ 0 ∷ [];
+    some_weight = omega arith;
+    obstacle_corners = refl;
+    body_corners = refl;
+    obstacle_total = refl;
+    body_total = refl;
+    horizontal = refl;
+    vertical = refl;
+  };
   at_edge = record {
     total = 10;
     on_obstacle = 7 ∷ 0 ∷ 0 ∷ 3 ∷ [];

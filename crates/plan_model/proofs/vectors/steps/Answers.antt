@@ -23,6 +23,12 @@ shortest = root_ceiling-from_squares 10001 101 (omega arith) (omega arith)
 longest : root_ceiling 8589672450 ≡ 92681
 longest = root_ceiling-from_squares 8589672450 92681 (omega arith) (omega arith)
 
+across : root_ceiling 2 ≡ 2
+across = root_ceiling-from_squares 2 2 (omega arith) (omega arith)
+
+knight : root_ceiling 5 ≡ 3
+knight = root_ceiling-from_squares 5 3 (omega arith) (omega arith)
+
 pub returns : goal.returns
 returns c = record {
   reached = refl;
@@ -34,5 +40,7 @@ returns c = record {
   along_a_row = ap (λ len. at (advanced 100 0 50 len) (advanced 7 7 50 len)) halfway;
   up_and_left = ap (λ len. at (advanced 100 0 50 len) (advanced 0 100 50 len)) backwards;
   shortest_step = ap (λ len. at (advanced 0 1 4 len) (advanced 0 100 4 len)) shortest;
+  cut_to_nothing = ap (λ len. at (advanced 0 1 1 len) (advanced 0 1 1 len)) across;
+  by_two = ap (λ len. at (advanced 0 2 2 len) (advanced 0 1 2 len)) knight;
   longest_step = ap (λ len. at (advanced 0 65535 4096 len) (advanced 0 65535 4096 len)) longest;
 }
