@@ -21,12 +21,14 @@ picked-within span word some small =
     record { low = omega arith; high = omega arith }
 
 -- the column and the row of a drawn mark
-pub drawn_mark-column : (scene : Scene) (k : ℕ) → BodyFits (space_of scene) → IsInSpan (strip (columns (space_of scene)) scene.strips (k % scene.strips)) (drawn_mark scene k).x
+pub drawn_mark-column :
+    (scene : Scene) (k : ℕ) → BodyFits (space_of scene) → IsInSpan (strip (columns (space_of scene)) scene.strips (k % scene.strips)) (drawn_mark scene k).x
 drawn_mark-column scene k fits =
     let all = columns (space_of scene) in
     let own : k % scene.strips < scene.strips = mod_below k scene.strips (omega (arith, scene.strips_low)) in
     let state : ℕ = (scene.seed + k) % 2 ^ 64 in
-    picked-within (strip all scene.strips (k % scene.strips)) (first_word state) (strip-some all scene.strips (k % scene.strips) fits.some_column own) (word_below (next_state state))
+    picked-within (strip all scene.strips (k % scene.strips)) (first_word state) (strip-some all scene.strips (k % scene.strips) fits.some_column own)
+    (word_below (next_state state))
 
 pub drawn_mark-row : (scene : Scene) (k : ℕ) → BodyFits (space_of scene) → IsInSpan (rows (space_of scene)) (drawn_mark scene k).y
 drawn_mark-row scene k fits =

@@ -23,7 +23,8 @@ record IsOnSide (side d : ℕ) (z : ℤ) : Type 0 where
 way_on_side : (s d a b w : ℕ) → s ≤ d → a ≤ w → b ≤ w → IsOnSide w d ((pos d *ℤ pos a) +ℤ (pos s *ℤ (pos b -ℤ pos a)))
 way_on_side s d a b w h p q =
     let way = way_is s d a b h in
-    let below : (d - s) * a + s * b ≤ d * w = omega (arith, mul-le (d - s) a (d - s) w (omega arith) p, mul-le s b s w (omega arith) q, part_and_rest s d w h) in
+    let parts = mul-le (d - s) a (d - s) w (omega arith) p in
+    let below : (d - s) * a + s * b ≤ d * w = omega (arith, parts, mul-le s b s w (omega arith) q, part_and_rest s d w h) in
     record { low = omega (arith, ints); high = omega (arith, ints) }
 
 -- the only corner of a point body moves nothing
@@ -94,7 +95,8 @@ AreInRoom-from_clear space a b h =
 pub space_of-empty : (scene : Scene) → IsPointInEmptyRoom scene → space_of scene ≡ empty_room scene.room
 space_of-empty scene plain =
     let bodied : List Vertex → ConfigurationSpace = λ body. record { room = scene.room; body = body; obstacles = scene.obstacles } in
-    let among : List (List Vertex) → ConfigurationSpace = λ obstacles. record { room = scene.room; body = (empty_room scene.room).body; obstacles = obstacles } in
+    let among : List (List Vertex) → ConfigurationSpace =
+    λ obstacles. record { room = scene.room; body = (empty_room scene.room).body; obstacles = obstacles } in
     ap bodied plain.body ∙ ap among plain.obstacles
 
 -- such a scene is clear at the points of its room

@@ -54,7 +54,9 @@ cut_other strips g n quota within other h = record {
   below_limit = λ c below. omega (arith, h.below_limit c below);
 }
 
-cut_next : (b : Bool) (strips g n : ℕ) → g < strips → eqb (n % strips) g ≡ b → IsCutAt strips g n (quota_of strips g n) → IsCutAt strips g (suc n) (quota_of strips g n + cond b 1 0)
+cut_next :
+    (b : Bool) (strips g n : ℕ) → g < strips → eqb (n % strips) g ≡ b → IsCutAt strips g n (quota_of strips g n)
+    → IsCutAt strips g (suc n) (quota_of strips g n + cond b 1 0)
 cut_next true strips g n within e h = cut_own strips g n (quota_of strips g n) within (eqb-true (n % strips) g e) h
 cut_next false strips g n within e h =
     let same : quota_of strips g n + 0 ≡ quota_of strips g n = omega arith in

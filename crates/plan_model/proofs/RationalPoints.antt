@@ -25,7 +25,7 @@ mul_cancel k m n some e =
 abbrev IsSame : ℤ → ℕ → ℤ → ℕ → Type 0
 IsSame x m z n = x *ℤ pos n ≡ z *ℤ pos m
 
--- and stay one where both are moved by the whole number c
+-- and stay one if both are moved by the whole number c
 moved_same : (x z c : ℤ) (m n : ℕ) → IsSame x m z n → IsSame (x +ℤ (pos m *ℤ c)) m (z +ℤ (pos n *ℤ c)) n
 moved_same x z c m n h =
     let left = ap (λ t. t * n) (sum_is_lem x (pos m *ℤ c)) in

@@ -78,4 +78,5 @@ Clear-alone space a clear s d positive h =
 
 pub Clear-back : (space : ConfigurationSpace) (a b : Point) → Clear space a b → Clear space b a
 Clear-back space a b clear s d positive h =
-    IsClear-same space (on_the_way a b (d - s) d positive) (on_the_way b a s d positive) (IsSamePoint-back b a s d positive h) (clear (d - s) d positive (omega arith))
+    IsClear-same space (on_the_way a b (d - s) d positive) (on_the_way b a s d positive) (IsSamePoint-back b a s d positive h)
+    (clear (d - s) d positive (omega arith))

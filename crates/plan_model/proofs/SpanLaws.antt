@@ -14,7 +14,8 @@ record IsReachBounded (extent : Vertex → ℕ) (far : ℕ) (body : List Vertex)
   start : far ≤ n
   corners : All (λ corner. extent corner ≤ n) body
 
-reach-bounded : (extent : Vertex → ℕ) (far : ℕ) (body : List Vertex) (n : ℕ) → IsReachBounded extent far body n → fold (λ far corner. max far (extent corner)) far body ≤ n
+reach-bounded :
+    (extent : Vertex → ℕ) (far : ℕ) (body : List Vertex) (n : ℕ) → IsReachBounded extent far body n → fold (λ far corner. max far (extent corner)) far body ≤ n
 reach-bounded extent far [] n h = h.start
 reach-bounded extent far (corner ∷ body) n h =
     let P : Vertex → Type 0 = λ corner. extent corner ≤ n in
@@ -22,7 +23,8 @@ reach-bounded extent far (corner ∷ body) n h =
     let start = h.start in
     reach-bounded extent (max far (extent corner)) body n (record { start = omega arith; corners = All-tail P corner body h.corners })
 
-IsReachBounded-from_reach : (extent : Vertex → ℕ) (far : ℕ) (body : List Vertex) (n : ℕ) → fold (λ far corner. max far (extent corner)) far body ≤ n → IsReachBounded extent far body n
+IsReachBounded-from_reach :
+    (extent : Vertex → ℕ) (far : ℕ) (body : List Vertex) (n : ℕ) → fold (λ far corner. max far (extent corner)) far body ≤ n → IsReachBounded extent far body n
 IsReachBounded-from_reach extent far [] n h = record { start = h; corners = All-nil (λ corner. extent corner ≤ n) }
 IsReachBounded-from_reach extent far (corner ∷ body) n h =
     let rest = IsReachBounded-from_reach extent (max far (extent corner)) body n h in
@@ -38,7 +40,8 @@ record Fits (side n : ℕ) (corner : ℤ) : Type 0 where
   back : below_zero corner ≤ n
   forth : above_zero corner + n ≤ side
 
-fits_on_side : (side n : ℕ) (corner : ℤ) → n ≤ side → pos 0 ≤ℤ (pos n +ℤ (pos 1 *ℤ corner)) → (pos n +ℤ (pos 1 *ℤ corner)) ≤ℤ pos (1 * side) → Fits side n corner
+fits_on_side :
+    (side n : ℕ) (corner : ℤ) → n ≤ side → pos 0 ≤ℤ (pos n +ℤ (pos 1 *ℤ corner)) → (pos n +ℤ (pos 1 *ℤ corner)) ≤ℤ pos (1 * side) → Fits side n corner
 fits_on_side side n (pos c) h low high = record { back = omega arith; forth = omega (arith, ints) }
 fits_on_side side n (negsuc c) h low high = record { back = omega (arith, ints); forth = omega arith }
 

@@ -9,13 +9,17 @@ use Rattle.plan_model.specs.Steering.{steered}
 use Rattle.plan_model.proofs.SteeringLaws.{IsStep-steered, corner_of_box}
 
 -- the nearest node is no farther from q than a node that stands at p
-nearest_below : (points : List (Option Point)) (q p : Point) (m n : ℕ) → IsNearest points q m → StandsAt points n p → squared_distance (point_of points m) q ≤ squared_distance p q
+nearest_below :
+    (points : List (Option Point)) (q p : Point) (m n : ℕ) → IsNearest points q m → StandsAt points n p
+    → squared_distance (point_of points m) q ≤ squared_distance p q
 nearest_below points q p m n nearest own =
     let present : IsPresent points n = subst IsSome (sym own) refl in
     let place : point_of points n ≡ p = ap (λ node. unwrap_or node (record { x = 0; y = 0 })) own in
     subst (λ r. squared_distance (point_of points m) q ≤ squared_distance r q) place (nearest.not_above n present).least
 
-pub steered-is_nearest : (points : List (Option Point)) (q : Point) (step m n : ℕ) → IsNearest points q m → StandsAt points n (steered (point_of points m) q step) → steered (point_of points m) q step ≡ point_of points m
+pub steered-is_nearest :
+    (points : List (Option Point)) (q : Point) (step m n : ℕ) → IsNearest points q m → StandsAt points n (steered (point_of points m) q step)
+    → steered (point_of points m) q step ≡ point_of points m
 steered-is_nearest points q step m n nearest own =
     let from = point_of points m in
     corner_of_box from q (steered from q step) (IsStep-steered from q step).within (nearest_below points q (steered from q step) m n nearest own)

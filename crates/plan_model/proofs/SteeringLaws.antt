@@ -36,7 +36,9 @@ product : (d step : ℕ) → neg_ℤ (pos d) *ℤ pos step ≡ neg_ℤ (pos (d *
 product zero step = let none : 0 * step ≡ 0 = omega arith in rw none refl
 product (suc d) step = refl
 
-backwards : (from step len d : ℕ) (z : ℤ) → z ≡ neg_ℤ (pos d) → d ≤ from → 0 < len → step ≤ len → unsigned_abs (pos from +ℤ int_div (z *ℤ pos step) (pos len)) ≡ from - (d * step) / len
+backwards :
+    (from step len d : ℕ) (z : ℤ) → z ≡ neg_ℤ (pos d) → d ≤ from → 0 < len → step ≤ len
+    → unsigned_abs (pos from +ℤ int_div (z *ℤ pos step) (pos len)) ≡ from - (d * step) / len
 backwards from step len d z e low some short =
     let way : (d * step) / len ≤ d = div-le_of_le-mul len (omega (arith, mul-le d step d len (omega arith) short)) in
     rw (e, product d step) (share_back from (d * step) len some (omega arith))
@@ -69,8 +71,10 @@ share-backwards from to step len w h short share some =
 pub IsShare-advanced : (from to step len : ℕ) → 0 < len → step ≤ len → IsShare from to step len (advanced from to step len)
 IsShare-advanced from to step len some short =
     elim (cases_lt from to) [
-      | inl before ↦ rw (advanced-forwards from to step len (omega arith)) (share-forwards from to step len (((to - from) * step) / len) (omega arith) short (div-mul-le_self ((to - from) * step) len) some)
-      | inr after ↦ rw (advanced-backwards from to step len after some short) (share-backwards from to step len (((from - to) * step) / len) after short (div-mul-le_self ((from - to) * step) len) some)
+      | inl before ↦ rw (advanced-forwards from to step len (omega arith))
+          (share-forwards from to step len (((to - from) * step) / len) (omega arith) short (div-mul-le_self ((to - from) * step) len) some)
+      | inr after ↦ rw (advanced-backwards from to step len after some short)
+          (share-backwards from to step len (((from - to) * step) / len) after short (div-mul-le_self ((from - to) * step) len) some)
     ]
 
 -- ---- both coordinates
@@ -82,7 +86,10 @@ square_share w d s l h = omega (arith, mul-le (w * l) (w * l) (d * s) (d * s) h 
 shares_within_step : (v w d e s l : ℕ) → 0 < l → v * l ≤ d * s → w * l ≤ e * s → d * d + e * e ≤ l * l → v * v + w * w ≤ s * s
 shares_within_step v w d e s l some h k whole =
     elim (cases_lt (s * s) (v * v + w * w)) [
-      | inl more ↦ absurd (omega (arith, square_share v d s l h, square_share w e s l k, mul-le (d * d + e * e) (s * s) (l * l) (s * s) whole (omega arith), mul-le (s * s + 1) (l * l) (v * v + w * w) (l * l) (omega arith) (omega arith), mul-le 1 1 l l (omega arith) (omega arith)))
+      | inl more ↦ (
+          let length = mul-le (d * d + e * e) (s * s) (l * l) (s * s) whole (omega arith) in
+          let above = mul-le (s * s + 1) (l * l) (v * v + w * w) (l * l) (omega arith) (omega arith) in
+          absurd (omega (arith, square_share v d s l h, square_share w e s l k, length, above, mul-le 1 1 l l (omega arith) (omega arith))))
       | inr fits ↦ fits
     ]
 
@@ -105,7 +112,9 @@ pub step_below_root : (s n r : ℕ) → s * s < n → IsRootCeiling n r → s < 
 step_below_root s n r below root = lt-from_squares s r (s * s) (omega arith) (omega (arith, root.reaches))
 
 -- x and y are the shares step / len of the way from a to b, which is no longer than len
-pub IsStep-partial : (a b : Point) (step len x y : ℕ) → 0 < len → step ≤ len → squared_distance a b ≤ len * len → x ≡ advanced a.x b.x step len → y ≡ advanced a.y b.y step len → IsStep a b step (record { x = x; y = y })
+pub IsStep-partial :
+    (a b : Point) (step len x y : ℕ) → 0 < len → step ≤ len → squared_distance a b ≤ len * len → x ≡ advanced a.x b.x step len → y ≡ advanced a.y b.y step len
+    → IsStep a b step (record { x = x; y = y })
 IsStep-partial a b step len x y some beyond whole e f =
     let across : IsShare a.x b.x step len x = rw e (IsShare-advanced a.x b.x step len some beyond) in
     let up : IsShare a.y b.y step len y = rw f (IsShare-advanced a.y b.y step len some beyond) in
@@ -120,7 +129,13 @@ IsStep-whole a b step near = record {
   within = record { left = omega arith; right = omega arith; bottom = omega arith; top = omega arith };
 }
 
-step_by_test : (test : Bool) (a b : Point) (step len : ℕ) → leb (squared_distance a b) (step * step) ≡ test → IsRootCeiling (squared_distance a b) len → IsStep a b step (cond test b (record { x = advanced a.x b.x step len; y = advanced a.y b.y step len }))
+-- the step whose way is len long
+abbrev step_by : ℕ → Point → Point → ℕ → Point
+step_by len a b step = record { x = advanced a.x b.x step len; y = advanced a.y b.y step len }
+
+step_by_test :
+    (test : Bool) (a b : Point) (step len : ℕ) → leb (squared_distance a b) (step * step) ≡ test → IsRootCeiling (squared_distance a b) len
+    → IsStep a b step (cond test b (step_by len a b step))
 step_by_test true a b step len e root = IsStep-whole a b step (leb-true _ _ e)
 step_by_test false a b step len e root =
     let far : step * step < squared_distance a b = leb-false _ _ e in
@@ -162,7 +177,9 @@ steered-nearer a b step moved =
     ]
 
 -- ---- steps that are cut to nothing
-pub steered-far : (a b : Point) (step : ℕ) → step * step < squared_distance a b → steered a b step ≡ record { x = advanced a.x b.x step (root_ceiling (squared_distance a b)); y = advanced a.y b.y step (root_ceiling (squared_distance a b)) }
+pub steered-far :
+    (a b : Point) (step : ℕ) → step * step < squared_distance a b
+    → steered a b step ≡ step_by (root_ceiling (squared_distance a b)) a b step
 steered-far a b step far = rw (lt-leb (squared_distance a b) (step * step) far) refl
 
 share_below : (m len : ℕ) → 0 < len → m / len ≡ 0 → m < len
@@ -177,7 +194,8 @@ stays_below from to step len some short stays =
           rw whole (share_below ((to - from) * step) len some (omega (arith, advanced-forwards from to step len (omega arith)))))
       | inr after ↦ (
           let whole : abs_diff from to ≡ from - to = omega arith in
-          let way : ((from - to) * step) / len ≤ from - to = div-le_of_le-mul len (omega (arith, mul-le (from - to) step (from - to) len (omega arith) short)) in
+          let shorter = mul-le (from - to) step (from - to) len (omega arith) short in
+          let way : ((from - to) * step) / len ≤ from - to = div-le_of_le-mul len (omega (arith, shorter)) in
           rw whole (share_below ((from - to) * step) len some (omega (arith, advanced-backwards from to step len after some short))))
     ]
 

@@ -20,7 +20,8 @@ strip-first all strips enough =
     let low : (0 * all.count) / strips ≤ 0 = div-le_of_le-mul strips (omega arith) in
     rw (enough_columns all.count strips enough) (omega arith)
 
-pub strip-next : (all : Span) (strips g : ℕ) → 0 < strips → strips ≤ all.count → (strip all strips (g + 1)).first ≡ (strip all strips g).first + (strip all strips g).count
+pub strip-next :
+    (all : Span) (strips g : ℕ) → 0 < strips → strips ≤ all.count → (strip all strips (g + 1)).first ≡ (strip all strips g).first + (strip all strips g).count
 strip-next all strips g some enough =
     let order : (g * all.count) / strips ≤ ((g + 1) * all.count) / strips = div-le-div (g * all.count) ((g + 1) * all.count) strips some (omega arith) in
     rw (enough_columns all.count strips enough) (omega arith)

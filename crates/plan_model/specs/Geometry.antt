@@ -15,6 +15,6 @@ pub record IsInBoxOf (a b p : Point) : Type 0 where
   pub bottom : min a.y b.y ≤ p.y
   pub top : p.y ≤ max a.y b.y
 
--- Twice the signed area of the triangle a b c: above 0 exactly where c lies strictly to the left of the line from a to b.
+-- Twice the signed area of the triangle a b c: above 0 exactly if c lies strictly to the left of the line from a to b.
 abbrev pub orientation : Vertex → Vertex → Vertex → ℤ
 orientation a b c = ((b.x -ℤ a.x) *ℤ (c.y -ℤ a.y)) -ℤ ((b.y -ℤ a.y) *ℤ (c.x -ℤ a.x))

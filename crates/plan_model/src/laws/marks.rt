@@ -9,7 +9,8 @@ ghost use Rattle.plan_model.specs.declared.scenes.Scene.{Scene};
 /// The strips of a span lie one after another from its first column to its last, if there are enough columns.
 pub fn strips_make_up_the_span()
     ensures first { (all : Span) (strips : ℕ) → strips ≤ all.count → (strip all strips 0).first ≡ all.first }
-    ensures next { (all : Span) (strips g : ℕ) → 0 < strips → strips ≤ all.count → (strip all strips (g + 1)).first ≡ (strip all strips g).first + (strip all strips g).count }
+    ensures next { (all : Span) (strips g : ℕ) → 0 < strips → strips ≤ all.count
+        → (strip all strips (g + 1)).first ≡ (strip all strips g).first + (strip all strips g).count }
     ensures last { (all : Span) (strips : ℕ) → 0 < strips → strips ≤ all.count → (strip all strips strips).first ≡ all.first + all.count }
 {}
 
@@ -21,7 +22,8 @@ pub fn strips_have_columns_of_the_span()
 
 /// A mark is drawn from the columns of its strip and from the rows, so it is in the room of configurations.
 pub fn marks_are_drawn_in_the_room()
-    ensures column { (scene : Scene) (k : ℕ) → BodyFits (space_of scene) → IsInSpan (strip (columns (space_of scene)) scene.strips (k % scene.strips)) (drawn_mark scene k).x }
+    ensures column { (scene : Scene) (k : ℕ) → BodyFits (space_of scene)
+        → IsInSpan (strip (columns (space_of scene)) scene.strips (k % scene.strips)) (drawn_mark scene k).x }
     ensures row { (scene : Scene) (k : ℕ) → BodyFits (space_of scene) → IsInSpan (rows (space_of scene)) (drawn_mark scene k).y }
     ensures in_room { (scene : Scene) (k : ℕ) → BodyFits (space_of scene) → InRoom (space_of scene) (at_lattice (drawn_mark scene k)) }
 {}

@@ -25,6 +25,8 @@ pub fn steps_are_short_and_lead_nearer()
 /// A node that stands where the nearest node steers to stands where the nearest node does, and by two lattice steps or
 /// more the mark is there too.
 pub fn steps_lead_to_no_other_node()
-    ensures stays { (points : List (Option Point)) (q : Point) (step m n : ℕ) → IsNearest points q m → StandsAt points n (steered (point_of points m) q step) → steered (point_of points m) q step ≡ point_of points m }
-    ensures arrived { (points : List (Option Point)) (q : Point) (step m n : ℕ) → 1 < step → IsNearest points q m → StandsAt points n (steered (point_of points m) q step) → point_of points m ≡ q }
+    ensures stays { (points : List (Option Point)) (q : Point) (step m n : ℕ) → IsNearest points q m
+        → StandsAt points n (steered (point_of points m) q step) → steered (point_of points m) q step ≡ point_of points m }
+    ensures arrived { (points : List (Option Point)) (q : Point) (step m n : ℕ) → 1 < step → IsNearest points q m
+        → StandsAt points n (steered (point_of points m) q step) → point_of points m ≡ q }
 {}

@@ -20,11 +20,17 @@ three (a ∷ b ∷ c ∷ []) h = record { first = a; second = b; third = c; are 
 three (a ∷ b ∷ c ∷ d ∷ ws) h = absurd (omega arith)
 
 -- each difference of an obstacle's and a body's point has coordinates that add up to 18 at least
-beside_corner : (t a b c d e f : ℕ) → 0 < t → sum (a ∷ b ∷ c ∷ []) ≡ t → sum (d ∷ e ∷ f ∷ []) ≡ t → pos 1 *ℤ (weighted (λ v. v.x) (a ∷ b ∷ c ∷ []) great_triangle -ℤ weighted (λ v. v.x) (d ∷ e ∷ f ∷ []) small_triangle) ≡ pos t *ℤ pos 8 → pos 1 *ℤ (weighted (λ v. v.y) (a ∷ b ∷ c ∷ []) great_triangle -ℤ weighted (λ v. v.y) (d ∷ e ∷ f ∷ []) small_triangle) ≡ pos t *ℤ pos 9 → ⊥
+beside_corner :
+    (t a b c d e f : ℕ) → 0 < t → sum (a ∷ b ∷ c ∷ []) ≡ t → sum (d ∷ e ∷ f ∷ []) ≡ t
+    → pos 1 *ℤ (weighted (λ v. v.x) (a ∷ b ∷ c ∷ []) great_triangle -ℤ weighted (λ v. v.x) (d ∷ e ∷ f ∷ []) small_triangle) ≡ pos t *ℤ pos 8
+    → pos 1 *ℤ (weighted (λ v. v.y) (a ∷ b ∷ c ∷ []) great_triangle -ℤ weighted (λ v. v.y) (d ∷ e ∷ f ∷ []) small_triangle) ≡ pos t *ℤ pos 9 → ⊥
 beside_corner t a b c d e f some obstacle body horizontal vertical = omega (arith, ints)
 
 -- the same in halves of a step: the sum is 35 halves, and would have to be 36 at least
-half_beside_corner : (t a b c d e f : ℕ) → 0 < t → sum (a ∷ b ∷ c ∷ []) ≡ t → sum (d ∷ e ∷ f ∷ []) ≡ t → pos 2 *ℤ (weighted (λ v. v.x) (a ∷ b ∷ c ∷ []) great_triangle -ℤ weighted (λ v. v.x) (d ∷ e ∷ f ∷ []) small_triangle) ≡ pos t *ℤ pos 17 → pos 2 *ℤ (weighted (λ v. v.y) (a ∷ b ∷ c ∷ []) great_triangle -ℤ weighted (λ v. v.y) (d ∷ e ∷ f ∷ []) small_triangle) ≡ pos t *ℤ pos 18 → ⊥
+half_beside_corner :
+    (t a b c d e f : ℕ) → 0 < t → sum (a ∷ b ∷ c ∷ []) ≡ t → sum (d ∷ e ∷ f ∷ []) ≡ t
+    → pos 2 *ℤ (weighted (λ v. v.x) (a ∷ b ∷ c ∷ []) great_triangle -ℤ weighted (λ v. v.x) (d ∷ e ∷ f ∷ []) small_triangle) ≡ pos t *ℤ pos 17
+    → pos 2 *ℤ (weighted (λ v. v.y) (a ∷ b ∷ c ∷ []) great_triangle -ℤ weighted (λ v. v.y) (d ∷ e ∷ f ∷ []) small_triangle) ≡ pos t *ℤ pos 18 → ⊥
 half_beside_corner t a b c d e f some obstacle body horizontal vertical = omega (arith, ints)
 
 -- a list of four numbers, by its members
@@ -44,7 +50,9 @@ four (a ∷ b ∷ c ∷ d ∷ []) h = record { first = a; second = b; third = c;
 four (a ∷ b ∷ c ∷ d ∷ e ∷ ws) h = absurd (omega arith)
 
 -- each difference of an obstacle's and a body's point has an x of 8 at least
-beside_edge : (t a b c d e f g h : ℕ) → 0 < t → sum (a ∷ b ∷ c ∷ d ∷ []) ≡ t → sum (e ∷ f ∷ g ∷ h ∷ []) ≡ t → pos 1 *ℤ (weighted (λ v. v.x) (a ∷ b ∷ c ∷ d ∷ []) great_square -ℤ weighted (λ v. v.x) (e ∷ f ∷ g ∷ h ∷ []) small_square) ≡ pos t *ℤ pos 7 → ⊥
+beside_edge :
+    (t a b c d e f g h : ℕ) → 0 < t → sum (a ∷ b ∷ c ∷ d ∷ []) ≡ t → sum (e ∷ f ∷ g ∷ h ∷ []) ≡ t
+    → pos 1 *ℤ (weighted (λ v. v.x) (a ∷ b ∷ c ∷ d ∷ []) great_square -ℤ weighted (λ v. v.x) (e ∷ f ∷ g ∷ h ∷ []) small_square) ≡ pos t *ℤ pos 7 → ⊥
 beside_edge t a b c d e f g h some obstacle body horizontal = omega (arith, ints)
 
 pub returns : goal.returns
@@ -64,7 +72,8 @@ returns c = record {
   beside_corner = λ m.
       let o = three m.on_obstacle m.obstacle_corners in
       let b = three m.on_body m.body_corners in
-      beside_corner m.total o.first o.second o.third b.first b.second b.third m.some_weight (rw o.are at m.obstacle_total) (rw b.are at m.body_total) (rw (o.are, b.are) at m.horizontal) (rw (o.are, b.are) at m.vertical);
+      beside_corner m.total o.first o.second o.third b.first b.second b.third m.some_weight (rw o.are at m.obstacle_total) (rw b.are at m.body_total)
+      (rw (o.are, b.are) at m.horizontal) (rw (o.are, b.are) at m.vertical);
   at_corner_in_halves = record {
     total = 2;
     on_obstacle = 2 ∷ 0 ∷ 0 ∷ [];
@@ -80,7 +89,8 @@ returns c = record {
   half_beside_corner = λ m.
       let o = three m.on_obstacle m.obstacle_corners in
       let b = three m.on_body m.body_corners in
-      half_beside_corner m.total o.first o.second o.third b.first b.second b.third m.some_weight (rw o.are at m.obstacle_total) (rw b.are at m.body_total) (rw (o.are, b.are) at m.horizontal) (rw (o.are, b.are) at m.vertical);
+      half_beside_corner m.total o.first o.second o.third b.first b.second b.third m.some_weight (rw o.are at m.obstacle_total) (rw b.are at m.body_total)
+      (rw (o.are, b.are) at m.horizontal) (rw (o.are, b.are) at m.vertical);
   inside = record {
     total = 10;
     on_obstacle = 6 ∷ 2 ∷ 2 ∷ [];
@@ -108,5 +118,6 @@ returns c = record {
   beside_edge = λ m.
       let o = four m.on_obstacle m.obstacle_corners in
       let b = four m.on_body m.body_corners in
-      beside_edge m.total o.first o.second o.third o.fourth b.first b.second b.third b.fourth m.some_weight (rw o.are at m.obstacle_total) (rw b.are at m.body_total) (rw (o.are, b.are) at m.horizontal);
+      beside_edge m.total o.first o.second o.third o.fourth b.first b.second b.third b.fourth m.some_weight (rw o.are at m.obstacle_total)
+      (rw b.are at m.body_total) (rw (o.are, b.are) at m.horizontal);
 }

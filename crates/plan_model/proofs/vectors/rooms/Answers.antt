@@ -1,4 +1,4 @@
-use Rattle.std.proofs.Common.{◌<◌, arith, ap, refl, [], ◌∷◌}
+use Rattle.std.proofs.Common.{arith, ap, refl, [], ◌∷◌}
 use Rattle.std.specs.Prelude.{pos}
 use Rattle.std.proofs.Math.Bridge.{le_prop}
 use Rattle.std.proofs.lemmas.Int.{ints}
@@ -10,12 +10,15 @@ use Rattle.plan_model.specs.Vectors.Shapes.{at, corner, halves}
 use Rattle.plan_model.proofs.vectors.rooms.Goals as goal
 
 -- the triangle is in the room if its corners are
-triangle_in_room : (q : Rational) → IsInBox (at 10 10) q → IsInBox (at 10 10) (moved_by q (corner 0 0)) → IsInBox (at 10 10) (moved_by q (corner 4 0)) → IsInBox (at 10 10) (moved_by q (corner 0 4)) → InRoom (ten_by_ten triangle) q
+triangle_in_room :
+    (q : Rational) → IsInBox (at 10 10) q → IsInBox (at 10 10) (moved_by q (corner 0 0)) → IsInBox (at 10 10) (moved_by q (corner 4 0))
+    → IsInBox (at 10 10) (moved_by q (corner 0 4)) → InRoom (ten_by_ten triangle) q
 triangle_in_room q here first second third =
     let P : Vertex → Type 0 = λ v. IsInBox (at 10 10) (moved_by q v) in
     record {
       here = here;
-      corners = All-cons P (corner 0 0) (corner 4 0 ∷ corner 0 4 ∷ []) first (All-cons P (corner 4 0) (corner 0 4 ∷ []) second (All-cons P (corner 0 4) [] third (All-nil P)));
+      corners = All-cons P (corner 0 0) (corner 4 0 ∷ corner 0 4 ∷ []) first
+          (All-cons P (corner 4 0) (corner 0 4 ∷ []) second (All-cons P (corner 0 4) [] third (All-nil P)));
     }
 
 pub returns : goal.returns
