@@ -18,7 +18,7 @@ rank_from : (ℕ → ℕ) → ℕ → ℕ → List (Option Point) → ℕ
 rank_from costs c k [] = 0
 rank_from costs c k (o ∷ points) = cond (is_some o && nat_le (costs k) c) 1 0 + rank_from costs c (suc k) points
 
-node_count-cons : (o : Option Point) (points : List (Option Point)) → node_count (o ∷ points) ≡ cond (is_some o) 1 0 + node_count points
+pub node_count-cons : (o : Option Point) (points : List (Option Point)) → node_count (o ∷ points) ≡ cond (is_some o) 1 0 + node_count points
 node_count-cons o points = sum_by-cons (λ q. cond (is_some q) 1 0) o points
 
 one_of_both : (a b : Bool) → cond (a && b) 1 0 ≤ cond a 1 0

@@ -2,6 +2,9 @@ pub mod RootLaws
 pub mod EmptyRoomClearance
 pub mod ChainLaws
 pub mod TreeChanges
+pub mod NewNodes
+pub mod KeptCosts
+pub mod LeastScans
 pub mod RunLaws
 pub mod MarkBounds
 pub mod EmptyRoomRuns

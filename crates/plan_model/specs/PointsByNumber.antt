@@ -22,6 +22,10 @@ point_of points n = unwrap_or (point_at points n) (record { x = 0; y = 0 })
 abbrev pub IsFree : List (Option Point) → Point → Type 0
 IsFree points p = (j : ℕ) → ¬ StandsAt points j p
 
+-- no two nodes stand at the same point
+abbrev pub AreDistinct : List (Option Point) → Type 0
+AreDistinct points = (i j : ℕ) (p : Point) → StandsAt points i p → StandsAt points j p → i ≡ j
+
 -- how many nodes are present
 abbrev pub node_count : List (Option Point) → ℕ
 node_count points = count_by is_some points

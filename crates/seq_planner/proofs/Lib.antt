@@ -1,6 +1,6 @@
 pub mod ClearSegments
+pub mod RecordFacts
 pub mod Scans
 pub mod SoundTrees
-pub mod Turns
-pub mod MarkAccounts
+pub mod MarkExtensions
 pub mod RunsSoFar

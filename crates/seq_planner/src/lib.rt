@@ -1,10 +1,15 @@
-//! The textbook planner: RRT* over the marks (the samples) in rising number, one after another, on plain
-//! lists, with the nearest node found by scanning all of them.
+//! The textbook planner: RRT* of Karaman and Frazzoli (Sampling-based Algorithms for Optimal Motion Planning, IJRR
+//! 2011, algorithm 6) over the marks (the samples) in rising number, one after another.
+//!
+//! The search tree is a plain list of nodes with kept costs-to-come, and the nearest node is found by a scan of all of
+//! them. The contract of [`textbook`] says that the tree and the records are those of the textbook run over these
+//! marks, which is a relation between them that knows no program: which node is nearest, where it steers to, what
+//! becomes of the mark, and which parent the new node has. For now the body is a point, and nothing is rewired.
 #![tactic(auto)]
 
-mod accounts;
-mod growth;
+mod extensions;
 mod rooms;
-mod runs;
+mod search_tree;
+mod textbook_planner;
 
-pub use runs::textbook;
+pub use textbook_planner::textbook;

@@ -2,20 +2,13 @@
 
 ghost use Rattle.std.specs.Prelude.{◌↔◌, IsTrue};
 ghost use Rattle.plan_model.specs.Clearance.{Clear};
-ghost use Rattle.plan_model.specs.EmptyRooms.{IsInRoom, empty_room};
+ghost use Rattle.plan_model.specs.EmptyRooms.{empty_room};
 
 use plan_model::Point;
-
-/// Whether a point lies in the room, its walls included.
-fn is_in_room(room: Point, point: Point) -> bool
-    ensures { IsTrue result ↔ IsInRoom room point }
-{
-    point.x <= room.x && point.y <= room.y
-}
 
 /// Whether the segment from `a` to `b` is clear: in an empty room, if both ends are in the room.
 pub(crate) fn is_clear(room: Point, a: Point, b: Point) -> bool
     ensures { IsTrue result ↔ Clear (empty_room room) a b }
 {
-    is_in_room(room, a) && is_in_room(room, b)
+    a.is_in_room(room) && b.is_in_room(room)
 }

@@ -1,17 +1,18 @@
-//! Whole runs of the textbook planner.
+//! The textbook planner over the marks of a task.
 
 ghost use Rattle.std.specs.Prelude.{◌≡◌, ◌+◌, length, IfOk, IsTrue};
 ghost use Rattle.plan_model.specs.Clearance.{ClearAt};
 ghost use Rattle.plan_model.specs.ConfigurationSpace.{space_of};
-ghost use Rattle.plan_model.specs.Limits.{is_plan};
 ghost use Rattle.plan_model.specs.EmptyRooms.{IsPointInEmptyRoom, LiesIn};
-ghost use Rattle.plan_model.specs.Textbook.{IsTextbookRun};
+ghost use Rattle.plan_model.specs.Limits.{is_plan};
+ghost use Rattle.plan_model.specs.Textbook.{IsTextbookRun, setup_of};
+ghost use Rattle.plan_model.specs.Trees.{CostsFall, points_of, sum_of};
 
-use crate::growth::Growth;
+use crate::search_tree::SearchTree;
 use plan_model::{Memory, Task, Tree};
 use std::alloc::Global;
 
-/// RRT* over the marks of a task in rising number, from its start.
+/// RRT* over the marks (the samples) of a task in rising number, from its start.
 ///
 /// Every node is looked at for each mark, once for the nearest and once for one that stands at the steered
 /// point already: O(n) for each of n marks. The scene has a point body, no obstacle and gamma 0, so the
@@ -19,21 +20,23 @@ use std::alloc::Global;
 ///
 /// # Errors
 ///
-/// `Memory` where there is no memory for the nodes or the records.
+/// `Memory` if out of memory for the nodes or the records.
 pub fn textbook(alloc: Global, task: Task) -> Result<Tree, Memory>
-    requires plain { IsPointInEmptyRoom task.scene }
+    requires empty_room { IsPointInEmptyRoom task.scene }
     requires start { ClearAt (space_of task.scene) task.scene.start }
-    ensures run { IfOk result (λ tree. IsTextbookRun task.scene task.marks tree.twigs tree.records) }
+    ensures run { IfOk result (λ tree. IsTextbookRun (setup_of task.scene) task.scene.start task.marks tree.twigs tree.records) }
     ensures nodes { IfOk result (λ tree. length tree.twigs ≡ length task.marks + 1) }
-    ensures in_room { IfOk result (λ tree. LiesIn task.scene.room tree.twigs) }
+    // every parent is present, and comes before its child by the cost from the start
+    ensures parents { IfOk result (λ tree. CostsFall (sum_of tree.twigs) tree.twigs) }
+    ensures in_room { IfOk result (λ tree. LiesIn task.scene.room (points_of tree.twigs)) }
 {
     let scene = &task.scene;
     let marks = task.marks.as_slice();
-    let mut growth = Growth::new(alloc, scene)?;
-    for mark in marks {
-        growth.handle(scene, *mark)?;
+    let mut tree = SearchTree::new(alloc, scene)?;
+    for &mark in marks {
+        tree.handle(scene, mark)?;
     }
-    Ok(growth.into_tree())
+    Ok(tree.into_tree())
 }
 
 #[cfg(test)]
@@ -44,7 +47,7 @@ mod tests {
     /// The task of these marks in a room of 100 by 100, from its lower left corner by steps of 50.
     fn small_task(alloc: Global, marks: &[Point]) -> Result<Task, Memory>
         requires { IsTrue (is_plan (Marks.Listed marks.now)) }
-        ensures plain { IfOk result (λ task. IsPointInEmptyRoom task.scene) }
+        ensures empty_room { IfOk result (λ task. IsPointInEmptyRoom task.scene) }
         ensures start { IfOk result (λ task. ClearAt (space_of task.scene) task.scene.start) }
     {
         let scene = Scene {

@@ -1,0 +1,166 @@
+-- Kept costs of a tree with one more node, or with one more absent number: they stay tight, and fall along parents.
+use Rattle.std.proofs.Common.{◌≡◌, ℕ, suc, ◌+◌, ◌*◌, ◌<◌, ◌≤◌, List, Option, arith, refl, sym, ap, ◌∙◌, subst, inl, inr}
+use Rattle.std.specs.Prelude.{◌≢◌, is_some, unwrap_or}
+use Rattle.std.proofs.lemmas.Bool.{cases_lt}
+use Rattle.std.proofs.lemmas.Nat.{mul-le}
+use Rattle.plan_model.specs.declared.geometry.Point.{Point}
+use Rattle.plan_model.specs.declared.trees.Twig.{Twig}
+use Rattle.plan_model.specs.Geometry.{squared_distance}
+use Rattle.plan_model.specs.Cost.{cost_of}
+use Rattle.plan_model.specs.PointsByNumber.{point_at, IsPresent, point_of}
+use Rattle.plan_model.specs.Trees.{node_at, points_of, parent_or_start, parent_of, sum_of, edge_of, CostsFall, AreTight}
+use Rattle.plan_model.proofs.RootLaws.{root_ceiling-is}
+use Rattle.plan_model.proofs.EmptyRoomRuns.{same-from_distance}
+use Rattle.plan_model.proofs.ChainLaws.{sums-tight}
+use Rattle.plan_model.specs.Textbook.{start_alone}
+use Rattle.plan_model.proofs.TreeChanges.{node_at-past}
+use Rattle.plan_model.proofs.NewNodes.{Adds, not_present, point_at-same, IsPresent-kept, point_of-kept, parent_of-kept, IsPresent-stands, point_of-stands, StandsAt-present, StandsAt-new, parent_of-new, new_or_kept}
+
+-- an edge between two points costs at least a lattice step
+pub cost_of-apart : (a b : Point) → a ≢ b → 256 ≤ cost_of a b
+cost_of-apart a b apart =
+    let reaches = (root_ceiling-is (65536 * squared_distance a b)).reaches in
+    elim (cases_lt 0 (squared_distance a b)) [
+      | inr none ↦ absurd (apart (same-from_distance a b none))
+      | inl some ↦ elim (cases_lt (cost_of a b) 256) [
+        | inl low ↦ absurd (omega (arith, reaches, mul-le (cost_of a b) (cost_of a b) 255 255 (omega arith) (omega arith)))
+        | inr high ↦ high
+      ]
+    ]
+
+-- ---- the start alone
+
+pub CostsFall-start : (costs : ℕ → ℕ) (start : Point) → CostsFall costs (start_alone start)
+CostsFall-start costs start = record { start = refl; parent = λ n h. absurd (none n h); falls = λ n h. absurd (none n h) }
+  where
+    none : (n : ℕ) → IsPresent (points_of (start_alone start)) (suc n) → ⊥
+    none n h = not_present (start_alone start) (suc n) (node_at-past (start_alone start) (suc n) (omega arith)) h
+
+pub AreTight-start : (costs : ℕ → ℕ) (start : Point) → costs 0 ≡ 0 → AreTight costs (start_alone start)
+AreTight-start costs start free = record { start = free; edges = λ n h. absurd (none n h) }
+  where
+    none : (n : ℕ) → IsPresent (points_of (start_alone start)) (suc n) → ⊥
+    none n h = not_present (start_alone start) (suc n) (node_at-past (start_alone start) (suc n) (omega arith)) h
+
+-- ---- the same nodes
+
+-- the kept costs of the present nodes are the same
+abbrev pub KeepsCosts : List (Option Twig) → (ℕ → ℕ) → (ℕ → ℕ) → Type 0
+KeepsCosts tree costs later = (n : ℕ) → IsPresent (points_of tree) n → later n ≡ costs n
+
+module _ (costs later : ℕ → ℕ) (tree after : List (Option Twig)) (same : (n : ℕ) → node_at after n ≡ node_at tree n) (keeps : KeepsCosts tree costs later) where
+  was_present : (n : ℕ) → IsPresent (points_of after) n → IsPresent (points_of tree) n
+  was_present n h = ap is_some (sym (point_at-same after tree n (same n))) ∙ h
+
+  parent_is : (n : ℕ) → parent_of after n ≡ parent_of tree n
+  parent_is n = ap parent_or_start (same n)
+
+  point_is : (n : ℕ) → point_of (points_of after) n ≡ point_of (points_of tree) n
+  point_is n = ap (λ o. unwrap_or o (record { x = 0; y = 0 })) (point_at-same after tree n (same n))
+
+  edge_is : (n : ℕ) → edge_of after n ≡ edge_of tree n
+  edge_is n =
+      ap (λ a. cost_of a (point_of (points_of after) n)) (point_is (parent_of after n) ∙ ap (point_of (points_of tree)) (parent_is n))
+      ∙ ap (cost_of (point_of (points_of tree) (parent_of tree n))) (point_is n)
+
+  parent_cost : CostsFall costs tree → (n : ℕ) → IsPresent (points_of after) (suc n) → later (parent_of after (suc n)) ≡ costs (parent_of tree (suc n))
+  parent_cost fall n h = ap later (parent_is (suc n)) ∙ keeps (parent_of tree (suc n)) (fall.parent n (was_present (suc n) h))
+
+  -- an absent number changes nothing: costs fall as they did
+  pub CostsFall-same : CostsFall costs tree → CostsFall later after
+  CostsFall-same fall = record {
+    start = ap is_some (point_at-same after tree 0 (same 0)) ∙ fall.start;
+    parent = λ n h.
+        ap is_some (point_at-same after tree (parent_of after (suc n)) (same (parent_of after (suc n))))
+        ∙ ap (λ m. is_some (point_at (points_of tree) m)) (parent_is (suc n)) ∙ fall.parent n (was_present (suc n) h);
+    falls = λ n h. omega (arith, parent_cost fall n h, keeps (suc n) (was_present (suc n) h), fall.falls n (was_present (suc n) h));
+  }
+
+  -- and are tight as they were
+  pub AreTight-same : CostsFall costs tree → AreTight costs tree → AreTight later after
+  AreTight-same fall tight = record {
+    start = keeps 0 fall.start ∙ tight.start;
+    edges = λ n h.
+        omega (arith, parent_cost fall n h, keeps (suc n) (was_present (suc n) h), tight.edges n (was_present (suc n) h), edge_is (suc n));
+  }
+
+-- ---- one more node
+
+-- The new node's parent is present and stands elsewhere, and the new node costs what its parent costs and the edge.
+pub record IsPriced (tree : List (Option Twig)) (costs : ℕ → ℕ) (node : Twig) (price : ℕ) : Type 0 where
+  pub parent : IsPresent (points_of tree) node.parent
+  pub apart : point_of (points_of tree) node.parent ≢ node.point
+  pub cost : price ≡ costs node.parent + cost_of (point_of (points_of tree) node.parent) node.point
+
+module _ (costs later : ℕ → ℕ) (tree : List (Option Twig)) (number : ℕ) (node : Twig) (after : List (Option Twig)) (adds : Adds tree number node after) (keeps : KeepsCosts tree costs later) (priced : IsPriced tree costs node (later number)) where
+  -- what the laws of kept costs say of one node
+  record IsLinked (n : ℕ) : Type 0 where
+    parent : IsPresent (points_of after) (parent_of after n)
+    cost : later n ≡ later (parent_of after n) + edge_of after n
+    falls : later (parent_of after n) < later n
+
+  link_new : IsLinked number
+  link_new =
+      let parent : parent_of after number ≡ node.parent = parent_of-new tree number node after adds in
+      let here : point_of (points_of after) number ≡ node.point = point_of-stands (points_of after) number node.point (StandsAt-new tree number node after adds) in
+      let above : point_of (points_of after) (parent_of after number) ≡ point_of (points_of tree) node.parent =
+      ap (point_of (points_of after)) parent ∙ point_of-kept tree number node after adds node.parent priced.parent in
+      let edge : edge_of after number ≡ cost_of (point_of (points_of tree) node.parent) node.point =
+      ap (λ a. cost_of a (point_of (points_of after) number)) above ∙ ap (cost_of (point_of (points_of tree) node.parent)) here in
+      let cost : later (parent_of after number) ≡ costs node.parent = ap later parent ∙ keeps node.parent priced.parent in
+      let long = cost_of-apart (point_of (points_of tree) node.parent) node.point priced.apart in
+      record {
+        parent = ap (λ m. is_some (point_at (points_of after) m)) parent ∙ IsPresent-kept tree number node after adds node.parent priced.parent;
+        cost = omega (arith, priced.cost, cost, edge);
+        falls = omega (arith, priced.cost, cost, long);
+      }
+
+  link_kept : CostsFall costs tree → AreTight costs tree → (n : ℕ) → IsPresent (points_of tree) (suc n) → IsLinked (suc n)
+  link_kept fall tight n h =
+      let m : ℕ = parent_of tree (suc n) in
+      let parent : parent_of after (suc n) ≡ m = parent_of-kept tree number node after adds (suc n) h in
+      let present : IsPresent (points_of tree) m = fall.parent n h in
+      let above : point_of (points_of after) (parent_of after (suc n)) ≡ point_of (points_of tree) m =
+      ap (point_of (points_of after)) parent ∙ point_of-kept tree number node after adds m present in
+      let edge : edge_of after (suc n) ≡ edge_of tree (suc n) =
+      ap (λ a. cost_of a (point_of (points_of after) (suc n))) above
+      ∙ ap (cost_of (point_of (points_of tree) m)) (point_of-kept tree number node after adds (suc n) h) in
+      let cost : later (parent_of after (suc n)) ≡ costs m = ap later parent ∙ keeps m present in
+      record {
+        parent = ap (λ i. is_some (point_at (points_of after) i)) parent ∙ IsPresent-kept tree number node after adds m present;
+        cost = omega (arith, keeps (suc n) h, tight.edges n h, cost, edge);
+        falls = omega (arith, keeps (suc n) h, fall.falls n h, cost);
+      }
+
+  link : CostsFall costs tree → AreTight costs tree → (n : ℕ) → IsPresent (points_of after) (suc n) → IsLinked (suc n)
+  link fall tight n h =
+      elim (new_or_kept tree number node after adds (suc n) (point_of (points_of after) (suc n)) (StandsAt-present (points_of after) (suc n) h)) [
+        | inl new ↦ subst IsLinked (sym new.0) link_new
+        | inr kept ↦ link_kept fall tight n (IsPresent-stands (points_of tree) (suc n) (point_of (points_of after) (suc n)) kept)
+      ]
+
+  -- costs fall along parents in the longer tree
+  pub CostsFall-adds : CostsFall costs tree → AreTight costs tree → CostsFall later after
+  CostsFall-adds fall tight = record {
+    start = IsPresent-kept tree number node after adds 0 fall.start;
+    parent = λ n h. (link fall tight n h).parent;
+    falls = λ n h. (link fall tight n h).falls;
+  }
+
+  -- and are tight in it
+  pub AreTight-adds : CostsFall costs tree → AreTight costs tree → AreTight later after
+  AreTight-adds fall tight = record {
+    start = keeps 0 fall.start ∙ tight.start;
+    edges = λ n h. (link fall tight n h).cost;
+  }
+
+-- ---- sums
+
+-- sums fall along parents if kept costs do that are tight
+pub CostsFall-sums : (costs : ℕ → ℕ) (tree : List (Option Twig)) → CostsFall costs tree → AreTight costs tree → CostsFall (sum_of tree) tree
+CostsFall-sums costs tree fall tight = record {
+  start = fall.start;
+  parent = fall.parent;
+  falls = λ n h.
+      omega (arith, sums-tight costs tree fall tight (suc n) h, sums-tight costs tree fall tight (parent_of tree (suc n)) (fall.parent n h), fall.falls n h);
+}

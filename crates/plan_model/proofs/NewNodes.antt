@@ -1,0 +1,135 @@
+-- A tree with one more node, at a number that had none: the other nodes stay as they are.
+use Rattle.std.proofs.Common.{◌≡◌, ℕ, zero, suc, ◌<◌, ◌≤◌, List, [], ◌∷◌, ◌++◌, length, Option, Some, None, arith, refl, sym, ap, ◌∙◌, inl, inr, length-append}
+use Rattle.std.specs.Prelude.{◌≢◌, ◌⊎◌, true, is_some, cond, option_map, unwrap_or}
+use Rattle.std.proofs.lemmas.Bool.{cases_lt, cases_order}
+use Rattle.plan_model.specs.declared.geometry.Point.{Point}
+use Rattle.plan_model.specs.declared.trees.Twig.{Twig}
+use Rattle.plan_model.specs.PointsByNumber.{point_at, StandsAt, IsPresent, point_of, IsFree, AreDistinct, node_count}
+use Rattle.plan_model.specs.Trees.{node_at, points_of, parent_or_start, parent_of}
+use Rattle.plan_model.proofs.ChainLaws.{node_count-cons}
+use Rattle.plan_model.proofs.TreeChanges.{point_at-points_of, node_at-push, node_at-push_new, node_at-past}
+
+-- ---- points of present nodes
+
+-- a node that stands somewhere is present
+pub IsPresent-stands : (points : List (Option Point)) (n : ℕ) (p : Point) → StandsAt points n p → IsPresent points n
+IsPresent-stands points n p h = ap is_some h
+
+-- and its point is that
+pub point_of-stands : (points : List (Option Point)) (n : ℕ) (p : Point) → StandsAt points n p → point_of points n ≡ p
+point_of-stands points n p h = ap (λ o. unwrap_or o (record { x = 0; y = 0 })) h
+
+-- a present node stands at its point
+pub StandsAt-present : (points : List (Option Point)) (n : ℕ) → IsPresent points n → StandsAt points n (point_of points n)
+StandsAt-present points n h = by_point (point_at points n) refl h
+  where
+    by_point : (o : Option Point) → point_at points n ≡ o → is_some o ≡ true → StandsAt points n (point_of points n)
+    by_point None e p = cc
+    by_point (Some q) e p = e ∙ ap Some (sym (point_of-stands points n q e))
+
+-- a number stands at one point only
+pub StandsAt-unique : (points : List (Option Point)) (n : ℕ) (p q : Point) → StandsAt points n p → StandsAt points n q → p ≡ q
+StandsAt-unique points n p q one other = sym (point_of-stands points n p one) ∙ point_of-stands points n q other
+
+-- if a node is present, there is one at least
+pub node_count-some : (points : List (Option Point)) (n : ℕ) → IsPresent points n → 1 ≤ node_count points
+node_count-some [] n h = cc
+node_count-some (o ∷ points) zero h =
+    let here : ◌≡◌ {A = ℕ} (cond (is_some o) 1 0) 1 = ap (λ b. cond {A = ℕ} b 1 0) h in
+    omega (arith, here, node_count-cons o points)
+node_count-some (o ∷ points) (suc n) h = omega (arith, node_count-cons o points, node_count-some points n h)
+
+-- ---- by nodes
+
+-- the same node stands at the same point
+pub point_at-same : (one other : List (Option Twig)) (n : ℕ) → node_at one n ≡ node_at other n → point_at (points_of one) n ≡ point_at (points_of other) n
+point_at-same one other n e =
+    point_at-points_of one n ∙ ap (option_map (λ node. node.point)) e ∙ sym (point_at-points_of other n)
+
+-- a node stands at its point
+pub StandsAt-node : (tree : List (Option Twig)) (n : ℕ) (node : Twig) → node_at tree n ≡ Some node → StandsAt (points_of tree) n node.point
+StandsAt-node tree n node e = point_at-points_of tree n ∙ ap (option_map (λ node. node.point)) e
+
+-- an absent node has no point
+pub point_at-absent : (tree : List (Option Twig)) (n : ℕ) → node_at tree n ≡ None → point_at (points_of tree) n ≡ None
+point_at-absent tree n e = point_at-points_of tree n ∙ ap (option_map (λ node. node.point)) e
+
+pub not_present : (tree : List (Option Twig)) (n : ℕ) → node_at tree n ≡ None → IsPresent (points_of tree) n → ⊥
+not_present tree n e h = let absent = ap is_some (point_at-absent tree n e) in cc
+
+-- a present node has a number below the length
+pub present_below : (tree : List (Option Twig)) (n : ℕ) → IsPresent (points_of tree) n → n < length tree
+present_below tree n h =
+    elim (cases_lt n (length tree)) [
+      | inl l ↦ l
+      | inr past ↦ absurd (not_present tree n (node_at-past tree n past) h)
+    ]
+
+-- ---- one more node
+
+-- after is the tree with this node at a number that had none
+pub record Adds (tree : List (Option Twig)) (number : ℕ) (node : Twig) (after : List (Option Twig)) : Type 0 where
+  pub absent : node_at tree number ≡ None
+  pub here : node_at after number ≡ Some node
+  pub elsewhere : (n : ℕ) → n ≢ number → node_at after n ≡ node_at tree n
+
+-- a node put at the end
+pub Adds-push : (tree : List (Option Twig)) (node : Twig) → Adds tree (length tree) node (tree ++ Some node ∷ [])
+Adds-push tree node = record {
+  absent = node_at-past tree (length tree) (omega arith);
+  here = node_at-push_new tree (Some node);
+  elsewhere = λ n apart. elim (cases_order n (length tree)) [
+    | inl e ↦ absurd (apart e)
+    | inr (inl before) ↦ node_at-push tree (Some node) n before
+    | inr (inr past) ↦
+        node_at-past (tree ++ Some node ∷ []) n (omega (arith, length-append tree (Some node ∷ [])))
+        ∙ sym (node_at-past tree n (omega arith))
+  ];
+}
+
+module _ (tree : List (Option Twig)) (number : ℕ) (node : Twig) (after : List (Option Twig)) (adds : Adds tree number node after) where
+  -- a present node stays as it is
+  pub node_at-kept : (n : ℕ) → IsPresent (points_of tree) n → node_at after n ≡ node_at tree n
+  node_at-kept n h = adds.elsewhere n (λ e. not_present tree n (ap (node_at tree) e ∙ adds.absent) h)
+
+  pub point_at-kept : (n : ℕ) → IsPresent (points_of tree) n → point_at (points_of after) n ≡ point_at (points_of tree) n
+  point_at-kept n h = point_at-same after tree n (node_at-kept n h)
+
+  pub IsPresent-kept : (n : ℕ) → IsPresent (points_of tree) n → IsPresent (points_of after) n
+  IsPresent-kept n h = ap is_some (point_at-kept n h) ∙ h
+
+  pub point_of-kept : (n : ℕ) → IsPresent (points_of tree) n → point_of (points_of after) n ≡ point_of (points_of tree) n
+  point_of-kept n h = ap (λ o. unwrap_or o (record { x = 0; y = 0 })) (point_at-kept n h)
+
+  pub parent_of-kept : (n : ℕ) → IsPresent (points_of tree) n → parent_of after n ≡ parent_of tree n
+  parent_of-kept n h = ap parent_or_start (node_at-kept n h)
+
+  -- the new node
+  pub StandsAt-new : StandsAt (points_of after) number node.point
+  StandsAt-new = StandsAt-node after number node adds.here
+
+  pub parent_of-new : parent_of after number ≡ node.parent
+  parent_of-new = ap parent_or_start adds.here
+
+  -- a node of the longer tree is the new one, or was there
+  pub new_or_kept : (n : ℕ) (p : Point) → StandsAt (points_of after) n p → ((n ≡ number) × (p ≡ node.point)) ⊎ StandsAt (points_of tree) n p
+  new_or_kept n p h =
+      elim (cases_order n number) [
+        | inl e ↦ inl (e, StandsAt-unique (points_of after) number p node.point (sym (ap (point_at (points_of after)) e) ∙ h) StandsAt-new)
+        | inr (inl before) ↦ inr (sym (point_at-same after tree n (adds.elsewhere n (λ e. omega arith))) ∙ h)
+        | inr (inr past) ↦ inr (sym (point_at-same after tree n (adds.elsewhere n (λ e. omega arith))) ∙ h)
+      ]
+
+  -- no two nodes stand at the same point, if none stood at the new one's
+  pub AreDistinct-adds : AreDistinct (points_of tree) → IsFree (points_of tree) node.point → AreDistinct (points_of after)
+  AreDistinct-adds distinct free = λ i j p one other.
+      elim (new_or_kept i p one) [
+        | inl new ↦ elim (new_or_kept j p other) [
+          | inl also ↦ new.0 ∙ sym also.0
+          | inr kept ↦ absurd (free j (kept ∙ ap Some new.1))
+        ]
+        | inr kept ↦ elim (new_or_kept j p other) [
+          | inl new ↦ absurd (free i (kept ∙ ap Some new.1))
+          | inr also ↦ distinct i j p kept also
+        ]
+      ]

@@ -1,0 +1,32 @@
+use Rattle.std.proofs.Common.{◌≡◌, sym, ap, arith, length, subst}
+use Rattle.std.proofs.lemmas.List.{length-take, get_or_default}
+use Rattle.plan_model.specs.declared.geometry.Point.{Point}
+use Rattle.plan_model.specs.Trees.{CostsFall, sum_of}
+use Rattle.plan_model.specs.Textbook.{Nodes}
+use Rattle.plan_model.proofs.MarkBounds.{length-marks, All-task_marks_within}
+use Rattle.seq_planner.proofs.RunsSoFar.{IsRunSoFar-more}
+use Rattle.seq_planner.proofs.SoundTrees.{CostsFall-sound}
+use Rattle.seq_planner.proofs.textbook_planner.textbook.Goals as goal
+
+pub handle-requires-clause-few : goal.handle-requires-clause-few
+handle-requires-clause-few c =
+    let marks : length c.as_slice-marks.result.now ≡ length c.args.task.marks = ap length c.as_slice-marks.ensures in
+    omega (arith, c.loop-mark.invariant.nodes, length-take c.loop-mark.mark-index c.as_slice-marks.result.now, length-marks c.args.task)
+
+pub handle-requires-clause-bounded : goal.handle-requires-clause-bounded
+handle-requires-clause-bounded c =
+    let marks : length c.as_slice-marks.result.now ≡ length c.args.task.marks = ap length c.as_slice-marks.ensures in
+    let mark : Point = record { x = 0; y = 0 } in
+    let here = All-task_marks_within c.args.task c.requires.empty_room c.loop-mark.mark-index mark (omega arith) in
+    rw c.as_slice-marks.ensures (record { right = omega (arith, here.right); top = omega (arith, here.top) })
+
+pub loop-mark-preserved : goal.loop-mark-preserved
+loop-mark-preserved c =
+    IsRunSoFar-more c.args.task.scene c.as_slice-marks.result.now c.loop-mark.tree c.handle.new.self c.loop-mark.mark-index _ c.loop-mark.invariant
+    c.loop-mark-test.true (get_or_default c.as_slice-marks.result.now c.loop-mark.mark-index _ _ c.loop-mark-test.true)
+    c.in_ok-handle.ensures.handles c.in_ok-handle.ensures.sound
+
+pub returns-clause-parents : goal.returns-clause-parents
+returns-clause-parents c =
+    let P : Nodes → Type 0 = λ nodes. CostsFall (sum_of nodes) nodes in
+    subst P (sym c.into_tree.ensures.nodes) (CostsFall-sound c.args.task.scene.room c.loop-mark.tree.nodes.items c.loop-mark.tree.costs.items c.loop-mark.tree.present c.loop-mark.invariant.sound)
