@@ -14,7 +14,8 @@ use Rattle.plan_model.proofs.EmptyRoomRuns.{same-from_distance}
 use Rattle.plan_model.proofs.ChainLaws.{sums-tight}
 use Rattle.plan_model.specs.Textbook.{start_alone}
 use Rattle.plan_model.proofs.TreeChanges.{node_at-past}
-use Rattle.plan_model.proofs.NewNodes.{Adds, not_present, point_at-same, IsPresent-kept, point_of-kept, parent_of-kept, IsPresent-stands, point_of-stands, StandsAt-present, StandsAt-new, parent_of-new, new_or_kept}
+use Rattle.plan_model.proofs.NewNodes.{Adds, not_present, point_at-same, IsPresent-kept, point_of-kept, parent_of-kept}
+use Rattle.plan_model.proofs.NewNodes.{IsPresent-stands, point_of-stands, StandsAt-present, StandsAt-new, parent_of-new, new_or_kept}
 
 -- an edge between two points costs at least a lattice step
 pub cost_of-apart : (a b : Point) → a ≢ b → 256 ≤ cost_of a b
@@ -92,7 +93,13 @@ pub record IsPriced (tree : List (Option Twig)) (costs : ℕ → ℕ) (node : Tw
   pub apart : point_of (points_of tree) node.parent ≢ node.point
   pub cost : price ≡ costs node.parent + cost_of (point_of (points_of tree) node.parent) node.point
 
-module _ (costs later : ℕ → ℕ) (tree : List (Option Twig)) (number : ℕ) (node : Twig) (after : List (Option Twig)) (adds : Adds tree number node after) (keeps : KeepsCosts tree costs later) (priced : IsPriced tree costs node (later number)) where
+-- After is the tree with one more node, and later the costs with one more for that.
+pub record AddsPriced (costs later : ℕ → ℕ) (tree after : List (Option Twig)) (number : ℕ) (node : Twig) : Type 0 where
+  pub adds : Adds tree number node after
+  pub keeps : KeepsCosts tree costs later
+  pub priced : IsPriced tree costs node (later number)
+
+module _ (costs later : ℕ → ℕ) (tree after : List (Option Twig)) (number : ℕ) (node : Twig) (more : AddsPriced costs later tree after number node) where
   -- what the laws of kept costs say of one node
   record IsLinked (n : ℕ) : Type 0 where
     parent : IsPresent (points_of after) (parent_of after n)
@@ -101,40 +108,41 @@ module _ (costs later : ℕ → ℕ) (tree : List (Option Twig)) (number : ℕ) 
 
   link_new : IsLinked number
   link_new =
-      let parent : parent_of after number ≡ node.parent = parent_of-new tree number node after adds in
-      let here : point_of (points_of after) number ≡ node.point = point_of-stands (points_of after) number node.point (StandsAt-new tree number node after adds) in
+      let parent : parent_of after number ≡ node.parent = parent_of-new tree number node after more.adds in
+      let here : point_of (points_of after) number ≡ node.point =
+      point_of-stands (points_of after) number node.point (StandsAt-new tree number node after more.adds) in
       let above : point_of (points_of after) (parent_of after number) ≡ point_of (points_of tree) node.parent =
-      ap (point_of (points_of after)) parent ∙ point_of-kept tree number node after adds node.parent priced.parent in
+      ap (point_of (points_of after)) parent ∙ point_of-kept tree number node after more.adds node.parent more.priced.parent in
       let edge : edge_of after number ≡ cost_of (point_of (points_of tree) node.parent) node.point =
       ap (λ a. cost_of a (point_of (points_of after) number)) above ∙ ap (cost_of (point_of (points_of tree) node.parent)) here in
-      let cost : later (parent_of after number) ≡ costs node.parent = ap later parent ∙ keeps node.parent priced.parent in
-      let long = cost_of-apart (point_of (points_of tree) node.parent) node.point priced.apart in
+      let cost : later (parent_of after number) ≡ costs node.parent = ap later parent ∙ more.keeps node.parent more.priced.parent in
+      let long = cost_of-apart (point_of (points_of tree) node.parent) node.point more.priced.apart in
       record {
-        parent = ap (λ m. is_some (point_at (points_of after) m)) parent ∙ IsPresent-kept tree number node after adds node.parent priced.parent;
-        cost = omega (arith, priced.cost, cost, edge);
-        falls = omega (arith, priced.cost, cost, long);
+        parent = ap (λ m. is_some (point_at (points_of after) m)) parent ∙ IsPresent-kept tree number node after more.adds node.parent more.priced.parent;
+        cost = omega (arith, more.priced.cost, cost, edge);
+        falls = omega (arith, more.priced.cost, cost, long);
       }
 
   link_kept : CostsFall costs tree → AreTight costs tree → (n : ℕ) → IsPresent (points_of tree) (suc n) → IsLinked (suc n)
   link_kept fall tight n h =
       let m : ℕ = parent_of tree (suc n) in
-      let parent : parent_of after (suc n) ≡ m = parent_of-kept tree number node after adds (suc n) h in
+      let parent : parent_of after (suc n) ≡ m = parent_of-kept tree number node after more.adds (suc n) h in
       let present : IsPresent (points_of tree) m = fall.parent n h in
       let above : point_of (points_of after) (parent_of after (suc n)) ≡ point_of (points_of tree) m =
-      ap (point_of (points_of after)) parent ∙ point_of-kept tree number node after adds m present in
+      ap (point_of (points_of after)) parent ∙ point_of-kept tree number node after more.adds m present in
       let edge : edge_of after (suc n) ≡ edge_of tree (suc n) =
       ap (λ a. cost_of a (point_of (points_of after) (suc n))) above
-      ∙ ap (cost_of (point_of (points_of tree) m)) (point_of-kept tree number node after adds (suc n) h) in
-      let cost : later (parent_of after (suc n)) ≡ costs m = ap later parent ∙ keeps m present in
+      ∙ ap (cost_of (point_of (points_of tree) m)) (point_of-kept tree number node after more.adds (suc n) h) in
+      let cost : later (parent_of after (suc n)) ≡ costs m = ap later parent ∙ more.keeps m present in
       record {
-        parent = ap (λ i. is_some (point_at (points_of after) i)) parent ∙ IsPresent-kept tree number node after adds m present;
-        cost = omega (arith, keeps (suc n) h, tight.edges n h, cost, edge);
-        falls = omega (arith, keeps (suc n) h, fall.falls n h, cost);
+        parent = ap (λ i. is_some (point_at (points_of after) i)) parent ∙ IsPresent-kept tree number node after more.adds m present;
+        cost = omega (arith, more.keeps (suc n) h, tight.edges n h, cost, edge);
+        falls = omega (arith, more.keeps (suc n) h, fall.falls n h, cost);
       }
 
   link : CostsFall costs tree → AreTight costs tree → (n : ℕ) → IsPresent (points_of after) (suc n) → IsLinked (suc n)
   link fall tight n h =
-      elim (new_or_kept tree number node after adds (suc n) (point_of (points_of after) (suc n)) (StandsAt-present (points_of after) (suc n) h)) [
+      elim (new_or_kept tree number node after more.adds (suc n) (point_of (points_of after) (suc n)) (StandsAt-present (points_of after) (suc n) h)) [
         | inl new ↦ subst IsLinked (sym new.0) link_new
         | inr kept ↦ link_kept fall tight n (IsPresent-stands (points_of tree) (suc n) (point_of (points_of after) (suc n)) kept)
       ]
@@ -142,7 +150,7 @@ module _ (costs later : ℕ → ℕ) (tree : List (Option Twig)) (number : ℕ) 
   -- costs fall along parents in the longer tree
   pub CostsFall-adds : CostsFall costs tree → AreTight costs tree → CostsFall later after
   CostsFall-adds fall tight = record {
-    start = IsPresent-kept tree number node after adds 0 fall.start;
+    start = IsPresent-kept tree number node after more.adds 0 fall.start;
     parent = λ n h. (link fall tight n h).parent;
     falls = λ n h. (link fall tight n h).falls;
   }
@@ -150,7 +158,7 @@ module _ (costs later : ℕ → ℕ) (tree : List (Option Twig)) (number : ℕ) 
   -- and are tight in it
   pub AreTight-adds : CostsFall costs tree → AreTight costs tree → AreTight later after
   AreTight-adds fall tight = record {
-    start = keeps 0 fall.start ∙ tight.start;
+    start = more.keeps 0 fall.start ∙ tight.start;
     edges = λ n h. (link fall tight n h).cost;
   }
 

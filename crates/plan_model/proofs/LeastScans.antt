@@ -30,7 +30,8 @@ module _ (key : ℕ → ℕ) (among : ℕ → Type 0) where
   }
 
   -- one more member, whose key is less
-  pub IsFirstLeastBelow-takes : (limit m : ℕ) → IsFirstLeastBelow key among limit m → among limit → key limit < key m → IsFirstLeastBelow key among (limit + 1) limit
+  pub IsFirstLeastBelow-takes :
+      (limit m : ℕ) → IsFirstLeastBelow key among limit m → among limit → key limit < key m → IsFirstLeastBelow key among (limit + 1) limit
   IsFirstLeastBelow-takes limit m h own less = record {
     member = own;
     not_above = below_more (λ i. among i → IsNotAbove key limit i) limit

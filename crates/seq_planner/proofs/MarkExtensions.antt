@@ -33,7 +33,9 @@ pub record Steers (scene : Scene) (tree : SearchTree) (mark : Point) (k nearest 
   pub begins : from ≡ point_of (points_of tree.nodes.items) nearest
   pub ends : point ≡ steered from mark scene.step
 
-steers_to : (scene : Scene) (tree : SearchTree) (mark : Point) (k nearest : ℕ) (from point : Point) → Steers scene tree mark k nearest from point → SteersTo (setup_of scene) (points_of tree.nodes.items) mark nearest point
+steers_to :
+    (scene : Scene) (tree : SearchTree) (mark : Point) (k nearest : ℕ) (from point : Point) → Steers scene tree mark k nearest from point
+    → SteersTo (setup_of scene) (points_of tree.nodes.items) mark nearest point
 steers_to scene tree mark k nearest from point h =
     record { nearest = h.is_nearest; reached = h.ends ∙ ap (λ a. steered a mark scene.step) h.begins }
 
@@ -89,7 +91,9 @@ IsExtensionOf-blocked scene tree mark extension k nearest from point h free bloc
     unplaced scene tree mark extension (blocked_record k nearest) h.sound (subst P h.turn ends) own
 
 -- the kept cost that was read is the node's
-pub kept_cost : (room : Point) (tree : SearchTree) (n kept : ℕ) → IsSoundTree room tree → IsPresent (points_of tree.nodes.items) n → kept ≡ get_or tree.costs.items n kept → kept ≡ get_or tree.costs.items n 0
+pub kept_cost :
+    (room : Point) (tree : SearchTree) (n kept : ℕ) → IsSoundTree room tree → IsPresent (points_of tree.nodes.items) n
+    → kept ≡ get_or tree.costs.items n kept → kept ≡ get_or tree.costs.items n 0
 kept_cost room tree n kept sound own e =
     e ∙ get_or_default tree.costs.items n kept 0 (omega (arith, present_below tree.nodes.items n own, sound.cost_count))
 

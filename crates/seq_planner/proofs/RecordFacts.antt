@@ -25,10 +25,12 @@ of_fields k nearest outcome parent cost class holds =
       unplaced = holds;
     }
 
-pub same_record-is : (k nearest j : ℕ) (holds : IsTrue (is_zero_unless_placed (Same j) 0 0 0)) → of_fields k nearest (Same j) 0 0 0 holds ≡ same_record k nearest j
+pub same_record-is :
+    (k nearest j : ℕ) (holds : IsTrue (is_zero_unless_placed (Same j) 0 0 0)) → of_fields k nearest (Same j) 0 0 0 holds ≡ same_record k nearest j
 same_record-is k nearest j holds = ap (of_fields k nearest (Same j) 0 0 0) (one_proof _ holds refl)
 
-pub blocked_record-is : (k nearest : ℕ) (holds : IsTrue (is_zero_unless_placed Blocked 0 0 0)) → of_fields k nearest Blocked 0 0 0 holds ≡ blocked_record k nearest
+pub blocked_record-is :
+    (k nearest : ℕ) (holds : IsTrue (is_zero_unless_placed Blocked 0 0 0)) → of_fields k nearest Blocked 0 0 0 holds ≡ blocked_record k nearest
 blocked_record-is k nearest holds = ap (of_fields k nearest Blocked 0 0 0) (one_proof _ holds refl)
 
 pub placed_record-is :

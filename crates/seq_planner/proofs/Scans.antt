@@ -10,7 +10,8 @@ use Rattle.plan_model.specs.PointsByNumber.{StandsAt, IsPresent, IsFree}
 use Rattle.plan_model.specs.Nearness.{distance_to, IsNearest}
 use Rattle.plan_model.specs.Trees.{node_at, points_of}
 use Rattle.plan_model.specs.Textbook.{Nodes}
-use Rattle.plan_model.proofs.LeastScans.{IsFirstLeastBelow, IsFirstLeastBelow-first, IsFirstLeastBelow-skips, IsFirstLeastBelow-keeps, IsFirstLeastBelow-takes, IsFirstLeast-scanned}
+use Rattle.plan_model.proofs.LeastScans.{IsFirstLeastBelow, IsFirstLeastBelow-first, IsFirstLeastBelow-skips}
+use Rattle.plan_model.proofs.LeastScans.{IsFirstLeastBelow-keeps, IsFirstLeastBelow-takes, IsFirstLeast-scanned}
 use Rattle.plan_model.proofs.NewNodes.{IsPresent-stands, point_of-stands, StandsAt-node, StandsAt-unique, not_present, present_below}
 
 -- ---- the nearest
@@ -20,7 +21,9 @@ pub record IsNearestBelow (tree : Nodes) (q : Point) (limit m distance : ℕ) : 
   pub scanned : IsFirstLeastBelow (distance_to q (points_of tree)) (IsPresent (points_of tree)) limit m
   pub is : distance ≡ distance_to q (points_of tree) m
 
-pub IsNearestBelow-first : (tree : Nodes) (q : Point) (distance : ℕ) → IsPresent (points_of tree) 0 → distance ≡ distance_to q (points_of tree) 0 → IsNearestBelow tree q 0 0 distance
+pub IsNearestBelow-first :
+    (tree : Nodes) (q : Point) (distance : ℕ) → IsPresent (points_of tree) 0 → distance ≡ distance_to q (points_of tree) 0
+    → IsNearestBelow tree q 0 0 distance
 IsNearestBelow-first tree q distance h e =
     record { scanned = IsFirstLeastBelow-first (distance_to q (points_of tree)) (IsPresent (points_of tree)) h; is = e }
 
@@ -34,7 +37,8 @@ IsNearestBelow-absent tree q limit m distance h e = record {
 }
 
 -- the squared distance of a node
-distance_to-node : (tree : Nodes) (q : Point) (n : ℕ) (node : Twig) → node_at tree n ≡ Some node → distance_to q (points_of tree) n ≡ squared_distance node.point q
+distance_to-node :
+    (tree : Nodes) (q : Point) (n : ℕ) (node : Twig) → node_at tree n ≡ Some node → distance_to q (points_of tree) n ≡ squared_distance node.point q
 distance_to-node tree q n node e =
     ap (λ p. squared_distance p q) (point_of-stands (points_of tree) n node.point (StandsAt-node tree n node e))
 
@@ -85,13 +89,15 @@ both_parts a b c d true false x y h = cc
 both_parts a b c d false t x y h = cc
 
 -- a node that passes the test stands at the point
-pub StandsAt-found : (tree : Nodes) (n : ℕ) (node : Twig) (p : Point) → node_at tree n ≡ Some node → same_point node.point p ≡ true → StandsAt (points_of tree) n p
+pub StandsAt-found :
+    (tree : Nodes) (n : ℕ) (node : Twig) (p : Point) → node_at tree n ≡ Some node → same_point node.point p ≡ true → StandsAt (points_of tree) n p
 StandsAt-found tree n node p e h =
     let parts = both_parts node.point.x p.x node.point.y p.y (eqb node.point.x p.x) (eqb node.point.y p.y) refl refl h in
     StandsAt-node tree n node e ∙ ap Some (point_is node.point p parts.0 parts.1)
 
 -- a node that fails the test does not
-pub not_at-elsewhere : (tree : Nodes) (n : ℕ) (node : Twig) (p : Point) → node_at tree n ≡ Some node → same_point node.point p ≡ false → ¬ StandsAt (points_of tree) n p
+pub not_at-elsewhere :
+    (tree : Nodes) (n : ℕ) (node : Twig) (p : Point) → node_at tree n ≡ Some node → same_point node.point p ≡ false → ¬ StandsAt (points_of tree) n p
 not_at-elsewhere tree n node p e h own =
     let q : node.point ≡ p = StandsAt-unique (points_of tree) n node.point p (StandsAt-node tree n node e) own in
     let yes : same_point node.point p ≡ true = ap (λ a. same_point a p) q ∙ both_true (eq-eqb p.x p.x refl) (eq-eqb p.y p.y refl) in

@@ -1,5 +1,6 @@
 -- A tree with its kept costs stays sound if a node, or an absent one, is put at its end.
-use Rattle.std.proofs.Common.{◌≡◌, ℕ, zero, suc, ◌+◌, ◌-◌, ◌*◌, ◌^◌, ◌<◌, ◌≤◌, List, [], ◌∷◌, ◌++◌, length, get_or, Option, Some, None, arith, refl, sym, ap, ◌∙◌, subst, inl, inr, length-append}
+use Rattle.std.proofs.Common.{◌≡◌, ℕ, zero, suc, ◌+◌, ◌-◌, ◌*◌, ◌^◌, ◌<◌, ◌≤◌, List, [], ◌∷◌, ◌++◌}
+use Rattle.std.proofs.Common.{length, get_or, Option, Some, None, arith, refl, sym, ap, ◌∙◌, subst, inl, inr, length-append}
 use Rattle.std.proofs.Math.Seq.{get_or-append_seam}
 use Rattle.std.specs.Prelude.{is_some, option_map}
 use Rattle.std.proofs.lemmas.List.{get_or_append_left, get_or_past, length-map}
@@ -15,8 +16,10 @@ use Rattle.plan_model.specs.PointsByNumber.{StandsAt, IsPresent, IsFree, point_o
 use Rattle.plan_model.specs.Trees.{points_of, sum_of, CostsFall}
 use Rattle.plan_model.specs.Textbook.{Nodes, start_alone}
 use Rattle.plan_model.proofs.TreeChanges.{node_at-past, points_of-push, node_count-push, node_at-absent}
-use Rattle.plan_model.proofs.NewNodes.{Adds, Adds-push, AreDistinct-adds, IsPresent-stands, StandsAt-present, StandsAt-unique, node_count-some, new_or_kept, point_at-same, present_below, not_present}
-use Rattle.plan_model.proofs.KeptCosts.{CostsFall-start, AreTight-start, CostsFall-same, AreTight-same, CostsFall-adds, AreTight-adds, CostsFall-sums, KeepsCosts, IsPriced}
+use Rattle.plan_model.proofs.NewNodes.{Adds, Adds-push, AreDistinct-adds, IsPresent-stands, StandsAt-present, StandsAt-unique}
+use Rattle.plan_model.proofs.NewNodes.{node_count-some, new_or_kept, point_at-same, present_below, not_present}
+use Rattle.plan_model.proofs.KeptCosts.{CostsFall-start, AreTight-start, CostsFall-same, AreTight-same, CostsFall-adds}
+use Rattle.plan_model.proofs.KeptCosts.{AreTight-adds, CostsFall-sums, KeepsCosts, IsPriced, AddsPriced}
 use Rattle.seq_planner.specs.SearchTrees.{AreBounded, IsSound}
 
 -- ---- kept costs of a longer list
@@ -28,7 +31,9 @@ kept_last : (costs : List ℕ) (cost n : ℕ) → n ≡ length costs → get_or 
 kept_last costs cost n e = ap (λ i. get_or (costs ++ cost ∷ []) i 0) e ∙ get_or-append_seam costs cost [] 0
 
 -- the present nodes keep their costs
-keeps_costs : (tree : Nodes) (costs : List ℕ) (cost : ℕ) → length costs ≡ length tree → KeepsCosts tree (λ n. get_or costs n 0) (λ n. get_or (costs ++ cost ∷ []) n 0)
+keeps_costs :
+    (tree : Nodes) (costs : List ℕ) (cost : ℕ) → length costs ≡ length tree
+    → KeepsCosts tree (λ n. get_or costs n 0) (λ n. get_or (costs ++ cost ∷ []) n 0)
 keeps_costs tree costs cost e = λ n h. kept_before costs cost n (omega (arith, present_below tree n h))
 
 -- no cost passes what none passed before
@@ -44,7 +49,8 @@ within_put costs cost most n h low = elim (cases_order n (length costs)) [
 only_start : (start : Point) (n : ℕ) (p : Point) → StandsAt (points_of (start_alone start)) n p → (n ≡ 0) × (start ≡ p)
 only_start start zero p h = (refl, StandsAt-unique (points_of (start_alone start)) 0 start p refl h)
 only_start start (suc n) p h =
-    absurd (not_present (start_alone start) (suc n) (node_at-past (start_alone start) (suc n) (omega arith)) (IsPresent-stands (points_of (start_alone start)) (suc n) p h))
+    let absent = node_at-past (start_alone start) (suc n) (omega arith) in
+    absurd (not_present (start_alone start) (suc n) absent (IsPresent-stands (points_of (start_alone start)) (suc n) p h))
 
 pub IsSound-start : (room start : Point) → IsInRoom room start → IsSound room (start_alone start) (0 ∷ []) 1
 IsSound-start room start h = record {
@@ -63,7 +69,9 @@ at_absent : (tree : Nodes) (n : ℕ) (p : Point) → StandsAt (points_of (tree +
 at_absent tree n p h = sym (point_at-same (tree ++ None ∷ []) tree n (node_at-absent tree n)) ∙ h
 
 -- a mark that is not placed puts an absent node at the end, at no cost
-pub IsSound-absent : (room : Point) (tree : Nodes) (costs : List ℕ) (present : ℕ) → IsSound room tree costs present → IsSound room (tree ++ None ∷ []) (costs ++ 0 ∷ []) (present + 0)
+pub IsSound-absent :
+    (room : Point) (tree : Nodes) (costs : List ℕ) (present : ℕ) → IsSound room tree costs present
+    → IsSound room (tree ++ None ∷ []) (costs ++ 0 ∷ []) (present + 0)
 IsSound-absent room tree costs present h =
     let before : ℕ → ℕ = λ n. get_or costs n 0 in
     let after : ℕ → ℕ = λ n. get_or (costs ++ 0 ∷ []) n 0 in
@@ -89,14 +97,18 @@ pub record Joins (room : Point) (tree : Nodes) (node : Twig) (edge : ℕ) : Type
   pub cost : edge ≡ cost_of (point_of (points_of tree) node.parent) node.point
   pub low : edge < 2 ^ 29
 
-priced : (room : Point) (tree : Nodes) (costs : List ℕ) (node : Twig) (edge price : ℕ) → Joins room tree node edge → price ≡ get_or costs node.parent 0 + edge → IsPriced tree (λ n. get_or costs n 0) node price
+priced :
+    (room : Point) (tree : Nodes) (costs : List ℕ) (node : Twig) (edge price : ℕ) → Joins room tree node edge
+    → price ≡ get_or costs node.parent 0 + edge → IsPriced tree (λ n. get_or costs n 0) node price
 priced room tree costs node edge price h e = record {
   parent = h.parent;
   apart = λ same. h.free node.parent (StandsAt-present (points_of tree) node.parent h.parent ∙ ap Some same);
   cost = omega (arith, e, h.cost);
 }
 
-in_room_put : (room : Point) (tree : Nodes) (node : Twig) (edge : ℕ) → LiesIn room (points_of tree) → Joins room tree node edge → LiesIn room (points_of (tree ++ Some node ∷ []))
+in_room_put :
+    (room : Point) (tree : Nodes) (node : Twig) (edge : ℕ) → LiesIn room (points_of tree) → Joins room tree node edge
+    → LiesIn room (points_of (tree ++ Some node ∷ []))
 in_room_put room tree node edge h new = λ n p own.
     elim (new_or_kept tree (length tree) node (tree ++ Some node ∷ []) (Adds-push tree node) n p own) [
       | inl here ↦ subst (IsInRoom room) (sym here.1) new.in_room
@@ -113,12 +125,15 @@ IsSound-node room tree costs present node edge h new =
     let after : ℕ → ℕ = λ n. get_or (costs ++ price ∷ []) n 0 in
     let longer : Nodes = tree ++ Some node ∷ [] in
     let adds : Adds tree (length tree) node longer = Adds-push tree node in
-    let keeps = keeps_costs tree costs price h.cost_count in
-    let pays = priced room tree costs node edge (after (length tree)) new (kept_last costs price (length tree) (sym h.cost_count)) in
+    let more : AddsPriced before after tree longer (length tree) node = record {
+      adds = adds;
+      keeps = keeps_costs tree costs price h.cost_count;
+      priced = priced room tree costs node edge (after (length tree)) new (kept_last costs price (length tree) (sym h.cost_count));
+    } in
     let some = node_count-some (points_of tree) 0 h.falling.start in
     record {
-      falling = CostsFall-adds before after tree (length tree) node longer adds keeps pays h.falling h.tight;
-      tight = AreTight-adds before after tree (length tree) node longer adds keeps pays h.falling h.tight;
+      falling = CostsFall-adds before after tree longer (length tree) node more h.falling h.tight;
+      tight = AreTight-adds before after tree longer (length tree) node more h.falling h.tight;
       distinct = AreDistinct-adds tree (length tree) node longer adds h.distinct new.free;
       in_room = in_room_put room tree node edge h.in_room new;
       cost_count = omega (arith, length-append tree (Some node ∷ []), length-append costs (price ∷ []), h.cost_count);

@@ -29,4 +29,6 @@ loop-mark-preserved c =
 pub returns-clause-parents : goal.returns-clause-parents
 returns-clause-parents c =
     let P : Nodes → Type 0 = λ nodes. CostsFall (sum_of nodes) nodes in
-    subst P (sym c.into_tree.ensures.nodes) (CostsFall-sound c.args.task.scene.room c.loop-mark.tree.nodes.items c.loop-mark.tree.costs.items c.loop-mark.tree.present c.loop-mark.invariant.sound)
+    let tree = c.loop-mark.tree in
+    subst P (sym c.into_tree.ensures.nodes)
+    (CostsFall-sound c.args.task.scene.room tree.nodes.items tree.costs.items tree.present c.loop-mark.invariant.sound)
