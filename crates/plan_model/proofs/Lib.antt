@@ -5,6 +5,10 @@ pub mod TreeChanges
 pub mod NewNodes
 pub mod KeptCosts
 pub mod LeastScans
+pub mod LeastPairLaws
+pub mod BestNodeLaws
+pub mod DistinctPoints
+pub mod UniqueRuns
 pub mod RunLaws
 pub mod MarkBounds
 pub mod EmptyRoomRuns

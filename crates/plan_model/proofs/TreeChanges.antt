@@ -1,7 +1,33 @@
 -- What a number at the end changes in a tree: nothing of the earlier nodes, and nothing at all if it is absent.
-use Rattle.std.proofs.Common.{◌≡◌, ℕ, zero, suc, ◌+◌, ◌<◌, ◌≤◌, List, [], ◌∷◌, ◌++◌, length, map, get_or, Option, Some, None, arith, refl, sym, ap, ◌∙◌, inl, inr, length-append}
-use Rattle.std.specs.Prelude.{option_map, count_by, is_some, cond}
-use Rattle.std.proofs.lemmas.List.{get_or_append_left, get_or_past}
+use Rattle.std.proofs.Common.{
+  ◌≡◌,
+  ℕ,
+  zero,
+  suc,
+  ◌+◌,
+  ◌<◌,
+  ◌≤◌,
+  List,
+  [],
+  ◌∷◌,
+  ◌++◌,
+  length,
+  map,
+  Option,
+  None,
+  arith,
+  refl,
+  sym,
+  ap,
+  ◌∙◌,
+  inl,
+  inr,
+  subst,
+  length-append,
+  append_assoc,
+}
+use Rattle.std.specs.Prelude.{option_map, is_some, cond, replicate}
+use Rattle.std.proofs.lemmas.List.{append-nil, get_or_append_left, get_or_past}
 use Rattle.std.proofs.lemmas.List.Sums.{sum_by-append}
 use Rattle.std.proofs.lemmas.Bool.{cases_order}
 use Rattle.std.proofs.Math.Seq.{get_or-append_seam}
@@ -51,7 +77,9 @@ pub record HaveSameNodes (one other : List (Option Twig)) : Type 0 where
   pub same : (n : ℕ) → node_at one n ≡ node_at other n
   pub count : node_count (points_of one) ≡ node_count (points_of other)
 
-chain_within-same : (one other : List (Option Twig)) (most n : ℕ) → HaveSameNodes one other → chain_within most (parent_of one) n ≡ chain_within most (parent_of other) n
+chain_within-same :
+    (one other : List (Option Twig)) (most n : ℕ) → HaveSameNodes one other
+    → chain_within most (parent_of one) n ≡ chain_within most (parent_of other) n
 chain_within-same one other zero n h = refl
 chain_within-same one other (suc most) zero h = refl
 chain_within-same one other (suc most) (suc n) h =
@@ -79,3 +107,20 @@ HaveSameNodes-absent tree = record {
   same = node_at-absent tree;
   count = ap node_count (points_of-push tree None) ∙ node_count-push (points_of tree) None ∙ omega arith;
 }
+
+-- a tree has the same nodes as itself
+pub HaveSameNodes-refl : (tree : List (Option Twig)) → HaveSameNodes tree tree
+HaveSameNodes-refl tree = record { same = λ n. refl; count = refl }
+
+-- two trees have the same nodes if a third has those of both
+pub HaveSameNodes-trans : (one mid other : List (Option Twig)) → HaveSameNodes one mid → HaveSameNodes mid other → HaveSameNodes one other
+HaveSameNodes-trans one mid other f g = record { same = λ n. f.same n ∙ g.same n; count = f.count ∙ g.count }
+
+-- nor do several absent numbers
+pub HaveSameNodes-absent_all : (tree : List (Option Twig)) (most : ℕ) → HaveSameNodes (tree ++ replicate most None) tree
+HaveSameNodes-absent_all tree zero = rw (append-nil tree) (HaveSameNodes-refl tree)
+HaveSameNodes-absent_all tree (suc most) =
+    let P : List (Option Twig) → Type 0 = λ longer. HaveSameNodes longer tree in
+    let later = HaveSameNodes-absent_all (tree ++ None ∷ []) most in
+    subst P (append_assoc tree (None ∷ []) (replicate most None))
+    (HaveSameNodes-trans ((tree ++ None ∷ []) ++ replicate most None) (tree ++ None ∷ []) tree later (HaveSameNodes-absent tree))

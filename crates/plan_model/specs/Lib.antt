@@ -18,6 +18,7 @@ pub mod Trees
 pub mod Outcomes
 pub mod BestNode
 pub mod Textbook
+pub mod SameRuns
 pub mod ReportText
 pub mod SceneGrammar
 pub mod CanonicalText

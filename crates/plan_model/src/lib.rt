@@ -13,9 +13,11 @@ mod memory_sources;
 mod numbered_calls;
 mod output;
 mod records;
+mod run_laws;
 mod scenes;
 mod tasks;
 mod text_terms;
+mod tree_laws;
 mod trees;
 mod vectors;
 

@@ -1,0 +1,203 @@
+-- No two nodes of a textbook run stand at one point: a node is placed at a free point alone, and rewiring moves none.
+use Rattle.std.proofs.Common.{
+  ◌≡◌,
+  ℕ,
+  zero,
+  suc,
+  ◌+◌,
+  ◌<◌,
+  List,
+  [],
+  ◌∷◌,
+  ◌++◌,
+  length,
+  set,
+  Option,
+  Some,
+  None,
+  refl,
+  sym,
+  ap,
+  ◌∙◌,
+  subst,
+  arith,
+  ◌⊎◌,
+  inl,
+  inr,
+}
+use Rattle.std.specs.Prelude.{IsSome, is_some, unwrap_or, All, true, option_map}
+use Rattle.std.specs.List.{range_with_len}
+use Rattle.std.proofs.lemmas.Bool.{cases_order, cases_lt}
+use Rattle.std.proofs.lemmas.List.{get_or_append_left, get_or_past, length-append, map-set, set-get_or}
+use Rattle.std.proofs.lemmas.List.Elements.{All-head, All-tail, All-weaker, filter_passes}
+use Rattle.std.proofs.Math.Seq.{get_or-append_seam}
+use Rattle.plan_model.specs.declared.geometry.Point.{Point}
+use Rattle.plan_model.specs.declared.trees.Twig.{Twig}
+use Rattle.plan_model.specs.declared.records.Outcome.{Outcome}
+use Rattle.plan_model.specs.declared.records.Outcome.TheVariants.{Placed, Same, Blocked}
+use Rattle.plan_model.specs.declared.records.Record.{Record}
+use Rattle.plan_model.specs.ConfigurationSpace.{ConfigurationSpace}
+use Rattle.plan_model.specs.PointsByNumber.{point_at, StandsAt, IsPresent, point_of, IsFree}
+use Rattle.plan_model.specs.Nearness.{is_within, near}
+use Rattle.plan_model.specs.Trees.{points_of}
+use Rattle.plan_model.specs.Textbook.{Nodes, Setup, start_alone, near_new, with_parent, RewiresOne, Rewires, Ends, HandlesAll, IsTextbookRun}
+use Rattle.plan_model.proofs.TreeChanges.{points_of-push}
+
+-- no two nodes stand at one point
+pub record AreDistinct (points : List (Option Point)) : Type 0 where
+  pub one : (i j : ℕ) (p : Point) → StandsAt points i p → StandsAt points j p → i ≡ j
+
+-- ---- points with one number more
+
+-- a node of the longer list is one of the others, or the new one
+push_cases :
+    (points : List (Option Point)) (o : Option Point) (i : ℕ) (p : Point) → StandsAt (points ++ o ∷ []) i p
+    → StandsAt points i p ⊎ ((i ≡ length points) × (o ≡ Some p))
+push_cases points o i p h =
+    elim (cases_order i (length points)) [
+      | inl e ↦ inr (e, sym (ap (point_at (points ++ o ∷ [])) e ∙ get_or-append_seam points o [] None) ∙ h)
+      | inr (inl before) ↦ inl (sym (get_or_append_left points (o ∷ []) None i before) ∙ h)
+      | inr (inr after) ↦ (
+          let past = get_or_past (points ++ o ∷ []) i None (omega (arith, length-append points (o ∷ []))) in
+          cc)
+    ]
+
+-- an absent number at the end leaves points distinct
+pub AreDistinct-absent : (points : List (Option Point)) → AreDistinct points → AreDistinct (points ++ None ∷ [])
+AreDistinct-absent points h = record {
+  one = λ i j p a b.
+      elim (push_cases points None i p a) [
+        | inl f ↦ (elim (push_cases points None j p b) [ inl g ↦ h.one i j p f g | inr g ↦ (let e = g.1 in cc) ])
+        | inr f ↦ (let e = f.1 in cc)
+      ];
+}
+
+-- and so does a node at a free point
+pub AreDistinct-placed : (points : List (Option Point)) (q : Point) → IsFree points q → AreDistinct points → AreDistinct (points ++ Some q ∷ [])
+AreDistinct-placed points q free h = record {
+  one = λ i j p a b.
+      elim (push_cases points (Some q) i p a) [
+        | inl f ↦ (elim (push_cases points (Some q) j p b) [ inl g ↦ h.one i j p f g | inr g ↦ absurd (free i (f ∙ sym g.1)) ])
+        | inr f ↦ (elim (push_cases points (Some q) j p b) [ inl g ↦ absurd (free j (g ∙ sym f.1)) | inr g ↦ f.0 ∙ sym g.0 ])
+      ];
+}
+
+-- ---- rewiring moves no node
+
+-- a present node stands at its point
+pub present-is : (points : List (Option Point)) (i : ℕ) → IsPresent points i → Some (point_of points i) ≡ point_at points i
+present-is points i h = of_point (point_at points i) h
+  where
+    of_point : (o : Option Point) → IsSome o → Some (unwrap_or o (record { x = 0; y = 0 })) ≡ o
+    of_point None g = cc
+    of_point (Some p) g = refl
+
+-- a node with another parent stays where it is
+pub points_of-with_parent : (tree : Nodes) (i n : ℕ) → IsPresent (points_of tree) i → points_of (with_parent tree i n) ≡ points_of tree
+points_of-with_parent tree i n h =
+    map-set (option_map (λ (node : Twig). node.point)) tree i (Some (record { point = point_of (points_of tree) i; parent = n }))
+    ∙ ap (set (points_of tree) i) (present-is (points_of tree) i h)
+    ∙ set-get_or (points_of tree) i None
+
+-- and so do all nodes when one near node is looked at
+points_of-one :
+    (space : ConfigurationSpace) (tree : Nodes) (n i : ℕ) (after : Nodes) → IsPresent (points_of tree) i → RewiresOne space tree n i after
+    → points_of after ≡ points_of tree
+points_of-one space tree n i after h (inl r) = ap points_of r.1 ∙ points_of-with_parent tree i n h
+points_of-one space tree n i after h (inr r) = ap points_of r.1
+
+-- rewiring present nodes moves none
+pub points_of-rewires :
+    (space : ConfigurationSpace) (tree : Nodes) (n : ℕ) (ns : List ℕ) (after : Nodes) → All (IsPresent (points_of tree)) ns → Rewires space tree n ns after
+    → points_of after ≡ points_of tree
+points_of-rewires space tree n [] after h r = ap points_of r
+points_of-rewires space tree n (i ∷ ns) after h r =
+    let here : points_of r.0 ≡ points_of tree = points_of-one space tree n i r.0 (All-head (IsPresent (points_of tree)) i ns h) r.1 in
+    let P : List (Option Point) → Type 0 = λ points. All (IsPresent points) ns in
+    let rest : All (IsPresent (points_of r.0)) ns = subst P (sym here) (All-tail (IsPresent (points_of tree)) i ns h) in
+    points_of-rewires space r.0 n ns after rest r.2 ∙ here
+
+-- what is within the radius is present
+within_present : (p : Point) (r : ℕ) (o : Option Point) → is_within p r o ≡ true → IsSome o
+within_present p r None h = cc
+within_present p r (Some q) h = refl
+
+-- near nodes are present
+pub near-present : (points : List (Option Point)) (p : Point) (r : ℕ) → All (IsPresent points) (near points p r)
+near-present points p r =
+    All-weaker (λ i. is_within p r (point_at points i) ≡ true) (IsPresent points) (λ i h. within_present p r (point_at points i) h)
+    (near points p r) (filter_passes (λ i. is_within p r (point_at points i)) (range_with_len 0 (length points)))
+
+-- a number beyond the points is absent
+pub IsPresent-below : (points : List (Option Point)) (i : ℕ) → IsPresent points i → i < length points
+IsPresent-below points i h =
+    elim (cases_lt i (length points)) [ inl below ↦ below | inr past ↦ (let e = ap is_some (get_or_past points i None past) in cc) ]
+
+-- a present node is present beside one more
+pub IsPresent-push : (points : List (Option Point)) (o : Option Point) (i : ℕ) → IsPresent points i → IsPresent (points ++ o ∷ []) i
+IsPresent-push points o i h = ap is_some (get_or_append_left points (o ∷ []) None i (IsPresent-below points i h)) ∙ h
+
+-- the near nodes of a placed node are present beside it
+pub near-present_beside :
+    (setup : Setup) (tree : Nodes) (p : Point) (parent : ℕ)
+    → All (IsPresent (points_of (tree ++ Some (record { point = p; parent = parent }) ∷ []))) (near_new setup (points_of tree) p)
+near-present_beside setup tree p parent =
+    let longer : List (Option Point) = points_of (tree ++ Some (record { point = p; parent = parent }) ∷ []) in
+    let node : Option Twig = Some (record { point = p; parent = parent }) in
+    let keep : (i : ℕ) → IsPresent (points_of tree) i → IsPresent longer i =
+    λ i h. (let Q : List (Option Point) → Type 0 = λ points. IsPresent points i in
+    subst Q (sym (points_of-push tree node)) (IsPresent-push (points_of tree) (Some p) i h)) in
+    All-weaker (IsPresent (points_of tree)) (IsPresent longer) keep (near_new setup (points_of tree) p) (near-present (points_of tree) p _)
+
+-- ---- one mark
+
+-- distinct points, said of an equal list
+AreDistinct-same_points : (one other : List (Option Point)) → other ≡ one → AreDistinct one → AreDistinct other
+AreDistinct-same_points one other e h = subst AreDistinct (sym e) h
+
+-- a mark that is not placed leaves points distinct
+AreDistinct-unplaced : (tree after : Nodes) → after ≡ tree ++ None ∷ [] → AreDistinct (points_of tree) → AreDistinct (points_of after)
+AreDistinct-unplaced tree after e h =
+    AreDistinct-same_points (points_of tree ++ None ∷ []) (points_of after) (ap points_of e ∙ points_of-push tree None) (AreDistinct-absent (points_of tree) h)
+
+-- and so does each mark
+pub AreDistinct-ends :
+    (setup : Setup) (tree : Nodes) (k : ℕ) (mark : Point) (outcome : Outcome) (entry : Record) (after : Nodes)
+    → Ends setup tree k mark outcome entry after → AreDistinct (points_of tree) → AreDistinct (points_of after)
+AreDistinct-ends setup tree k mark Placed entry after e h =
+    let node : Option Twig = Some (record { point = e.point; parent = entry.first_parent }) in
+    let beside = near-present_beside setup tree e.point entry.first_parent in
+    let kept : points_of after ≡ points_of (tree ++ node ∷ []) =
+    points_of-rewires setup.space (tree ++ node ∷ []) (suc k) (near_new setup (points_of tree) e.point) after beside e.rewired in
+    AreDistinct-same_points (points_of tree ++ Some e.point ∷ []) (points_of after) (kept ∙ points_of-push tree node)
+    (AreDistinct-placed (points_of tree) e.point e.free h)
+AreDistinct-ends setup tree k mark (Same j) entry after e h = AreDistinct-unplaced tree after e.added h
+AreDistinct-ends setup tree k mark Blocked entry after e h = AreDistinct-unplaced tree after e.added h
+
+-- the start alone has no other at its point
+pub AreDistinct-start : (start : Point) → AreDistinct (points_of (start_alone start))
+AreDistinct-start start = record { one = λ i j p a b. alone i p a ∙ sym (alone j p b) }
+  where
+    alone : (i : ℕ) (p : Point) → StandsAt (points_of (start_alone start)) i p → i ≡ 0
+    alone zero p h = refl
+    alone (suc i) p h = cc
+
+-- ---- whole runs
+
+-- points that are distinct before some marks are so after them
+AreDistinct-handles_all :
+    (setup : Setup) (k : ℕ) (tree : Nodes) (marks : List Point) (entries : List Record) (after : Nodes)
+    → HandlesAll setup k tree marks entries after → AreDistinct (points_of tree) → AreDistinct (points_of after)
+AreDistinct-handles_all setup k tree [] [] after run h = AreDistinct-same_points (points_of tree) (points_of after) (ap points_of run) h
+AreDistinct-handles_all setup k tree [] (entry ∷ entries) after run h = absurd run
+AreDistinct-handles_all setup k tree (mark ∷ marks) [] after run h = absurd run
+AreDistinct-handles_all setup k tree (mark ∷ marks) (entry ∷ entries) after run h =
+    let mid = AreDistinct-ends setup tree k mark entry.outcome entry run.0 run.1 h in
+    AreDistinct-handles_all setup (k + 1) run.0 marks entries after run.2 mid
+
+-- no two nodes of a textbook run stand at one point
+pub AreDistinct-textbook :
+    (setup : Setup) (start : Point) (marks : List Point) (tree : Nodes) (records : List Record)
+    → IsTextbookRun setup start marks tree records → AreDistinct (points_of tree)
+AreDistinct-textbook setup start marks tree records run =
+    AreDistinct-handles_all setup 0 (start_alone start) marks records tree run (AreDistinct-start start)
