@@ -9,6 +9,9 @@ pub mod LeastPairLaws
 pub mod BestNodeLaws
 pub mod DistinctPoints
 pub mod UniqueRuns
+pub mod OpenRoomMarks
+pub mod RewiredRun
+pub mod KeptRun
 pub mod RunLaws
 pub mod MarkBounds
 pub mod EmptyRoomRuns

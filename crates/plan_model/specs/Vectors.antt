@@ -16,3 +16,4 @@ pub mod Ranges
 pub mod Trees
 pub mod Rooms
 pub mod Streams
+pub mod Runs

@@ -10,6 +10,7 @@ ghost use Rattle.plan_model.specs.Vectors.Radii.{RadiusVectors};
 ghost use Rattle.plan_model.specs.Vectors.Ranges.{RangeVectors};
 ghost use Rattle.plan_model.specs.Vectors.Reports.{ReportVectors};
 ghost use Rattle.plan_model.specs.Vectors.Rooms.{RoomVectors};
+ghost use Rattle.plan_model.specs.Vectors.Runs.{RunVectors};
 ghost use Rattle.plan_model.specs.Vectors.Steps.{SteeringVectors};
 ghost use Rattle.plan_model.specs.Vectors.Streams.{StreamVectors};
 ghost use Rattle.plan_model.specs.Vectors.Strips.{StripVectors};
@@ -105,4 +106,10 @@ pub fn rooms()
 /// Counts of faults, and calls on streams in memory.
 pub fn streams()
     ensures { StreamVectors }
+{}
+
+/// Runs of three marks and their reports: one in which a node is rewired, and one in which it is not, since the cost
+/// is equal.
+pub fn runs()
+    ensures { RunVectors }
 {}
