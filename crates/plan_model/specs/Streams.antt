@@ -1,5 +1,6 @@
 -- Sources and sinks: counts of faults, and what a stream in memory is.
-use Rattle.std.specs.Prelude.{ℕ, ◌+◌, ◌-◌, ◌^◌, ◌≤◌, ◌==◌, nat_lt, ◌&&◌, ◌||◌, Bool, min, List, ◌++◌, length, take, drop, Result, Ok, Err, if◌then◌else◌}
+use Rattle.std.specs.Prelude.{ℕ, ◌+◌, ◌-◌, ◌^◌, ◌≤◌, ◌==◌, nat_lt, ◌&&◌, ◌||◌, Bool, min}
+use Rattle.std.specs.Prelude.{List, ◌++◌, length, take, drop, Result, Ok, Err, if◌then◌else◌}
 use Rattle.std.specs.List.{list_any}
 use Rattle.plan_model.specs.declared.errors.Failed.{Failed}
 
@@ -16,7 +17,7 @@ pub record Stream : Type 0 where
 abbrev pub ended_after : Bool → ℕ → ℕ → Bool
 ended_after ended len count = ended || (count == 0 && nat_lt 0 len)
 
--- how many bytes a read or a write moves, where it does not fail
+-- how many bytes a read or a write moves, if it does not fail
 abbrev pub moved_count : ℕ → ℕ → ℕ → ℕ
 moved_count len most free = min len (min most free)
 
@@ -33,23 +34,25 @@ pub record Taken : Type 0 where
 abbrev pub counted : ℕ → ℕ
 counted n = min (n + 1) (2 ^ 64 - 1)
 
--- the next call that is handed a byte fails: its number is listed, or the room is full
+-- the next write of at least one byte fails: its number is listed, or the room is full
 abbrev pub is_refused : Taken → Bool
 is_refused sink =
     list_any (λ number. number == counted sink.calls) sink.fails || sink.room == length sink.bytes
 
--- how many bytes a call takes that does not fail
+-- how many bytes a write takes that does not fail
 abbrev pub taken_count : Taken → List ℕ → ℕ
 taken_count sink piece = moved_count (length piece) sink.most (sink.room - length sink.bytes)
 
--- What a call on these bytes answers, and what it leaves. A call on no byte is not numbered and changes nothing.
+-- What a write of these bytes returns, and what it leaves. A write of no byte is not numbered and changes nothing.
 abbrev pub write_result : Taken → List ℕ → Result ℕ Failed
 write_result sink piece =
     if length piece == 0 then Ok 0 else (if is_refused sink then Err (record {}) else Ok (taken_count sink piece))
 
 abbrev pub after_write : Taken → List ℕ → Taken
 after_write sink piece =
-    if length piece == 0 then sink else (if is_refused sink then record { bytes = sink.bytes; room = sink.room; most = sink.most; fails = sink.fails; calls = counted sink.calls; faults = counted sink.faults } else record { bytes = sink.bytes ++ take (taken_count sink piece) piece; room = sink.room; most = sink.most; fails = sink.fails; calls = counted sink.calls; faults = sink.faults })
+    if length piece == 0 then sink else
+    (if is_refused sink then record sink { calls = counted sink.calls; faults = counted sink.faults } else
+    record sink { bytes = sink.bytes ++ take (taken_count sink piece) piece; calls = counted sink.calls })
 
 -- Bytes that are given in pieces: those that are left, whether their end was given, at most so many bytes in one call,
 -- and the calls with these numbers fail.
@@ -61,24 +64,32 @@ pub record Given : Type 0 where
   pub calls : ℕ
   pub faults : ℕ
 
--- the next call that is handed a slice with a place fails: its number is listed
+-- the next read into a slice that is not empty fails: its number is listed
 abbrev pub is_failing : Given → Bool
 is_failing source = list_any (λ number. number == counted source.calls) source.fails
 
--- how many bytes a call gives that does not fail, into a slice of so many places
+-- how many bytes a read gives that does not fail, into a slice of so many places
 abbrev pub given_count : Given → ℕ → ℕ
 given_count source len = moved_count len source.most (length source.left)
 
--- What a call on a slice of so many places answers, what it leaves, and what the slice then holds. A call on a slice
--- without a place is not numbered and changes nothing.
+-- What a read into a slice of so many places returns, what it leaves, and what the slice then holds. A read into an empty
+-- slice is not numbered and changes nothing.
 abbrev pub read_result : Given → ℕ → Result ℕ Failed
 read_result source len =
     if len == 0 then Ok 0 else (if is_failing source then Err (record {}) else Ok (given_count source len))
 
 abbrev pub after_read : Given → ℕ → Given
 after_read source len =
-    if len == 0 then source else (if is_failing source then record { left = source.left; ended = source.ended; most = source.most; fails = source.fails; calls = counted source.calls; faults = counted source.faults } else record { left = drop (given_count source len) source.left; ended = ended_after source.ended len (given_count source len); most = source.most; fails = source.fails; calls = counted source.calls; faults = source.faults })
+    if len == 0 then source else
+    (if is_failing source then record source { calls = counted source.calls; faults = counted source.faults } else
+    record source {
+      left = drop (given_count source len) source.left;
+      ended = ended_after source.ended len (given_count source len);
+      calls = counted source.calls;
+    })
 
 abbrev pub read_into : Given → List ℕ → List ℕ
 read_into source into =
-    if length into == 0 then into else (if is_failing source then into else take (given_count source (length into)) source.left ++ drop (given_count source (length into)) into)
+    if length into == 0 then into else
+    (if is_failing source then into else
+    take (given_count source (length into)) source.left ++ drop (given_count source (length into)) into)

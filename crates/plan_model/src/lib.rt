@@ -5,16 +5,15 @@
 
 mod errors;
 mod geometry;
-mod input;
 mod laws;
 mod limits;
 mod lists;
-mod memory_sources;
-mod numbered_calls;
-mod output;
+mod memory_streams;
 mod records;
 mod run_laws;
 mod scenes;
+mod sinks;
+mod sources;
 mod tasks;
 mod text_terms;
 mod tree_laws;
@@ -23,7 +22,6 @@ mod vectors;
 
 pub use errors::{Failed, Memory};
 pub use geometry::{Goal, Point, Vertex};
-pub use input::Source;
 pub use limits::{
     LEAST_BODY_COORDINATE, LEAST_CORNERS, LEAST_OBSTACLE_COORDINATE, LEAST_SIDE, LEAST_STEP,
     MOST_BODY_COORDINATE, MOST_BODY_CORNERS, MOST_COORDINATE, MOST_GAMMA, MOST_MARKS, MOST_NODES,
@@ -31,10 +29,11 @@ pub use limits::{
     MOST_STEP, MOST_STRIPS, MOST_TEXT_BYTES, MOST_WORKERS,
 };
 pub use lists::Sequence;
-pub use memory_sources::{MemSource, SureSource};
-pub use output::{MemSink, Sink};
+pub use memory_streams::{MemSink, MemSource, SureSource};
 pub use records::{Outcome, Record, Records};
 pub use scenes::{Marks, Points, Poly, Polys, Scene};
+pub use sinks::Sink;
+pub use sources::Source;
 pub use tasks::Task;
 pub use text_terms::{Key, Kind};
 pub use trees::{Knot, Knots, Tree, Twig, Twigs};

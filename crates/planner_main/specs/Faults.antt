@@ -1,8 +1,8 @@
 -- Which refusal a fault of the reader becomes.
 use Rattle.planner_main.specs.declared.refusals.Refusal.{Refusal}
 use Rattle.planner_main.specs.declared.refusals.Refusal.TheVariants as refusals
-use Rattle.scene_text.specs.declared.byte_input.FetchFault.{FetchFault}
-use Rattle.scene_text.specs.declared.byte_input.FetchFault.TheVariants as fetching
+use Rattle.scene_text.specs.declared.fetching.FetchFault.{FetchFault}
+use Rattle.scene_text.specs.declared.fetching.FetchFault.TheVariants as fetching
 use Rattle.scene_text.specs.declared.refusals.SceneRefusal.{SceneRefusal}
 use Rattle.scene_text.specs.declared.refusals.SceneRefusal.TheVariants as reading
 

@@ -1,11 +1,14 @@
-//! Standard input and output as a source and a sink. They are the edge of what is proved: neither tells its bytes.
+//! Readers and writers of the library as a source and a sink. What is known of the bytes of a reader or a writer, is
+//! known of the source or sink over it. Nothing is known of those of standard input and output, which are the edge of
+//! what is proved.
 
-ghost use Rattle.std.specs.Prelude.{◌≡◌, false, None};
+ghost use Rattle.std.specs.Prelude.{◌≡◌, true, false};
 
 use plan_model::{Failed, Sink, Source};
 use std::io::{Read, Write};
 
-/// A source over a reader, such as standard input. It does not tell its bytes.
+/// A source over a reader, such as standard input. It reads as the reader does, and counts each error of the reader as a
+/// fault, also an interrupted read.
 #[derive(Drop)]
 pub struct StdSource<R> {
     reader: R,
@@ -28,11 +31,13 @@ impl<R: Read> StdSource<R> {
 }
 
 impl<R: Read> Source for StdSource<R> {
-    ghost bytes_left = { λ _. None };
+    ghost bytes_left = { λ s. R.remaining s.reader };
 
     ghost has_ended = { λ s. s.ended };
 
     ghost fault_count = { λ s. s.faults };
+
+    ghost counts_failures_alone = { true };
 
     fn faults(&self) -> u64 {
         self.faults
@@ -55,8 +60,8 @@ impl<R: Read> Source for StdSource<R> {
     }
 }
 
-/// A sink over a writer, such as standard output. It does not tell its bytes, and counts a write that takes none as a
-/// fault.
+/// A sink over a writer, such as standard output. It writes as the writer does, and counts each error of the writer as a
+/// fault, also a write that takes none of the bytes it is handed.
 #[derive(Drop)]
 pub struct StdSink<W> {
     writer: W,
@@ -73,9 +78,11 @@ impl<W: Write> StdSink<W> {
 }
 
 impl<W: Write> Sink for StdSink<W> {
-    ghost bytes_taken = { λ _. None };
+    ghost bytes_taken = { λ s. W.contents s.writer };
 
     ghost fault_count = { λ s. s.faults };
+
+    ghost counts_failures_alone = { true };
 
     fn faults(&self) -> u64 {
         self.faults

@@ -9,7 +9,7 @@ ghost use Rattle.plan_model.specs.EmptyRooms.{IsPointInEmptyRoom, IsListed, IsIn
 ghost use Rattle.scene_text.specs.Fetching.{ReadsWithin};
 ghost use Rattle.planner_main.specs.Conclusions.{IsAnswer, IsDecided, ReportsRun, ReportsScene, ShowsScene, Succeeds, RefusesForm, status_of_refusal, line_of_refusal};
 ghost use Rattle.planner_main.specs.Forms.{form_of};
-ghost use Rattle.planner_main.specs.Delivery.{AppendsFront};
+ghost use Rattle.planner_main.specs.Delivery.{AppendsPrefix};
 
 use crate::delivery::deliver;
 use crate::forms::{Form, form_of};
@@ -48,7 +48,7 @@ pub fn run<S: Source, K: Sink>(
     ensures cut { result.status ≡ 6 → FaultsRose (K.fault_count sink.old) (K.fault_count sink.new) × ((status : ℕ) × (text : List ℕ)
         × IsAnswer (form_of (map string_bytes words.now)) (S.bytes_left source.old) (S.has_ended source.new)
         (FaultsRose (S.fault_count source.old) (S.fault_count source.new)) status text
-        × AppendsFront (K.bytes_taken sink.old) (K.bytes_taken sink.new) text) }
+        × AppendsPrefix (K.bytes_taken sink.old) (K.bytes_taken sink.new) text) }
     // where no count of faults rose, the bytes decide the status, unless there is no memory
     ensures decided { (bytes : List ℕ) → IsSome (form_of (map string_bytes words.now)) → S.bytes_left source.old ≡ Some bytes
         → (¬ FaultsRose (S.fault_count source.old) (S.fault_count source.new)) → (¬ FaultsRose (K.fault_count sink.old) (K.fault_count sink.new))
@@ -74,7 +74,7 @@ fn conclude<K: Sink>(sink: &mut K, text: &[u8], status: u8) -> Done
     requires { status ≢ 6 }
     ensures done { result.status ≢ 6 → (result.status ≡ status) × Appends (K.bytes_taken sink.old) (K.bytes_taken sink.new) text.now }
     ensures cut { result.status ≡ 6 → FaultsRose (K.fault_count sink.old) (K.fault_count sink.new)
-        × AppendsFront (K.bytes_taken sink.old) (K.bytes_taken sink.new) text.now }
+        × AppendsPrefix (K.bytes_taken sink.old) (K.bytes_taken sink.new) text.now }
 {
     match deliver(sink, text) {
         Ok(()) => Done { status },

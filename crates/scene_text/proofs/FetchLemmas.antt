@@ -1,18 +1,57 @@
--- What is left of a source that was read past the limit.
-use Rattle.std.proofs.Common.{◌≡◌, ℕ, ◌≤◌, List, ◌++◌, length, drop, Option, None, Some, sym, ◌∙◌, ap, arith, length-append}
-use Rattle.std.proofs.lemmas.List.{drop_at}
+-- What came from a source.
+use Rattle.std.proofs.Common.{◌≡◌, ℕ, ◌+◌, ◌-◌, ◌<◌, ◌≤◌, List, ◌++◌, length, take, Option, None, Some, Result, Ok, Err, Vec, IsErrAnd}
+use Rattle.std.proofs.Common.{sym, ◌∙◌, ap, refl, arith, length-append, length-take}
+use Rattle.std.proofs.KnownBytes.{Consumes-trans}
 use Rattle.std.specs.Io.KnownBytes.{Consumes}
-use Rattle.scene_text.specs.Fetching.{IsPastLimit}
+use Rattle.plan_model.specs.declared.limits.TheConstants.{MOST_TEXT_BYTES}
+use Rattle.scene_text.specs.declared.fetching.FetchFault.{FetchFault}
+use Rattle.scene_text.specs.declared.fetching.FetchFault.TheVariants as faults
+use Rattle.scene_text.specs.Fetching.{CameTooLong, Fetches, ReadsWithin}
 
--- bytes behind a front of known length
-past_front : (told front back : List ℕ) (n : ℕ) → told ≡ front ++ back → length front ≡ n → (n ≤ length told) × (drop n told ≡ back)
-past_front told front back n e size =
-    (omega (arith, ap length e ∙ length-append front back), ap (drop n) e ∙ drop_at front back n size)
+pub ReadsWithin-fetched : {Z : Type 0} (before now : Option (List ℕ)) (result : Result (Vec ℕ Z) FetchFault)
+    → Fetches before now result → ReadsWithin before now
+ReadsWithin-fetched before now result h = (h.came, h.within, h.consumed)
 
-pub IsPastLimit-from_consumed : (before now : Option (List ℕ)) (text : List ℕ) → Consumes before now text → length text ≡ 16777217 → IsPastLimit before now
-IsPastLimit-from_consumed None now text h size = λ told e. absurd (cc)
-IsPastLimit-from_consumed (Some xs) None text h size = absurd h
-IsPastLimit-from_consumed (Some xs) (Some ys) text h size = λ told e.
-    let same : told ≡ xs = cc in
-    let past = past_front told text ys 16777217 (same ∙ h) size in
-    (omega (arith, past.0), ap Some (sym past.1))
+-- a source that gave too many bytes had too many
+pub CameTooLong-known : (before now : Option (List ℕ)) (known : List ℕ) → before ≡ Some known
+    → CameTooLong before now → MOST_TEXT_BYTES < length known
+CameTooLong-known None now known e h = absurd cc
+CameTooLong-known (Some xs) None known e h = absurd h.2
+CameTooLong-known (Some xs) (Some ys) known e h =
+    let same : xs ≡ known = cc in
+    omega (arith, h.1, ap length (sym same ∙ h.2), length-append h.0 ys)
+
+-- one read more after a text: count bytes, of which a text has places for room
+module _ (before mid now : Option (List ℕ)) (text into : List ℕ) (count : ℕ)
+    (consumed : Consumes before mid text) (read : Consumes mid now (take count into)) (bound : count ≤ length into)
+    (fits : length text ≤ MOST_TEXT_BYTES) (places : length into ≤ MOST_TEXT_BYTES - length text + 1) where
+  came : List ℕ
+  came = text ++ take count into
+
+  length-came : length came ≡ length text + count
+  unfolding came
+  length-came = omega (arith, length-append text (take count into), length-take count into)
+
+  consumed-came : Consumes before now came
+  unfolding came
+  consumed-came = Consumes-trans before mid now text (take count into) consumed read
+
+  pub Fetches-too_long : {Z : Type 0} → MOST_TEXT_BYTES - length text < count → Fetches {Z = Z} before now (Err faults.TooLong)
+  Fetches-too_long long = record {
+    came = came;
+    consumed = consumed-came;
+    within = omega (arith, length-came);
+    text = tt;
+    too_long = (λ _. omega (arith, length-came), λ _. refl);
+  }
+
+  pub Fetches-memory : {Z : Type 0} (result : Result (Vec ℕ Z) FetchFault) → IsErrAnd result (λ fault. fault ≡ faults.Memory)
+      → count ≤ MOST_TEXT_BYTES - length text → Fetches before now result
+  Fetches-memory (Ok text) h short = absurd h
+  Fetches-memory (Err fault) memory short = record {
+    came = came;
+    consumed = consumed-came;
+    within = omega (arith, length-came);
+    text = tt;
+    too_long = (λ e. absurd cc, λ long. absurd (omega (arith, length-came)));
+  }

@@ -1,20 +1,27 @@
--- What a source that is read to its end gives, and what is left of it: `left` is what it tells of its bytes.
+-- What a source that is read to its end gives, and what is left of it: before and now are the bytes that it has left
+-- before the call and after it, if they are known.
+use Rattle.std.specs.Prelude.{◌≡◌, ℕ, ◌+◌, ◌<◌, ◌≤◌, ◌↔◌, Option, Some, List, length, Result, Vec, IfOk, IsErrOf}
 use Rattle.std.specs.Io.KnownBytes.{Consumes}
-use Rattle.std.specs.Prelude.{◌≡◌, ℕ, ◌<◌, ◌≤◌, Option, Some, List, [], length, drop}
+use Rattle.plan_model.specs.declared.limits.TheConstants.{MOST_TEXT_BYTES}
+use Rattle.scene_text.specs.declared.fetching.FetchFault.{FetchFault}
+use Rattle.scene_text.specs.declared.fetching.FetchFault.TheVariants as faults
 
--- the bytes are all that the source had, where it told them
+-- the bytes are all that the source had, if those are known
 abbrev pub IsAllOf : Option (List ℕ) → List ℕ → Type 0
-IsAllOf left bytes = (told : List ℕ) → left ≡ Some told → bytes ≡ told
+IsAllOf before bytes = (known : List ℕ) → before ≡ Some known → bytes ≡ known
 
--- the source tells of no further byte
-abbrev pub IsSpent : Option (List ℕ) → Type 0
-IsSpent left = (told : List ℕ) → left ≡ Some told → told ≡ []
-
--- The source had more bytes than a text may have, where it told them, and one more than that was read.
-abbrev pub IsPastLimit : Option (List ℕ) → Option (List ℕ) → Type 0
-IsPastLimit before now =
-    (told : List ℕ) → before ≡ Some told → (16777216 < length told) × (now ≡ Some (drop 16777217 told))
-
--- what was read is a front of the bytes, of at most one byte more than a text may have
+-- the bytes that came are at most one more than a text may have
 abbrev pub ReadsWithin : Option (List ℕ) → Option (List ℕ) → Type 0
-ReadsWithin before now = (front : List ℕ) × (length front ≤ 16777217) × Consumes before now front
+ReadsWithin before now = (came : List ℕ) × (length came ≤ MOST_TEXT_BYTES + 1) × Consumes before now came
+
+-- more bytes came than a text may have
+abbrev pub CameTooLong : Option (List ℕ) → Option (List ℕ) → Type 0
+CameTooLong before now = (came : List ℕ) × (MOST_TEXT_BYTES < length came) × Consumes before now came
+
+-- The bytes that came are the text, or they are too long for one, which is the result exactly then.
+pub record Fetches {Z : Type 0} (before now : Option (List ℕ)) (result : Result (Vec ℕ Z) FetchFault) : Type 0 where
+  pub came : List ℕ
+  pub consumed : Consumes before now came
+  pub within : length came ≤ MOST_TEXT_BYTES + 1
+  pub text : IfOk result (λ text. text.items ≡ came)
+  pub too_long : IsErrOf result faults.TooLong ↔ (MOST_TEXT_BYTES < length came)

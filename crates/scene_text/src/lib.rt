@@ -4,7 +4,7 @@
 //! And writes a scene as its canonical text, which by the grammar spells that scene.
 #![tactic(auto)]
 
-mod byte_input;
+mod fetching;
 mod field_words;
 mod key_words;
 mod line_words;
@@ -14,7 +14,7 @@ mod scene_reader;
 mod scene_writer;
 mod statements;
 
-pub use byte_input::{FetchFault, MOST_BYTES, fetch};
+pub use fetching::{FetchFault, fetch};
 pub use plan_model::Kind;
 pub use refusals::{SceneFault, SceneRefusal};
 pub use scene_reader::read_scene;

@@ -24,7 +24,7 @@ pub record StreamVectors : Type 0 where
   pub no_place : ended_after false 0 0 ≡ false
   pub not_yet : ended_after false 5 1 ≡ false
   pub still : ended_after true 0 0 ≡ true
-  -- a call on no byte is not numbered, also where the room is full or the next call fails
+  -- a write of no byte is not numbered, also if the room is full or the next call fails
   pub no_byte : write_result (sink_with 1 2) [] ≡ Ok 0
   pub no_byte_after : after_write (sink_with 1 2) [] ≡ sink_with 1 2
   pub full : write_result (sink_with 1 0) (66 ∷ []) ≡ Err (record {})
@@ -35,5 +35,5 @@ pub record StreamVectors : Type 0 where
   pub read_end : read_result (source_of [] 0) 5 ≡ Ok 0
   pub read_listed : read_result (source_of [] 2) 5 ≡ Err (record {})
   pub read_no_place : after_read (source_of [] 2) 0 ≡ source_of [] 2
-  -- the places behind the bytes that are read keep what they hold
-  pub front : read_into (source_of (65 ∷ []) 0) (1 ∷ 2 ∷ 3 ∷ []) ≡ 65 ∷ 2 ∷ 3 ∷ []
+  -- the places after the bytes that are read keep what they hold
+  pub prefix : read_into (source_of (65 ∷ []) 0) (1 ∷ 2 ∷ 3 ∷ []) ≡ 65 ∷ 2 ∷ 3 ∷ []

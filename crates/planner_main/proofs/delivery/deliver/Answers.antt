@@ -10,10 +10,12 @@ loop-written-preserved g c =
     let m = c.loop-written.written in
     let n = c.in_ok-written.field-0 in
     let rest = take_rest text m in
-    let fronts : take (m + n) text ≡ take m text ++ take n (take (length text - m) (drop m text)) =
+    let prefixes : take (m + n) text ≡ take m text ++ take n (take (length text - m) (drop m text)) =
     (take-add m n text ∙ ap (λ ys. take m text ++ take n ys) (sym rest)) in
     record {
       within = (let bound : n ≤ length (drop m text) = (rw rest at c.in_ok-written.ensures.bound) in omega (arith, length-drop m text));
-      front = rw fronts (Appends-trans (g.K.Sink.bytes_taken c.args.sink.now) (g.K.Sink.bytes_taken c.loop-written.sink) (g.K.Sink.bytes_taken c.write.new.self) _ _ c.loop-written.invariant.front c.in_ok-written.ensures.bytes);
+      prefix = rw prefixes (Appends-trans (g.K.Sink.bytes_taken c.args.sink.now) (g.K.Sink.bytes_taken c.loop-written.sink)
+          (g.K.Sink.bytes_taken c.write.new.self) _ _ c.loop-written.invariant.prefix c.in_ok-written.ensures.bytes);
       later = omega arith;
+      no_fault = λ alone. c.in_ok-written.ensures.no_fault alone ∙ c.loop-written.invariant.no_fault alone;
     }

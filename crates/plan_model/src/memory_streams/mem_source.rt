@@ -1,114 +1,18 @@
-//! Sources over bytes in memory.
+//! A source in memory that gives its bytes in pieces and fails chosen calls.
 
-ghost use Rattle.std.specs.Prelude.{◌≡◌, ◌++◌, ◌≤◌, false, length, min, Some, take, drop, IfOk, OnErr, Ok, ◌^◌, ◌<◌};
+ghost use Rattle.std.specs.Prelude.{◌≡◌, ◌≤◌, ◌<◌, ◌^◌, true, false, length, Some, IfOk, OnOk, OnErr, Ok};
 ghost use Rattle.std.specs.Io.KnownBytes.{Keeps, ReadConsumes};
-ghost use Rattle.plan_model.specs.Streams.{FaultsRose, ended_after, Stream, Given, read_result, after_read, read_into};
+ghost use Rattle.plan_model.specs.Streams.{FaultsRose, Given, after_read, counted, ended_after, read_into, read_result};
 
+use super::numbered_calls::is_failing_call;
+use super::unread::Unread;
 use crate::errors::{Failed, Memory};
-use crate::input::Source;
-use crate::numbered_calls::is_listed;
+use crate::sources::Source;
 use std::alloc::Global;
 use std::marker::Model;
 
-// Bytes of which a front was read; seen as those that are left.
-#[derive(Debug, Drop)]
-struct Unread {
-    bytes: Vec<u8>,
-    read: usize,
-}
-
-impl Model for Unread {
-    ghost use Rattle.std.specs.Prelude.{ℕ, ◌≤◌, List, length, drop};
-
-    ghost Value = { List ℕ };
-
-    ghost view = { λ s. drop s.read s.bytes.items };
-
-    ghost invariant = { λ s. s.read ≤ length s.bytes.items };
-}
-
-impl Unread {
-    fn new(alloc: Global, bytes: &[u8]) -> Result<Unread, Memory>
-        ensures { IfOk result (λ unread. unread ≡ bytes.now) }
-    {
-        Ok(Unread {
-            bytes: Vec::from_slice(alloc, bytes)?,
-            read: 0,
-        })
-    }
-
-    // Moves the next bytes into the front of the slice, as many as it has places and there are left.
-    fn move_into(&mut self, into: &mut [u8]) -> usize
-        ensures count { result ≡ min (length into.old) (length self.old) }
-        ensures left { self.new ≡ drop result self.old }
-        ensures front { into.new ≡ take result self.old ++ drop result into.old }
-    {
-        let left = &self.bytes[self.read..];
-        let count = left.len().min(into.len());
-        into[..count].copy_from_slice(&left[..count]);
-        self.read += count;
-        count
-    }
-}
-
-/// A source of bytes in memory that never fails, and gives as many of them as a slice has places for.
-#[derive(Debug, Drop)]
-pub struct SureSource {
-    unread: Unread,
-    ended: bool,
-}
-
-impl Model for SureSource {
-    ghost use Rattle.plan_model.specs.Streams.{Stream};
-
-    ghost Value = { Stream };
-
-    ghost view = { λ s. record { left = s.unread; ended = s.ended } };
-}
-
-impl SureSource {
-    /// A source of these bytes.
-    ///
-    /// # Errors
-    ///
-    /// `Memory` where there is no memory for a copy of the bytes.
-    pub fn new(alloc: Global, bytes: &[u8]) -> Result<SureSource, Memory>
-        ensures { IfOk result (λ source. source ≡ record { left = bytes.now; ended = false }) }
-    {
-        Ok(SureSource {
-            unread: Unread::new(alloc, bytes)?,
-            ended: false,
-        })
-    }
-}
-
-impl Source for SureSource {
-    ghost bytes_left = { λ s. Some s.left };
-
-    ghost has_ended = { λ s. s.ended };
-
-    ghost fault_count = { λ _. 0 };
-
-    fn faults(&self) -> u64 {
-        0
-    }
-
-    fn read(&mut self, into: &mut [u8]) -> Result<usize, Failed>
-        // how many are moved, what is left, and what the slice then holds
-        ensures answer { result ≡ Ok (min (length into.old) (length self.old.left)) }
-        ensures after { IfOk result (λ count. self.new ≡ record { left = drop count self.old.left; ended = ended_after self.old.ended (length into.old) count }) }
-        ensures slice { IfOk result (λ count. into.new ≡ take count self.old.left ++ drop count into.old) }
-    {
-        let count = self.unread.move_into(into);
-        if count == 0 && !into.is_empty() {
-            self.ended = true;
-        }
-        Ok(count)
-    }
-}
-
 /// A source of bytes in memory that gives at most so many of them in one call, and fails the calls with the given
-/// numbers, counted from 1 over the calls that are handed a slice with a place.
+/// numbers, counted from 1 over the reads into a slice that is not empty.
 #[derive(Debug, Drop)]
 pub struct MemSource {
     unread: Unread,
@@ -136,7 +40,7 @@ impl MemSource {
     ///
     /// # Errors
     ///
-    /// `Memory` where there is no memory for a copy of the bytes or of the numbers.
+    /// `Memory` if there is no memory for a copy of the bytes or of the numbers.
     pub fn new(alloc: Global, bytes: &[u8], most: usize, fails: &[u32]) -> Result<MemSource, Memory>
         requires { 1 ≤ most }
         ensures { IfOk result (λ source. source ≡ record { left = bytes.now; ended = false; most = most; fails = fails.now; calls = 0; faults = 0 }) }
@@ -159,6 +63,8 @@ impl Source for MemSource {
 
     ghost fault_count = { λ s. s.faults };
 
+    ghost counts_failures_alone = { true };
+
     fn faults(&self) -> u64
         ensures value { result ≡ self.now.faults }
         // the count never reaches its last value
@@ -174,7 +80,10 @@ impl Source for MemSource {
         ensures no_end { OnErr result (self.new.ended ≡ self.old.ended) }
         ensures failed { OnErr result (FaultsRose self.old.faults self.new.faults) }
         ensures later { self.old.faults ≤ self.new.faults }
-        ensures empty { length into.old ≡ 0 → (result ≡ Ok 0) × Keeps (Some self.old.left) (Some self.new.left) × (self.new.faults ≡ self.old.faults) }
+        ensures no_fault { OnOk result (self.new.faults ≡ self.old.faults) }
+        ensures one_fault { OnErr result (self.new.faults ≡ counted self.old.faults) }
+        ensures empty { length into.old ≡ 0 → (result ≡ Ok 0) × Keeps (Some self.old.left) (Some self.new.left)
+            × (self.new.faults ≡ self.old.faults) }
         // which calls fail, and what is moved
         ensures answer { result ≡ read_result self.old (length into.old) }
         ensures after { self.new ≡ after_read self.old (length into.old) }
@@ -184,7 +93,7 @@ impl Source for MemSource {
             return Ok(0);
         }
         self.calls = self.calls.saturating_add(1);
-        if is_listed(&self.fails, self.calls) {
+        if is_failing_call(&self.fails, self.calls) {
             self.faults = self.faults.saturating_add(1);
             return Err(Failed);
         }
@@ -201,19 +110,6 @@ impl Source for MemSource {
 mod tests {
     use super::*;
     use std::test::Fail;
-
-    #[test]
-    fn reads_in_pieces(rt: HostRuntime) -> Result<(), Fail> {
-        let mut source = SureSource::new(rt.alloc(), b"prrt 1\n")?;
-        let mut piece = [0; 3];
-        for want in ["prr", "t 1", "\n", ""] {
-            let count = source.read(&mut piece)?;
-            assert_eq!(rt; &piece[..count], want.as_bytes());
-        }
-        assert_eq!(rt; source.read(&mut [])?, 0);
-        assert_eq!(rt; source.faults(), 0);
-        Ok(())
-    }
 
     #[test]
     fn gives_as_its_numbers_say(rt: HostRuntime) -> Result<(), Fail> {

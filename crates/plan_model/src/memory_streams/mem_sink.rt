@@ -1,40 +1,17 @@
-//! Where bytes go.
+//! A sink in memory that takes bytes in pieces and fails chosen calls.
 
-ghost use Rattle.std.specs.Prelude.{◌≡◌, ℕ, ◌≤◌, ◌<◌, List, [], length, Option, Some, IfOk, OnErr, Ok};
-ghost use Rattle.std.specs.Io.KnownBytes.{Keeps, WriteAppends};
-ghost use Rattle.plan_model.specs.Streams.{FaultsRose, Taken, write_result, after_write};
+ghost use Rattle.std.specs.Prelude.{◌≡◌, ◌+◌, ◌++◌, ◌≤◌, ◌<◌, true, [], length, Some, IfOk, OnOk, OnErr, Ok, vec_len, vec_capacity};
+ghost use Rattle.std.specs.Io.KnownBytes.{WriteAppends};
+ghost use Rattle.plan_model.specs.Streams.{FaultsRose, Taken, after_write, counted, write_result};
 
+use super::numbered_calls::is_failing_call;
 use crate::errors::{Failed, Memory};
-use crate::numbered_calls::is_listed;
+use crate::sinks::Sink;
 use std::alloc::Global;
 use std::marker::Model;
 
-/// Bytes that are written one after another, with a count of the writes that failed.
-pub trait Sink {
-    /// The bytes taken so far, where the sink tells them.
-    ghost bytes_taken: { Self → Option (List ℕ) };
-
-    /// How many writes have failed; it stands still at the last value of a `u64`.
-    ghost fault_count: { Self → ℕ };
-
-    /// How many writes have failed.
-    fn faults(&self) -> u64
-        ensures { result ≡ fault_count self.now };
-
-    /// Takes a front of the bytes, one at least, and answers how many; of no bytes it takes none and changes nothing.
-    ///
-    /// `Failed` comes only where the count of faults rose in this call. Then nothing is taken.
-    fn write(&mut self, bytes: &[u8]) -> Result<usize, Failed>
-        ensures bound { IfOk result (λ count. count ≤ length bytes.now) }
-        ensures some { 0 < length bytes.now → IfOk result (λ count. 0 < count) }
-        ensures bytes { WriteAppends (bytes_taken self.old) (bytes_taken self.new) result bytes.now }
-        ensures failed { OnErr result (FaultsRose (fault_count self.old) (fault_count self.new)) }
-        ensures later { fault_count self.old ≤ fault_count self.new }
-        ensures empty { length bytes.now ≡ 0 → (result ≡ Ok 0) × (fault_count self.new ≡ fault_count self.old) };
-}
-
 /// A sink into memory with a fixed room, that takes at most so many bytes in one call, and fails the calls with the
-/// given numbers, counted from 1 over the calls that are handed a byte, and those that find the room full.
+/// given numbers, counted from 1 over the writes of at least one byte, and those that find the room full.
 #[derive(Debug, Drop)]
 pub struct MemSink {
     taken: Vec<u8>,
@@ -46,14 +23,15 @@ pub struct MemSink {
 }
 
 impl Model for MemSink {
-    ghost use Rattle.std.specs.Prelude.{◌≤◌, length, vec_capacity};
+    ghost use Rattle.std.specs.Prelude.{◌≡◌, ◌≤◌, length, vec_capacity};
     ghost use Rattle.plan_model.specs.Streams.{Taken};
 
     ghost Value = { Taken };
 
     ghost view = { λ s. record { bytes = s.taken.items; room = s.room; most = s.most; fails = s.fails.items; calls = s.calls; faults = s.faults } };
 
-    ghost invariant = { λ s. (length s.taken.items ≤ s.room) × (s.room ≤ vec_capacity s.taken) × (1 ≤ s.most) };
+    // the memory is that of the room, so no write may take more
+    ghost invariant = { λ s. (length s.taken.items ≤ s.room) × (s.room ≡ vec_capacity s.taken) × (1 ≤ s.most) };
 }
 
 impl MemSink {
@@ -61,7 +39,7 @@ impl MemSink {
     ///
     /// # Errors
     ///
-    /// `Memory` where there is no memory for the room or for a copy of the numbers.
+    /// `Memory` if there is no memory for the room or for a copy of the numbers.
     pub fn new(alloc: Global, room: usize, most: usize, fails: &[u32]) -> Result<MemSink, Memory>
         requires { 1 ≤ most }
         ensures { IfOk result (λ sink. sink ≡ record { bytes = []; room = room; most = most; fails = fails.now; calls = 0; faults = 0 }) }
@@ -89,6 +67,8 @@ impl Sink for MemSink {
 
     ghost fault_count = { λ s. s.faults };
 
+    ghost counts_failures_alone = { true };
+
     fn faults(&self) -> u64 {
         self.faults
     }
@@ -99,6 +79,8 @@ impl Sink for MemSink {
         ensures bytes { WriteAppends (Some self.old.bytes) (Some self.new.bytes) result bytes.now }
         ensures failed { OnErr result (FaultsRose self.old.faults self.new.faults) }
         ensures later { self.old.faults ≤ self.new.faults }
+        ensures no_fault { OnOk result (self.new.faults ≡ self.old.faults) }
+        ensures one_fault { OnErr result (self.new.faults ≡ counted self.old.faults) }
         ensures empty { length bytes.now ≡ 0 → (result ≡ Ok 0) × (self.new.faults ≡ self.old.faults) }
         // which calls fail, and what is taken
         ensures answer { result ≡ write_result self.old bytes.now }
@@ -108,15 +90,24 @@ impl Sink for MemSink {
             return Ok(0);
         }
         self.calls = self.calls.saturating_add(1);
-        if is_listed(&self.fails, self.calls) || self.room == self.taken.len() {
+        if is_failing_call(&self.fails, self.calls) || self.room == self.taken.len() {
             self.faults = self.faults.saturating_add(1);
             return Err(Failed);
         }
         let count = bytes.len().min(self.most).min(self.room - self.taken.len());
-        match self.taken.extend_from_slice(&bytes[..count]) {
-            Ok(()) => Ok(count),
-            Err(_) => unreachable!(),
-        }
+        append_reserved(&mut self.taken, &bytes[..count]);
+        Ok(count)
+    }
+}
+
+// Appends the bytes within the memory that the vector has.
+fn append_reserved(taken: &mut Vec<u8>, bytes: &[u8])
+    requires { vec_len taken.old + length bytes.now ≤ vec_capacity taken.old }
+    ensures items { taken.new.items ≡ taken.old.items ++ bytes.now }
+    ensures capacity { vec_capacity taken.new ≡ vec_capacity taken.old }
+{
+    for &byte in bytes {
+        taken.push_reserved(byte);
     }
 }
 

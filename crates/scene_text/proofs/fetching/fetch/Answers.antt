@@ -1,0 +1,33 @@
+use Rattle.std.proofs.Common.{◌≤◌, ◌-◌, ◌+◌, length, arith, length-take}
+use Rattle.plan_model.specs.declared.limits.TheConstants.{MOST_TEXT_BYTES}
+use Rattle.scene_text.proofs.FetchLemmas.{ReadsWithin-fetched, Fetches-too_long, Fetches-memory}
+use Rattle.scene_text.proofs.fetching.fetch.Goals as goal
+
+pub returns-then-count-room-clause-came : goal.returns-then-count-room-clause-came
+returns-then-count-room-clause-came g c =
+    let kept = c.loop-text.invariant in
+    let text = c.loop-text.text in
+    let read = c.in_ok-count.ensures in
+    let places : length c.read.new.into ≤ MOST_TEXT_BYTES - length text.items + 1 =
+    omega (arith, c.read.auto.into, length-take c.min.result c.loop-text.buffer, c.min.ensures, c.len-room.ensures, text.ok.0) in
+    Fetches-too_long _ _ _ text.items c.read.new.into c.in_ok-count.count kept.consumed read.bytes.0 read.bound
+    (omega arith) places (omega arith)
+
+pub returns-then-count-room-clause-too_long : goal.returns-then-count-room-clause-too_long
+returns-then-count-room-clause-too_long g c = let h = returns-then-count-room-clause-came g c in λ e. (h.came, h.too_long.0 e, h.consumed)
+
+pub returns-then-count-room-clause-within : goal.returns-then-count-room-clause-within
+returns-then-count-room-clause-within g c = ReadsWithin-fetched _ _ _ (returns-then-count-room-clause-came g c)
+
+pub returns-in_err-extend_from_slice-clause-came : goal.returns-in_err-extend_from_slice-clause-came
+returns-in_err-extend_from_slice-clause-came g c =
+    let kept = c.loop-text.invariant in
+    let text = c.loop-text.text in
+    let read = c.in_ok-count.ensures in
+    let places : length c.read.new.into ≤ MOST_TEXT_BYTES - length text.items + 1 =
+    omega (arith, c.read.auto.into, length-take c.min.result c.loop-text.buffer, c.min.ensures, c.len-room.ensures, text.ok.0) in
+    Fetches-memory _ _ _ text.items c.read.new.into c.in_ok-count.count kept.consumed read.bytes.0 read.bound
+    (omega arith) places _ c.from_residual-in_err-extend_from_slice.ensures.1 (omega arith)
+
+pub returns-in_err-extend_from_slice-clause-within : goal.returns-in_err-extend_from_slice-clause-within
+returns-in_err-extend_from_slice-clause-within g c = ReadsWithin-fetched _ _ _ (returns-in_err-extend_from_slice-clause-came g c)

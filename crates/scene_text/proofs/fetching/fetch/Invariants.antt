@@ -1,0 +1,18 @@
+use Rattle.std.proofs.Common.{◌≡◌, ◌-◌, ◌≤◌, false, IsTrue, vec_len}
+use Rattle.std.specs.Io.KnownBytes.{Consumes}
+use Rattle.plan_model.specs.declared.limits.TheConstants.{MOST_TEXT_BYTES}
+use Rattle.scene_text.proofs.fetching.fetch.Given as goal
+
+-- the text is what came so far, no end was given, and no read has failed
+abbrev pub invariant-loop-text : goal.invariant-loop-text
+invariant-loop-text g l = record {
+  consumed : Consumes (g.S.Source.bytes_left l.initial.source) (g.S.Source.bytes_left l.source) l.text.items;
+  open_yet : g.S.Source.has_ended l.source ≡ false;
+  later : g.S.Source.fault_count l.initial.source ≤ g.S.Source.fault_count l.source;
+  no_fault : IsTrue g.S.Source.counts_failures_alone → g.S.Source.fault_count l.source ≡ g.S.Source.fault_count l.initial.source;
+  small : vec_len l.text ≤ MOST_TEXT_BYTES;
+}
+
+-- the bytes that may yet be read
+abbrev pub decreases-loop-text : goal.decreases-loop-text
+decreases-loop-text g l = MOST_TEXT_BYTES - vec_len l.text

@@ -1,0 +1,107 @@
+//! The bytes of a source, read to its end.
+
+ghost use Rattle.std.specs.Prelude.{◌≡◌, ◌≤◌, length, true, false, IsTrue, IfOk, OnOk, OnErr, IsErrOf};
+ghost use Rattle.std.specs.Io.KnownBytes.{IsAtEnd};
+ghost use Rattle.plan_model.specs.Streams.{FaultsRose, counted};
+ghost use Rattle.plan_model.specs.declared.limits.TheConstants.{MOST_TEXT_BYTES};
+ghost use Rattle.scene_text.specs.Fetching.{CameTooLong, Fetches, IsAllOf, ReadsWithin};
+ghost use Rattle.scene_text.specs.declared.fetching.FetchFault.TheVariants as faults;
+
+use plan_model::{Failed, MOST_TEXT_BYTES, Source};
+use std::alloc::{AllocError, Global};
+
+/// The most bytes that one read asks for.
+const MOST_IN_PIECE: usize = 8192;
+
+/// Why a source could not be read to its end.
+#[derive(Clone, Copy, Debug, PartialEq, Eq)]
+pub enum FetchFault {
+    /// A read failed, and the source's count of faults rose.
+    Read,
+    /// More than `MOST_TEXT_BYTES` bytes came. One more than these was read.
+    TooLong,
+    /// There was no memory left for the bytes.
+    Memory,
+}
+
+impl From<Failed> for FetchFault {
+    ghost from_gives = { λ _ fault. fault ≡ faults.Read };
+
+    fn from(_error: Failed) -> FetchFault {
+        FetchFault::Read
+    }
+}
+
+impl From<AllocError> for FetchFault {
+    ghost from_gives = { λ _ fault. fault ≡ faults.Memory };
+
+    fn from(_error: AllocError) -> FetchFault {
+        FetchFault::Memory
+    }
+}
+
+/// All bytes of a source that has not given its end. It is read until it gives the end, or until one byte more than
+/// `MOST_TEXT_BYTES` came.
+///
+/// # Errors
+///
+/// `Read` if a read failed, `TooLong` exactly if more than `MOST_TEXT_BYTES` bytes came, and `Memory` if there was no
+/// memory left for the bytes. The source has then not given its end.
+pub fn fetch<S: Source>(alloc: Global, source: &mut S) -> Result<Vec<u8>, FetchFault>
+    requires { S.has_ended source.old ≡ false }
+    ensures end { OnOk result (S.has_ended source.new ≡ true) }
+    ensures no_end { OnErr result (S.has_ended source.new ≡ false) }
+    // the bytes that came, and the result
+    ensures came { Fetches (S.bytes_left source.old) (S.bytes_left source.new) result }
+    // a text is all bytes of the source, if they are known
+    ensures bytes { IfOk result (λ text. IsAllOf (S.bytes_left source.old) text.items) }
+    ensures none_left { OnOk result (IsAtEnd (S.bytes_left source.new)) }
+    ensures small { IfOk result (λ text. length text.items ≤ MOST_TEXT_BYTES) }
+    ensures too_long { IsErrOf result FetchFault.TooLong → CameTooLong (S.bytes_left source.old) (S.bytes_left source.new) }
+    ensures within { ReadsWithin (S.bytes_left source.old) (S.bytes_left source.new) }
+    ensures read { IsErrOf result FetchFault.Read → FaultsRose (S.fault_count source.old) (S.fault_count source.new) }
+    ensures later { S.fault_count source.old ≤ S.fault_count source.new }
+    // if the source counts failures alone, a read failed exactly if the result says so, and none was tried again
+    ensures one_fault { IsTrue S.counts_failures_alone → IsErrOf result FetchFault.Read
+        → S.fault_count source.new ≡ counted (S.fault_count source.old) }
+    ensures no_fault { IsTrue S.counts_failures_alone → ¬ IsErrOf result FetchFault.Read
+        → S.fault_count source.new ≡ S.fault_count source.old }
+{
+    let mut text = Vec::new(alloc);
+    let mut buffer = [0; MOST_IN_PIECE];
+    loop {
+        let room = MOST_TEXT_BYTES - text.len();
+        let piece = &mut buffer[..MOST_IN_PIECE.min(room + 1)];
+        let count = source.read(piece)?;
+        if count == 0 {
+            return Ok(text);
+        }
+        if count > room {
+            return Err(FetchFault::TooLong);
+        }
+        text.extend_from_slice(&piece[..count])?;
+    }
+}
+
+#[cfg(test)]
+mod tests {
+    use super::*;
+    use plan_model::SureSource;
+    use std::test::Fail;
+
+    #[test]
+    fn fetch_gives_the_bytes_of_a_source(rt: HostRuntime) -> Result<(), Fail> {
+        let mut source = SureSource::new(rt.alloc(), b"prrt 1\n")?;
+        let text = fetch(rt.alloc(), &mut source)?;
+        assert_eq!(rt; text.as_slice(), b"prrt 1\n".as_slice());
+        Ok(())
+    }
+
+    #[test]
+    fn fetch_gives_no_byte_of_an_empty_source(rt: HostRuntime) -> Result<(), Fail> {
+        let mut source = SureSource::new(rt.alloc(), b"")?;
+        let text = fetch(rt.alloc(), &mut source)?;
+        assert!(rt; text.is_empty());
+        Ok(())
+    }
+}
