@@ -1,13 +1,16 @@
 //! Errors that the whole planner shares.
 
 use std::alloc::{AllocError, AllocFailed};
+use thiserror::Error;
 
-/// There was no memory left.
-#[derive(Clone, Copy, Debug, PartialEq, Eq)]
+/// Out of memory.
+#[derive(Clone, Copy, Debug, PartialEq, Eq, Error)]
+#[error("out of memory")]
 pub struct Memory;
 
-/// A source or a sink could not be read or written.
-#[derive(Clone, Copy, Debug, PartialEq, Eq)]
+/// A read from a source or a write to a sink failed. Its count of faults rose.
+#[derive(Clone, Copy, Debug, PartialEq, Eq, Error)]
+#[error("read or write failed")]
 pub struct Failed;
 
 impl From<AllocError> for Memory {
@@ -19,5 +22,18 @@ impl From<AllocError> for Memory {
 impl<T: Drop> From<AllocFailed<T>> for Memory {
     fn from(_error: AllocFailed<T>) -> Memory {
         Memory
+    }
+}
+
+#[cfg(test)]
+mod tests {
+    use super::*;
+    use std::test::Fail;
+
+    #[test]
+    fn errors_have_messages(rt: HostRuntime) -> Result<(), Fail> {
+        assert_eq!(rt; Memory.to_string(rt.alloc())?.as_str(), "out of memory");
+        assert_eq!(rt; Failed.to_string(rt.alloc())?.as_str(), "read or write failed");
+        Ok(())
     }
 }

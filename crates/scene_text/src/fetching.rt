@@ -9,18 +9,22 @@ ghost use Rattle.scene_text.specs.declared.fetching.FetchFault.TheVariants as fa
 
 use plan_model::{Failed, MOST_TEXT_BYTES, Source};
 use std::alloc::{AllocError, Global};
+use thiserror::Error;
 
 /// The most bytes that one read asks for.
 const MOST_IN_PIECE: usize = 8192;
 
 /// Why a source could not be read to its end.
-#[derive(Clone, Copy, Debug, PartialEq, Eq)]
+#[derive(Clone, Copy, Debug, PartialEq, Eq, Error)]
 pub enum FetchFault {
     /// A read failed, and the source's count of faults rose.
+    #[error("read failed")]
     Read,
     /// More than `MOST_TEXT_BYTES` bytes came. One more than these was read.
+    #[error("text longer than {most} bytes", most = MOST_TEXT_BYTES)]
     TooLong,
     /// There was no memory left for the bytes.
+    #[error("out of memory")]
     Memory,
 }
 
@@ -86,22 +90,68 @@ pub fn fetch<S: Source>(alloc: Global, source: &mut S) -> Result<Vec<u8>, FetchF
 #[cfg(test)]
 mod tests {
     use super::*;
-    use plan_model::SureSource;
+    use plan_model::{MemSource, SureSource};
     use std::test::Fail;
 
     #[test]
     fn fetch_gives_the_bytes_of_a_source(rt: HostRuntime) -> Result<(), Fail> {
-        let mut source = SureSource::new(rt.alloc(), b"prrt 1\n")?;
-        let text = fetch(rt.alloc(), &mut source)?;
-        assert_eq!(rt; text.as_slice(), b"prrt 1\n".as_slice());
+        for bytes in ["prrt 1\n", ""] {
+            let mut source = SureSource::new(rt.alloc(), bytes.as_bytes())?;
+            let text = fetch(rt.alloc(), &mut source)?;
+            assert_eq!(rt; text.as_slice(), bytes.as_bytes());
+        }
+        Ok(())
+    }
+
+    // How many of these bytes a fetch gives that come in pieces of 1,000, if the read with this number fails, and how
+    // many faults the source then counts.
+    fn fetch_in_pieces(
+        alloc: Global,
+        length: usize,
+        failing: u32,
+    ) -> Result<(Result<usize, FetchFault>, u64), Fail> {
+        let bytes = vec![in alloc; b'#'; length]?;
+        let mut source = MemSource::new(alloc, &bytes, 1_000, &[failing])?;
+        let fetched = match fetch(alloc, &mut source) {
+            Ok(text) => Ok(text.len()),
+            Err(fault) => Err(fault),
+        };
+        Ok((fetched, source.faults()))
+    }
+
+    #[test]
+    fn fetch_stops_at_a_fault(rt: HostRuntime) -> Result<(), Fail> {
+        for (length, failing, fetched, faults) in [
+            (200_000, 1, Err(FetchFault::Read), 1),
+            (200_000, 2, Err(FetchFault::Read), 1),
+            (200_000, 199, Err(FetchFault::Read), 1),
+            (200_000, 200, Err(FetchFault::Read), 1),
+            // the read that would give the end
+            (200_000, 201, Err(FetchFault::Read), 1),
+            (200_000, 202, Ok(200_000), 0),
+            (MOST_TEXT_BYTES, 0, Ok(MOST_TEXT_BYTES), 0),
+            (MOST_TEXT_BYTES + 1, 0, Err(FetchFault::TooLong), 0),
+        ] {
+            let (came, counted) = fetch_in_pieces(rt.alloc(), length, failing)?;
+            assert_eq!(rt;
+                came,
+                fetched,
+                "{length} bytes of which read {failing} fails"
+            );
+            assert_eq!(rt; counted, faults);
+        }
         Ok(())
     }
 
     #[test]
-    fn fetch_gives_no_byte_of_an_empty_source(rt: HostRuntime) -> Result<(), Fail> {
-        let mut source = SureSource::new(rt.alloc(), b"")?;
-        let text = fetch(rt.alloc(), &mut source)?;
-        assert!(rt; text.is_empty());
+    fn faults_have_messages(rt: HostRuntime) -> Result<(), Fail> {
+        for (fault, message) in [
+            (FetchFault::Read, "read failed"),
+            (FetchFault::TooLong, "text longer than 16777216 bytes"),
+            (FetchFault::Memory, "out of memory"),
+        ] {
+            assert_eq!(rt; fault.to_string(rt.alloc())?.as_str(), message);
+        }
         Ok(())
     }
 }
