@@ -21,6 +21,7 @@ impl<R: Read> StdSource<R> {
     pub fn new(reader: R) -> Self
         ensures open { ⟦<StdSource<R> as Source>⟧.has_ended result ≡ false }
         ensures faultless { ⟦<StdSource<R> as Source>⟧.fault_count result ≡ 0 }
+        ensures bytes { ⟦<StdSource<R> as Source>⟧.bytes_left result ≡ R.remaining reader }
     {
         StdSource {
             reader,
@@ -71,7 +72,8 @@ pub struct StdSink<W> {
 impl<W: Write> StdSink<W> {
     /// A sink over a writer.
     pub fn new(writer: W) -> Self
-        ensures { ⟦<StdSink<W> as Sink>⟧.fault_count result ≡ 0 }
+        ensures faultless { ⟦<StdSink<W> as Sink>⟧.fault_count result ≡ 0 }
+        ensures bytes { ⟦<StdSink<W> as Sink>⟧.bytes_taken result ≡ W.contents writer }
     {
         StdSink { writer, faults: 0 }
     }
@@ -99,5 +101,79 @@ impl<W: Write> Sink for StdSink<W> {
                 Err(Failed)
             }
         }
+    }
+}
+
+#[cfg(test)]
+mod tests {
+    use super::*;
+    use crate::delivery::deliver;
+    use scene_text::{FetchFault, fetch};
+    use std::io;
+    use std::test::Fail;
+
+    // A reader of these bytes whose second read fails.
+    #[derive(Drop)]
+    struct FailingReader<'a> {
+        bytes: &'a [u8],
+        reads: u32,
+    }
+
+    impl Read for FailingReader<'_> {
+        fn read(&mut self, into: &mut [u8]) -> io::Result<usize> {
+            self.reads = self.reads.saturating_add(1);
+            if self.reads == 2 {
+                return Err(io::Error::from(io::ErrorKind::Interrupted));
+            }
+            self.bytes.read(into)
+        }
+    }
+
+    #[test]
+    fn source_counts_the_errors_of_its_reader(rt: HostRuntime) -> Result<(), Fail> {
+        let mut source = StdSource::new(FailingReader {
+            bytes: b"prrt 1\n",
+            reads: 0,
+        });
+        for (want, faults) in [(Ok(4), 0), (Err(Failed), 1), (Ok(3), 1), (Ok(0), 1)] {
+            assert_eq!(rt; source.read(&mut [0; 4]), want);
+            assert_eq!(rt; source.faults(), faults);
+        }
+        Ok(())
+    }
+
+    #[test]
+    fn failed_read_is_reported(rt: HostRuntime) -> Result<(), Fail> {
+        let mut source = StdSource::new(FailingReader {
+            bytes: b"prrt 1\n",
+            reads: 0,
+        });
+        assert_eq!(rt;
+            fetch(rt.alloc(), &mut source).err(),
+            Some(FetchFault::Read)
+        );
+        assert_eq!(rt; source.faults(), 1);
+        Ok(())
+    }
+
+    #[test]
+    fn bytes_pass_unchanged(rt: HostRuntime) -> Result<(), Fail> {
+        let mut source = StdSource::new(b"prrt 1\n".as_slice());
+        let text = fetch(rt.alloc(), &mut source)?;
+        let mut sink = StdSink::new(Vec::new(rt.alloc()));
+        assert_eq!(rt; deliver(&mut sink, &text), Ok(()));
+        assert_eq!(rt; sink.writer.as_slice(), b"prrt 1\n".as_slice());
+        Ok(())
+    }
+
+    #[test]
+    fn sink_counts_a_full_writer_as_a_fault(rt: HostRuntime) -> Result<(), Fail> {
+        let mut room = [b'.'; 3];
+        let mut sink = StdSink::new(room.as_mut_slice());
+        assert_eq!(rt; sink.write(b"path"), Ok(3));
+        assert_eq!(rt; sink.write(b"h"), Err(Failed));
+        assert_eq!(rt; sink.faults(), 1);
+        assert_eq!(rt; room.as_slice(), b"pat".as_slice());
+        Ok(())
     }
 }
