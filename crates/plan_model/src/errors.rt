@@ -33,7 +33,10 @@ mod tests {
     #[test]
     fn errors_have_messages(rt: HostRuntime) -> Result<(), Fail> {
         assert_eq!(rt; Memory.to_string(rt.alloc())?.as_str(), "out of memory");
-        assert_eq!(rt; Failed.to_string(rt.alloc())?.as_str(), "read or write failed");
+        assert_eq!(rt;
+            Failed.to_string(rt.alloc())?.as_str(),
+            "read or write failed"
+        );
         Ok(())
     }
 }

@@ -1,5 +1,4 @@
-//! Sources and sinks in memory: one source that never fails, and a source and a sink that fail the calls that they are
-//! told to.
+//! Sources and sinks in memory: a source that never fails, and a source and a sink that fail chosen calls.
 
 mod mem_sink;
 mod mem_source;

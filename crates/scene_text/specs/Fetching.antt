@@ -18,7 +18,7 @@ ReadsWithin before now = (came : List ℕ) × (length came ≤ MOST_TEXT_BYTES +
 abbrev pub CameTooLong : Option (List ℕ) → Option (List ℕ) → Type 0
 CameTooLong before now = (came : List ℕ) × (MOST_TEXT_BYTES < length came) × Consumes before now came
 
--- The bytes that came are the text, or they are too long for one, which is the result exactly then.
+-- These bytes came: on success they are the text, and the result is `TooLong` exactly if they are more than a text may have.
 pub record Fetches {Z : Type 0} (before now : Option (List ℕ)) (result : Result (Vec ℕ Z) FetchFault) : Type 0 where
   pub came : List ℕ
   pub consumed : Consumes before now came

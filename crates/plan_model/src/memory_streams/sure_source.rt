@@ -56,7 +56,8 @@ impl Source for SureSource {
     fn read(&mut self, into: &mut [u8]) -> Result<usize, Failed>
         // how many are moved, what is left, and what the slice then holds
         ensures answer { result ≡ Ok (min (length into.old) (length self.old.left)) }
-        ensures after { IfOk result (λ count. self.new ≡ record { left = drop count self.old.left; ended = ended_after self.old.ended (length into.old) count }) }
+        ensures after { IfOk result (λ count. self.new
+            ≡ record { left = drop count self.old.left; ended = ended_after self.old.ended (length into.old) count }) }
         ensures slice { IfOk result (λ count. into.new ≡ take count self.old.left ++ drop count into.old) }
     {
         let count = self.unread.move_into(into);
