@@ -1,8 +1,9 @@
 -- A text whose lines have no fault, and in which nothing is missing, spells a scene; any other is refused.
-use Rattle.std.proofs.Common.{◌≡◌, ℕ, zero, suc, ◌+◌, ◌<◌, ◌≤◌, ◌&&◌, ◌||◌, Bool, true, false, cond, leb, ℤ, Option, Some, None, ◌⊎◌, inl, inr, List, [], ◌∷◌, length, map, drop, filter, All, refl, subst, arith, add-one}
+use Rattle.std.proofs.Common.{◌≡◌, ℕ, zero, suc, ◌+◌, ◌<◌, ◌≤◌, ◌&&◌, Bool, true, false, cond, leb, ℤ, Option, Some, None, ◌⊎◌, inl, inr, List, [], ◌∷◌}
+use Rattle.std.proofs.Common.{length, map, All, refl, subst, arith, add-one}
 use Rattle.std.specs.List.{list_all}
-use Rattle.std.proofs.lemmas.Bool.{and_from, le-leb}
-use Rattle.std.proofs.lemmas.List.{length-map, take_all}
+use Rattle.std.proofs.lemmas.Bool.{and_from, and_parts, le-leb}
+use Rattle.std.proofs.lemmas.List.{length-map}
 use Rattle.std.proofs.lemmas.List.Elements.{All-head}
 use borrow.Author.Count.{below_more}
 use Rattle.plan_model.specs.declared.scenes.Scene.{Scene}
@@ -11,78 +12,77 @@ use Rattle.plan_model.specs.declared.text_terms.Key.TheVariants as keys
 use Rattle.plan_model.specs.declared.text_terms.Kind.{Kind}
 use Rattle.plan_model.specs.declared.text_terms.Kind.TheVariants as kinds
 use Rattle.plan_model.specs.Limits.{is_obstacle, are_obstacles}
-use Rattle.plan_model.specs.SceneGrammar.{lines_of, statements_of, begins_with, has, numbers_of, first_of, point_from, goal_from, number_or, body_from, corners_from, plan_from, fault_of_line, fault_of_end, IsSoundBelow, HasFields, Spells, Refused}
-use Rattle.plan_model.proofs.StatementNumbers.{numbers_in}
-use Rattle.plan_model.proofs.SoundStatements.{MayStand, AreStanding, AreStanding-lines}
-use Rattle.plan_model.proofs.SceneParts.{IsWithin, room-within, start-within, goal-within, step-within, gamma-within, strips-within, body-within, obstacles-within, plan-within}
+use Rattle.plan_model.specs.declared.limits.TheConstants.{MOST_GAMMA, MOST_OBSTACLES, MOST_STRIPS}
+use Rattle.plan_model.specs.TextLines.{lines_of, statements_of}
+use Rattle.plan_model.specs.LineChecks.{Given, is_inhabited, stands, corners_from, fault_at_end, MayStand, AllMayStand}
+use Rattle.plan_model.specs.SceneGrammar.{first_of, point_from, goal_from, number_or, body_from, plan_from, is_version_read, given_after_version}
+use Rattle.plan_model.specs.SceneGrammar.{fault_of_line, fault_of_end, IsSoundBelow, HasFields, Spells, Refused}
+use Rattle.plan_model.proofs.SoundStatements.{IsSoundGiven-text}
+use Rattle.plan_model.proofs.SceneParts.{IsWithin, room-within, start-within, goal-within, step-within, gamma-within, strips-within, body-within}
+use Rattle.plan_model.proofs.SceneParts.{obstacles-within, plan-within}
 
--- ---- the numbers of a key that stands
+-- ---- the scene that lines give
 
--- what holds of the numbers behind a key holds of the first ones, where the key stands
-first-given : (P : List ℤ → Type 0) (key : Key) (statements : List (List (List ℕ))) → has key statements ≡ true → All P (numbers_of key statements) → P (first_of (numbers_of key statements))
-first-given P key [] h all = absurd (cc)
-first-given P key (words ∷ statements) h all =
-    let shown : List (List (List ℕ)) → List (List ℤ) = map numbers_in in
-    let others = filter (begins_with key) statements in
-    let R : Bool → Type 0 = λ b. (b || has key statements) ≡ true → All P (shown (cond b (words ∷ others) others)) → P (first_of (shown (cond b (words ∷ others) others))) in
-    (elim (begins_with key words) as R [ true ↦ λ e a. All-head P (numbers_in words) (shown others) a | false ↦ λ e a. first-given P key statements e a ]) h all
-
--- ---- the scene that statements give
+-- what holds of the numbers of each line holds of the first ones, if there is a line
+first-given : (P : List ℤ → Type 0) (lists : List (List ℤ)) → is_inhabited lists ≡ true → All P lists → P (first_of lists)
+first-given P [] some all = absurd (cc)
+first-given P (zs ∷ lists) some all = All-head P zs lists all
 
 -- the keys that each scene needs stand
-record AreGiven (statements : List (List (List ℕ))) : Type 0 where
-  room : has keys.Room statements ≡ true
-  start : has keys.Start statements ≡ true
-  goal : has keys.Goal statements ≡ true
-  step : has keys.Step statements ≡ true
+pub record AreGiven (given : Given) : Type 0 where
+  pub room : stands given keys.Room ≡ true
+  pub start : stands given keys.Start ≡ true
+  pub goal : stands given keys.Goal ≡ true
+  pub step : stands given keys.Step ≡ true
 
--- a scene with the fields of the statements
-abbrev Given : List (List (List ℕ)) → Type 0
-Given statements = (scene : Scene) × HasFields statements scene
+-- a scene with the fields of the lines
+abbrev GivenScene : Given → Type 0
+GivenScene given = (scene : Scene) × HasFields given scene
 
--- what is missing without a line, or the numbers that may stand behind the key
-gamma-given : (lists : List (List ℤ)) → All (MayStand keys.Gamma) lists → number_or 0 (first_of lists) ≤ 16777215
+-- the number that holds without a line, or one that may stand after the key
+gamma-given : (lists : List (List ℤ)) → All (MayStand keys.Gamma) lists → number_or 0 (first_of lists) ≤ MOST_GAMMA
 gamma-given [] all = omega arith
 gamma-given (zs ∷ lists) all =
     gamma-within zs (All-head (MayStand keys.Gamma) zs lists all)
 
-strips-given : (lists : List (List ℤ)) → All (MayStand keys.Strips) lists → IsWithin 1 64 (number_or 1 (first_of lists))
+strips-given : (lists : List (List ℤ)) → All (MayStand keys.Strips) lists → IsWithin 1 MOST_STRIPS (number_or 1 (first_of lists))
 strips-given [] all = record { above = omega arith; below = omega arith }
 strips-given (zs ∷ lists) all =
     strips-within zs (All-head (MayStand keys.Strips) zs lists all)
 
-obstacles-given : (lists : List (List ℤ)) → All (MayStand keys.Obstacle) lists → length lists ≤ 1024 → are_obstacles (map corners_from lists) ≡ true
+obstacles-given : (lists : List (List ℤ)) → All (MayStand keys.Obstacle) lists → length lists ≤ MOST_OBSTACLES → are_obstacles (map corners_from lists) ≡ true
 obstacles-given lists all few =
-    and_from (leb (length (map corners_from lists)) 1024) (list_all is_obstacle (map corners_from lists)) (le-leb (length (map corners_from lists)) 1024 (omega (arith, length-map lists corners_from))) (obstacles-within lists all)
+    and_from (leb (length (map corners_from lists)) MOST_OBSTACLES) (list_all is_obstacle (map corners_from lists))
+    (le-leb (length (map corners_from lists)) MOST_OBSTACLES (omega (arith, length-map lists corners_from))) (obstacles-within lists all)
 
-scene-given : (statements : List (List (List ℕ))) → AreStanding statements → AreGiven statements → Given statements
-scene-given statements h given =
-    let step = step-within (first_of (numbers_of keys.Step statements)) (first-given (MayStand keys.Step) keys.Step statements given.step (h.stand keys.Step)) in
-    let strips = strips-given (numbers_of keys.Strips statements) (h.stand keys.Strips) in
+scene-given : (given : Given) → AllMayStand given → AreGiven given → GivenScene given
+scene-given given h needed =
+    let step = step-within (first_of (given keys.Step)) (first-given (MayStand keys.Step) (given keys.Step) needed.step (h.stand keys.Step)) in
+    let strips = strips-given (given keys.Strips) (h.stand keys.Strips) in
     let scene : Scene = record {
       version = 1;
-      room = point_from (first_of (numbers_of keys.Room statements));
-      body = body_from (numbers_of keys.Body statements);
-      obstacles = map corners_from (numbers_of keys.Obstacle statements);
-      start = point_from (first_of (numbers_of keys.Start statements));
-      goal = goal_from (first_of (numbers_of keys.Goal statements));
-      step = number_or 0 (first_of (numbers_of keys.Step statements));
-      gamma = number_or 0 (first_of (numbers_of keys.Gamma statements));
-      seed = number_or 0 (first_of (numbers_of keys.Seed statements));
-      strips = number_or 1 (first_of (numbers_of keys.Strips statements));
-      plan = plan_from (numbers_of keys.Marks statements) (numbers_of keys.Mark statements);
+      room = point_from (first_of (given keys.Room));
+      body = body_from (given keys.Body);
+      obstacles = map corners_from (given keys.Obstacle);
+      start = point_from (first_of (given keys.Start));
+      goal = goal_from (first_of (given keys.Goal));
+      step = number_or 0 (first_of (given keys.Step));
+      gamma = number_or 0 (first_of (given keys.Gamma));
+      seed = number_or 0 (first_of (given keys.Seed));
+      strips = number_or 1 (first_of (given keys.Strips));
+      plan = plan_from (given keys.Marks) (given keys.Mark);
       version_is_one = refl;
-      room_within = room-within (first_of (numbers_of keys.Room statements)) (first-given (MayStand keys.Room) keys.Room statements given.room (h.stand keys.Room));
-      body_within = body-within (numbers_of keys.Body statements) (h.stand keys.Body);
-      obstacles_within = obstacles-given (numbers_of keys.Obstacle statements) (h.stand keys.Obstacle) h.obstacles;
-      start_within = start-within (first_of (numbers_of keys.Start statements)) (first-given (MayStand keys.Start) keys.Start statements given.start (h.stand keys.Start));
-      goal_within = goal-within (first_of (numbers_of keys.Goal statements)) (first-given (MayStand keys.Goal) keys.Goal statements given.goal (h.stand keys.Goal));
+      room_within = room-within (first_of (given keys.Room)) (first-given (MayStand keys.Room) (given keys.Room) needed.room (h.stand keys.Room));
+      body_within = body-within (given keys.Body) (h.stand keys.Body);
+      obstacles_within = obstacles-given (given keys.Obstacle) (h.stand keys.Obstacle) (h.few keys.Obstacle);
+      start_within = start-within (first_of (given keys.Start)) (first-given (MayStand keys.Start) (given keys.Start) needed.start (h.stand keys.Start));
+      goal_within = goal-within (first_of (given keys.Goal)) (first-given (MayStand keys.Goal) (given keys.Goal) needed.goal (h.stand keys.Goal));
       step_low = step.above;
       step_high = step.below;
-      gamma_high = gamma-given (numbers_of keys.Gamma statements) (h.stand keys.Gamma);
+      gamma_high = gamma-given (given keys.Gamma) (h.stand keys.Gamma);
       strips_low = strips.above;
       strips_high = strips.below;
-      plan_within = plan-within (numbers_of keys.Marks statements) (numbers_of keys.Mark statements) (h.stand keys.Marks) (h.stand keys.Mark) h.marks;
+      plan_within = plan-within (given keys.Marks) (given keys.Mark) (h.stand keys.Marks) (h.stand keys.Mark) (h.few keys.Mark);
     } in (
       scene,
       record {
@@ -102,17 +102,23 @@ scene-given statements h given =
 
 -- ---- what is missing at the end
 
-all-given : (room start goal step : Bool) → cond ((room && start) && (goal && step)) None (Some kinds.Missing) ≡ None → (room ≡ true) × (start ≡ true) × (goal ≡ true) × (step ≡ true)
-all-given true true true true e = (refl, refl, refl, refl)
-all-given true true true false e = absurd (cc)
-all-given true true false step e = absurd (cc)
-all-given true false goal step e = absurd (cc)
-all-given false start goal step e = absurd (cc)
+all-given : (room start goal step : Bool) → (room && (start && (goal && (step && true)))) ≡ true
+    → (room ≡ true) × (start ≡ true) × (goal ≡ true) × (step ≡ true)
+all-given room start goal step e =
+    let first = and_parts room (start && (goal && (step && true))) e in
+    let second = and_parts start (goal && (step && true)) first.1 in
+    let third = and_parts goal (step && true) second.1 in
+    (first.0, second.0, third.0, (and_parts step true third.1).0)
 
-AreGiven-end : (statements : List (List (List ℕ))) → fault_of_end statements ≡ None → AreGiven (drop 1 statements)
-AreGiven-end [] e = absurd (cc)
-AreGiven-end (version ∷ statements) e =
-    let all = all-given (has keys.Room statements) (has keys.Start statements) (has keys.Goal statements) (has keys.Step statements) e in
+none-missing : (all : Bool) → cond all None (Some kinds.Missing) ≡ None → all ≡ true
+none-missing true e = refl
+none-missing false e = absurd (cc)
+
+-- if nothing is missing, the keys that each scene needs stand
+pub AreGiven-end : (version_read : Bool) (given : Given) → fault_at_end version_read given ≡ None → AreGiven given
+AreGiven-end false given e = absurd (cc)
+AreGiven-end true given e =
+    let all = all-given (stands given keys.Room) (stands given keys.Start) (stands given keys.Goal) (stands given keys.Step) (none-missing _ e) in
     record {
       room = all.0;
       start = all.1;
@@ -131,14 +137,17 @@ abbrev Stopped : (Key → Bool) → List ℕ → Type 0
 Stopped built text =
     (number : ℕ) × (kind : Kind) × Refused built text number kind
 
-spelled : (built : Key → Bool) (text : List ℕ) → IsSoundBelow built (lines_of text) (length (lines_of text)) → fault_of_end (statements_of (lines_of text)) ≡ None → Spelled built text
+spelled : (built : Key → Bool) (text : List ℕ) → IsSoundBelow built (lines_of text) (length (lines_of text))
+    → fault_of_end (statements_of (lines_of text)) ≡ None → Spelled built text
 spelled built text sound whole =
-    let all : AreStanding (drop 1 (statements_of (lines_of text))) = subst (λ lines. AreStanding (drop 1 (statements_of lines))) (take_all (length (lines_of text)) (lines_of text) (omega arith)) (AreStanding-lines built (lines_of text) (length (lines_of text)) (omega arith) sound) in
-    let given = scene-given (drop 1 (statements_of (lines_of text))) all (AreGiven-end (statements_of (lines_of text)) whole) in
+    let statements = statements_of (lines_of text) in
+    let given = scene-given (given_after_version statements) (IsSoundGiven-text built text sound).stand
+    (AreGiven-end (is_version_read statements) (given_after_version statements) whole) in
     (given.0, record { sound = sound; whole = whole; fields = given.1 })
 
--- what stands behind the last line decides, where no line has a fault
-at_end : (built : Key → Bool) (text : List ℕ) (fault : Option Kind) → fault_of_end (statements_of (lines_of text)) ≡ fault → IsSoundBelow built (lines_of text) (length (lines_of text)) → Spelled built text ⊎ Stopped built text
+-- what is missing after the last line decides, if no line has a fault
+at_end : (built : Key → Bool) (text : List ℕ) (fault : Option Kind) → fault_of_end (statements_of (lines_of text)) ≡ fault
+    → IsSoundBelow built (lines_of text) (length (lines_of text)) → Spelled built text ⊎ Stopped built text
 at_end built text None e sound = inl (spelled built text sound e)
 at_end built text (Some kind) e sound =
     inr (length (lines_of text) + 1, kind, (length (lines_of text), refl, sound, inr (refl, e)))
@@ -151,7 +160,8 @@ record HasFirst (built : Key → Bool) (lines : List (List ℕ)) (n : ℕ) : Typ
   before : IsSoundBelow built lines number
   fault : fault_of_line built lines number ≡ Some kind
 
-one_more : (built : Key → Bool) (lines : List (List ℕ)) (n : ℕ) (fault : Option Kind) → fault_of_line built lines n ≡ fault → IsSoundBelow built lines n → IsSoundBelow built lines (n + 1) ⊎ HasFirst built lines (n + 1)
+one_more : (built : Key → Bool) (lines : List (List ℕ)) (n : ℕ) (fault : Option Kind) → fault_of_line built lines n ≡ fault → IsSoundBelow built lines n
+    → IsSoundBelow built lines (n + 1) ⊎ HasFirst built lines (n + 1)
 one_more built lines n None e sound =
     inl (below_more (λ i. fault_of_line built lines i ≡ None) n sound e)
 one_more built lines n (Some kind) e sound = inr (record {
@@ -174,10 +184,16 @@ later built lines n first = record {
 first_fault : (built : Key → Bool) (lines : List (List ℕ)) (n : ℕ) → IsSoundBelow built lines n ⊎ HasFirst built lines n
 first_fault built lines zero = inl (λ i l. absurd (omega arith))
 first_fault built lines (suc n) =
-    subst (λ m. IsSoundBelow built lines m ⊎ HasFirst built lines m) (add-one n) (elim (first_fault built lines n) [ inl sound ↦ one_more built lines n (fault_of_line built lines n) refl sound | inr first ↦ inr (later built lines n first) ])
+    subst (λ m. IsSoundBelow built lines m ⊎ HasFirst built lines m) (add-one n)
+    (elim (first_fault built lines n) [
+      | inl sound ↦ one_more built lines n (fault_of_line built lines n) refl sound
+      | inr first ↦ inr
+          (later built lines n first)
+    ])
 
 -- a text spells a scene, or it is refused
-pub decided : (built : Key → Bool) (text : List ℕ) → ((scene : Scene) × Spells built text scene) ⊎ ((number : ℕ) × (kind : Kind) × Refused built text number kind)
+pub decided : (built : Key → Bool) (text : List ℕ)
+    → ((scene : Scene) × Spells built text scene) ⊎ ((number : ℕ) × (kind : Kind) × Refused built text number kind)
 decided built text =
     elim (first_fault built (lines_of text) (length (lines_of text))) [
       | inl sound ↦ at_end built text (fault_of_end (statements_of (lines_of text))) refl sound

@@ -26,6 +26,7 @@ pub mod StatementNumbers
 pub mod SoundStatements
 pub mod SceneParts
 pub mod GivenScenes
+pub mod SupportedScenes
 pub mod CostLaws
 pub mod StripLaws
 pub mod Differences

@@ -17,7 +17,8 @@ use Rattle.plan_model.specs.declared.scenes.Marks.TheVariants.{Drawn, Listed}
 use Rattle.plan_model.specs.Limits.{IsBetween, is_mark, is_plan}
 use Rattle.plan_model.specs.EmptyRooms.{IsPointInEmptyRoom}
 use Rattle.plan_model.specs.ConfigurationSpace.{space_of}
-use Rattle.plan_model.specs.MarkPoints.{mark_points, mixed, word_of_state, first_word, second_word, next_state, below_zero, above_zero, reach, Span, span_within, columns, rows, strip, picked, drawn_mark, points_of}
+use Rattle.plan_model.specs.MarkPoints.{mark_points, mixed, word_of_state, first_word, second_word, next_state, below_zero, above_zero, reach, Span}
+use Rattle.plan_model.specs.MarkPoints.{span_within, columns, rows, strip, picked, drawn_mark, points_of}
 
 -- a share of c is at most c
 share_le : (u c m : ℕ) → u ≤ m → (u * c) / m ≤ c
@@ -48,7 +49,11 @@ unfolding end_of
 strip_end all strips g h =
     let low : (g * all.count) / strips ≤ all.count = share_le g all.count strips (omega arith) in
     let high : ((g + 1) * all.count) / strips ≤ all.count = share_le (g + 1) all.count strips (omega arith) in
-    cond_end (ltb all.count strips) all (record { first = all.first + (g * all.count) / strips; count = ((g + 1) * all.count) / strips - (g * all.count) / strips }) (end_of all) (omega arith) (omega arith)
+    cond_end (ltb all.count strips) all (record {
+      first = all.first + (g * all.count) / strips;
+      count = ((g + 1) * all.count) / strips - (g * all.count) /
+          strips;
+    }) (end_of all) (omega arith) (omega arith)
 
 -- where a body that does not reach back fits, the side bounds
 span_end : (side back forth : ℕ) → back ≡ 0 → end_of (span_within side back forth) ≤ side + 1
@@ -88,7 +93,8 @@ listed_within p h =
     record { left = omega arith; right = omega (arith, x); bottom = omega arith; top = omega (arith, y) }
 
 -- no coordinate of a mark is above 65,536
-pub All-marks_within : (scene : Scene) (plan : Marks) → IsPointInEmptyRoom scene → IsBetween 1 65535 scene.room → 1 ≤ scene.strips → IsTrue (is_plan plan) → All (IsBetween 0 65536) (points_of scene plan)
+pub All-marks_within : (scene : Scene) (plan : Marks) → IsPointInEmptyRoom scene → IsBetween 1 65535 scene.room → 1 ≤ scene.strips → IsTrue (is_plan plan)
+    → All (IsBetween 0 65536) (points_of scene plan)
 All-marks_within scene (Drawn n) plain room strips h =
     All-map (IsBetween 0 65536) (drawn_mark scene) (range_with_len 0 n) (λ k d l. drawn_within scene _ plain room strips)
 All-marks_within scene (Listed points) plain room strips h =
@@ -106,4 +112,5 @@ length-marks task = omega (arith, ap length task.of_scene, length-points_of task
 pub All-task_marks_within : (task : Task) → IsPointInEmptyRoom task.scene → All (IsBetween 0 65536) task.marks
 All-task_marks_within task plain =
     let scene = task.scene in
-    All-same (IsBetween 0 65536) task.marks (mark_points scene) task.of_scene (All-marks_within scene scene.plan plain scene.room_within scene.strips_low scene.plan_within)
+    All-same (IsBetween 0 65536) task.marks (mark_points scene) task.of_scene
+    (All-marks_within scene scene.plan plain scene.room_within scene.strips_low scene.plan_within)

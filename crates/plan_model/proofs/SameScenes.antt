@@ -7,6 +7,8 @@ use Rattle.plan_model.specs.declared.geometry.Goal.{Goal}
 use Rattle.plan_model.specs.declared.scenes.Scene.{Scene}
 use Rattle.plan_model.specs.declared.text_terms.Key.{Key}
 use Rattle.plan_model.specs.Limits.{IsBetween, IsGoal, is_body, are_obstacles, is_plan}
+use Rattle.plan_model.specs.declared.limits.TheConstants.{LEAST_SIDE, LEAST_STEP, MOST_GAMMA, MOST_SIDE, MOST_STEP, MOST_STRIPS}
+use Rattle.plan_model.specs.LineChecks.{Given}
 use Rattle.plan_model.specs.SceneGrammar.{HasFields, Spells}
 
 IsBetween-prop : (low high : ℕ) (p : Point) → IsProp (IsBetween low high p)
@@ -24,8 +26,8 @@ number-prop m n = hlevel props
 test-prop : (b : Bool) → IsProp (IsTrue b)
 test-prop b = hlevel props
 
-pub same_fields : (statements : List (List (List ℕ))) (one other : Scene) → HasFields statements one → HasFields statements other → one ≡ other
-same_fields statements one other a b =
+pub same_fields : (given : Given) (one other : Scene) → HasFields given one → HasFields given other → one ≡ other
+same_fields given one other a b =
     let version : one.version ≡ other.version = a.version ∙ sym b.version in
     let room : one.room ≡ other.room = a.room ∙ sym b.room in
     let body : one.body ≡ other.body = a.body ∙ sym b.body in
@@ -50,16 +52,18 @@ same_fields statements one other a b =
       strips = strips i;
       plan = plan i;
       version_is_one = is_prop→PathP (λ j. version j ≡ 1) (λ j. number-prop (version j) 1) one.version_is_one other.version_is_one i;
-      room_within = is_prop→PathP (λ j. IsBetween 1 65535 (room j)) (λ j. IsBetween-prop 1 65535 (room j)) one.room_within other.room_within i;
+      room_within = is_prop→PathP (λ j. IsBetween LEAST_SIDE MOST_SIDE (room j)) (λ j. IsBetween-prop LEAST_SIDE MOST_SIDE (room j)) one.room_within
+          other.room_within i;
       body_within = is_prop→PathP (λ j. IsTrue (is_body (body j))) (λ j. test-prop (is_body (body j))) one.body_within other.body_within i;
-      obstacles_within = is_prop→PathP (λ j. IsTrue (are_obstacles (obstacles j))) (λ j. test-prop (are_obstacles (obstacles j))) one.obstacles_within other.obstacles_within i;
-      start_within = is_prop→PathP (λ j. IsBetween 0 65535 (start j)) (λ j. IsBetween-prop 0 65535 (start j)) one.start_within other.start_within i;
+      obstacles_within = is_prop→PathP (λ j. IsTrue (are_obstacles (obstacles j))) (λ j. test-prop (are_obstacles (obstacles j))) one.obstacles_within
+          other.obstacles_within i;
+      start_within = is_prop→PathP (λ j. IsBetween 0 MOST_SIDE (start j)) (λ j. IsBetween-prop 0 MOST_SIDE (start j)) one.start_within other.start_within i;
       goal_within = is_prop→PathP (λ j. IsGoal (goal j)) (λ j. IsGoal-prop (goal j)) one.goal_within other.goal_within i;
-      step_low = is_prop→PathP (λ j. 4 ≤ step j) (λ j. le-prop 4 (step j)) one.step_low other.step_low i;
-      step_high = is_prop→PathP (λ j. step j ≤ 4096) (λ j. le-prop (step j) 4096) one.step_high other.step_high i;
-      gamma_high = is_prop→PathP (λ j. gamma j ≤ 16777215) (λ j. le-prop (gamma j) 16777215) one.gamma_high other.gamma_high i;
+      step_low = is_prop→PathP (λ j. LEAST_STEP ≤ step j) (λ j. le-prop LEAST_STEP (step j)) one.step_low other.step_low i;
+      step_high = is_prop→PathP (λ j. step j ≤ MOST_STEP) (λ j. le-prop (step j) MOST_STEP) one.step_high other.step_high i;
+      gamma_high = is_prop→PathP (λ j. gamma j ≤ MOST_GAMMA) (λ j. le-prop (gamma j) MOST_GAMMA) one.gamma_high other.gamma_high i;
       strips_low = is_prop→PathP (λ j. 1 ≤ strips j) (λ j. le-prop 1 (strips j)) one.strips_low other.strips_low i;
-      strips_high = is_prop→PathP (λ j. strips j ≤ 64) (λ j. le-prop (strips j) 64) one.strips_high other.strips_high i;
+      strips_high = is_prop→PathP (λ j. strips j ≤ MOST_STRIPS) (λ j. le-prop (strips j) MOST_STRIPS) one.strips_high other.strips_high i;
       plan_within = is_prop→PathP (λ j. IsTrue (is_plan (plan j))) (λ j. test-prop (is_plan (plan j))) one.plan_within other.plan_within i;
     }
 

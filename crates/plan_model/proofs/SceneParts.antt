@@ -1,21 +1,21 @@
 -- The parts of a scene, from numbers that may stand behind its keys.
-use Rattle.std.proofs.Common.{◌≡◌, ℕ, ◌+◌, ◌*◌, ◌≤◌, ◌&&◌, ◌||◌, ◌⊎◌, Bool, true, false, eqb, ltb, leb, ℤ, pos, negsuc, int_le, unsigned_abs, List, [], ◌∷◌, length, map, All, refl, inl, inr, arith}
+use Rattle.std.proofs.Common.{◌≡◌, ℕ, ◌+◌, ◌*◌, ◌≤◌, ◌&&◌, ◌||◌, ◌⊎◌, Bool, true, false, eqb, ltb, leb, ℤ, pos, negsuc, int_le, unsigned_abs, List, []}
+use Rattle.std.proofs.Common.{◌∷◌, length, map, All, refl, inl, inr, arith}
 use Rattle.std.specs.List.{list_all}
-use Rattle.std.proofs.lemmas.Bool.{and_parts, and_from, or_cases, or_parts, or_left, or_right, leb-true, le-leb, eqb-true, eq-eqb, ltb-false}
+use Rattle.std.proofs.lemmas.Bool.{and_parts, and_from, or_cases, or_left, or_right, leb-true, le-leb, eqb-true, eq-eqb, ltb-false}
 use Rattle.std.proofs.lemmas.List.{length-map}
 use Rattle.std.proofs.lemmas.List.Elements.{All-head, All-tail}
 use Rattle.plan_model.specs.declared.geometry.Vertex.{Vertex}
 use Rattle.plan_model.specs.declared.text_terms.Key.TheVariants as keys
 use Rattle.plan_model.specs.Convexity.{is_strictly_convex}
 use Rattle.plan_model.specs.Limits.{IsBetween, IsGoal, is_body, is_obstacle, is_mark, is_plan}
-use Rattle.plan_model.specs.SceneGrammar.{corners_from, point_from, goal_from, number_or, body_from, plan_from}
-use Rattle.plan_model.proofs.SoundStatements.{MayStand}
+use Rattle.plan_model.specs.declared.limits.TheConstants.{LEAST_BODY_COORDINATE, LEAST_OBSTACLE_COORDINATE, LEAST_SIDE, LEAST_STEP}
+use Rattle.plan_model.specs.declared.limits.TheConstants.{MOST_BODY_COORDINATE, MOST_BODY_CORNERS, MOST_GAMMA, MOST_MARKS}
+use Rattle.plan_model.specs.declared.limits.TheConstants.{MOST_OBSTACLE_COORDINATE, MOST_OBSTACLE_CORNERS, MOST_SIDE, MOST_STEP, MOST_STRIPS}
+use Rattle.plan_model.specs.LineChecks.{are_between, corners_from, MayStand}
+use Rattle.plan_model.specs.SceneGrammar.{point_from, goal_from, number_or, body_from, plan_from}
 
 -- ---- one number
-
--- the numbers are from low to high
-abbrev are_within : ℤ → ℤ → List ℤ → Bool
-are_within low high zs = list_all (λ z. int_le low z && int_le z high) zs
 
 -- a number from low to high, both of which are natural numbers
 pub record IsWithin (low high n : ℕ) : Type 0 where
@@ -34,22 +34,21 @@ in_order (pos m) (pos n) h e = leb-true m n e
 in_order (pos m) (negsuc n) h e = absurd (cc)
 in_order (negsuc m) b h e = absurd (cc)
 
-single : (low high default : ℕ) (zs : List ℤ) → eqb (length zs) 1 ≡ true → (are_within (pos low) (pos high) zs && true) ≡ true → IsWithin low high (number_or default zs)
+single : (low high default : ℕ) (zs : List ℤ) → eqb (length zs) 1 ≡ true → are_between (pos low) (pos high) zs ≡ true → IsWithin low high (number_or default zs)
 single low high default [] count h = absurd (cc)
 single low high default (z ∷ zs) count h =
-    let all = and_parts (are_within (pos low) (pos high) (z ∷ zs)) true h in
-    within low high z (and_parts (int_le (pos low) z && int_le z (pos high)) (are_within (pos low) (pos high) zs) all.0).0
+    within low high z (and_parts (int_le (pos low) z && int_le z (pos high)) (are_between (pos low) (pos high) zs) h).0
 
 -- ---- points
 
-pair : (low : ℕ) (zs : List ℤ) → 2 ≤ length zs → are_within (pos low) (pos 65535) zs ≡ true → IsBetween low 65535 (point_from zs)
+pair : (low : ℕ) (zs : List ℤ) → 2 ≤ length zs → are_between (pos low) (pos MOST_SIDE) zs ≡ true → IsBetween low MOST_SIDE (point_from zs)
 pair low [] long h = absurd (omega arith)
 pair low (x ∷ []) long h = absurd (omega arith)
 pair low (x ∷ y ∷ zs) long h =
-    let first = and_parts (int_le (pos low) x && int_le x (pos 65535)) (are_within (pos low) (pos 65535) (y ∷ zs)) h in
-    let second = and_parts (int_le (pos low) y && int_le y (pos 65535)) (are_within (pos low) (pos 65535) zs) first.1 in
-    let horizontal = within low 65535 x first.0 in
-    let vertical = within low 65535 y second.0 in
+    let first = and_parts (int_le (pos low) x && int_le x (pos MOST_SIDE)) (are_between (pos low) (pos MOST_SIDE) (y ∷ zs)) h in
+    let second = and_parts (int_le (pos low) y && int_le y (pos MOST_SIDE)) (are_between (pos low) (pos MOST_SIDE) zs) first.1 in
+    let horizontal = within low MOST_SIDE x first.0 in
+    let vertical = within low MOST_SIDE y second.0 in
     record {
       left = horizontal.above;
       right = horizontal.below;
@@ -57,21 +56,20 @@ pair low (x ∷ y ∷ zs) long h =
       top = vertical.below;
     }
 
-point : (low : ℕ) (zs : List ℤ) → eqb (length zs) 2 ≡ true → (are_within (pos low) (pos 65535) zs && true) ≡ true → IsBetween low 65535 (point_from zs)
-point low zs count h =
-    pair low zs (omega (arith, eqb-true (length zs) 2 count)) (and_parts (are_within (pos low) (pos 65535) zs) true h).0
+point : (low : ℕ) (zs : List ℤ) → eqb (length zs) 2 ≡ true → are_between (pos low) (pos MOST_SIDE) zs ≡ true → IsBetween low MOST_SIDE (point_from zs)
+point low zs count h = pair low zs (omega (arith, eqb-true (length zs) 2 count)) h
 
-pub room-within : (zs : List ℤ) → MayStand keys.Room zs → IsBetween 1 65535 (point_from zs)
-room-within zs h = point 1 zs h.count h.ranged
+pub room-within : (zs : List ℤ) → MayStand keys.Room zs → IsBetween LEAST_SIDE MOST_SIDE (point_from zs)
+room-within zs h = point LEAST_SIDE zs h.count h.ranged
 
-pub start-within : (zs : List ℤ) → MayStand keys.Start zs → IsBetween 0 65535 (point_from zs)
+pub start-within : (zs : List ℤ) → MayStand keys.Start zs → IsBetween 0 MOST_SIDE (point_from zs)
 start-within zs h = point 0 zs h.count h.ranged
 
 pub mark-within : (zs : List ℤ) → MayStand keys.Mark zs → is_mark (point_from zs) ≡ true
 mark-within zs h =
     let p = point_from zs in
     let between = point 0 zs h.count h.ranged in
-    and_from (leb p.x 65535) (leb p.y 65535) (le-leb p.x 65535 between.right) (le-leb p.y 65535 between.top)
+    and_from (leb p.x MOST_SIDE) (leb p.y MOST_SIDE) (le-leb p.x MOST_SIDE between.right) (le-leb p.y MOST_SIDE between.top)
 
 pub goal-within : (zs : List ℤ) → MayStand keys.Goal zs → IsGoal (goal_from zs)
 goal-within [] h = let none = h.count in absurd (cc)
@@ -79,31 +77,31 @@ goal-within (a ∷ []) h = let none = h.count in absurd (cc)
 goal-within (a ∷ b ∷ []) h = let none = h.count in absurd (cc)
 goal-within (a ∷ b ∷ c ∷ []) h = let none = h.count in absurd (cc)
 goal-within (a ∷ b ∷ c ∷ d ∷ zs) h =
-    let parts = and_parts (are_within (pos 0) (pos 65535) (a ∷ b ∷ c ∷ d ∷ zs)) (int_le a c && int_le b d) h.ranged in
-    let order = and_parts (int_le a c) (int_le b d) parts.1 in
-    let first = and_parts (int_le (pos 0) a && int_le a (pos 65535)) (are_within (pos 0) (pos 65535) (b ∷ c ∷ d ∷ zs)) parts.0 in
-    let second = and_parts (int_le (pos 0) b && int_le b (pos 65535)) (are_within (pos 0) (pos 65535) (c ∷ d ∷ zs)) first.1 in
+    let parts = and_parts (int_le a c && int_le b d) (are_between (pos 0) (pos MOST_SIDE) (a ∷ b ∷ c ∷ d ∷ zs)) h.ranged in
+    let order = and_parts (int_le a c) (int_le b d) parts.0 in
+    let first = and_parts (int_le (pos 0) a && int_le a (pos MOST_SIDE)) (are_between (pos 0) (pos MOST_SIDE) (b ∷ c ∷ d ∷ zs)) parts.1 in
+    let second = and_parts (int_le (pos 0) b && int_le b (pos MOST_SIDE)) (are_between (pos 0) (pos MOST_SIDE) (c ∷ d ∷ zs)) first.1 in
     let high = pair 0 (c ∷ d ∷ zs) (omega arith) second.1 in
     record {
       right = high.right;
       top = high.top;
-      horizontal = in_order a c (and_parts (int_le (pos 0) a) (int_le a (pos 65535)) first.0).0 order.0;
-      vertical = in_order b d (and_parts (int_le (pos 0) b) (int_le b (pos 65535)) second.0).0 order.1;
+      horizontal = in_order a c (and_parts (int_le (pos 0) a) (int_le a (pos MOST_SIDE)) first.0).0 order.0;
+      vertical = in_order b d (and_parts (int_le (pos 0) b) (int_le b (pos MOST_SIDE)) second.0).0 order.1;
     }
 
 -- ---- numbers
 
-pub step-within : (zs : List ℤ) → MayStand keys.Step zs → IsWithin 4 4096 (number_or 0 zs)
-step-within zs h = single 4 4096 0 zs h.count h.ranged
+pub step-within : (zs : List ℤ) → MayStand keys.Step zs → IsWithin LEAST_STEP MOST_STEP (number_or 0 zs)
+step-within zs h = single LEAST_STEP MOST_STEP 0 zs h.count h.ranged
 
-pub gamma-within : (zs : List ℤ) → MayStand keys.Gamma zs → number_or 0 zs ≤ 16777215
-gamma-within zs h = (single 0 16777215 0 zs h.count h.ranged).below
+pub gamma-within : (zs : List ℤ) → MayStand keys.Gamma zs → number_or 0 zs ≤ MOST_GAMMA
+gamma-within zs h = (single 0 MOST_GAMMA 0 zs h.count h.ranged).below
 
-pub strips-within : (zs : List ℤ) → MayStand keys.Strips zs → IsWithin 1 64 (number_or 1 zs)
-strips-within zs h = single 1 64 1 zs h.count h.ranged
+pub strips-within : (zs : List ℤ) → MayStand keys.Strips zs → IsWithin 1 MOST_STRIPS (number_or 1 zs)
+strips-within zs h = single 1 MOST_STRIPS 1 zs h.count h.ranged
 
-pub marks-within : (zs : List ℤ) → MayStand keys.Marks zs → number_or 0 zs ≤ 262143
-marks-within zs h = (single 0 262143 0 zs h.count h.ranged).below
+pub marks-within : (zs : List ℤ) → MayStand keys.Marks zs → number_or 0 zs ≤ MOST_MARKS
+marks-within zs h = (single 0 MOST_MARKS 0 zs h.count h.ranged).below
 
 -- ---- polygons
 
@@ -124,60 +122,71 @@ abbrev is_corner_within : ℤ → ℤ → Vertex → Bool
 is_corner_within low high v =
     int_le low v.x && (int_le v.x high && (int_le low v.y && int_le v.y high))
 
-corners-within : (low high : ℤ) (zs : List ℤ) → are_within low high zs ≡ true → list_all (is_corner_within low high) (corners_from zs) ≡ true
+corners-within : (low high : ℤ) (zs : List ℤ) → are_between low high zs ≡ true → list_all (is_corner_within low high) (corners_from zs) ≡ true
 corners-within low high [] h = refl
 corners-within low high (x ∷ []) h = refl
 corners-within low high (x ∷ y ∷ zs) h =
-    let first = and_parts (int_le low x && int_le x high) (are_within low high (y ∷ zs)) h in
-    let second = and_parts (int_le low y && int_le y high) (are_within low high zs) first.1 in
+    let first = and_parts (int_le low x && int_le x high) (are_between low high (y ∷ zs)) h in
+    let second = and_parts (int_le low y && int_le y high) (are_between low high zs) first.1 in
     let horizontal = and_parts (int_le low x) (int_le x high) first.0 in
     let vertical = and_parts (int_le low y) (int_le y high) second.0 in
     rw (horizontal.0, horizontal.1, vertical.0, vertical.1, corners-within low high zs second.1) refl
 
 -- one corner, or up to 16 that are strictly convex
-body-shape : (n count : ℕ) (convex : Bool) → 2 * n ≤ count → count ≤ 2 * n + 1 → ltb 32 count ≡ false → (eqb count 2 ≡ true) ⊎ (convex ≡ true) → (eqb n 1 || (leb n 16 && convex)) ≡ true
+body-shape : (n count : ℕ) (convex : Bool) → 2 * n ≤ count → count ≤ 2 * n + 1 → ltb (2 * MOST_BODY_CORNERS) count ≡ false
+    → (eqb count 2 ≡ true) ⊎ (convex ≡ true) → (eqb n 1 || (leb n MOST_BODY_CORNERS && convex)) ≡ true
 body-shape n count convex most least few (inl two) =
-    or_left (eqb n 1) (leb n 16 && convex) (eq-eqb n 1 (omega (arith, eqb-true count 2 two)))
+    or_left (eqb n 1) (leb n MOST_BODY_CORNERS && convex) (eq-eqb n 1 (omega (arith, eqb-true count 2 two)))
 body-shape n count convex most least few (inr h) =
-    or_right (eqb n 1) (leb n 16 && convex) (and_from (leb n 16) convex (le-leb n 16 (omega (arith, ltb-false 32 count few))) h)
+    or_right (eqb n 1) (leb n MOST_BODY_CORNERS && convex)
+    (and_from (leb n MOST_BODY_CORNERS) convex (le-leb n MOST_BODY_CORNERS (omega (arith, ltb-false (2 * MOST_BODY_CORNERS) count few))) h)
 
 pub polygon-of_body : (zs : List ℤ) → MayStand keys.Body zs → is_body (corners_from zs) ≡ true
 polygon-of_body zs h =
     let vs = corners_from zs in
     let many = corners zs in
-    let ranged = (and_parts (are_within (negsuc 4095) (pos 4096) zs) true h.ranged).0 in
-    let shape = body-shape (length vs) (length zs) (is_strictly_convex vs) many.most many.least h.few (or_cases (eqb (length zs) 2) (is_strictly_convex vs) h.corners) in
-    and_from (eqb (length vs) 1 || (leb (length vs) 16 && is_strictly_convex vs)) (list_all (is_corner_within (negsuc 4095) (pos 4096)) vs) shape (corners-within (negsuc 4095) (pos 4096) zs ranged)
+    let ranged = h.ranged in
+    let shape = body-shape (length vs) (length zs) (is_strictly_convex vs) many.most many.least h.few
+    (or_cases (eqb (length zs) 2) (is_strictly_convex vs) h.corners) in
+    and_from (eqb (length vs) 1 || (leb (length vs) MOST_BODY_CORNERS && is_strictly_convex vs))
+    (list_all (is_corner_within LEAST_BODY_COORDINATE MOST_BODY_COORDINATE) vs) shape (corners-within LEAST_BODY_COORDINATE MOST_BODY_COORDINATE zs ranged)
 
 pub polygon-of_obstacle : (zs : List ℤ) → MayStand keys.Obstacle zs → is_obstacle (corners_from zs) ≡ true
 polygon-of_obstacle zs h =
     let vs = corners_from zs in
     let many = corners zs in
-    let ranged = (and_parts (are_within (negsuc 131071) (pos 131071) zs) true h.ranged).0 in
-    let few : length zs ≤ 128 = ltb-false 128 (length zs) (or_parts (ltb 128 (length zs)) false h.few).0 in
-    let small : leb (length vs) 64 ≡ true = le-leb (length vs) 64 (omega arith) in
-    let shape : (leb (length vs) 64 && is_strictly_convex vs) ≡ true = and_from (leb (length vs) 64) (is_strictly_convex vs) small h.corners in
-    and_from (leb (length vs) 64 && is_strictly_convex vs) (list_all (is_corner_within (negsuc 131071) (pos 131071)) vs) shape (corners-within (negsuc 131071) (pos 131071) zs ranged)
+    let ranged = h.ranged in
+    let few : length zs ≤ 2 * MOST_OBSTACLE_CORNERS = ltb-false (2 * MOST_OBSTACLE_CORNERS) (length zs) h.few in
+    let small : leb (length vs) MOST_OBSTACLE_CORNERS ≡ true = le-leb (length vs) MOST_OBSTACLE_CORNERS (omega arith) in
+    let shape : (leb (length vs) MOST_OBSTACLE_CORNERS && is_strictly_convex vs)
+    ≡ true = and_from (leb (length vs) MOST_OBSTACLE_CORNERS) (is_strictly_convex vs) small h.corners in
+    and_from (leb (length vs) MOST_OBSTACLE_CORNERS && is_strictly_convex vs)
+    (list_all (is_corner_within LEAST_OBSTACLE_COORDINATE MOST_OBSTACLE_COORDINATE) vs) shape
+    (corners-within LEAST_OBSTACLE_COORDINATE MOST_OBSTACLE_COORDINATE zs ranged)
 
 -- ---- lists of parts
 
 pub obstacles-within : (lists : List (List ℤ)) → All (MayStand keys.Obstacle) lists → list_all is_obstacle (map corners_from lists) ≡ true
 obstacles-within [] h = refl
 obstacles-within (zs ∷ lists) h =
-    and_from (is_obstacle (corners_from zs)) (list_all is_obstacle (map corners_from lists)) (polygon-of_obstacle zs (All-head (MayStand keys.Obstacle) zs lists h)) (obstacles-within lists (All-tail (MayStand keys.Obstacle) zs lists h))
+    and_from (is_obstacle (corners_from zs)) (list_all is_obstacle (map corners_from lists))
+    (polygon-of_obstacle zs (All-head (MayStand keys.Obstacle) zs lists h)) (obstacles-within lists (All-tail (MayStand keys.Obstacle) zs lists h))
 
 pub points-within : (lists : List (List ℤ)) → All (MayStand keys.Mark) lists → list_all is_mark (map point_from lists) ≡ true
 points-within [] h = refl
 points-within (zs ∷ lists) h =
-    and_from (is_mark (point_from zs)) (list_all is_mark (map point_from lists)) (mark-within zs (All-head (MayStand keys.Mark) zs lists h)) (points-within lists (All-tail (MayStand keys.Mark) zs lists h))
+    and_from (is_mark (point_from zs)) (list_all is_mark (map point_from lists)) (mark-within zs (All-head (MayStand keys.Mark) zs lists h))
+    (points-within lists (All-tail (MayStand keys.Mark) zs lists h))
 
 pub body-within : (lists : List (List ℤ)) → All (MayStand keys.Body) lists → is_body (body_from lists) ≡ true
 body-within [] h = refl
 body-within (zs ∷ lists) h =
     polygon-of_body zs (All-head (MayStand keys.Body) zs lists h)
 
-pub plan-within : (drawn listed : List (List ℤ)) → All (MayStand keys.Marks) drawn → All (MayStand keys.Mark) listed → length listed ≤ 262143 → is_plan (plan_from drawn listed) ≡ true
+pub plan-within : (drawn listed : List (List ℤ)) → All (MayStand keys.Marks) drawn → All (MayStand keys.Mark) listed → length listed ≤ MOST_MARKS
+    → is_plan (plan_from drawn listed) ≡ true
 plan-within [] listed h g few =
-    and_from (leb (length (map point_from listed)) 262143) (list_all is_mark (map point_from listed)) (le-leb (length (map point_from listed)) 262143 (omega (arith, length-map listed point_from))) (points-within listed g)
+    and_from (leb (length (map point_from listed)) MOST_MARKS) (list_all is_mark (map point_from listed))
+    (le-leb (length (map point_from listed)) MOST_MARKS (omega (arith, length-map listed point_from))) (points-within listed g)
 plan-within (zs ∷ drawn) listed h g few =
-    le-leb (number_or 0 zs) 262143 (marks-within zs (All-head (MayStand keys.Marks) zs drawn h))
+    le-leb (number_or 0 zs) MOST_MARKS (marks-within zs (All-head (MayStand keys.Marks) zs drawn h))

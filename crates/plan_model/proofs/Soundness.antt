@@ -1,11 +1,12 @@
 -- Texts whose lines have no fault, by a test of each line; and a text is refused at one line and for one kind.
-use Rattle.std.proofs.Common.{◌≡◌, ℕ, zero, suc, ◌+◌, ◌<◌, ◌≤◌, Bool, true, List, length, Option, Some, None, ◌⊎◌, inl, inr, ◌∙◌, ap, refl, arith}
+use Rattle.std.proofs.Common.{◌≡◌, ℕ, zero, suc, ◌+◌, ◌<◌, ◌≤◌, Bool, true, List, length, Option, Some, None, inl, inr, ◌∙◌, ap, refl, arith}
 use Rattle.std.specs.Prelude.{◌&&◌, is_none}
 use Rattle.std.proofs.lemmas.Bool.{cases_order}
 use Rattle.plan_model.specs.declared.scenes.Scene.{Scene}
 use Rattle.plan_model.specs.declared.text_terms.Key.{Key}
 use Rattle.plan_model.specs.declared.text_terms.Kind.{Kind}
-use Rattle.plan_model.specs.SceneGrammar.{lines_of, statements_of, fault_of_line, fault_of_end, IsSoundBelow, Refused, Spells}
+use Rattle.plan_model.specs.TextLines.{lines_of}
+use Rattle.plan_model.specs.SceneGrammar.{fault_of_line, IsSoundBelow, FailsAt, Refused, Spells}
 
 -- no line below line n has a fault
 unfoldable pub are_sound : (Key → Bool) → List (List ℕ) → ℕ → Bool
@@ -33,21 +34,18 @@ IsSoundBelow-from_test built lines (suc n) h =
       | inr (inr more) ↦ absurd (omega arith)
     ]
 
--- the two ways in which a text is refused after i lines without a fault
-abbrev Stops : (Key → Bool) → List ℕ → ℕ → Kind → Type 0
-Stops built text i kind =
-    ((i < length (lines_of text)) × (fault_of_line built (lines_of text) i ≡ Some kind)) ⊎ ((i ≡ length (lines_of text)) × (fault_of_end (statements_of (lines_of text)) ≡ Some kind))
-
 -- no text is refused after a line with a fault
-not_later : (built : Key → Bool) (text : List ℕ) (i j : ℕ) (kind : Kind) → Stops built text i kind → j ≤ length (lines_of text) → IsSoundBelow built (lines_of text) j → i < j → ⊥
+not_later : (built : Key → Bool) (text : List ℕ) (i j : ℕ) (kind : Kind) → FailsAt built (lines_of text) i kind → j ≤ length (lines_of text)
+    → IsSoundBelow built (lines_of text) j → i < j → ⊥
 not_later built text i j kind (inl here) most sound l = let e = sound i l in let f = here.1 in cc
 not_later built text i j kind (inr end) most sound l = omega (arith, end.0)
 
-within : (built : Key → Bool) (text : List ℕ) (i : ℕ) (kind : Kind) → Stops built text i kind → i ≤ length (lines_of text)
+within : (built : Key → Bool) (text : List ℕ) (i : ℕ) (kind : Kind) → FailsAt built (lines_of text) i kind → i ≤ length (lines_of text)
 within built text i kind (inl here) = omega (arith, here.0)
 within built text i kind (inr end) = omega (arith, end.0)
 
-same_stop : (built : Key → Bool) (text : List ℕ) (i j : ℕ) (one other : Kind) → Stops built text i one → Stops built text j other → IsSoundBelow built (lines_of text) i → IsSoundBelow built (lines_of text) j → i ≡ j
+same_stop : (built : Key → Bool) (text : List ℕ) (i j : ℕ) (one other : Kind) → FailsAt built (lines_of text) i one → FailsAt built (lines_of text) j other
+    → IsSoundBelow built (lines_of text) i → IsSoundBelow built (lines_of text) j → i ≡ j
 same_stop built text i j one other p q below_i below_j =
     elim (cases_order i j) [
       | inl e ↦ e
@@ -55,7 +53,8 @@ same_stop built text i j one other p q below_i below_j =
       | inr (inr more) ↦ absurd (not_later built text j i other q (within built text i one p) below_i more)
     ]
 
-same_kind : (built : Key → Bool) (text : List ℕ) (i j : ℕ) (one other : Kind) → i ≡ j → Stops built text i one → Stops built text j other → one ≡ other
+same_kind : (built : Key → Bool) (text : List ℕ) (i j : ℕ) (one other : Kind) → i ≡ j → FailsAt built (lines_of text) i one
+    → FailsAt built (lines_of text) j other → one ≡ other
 same_kind built text i j one other e (inl here) (inl there) =
     let f : fault_of_line built (lines_of text) i ≡ fault_of_line built (lines_of text) j = ap (fault_of_line built (lines_of text)) e in
     let g = here.1 in
@@ -73,13 +72,14 @@ pub Refused-one_kind : (built : Key → Bool) (text : List ℕ) (m n : ℕ) (one
 Refused-one_kind built text m n one other p q =
     same_kind built text p.0 q.0 one other (same_stop built text p.0 q.0 one other p.3 q.3 p.2 q.2) p.3 q.3
 
-no_stop : (built : Key → Bool) (text : List ℕ) (scene : Scene) (i : ℕ) (kind : Kind) → Spells built text scene → Stops built text i kind → ⊥
+no_stop : (built : Key → Bool) (text : List ℕ) (scene : Scene) (i : ℕ) (kind : Kind) → Spells built text scene → FailsAt built (lines_of text) i kind → ⊥
 no_stop built text scene i kind h (inl here) = let e = h.sound i here.0 in let f = here.1 in cc
 no_stop built text scene i kind h (inr end) = let e = h.whole in let f = end.1 in cc
 
 pub Spells-not_refused : (built : Key → Bool) (text : List ℕ) (scene : Scene) (n : ℕ) (kind : Kind) → Spells built text scene → Refused built text n kind → ⊥
 Spells-not_refused built text scene n kind h r = no_stop built text scene r.0 kind h r.3
 
-pub refused_at_line : (built : Key → Bool) (text : List ℕ) (i : ℕ) (kind : Kind) → are_sound built (lines_of text) i ≡ true → i < length (lines_of text) → fault_of_line built (lines_of text) i ≡ Some kind → Refused built text (i + 1) kind
+pub refused_at_line : (built : Key → Bool) (text : List ℕ) (i : ℕ) (kind : Kind) → are_sound built (lines_of text) i ≡ true → i < length (lines_of text)
+    → fault_of_line built (lines_of text) i ≡ Some kind → Refused built text (i + 1) kind
 refused_at_line built text i kind sound l e =
     (i, refl, IsSoundBelow-from_test built (lines_of text) i sound, inl (l, e))

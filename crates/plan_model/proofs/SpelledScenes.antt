@@ -7,6 +7,8 @@ use Rattle.plan_model.specs.ConfigurationSpace.{space_of}
 use Rattle.plan_model.specs.Clearance.{ClearAt}
 use Rattle.plan_model.proofs.SameScenes.{Spells-one_scene}
 
-pub ClearAt-spelled : (built : Key → Bool) (text : List ℕ) (one other : Scene) → Spells built text one → Spells built text other → ClearAt (space_of one) one.start → ClearAt (space_of other) other.start
+pub ClearAt-spelled :
+    (built : Key → Bool) (text : List ℕ) (one other : Scene) → Spells built text one → Spells built text other
+    → ClearAt (space_of one) one.start → ClearAt (space_of other) other.start
 ClearAt-spelled built text one other a b clear =
     subst (λ scene. ClearAt (space_of scene) scene.start) (Spells-one_scene built text one other a b) clear

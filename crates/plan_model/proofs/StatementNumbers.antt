@@ -1,18 +1,21 @@
 -- The grammar's words at one more statement and at one more line.
-use Rattle.std.proofs.Common.{◌≡◌, ℕ, not, Bool, true, false, cond, ℤ, Some, List, [], ◌∷◌, ◌++◌, length, map, drop, filter, count_by, refl, sym, ap, ◌∙◌}
+use Rattle.std.proofs.Common.{◌≡◌, ℕ, not, Bool, true, false, cond, Some, List, [], ◌∷◌, ◌++◌, map, filter, refl, sym, ap, ◌∙◌}
+use mathlib.Core.Path.{fun_ext}
 use Rattle.std.specs.Prelude.{bytes_eq}
 use Rattle.std.proofs.lemmas.Bool.{false_from_ne_true}
-use Rattle.std.proofs.lemmas.List.{map-append, append-nil, length-map}
+use Rattle.std.proofs.lemmas.List.{map-append, append-nil}
 use Rattle.std.proofs.lemmas.List.Elements.{filter-append}
-use Rattle.std.proofs.lemmas.List.Sums.{length-filter}
 use Rattle.std.proofs.lemmas.Slice.Eq.{bytes_eq-Decides}
 use Rattle.plan_model.specs.declared.text_terms.Key.{Key}
 use Rattle.plan_model.specs.declared.text_terms.Key.TheVariants as keys
-use Rattle.plan_model.specs.SceneGrammar.{words_of, is_skipped, statements_of, value_of, name_of, every_key, key_among, key_of, begins_with, numbers_of}
+use Rattle.plan_model.specs.TextLines.{words_of, is_skipped, statements_of}
+use Rattle.plan_model.specs.Keys.{name_of, every_key, key_among, key_of}
+use Rattle.plan_model.specs.LineChecks.{begins_with, numbers_in, given_by, with_statement}
 
 -- ---- keys
 
-name-among_by : (b : Bool) (word : List ℕ) (k key : Key) (ks : List Key) → bytes_eq word (name_of k) ≡ b → (key_among word ks ≡ Some key → word ≡ name_of key) → cond b (Some k) (key_among word ks) ≡ Some key → word ≡ name_of key
+name-among_by : (b : Bool) (word : List ℕ) (k key : Key) (ks : List Key) → bytes_eq word (name_of k) ≡ b
+    → (key_among word ks ≡ Some key → word ≡ name_of key) → cond b (Some k) (key_among word ks) ≡ Some key → word ≡ name_of key
 name-among_by true word k key ks same rest e =
     let named : word ≡ name_of k = (bytes_eq-Decides word (name_of k)).0 same in
     let this : k ≡ key = cc in
@@ -42,41 +45,30 @@ key-begun word words key other e same =
 
 -- ---- the statements with a key
 
-pub begins_with-other : (word : List ℕ) (words : List (List ℕ)) (key other : Key) → key_of word ≡ Some key → (key ≡ other → ⊥) → begins_with other (word ∷ words) ≡ false
+pub begins_with-other : (word : List ℕ) (words : List (List ℕ)) (key other : Key) → key_of word ≡ Some key → (key ≡ other → ⊥)
+    → begins_with other (word ∷ words) ≡ false
 begins_with-other word words key other e differ =
     false_from_ne_true (bytes_eq word (name_of other)) (λ same. differ (key-begun word words key other e same))
 
-abbrev pub numbers_in : List (List ℕ) → List ℤ
-numbers_in words = map value_of (drop 1 words)
-
-numbers_of-append : (key : Key) (xs ys : List (List (List ℕ))) → numbers_of key (xs ++ ys) ≡ numbers_of key xs ++ numbers_of key ys
-numbers_of-append key xs ys =
+-- what two runs of statements give, one after the other
+pub given_by-append : (xs ys : List (List (List ℕ))) (key : Key) → given_by (xs ++ ys) key ≡ given_by xs key ++ given_by ys key
+given_by-append xs ys key =
     ap (map numbers_in) (filter-append (begins_with key) xs ys) ∙ map-append numbers_in (filter (begins_with key) xs) (filter (begins_with key) ys)
 
--- the numbers of each key's lines, with a line more that begins with this word
-abbrev pub pushed : (Key → List (List ℤ)) → List ℕ → List ℤ → Key → List (List ℤ)
-pushed numbers word zs key =
-    cond (bytes_eq word (name_of key)) (numbers key ++ zs ∷ []) (numbers key)
-
--- a statement gives its numbers to the key that its word names
-pub numbers_of-push : (word : List ℕ) (words : List (List ℕ)) (key : Key) (before : List (List (List ℕ))) → numbers_of key (before ++ (word ∷ words) ∷ []) ≡ pushed (λ k. numbers_of k before) word (map value_of words) key
-numbers_of-push word words key before =
-    numbers_of-append key before ((word ∷ words) ∷ []) ∙ elim (bytes_eq word (name_of key)) as (λ b. numbers_of key before ++ map numbers_in (cond b ((word ∷ words) ∷ []) []) ≡ cond b (numbers_of key before ++ map value_of words ∷ []) (numbers_of key before)) [ true ↦ refl | false ↦ append-nil (numbers_of key before) ]
-
--- and to no other key
-pub numbers_of-other : (word : List ℕ) (words : List (List ℕ)) (key other : Key) (before : List (List (List ℕ))) → key_of word ≡ Some key → (key ≡ other → ⊥) → numbers_of other (before ++ (word ∷ words) ∷ []) ≡ numbers_of other before
-numbers_of-other word words key other before e differ =
-    numbers_of-append other before ((word ∷ words) ∷ []) ∙ ap (λ b. numbers_of other before ++ map numbers_in (cond b ((word ∷ words) ∷ []) [])) (begins_with-other word words key other e differ) ∙ append-nil (numbers_of other before)
-
-pub length-numbers_of : (key : Key) (statements : List (List (List ℕ))) → length (numbers_of key statements) ≡ count_by (begins_with key) statements
-length-numbers_of key statements =
-    length-map (filter (begins_with key) statements) numbers_in ∙ length-filter (begins_with key) statements
+-- one more statement
+pub given_by-push : (before : List (List (List ℕ))) (words : List (List ℕ)) → given_by (before ++ words ∷ []) ≡ with_statement (given_by before) words
+given_by-push before words =
+    fun_ext (λ key. given_by-append before (words ∷ []) key
+    ∙ elim (begins_with key words) as (λ b. given_by before key
+    ++ map numbers_in (cond b (words ∷ []) []) ≡ cond b (given_by before key ++ numbers_in words ∷ []) (given_by before key))
+    [ true ↦ refl | false ↦ append-nil (given_by before key) ])
 
 -- ---- one more line
 
 abbrev is_kept : List (List ℕ) → Bool
 is_kept words = not (is_skipped words)
 
-pub statements_of-push : (lines : List (List ℕ)) (line : List ℕ) → statements_of (lines ++ line ∷ []) ≡ statements_of lines ++ cond (is_kept (words_of line)) (words_of line ∷ []) []
+pub statements_of-push : (lines : List (List ℕ)) (line : List ℕ)
+    → statements_of (lines ++ line ∷ []) ≡ statements_of lines ++ cond (is_kept (words_of line)) (words_of line ∷ []) []
 statements_of-push lines line =
     ap (filter is_kept) (map-append words_of lines (line ∷ [])) ∙ filter-append is_kept (map words_of lines) (words_of line ∷ [])

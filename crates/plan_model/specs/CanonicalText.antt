@@ -1,4 +1,4 @@
--- The canonical text of a scene: a line for each field and each mark, in one order, also where the value is the one that holds without the line.
+-- The canonical text of a scene: a line for each field and each mark, in one order, also if the value is the one that holds without the line.
 use Rattle.std.specs.Prelude.{ℕ, ℤ, pos, List, [], ◌∷◌, ◌++◌, map, flat_map, codes}
 use Rattle.std.specs.Fmt.{signed_decimal}
 use Rattle.plan_model.specs.declared.geometry.Point.{Point}
@@ -10,7 +10,7 @@ use Rattle.plan_model.specs.declared.scenes.Marks.TheVariants.{Drawn, Listed}
 use Rattle.plan_model.specs.declared.text_terms.Key.{Key}
 use Rattle.plan_model.specs.declared.text_terms.Key.TheVariants as keys
 use Rattle.plan_model.specs.ReportText.{line}
-use Rattle.plan_model.specs.SceneGrammar.{name_of}
+use Rattle.plan_model.specs.Keys.{name_of}
 
 -- ---- the numbers of the parts of a scene
 
@@ -47,12 +47,21 @@ plan_statements (Listed points) = map mark_statement points
 -- what is to be planned in the room
 abbrev pub task_statements : Scene → List (List (List ℕ))
 task_statements scene =
-    statement keys.Start (point_numbers scene.start) ∷ statement keys.Goal (goal_numbers scene.goal) ∷ statement keys.Step (pos scene.step ∷ []) ∷ statement keys.Gamma (pos scene.gamma ∷ []) ∷ statement keys.Seed (pos scene.seed ∷ []) ∷ statement keys.Strips (pos scene.strips ∷ []) ∷ []
+    statement keys.Start (point_numbers scene.start)
+    ∷ statement keys.Goal (goal_numbers scene.goal)
+    ∷ statement keys.Step (pos scene.step ∷ [])
+    ∷ statement keys.Gamma (pos scene.gamma ∷ [])
+    ∷ statement keys.Seed (pos scene.seed ∷ [])
+    ∷ statement keys.Strips (pos scene.strips ∷ [])
+    ∷ []
 
 -- the statements of a scene: the version, the room, the body, the obstacles, the task and the marks
 abbrev pub canonical_statements : Scene → List (List (List ℕ))
 canonical_statements scene =
-    version_statement ∷ statement keys.Room (point_numbers scene.room) ∷ statement keys.Body (corner_numbers scene.body) ∷ (map obstacle_statement scene.obstacles ++ (task_statements scene ++ plan_statements scene.plan))
+    version_statement
+    ∷ statement keys.Room (point_numbers scene.room)
+    ∷ statement keys.Body (corner_numbers scene.body)
+    ∷ (map obstacle_statement scene.obstacles ++ (task_statements scene ++ plan_statements scene.plan))
 
 -- The statements, a line each: one space between two words, and a line feed at the end.
 abbrev pub canonical_text : Scene → List ℕ

@@ -20,7 +20,12 @@ pub mod BestNode
 pub mod Textbook
 pub mod SameRuns
 pub mod ReportText
+pub mod TextLines
+pub mod TextNumbers
+pub mod Keys
+pub mod LineChecks
 pub mod SceneGrammar
+pub mod KindNames
 pub mod CanonicalText
 pub mod Streams
 pub mod EmptyRooms

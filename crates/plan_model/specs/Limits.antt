@@ -6,7 +6,8 @@ use Rattle.plan_model.specs.declared.geometry.Goal.{Goal}
 use Rattle.plan_model.specs.declared.geometry.Vertex.{Vertex}
 use Rattle.plan_model.specs.declared.scenes.Marks.{Marks}
 use Rattle.plan_model.specs.declared.scenes.Marks.TheVariants.{Drawn, Listed}
-use Rattle.plan_model.specs.declared.limits.TheConstants.{LEAST_BODY_COORDINATE, LEAST_OBSTACLE_COORDINATE, MOST_BODY_COORDINATE, MOST_BODY_CORNERS, MOST_MARKS, MOST_OBSTACLE_COORDINATE, MOST_OBSTACLE_CORNERS, MOST_OBSTACLES, MOST_SIDE}
+use Rattle.plan_model.specs.declared.limits.TheConstants.{LEAST_BODY_COORDINATE, LEAST_OBSTACLE_COORDINATE, MOST_BODY_COORDINATE, MOST_BODY_CORNERS}
+use Rattle.plan_model.specs.declared.limits.TheConstants.{MOST_MARKS, MOST_OBSTACLE_COORDINATE, MOST_OBSTACLE_CORNERS, MOST_OBSTACLES, MOST_SIDE}
 use Rattle.plan_model.specs.Convexity.{is_strictly_convex}
 
 -- both coordinates are between low and high

@@ -1,7 +1,7 @@
 //! The line that the program writes in place of a report. It is made without taking memory.
 
 ghost use Rattle.std.specs.Prelude.{◌≡◌, ◌≤◌, ◌+◌, ◌++◌, length, decimal};
-ghost use Rattle.planner_main.specs.Refusals.{number_of_kind, name_of_kind, fault_line};
+ghost use Rattle.planner_main.specs.Refusals.{fault_line};
 
 use arrayvec::ArrayString;
 use itoa::Buffer;
@@ -45,41 +45,6 @@ fn push_number(line: &mut Line, number: u32)
     push(line, buffer.format(number));
 }
 
-fn number_of(kind: Kind) -> u32
-    ensures value { result ≡ number_of_kind kind }
-{
-    match kind {
-        Kind::Version => 1,
-        Kind::Key => 2,
-        Kind::Words => 3,
-        Kind::Number => 4,
-        Kind::Range => 5,
-        Kind::Repeat => 6,
-        Kind::Corners => 7,
-        Kind::Many => 8,
-        Kind::Missing => 9,
-        Kind::Unbuilt => 10,
-    }
-}
-
-fn name_of(kind: Kind) -> &'static str
-    ensures value { result.now ≡ name_of_kind kind }
-    ensures short { length result.now ≤ 10 }
-{
-    match kind {
-        Kind::Version => "Version",
-        Kind::Key => "Key",
-        Kind::Words => "Words",
-        Kind::Number => "Number",
-        Kind::Range => "Range",
-        Kind::Repeat => "Repeat",
-        Kind::Corners => "Corners",
-        Kind::Many => "Many",
-        Kind::Missing => "Missing",
-        Kind::Unbuilt => "Unbuilt",
-    }
-}
-
 // The line of a text that is no scene, with the number of its line and the kind of its fault.
 fn fault_line(number: u32, kind: Kind) -> Line
     ensures { result.bytes ≡ fault_line number kind }
@@ -88,9 +53,9 @@ fn fault_line(number: u32, kind: Kind) -> Line
     push(&mut line, "line ");
     push_number(&mut line, number);
     push(&mut line, " kind ");
-    push_number(&mut line, number_of(kind));
+    push_number(&mut line, kind.number());
     push(&mut line, " ");
-    push(&mut line, name_of(kind));
+    push(&mut line, kind.name());
     push(&mut line, "\n");
     line
 }

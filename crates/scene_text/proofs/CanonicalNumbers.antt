@@ -1,5 +1,6 @@
 -- The numbers of a scene's parts may stand after their keys, and give the parts back.
-use Rattle.std.proofs.Common.{◌≡◌, ℕ, ◌*◌, ◌%◌, ◌^◌, ◌<◌, ◌≤◌, Bool, true, false, ◌&&◌, ◌||◌, eqb, leb, ltb, ℤ, pos, negsuc, int_le, List, [], ◌∷◌, length, ◌⊎◌, inl, inr, refl, ap, ◌∙◌, arith}
+use Rattle.std.proofs.Common.{◌≡◌, ℕ, ◌*◌, ◌%◌, ◌^◌, ◌<◌, ◌≤◌, Bool, true, false, ◌&&◌, ◌||◌, eqb, leb, ltb, ℤ, pos, int_le, List, [], ◌∷◌, length, ◌⊎◌}
+use Rattle.std.proofs.Common.{inl, inr, refl, ap, ◌∙◌, arith}
 use Rattle.std.specs.List.{list_all}
 use Rattle.std.proofs.lemmas.Bool.Decides.{nat_tests}
 use Rattle.plan_model.specs.declared.geometry.Point.{Point}
@@ -8,53 +9,56 @@ use Rattle.plan_model.specs.declared.geometry.Goal.{Goal}
 use Rattle.plan_model.specs.declared.text_terms.Key.TheVariants as keys
 use Rattle.plan_model.specs.Convexity.{is_strictly_convex}
 use Rattle.plan_model.specs.Limits.{IsBetween, IsGoal, is_body, is_obstacle, is_mark}
-use Rattle.plan_model.specs.SceneGrammar.{corners_from, is_too_many}
+use Rattle.plan_model.specs.declared.limits.TheConstants.{LEAST_BODY_COORDINATE, LEAST_CORNERS, LEAST_OBSTACLE_COORDINATE, LEAST_SIDE, LEAST_STEP}
+use Rattle.plan_model.specs.declared.limits.TheConstants.{MOST_BODY_COORDINATE, MOST_BODY_CORNERS, MOST_GAMMA, MOST_MARKS, MOST_OBSTACLE_COORDINATE}
+use Rattle.plan_model.specs.declared.limits.TheConstants.{MOST_OBSTACLE_CORNERS, MOST_SIDE, MOST_STEP, MOST_STRIPS}
+use Rattle.plan_model.specs.LineChecks.{corners_from}
 use Rattle.plan_model.specs.CanonicalText.{point_numbers, goal_numbers, corner_numbers}
 use Rattle.scene_text.proofs.StatementTexts.{both}
 use Rattle.scene_text.proofs.CanonicalWords.{IsFit}
 
 -- ---- one number
 
-single : (low high n : ℕ) → low ≤ n → n ≤ high → (((leb low n && leb n high) && true) && true) ≡ true
+single : (low high n : ℕ) → low ≤ n → n ≤ high → ((leb low n && leb n high) && true) ≡ true
 single low high n l h =
     let a : leb low n ≡ true = grind (arith, nat_tests) in
     let b : leb n high ≡ true = grind (arith, nat_tests) in
     rw (a, b) refl
 
-pub fit-step : (n : ℕ) → 4 ≤ n → n ≤ 4096 → IsFit keys.Step (pos n ∷ [])
-fit-step n low high = record { words = refl; ranged = single 4 4096 n low high; convex = refl }
+pub fit-step : (n : ℕ) → LEAST_STEP ≤ n → n ≤ MOST_STEP → IsFit keys.Step (pos n ∷ [])
+fit-step n low high = record { words = refl; ranged = single LEAST_STEP MOST_STEP n low high; convex = refl }
 
-pub fit-gamma : (n : ℕ) → n ≤ 16777215 → IsFit keys.Gamma (pos n ∷ [])
-fit-gamma n high = record { words = refl; ranged = single 0 16777215 n (omega arith) high; convex = refl }
+pub fit-gamma : (n : ℕ) → n ≤ MOST_GAMMA → IsFit keys.Gamma (pos n ∷ [])
+fit-gamma n high = record { words = refl; ranged = single 0 MOST_GAMMA n (omega arith) high; convex = refl }
 
 pub fit-seed : (n : ℕ) → n < 2 ^ 64 → IsFit keys.Seed (pos n ∷ [])
-fit-seed n high = record { words = refl; ranged = single 0 18446744073709551615 n (omega arith) (omega arith); convex = refl }
+fit-seed n high = record { words = refl; ranged = single 0 0xFFFF_FFFF_FFFF_FFFF n (omega arith) (omega arith); convex = refl }
 
-pub fit-strips : (n : ℕ) → 1 ≤ n → n ≤ 64 → IsFit keys.Strips (pos n ∷ [])
-fit-strips n low high = record { words = refl; ranged = single 1 64 n low high; convex = refl }
+pub fit-strips : (n : ℕ) → 1 ≤ n → n ≤ MOST_STRIPS → IsFit keys.Strips (pos n ∷ [])
+fit-strips n low high = record { words = refl; ranged = single 1 MOST_STRIPS n low high; convex = refl }
 
-pub fit-marks : (n : ℕ) → leb n 262143 ≡ true → IsFit keys.Marks (pos n ∷ [])
-fit-marks n high = record { words = refl; ranged = single 0 262143 n (omega arith) (grind (arith, nat_tests)); convex = refl }
+pub fit-marks : (n : ℕ) → leb n MOST_MARKS ≡ true → IsFit keys.Marks (pos n ∷ [])
+fit-marks n high = record { words = refl; ranged = single 0 MOST_MARKS n (omega arith) (grind (arith, nat_tests)); convex = refl }
 
 -- ---- points
 
-pair : (low x y : ℕ) → low ≤ x → x ≤ 65535 → low ≤ y → y ≤ 65535 → (((leb low x && leb x 65535) && ((leb low y && leb y 65535) && true)) && true) ≡ true
+pair : (low x y : ℕ) → low ≤ x → x ≤ MOST_SIDE → low ≤ y → y ≤ MOST_SIDE → ((leb low x && leb x MOST_SIDE) && ((leb low y && leb y MOST_SIDE) && true)) ≡ true
 pair low x y a b c d =
     let p : leb low x ≡ true = grind (arith, nat_tests) in
-    let q : leb x 65535 ≡ true = grind (arith, nat_tests) in
+    let q : leb x MOST_SIDE ≡ true = grind (arith, nat_tests) in
     let r : leb low y ≡ true = grind (arith, nat_tests) in
-    let s : leb y 65535 ≡ true = grind (arith, nat_tests) in
+    let s : leb y MOST_SIDE ≡ true = grind (arith, nat_tests) in
     rw (p, q, r, s) refl
 
-pub fit-room : (p : Point) → IsBetween 1 65535 p → IsFit keys.Room (point_numbers p)
-fit-room p h = record { words = refl; ranged = pair 1 p.x p.y h.left h.right h.bottom h.top; convex = refl }
+pub fit-room : (p : Point) → IsBetween LEAST_SIDE MOST_SIDE p → IsFit keys.Room (point_numbers p)
+fit-room p h = record { words = refl; ranged = pair LEAST_SIDE p.x p.y h.left h.right h.bottom h.top; convex = refl }
 
-pub fit-start : (p : Point) → IsBetween 0 65535 p → IsFit keys.Start (point_numbers p)
+pub fit-start : (p : Point) → IsBetween 0 MOST_SIDE p → IsFit keys.Start (point_numbers p)
 fit-start p h = record { words = refl; ranged = pair 0 p.x p.y h.left h.right h.bottom h.top; convex = refl }
 
 pub fit-mark : (p : Point) → is_mark p ≡ true → IsFit keys.Mark (point_numbers p)
 fit-mark p h =
-    let parts = both (leb p.x 65535) (leb p.y 65535) h in
+    let parts = both (leb p.x MOST_SIDE) (leb p.y MOST_SIDE) h in
     record {
       words = refl;
       ranged = pair 0 p.x p.y (omega arith) (grind (arith, nat_tests)) (omega arith) (grind (arith, nat_tests));
@@ -62,9 +66,11 @@ fit-mark p h =
     }
 
 -- both pairs in range, and in order
-ordered : (a b c d : ℕ) → c ≤ 65535 → d ≤ 65535 → a ≤ c → b ≤ d → (((leb 0 a && leb a 65535) && ((leb 0 b && leb b 65535) && ((leb 0 c && leb c 65535) && ((leb 0 d && leb d 65535) && true)))) && (leb a c && leb b d)) ≡ true
+ordered : (a b c d : ℕ) → c ≤ MOST_SIDE → d ≤ MOST_SIDE → a ≤ c → b ≤ d
+    → ((leb a c && leb b d) && ((leb 0 a && leb a MOST_SIDE)
+    && ((leb 0 b && leb b MOST_SIDE) && ((leb 0 c && leb c MOST_SIDE) && ((leb 0 d && leb d MOST_SIDE) && true))))) ≡ true
 ordered a b c d right top horizontal vertical =
-    let bound : (n : ℕ) → n ≤ 65535 → leb n 65535 ≡ true = λ n h. grind (arith, nat_tests) in
+    let bound : (n : ℕ) → n ≤ MOST_SIDE → leb n MOST_SIDE ≡ true = λ n h. grind (arith, nat_tests) in
     let none : (n : ℕ) → leb 0 n ≡ true = λ n. grind (arith, nat_tests) in
     let p : leb a c ≡ true = grind (arith, nat_tests) in
     let q : leb b d ≡ true = grind (arith, nat_tests) in
@@ -88,10 +94,13 @@ length-corner_numbers : (corners : List Vertex) → length (corner_numbers corne
 length-corner_numbers [] = refl
 length-corner_numbers (corner ∷ corners) = let rest = length-corner_numbers corners in omega arith
 
-corners-ranged : (low high : ℤ) (corners : List Vertex) → list_all (λ v. int_le low v.x && (int_le v.x high && (int_le low v.y && int_le v.y high))) corners ≡ true → list_all (λ z. int_le low z && int_le z high) (corner_numbers corners) ≡ true
+corners-ranged : (low high : ℤ) (corners : List Vertex)
+    → list_all (λ v. int_le low v.x && (int_le v.x high && (int_le low v.y && int_le v.y high))) corners ≡ true
+    → list_all (λ z. int_le low z && int_le z high) (corner_numbers corners) ≡ true
 corners-ranged low high [] h = refl
 corners-ranged low high (v ∷ corners) h =
-    let parts = both (int_le low v.x && (int_le v.x high && (int_le low v.y && int_le v.y high))) (list_all (λ u. int_le low u.x && (int_le u.x high && (int_le low u.y && int_le u.y high))) corners) h in
+    let parts = both (int_le low v.x && (int_le v.x high && (int_le low v.y && int_le v.y high)))
+    (list_all (λ u. int_le low u.x && (int_le u.x high && (int_le low u.y && int_le u.y high))) corners) h in
     let left = both (int_le low v.x) (int_le v.x high && (int_le low v.y && int_le v.y high)) parts.0 in
     let right = both (int_le v.x high) (int_le low v.y && int_le v.y high) left.1 in
     let up = both (int_le low v.y) (int_le v.y high) right.1 in
@@ -99,10 +108,10 @@ corners-ranged low high (v ∷ corners) h =
 
 -- ---- how many words a polygon has
 
-words-many : (n count : ℕ) → count ≡ 2 * n → 3 ≤ n → (eqb (count % 2) 0 && leb 6 count) ≡ true
+words-many : (n count : ℕ) → count ≡ 2 * n → LEAST_CORNERS ≤ n → (eqb (count % 2) 0 && leb (2 * LEAST_CORNERS) count) ≡ true
 words-many n count e many =
     let even : eqb (count % 2) 0 ≡ true = grind (arith, nat_tests) in
-    let long : leb 6 count ≡ true = grind (arith, nat_tests) in
+    let long : leb (2 * LEAST_CORNERS) count ≡ true = grind (arith, nat_tests) in
     rw (even, long) refl
 
 or-true : (b : Bool) → (b || true) ≡ true
@@ -110,19 +119,20 @@ or-true true = refl
 or-true false = refl
 
 -- what is known of so many corners: they are one, or many and convex
-shape : (one convex : Bool) (n : ℕ) → (one || (leb n 16 && convex)) ≡ true → eqb n 1 ≡ one → (n ≡ 1) ⊎ ((n ≤ 16) × (convex ≡ true))
+shape : (one convex : Bool) (n : ℕ) → (one || (leb n MOST_BODY_CORNERS && convex)) ≡ true → eqb n 1 ≡ one
+    → (n ≡ 1) ⊎ ((n ≤ MOST_BODY_CORNERS) × (convex ≡ true))
 shape true convex n h e = inl (grind (arith, nat_tests))
 shape false convex n h e =
-    let parts = both (leb n 16) convex h in
+    let parts = both (leb n MOST_BODY_CORNERS) convex h in
     inr (grind (arith, nat_tests), parts.1)
 
-convex-many : (corners : List Vertex) → is_strictly_convex corners ≡ true → 3 ≤ length corners
+convex-many : (corners : List Vertex) → is_strictly_convex corners ≡ true → LEAST_CORNERS ≤ length corners
 convex-many corners h =
-    let many = (both (leb 3 (length corners)) _ h).0 in
+    let many = (both (leb LEAST_CORNERS (length corners)) _ h).0 in
     grind (arith, nat_tests)
 
--- where there is one corner, or they are many and convex
-body-words : (n count : ℕ) → count ≡ 2 * n → (n ≡ 1) ⊎ (3 ≤ n) → (eqb count 2 || (eqb (count % 2) 0 && leb 6 count)) ≡ true
+-- if there is one corner, or they are many and convex
+body-words : (n count : ℕ) → count ≡ 2 * n → (n ≡ 1) ⊎ (LEAST_CORNERS ≤ n) → (eqb count 2 || (eqb (count % 2) 0 && leb (2 * LEAST_CORNERS) count)) ≡ true
 body-words n count e (inl one) =
     let two : eqb count 2 ≡ true = grind (arith, nat_tests) in
     rw two refl
@@ -134,19 +144,20 @@ body-corners n count convex e (inl one) =
     rw two refl
 body-corners n count convex e (inr c) = ap (λ b. eqb count 2 || b) c ∙ or-true (eqb count 2)
 
--- one corner, or up to 16 that are strictly convex
+-- one corner, or not too many that are strictly convex
 record IsShaped (corners : List Vertex) : Type 0 where
-  few : length corners ≤ 16
-  many : (length corners ≡ 1) ⊎ (3 ≤ length corners)
+  few : length corners ≤ MOST_BODY_CORNERS
+  many : (length corners ≡ 1) ⊎ (LEAST_CORNERS ≤ length corners)
   convex : (length corners ≡ 1) ⊎ (is_strictly_convex corners ≡ true)
 
-IsShaped-one : (corners : List Vertex) → (length corners ≡ 1) ⊎ ((length corners ≤ 16) × (is_strictly_convex corners ≡ true)) → IsShaped corners
+IsShaped-one : (corners : List Vertex) → (length corners ≡ 1) ⊎ ((length corners ≤ MOST_BODY_CORNERS) × (is_strictly_convex corners ≡ true)) → IsShaped corners
 IsShaped-one corners (inl one) = record { few = omega arith; many = inl one; convex = inl one }
 IsShaped-one corners (inr h) = record { few = h.0; many = inr (convex-many corners h.1); convex = inr h.1 }
 
 body-shaped : (corners : List Vertex) → is_body corners ≡ true → IsShaped corners
 body-shaped corners h =
-    IsShaped-one corners (shape (eqb (length corners) 1) (is_strictly_convex corners) (length corners) (both (eqb (length corners) 1 || (leb (length corners) 16 && is_strictly_convex corners)) _ h).0 refl)
+    IsShaped-one corners (shape (eqb (length corners) 1) (is_strictly_convex corners) (length corners)
+    (both (eqb (length corners) 1 || (leb (length corners) MOST_BODY_CORNERS && is_strictly_convex corners)) _ h).0 refl)
 
 pub fit-body : (corners : List Vertex) → is_body corners ≡ true → IsFit keys.Body (corner_numbers corners)
 fit-body corners h =
@@ -154,19 +165,22 @@ fit-body corners h =
     let count = length-corner_numbers corners in
     record {
       words = body-words (length corners) (length (corner_numbers corners)) count shaped.many;
-      ranged = ap (λ b. b && true) (corners-ranged (negsuc 4095) (pos 4096) corners (both (eqb (length corners) 1 || (leb (length corners) 16 && is_strictly_convex corners)) _ h).1);
-      convex = ap (λ vs. eqb (length (corner_numbers corners)) 2 || is_strictly_convex vs) (corners_from-numbers corners) ∙ body-corners (length corners) (length (corner_numbers corners)) (is_strictly_convex corners) count shaped.convex;
+      ranged = corners-ranged LEAST_BODY_COORDINATE MOST_BODY_COORDINATE corners
+          (both (eqb (length corners) 1 || (leb (length corners) MOST_BODY_CORNERS && is_strictly_convex corners)) _ h).1;
+      convex = ap (λ vs. eqb (length (corner_numbers corners)) 2 || is_strictly_convex vs) (corners_from-numbers corners)
+          ∙ body-corners (length corners) (length (corner_numbers corners)) (is_strictly_convex corners) count shaped.convex;
     }
 
-pub few-body : (corners : List Vertex) (before : List (List (List ℕ))) → is_body corners ≡ true → is_too_many keys.Body (length (corner_numbers corners)) before ≡ false
-few-body corners before h =
+pub few-body : (corners : List Vertex) → is_body corners ≡ true → ltb (2 * MOST_BODY_CORNERS) (length (corner_numbers corners)) ≡ false
+few-body corners h =
     let few = (body-shaped corners h).few in
     let count = length-corner_numbers corners in
     grind (arith, nat_tests)
 
-obstacle-parts : (corners : List Vertex) → is_obstacle corners ≡ true → (length corners ≤ 64) × (is_strictly_convex corners ≡ true)
+obstacle-parts : (corners : List Vertex) → is_obstacle corners ≡ true → (length corners ≤ MOST_OBSTACLE_CORNERS) × (is_strictly_convex corners ≡ true)
 obstacle-parts corners h =
-    let parts = both (leb (length corners) 64) (is_strictly_convex corners) (both (leb (length corners) 64 && is_strictly_convex corners) _ h).0 in
+    let parts = both (leb (length corners) MOST_OBSTACLE_CORNERS) (is_strictly_convex corners)
+    (both (leb (length corners) MOST_OBSTACLE_CORNERS && is_strictly_convex corners) _ h).0 in
     (grind (arith, nat_tests), parts.1)
 
 pub fit-obstacle : (corners : List Vertex) → is_obstacle corners ≡ true → IsFit keys.Obstacle (corner_numbers corners)
@@ -174,11 +188,12 @@ fit-obstacle corners h =
     let convex = (obstacle-parts corners h).1 in
     record {
       words = words-many (length corners) (length (corner_numbers corners)) (length-corner_numbers corners) (convex-many corners convex);
-      ranged = ap (λ b. b && true) (corners-ranged (negsuc 131071) (pos 131071) corners (both (leb (length corners) 64 && is_strictly_convex corners) _ h).1);
+      ranged = corners-ranged LEAST_OBSTACLE_COORDINATE MOST_OBSTACLE_COORDINATE corners
+          (both (leb (length corners) MOST_OBSTACLE_CORNERS && is_strictly_convex corners) _ h).1;
       convex = ap is_strictly_convex (corners_from-numbers corners) ∙ convex;
     }
 
-pub small-obstacle : (corners : List Vertex) → is_obstacle corners ≡ true → ltb 128 (length (corner_numbers corners)) ≡ false
+pub small-obstacle : (corners : List Vertex) → is_obstacle corners ≡ true → ltb (2 * MOST_OBSTACLE_CORNERS) (length (corner_numbers corners)) ≡ false
 small-obstacle corners h =
     let few = (obstacle-parts corners h).0 in
     let count = length-corner_numbers corners in

@@ -1,5 +1,6 @@
 -- The statements of canonical texts: their words are words, their numbers are numbers of the values written.
-use Rattle.std.proofs.Common.{◌≡◌, ℕ, ◌^◌, ◌<◌, Bool, true, false, cond, not, ◌&&◌, eqb, leb, suc, ℤ, pos, negsuc, int_le, Some, None, List, [], ◌∷◌, length, map, get_or, refl, ap, ◌∙◌, arith}
+use Rattle.std.proofs.Common.{◌≡◌, ℕ, ◌^◌, ◌<◌, Bool, true, false, not, ◌&&◌, eqb, leb, suc, ℤ, pos, negsuc, int_le, None, List, [], ◌∷◌, length, map}
+use Rattle.std.proofs.Common.{get_or, refl, ap, ◌∙◌, arith}
 use Rattle.std.specs.Fmt.{signed_decimal}
 use Rattle.std.specs.List.{list_all}
 use Rattle.std.proofs.lemmas.List.{length-map}
@@ -7,7 +8,12 @@ use Rattle.std.proofs.lemmas.Bool.Decides.{nat_tests}
 use Rattle.plan_model.specs.declared.text_terms.Key.{Key}
 use Rattle.plan_model.specs.declared.text_terms.Key.TheVariants as keys
 use Rattle.plan_model.specs.declared.text_terms.Kind.TheVariants as kinds
-use Rattle.plan_model.specs.SceneGrammar.{is_number, value_of, name_of, least_of, most_of, is_repeated, fits_words, is_too_many, is_in_range, is_ordered, has_corners, fault_at_key, fault_of_statement, all_keys}
+use Rattle.plan_model.specs.declared.limits.TheConstants.{MOST_GAMMA, MOST_MARKS, MOST_SIDE, MOST_STEP, MOST_STRIPS}
+use Rattle.plan_model.specs.TextNumbers.{is_number, value_of}
+use Rattle.plan_model.specs.Keys.{name_of, least_of, most_of, fits_words}
+use Rattle.plan_model.specs.LineChecks.{is_repeated, is_too_many, is_in_range, is_ordered, are_between, has_corners, first_failing, fault_at_key}
+use Rattle.plan_model.specs.LineChecks.{fault_of_statement, Given}
+use Rattle.plan_model.specs.SceneGrammar.{all_keys}
 use Rattle.plan_model.specs.CanonicalText.{statement}
 use Rattle.plan_model.proofs.StatementNumbers.{key_of-name}
 use Rattle.scene_text.proofs.StatementTexts.{both, is_word, is_clean}
@@ -26,17 +32,17 @@ short-negative n least most h small =
     grind (arith, nat_tests)
 
 short-in_range : (key : Key) (z : ℤ) → (int_le (least_of key) z && int_le z (most_of key)) ≡ true → IsShort z
-short-in_range keys.Room (pos n) h = short-natural _ n 65535 h (omega arith)
+short-in_range keys.Room (pos n) h = short-natural _ n MOST_SIDE h (omega arith)
 short-in_range keys.Body (pos n) h = short-natural true n 4096 h (omega arith)
 short-in_range keys.Obstacle (pos n) h = short-natural true n 131071 h (omega arith)
-short-in_range keys.Start (pos n) h = short-natural _ n 65535 h (omega arith)
-short-in_range keys.Goal (pos n) h = short-natural _ n 65535 h (omega arith)
-short-in_range keys.Step (pos n) h = short-natural _ n 4096 h (omega arith)
-short-in_range keys.Gamma (pos n) h = short-natural _ n 16777215 h (omega arith)
-short-in_range keys.Seed (pos n) h = short-natural _ n 18446744073709551615 h (omega arith)
-short-in_range keys.Strips (pos n) h = short-natural _ n 64 h (omega arith)
-short-in_range keys.Marks (pos n) h = short-natural _ n 262143 h (omega arith)
-short-in_range keys.Mark (pos n) h = short-natural _ n 65535 h (omega arith)
+short-in_range keys.Start (pos n) h = short-natural _ n MOST_SIDE h (omega arith)
+short-in_range keys.Goal (pos n) h = short-natural _ n MOST_SIDE h (omega arith)
+short-in_range keys.Step (pos n) h = short-natural _ n MOST_STEP h (omega arith)
+short-in_range keys.Gamma (pos n) h = short-natural _ n MOST_GAMMA h (omega arith)
+short-in_range keys.Seed (pos n) h = short-natural _ n 0xFFFF_FFFF_FFFF_FFFF h (omega arith)
+short-in_range keys.Strips (pos n) h = short-natural _ n MOST_STRIPS h (omega arith)
+short-in_range keys.Marks (pos n) h = short-natural _ n MOST_MARKS h (omega arith)
+short-in_range keys.Mark (pos n) h = short-natural _ n MOST_SIDE h (omega arith)
 short-in_range keys.Body (negsuc n) h = short-negative n 4095 _ h (omega arith)
 short-in_range keys.Obstacle (negsuc n) h = short-negative n 131071 _ h (omega arith)
 short-in_range key (negsuc n) h = absurd (cc)
@@ -45,15 +51,15 @@ abbrev pub AreShort : List ℤ → Type 0
 AreShort [] = Unit {0}
 AreShort (z ∷ zs) = IsShort z × AreShort zs
 
-short-all : (key : Key) (zs : List ℤ) → list_all (λ z. int_le (least_of key) z && int_le z (most_of key)) zs ≡ true → AreShort zs
+short-all : (key : Key) (zs : List ℤ) → are_between (least_of key) (most_of key) zs ≡ true → AreShort zs
 short-all key [] h = tt
 short-all key (z ∷ zs) h =
-    let parts = both (int_le (least_of key) z && int_le z (most_of key)) (list_all (λ x. int_le (least_of key) x && int_le x (most_of key)) zs) h in
+    let parts = both (int_le (least_of key) z && int_le z (most_of key)) (are_between (least_of key) (most_of key) zs) h in
     (short-in_range key z parts.0, short-all key zs parts.1)
 
 pub short-ranged : (key : Key) (zs : List ℤ) → is_in_range key zs ≡ true → AreShort zs
 short-ranged key zs h =
-    short-all key zs (both (list_all (λ z. int_le (least_of key) z && int_le z (most_of key)) zs) (is_ordered key zs) h).0
+    short-all key zs (both (is_ordered key zs) (are_between (least_of key) (most_of key) zs) h).1
 
 -- ---- numbers in decimal
 
@@ -89,13 +95,20 @@ pub is_clean-statement : (key : Key) (zs : List ℤ) → IsFit key zs → is_cle
 is_clean-statement key zs h =
     rw (is_word-name key, words-decimal zs (short-ranged key zs h.ranged), is_open-name key) refl
 
-checked-none : (repeated fits many numbers ranged corners : Bool) → repeated ≡ false → fits ≡ true → many ≡ false → numbers ≡ true → ranged ≡ true → corners ≡ true → cond repeated (Some kinds.Repeat) (cond (not fits) (Some kinds.Words) (cond many (Some kinds.Many) (cond (not numbers) (Some kinds.Number) (cond (not ranged) (Some kinds.Range) (cond (not corners) (Some kinds.Corners) None))))) ≡ None
+checked-none : (repeated fits many numbers ranged corners : Bool) → repeated ≡ false → fits ≡ true → many ≡ false → numbers ≡ true → ranged ≡ true
+    → corners ≡ true → first_failing ((true, kinds.Unbuilt) ∷ (not repeated, kinds.Repeat) ∷ (fits, kinds.Words) ∷ (not many, kinds.Many)
+    ∷ (numbers, kinds.Number) ∷ (ranged, kinds.Range) ∷ (corners, kinds.Corners) ∷ []) ≡ None
 checked-none repeated fits many numbers ranged corners a b c d e f = rw (a, b, c, d, e, f) refl
 
 -- a statement whose numbers may stand there has no fault
-pub fault-none : (key : Key) (zs : List ℤ) (before : List (List (List ℕ))) → IsFit key zs → is_repeated key before ≡ false → is_too_many key (length zs) before ≡ false → fault_of_statement all_keys before (statement key zs) ≡ None
-fault-none key zs before h fresh few =
+pub fault-none : (key : Key) (zs : List ℤ) (given : Given) → IsFit key zs → is_repeated given key ≡ false → is_too_many given key (length zs) ≡ false
+    → fault_of_statement all_keys given (statement key zs) ≡ None
+fault-none key zs given h fresh few =
     let words = map signed_decimal zs in
     let count : length words ≡ length zs = length-map zs signed_decimal in
     let values : map value_of words ≡ zs = values-decimal zs (short-ranged key zs h.ranged) in
-    ap (λ found. fault_at_key all_keys before found words) (key_of-name key) ∙ checked-none (is_repeated key before) (fits_words key (length words)) (is_too_many key (length words) before) (list_all is_number words) (is_in_range key (map value_of words)) (has_corners key (map value_of words)) fresh (ap (fits_words key) count ∙ h.words) (ap (λ n. is_too_many key n before) count ∙ few) (numbers-decimal zs (short-ranged key zs h.ranged)) (ap (is_in_range key) values ∙ h.ranged) (ap (has_corners key) values ∙ h.convex)
+    ap (λ found. fault_at_key all_keys given found words) (key_of-name key)
+    ∙ checked-none (is_repeated given key) (fits_words key (length words)) (is_too_many given key (length words)) (list_all is_number words)
+    (is_in_range key (map value_of words)) (has_corners key (map value_of words)) fresh (ap (fits_words key) count ∙ h.words)
+    (ap (λ n. is_too_many given key n) count ∙ few) (numbers-decimal zs (short-ranged key zs h.ranged)) (ap (is_in_range key) values ∙ h.ranged)
+    (ap (has_corners key) values ∙ h.convex)

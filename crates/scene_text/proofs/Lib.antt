@@ -2,8 +2,9 @@ pub mod LineLemmas
 pub mod WordLemmas
 pub mod NumberLemmas
 pub mod FetchLemmas
-pub mod GrammarLemmas
+pub mod MappedErrors
 pub mod DraftLemmas
+pub mod DraftScenes
 pub mod ReaderLemmas
 pub mod TextLemmas
 pub mod StatementTexts

@@ -2,20 +2,24 @@
 use Rattle.std.proofs.Common.{◌≡◌, ℕ, ◌+◌, ◌<◌, Bool, true, false, cond, not, eqb, List, [], ◌∷◌, suc, length, take, drop, refl, ap, ◌∙◌, arith}
 use Rattle.std.specs.List.{position_or_len}
 use Rattle.std.proofs.lemmas.List.{drop-drop}
-use Rattle.plan_model.specs.SceneGrammar.{lines_of, onto_first}
+use Rattle.plan_model.specs.TextLines.{lines_of, onto_first}
 
 -- how many bytes the first line has
 abbrev pub line_length : List ℕ → ℕ
 line_length text = position_or_len (λ b. eqb b 10) text
 
 -- a byte at the front of the first line
-onto_first-cut : (b n : ℕ) (text : List ℕ) (lines : List (List ℕ)) → lines ≡ take n text ∷ lines_of (drop (n + 1) text) → onto_first b lines ≡ take (1 + n) (b ∷ text) ∷ lines_of (drop (1 + n + 1) (b ∷ text))
+onto_first-cut : (b n : ℕ) (text : List ℕ) (lines : List (List ℕ)) → lines ≡ take n text ∷ lines_of (drop (n + 1) text)
+    → onto_first b lines ≡ take (1 + n) (b ∷ text) ∷ lines_of (drop (1 + n + 1) (b ∷ text))
 onto_first-cut b n text lines e =
     let one : 1 + n ≡ suc n = omega arith in
     let two : 1 + n + 1 ≡ suc (n + 1) = omega arith in
     rw (two, one, e)
 
-lines_of-cut_at : (is_end : Bool) (b : ℕ) (text : List ℕ) → (0 < length text → lines_of text ≡ take (line_length text) text ∷ lines_of (drop (line_length text + 1) text)) → cond is_end ([] ∷ lines_of text) (onto_first b (lines_of text)) ≡ take (cond (not is_end) (1 + line_length text) 0) (b ∷ text) ∷ lines_of (drop (cond (not is_end) (1 + line_length text) 0 + 1) (b ∷ text))
+lines_of-cut_at : (is_end : Bool) (b : ℕ) (text : List ℕ)
+    → (0 < length text → lines_of text ≡ take (line_length text) text ∷ lines_of (drop (line_length text + 1) text))
+    → cond is_end ([] ∷ lines_of text) (onto_first b (lines_of text)) ≡ take (cond (not is_end) (1 + line_length text) 0) (b ∷ text)
+    ∷ lines_of (drop (cond (not is_end) (1 + line_length text) 0 + 1) (b ∷ text))
 lines_of-cut_at true b text h = refl
 lines_of-cut_at false b [] h = refl
 lines_of-cut_at false b (c ∷ text) h =
@@ -27,7 +31,8 @@ lines_of-cut [] h = absurd (omega arith)
 lines_of-cut (b ∷ text) h = lines_of-cut_at (eqb b 10) b text (lines_of-cut text)
 
 -- the first line, what stands from its line feed on, and the rest behind that
-pub lines_of-split : (text line behind rest : List ℕ) (n : ℕ) → 0 < length text → n ≡ line_length text → line ≡ take n text → behind ≡ drop n text → rest ≡ drop 1 behind → lines_of text ≡ line ∷ lines_of rest
+pub lines_of-split : (text line behind rest : List ℕ) (n : ℕ) → 0 < length text → n ≡ line_length text → line ≡ take n text → behind ≡ drop n text
+    → rest ≡ drop 1 behind → lines_of text ≡ line ∷ lines_of rest
 lines_of-split text line behind rest n some place front back left =
     let same : rest ≡ drop (n + 1) text = left ∙ ap (drop 1) back ∙ drop-drop 1 n text in
     lines_of-cut text some ∙ rw (front, same, place)

@@ -1,10 +1,11 @@
 -- The numbers that digits stand for.
-use Rattle.std.proofs.Common.{◌≡◌, ℕ, ◌+◌, ◌-◌, ◌*◌, ◌≤◌, ◌<◌, Bool, true, false, ◌&&◌, eqb, leb, not, zero, suc, subst, List, [], ◌∷◌, length, get_or, drop, fold, pos, int_le, neg_ℤ, Option, None, Some, IfNone, refl, sym, arith}
+use Rattle.std.proofs.Common.{◌≡◌, ℕ, ◌+◌, ◌-◌, ◌*◌, ◌≤◌, ◌<◌, Bool, true, false, ◌&&◌, eqb, leb, not, zero, suc, subst, List, [], ◌∷◌, length, get_or}
+use Rattle.std.proofs.Common.{drop, fold, pos, int_le, neg_ℤ, Option, None, Some, IfNone, refl, sym, arith}
 use Rattle.std.proofs.lemmas.List.{at_drop_more}
 use Rattle.std.proofs.lemmas.Bool.Decides.{nat_tests}
-use Rattle.plan_model.specs.SceneGrammar.{is_positive, is_number, magnitude, value_of}
+use Rattle.plan_model.specs.TextNumbers.{is_positive, is_number, magnitude, value_of}
 
--- the number that digits stand for behind a number
+-- the number that digits stand for after a number
 abbrev pub magnitude_after : ℕ → List ℕ → ℕ
 magnitude_after n digits = fold (λ m b. 10 * m + (b - 48)) n digits
 
@@ -22,7 +23,7 @@ pub IfNone-fact : {X P : Type 0} (o : Option X) → P → IfNone o P
 IfNone-fact None h = h
 IfNone-fact (Some x) h = tt
 
--- ---- numbers behind a minus sign
+-- ---- numbers after a minus sign
 
 int_le-negative : (n least : ℕ) → 0 < n → int_le (pos least) (neg_ℤ (pos n)) ≡ false
 int_le-negative zero least h = absurd (omega arith)
@@ -39,12 +40,15 @@ magnitude-positive (b ∷ digits) h =
     let rest = magnitude_after-le digits (10 * 0 + (b - 48)) in
     omega arith
 
-outside-minus : (digits : List ℕ) (least most : ℕ) → is_number (45 ∷ digits) ≡ true → (int_le (pos least) (value_of (45 ∷ digits)) && int_le (value_of (45 ∷ digits)) (pos most)) ≡ false
+outside-minus : (digits : List ℕ) (least most : ℕ) → is_number (45 ∷ digits) ≡ true
+    → (int_le (pos least) (value_of (45 ∷ digits)) && int_le (value_of (45 ∷ digits)) (pos most)) ≡ false
 outside-minus digits least most h = rw (int_le-negative (magnitude digits) least (magnitude-positive digits h))
 
--- a number behind a minus sign is in no range of natural numbers
-pub outside-negative : (word : List ℕ) (least most : ℕ) → 1 ≤ length word → get_or word 0 0 ≡ 45 → is_number word ≡ true → (int_le (pos least) (value_of word) && int_le (value_of word) (pos most)) ≡ false
+-- a number after a minus sign is in no range of natural numbers
+pub outside-negative : (word : List ℕ) (least most : ℕ) → 1 ≤ length word → get_or word 0 0 ≡ 45 → is_number word ≡ true
+    → (int_le (pos least) (value_of word) && int_le (value_of word) (pos most)) ≡ false
 outside-negative [] least most some minus = absurd (omega arith)
 outside-negative (b ∷ digits) least most some minus =
-    let P : ℕ → Type 0 = λ x. is_number (x ∷ digits) ≡ true → (int_le (pos least) (value_of (x ∷ digits)) && int_le (value_of (x ∷ digits)) (pos most)) ≡ false in
+    let P : ℕ → Type 0 = λ x. is_number (x ∷ digits) ≡ true
+    → (int_le (pos least) (value_of (x ∷ digits)) && int_le (value_of (x ∷ digits)) (pos most)) ≡ false in
     subst P (sym minus) (outside-minus digits least most)

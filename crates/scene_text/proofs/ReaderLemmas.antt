@@ -1,181 +1,170 @@
--- How far a text is read: the lines so far have no fault, and the fields stand for their statements.
-use Rattle.std.proofs.Common.{◌≡◌, ℕ, ◌+◌, ◌<◌, ◌≤◌, ◌&&◌, not, Bool, true, false, cond, ℤ, Option, Some, None, List, [], ◌∷◌, ◌++◌, length, map, take, drop, get_or, refl, sym, ap, ◌∙◌, subst, inl, inr, arith}
+-- How far a text is read: the lines so far have no fault, and the draft gives what their statements give.
+use Rattle.std.proofs.Common.{◌≡◌, ℕ, ◌+◌, ◌<◌, ◌≤◌, ◌&&◌, ◌||◌, not, Bool, true, false, cond, None, List, [], ◌∷◌, ◌++◌, length, take, drop, get_or, refl}
+use Rattle.std.proofs.Common.{sym, ap, ◌∙◌, subst, inl, inr, arith}
 use borrow.Author.Count.{below_more}
 use Rattle.std.proofs.lemmas.List.{append-nil, drop_more, take_more, take_all, length-drop}
-use Rattle.std.specs.Option.{unwrap_or}
 use Rattle.plan_model.specs.declared.scenes.Scene.{Scene}
-use Rattle.plan_model.specs.declared.scenes.Marks.TheVariants.{Listed}
-use Rattle.plan_model.specs.declared.text_terms.Key.{Key}
-use Rattle.plan_model.specs.declared.text_terms.Key.TheVariants as keys
-use Rattle.plan_model.specs.declared.text_terms.Kind.{Kind}
-use Rattle.plan_model.specs.declared.text_terms.Kind.TheVariants as kinds
-use Rattle.plan_model.specs.SceneGrammar.{lines_of, words_of, key_of, is_skipped, statements_of, supported, IsSoundBelow, Spells, HasFields, fault_of_line, fault_of_end, fault_after, numbers_of, first_of, point_from, goal_from, number_or, body_from, corners_from, plan_from}
+use Rattle.plan_model.specs.TextLines.{lines_of, words_of, is_skipped, statements_of}
+use Rattle.plan_model.specs.LineChecks.{given_by, with_statement, fault_of_words, fault_at_end, AllMayStand}
+use Rattle.plan_model.specs.SceneGrammar.{is_version_read, given_after_version, fault_of_line, fault_of_end, HasFields, IsSoundBelow, Spells, supported}
+use Rattle.plan_model.proofs.StatementNumbers.{given_by-push, statements_of-push}
+use Rattle.plan_model.proofs.SoundStatements.{IsSoundGiven-text}
+use Rattle.scene_text.specs.declared.drafts.Draft.{Draft}
 use Rattle.scene_text.specs.declared.refusals.LineRefusal.{LineRefusal}
 use Rattle.scene_text.specs.declared.refusals.LineRefusal.TheVariants as line_refusal
 use Rattle.scene_text.specs.Refusals.{refusal_at, IsLineRefusal, IsRefusal}
-use Rattle.scene_text.specs.Drafts.{Fields, fields_of, first_with, fault_in, fault_of_words, after, after_line, missing_in, IsSceneOf}
-use Rattle.plan_model.proofs.StatementNumbers.{statements_of-push}
-use Rattle.scene_text.proofs.GrammarLemmas.{has-numbers}
-use Rattle.scene_text.proofs.DraftLemmas.{AreBuilt, Holds, Holds-none, behind-key, fault_of_words-same}
+use Rattle.scene_text.specs.Drafts.{given_by_draft, given_after, TakesLine}
 
--- ---- one more line
+-- ---- what a draft stands for
 
-Holds-step : (skipped : Bool) (statements : List (List (List ℕ))) (words : List (List ℕ)) → is_skipped words ≡ skipped → AreBuilt (drop 1 statements) → cond skipped None (fault_in (fields_of statements) words) ≡ None → Holds (cond skipped (fields_of statements) (after (fields_of statements) words)) (statements ++ cond (not skipped) (words ∷ []) [])
-Holds-step true statements words e built sound =
-    subst (Holds (fields_of statements)) (sym (append-nil statements)) (record {
-      same = refl;
-      built = built;
-    })
-Holds-step false statements [] e built sound = absurd (cc)
-Holds-step false [] (word ∷ words) e built sound = record {
-  same = refl;
-  built = λ key unbuilt. refl;
+-- the draft gives what the statements give
+pub record StandsFor (draft : Draft) (statements : List (List (List ℕ))) : Type 0 where
+  pub version_read : draft.version_read ≡ is_version_read statements
+  pub given : given_by_draft draft ≡ given_after_version statements
+
+-- the statements with those of one more line
+abbrev more_statements : Bool → List (List (List ℕ)) → List (List ℕ) → List (List (List ℕ))
+more_statements skipped statements words = statements ++ cond (not skipped) (words ∷ []) []
+
+version_read-more : (skipped : Bool) (statements : List (List (List ℕ))) (words : List (List ℕ))
+    → (is_version_read statements || not skipped) ≡ is_version_read (more_statements skipped statements words)
+version_read-more true [] words = refl
+version_read-more false [] words = refl
+version_read-more skipped (version ∷ before) words = refl
+
+given-more : (skipped : Bool) (statements : List (List (List ℕ))) (words : List (List ℕ))
+    → cond (is_version_read statements && not skipped) (with_statement (given_after_version statements) words) (given_after_version statements)
+    ≡ given_after_version (more_statements skipped statements words)
+given-more true [] words = refl
+given-more false [] words = refl
+given-more true (version ∷ before) words = ap given_by (sym (append-nil before))
+given-more false (version ∷ before) words = sym (given_by-push before words)
+
+StandsFor-more : (old new : Draft) (statements : List (List (List ℕ))) (words : List (List ℕ)) → StandsFor old statements → TakesLine old new words
+    → StandsFor new (more_statements (is_skipped words) statements words)
+StandsFor-more old new statements words h takes = record {
+  version_read = takes.version_read ∙ ap (λ b. b || not (is_skipped words)) h.version_read ∙ version_read-more (is_skipped words) statements words;
+  given = takes.given ∙ ap (λ b. given_after b (given_by_draft old) words) h.version_read
+      ∙ ap (λ given. given_after (is_version_read statements) given words) h.given ∙ given-more (is_skipped words) statements words;
 }
-Holds-step false (version ∷ before) (word ∷ words) e built sound =
-    let more = behind-key (key_of word) word words before refl built sound in
-    record {
-      same = more.same;
-      built = more.built;
-    }
-
-Holds-line : (fields : Fields) (statements : List (List (List ℕ))) (words : List (List ℕ)) → Holds fields statements → fault_of_words fields words ≡ None → Holds (after_line fields words) (statements ++ cond (not (is_skipped words)) (words ∷ []) [])
-Holds-line fields statements words h =
-    let P : Fields → Type 0 = λ f. fault_of_words f words ≡ None → Holds (after_line f words) (statements ++ cond (not (is_skipped words)) (words ∷ []) []) in
-    subst P (sym h.same) (λ sound. Holds-step (is_skipped words) statements words refl h.built sound)
 
 -- ---- so many lines of a text
 
--- So many lines are read: none has a fault, the fields stand for their statements, and the rest is left.
-pub record Reads (text : List ℕ) (number : ℕ) (rest : List ℕ) (fields : Fields) : Type 0 where
+-- So many lines are read: none has a fault, the draft stands for their statements, and the rest is left.
+pub record Reads (text : List ℕ) (number : ℕ) (rest : List ℕ) (draft : Draft) : Type 0 where
   pub left : drop number (lines_of text) ≡ lines_of rest
   pub below : number ≤ length (lines_of text)
   pub sound : IsSoundBelow supported (lines_of text) number
-  pub holds : Holds fields (statements_of (take number (lines_of text)))
+  pub stands : StandsFor draft (statements_of (take number (lines_of text)))
   pub short : number + length rest ≤ length text
 
-pub Reads-none : (text : List ℕ) → Reads text 0 text (fields_of [])
-Reads-none text = record {
+pub Reads-none : (text : List ℕ) (draft : Draft) → draft.version_read ≡ false → given_by_draft draft ≡ given_by [] → Reads text 0 text draft
+Reads-none text draft unread none = record {
   left = refl;
   below = omega arith;
   sound = λ i below. absurd (omega arith);
-  holds = Holds-none;
+  stands = record { version_read = unread; given = none };
   short = omega arith;
 }
 
 -- the line that is next
-record IsNext (lines : List (List ℕ)) (number : ℕ) (line : List ℕ) (behind : List (List ℕ)) : Type 0 where
+record IsNext (lines : List (List ℕ)) (number : ℕ) (line : List ℕ) (after : List (List ℕ)) : Type 0 where
   within : number < length lines
   here : get_or lines number [] ≡ line
-  after : drop (number + 1) lines ≡ behind
+  left : drop (number + 1) lines ≡ after
 
-IsNext-from_drop : (lines : List (List ℕ)) (number : ℕ) (line : List ℕ) (behind : List (List ℕ)) → drop number lines ≡ line ∷ behind → IsNext lines number line behind
-IsNext-from_drop lines number line behind e =
-    let long : length (drop number lines) ≡ length behind + 1 = ap length e ∙ omega arith in
+IsNext-from_drop : (lines : List (List ℕ)) (number : ℕ) (line : List ℕ) (after : List (List ℕ)) → drop number lines ≡ line ∷ after
+    → IsNext lines number line after
+IsNext-from_drop lines number line after e =
+    let long : length (drop number lines) ≡ length after + 1 = ap length e ∙ omega arith in
     let within : number < length lines = omega (arith, length-drop number lines) in
     let opened : drop number lines ≡ get_or lines number [] ∷ drop (number + 1) lines = drop_more lines number [] within in
     record {
       within = within;
       here = cc;
-      after = cc;
+      left = cc;
     }
 
 -- the fault of the line that is next
-fault-next : (fields : Fields) (lines : List (List ℕ)) (number : ℕ) (line : List ℕ) → Holds fields (statements_of (take number lines)) → get_or lines number [] ≡ line → fault_of_line supported lines number ≡ fault_of_words fields (words_of line)
-fault-next fields lines number line h e =
-    ap (λ bytes. cond (is_skipped (words_of bytes)) None (fault_after supported (statements_of (take number lines)) (words_of bytes))) e ∙ sym (ap (λ f. fault_of_words f (words_of line)) h.same ∙ fault_of_words-same (statements_of (take number lines)) (words_of line) h.built)
+fault-next : (draft : Draft) (lines : List (List ℕ)) (number : ℕ) (line : List ℕ) → StandsFor draft (statements_of (take number lines))
+    → get_or lines number [] ≡ line → fault_of_line supported lines number ≡ fault_of_words supported draft.version_read (given_by_draft draft) (words_of line)
+fault-next draft lines number line h e =
+    let before = statements_of (take number lines) in
+    ap (λ bytes. fault_of_words supported (is_version_read before) (given_after_version before) (words_of bytes)) e
+    ∙ sym (ap (λ b. fault_of_words supported b (given_by_draft draft) (words_of line)) h.version_read
+    ∙ ap (λ given. fault_of_words supported (is_version_read before) given (words_of line)) h.given)
 
-pub Reads-more : (text : List ℕ) (number : ℕ) (rest : List ℕ) (fields : Fields) (line behind : List ℕ) → Reads text number rest fields → lines_of rest ≡ line ∷ lines_of behind → length behind < length rest → fault_of_words fields (words_of line) ≡ None → Reads text (number + 1) behind (after_line fields (words_of line))
-Reads-more text number rest fields line behind h split shorter sound =
-    let next = IsNext-from_drop (lines_of text) number line (lines_of behind) (h.left ∙ split) in
-    let fault = fault-next fields (lines_of text) number line h.holds next.here in
-    let more : take (number + 1) (lines_of text) ≡ take number (lines_of text) ++ line ∷ [] = take_more (lines_of text) number [] next.within ∙ ap (λ l. take number (lines_of text) ++ l ∷ []) next.here in
+pub Reads-more : (text : List ℕ) (number : ℕ) (rest : List ℕ) (old new : Draft) (line after : List ℕ) → Reads text number rest old
+    → lines_of rest ≡ line ∷ lines_of after → length after < length rest → TakesLine old new (words_of line) → Reads text (number + 1) after new
+Reads-more text number rest old new line after h split shorter takes =
+    let next = IsNext-from_drop (lines_of text) number line (lines_of after) (h.left ∙ split) in
+    let fault = fault-next old (lines_of text) number line h.stands next.here in
+    let more : take (number + 1) (lines_of text) ≡ take number (lines_of text) ++ line ∷ [] = take_more (lines_of text) number [] next.within
+    ∙ ap (λ l. take number (lines_of text) ++ l ∷ []) next.here in
     record {
-      left = next.after;
+      left = next.left;
       below = (let within = next.within in omega arith);
-      sound = below_more (λ i. fault_of_line supported (lines_of text) i ≡ None) number h.sound (fault ∙ sound);
-      holds = subst (Holds (after_line fields (words_of line))) (sym (ap statements_of more ∙ statements_of-push (take number (lines_of text)) line)) (Holds-line fields (statements_of (take number (lines_of text))) (words_of line) h.holds sound);
+      sound = below_more (λ i. fault_of_line supported (lines_of text) i ≡ None) number h.sound (fault ∙ takes.sound);
+      stands = subst (StandsFor new) (sym (ap statements_of more ∙ statements_of-push (take number (lines_of text)) line))
+          (StandsFor-more old new (statements_of (take number (lines_of text))) (words_of line) h.stands takes);
       short = (let short = h.short in omega arith);
     }
 
 -- a line with a fault refuses the text
-pub Reads-refused : (text : List ℕ) (number : ℕ) (rest : List ℕ) (fields : Fields) (line behind : List ℕ) (refusal : LineRefusal) → Reads text number rest fields → lines_of rest ≡ line ∷ lines_of behind → IsLineRefusal (fault_of_words fields (words_of line)) refusal → IsRefusal text (refusal_at (number + 1) refusal)
-Reads-refused text number rest fields line behind (line_refusal.Fault kind) h split fault =
-    let next = IsNext-from_drop (lines_of text) number line (lines_of behind) (h.left ∙ split) in
-    (number, refl, h.sound, inl (next.within, fault-next fields (lines_of text) number line h.holds next.here ∙ fault))
-Reads-refused text number rest fields line behind line_refusal.Memory h split fault = tt
+pub Reads-refused : (text : List ℕ) (number : ℕ) (rest : List ℕ) (draft : Draft) (line after : List ℕ) (refusal : LineRefusal)
+    → Reads text number rest draft → lines_of rest ≡ line ∷ lines_of after
+    → IsLineRefusal (fault_of_words supported draft.version_read (given_by_draft draft) (words_of line)) refusal
+    → IsRefusal text (refusal_at (number + 1) refusal)
+Reads-refused text number rest draft line after (line_refusal.Fault kind) h split fault =
+    let next = IsNext-from_drop (lines_of text) number line (lines_of after) (h.left ∙ split) in
+    (number, refl, h.sound, inl (next.within, fault-next draft (lines_of text) number line h.stands next.here ∙ fault))
+Reads-refused text number rest draft line after line_refusal.Memory h split fault = tt
 
 -- ---- the end of a text
 
-all_lines : (text : List ℕ) (number : ℕ) (fields : Fields) → Reads text number [] fields → number ≡ length (lines_of text)
-all_lines text number fields h =
+-- All lines are read, and the draft stands for all statements.
+record ReadsAll (text : List ℕ) (number : ℕ) (draft : Draft) : Type 0 where
+  all : number ≡ length (lines_of text)
+  sound : IsSoundBelow supported (lines_of text) (length (lines_of text))
+  stands : StandsFor draft (statements_of (lines_of text))
+
+ReadsAll-from_end : (text : List ℕ) (number : ℕ) (draft : Draft) → Reads text number [] draft → ReadsAll text number draft
+ReadsAll-from_end text number draft h =
     let long : length (drop number (lines_of text)) ≡ 0 = ap length h.left in
-    let below = h.below in
-    omega (arith, length-drop number (lines_of text))
-
-all_statements : (text : List ℕ) (number : ℕ) (fields : Fields) → Reads text number [] fields → Holds fields (statements_of (lines_of text))
-all_statements text number fields h =
-    let all = all_lines text number fields h in
-    subst (λ lines. Holds fields (statements_of lines)) (take_all number (lines_of text) (omega arith)) h.holds
-
-abbrev whole : Bool → Bool → Bool → Bool → Option Kind
-whole room start goal step = cond ((room && start) && (goal && step)) None (Some kinds.Missing)
-
-missing-same : (statements : List (List (List ℕ))) → missing_in (fields_of statements) ≡ fault_of_end statements
-missing-same [] = refl
-missing-same (version ∷ statements) =
-    let room = has-numbers point_from keys.Room statements in
-    let start = has-numbers point_from keys.Start statements in
-    let goal = has-numbers goal_from keys.Goal statements in
-    let step = has-numbers (number_or 0) keys.Step statements in
-    let same : (a b c d a' b' c' d' : Bool) → a' ≡ a → b' ≡ b → c' ≡ c → d' ≡ d → whole a b c d ≡ whole a' b' c' d' = λ a b c d a' b' c' d' p q r s. cc in
-    same _ _ _ _ _ _ _ _ room start goal step
-
--- what is missing refuses the text behind its last line
-pub Reads-missing : (text : List ℕ) (number : ℕ) (fields : Fields) (refusal : LineRefusal) → Reads text number [] fields → IsLineRefusal (missing_in fields) refusal → IsRefusal text (refusal_at (number + 1) refusal)
-Reads-missing text number fields (line_refusal.Fault kind) h fault =
-    let all = all_statements text number fields h in
-    let missing : fault_of_end (statements_of (lines_of text)) ≡ Some kind = sym (missing-same (statements_of (lines_of text))) ∙ ap missing_in (sym all.same) ∙ fault in
-    (number, refl, h.sound, inr (all_lines text number fields h, missing))
-Reads-missing text number fields line_refusal.Memory h fault = tt
-
-first_with-value : {A : Type 0} (f : List ℤ → A) (lists : List (List ℤ)) (x : A) → first_with f lists ≡ Some x → x ≡ f (first_of lists)
-first_with-value f [] x e = absurd (cc)
-first_with-value f (zs ∷ lists) x e = cc
-
--- the number of a line, or the one that holds without it
-number-without : (n : ℕ) (lists : List (List ℤ)) → unwrap_or (first_with (number_or n) lists) n ≡ number_or n (first_of lists)
-number-without n [] = refl
-number-without n (zs ∷ lists) = refl
-
-HasFields-from_scene : (fields : Fields) (statements : List (List (List ℕ))) (scene : Scene) → Holds fields statements → IsSceneOf fields scene → HasFields (drop 1 statements) scene
-HasFields-from_scene fields [] scene h s =
-    let clash : true ≡ false = sym s.version_read ∙ ap (λ f. f.version_read) h.same in
-    absurd (cc)
-HasFields-from_scene fields (version ∷ statements) scene h s =
-    let none : (key : Key) → supported key ≡ false → [] ≡ numbers_of key statements = λ key unbuilt. sym (h.built key unbuilt) in
+    let all : number ≡ length (lines_of text) = (let below = h.below in omega (arith, length-drop number (lines_of text))) in
     record {
-      version = s.version;
-      room = first_with-value point_from (numbers_of keys.Room statements) scene.room (sym (ap (λ f. f.room) h.same) ∙ s.room);
-      body = s.body ∙ ap body_from (none keys.Body refl);
-      obstacles = s.obstacles ∙ ap (map corners_from) (none keys.Obstacle refl);
-      start = first_with-value point_from (numbers_of keys.Start statements) scene.start (sym (ap (λ f. f.start) h.same) ∙ s.start);
-      goal = first_with-value goal_from (numbers_of keys.Goal statements) scene.goal (sym (ap (λ f. f.goal) h.same) ∙ s.goal);
-      step = first_with-value (number_or 0) (numbers_of keys.Step statements) scene.step (sym (ap (λ f. f.step) h.same) ∙ s.step);
-      gamma = s.gamma ∙ ap (λ lists. number_or 0 (first_of lists)) (none keys.Gamma refl);
-      seed = s.seed ∙ ap (λ f. unwrap_or f.seed 0) h.same ∙ number-without 0 (numbers_of keys.Seed statements);
-      strips = s.strips ∙ ap (λ f. unwrap_or f.strips 1) h.same ∙ number-without 1 (numbers_of keys.Strips statements);
-      plan = s.plan ∙ ap Listed (ap (λ f. f.marks) h.same) ∙ ap (λ lists. plan_from lists (numbers_of keys.Mark statements)) (none keys.Marks refl);
+      all = all;
+      sound = subst (IsSoundBelow supported (lines_of text)) all h.sound;
+      stands = subst (λ lines. StandsFor draft (statements_of lines)) (take_all number (lines_of text) (omega arith)) h.stands;
     }
 
-missing-none : (fields : Fields) (scene : Scene) → IsSceneOf fields scene → missing_in fields ≡ None
-missing-none fields scene s = rw (s.version_read, s.room, s.start, s.goal, s.step) refl
+-- what the draft gives may stand
+pub AllMayStand-draft : (text : List ℕ) (number : ℕ) (draft : Draft) → Reads text number [] draft → AllMayStand (given_by_draft draft)
+AllMayStand-draft text number draft h =
+    let all = ReadsAll-from_end text number draft h in
+    subst AllMayStand (sym all.stands.given) (IsSoundGiven-text supported text all.sound).stand
 
--- the text spells the scene of its fields
-pub Reads-all : (text : List ℕ) (number : ℕ) (fields : Fields) (scene : Scene) → Reads text number [] fields → IsSceneOf fields scene → Spells supported text scene
-Reads-all text number fields scene h s =
-    let all = all_statements text number fields h in
+-- what is missing is missing in the draft
+fault_of_end-draft : (draft : Draft) (statements : List (List (List ℕ))) → StandsFor draft statements
+    → fault_of_end statements ≡ fault_at_end draft.version_read (given_by_draft draft)
+fault_of_end-draft draft statements h =
+    sym (ap (λ b. fault_at_end b (given_by_draft draft)) h.version_read ∙ ap (fault_at_end (is_version_read statements)) h.given)
+
+-- what is missing refuses the text after its last line
+pub Reads-missing : (text : List ℕ) (number : ℕ) (draft : Draft) (refusal : LineRefusal) → Reads text number [] draft
+    → IsLineRefusal (fault_at_end draft.version_read (given_by_draft draft)) refusal → IsRefusal text (refusal_at (number + 1) refusal)
+Reads-missing text number draft (line_refusal.Fault kind) h fault =
+    let all = ReadsAll-from_end text number draft h in
+    (number, refl, h.sound, inr (all.all, fault_of_end-draft draft (statements_of (lines_of text)) all.stands ∙ fault))
+Reads-missing text number draft line_refusal.Memory h fault = tt
+
+-- the text spells the scene of its draft
+pub Reads-all : (text : List ℕ) (number : ℕ) (draft : Draft) (scene : Scene) → Reads text number [] draft
+    → fault_at_end draft.version_read (given_by_draft draft) ≡ None → HasFields (given_by_draft draft) scene → Spells supported text scene
+Reads-all text number draft scene h whole fields =
+    let all = ReadsAll-from_end text number draft h in
     record {
-      sound = subst (IsSoundBelow supported (lines_of text)) (all_lines text number fields h) h.sound;
-      whole = sym (missing-same (statements_of (lines_of text))) ∙ ap missing_in (sym all.same) ∙ missing-none fields scene s;
-      fields = HasFields-from_scene fields (statements_of (lines_of text)) scene all s;
+      sound = all.sound;
+      whole = fault_of_end-draft draft (statements_of (lines_of text)) all.stands ∙ whole;
+      fields = subst (λ given. HasFields given scene) all.stands.given fields;
     }

@@ -1,12 +1,16 @@
 -- A text whose lines are statements, their words with a blank between two: its lines and words are those of the statements.
-use Rattle.std.proofs.Common.{◌≡◌, ℕ, ◌<◌, Bool, true, false, not, ◌&&◌, eqb, ltb, zero, suc, None, List, [], ◌∷◌, ◌++◌, length, map, take, get_or, filter, refl, sym, ap, ◌∙◌, subst, arith}
+use Rattle.std.proofs.Common.{◌≡◌, ℕ, ◌<◌, Bool, true, false, not, ◌&&◌, eqb, ltb, zero, suc, Option, None, List, [], ◌∷◌, ◌++◌, length, map, take, get_or}
+use Rattle.std.proofs.Common.{filter, refl, sym, ap, ◌∙◌, subst, arith}
 use Rattle.std.specs.List.{list_all, flat_map, join_with_byte}
 use Rattle.std.proofs.lemmas.List.{append_assoc, append-nil, take-map, length-map}
 use Rattle.std.proofs.Math.ListN.{get_or-map}
 use Rattle.std.proofs.lemmas.List.Folds.{list_all-append}
 use Rattle.plan_model.specs.declared.text_terms.Key.{Key}
 use Rattle.plan_model.specs.ReportText.{line}
-use Rattle.plan_model.specs.SceneGrammar.{lines_of, pieces_of, words_of, is_skipped, statements_of, fault_after, fault_of_line, IsSoundBelow, all_keys}
+use Rattle.plan_model.specs.TextLines.{lines_of, pieces_of, words_of, is_skipped, statements_of}
+use Rattle.plan_model.specs.LineChecks.{fault_after}
+use Rattle.plan_model.specs.declared.text_terms.Kind.{Kind}
+use Rattle.plan_model.specs.SceneGrammar.{is_version_read, given_after_version, fault_of_line, IsSoundBelow, all_keys}
 
 -- ---- words
 
@@ -59,7 +63,8 @@ pieces_of-join word [] h =
     pieces_of-last word (both (ltb 0 (length word)) (list_all is_inner word) (both (is_word word) true h).0).1
 pieces_of-join word (next ∷ words) h =
     let parts = both (is_word word) (list_all is_word (next ∷ words)) h in
-    pieces_of-word word (join_with_byte 32 (next ∷ words)) (both (ltb 0 (length word)) (list_all is_inner word) parts.0).1 ∙ ap (λ pieces. word ∷ pieces) (pieces_of-join next words parts.1)
+    pieces_of-word word (join_with_byte 32 (next ∷ words)) (both (ltb 0 (length word)) (list_all is_inner word) parts.0).1
+    ∙ ap (λ pieces. word ∷ pieces) (pieces_of-join next words parts.1)
 
 filter-words : (words : List (List ℕ)) → list_all is_word words ≡ true → filter (λ piece. ltb 0 (length piece)) words ≡ words
 filter-words [] h = refl
@@ -99,7 +104,9 @@ lines_of-text [] h = refl
 lines_of-text (words ∷ statements) h =
     let parts = both (is_clean words) (list_all is_clean statements) h in
     let clean = (both (list_all is_word words) (not (is_skipped words)) parts.0).0 in
-    ap lines_of (append_assoc (line_of words) (10 ∷ []) (flat_map line statements)) ∙ lines_of-line (line_of words) (flat_map line statements) (inner-line words clean) ∙ ap (λ lines. line_of words ∷ lines) (lines_of-text statements parts.1)
+    ap lines_of (append_assoc (line_of words) (10 ∷ []) (flat_map line statements))
+    ∙ lines_of-line (line_of words) (flat_map line statements) (inner-line words clean)
+    ∙ ap (λ lines. line_of words ∷ lines) (lines_of-text statements parts.1)
 
 -- ---- the statements of lines
 
@@ -124,13 +131,20 @@ clean-at (words ∷ statements) zero h below = (both (is_clean words) (list_all 
 clean-at (words ∷ statements) (suc i) h below =
     clean-at statements i (both (is_clean words) (list_all is_clean statements) h).1 (omega arith)
 
+-- the fault of a statement after others
+abbrev pub fault_after_statements : (Key → Bool) → List (List (List ℕ)) → List (List ℕ) → Option Kind
+fault_after_statements built before words = fault_after built (is_version_read before) (given_after_version before) words
+
 -- the fault of a line is that of its statement
-pub fault_of_line-statement : (built : Key → Bool) (statements : List (List (List ℕ))) (i : ℕ) → list_all is_clean statements ≡ true → i < length statements → fault_of_line built (map line_of statements) i ≡ fault_after built (take i statements) (get_or statements i [])
+pub fault_of_line-statement : (built : Key → Bool) (statements : List (List (List ℕ))) (i : ℕ) → list_all is_clean statements ≡ true → i < length statements
+    → fault_of_line built (map line_of statements) i ≡ fault_after_statements built (take i statements) (get_or statements i [])
 fault_of_line-statement built statements i h below =
     let clean = both (list_all is_word (get_or statements i [])) (not (is_skipped (get_or statements i []))) (clean-at statements i h below) in
     let kept : is_skipped (get_or statements i []) ≡ false = not-true (is_skipped (get_or statements i [])) clean.1 in
-    let here : words_of (get_or (map line_of statements) i []) ≡ get_or statements i [] = ap words_of (get_or-map line_of statements i []) ∙ words_of-join (get_or statements i []) clean.0 in
-    let before : statements_of (take i (map line_of statements)) ≡ take i statements = ap statements_of (take-map line_of i statements) ∙ statements_of-lines (take i statements) (clean-take statements i h) in
+    let here : words_of (get_or (map line_of statements) i []) ≡ get_or statements i [] = ap words_of (get_or-map line_of statements i [])
+    ∙ words_of-join (get_or statements i []) clean.0 in
+    let before : statements_of (take i (map line_of statements)) ≡ take i statements = ap statements_of (take-map line_of i statements)
+    ∙ statements_of-lines (take i statements) (clean-take statements i h) in
     rw (here, before, kept) refl
 
 -- ---- statements without a fault
@@ -139,13 +153,15 @@ fault_of_line-statement built statements i h below =
 abbrev pub AreSound : List (List (List ℕ)) → List (List (List ℕ)) → Type 0
 AreSound before [] = Unit {0}
 AreSound before (words ∷ statements) =
-    (fault_after all_keys before words ≡ None) × AreSound (before ++ words ∷ []) statements
+    (fault_after_statements all_keys before words ≡ None) × AreSound (before ++ words ∷ []) statements
 
-sound-at : (before statements : List (List (List ℕ))) (i : ℕ) → AreSound before statements → i < length statements → fault_after all_keys (before ++ take i statements) (get_or statements i []) ≡ None
+sound-at : (before statements : List (List (List ℕ))) (i : ℕ) → AreSound before statements → i < length statements
+    → fault_after_statements all_keys (before ++ take i statements) (get_or statements i []) ≡ None
 sound-at before [] i h below = absurd (omega arith)
 sound-at before (words ∷ statements) zero h below = rw (append-nil before) h.0
 sound-at before (words ∷ statements) (suc i) h below =
-    ap (λ front. fault_after all_keys front (get_or statements i [])) (sym (append_assoc before (words ∷ []) (take i statements))) ∙ sound-at (before ++ words ∷ []) statements i h.1 (omega arith)
+    ap (λ front. fault_after_statements all_keys front (get_or statements i [])) (sym (append_assoc before (words ∷ []) (take i statements)))
+    ∙ sound-at (before ++ words ∷ []) statements i h.1 (omega arith)
 
 pub AreSound-append : (before xs ys : List (List (List ℕ))) → AreSound before xs → AreSound (before ++ xs) ys → AreSound before (xs ++ ys)
 AreSound-append before [] ys h k = subst (λ front. AreSound front ys) (append-nil before) k
@@ -153,6 +169,9 @@ AreSound-append before (words ∷ xs) ys h k =
     (h.0, AreSound-append (before ++ words ∷ []) xs ys h.1 (subst (λ front. AreSound front ys) (sym (append_assoc before (words ∷ []) xs)) k))
 
 -- no line of the text has a fault
-pub IsSoundBelow-text : (statements : List (List (List ℕ))) → list_all is_clean statements ≡ true → AreSound [] statements → IsSoundBelow all_keys (lines_of (flat_map line statements)) (length (lines_of (flat_map line statements)))
+pub IsSoundBelow-text : (statements : List (List (List ℕ))) → list_all is_clean statements ≡ true → AreSound [] statements
+    → IsSoundBelow all_keys (lines_of (flat_map line statements)) (length (lines_of (flat_map line statements)))
 IsSoundBelow-text statements clean sound =
-    subst (λ lines. IsSoundBelow all_keys lines (length lines)) (sym (lines_of-text statements clean)) (λ i below. let within : i < length statements = omega (arith, length-map statements line_of) in fault_of_line-statement all_keys statements i clean within ∙ sound-at [] statements i sound within)
+    subst (λ lines. IsSoundBelow all_keys lines (length lines)) (sym (lines_of-text statements clean))
+    (λ i below. let within : i < length statements = omega (arith, length-map statements line_of) in fault_of_line-statement all_keys statements i clean
+    within ∙ sound-at [] statements i sound within)

@@ -17,6 +17,7 @@ line-spaced word zs =
     ap (λ text. text ++ 10 ∷ []) (join-spaced word zs) ∙ append_assoc word (flat_map (λ z. 32 ∷ signed_decimal z) zs) (10 ∷ [])
 
 -- a text after the word, the numbers and the line feed
-pub line-pushed : (before named spaced after word : List ℕ) (zs : List ℤ) → named ≡ before ++ word → spaced ≡ named ++ flat_map (λ z. 32 ∷ signed_decimal z) zs → after ≡ spaced ++ 10 ∷ [] → after ≡ before ++ line (word ∷ map signed_decimal zs)
+pub line-pushed : (before named spaced after word : List ℕ) (zs : List ℤ) → named ≡ before ++ word
+    → spaced ≡ named ++ flat_map (λ z. 32 ∷ signed_decimal z) zs → after ≡ spaced ++ 10 ∷ [] → after ≡ before ++ line (word ∷ map signed_decimal zs)
 line-pushed before named spaced after word zs e f g =
     rw (line-spaced word zs, g, f, e, append_assoc, append_assoc) refl

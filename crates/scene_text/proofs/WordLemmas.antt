@@ -1,10 +1,11 @@
 -- Cutting the first word off a line.
-use Rattle.std.proofs.Common.{◌≡◌, ℕ, ◌+◌, ◌<◌, ◌≤◌, Bool, true, false, cond, not, eqb, ltb, List, [], ◌∷◌, length, suc, take, drop, refl, ap, ◌∙◌, sym, subst, arith}
+use Rattle.std.proofs.Common.{◌≡◌, ℕ, ◌+◌, ◌<◌, ◌≤◌, Bool, true, false, cond, not, eqb, ltb, List, [], ◌∷◌, length, suc, take, drop, refl, ap, ◌∙◌, sym}
+use Rattle.std.proofs.Common.{subst, arith}
 use Rattle.std.specs.List.{position_or_len, prefix_len, filter}
 use Rattle.std.proofs.lemmas.List.{length-take-le, nil_from_length}
 use Rattle.std.proofs.lemmas.List.Sums.{prefix_len-le-length}
 use Rattle.std.proofs.lemmas.Bool.Decides.{nat_tests}
-use Rattle.plan_model.specs.SceneGrammar.{pieces_of, words_of, onto_first}
+use Rattle.plan_model.specs.TextLines.{pieces_of, words_of, onto_first}
 
 -- how many blanks a line begins with
 abbrev pub blank_count : List ℕ → ℕ
@@ -29,7 +30,8 @@ take_more_front n b line = let one : 1 + n ≡ suc n = omega arith in rw one
 
 -- ---- blanks at the front
 
-words_of-blanks_at : (is_blank : Bool) (b : ℕ) (line : List ℕ) → is_blank ≡ eqb b 32 → words_of line ≡ words_of (drop (blank_count line) line) → words_of (b ∷ line) ≡ words_of (drop (cond is_blank (1 + blank_count line) 0) (b ∷ line))
+words_of-blanks_at : (is_blank : Bool) (b : ℕ) (line : List ℕ) → is_blank ≡ eqb b 32 → words_of line ≡ words_of (drop (blank_count line) line)
+    → words_of (b ∷ line) ≡ words_of (drop (cond is_blank (1 + blank_count line) 0) (b ∷ line))
 words_of-blanks_at true b line e h = rw (← e, drop_more (blank_count line) b line) h
 words_of-blanks_at false b line e h = refl
 
@@ -42,7 +44,8 @@ words_of-blanks (b ∷ line) = words_of-blanks_at (eqb b 32) b line refl (words_
 abbrev BeginsWord : List ℕ → Type 0
 BeginsWord line = 0 < length line → 0 < piece_length line
 
-BeginsWord-at : (is_blank : Bool) (b : ℕ) (line : List ℕ) → is_blank ≡ eqb b 32 → BeginsWord (drop (blank_count line) line) → BeginsWord (drop (cond is_blank (1 + blank_count line) 0) (b ∷ line))
+BeginsWord-at : (is_blank : Bool) (b : ℕ) (line : List ℕ) → is_blank ≡ eqb b 32 → BeginsWord (drop (blank_count line) line)
+    → BeginsWord (drop (cond is_blank (1 + blank_count line) 0) (b ∷ line))
 BeginsWord-at true b line e h = subst BeginsWord (sym (drop_more (blank_count line) b line)) h
 BeginsWord-at false b line e h = λ some. rw (← e) (omega arith)
 
@@ -53,11 +56,13 @@ piece_length-positive (b ∷ line) = BeginsWord-at (eqb b 32) b line refl (piece
 
 -- ---- the first piece
 
-onto_first-piece : (b : ℕ) (pieces : List (List ℕ)) (piece : List ℕ) → pieces ≡ piece ∷ drop 1 pieces → onto_first b pieces ≡ (b ∷ piece) ∷ drop 1 (onto_first b pieces)
+onto_first-piece : (b : ℕ) (pieces : List (List ℕ)) (piece : List ℕ) → pieces ≡ piece ∷ drop 1 pieces
+    → onto_first b pieces ≡ (b ∷ piece) ∷ drop 1 (onto_first b pieces)
 onto_first-piece b [] piece e = cc
 onto_first-piece b (first ∷ rest) piece e = let same : first ≡ piece = cc in ap (λ p. (b ∷ p) ∷ rest) same
 
-pieces_of-cut_at : (is_blank : Bool) (b : ℕ) (line : List ℕ) → pieces_of line ≡ take (piece_length line) line ∷ drop 1 (pieces_of line) → pieces_from is_blank b line ≡ take (cond (not is_blank) (1 + piece_length line) 0) (b ∷ line) ∷ drop 1 (pieces_from is_blank b line)
+pieces_of-cut_at : (is_blank : Bool) (b : ℕ) (line : List ℕ) → pieces_of line ≡ take (piece_length line) line ∷ drop 1 (pieces_of line)
+    → pieces_from is_blank b line ≡ take (cond (not is_blank) (1 + piece_length line) 0) (b ∷ line) ∷ drop 1 (pieces_from is_blank b line)
 pieces_of-cut_at true b line h = refl
 pieces_of-cut_at false b line h = rw (take_more_front (piece_length line) b line) (onto_first-piece b (pieces_of line) (take (piece_length line) line) h)
 
@@ -69,7 +74,9 @@ onto_first-rest : (b : ℕ) (pieces : List (List ℕ)) (piece : List ℕ) → pi
 onto_first-rest b [] piece e = cc
 onto_first-rest b (first ∷ rest) piece e = refl
 
-words_of-rest_at : (is_blank : Bool) (b : ℕ) (line : List ℕ) → is_blank ≡ eqb b 32 → words_among (drop 1 (pieces_of line)) ≡ words_of (drop (piece_length line) line) → words_among (drop 1 (pieces_from is_blank b line)) ≡ words_of (drop (cond (not is_blank) (1 + piece_length line) 0) (b ∷ line))
+words_of-rest_at : (is_blank : Bool) (b : ℕ) (line : List ℕ) → is_blank ≡ eqb b 32
+    → words_among (drop 1 (pieces_of line)) ≡ words_of (drop (piece_length line) line)
+    → words_among (drop 1 (pieces_from is_blank b line)) ≡ words_of (drop (cond (not is_blank) (1 + piece_length line) 0) (b ∷ line))
 words_of-rest_at true b line e h = rw (← e)
 words_of-rest_at false b line e h =
     rw (drop_more (piece_length line) b line, onto_first-rest b (pieces_of line) (take (piece_length line) line) (pieces_of-cut line)) h
@@ -87,7 +94,8 @@ pub words_of-cut : (line : List ℕ) → 0 < piece_length line → words_of line
 words_of-cut line h =
     let within : piece_length line ≤ length line = prefix_len-le-length (λ b. not (eqb b 32)) line in
     let some : 0 < length (take (piece_length line) line) = omega (arith, length-take-le (piece_length line) line within) in
-    ap words_among (pieces_of-cut line) ∙ words_among-cons (take (piece_length line) line) (drop 1 (pieces_of line)) some ∙ ap (λ words. take (piece_length line) line ∷ words) (words_of-rest line)
+    ap words_among (pieces_of-cut line) ∙ words_among-cons (take (piece_length line) line) (drop 1 (pieces_of line)) some
+    ∙ ap (λ words. take (piece_length line) line ∷ words) (words_of-rest line)
 
 -- a line of blanks has no word
 pub words_of-none : (line words : List ℕ) (n : ℕ) → n ≡ blank_count line → words ≡ drop n line → length words ≡ 0 → words_of line ≡ []
@@ -96,7 +104,8 @@ words_of-none line words n count rest empty =
     words_of-blanks line ∙ ap words_of (sym (rest ∙ ap (λ k. drop k line) count) ∙ none)
 
 -- the first word behind the blanks, and the words behind it
-pub words_of-split : (line words word behind : List ℕ) (n m : ℕ) → n ≡ blank_count line → words ≡ drop n line → 0 < length words → m ≡ piece_length words → word ≡ take m words → behind ≡ drop m words → words_of line ≡ word ∷ words_of behind
+pub words_of-split : (line words word behind : List ℕ) (n m : ℕ) → n ≡ blank_count line → words ≡ drop n line → 0 < length words → m ≡ piece_length words
+    → word ≡ take m words → behind ≡ drop m words → words_of line ≡ word ∷ words_of behind
 words_of-split line words word behind n m count rest some place front back =
     let same : words ≡ drop (blank_count line) line = rest ∙ ap (λ k. drop k line) count in
     let positive : 0 < piece_length words = rw same (piece_length-positive line (rw (← same) some)) in

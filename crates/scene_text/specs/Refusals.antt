@@ -1,6 +1,8 @@
 -- What a refusal says of the text, or of the line, that is refused.
-use Rattle.std.specs.Prelude.{◌≡◌, ℕ, Option, Some, List}
+use Rattle.std.specs.Prelude.{◌≡◌, ℕ, Option, Some, List, codes}
+use Rattle.std.specs.List.{join_with_byte}
 use Rattle.plan_model.specs.declared.text_terms.Kind.{Kind}
+use Rattle.plan_model.specs.KindNames.{fault_words}
 use Rattle.plan_model.specs.SceneGrammar.{Refused, supported}
 use Rattle.scene_text.specs.declared.refusals.SceneRefusal.{SceneRefusal}
 use Rattle.scene_text.specs.declared.refusals.SceneRefusal.TheVariants as scene
@@ -12,12 +14,21 @@ abbrev pub refusal_at : ℕ → LineRefusal → SceneRefusal
 refusal_at number (line.Fault kind) = scene.Fault (record { line = number; kind = kind })
 refusal_at number line.Memory = scene.Memory
 
--- a line is refused for its fault, or for want of memory
+-- a line is refused for its fault, or the program is out of memory
 abbrev pub IsLineRefusal : Option Kind → LineRefusal → Type 0
 IsLineRefusal fault (line.Fault kind) = fault ≡ Some kind
 IsLineRefusal fault line.Memory = Unit {0}
 
--- a text is refused at its first line with a fault, for the first check that the line fails, or for want of memory
+-- a text is refused at its first line with a fault, for the first check that the line fails, or the program is out of memory
 abbrev pub IsRefusal : List ℕ → SceneRefusal → Type 0
 IsRefusal text (scene.Fault fault) = Refused supported text fault.line fault.kind
 IsRefusal text scene.Memory = Unit {0}
+
+-- how a fault is shown: the words that name it, with a space between two
+abbrev pub fault_text : ℕ → Kind → List ℕ
+fault_text number kind = join_with_byte 32 (fault_words number kind)
+
+-- how a refusal is shown
+abbrev pub refusal_text : SceneRefusal → List ℕ
+refusal_text (scene.Fault fault) = fault_text fault.line fault.kind
+refusal_text scene.Memory = codes "no memory"

@@ -1,45 +1,30 @@
-//! The keys of statements.
+//! The keys of lines, and the tables of what may stand after each key, and how often.
 
-ghost use Rattle.std.specs.Prelude.{◌≡◌, bytes_eq};
-ghost use Rattle.plan_model.specs.SceneGrammar.{key_of, supported, fits_words};
+ghost use Rattle.std.specs.Prelude.{◌≡◌};
+ghost use Rattle.plan_model.specs.Keys.{key_of, fits_words, most_corners, most_lines, rival_of};
+ghost use Rattle.plan_model.specs.SceneGrammar.{supported};
 
-use plan_model::Key;
-
-/// Whether a word is this text.
-pub(crate) fn is_text(word: &[u8], text: &str) -> bool
-    ensures { result ≡ bytes_eq word.now text.now }
-{
-    word == text.as_bytes()
-}
+use plan_model::{
+    Key, LEAST_CORNERS, MOST_BODY_CORNERS, MOST_MARKS, MOST_OBSTACLE_CORNERS, MOST_OBSTACLES,
+};
 
 /// The key that a word names.
 pub(crate) fn key_of(word: &[u8]) -> Option<Key>
     ensures { result ≡ key_of word.now }
 {
-    if is_text(word, "room") {
-        Some(Key::Room)
-    } else if is_text(word, "body") {
-        Some(Key::Body)
-    } else if is_text(word, "obstacle") {
-        Some(Key::Obstacle)
-    } else if is_text(word, "start") {
-        Some(Key::Start)
-    } else if is_text(word, "goal") {
-        Some(Key::Goal)
-    } else if is_text(word, "step") {
-        Some(Key::Step)
-    } else if is_text(word, "gamma") {
-        Some(Key::Gamma)
-    } else if is_text(word, "seed") {
-        Some(Key::Seed)
-    } else if is_text(word, "strips") {
-        Some(Key::Strips)
-    } else if is_text(word, "marks") {
-        Some(Key::Marks)
-    } else if is_text(word, "mark") {
-        Some(Key::Mark)
-    } else {
-        None
+    match word {
+        b"room" => Some(Key::Room),
+        b"body" => Some(Key::Body),
+        b"obstacle" => Some(Key::Obstacle),
+        b"start" => Some(Key::Start),
+        b"goal" => Some(Key::Goal),
+        b"step" => Some(Key::Step),
+        b"gamma" => Some(Key::Gamma),
+        b"seed" => Some(Key::Seed),
+        b"strips" => Some(Key::Strips),
+        b"marks" => Some(Key::Marks),
+        b"mark" => Some(Key::Mark),
+        _ => None,
     }
 }
 
@@ -53,15 +38,48 @@ pub(crate) fn is_supported(key: Key) -> bool
     )
 }
 
-/// Whether so many words may stand behind the key.
+/// Whether so many words may stand after the key.
 pub(crate) fn fits_words(key: Key, count: usize) -> bool
     ensures { result ≡ fits_words key count }
 {
     match key {
         Key::Room | Key::Start | Key::Mark => count == 2,
-        Key::Body => count == 2 || (count % 2 == 0 && 6 <= count),
-        Key::Obstacle => count % 2 == 0 && 6 <= count,
+        Key::Body => count == 2 || (count % 2 == 0 && 2 * LEAST_CORNERS <= count),
+        Key::Obstacle => count % 2 == 0 && 2 * LEAST_CORNERS <= count,
         Key::Goal => count == 4,
         Key::Step | Key::Gamma | Key::Seed | Key::Strips | Key::Marks => count == 1,
+    }
+}
+
+/// The most corners that a line with the key gives.
+pub(crate) fn most_corners(key: Key) -> usize
+    ensures { result ≡ most_corners key }
+{
+    match key {
+        Key::Body => MOST_BODY_CORNERS,
+        Key::Obstacle => MOST_OBSTACLE_CORNERS,
+        _ => 2,
+    }
+}
+
+/// How many lines with the key may stand.
+pub(crate) fn most_lines(key: Key) -> usize
+    ensures { result ≡ most_lines key }
+{
+    match key {
+        Key::Obstacle => MOST_OBSTACLES,
+        Key::Mark => MOST_MARKS as usize,
+        _ => 1,
+    }
+}
+
+/// The key that may not stand beside this one.
+pub(crate) fn rival_of(key: Key) -> Option<Key>
+    ensures { result ≡ rival_of key }
+{
+    match key {
+        Key::Marks => Some(Key::Mark),
+        Key::Mark => Some(Key::Marks),
+        _ => None,
     }
 }

@@ -4,6 +4,7 @@
 //! And writes a scene as its canonical text, which by the grammar spells that scene.
 #![tactic(auto)]
 
+mod drafts;
 mod fetching;
 mod field_words;
 mod key_words;
@@ -12,7 +13,6 @@ mod number_words;
 mod refusals;
 mod scene_reader;
 mod scene_writer;
-mod statements;
 
 pub use fetching::{FetchFault, fetch};
 pub use plan_model::Kind;

@@ -2,7 +2,8 @@
 
 ghost use Rattle.std.specs.Prelude.{◌≡◌, ◌==◌, ◌<◌, ◌≤◌, [], ◌∷◌, length, IfNone, IfSome};
 ghost use Rattle.std.specs.List.{list_all, position_or_len, prefix_len};
-ghost use Rattle.plan_model.specs.SceneGrammar.{lines_of, words_of, is_number};
+ghost use Rattle.plan_model.specs.TextLines.{lines_of, words_of};
+ghost use Rattle.plan_model.specs.TextNumbers.{is_number};
 
 use crate::number_words::is_number;
 
@@ -12,7 +13,7 @@ const LINE_FEED: u8 = b'\n';
 /// The byte that stands between words.
 const BLANK: u8 = b' ';
 
-/// How many bytes stand in front of the first byte `separator`, or in all where there is none.
+/// How many bytes stand before the first byte `separator`, or in all if there is none.
 fn count_before(bytes: &[u8], separator: u8) -> usize
     ensures place { result ≡ position_or_len (λ b. b == separator) bytes.now }
     ensures within { result ≤ length bytes.now }
@@ -28,7 +29,7 @@ fn count_blanks(line: &[u8]) -> usize
     line.iter().take_while(|byte| **byte == BLANK).count()
 }
 
-/// The first line of a text, and what stands behind its line feed; none where the text is empty.
+/// The first line of a text, and what stands after its line feed; none if the text is empty.
 pub(crate) fn next_line(text: &[u8]) -> Option<(&[u8], &[u8])>
     ensures none { IfNone result (text.now ≡ []) }
     ensures some { IfSome result (λ found. lines_of text.now ≡ found.0.now ∷ lines_of found.1.now) }
@@ -37,14 +38,14 @@ pub(crate) fn next_line(text: &[u8]) -> Option<(&[u8], &[u8])>
     if text.is_empty() {
         return None;
     }
-    let (line, behind) = text.split_at(count_before(text, LINE_FEED));
-    match behind {
+    let (line, after) = text.split_at(count_before(text, LINE_FEED));
+    match after {
         [_, rest @ ..] => Some((line, rest)),
-        [] => Some((line, behind)),
+        [] => Some((line, after)),
     }
 }
 
-/// The first word of a line, and what stands behind it; none where the line has no word.
+/// The first word of a line, and what stands after it; none if the line has no word.
 pub(crate) fn next_word(line: &[u8]) -> Option<(&[u8], &[u8])>
     ensures none { IfNone result (words_of line.now ≡ []) }
     ensures some { IfSome result (λ found. words_of line.now ≡ found.0.now ∷ words_of found.1.now) }
@@ -63,9 +64,9 @@ pub(crate) fn count_words(line: &[u8]) -> usize
 {
     let mut count = 0;
     let mut rest = line;
-    while let Some((_, behind)) = next_word(rest) {
+    while let Some((_, after)) = next_word(rest) {
         count += 1;
-        rest = behind;
+        rest = after;
     }
     count
 }
@@ -75,11 +76,11 @@ pub(crate) fn are_numbers(line: &[u8]) -> bool
     ensures { result ≡ list_all is_number (words_of line.now) }
 {
     let mut rest = line;
-    while let Some((word, behind)) = next_word(rest) {
+    while let Some((word, after)) = next_word(rest) {
         if !is_number(word) {
             return false;
         }
-        rest = behind;
+        rest = after;
     }
     true
 }

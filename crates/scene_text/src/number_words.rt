@@ -2,9 +2,9 @@
 
 ghost use Rattle.std.specs.Prelude.{◌≡◌, ◌≤◌, ◌+◌, ◌-◌, ◌*◌, ◌^◌, ◌&&◌, false, pos, int_le, IfNone, IfSome, IsTrue};
 ghost use Rattle.std.specs.List.{list_all};
-ghost use Rattle.plan_model.specs.SceneGrammar.{is_digit, is_positive, is_number as is_number_word, magnitude, value_of};
+ghost use Rattle.plan_model.specs.TextNumbers.{is_digit, is_positive, is_number as is_number_word, magnitude, value_of};
 
-/// Whether a word is a number: `0`, or digits of which the first is not `0`, and these also behind a `-`.
+/// Whether a word is a number: `0`, or digits of which the first is not `0`, and these also after a `-`.
 pub(crate) fn is_number(word: &[u8]) -> bool
     ensures { result ≡ is_number_word word.now }
 {
@@ -32,7 +32,7 @@ fn are_digits(bytes: &[u8]) -> bool
     bytes.iter().all(|byte| *byte >= b'0' && *byte <= b'9')
 }
 
-/// The number that a word stands for, where it is one from `least` to `most`.
+/// The number that a word stands for, if it is one from `least` to `most`.
 pub(crate) fn natural(word: &[u8], least: u64, most: u64) -> Option<u64>
     requires { IsTrue (is_number_word word.now) }
     ensures value { IfSome result (λ n. value_of word.now ≡ pos n) }
@@ -47,7 +47,7 @@ pub(crate) fn natural(word: &[u8], least: u64, most: u64) -> Option<u64>
     (least <= number && number <= most).then_some(number)
 }
 
-/// The number that digits stand for, where it is below 2^64.
+/// The number that digits stand for, if it is below 2^64.
 fn decimal(digits: &[u8]) -> Option<u64>
     requires { IsTrue (list_all is_digit digits.now) }
     ensures value { IfSome result (λ n. n ≡ magnitude digits.now) }
@@ -60,7 +60,7 @@ fn decimal(digits: &[u8]) -> Option<u64>
     Some(number)
 }
 
-/// A number with one more digit behind it, where that is below 2^64.
+/// A number with one more digit after it, if that is below 2^64.
 fn with_digit(number: u64, digit: u8) -> Option<u64>
     requires { 48 ≤ digit }
     ensures value { IfSome result (λ n. n ≡ 10 * number + (digit - 48)) }

@@ -7,24 +7,57 @@ ghost use Rattle.scene_text.specs.declared.refusals.SceneRefusal.TheVariants as 
 
 use plan_model::Kind;
 use std::alloc::{AllocError, AllocFailed};
+use std::error::Error;
+use std::fmt;
 
-/// The first fault of a scene text.
+/// The first fault of a scene text. It is shown as `line 5 kind 6 Repeat`.
 #[derive(Clone, Copy, Debug, PartialEq, Eq)]
 pub struct SceneFault {
-    /// The number of the line, counted from 1; of what is missing, the number after the last line's.
+    /// The number of the line, counted from 1; if something is missing, the number after the last line's.
     pub line: u32,
     /// The first check that the line fails.
     pub kind: Kind,
 }
+
+impl fmt::Display for SceneFault {
+    ghost use Rattle.std.specs.Prelude.{Some};
+    ghost use Rattle.scene_text.specs.Refusals.{fault_text};
+
+    ghost output = { λ fault. Some (fault_text fault.line fault.kind) };
+
+    fn fmt<W: fmt::Write>(&self, f: &mut fmt::Formatter<W>) -> fmt::Result {
+        let SceneFault { line, kind } = *self;
+        let number = kind.number();
+        write!(f, "line {line} kind {number} {kind}")
+    }
+}
+
+impl Error for SceneFault {}
 
 /// Why a scene text was not read.
 #[derive(Clone, Copy, Debug, PartialEq, Eq)]
 pub enum SceneRefusal {
     /// The text is no scene by the grammar.
     Fault(SceneFault),
-    /// There was no memory left.
+    /// The program is out of memory.
     Memory,
 }
+
+impl fmt::Display for SceneRefusal {
+    ghost use Rattle.std.specs.Prelude.{Some};
+    ghost use Rattle.scene_text.specs.Refusals.{refusal_text};
+
+    ghost output = { λ refusal. Some (refusal_text refusal) };
+
+    fn fmt<W: fmt::Write>(&self, f: &mut fmt::Formatter<W>) -> fmt::Result {
+        match self {
+            SceneRefusal::Fault(fault) => write!(f, "{fault}"),
+            SceneRefusal::Memory => write!(f, "no memory"),
+        }
+    }
+}
+
+impl Error for SceneRefusal {}
 
 impl From<AllocError> for SceneRefusal {
     ghost from_gives = { λ _ refusal. refusal ≡ scene.Memory };
@@ -47,7 +80,7 @@ impl<T: Drop> From<AllocFailed<T>> for SceneRefusal {
 pub(crate) enum LineRefusal {
     /// The first check that the line fails.
     Fault(Kind),
-    /// There was no memory left.
+    /// The program is out of memory.
     Memory,
 }
 

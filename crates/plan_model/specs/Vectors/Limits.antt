@@ -1,13 +1,20 @@
--- Lines behind the version at the limits of the grammar, and just beyond them.
-use Rattle.std.specs.Prelude.{◌≡◌, ℕ, true, false, Option, Some, None, List, [], ◌∷◌, codes, replicate}
+-- Lines after the version at the limits of the grammar, and just beyond them.
+use Rattle.std.specs.Prelude.{◌≡◌, ℕ, true, false, Option, Some, None, List, [], codes, replicate, ◌∷◌}
 use Rattle.plan_model.specs.declared.text_terms.Key.TheVariants as keys
 use Rattle.plan_model.specs.declared.text_terms.Kind.{Kind}
 use Rattle.plan_model.specs.declared.text_terms.Kind.TheVariants as kinds
-use Rattle.plan_model.specs.SceneGrammar.{all_keys, words_of, fault_of_statement, is_too_many}
+use Rattle.plan_model.specs.TextLines.{words_of}
+use Rattle.plan_model.specs.Keys.{most_lines}
+use Rattle.plan_model.specs.LineChecks.{given_by, fault_of_statement, is_too_many}
+use Rattle.plan_model.specs.SceneGrammar.{all_keys}
 
--- the fault of a line right behind the version, where every key is supported
+-- the fault of a line right after the version, if every key is supported
 abbrev pub fault_alone : List ℕ → Option Kind
-fault_alone line = fault_of_statement all_keys [] (words_of line)
+fault_alone line = fault_of_statement all_keys (given_by []) (words_of line)
+
+-- the same of a line of a key and so many words `x`
+abbrev pub fault_of_xs : List ℕ → ℕ → Option Kind
+fault_of_xs key n = fault_of_statement all_keys (given_by []) (key ∷ replicate n (codes "x"))
 
 pub record LimitVectors : Type 0 where
   -- the least and the greatest numbers of each key, and the numbers just beyond
@@ -50,16 +57,18 @@ pub record LimitVectors : Type 0 where
   pub two_corners : fault_alone (codes "body 0 0 1 0") ≡ Some kinds.Words
   pub half_a_corner : fault_alone (codes "body 0 0 4 0 4 4 0") ≡ Some kinds.Words
   pub obstacle_of_a_point : fault_alone (codes "obstacle 0 0") ≡ Some kinds.Words
-  -- the first check that fails is told
+  -- the first check that fails gives the kind
   pub words_before_number : fault_alone (codes "step x 4") ≡ Some kinds.Words
   pub number_before_range : fault_alone (codes "start -1 x") ≡ Some kinds.Number
   pub range_before_corners : fault_alone (codes "obstacle 0 0 0 9 9 131072") ≡ Some kinds.Range
   pub long_number : fault_alone (codes "step 99999999999999999999999") ≡ Some kinds.Range
-  -- 17 corners of a body, and 65 of an obstacle; that the words are no numbers is not told
-  pub corners_of_a_body : fault_alone (codes "body x x x x x x x x x x x x x x x x x x x x x x x x x x x x x x x x x x") ≡ Some kinds.Many
-  pub fewer_corners_of_a_body : fault_alone (codes "body x x x x x x x x x x x x x x x x x x x x x x x x x x x x x x x x") ≡ Some kinds.Number
-  pub corners_of_an_obstacle : fault_alone (codes "obstacle x x x x x x x x x x x x x x x x x x x x x x x x x x x x x x x x x x x x x x x x x x x x x x x x x x x x x x x x x x x x x x x x x x x x x x x x x x x x x x x x x x x x x x x x x x x x x x x x x x x x x x x x x x x x x x x x x x x x x x x x x x x x x x x x x x") ≡ Some kinds.Many
-  pub fewer_corners_of_an_obstacle : fault_alone (codes "obstacle x x x x x x x x x x x x x x x x x x x x x x x x x x x x x x x x x x x x x x x x x x x x x x x x x x x x x x x x x x x x x x x x x x x x x x x x x x x x x x x x x x x x x x x x x x x x x x x x x x x x x x x x x x x x x x x x x x x x x x x x x x x x x x x x") ≡ Some kinds.Number
+  -- 17 corners of a body, and 65 of an obstacle; that the words are no numbers is checked later
+  pub corners_of_a_body : fault_of_xs (codes "body") 34 ≡ Some kinds.Many
+  pub fewer_corners_of_a_body : fault_of_xs (codes "body") 32 ≡ Some kinds.Number
+  pub corners_of_an_obstacle : fault_of_xs (codes "obstacle") 130 ≡ Some kinds.Many
+  pub fewer_corners_of_an_obstacle : fault_of_xs (codes "obstacle") 128 ≡ Some kinds.Number
   -- the obstacle after the last that there may be
-  pub obstacles : is_too_many keys.Obstacle 6 (replicate 1024 (codes "obstacle" ∷ [])) ≡ true
-  pub fewer_obstacles : is_too_many keys.Obstacle 6 (replicate 1023 (codes "obstacle" ∷ [])) ≡ false
+  pub obstacles : is_too_many (λ key. replicate 1024 []) keys.Obstacle 6 ≡ true
+  pub fewer_obstacles : is_too_many (λ key. replicate 1023 []) keys.Obstacle 6 ≡ false
+  -- as many marks as there may be
+  pub marks : most_lines keys.Mark ≡ 262143

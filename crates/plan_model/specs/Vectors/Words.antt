@@ -1,6 +1,7 @@
 -- Lines, words and numbers of the grammar.
 use Rattle.std.specs.Prelude.{◌≡◌, true, false, pos, negsuc, [], ◌∷◌, codes}
-use Rattle.plan_model.specs.SceneGrammar.{lines_of, words_of, is_skipped, is_number, value_of}
+use Rattle.plan_model.specs.TextLines.{lines_of, words_of, is_skipped}
+use Rattle.plan_model.specs.TextNumbers.{is_number, value_of}
 
 pub record LineVectors : Type 0 where
   pub unended : lines_of (codes "one\ntwo") ≡ codes "one" ∷ codes "two" ∷ []
@@ -30,7 +31,7 @@ pub record NumberVectors : Type 0 where
   pub two_zeros : is_number (codes "00") ≡ false
   pub ten : is_number (codes "10") ≡ true
   pub minus_twice : is_number (codes "--1") ≡ false
-  pub minus_behind : is_number (codes "1-") ≡ false
+  pub minus_after : is_number (codes "1-") ≡ false
   pub minus_leading_zero : is_number (codes "-01") ≡ false
   pub nought : value_of (codes "0") ≡ pos 0
   -- one more than the last value of a u64

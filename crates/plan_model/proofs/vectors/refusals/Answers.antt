@@ -1,6 +1,7 @@
 use Rattle.std.proofs.Common.{arith, refl, inr}
 use Rattle.std.specs.Prelude.{codes}
-use Rattle.plan_model.specs.SceneGrammar.{all_keys, supported, lines_of}
+use Rattle.plan_model.specs.TextLines.{lines_of}
+use Rattle.plan_model.specs.SceneGrammar.{all_keys, supported}
 use Rattle.plan_model.specs.declared.text_terms.Kind.TheVariants as kinds
 use Rattle.plan_model.proofs.Soundness.{are_sound, IsSoundBelow-from_test, refused_at_line}
 use Rattle.plan_model.proofs.vectors.refusals.Goals as goal

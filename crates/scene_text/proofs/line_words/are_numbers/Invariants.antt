@@ -1,6 +1,7 @@
 use Rattle.std.proofs.Common.{◌≡◌, length}
 use Rattle.std.specs.List.{list_all}
-use Rattle.plan_model.specs.SceneGrammar.{words_of, is_number}
+use Rattle.plan_model.specs.TextLines.{words_of}
+use Rattle.plan_model.specs.TextNumbers.{is_number}
 use Rattle.scene_text.proofs.line_words.are_numbers.Given as goal
 
 -- the words so far are numbers

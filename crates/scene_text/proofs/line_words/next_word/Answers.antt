@@ -9,4 +9,6 @@ returns-then-is_empty-clause-none c =
 
 pub returns-clause-some : goal.returns-clause-some
 returns-clause-some c =
-    words_of-split c.args.line.now _ c.split_at.result.0.now c.split_at.result.1.now c.count_blanks.result c.count_before.result c.count_blanks.ensures.count (take_rest c.args.line.now c.count_blanks.result) (search rules) c.count_before.ensures.place c.split_at.ensures.front c.split_at.ensures.back
+    words_of-split c.args.line.now _ c.split_at.result.0.now c.split_at.result.1.now c.count_blanks.result c.count_before.result
+    c.count_blanks.ensures.count (take_rest c.args.line.now c.count_blanks.result) (search rules) c.count_before.ensures.place c.split_at.ensures.front
+    c.split_at.ensures.back

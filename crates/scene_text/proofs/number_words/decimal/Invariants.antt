@@ -1,5 +1,5 @@
 use Rattle.std.proofs.Common.{◌≡◌, drop}
-use Rattle.plan_model.specs.SceneGrammar.{magnitude}
+use Rattle.plan_model.specs.TextNumbers.{magnitude}
 use Rattle.scene_text.proofs.NumberLemmas.{magnitude_after}
 use Rattle.scene_text.proofs.number_words.decimal.Given as goal
 

@@ -1,21 +1,44 @@
-use Rattle.std.proofs.Common.{List, ℕ, subst}
-use Rattle.scene_text.proofs.ReaderLemmas.{Reads, Reads-more, Reads-refused, Reads-missing, Reads-all}
+use Rattle.std.proofs.Common.{List, ℕ, ◌≡◌, ◌+◌, IfErr, subst, sym, rules}
+use Rattle.std.proofs.lemmas.Result.{err_from_is_err_and}
+use Rattle.scene_text.specs.Refusals.{refusal_at, IsRefusal}
+use Rattle.scene_text.proofs.MappedErrors.{IfErr-map_err, IfOk-map_err, IfOk-two, OnOk-before_map_err}
+use Rattle.scene_text.proofs.ReaderLemmas.{Reads, Reads-none, Reads-more, Reads-refused, Reads-missing, Reads-all, AllMayStand-draft}
 use Rattle.scene_text.proofs.scene_reader.read_scene.Goals as goal
 
-pub returns-in-Err-clause-fault : goal.returns-in-Err-clause-fault
-returns-in-Err-clause-fault c =
-    rw c.at.ensures (Reads-refused c.args.text.now c.loop-line.number c.loop-line.rest.now c.loop-line.draft c.in-Some.line.now c.in-Some.behind.now c.in-Err.refusal c.loop-line.invariant c.in-Some.ensures.some c.in-Err.ensures.refused)
+pub loop-line-init : goal.loop-line-init
+loop-line-init c = Reads-none c.args.text.now c.new-draft.result c.new-draft.ensures.version_read c.new-draft.ensures.given
+
+pub returns-in_err-map_err-clause-fault : goal.returns-in_err-map_err-clause-fault
+returns-in_err-map_err-clause-fault c =
+    let mapped = IfErr-map_err c.take_line.result c.map_err.result _ _ (IsRefusal c.args.text.now) c.map_err.ensures.cases
+    (λ refusal d fault same. let given : d ≡ refusal_at (c.loop-line.number + 1) refusal = search rules in subst (IsRefusal c.args.text.now) (sym given)
+    (Reads-refused c.args.text.now c.loop-line.number c.loop-line.rest.now c.loop-line.draft c.in-Some.line.now c.in-Some.after.now refusal
+    c.loop-line.invariant c.in-Some.ensures.some fault)) c.take_line.ensures.refused in
+    let p = err_from_is_err_and c.from_residual.result c.from_residual.ensures.1 in
+    rw (p.1, p.2) (subst (λ r. IfErr r (IsRefusal c.args.text.now)) c.in_err-map_err.was mapped)
 
 pub loop-line-preserved : goal.loop-line-preserved
 loop-line-preserved c =
-    rw c.in_default-take_line.ensures.taken (Reads-more c.args.text.now c.loop-line.number c.loop-line.rest.now c.loop-line.draft c.in-Some.line.now c.in-Some.behind.now c.loop-line.invariant c.in-Some.ensures.some c.in-Some.ensures.shorter c.in_default-take_line.ensures.sound)
+    Reads-more c.args.text.now c.loop-line.number c.loop-line.rest.now c.loop-line.draft c.take_line.new.self c.in-Some.line.now c.in-Some.after.now
+    c.loop-line.invariant c.in-Some.ensures.some c.in-Some.ensures.shorter
+    (OnOk-before_map_err c.take_line.result c.map_err.result c.in_ok-map_err.field-0 c.in_ok-map_err.was c.map_err.ensures.variant
+    c.take_line.ensures.taken)
 
-pub returns-in-Ok-clause-scene : goal.returns-in-Ok-clause-scene
-returns-in-Ok-clause-scene c =
+pub into_scene-requires : goal.into_scene-requires
+into_scene-requires c =
     let all = subst (λ (rest : List ℕ). Reads c.args.text.now c.loop-line.number rest c.loop-line.draft) c.in_default.ensures.none c.loop-line.invariant in
-    Reads-all c.args.text.now c.loop-line.number c.loop-line.draft c.in-Ok.scene all c.in-Ok.ensures.scene
+    AllMayStand-draft c.args.text.now c.loop-line.number c.loop-line.draft all
 
-pub returns-in-Err-into_scene-clause-fault : goal.returns-in-Err-into_scene-clause-fault
-returns-in-Err-into_scene-clause-fault c =
+pub returns-clause-scene : goal.returns-clause-scene
+returns-clause-scene c =
     let all = subst (λ (rest : List ℕ). Reads c.args.text.now c.loop-line.number rest c.loop-line.draft) c.in_default.ensures.none c.loop-line.invariant in
-    rw c.at-in-Err-into_scene.ensures (Reads-missing c.args.text.now c.loop-line.number c.loop-line.draft c.in-Err-into_scene.refusal all c.in-Err-into_scene.ensures.refused)
+    IfOk-map_err c.into_scene.result c.map_err-2.result _ _ c.map_err-2.ensures.cases
+    (IfOk-two c.into_scene.result (λ scene whole fields. Reads-all c.args.text.now c.loop-line.number c.loop-line.draft scene all whole fields)
+    c.into_scene.ensures.whole c.into_scene.ensures.fields)
+
+pub returns-clause-fault : goal.returns-clause-fault
+returns-clause-fault c =
+    let all = subst (λ (rest : List ℕ). Reads c.args.text.now c.loop-line.number rest c.loop-line.draft) c.in_default.ensures.none c.loop-line.invariant in
+    IfErr-map_err c.into_scene.result c.map_err-2.result _ _ (IsRefusal c.args.text.now) c.map_err-2.ensures.cases
+    (λ refusal d fault same. let given : d ≡ refusal_at (c.loop-line.number + 1) refusal = search rules in subst (IsRefusal c.args.text.now) (sym given)
+    (Reads-missing c.args.text.now c.loop-line.number c.loop-line.draft refusal all fault)) c.into_scene.ensures.refused

@@ -1,0 +1,73 @@
+-- The scene that a draft gives: its fields are in their ranges, and are those of the lines.
+use Rattle.std.proofs.Common.{◌≡◌, ℕ, true, ℤ, Option, Some, None, List, [], ◌∷◌, map, All, refl, sym, ap, ◌∙◌, subst, arith}
+use Rattle.std.specs.Option.{unwrap_or}
+use Rattle.std.proofs.lemmas.List.Elements.{All-head}
+use Rattle.plan_model.specs.declared.geometry.Point.{Point}
+use Rattle.plan_model.specs.declared.geometry.Goal.{Goal}
+use Rattle.plan_model.specs.declared.scenes.Marks.TheVariants.{Listed}
+use Rattle.plan_model.specs.declared.text_terms.Key.{Key}
+use Rattle.plan_model.specs.declared.text_terms.Key.TheVariants as keys
+use Rattle.plan_model.specs.declared.limits.TheConstants.{LEAST_SIDE, LEAST_STEP, MOST_SIDE, MOST_STEP, MOST_STRIPS}
+use Rattle.plan_model.specs.Limits.{IsBetween, IsGoal, is_plan}
+use Rattle.plan_model.specs.LineChecks.{MayStand, AllMayStand}
+use Rattle.plan_model.specs.SceneGrammar.{first_of, number_or, point_from}
+use Rattle.plan_model.specs.CanonicalText.{point_numbers, goal_numbers}
+use Rattle.plan_model.proofs.SceneParts.{IsWithin, room-within, start-within, goal-within, step-within, strips-within, plan-within}
+use Rattle.scene_text.specs.declared.drafts.Draft.{Draft}
+use Rattle.scene_text.specs.Drafts.{line_numbers, amount_numbers, given_by_draft}
+
+-- ---- one field
+
+-- the numbers of a known field may stand after its key
+known-stands : {A : Type 0} (key : Key) (numbers : A → List ℤ) (field : Option A) (x : A) → All (MayStand key) (line_numbers numbers field) → field ≡ Some x
+    → MayStand key (numbers x)
+known-stands key numbers None x all known = absurd (cc)
+known-stands key numbers (Some y) x all known =
+    let same : y ≡ x = cc in
+    subst (λ z. MayStand key (numbers z)) same (All-head (MayStand key) (numbers y) [] all)
+
+-- a known field is read from the numbers of its line
+pub known-given : {A : Type 0} (numbers : A → List ℤ) (from : List ℤ → A) (field : Option A) (x : A) → field ≡ Some x → x ≡ from (numbers x)
+    → x ≡ from (first_of (line_numbers numbers field))
+known-given numbers from field x known again =
+    again ∙ ap (λ f. from (first_of (line_numbers numbers f))) (sym known)
+
+-- a number, or the one that holds without its line
+pub default-given : (default : ℕ) (field : Option ℕ) → unwrap_or field default ≡ number_or default (first_of (line_numbers amount_numbers field))
+default-given default None = refl
+default-given default (Some n) = refl
+
+-- the points are read from their numbers
+pub points-given : (points : List Point) → points ≡ map point_from (map point_numbers points)
+points-given [] = refl
+points-given (p ∷ points) = ap (λ rest. p ∷ rest) (points-given points)
+
+strips-default : (field : Option ℕ) → All (MayStand keys.Strips) (line_numbers amount_numbers field) → IsWithin 1 MOST_STRIPS (unwrap_or field 1)
+strips-default None all = record { above = omega arith; below = omega arith }
+strips-default (Some n) all =
+    strips-within (amount_numbers n) (All-head (MayStand keys.Strips) (amount_numbers n) [] all)
+
+-- ---- the fields of a draft
+
+-- each field is in its range, if it is known
+pub record AreWithin (draft : Draft) : Type 0 where
+  pub room : (p : Point) → draft.room ≡ Some p → IsBetween LEAST_SIDE MOST_SIDE p
+  pub start : (p : Point) → draft.start ≡ Some p → IsBetween 0 MOST_SIDE p
+  pub goal : (goal : Goal) → draft.goal ≡ Some goal → IsGoal goal
+  pub step : (n : ℕ) → draft.step ≡ Some n → IsWithin LEAST_STEP MOST_STEP n
+  pub strips : IsWithin 1 MOST_STRIPS (unwrap_or draft.strips 1)
+  pub plan : is_plan (Listed draft.marks.items) ≡ true
+
+-- what may stand gives fields in their ranges
+pub AreWithin-draft : (draft : Draft) → AllMayStand (given_by_draft draft) → AreWithin draft
+AreWithin-draft draft h =
+    let points = draft.marks.items in
+    let plan = plan-within [] (map point_numbers points) (h.stand keys.Marks) (h.stand keys.Mark) (h.few keys.Mark) in
+    record {
+      room = λ p known. room-within (point_numbers p) (known-stands keys.Room point_numbers draft.room p (h.stand keys.Room) known);
+      start = λ p known. start-within (point_numbers p) (known-stands keys.Start point_numbers draft.start p (h.stand keys.Start) known);
+      goal = λ goal known. goal-within (goal_numbers goal) (known-stands keys.Goal goal_numbers draft.goal goal (h.stand keys.Goal) known);
+      step = λ n known. step-within (amount_numbers n) (known-stands keys.Step amount_numbers draft.step n (h.stand keys.Step) known);
+      strips = strips-default draft.strips (h.stand keys.Strips);
+      plan = ap (λ ps. is_plan (Listed ps)) (points-given points) ∙ plan;
+    }

@@ -1,0 +1,30 @@
+use Rattle.std.proofs.Common.{◌≡◌, ◌∷◌, true, false, refl, rules, ap, ◌∙◌}
+use Rattle.plan_model.specs.TextLines.{words_of, is_skipped}
+use Rattle.plan_model.specs.LineChecks.{is_version}
+use Rattle.scene_text.proofs.DraftLemmas.{given-version, TakesLine-skipped, TakesLine-version, TakesLine-statement, OnOk-three}
+use Rattle.scene_text.proofs.drafts.Draft.take_line.Goals as goal
+
+pub returns-in_default-clause-taken : goal.returns-in_default-clause-taken
+returns-in_default-clause-taken c =
+    TakesLine-skipped c.args.self.now (words_of c.args.line.now) (ap is_skipped c.in_default.ensures.none)
+
+pub returns-then-eq-clause-taken : goal.returns-then-eq-clause-taken
+returns-then-eq-clause-taken c =
+    let comment : is_skipped (c.in-Some.word.now ∷ words_of c.in-Some.words.now) ≡ true = search rules in
+    TakesLine-skipped c.args.self.now (words_of c.args.line.now) (ap is_skipped c.in-Some.ensures.some ∙ comment)
+
+pub returns-then-self-clause-taken : goal.returns-then-self-clause-taken
+returns-then-self-clause-taken c =
+    let kept : is_skipped (c.in-Some.word.now ∷ words_of c.in-Some.words.now) ≡ false = search rules in
+    let taken = c.take_statement.ensures in
+    rw c.in-Some.ensures.some (OnOk-three c.take_statement.result
+    (TakesLine-statement c.args.self.now c.take_statement.new.self (c.in-Some.word.now ∷ words_of c.in-Some.words.now) kept c.if-self.true) taken.sound
+    taken.version_read taken.given)
+
+pub returns-clause-taken : goal.returns-clause-taken
+returns-clause-taken c =
+    let kept : is_skipped (c.in-Some.word.now ∷ words_of c.in-Some.words.now) ≡ false = search rules in
+    let old = c.args.self.now in
+    let version : is_version (c.in-Some.word.now ∷ words_of c.in-Some.words.now) ≡ true = search rules in
+    rw c.in-Some.ensures.some (TakesLine-version old (record old { version_read = true }) (c.in-Some.word.now ∷ words_of c.in-Some.words.now) kept
+    c.if-self.false version refl (given-version old))

@@ -1,0 +1,9 @@
+use Rattle.std.proofs.Common.{◌≡◌, Some, rules}
+use Rattle.plan_model.specs.Keys.{key_of}
+use Rattle.plan_model.proofs.StatementNumbers.{name-key_of}
+use Rattle.scene_text.proofs.drafts.Draft.take_statement.Goals as goal
+
+pub returns-clause-given : goal.returns-clause-given
+returns-clause-given c =
+    let found : key_of c.args.word.now ≡ Some c.in_ok-key.key = search rules in
+    rw (name-key_of c.args.word.now c.in_ok-key.key found) c.take_field.ensures.given

@@ -1,0 +1,224 @@
+//! A draft of a scene: what the lines of a scene text give, read one after another.
+
+ghost use Rattle.std.specs.Prelude.{◌≡◌, ◌≤◌, [], ◌∷◌, Some, None, true, false, length, map, IfOk, OnOk, IfErr};
+ghost use Rattle.plan_model.specs.TextLines.{words_of};
+ghost use Rattle.plan_model.specs.TextNumbers.{value_of};
+ghost use Rattle.plan_model.specs.Keys.{name_of};
+ghost use Rattle.plan_model.specs.LineChecks.{given_by, with_statement, stands, is_repeated, is_too_many, first_failing, number_checks, checks_of};
+ghost use Rattle.plan_model.specs.LineChecks.{is_version, fault_of_statement, fault_of_words, fault_at_end, AllMayStand};
+ghost use Rattle.plan_model.specs.SceneGrammar.{supported, HasFields};
+ghost use Rattle.scene_text.specs.Refusals.{IsLineRefusal};
+
+use crate::field_words::{read_amount, read_goal, read_point};
+use crate::key_words::{fits_words, is_supported, key_of, most_corners, most_lines, rival_of};
+use crate::line_words::{are_numbers, count_words, next_word};
+use crate::refusals::LineRefusal;
+use plan_model::{
+    Goal, Key, Kind, LEAST_SIDE, LEAST_STEP, MOST_STEP, MOST_STRIPS, Marks, Point, Points, Poly,
+    Polys, Scene, Vertex,
+};
+use std::alloc::Global;
+
+/// What the lines so far give: a field for each key that is supported.
+///
+/// It stands for the numbers of those lines, by their keys, and has nothing else. So the checks of the next line are
+/// those of the grammar over these numbers.
+#[derive(Drop)]
+pub(crate) struct Draft {
+    version_read: bool,
+    room: Option<Point>,
+    start: Option<Point>,
+    goal: Option<Goal>,
+    step: Option<u32>,
+    seed: Option<u64>,
+    strips: Option<u32>,
+    marks: Vec<Point>,
+}
+
+// Whether a statement is the version, by its first word and the words after it.
+fn is_version(word: &[u8], words: &[u8]) -> bool
+    ensures { result ≡ is_version (word.now ∷ words_of words.now) }
+{
+    match (word, next_word(words)) {
+        (b"prrt", Some((b"1", rest))) => next_word(rest).is_none(),
+        _ => false,
+    }
+}
+
+impl Draft {
+    ghost use Rattle.scene_text.specs.Drafts.{given_by_draft, IsFormed, TakesLine};
+
+    /// The draft before the first line.
+    pub(crate) fn new(alloc: Global) -> Draft
+        ensures version_read { result.version_read ≡ false }
+        ensures given { given_by_draft result ≡ given_by [] }
+    {
+        Draft {
+            version_read: false,
+            room: None,
+            start: None,
+            goal: None,
+            step: None,
+            seed: None,
+            strips: None,
+            marks: Vec::new(alloc),
+        }
+    }
+
+    // How many lines with the key stand.
+    fn count(&self, key: Key) -> usize
+        ensures { result ≡ length (given_by_draft self.now key) }
+    {
+        match key {
+            Key::Room => usize::from(self.room.is_some()),
+            Key::Start => usize::from(self.start.is_some()),
+            Key::Goal => usize::from(self.goal.is_some()),
+            Key::Step => usize::from(self.step.is_some()),
+            Key::Seed => usize::from(self.seed.is_some()),
+            Key::Strips => usize::from(self.strips.is_some()),
+            Key::Mark => self.marks.len(),
+            Key::Body | Key::Obstacle | Key::Gamma | Key::Marks => 0,
+        }
+    }
+
+    // Whether a line with the key stands.
+    fn stands(&self, key: Key) -> bool
+        ensures { result ≡ stands (given_by_draft self.now) key }
+    {
+        self.count(key) > 0
+    }
+
+    // Whether the key may stand once and stands already, or one stands that may not stand beside it.
+    fn is_repeated(&self, key: Key) -> bool
+        ensures { result ≡ is_repeated (given_by_draft self.now) key }
+    {
+        if most_lines(key) == 1 && self.stands(key) {
+            return true;
+        }
+        match rival_of(key) {
+            Some(rival) => self.stands(rival),
+            None => false,
+        }
+    }
+
+    // Whether so many words after the key give too many corners, or no further line with the key may stand.
+    fn is_too_many(&self, key: Key, count: usize) -> bool
+        ensures { result ≡ is_too_many (given_by_draft self.now) key count }
+    {
+        2 * most_corners(key) < count || most_lines(key) <= self.count(key)
+    }
+
+    // Makes the checks of a line that come before those of its numbers.
+    fn check_form(&self, key: Key, words: &[u8]) -> Result<(), Kind>
+        ensures formed { OnOk result (IsFormed (given_by_draft self.now) key (words_of words.now)) }
+        ensures refused { IfErr result (λ kind.
+            first_failing (checks_of supported (given_by_draft self.now) key (words_of words.now)) ≡ Some kind) }
+    {
+        let count = count_words(words);
+        if !is_supported(key) {
+            return Err(Kind::Unbuilt);
+        }
+        if self.is_repeated(key) {
+            return Err(Kind::Repeat);
+        }
+        if !fits_words(key, count) {
+            return Err(Kind::Words);
+        }
+        if self.is_too_many(key, count) {
+            return Err(Kind::Many);
+        }
+        if !are_numbers(words) {
+            return Err(Kind::Number);
+        }
+        Ok(())
+    }
+
+    // Takes the field that the numbers after the key give, or returns the first of their checks that fails.
+    fn take_field(&mut self, key: Key, words: &[u8]) -> Result<(), LineRefusal>
+        requires { IsFormed (given_by_draft self.old) key (words_of words.now) }
+        ensures sound { OnOk result (first_failing (number_checks key (map value_of (words_of words.now))) ≡ None) }
+        ensures version_read { OnOk result (self.new.version_read ≡ self.old.version_read) }
+        ensures given { OnOk result (given_by_draft self.new
+            ≡ with_statement (given_by_draft self.old) (name_of key ∷ words_of words.now)) }
+        ensures refused { IfErr result (IsLineRefusal (first_failing (number_checks key (map value_of (words_of words.now))))) }
+    {
+        match key {
+            Key::Room => self.room = Some(read_point(words, LEAST_SIDE)?),
+            Key::Start => self.start = Some(read_point(words, 0)?),
+            Key::Goal => self.goal = Some(read_goal(words)?),
+            Key::Step => self.step = Some(
+                read_amount(words, LEAST_STEP.into(), MOST_STEP.into())? as u32,
+            ),
+            Key::Seed => self.seed = Some(read_amount(words, 0, u64::MAX)?),
+            Key::Strips => self.strips = Some(read_amount(words, 1, MOST_STRIPS.into())? as u32),
+            Key::Mark => self.marks.push(read_point(words, 0)?)?,
+            Key::Body | Key::Obstacle | Key::Gamma | Key::Marks => unreachable!(),
+        }
+        Ok(())
+    }
+
+    // Takes a statement after the version, by its first word and the words after it.
+    fn take_statement(&mut self, word: &[u8], words: &[u8]) -> Result<(), LineRefusal>
+        ensures sound { OnOk result (fault_of_statement supported (given_by_draft self.old) (word.now ∷ words_of words.now) ≡ None) }
+        ensures version_read { OnOk result (self.new.version_read ≡ self.old.version_read) }
+        ensures given { OnOk result (given_by_draft self.new ≡ with_statement (given_by_draft self.old) (word.now ∷ words_of words.now)) }
+        ensures refused { IfErr result (IsLineRefusal (fault_of_statement supported (given_by_draft self.old) (word.now ∷ words_of words.now))) }
+    {
+        let key = key_of(word).ok_or(Kind::Key)?;
+        self.check_form(key, words)?;
+        self.take_field(key, words)
+    }
+
+    /// Takes a line, or returns the first check that it fails.
+    pub(crate) fn take_line(&mut self, line: &[u8]) -> Result<(), LineRefusal>
+        ensures taken { OnOk result (TakesLine self.old self.new (words_of line.now)) }
+        ensures refused { IfErr result (IsLineRefusal
+            (fault_of_words supported self.old.version_read (given_by_draft self.old) (words_of line.now))) }
+    {
+        let Some((word, words)) = next_word(line) else {
+            return Ok(());
+        };
+        if word.first() == Some(&b'#') {
+            return Ok(());
+        }
+        if self.version_read {
+            return self.take_statement(word, words);
+        }
+        if !is_version(word, words) {
+            return Err(LineRefusal::Fault(Kind::Version));
+        }
+        self.version_read = true;
+        Ok(())
+    }
+
+    /// The scene that the lines give, or what is missing.
+    pub(crate) fn into_scene(self, alloc: Global) -> Result<Scene, LineRefusal>
+        requires { AllMayStand (given_by_draft self) }
+        ensures whole { OnOk result (fault_at_end self.version_read (given_by_draft self) ≡ None) }
+        ensures fields { IfOk result (HasFields (given_by_draft self)) }
+        ensures refused { IfErr result (IsLineRefusal (fault_at_end self.version_read (given_by_draft self))) }
+    {
+        if !self.version_read {
+            return Err(LineRefusal::Fault(Kind::Version));
+        }
+        let (Some(room), Some(start), Some(goal), Some(step)) = (
+            self.room, self.start, self.goal, self.step,
+        ) else {
+            return Err(LineRefusal::Fault(Kind::Missing));
+        };
+        let body = vec![in alloc; Vertex { x: 0, y: 0 }]?;
+        Ok(Scene {
+            version: 1,
+            room,
+            body: Poly::from_vec(body),
+            obstacles: Polys::from_vec(Vec::new(alloc)),
+            start,
+            goal,
+            step,
+            gamma: 0,
+            seed: self.seed.unwrap_or(0),
+            strips: self.strips.unwrap_or(1),
+            plan: Marks::Listed(Points::from_vec(self.marks)),
+        })
+    }
+}
