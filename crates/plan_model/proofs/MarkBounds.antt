@@ -24,7 +24,7 @@ use Rattle.plan_model.specs.MarkPoints.{span_within, columns, rows, strip, picke
 share_le : (u c m : ℕ) → u ≤ m → (u * c) / m ≤ c
 share_le u c m h = div-le_of_le-mul m (mul-le u c m c h (omega arith))
 
--- a number below 2 ^ 64 stays below it where it is mixed with itself shifted
+-- a number below 2 ^ 64 stays below it if it is mixed with itself shifted
 mixed_below : (z shift : ℕ) → z < 2 ^ 64 → bit_xor z (z / shift) < 2 ^ 64
 mixed_below z shift h = xor_lt 64 z (z / shift) h (omega (arith, div-le_self z shift))
 
@@ -43,7 +43,7 @@ unfolding end_of
 cond_end true one other n p q = p
 cond_end false one other n p q = q
 
--- a strip ends where the whole does, or before
+-- a strip does not end after the whole
 strip_end : (all : Span) (strips g : ℕ) → g < strips → end_of (strip all strips g) ≤ end_of all
 unfolding end_of
 strip_end all strips g h =
@@ -55,7 +55,7 @@ strip_end all strips g h =
           strips;
     }) (end_of all) (omega arith) (omega arith)
 
--- where a body that does not reach back fits, the side bounds
+-- if the body does not reach back, the side of the room bounds where it fits
 span_end : (side back forth : ℕ) → back ≡ 0 → end_of (span_within side back forth) ≤ side + 1
 unfolding end_of
 span_end side back forth e = omega arith

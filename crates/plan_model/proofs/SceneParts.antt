@@ -1,4 +1,4 @@
--- The parts of a scene, from numbers that may stand behind its keys.
+-- The parts of a scene, from numbers that may stand after its keys.
 use Rattle.std.proofs.Common.{◌≡◌, ℕ, ◌+◌, ◌*◌, ◌≤◌, ◌&&◌, ◌||◌, ◌⊎◌, Bool, true, false, eqb, ltb, leb, ℤ, pos, negsuc, int_le, unsigned_abs, List, []}
 use Rattle.std.proofs.Common.{◌∷◌, length, map, All, refl, inl, inr, arith}
 use Rattle.std.specs.List.{list_all}

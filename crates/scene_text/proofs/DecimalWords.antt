@@ -15,7 +15,7 @@ abbrev pub IsShort : ℤ → Type 0
 IsShort (pos n) = n < 2 ^ 64
 IsShort (negsuc n) = suc n < 2 ^ 64
 
--- digits that stand for a number, with no zero in front
+-- digits that stand for a number, with no leading zero
 record AreDigitsOf (n : ℕ) (digits : List ℕ) : Type 0 where
   digital : list_all is_digit digits ≡ true
   value : magnitude digits ≡ n
@@ -38,14 +38,14 @@ is_positive-more (d ∷ digits) b h e =
     rw (parts.0, list_all-append is_digit digits (b ∷ []), parts.1, e) refl
 
 AreDigitsOf-more : (n : ℕ) (digits : List ℕ) → 10 ≤ n → AreDigitsOf (n / 10) digits → AreDigitsOf n (digits ++ (48 + n % 10) ∷ [])
-AreDigitsOf-more n digits h front =
+AreDigitsOf-more n digits h prefix =
     let last : is_digit (48 + n % 10) ≡ true = is_digit-small (n % 10) (omega arith) in
-    let value = front.value in
+    let value = prefix.value in
     let many : 0 < n / 10 = omega arith in
     record {
-      digital = list_all-append is_digit digits ((48 + n % 10) ∷ []) ∙ rw (front.digital, last) refl;
+      digital = list_all-append is_digit digits ((48 + n % 10) ∷ []) ∙ rw (prefix.digital, last) refl;
       value = fold-append (λ m b. 10 * m + (b - 48)) 0 digits ((48 + n % 10) ∷ []) ∙ omega arith;
-      positive = λ some. is_positive-more digits (48 + n % 10) (front.positive many) last;
+      positive = λ some. is_positive-more digits (48 + n % 10) (prefix.positive many) last;
     }
 
 digits-decimal : (n : ℕ) → n < 2 ^ 64 → AreDigitsOf n (decimal n)

@@ -8,7 +8,7 @@ use Rattle.plan_model.specs.TextLines.{lines_of, onto_first}
 abbrev pub line_length : List ℕ → ℕ
 line_length text = position_or_len (λ b. eqb b 10) text
 
--- a byte at the front of the first line
+-- a byte before those of the first line
 onto_first-cut : (b n : ℕ) (text : List ℕ) (lines : List (List ℕ)) → lines ≡ take n text ∷ lines_of (drop (n + 1) text)
     → onto_first b lines ≡ take (1 + n) (b ∷ text) ∷ lines_of (drop (1 + n + 1) (b ∷ text))
 onto_first-cut b n text lines e =
@@ -25,19 +25,19 @@ lines_of-cut_at false b [] h = refl
 lines_of-cut_at false b (c ∷ text) h =
     onto_first-cut b (line_length (c ∷ text)) (c ∷ text) (lines_of (c ∷ text)) (h (omega arith))
 
--- the first line, and the lines behind its line feed
+-- the first line, and the lines after its line feed
 pub lines_of-cut : (text : List ℕ) → 0 < length text → lines_of text ≡ take (line_length text) text ∷ lines_of (drop (line_length text + 1) text)
 lines_of-cut [] h = absurd (omega arith)
 lines_of-cut (b ∷ text) h = lines_of-cut_at (eqb b 10) b text (lines_of-cut text)
 
--- the first line, what stands from its line feed on, and the rest behind that
-pub lines_of-split : (text line behind rest : List ℕ) (n : ℕ) → 0 < length text → n ≡ line_length text → line ≡ take n text → behind ≡ drop n text
-    → rest ≡ drop 1 behind → lines_of text ≡ line ∷ lines_of rest
-lines_of-split text line behind rest n some place front back left =
+-- the first line, what stands from its line feed on, and the rest after that
+pub lines_of-split : (text line after rest : List ℕ) (n : ℕ) → 0 < length text → n ≡ line_length text → line ≡ take n text → after ≡ drop n text
+    → rest ≡ drop 1 after → lines_of text ≡ line ∷ lines_of rest
+lines_of-split text line after rest n some place prefix back left =
     let same : rest ≡ drop (n + 1) text = left ∙ ap (drop 1) back ∙ drop-drop 1 n text in
-    lines_of-cut text some ∙ rw (front, same, place)
+    lines_of-cut text some ∙ rw (prefix, same, place)
 
--- where nothing stands behind a line, that is all that is left
-pub rest_of_nothing : (behind : List ℕ) → length behind < 1 → behind ≡ drop 1 behind
+-- if nothing stands after a line, that is all that is left
+pub rest_of_nothing : (after : List ℕ) → length after < 1 → after ≡ drop 1 after
 rest_of_nothing [] h = refl
-rest_of_nothing (b ∷ behind) h = absurd (omega arith)
+rest_of_nothing (b ∷ after) h = absurd (omega arith)

@@ -149,7 +149,7 @@ fault_of_line-statement built statements i h below =
 
 -- ---- statements without a fault
 
--- behind these statements, no one of those has a fault
+-- after these statements, none of those has a fault
 abbrev pub AreSound : List (List (List ℕ)) → List (List (List ℕ)) → Type 0
 AreSound before [] = Unit {0}
 AreSound before (words ∷ statements) =
@@ -160,13 +160,13 @@ sound-at : (before statements : List (List (List ℕ))) (i : ℕ) → AreSound b
 sound-at before [] i h below = absurd (omega arith)
 sound-at before (words ∷ statements) zero h below = rw (append-nil before) h.0
 sound-at before (words ∷ statements) (suc i) h below =
-    ap (λ front. fault_after_statements all_keys front (get_or statements i [])) (sym (append_assoc before (words ∷ []) (take i statements)))
+    ap (λ prefix. fault_after_statements all_keys prefix (get_or statements i [])) (sym (append_assoc before (words ∷ []) (take i statements)))
     ∙ sound-at (before ++ words ∷ []) statements i h.1 (omega arith)
 
 pub AreSound-append : (before xs ys : List (List (List ℕ))) → AreSound before xs → AreSound (before ++ xs) ys → AreSound before (xs ++ ys)
-AreSound-append before [] ys h k = subst (λ front. AreSound front ys) (append-nil before) k
+AreSound-append before [] ys h k = subst (λ prefix. AreSound prefix ys) (append-nil before) k
 AreSound-append before (words ∷ xs) ys h k =
-    (h.0, AreSound-append (before ++ words ∷ []) xs ys h.1 (subst (λ front. AreSound front ys) (sym (append_assoc before (words ∷ []) xs)) k))
+    (h.0, AreSound-append (before ++ words ∷ []) xs ys h.1 (subst (λ prefix. AreSound prefix ys) (sym (append_assoc before (words ∷ []) xs)) k))
 
 -- no line of the text has a fault
 pub IsSoundBelow-text : (statements : List (List (List ℕ))) → list_all is_clean statements ≡ true → AreSound [] statements

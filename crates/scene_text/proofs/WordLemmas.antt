@@ -25,17 +25,17 @@ pieces_from is_blank b line = cond is_blank ([] ∷ pieces_of line) (onto_first 
 drop_more : (n b : ℕ) (line : List ℕ) → drop (1 + n) (b ∷ line) ≡ drop n line
 drop_more n b line = let one : 1 + n ≡ suc n = omega arith in rw one
 
-take_more_front : (n b : ℕ) (line : List ℕ) → take (1 + n) (b ∷ line) ≡ b ∷ take n line
-take_more_front n b line = let one : 1 + n ≡ suc n = omega arith in rw one
+take_more_first : (n b : ℕ) (line : List ℕ) → take (1 + n) (b ∷ line) ≡ b ∷ take n line
+take_more_first n b line = let one : 1 + n ≡ suc n = omega arith in rw one
 
--- ---- blanks at the front
+-- ---- leading blanks
 
 words_of-blanks_at : (is_blank : Bool) (b : ℕ) (line : List ℕ) → is_blank ≡ eqb b 32 → words_of line ≡ words_of (drop (blank_count line) line)
     → words_of (b ∷ line) ≡ words_of (drop (cond is_blank (1 + blank_count line) 0) (b ∷ line))
 words_of-blanks_at true b line e h = rw (← e, drop_more (blank_count line) b line) h
 words_of-blanks_at false b line e h = refl
 
--- blanks in front of the first word change no word
+-- blanks before the first word change no word
 pub words_of-blanks : (line : List ℕ) → words_of line ≡ words_of (drop (blank_count line) line)
 words_of-blanks [] = refl
 words_of-blanks (b ∷ line) = words_of-blanks_at (eqb b 32) b line refl (words_of-blanks line)
@@ -49,7 +49,7 @@ BeginsWord-at : (is_blank : Bool) (b : ℕ) (line : List ℕ) → is_blank ≡ e
 BeginsWord-at true b line e h = subst BeginsWord (sym (drop_more (blank_count line) b line)) h
 BeginsWord-at false b line e h = λ some. rw (← e) (omega arith)
 
--- what stands behind the blanks begins with a word
+-- what stands after the blanks begins with a word
 pub piece_length-positive : (line : List ℕ) → 0 < length (drop (blank_count line) line) → 0 < piece_length (drop (blank_count line) line)
 piece_length-positive [] = λ some. absurd (omega arith)
 piece_length-positive (b ∷ line) = BeginsWord-at (eqb b 32) b line refl (piece_length-positive line)
@@ -64,7 +64,7 @@ onto_first-piece b (first ∷ rest) piece e = let same : first ≡ piece = cc in
 pieces_of-cut_at : (is_blank : Bool) (b : ℕ) (line : List ℕ) → pieces_of line ≡ take (piece_length line) line ∷ drop 1 (pieces_of line)
     → pieces_from is_blank b line ≡ take (cond (not is_blank) (1 + piece_length line) 0) (b ∷ line) ∷ drop 1 (pieces_from is_blank b line)
 pieces_of-cut_at true b line h = refl
-pieces_of-cut_at false b line h = rw (take_more_front (piece_length line) b line) (onto_first-piece b (pieces_of line) (take (piece_length line) line) h)
+pieces_of-cut_at false b line h = rw (take_more_first (piece_length line) b line) (onto_first-piece b (pieces_of line) (take (piece_length line) line) h)
 
 pieces_of-cut : (line : List ℕ) → pieces_of line ≡ take (piece_length line) line ∷ drop 1 (pieces_of line)
 pieces_of-cut [] = refl
@@ -81,7 +81,7 @@ words_of-rest_at true b line e h = rw (← e)
 words_of-rest_at false b line e h =
     rw (drop_more (piece_length line) b line, onto_first-rest b (pieces_of line) (take (piece_length line) line) (pieces_of-cut line)) h
 
--- the words behind the first piece are those of the other pieces
+-- the words after the first piece are those of the other pieces
 words_of-rest : (line : List ℕ) → words_among (drop 1 (pieces_of line)) ≡ words_of (drop (piece_length line) line)
 words_of-rest [] = refl
 words_of-rest (b ∷ line) = words_of-rest_at (eqb b 32) b line refl (words_of-rest line)
@@ -89,7 +89,7 @@ words_of-rest (b ∷ line) = words_of-rest_at (eqb b 32) b line refl (words_of-r
 words_among-cons : (piece : List ℕ) (pieces : List (List ℕ)) → 0 < length piece → words_among (piece ∷ pieces) ≡ piece ∷ words_among pieces
 words_among-cons piece pieces h = let some : ltb 0 (length piece) ≡ true = grind (arith, nat_tests) in rw some
 
--- the first word, where the line begins with one, and the words behind it
+-- the first word, if the line begins with one, and the words after it
 pub words_of-cut : (line : List ℕ) → 0 < piece_length line → words_of line ≡ take (piece_length line) line ∷ words_of (drop (piece_length line) line)
 words_of-cut line h =
     let within : piece_length line ≤ length line = prefix_len-le-length (λ b. not (eqb b 32)) line in
@@ -103,10 +103,10 @@ words_of-none line words n count rest empty =
     let none : words ≡ [] = nil_from_length words empty in
     words_of-blanks line ∙ ap words_of (sym (rest ∙ ap (λ k. drop k line) count) ∙ none)
 
--- the first word behind the blanks, and the words behind it
-pub words_of-split : (line words word behind : List ℕ) (n m : ℕ) → n ≡ blank_count line → words ≡ drop n line → 0 < length words → m ≡ piece_length words
-    → word ≡ take m words → behind ≡ drop m words → words_of line ≡ word ∷ words_of behind
-words_of-split line words word behind n m count rest some place front back =
+-- the first word after the blanks, and the words after it
+pub words_of-split : (line words word after : List ℕ) (n m : ℕ) → n ≡ blank_count line → words ≡ drop n line → 0 < length words → m ≡ piece_length words
+    → word ≡ take m words → after ≡ drop m words → words_of line ≡ word ∷ words_of after
+words_of-split line words word after n m count rest some place prefix back =
     let same : words ≡ drop (blank_count line) line = rest ∙ ap (λ k. drop k line) count in
     let positive : 0 < piece_length words = rw same (piece_length-positive line (rw (← same) some)) in
-    words_of-blanks line ∙ ap words_of (sym same) ∙ words_of-cut words positive ∙ rw (front, back, place)
+    words_of-blanks line ∙ ap words_of (sym same) ∙ words_of-cut words positive ∙ rw (prefix, back, place)

@@ -1,7 +1,9 @@
-//! Reads the text of a scene: its bytes from a source, its lines, words and numbers. A text is a scene by the
-//! grammar, or it is refused at the first line that has a fault.
+//! The reader and the writer of scene texts.
 //!
-//! And writes a scene as its canonical text, which by the grammar spells that scene.
+//! A text is read line by line: each line is cut into words, and its checks are made over what the lines before it give.
+//! The grammar is a relation over the list of lines, in `plan_model`. `read_scene` returns the one scene that the text
+//! spells by the grammar, or the first line that fails a check, with the first check that it fails. `write_scene` returns
+//! the canonical text of a scene, and that text spells the scene. `fetch` reads a whole text from a source.
 #![tactic(auto)]
 
 mod drafts;

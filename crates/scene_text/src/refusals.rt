@@ -119,3 +119,23 @@ impl<T: Drop> From<AllocFailed<T>> for LineRefusal {
         LineRefusal::Memory
     }
 }
+
+#[cfg(test)]
+mod tests {
+    use super::*;
+    use std::test::Fail;
+
+    #[test]
+    fn shows_faults_as_lines(rt: HostRuntime) -> Result<(), Fail> {
+        for (line, kind, shown) in [
+            (5, Kind::Repeat, "line 5 kind 6 Repeat"),
+            (16_777_217, Kind::Unbuilt, "line 16777217 kind 10 Unbuilt"),
+        ] {
+            let fault = SceneFault { line, kind };
+            assert_eq!(rt; format!(in rt.alloc(); "{fault}")?.as_str(), shown);
+            let refusal = SceneRefusal::Fault(fault);
+            assert_eq!(rt; format!(in rt.alloc(); "{refusal}")?.as_str(), shown);
+        }
+        Ok(())
+    }
+}

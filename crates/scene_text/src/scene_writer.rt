@@ -12,7 +12,7 @@ use std::alloc::{AllocError, Global};
 /// The canonical text of a scene: one text for each scene, with a line for each field, one space between words and a
 /// line feed at the end of each line.
 ///
-/// `Memory` comes where there was no memory left for the text.
+/// The error is `Memory` if the program is out of memory.
 pub fn write_scene(alloc: Global, scene: &Scene) -> Result<Vec<u8>, Memory>
     ensures text { IfOk result (λ text. text.items ≡ canonical_text scene.now) }
     // read with every key supported, it spells this scene
@@ -38,7 +38,7 @@ fn push_polygon(text: &mut String, key: &str, corners: &[Vertex]) -> Result<(), 
     Ok(())
 }
 
-// The coordinates of the corners, each behind a blank.
+// The coordinates of the corners, each after a blank.
 fn push_corners(text: &mut String, corners: &[Vertex]) -> Result<(), AllocError>
     ensures { OnOk result (string_bytes text.new ≡ string_bytes text.old
         ++ flat_map (λ z. 32 ∷ signed_decimal z) (corner_numbers corners.now)) }
@@ -96,23 +96,4 @@ fn push_marks(text: &mut String, marks: &[Point]) -> Result<(), AllocError>
 }
 
 #[cfg(test)]
-mod tests {
-    use super::*;
-    use crate::scene_reader::read_scene;
-    use std::test::Fail;
-
-    const SMALL: &str = "prrt 1\nroom 9 9\nstart 0 0\ngoal 1 1 2 2\nstep 4\n";
-
-    const CANONICAL: &str =
-        "prrt 1\nroom 9 9\nbody 0 0\nstart 0 0\ngoal 1 1 2 2\nstep 4\ngamma 0\nseed 0\nstrips 1\n";
-
-    #[test]
-    fn writes_every_line(rt: HostRuntime) -> Result<(), Fail> {
-        let scene = read_scene(rt.alloc(), SMALL.as_bytes()).unwrap_or_else(|_| panic!(rt;
-            "not read"
-        ));
-        let text = write_scene(rt.alloc(), &scene)?;
-        assert_eq!(rt; text.as_slice(), CANONICAL.as_bytes());
-        Ok(())
-    }
-}
+mod tests;
