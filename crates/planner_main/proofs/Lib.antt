@@ -1,4 +1,6 @@
-pub mod Chains
-pub mod Places
+pub mod PathSteps
+pub mod SumBounds
+pub mod GoalNodes
+pub mod Branches
 pub mod Outcomes
 pub mod Decisions

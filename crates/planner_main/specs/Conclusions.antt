@@ -7,8 +7,9 @@ use Rattle.plan_model.specs.declared.text_terms.Kind.{Kind}
 use Rattle.plan_model.specs.ConfigurationSpace.{space_of}
 use Rattle.plan_model.specs.Clearance.{ClearAt}
 use Rattle.plan_model.specs.MarkPoints.{mark_points}
-use Rattle.plan_model.specs.Textbook.{IsTextbookRun}
-use Rattle.plan_model.specs.ReportText.{best_node, short_report}
+use Rattle.plan_model.specs.Textbook.{IsTextbookRun, setup_of}
+use Rattle.plan_model.specs.BestNode.{best_node}
+use Rattle.plan_model.specs.ReportText.{short_report}
 use Rattle.plan_model.specs.CanonicalText.{canonical_text}
 use Rattle.plan_model.specs.SceneGrammar.{Spells, Refused, supported}
 use Rattle.scene_text.specs.Fetching.{IsAllOf}
@@ -28,9 +29,9 @@ status_of_report false = 1
 pub record ReportsScene (scene : Scene) (status : ℕ) (text : List ℕ) : Type 0 where
   pub nodes : List (Option Twig)
   pub records : List Record
-  pub run : IsTextbookRun scene (mark_points scene) nodes records
-  pub best : status ≡ status_of_report (is_some (best_node scene.goal nodes))
-  pub written : text ≡ short_report scene.goal nodes records
+  pub run : IsTextbookRun (setup_of scene) scene.start (mark_points scene) nodes records
+  pub best : status ≡ status_of_report (is_some (best_node scene nodes))
+  pub written : text ≡ short_report scene nodes records
 
 -- the same of the scene that the bytes spell, whose start is clear
 pub record ReportsRun (bytes : List ℕ) (status : ℕ) (text : List ℕ) : Type 0 where

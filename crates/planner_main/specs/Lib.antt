@@ -1,4 +1,4 @@
-pub mod Reach
+pub mod Paths
 pub mod Refusals
 pub mod Delivery
 pub mod Conclusions

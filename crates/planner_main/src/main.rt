@@ -1,8 +1,10 @@
 //! The planner's program: reads a scene from standard input, plans it, and writes the report to standard output.
 #![tactic(auto)]
 
+mod best_node;
 mod delivery;
 mod forms;
+mod paths;
 mod refusals;
 mod reports;
 mod standard_streams;
