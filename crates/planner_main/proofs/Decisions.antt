@@ -1,78 +1,144 @@
--- Which status the bytes of the source decide, from the causes of each status.
-use Rattle.std.proofs.Common.{◌≡◌, ◌≢◌, ℕ, ◌≤◌, ◌<◌, ◌⊎◌, Bool, Option, Some, None, IsSome, List, length, inl, inr, ⊎_elim, subst, arith}
-use Rattle.std.proofs.lemmas.Bool.{cases_eq, cases_lt}
-use Rattle.planner_main.specs.declared.forms.Form.{Form}
-use Rattle.planner_main.specs.declared.forms.Form.TheVariants as forms
+-- Which status the bytes of the source decide, from the answer and its cause.
+use Rattle.std.proofs.Common.{◌≡◌, ℕ, ◌≤◌, ◌<◌, ◌⊎◌, inl, inr, Bool, true, false, IsTrue, MatchBool, Option, Some, None, IfSome}
+use Rattle.std.proofs.Common.{List, length, length-append, refl, sym, ap, subst, arith}
+use Rattle.std.proofs.lemmas.Bool.{false≢true}
+use Rattle.std.specs.Io.KnownBytes.{Consumes}
+use Rattle.plan_model.specs.declared.limits.TheConstants.{MOST_TEXT_BYTES}
+use Rattle.plan_model.specs.declared.scenes.Scene.{Scene}
+use Rattle.plan_model.specs.declared.text_terms.Kind.{Kind}
 use Rattle.plan_model.specs.SceneGrammar.{supported}
+use Rattle.plan_model.specs.ConfigurationSpace.{space_of}
+use Rattle.plan_model.specs.Clearance.{ClearAt}
 use Rattle.plan_model.proofs.Soundness.{Spells-not_refused}
 use Rattle.plan_model.proofs.SpelledScenes.{ClearAt-spelled}
-use Rattle.planner_main.specs.Conclusions.{IsAnswer, IsDecided, BlocksStart, ReportsRun, ShowsScene, Succeeds, RefusesText, RefusesScene}
+use Rattle.scene_text.specs.Fetching.{CameTooLong}
+use Rattle.planner_main.specs.declared.commands.Command.{Command}
+use Rattle.planner_main.specs.declared.commands.Command.TheVariants as commands
+use Rattle.planner_main.specs.declared.refusals.Refusal.{Refusal}
+use Rattle.planner_main.specs.declared.refusals.Refusal.TheVariants as refusals
+use Rattle.planner_main.specs.declared.statuses.TheConstants.{NO_PATH, TEXT_REFUSED, START_BLOCKED, NO_MEMORY}
+use Rattle.planner_main.specs.declared.top_call.Done.{Done}
+use Rattle.planner_main.specs.Commands.{reads_scene, tests_start}
+use Rattle.planner_main.specs.Conclusions.{IsTextOf, IsFaultyText, BlocksStart, MayStart, Succeeds, status_of_report, IsCaused, IsSuccess}
+use Rattle.planner_main.specs.Decisions.{IsDecidedBy, IsDecided}
+use Rattle.planner_main.specs.Exchanges.{Reading, ReadFailed, IsReadWhole, IsUnread}
+use Rattle.planner_main.specs.Refusals.{status_of}
 
-module _ (bytes : List ℕ) (status : ℕ) where
-  from_report : (text : List ℕ) → ReportsRun bytes status text → status ≤ 1 → IsDecided (Some forms.Plain) bytes status
-  from_report text r low = record {
-    planned = λ plain scene short spelled clear. low;
-    blocked = λ plain scene short spelled blocked. absurd (blocked (ClearAt-spelled supported bytes r.scene scene r.spelled spelled r.start));
-    shown = λ show. absurd cc;
-    refused = λ number kind short refused. absurd (Spells-not_refused supported bytes r.scene number kind r.spelled refused);
-    long = λ long. absurd (omega (arith, r.short));
+-- a text that spells a scene is not refused
+not_faulty : (bytes : List ℕ) (scene : Scene) (number : ℕ) (kind : Kind) → IsTextOf scene bytes → IsFaultyText number kind bytes → ⊥
+not_faulty bytes scene number kind t f = Spells-not_refused supported bytes scene number kind t.spelled f.refused
+
+-- the scenes that a text spells are clear at their starts together
+same_start : (bytes : List ℕ) (a b : Scene) → IsTextOf a bytes → IsTextOf b bytes → ClearAt (space_of a) a.start → ClearAt (space_of b) b.start
+same_start bytes a b s t clear = ClearAt-spelled supported bytes a b s.spelled t.spelled clear
+
+module _ (bytes : List ℕ) (command : Command) (status : ℕ) where
+  -- the bytes spell a scene at whose start the command may start, and it succeeds
+  by_success : (scene : Scene) → IsTextOf scene bytes → MayStart command scene → status ≤ NO_PATH → IsDecidedBy bytes command status
+  by_success scene t may low = record {
+    done = λ other s m. low;
+    blocked = λ other s tests blocked. absurd (blocked (same_start bytes scene other t s (may tests)));
+    refused = λ number kind f. absurd (not_faulty bytes scene number kind t f);
+    long = λ long. absurd (omega (arith, t.short));
   }
 
-  from_show : (text : List ℕ) → ShowsScene bytes text → status ≡ 0 → IsDecided (Some forms.Show) bytes status
-  from_show text s zero = record {
-    planned = λ plain. absurd cc;
-    blocked = λ plain. absurd cc;
-    shown = λ show scene short spelled. zero;
-    refused = λ number kind short refused. absurd (Spells-not_refused supported bytes s.scene number kind s.spelled refused);
-    long = λ long. absurd (omega (arith, s.short));
-  }
-
-  from_success : (form : Option Form) (text : List ℕ) → Succeeds form bytes status text → status ≤ 1 → IsDecided form bytes status
-  from_success None text h low = absurd h
-  from_success (Some forms.Plain) text h low = from_report text h low
-  from_success (Some forms.Show) text h low = from_show text h.1 h.0
-
-  from_long : (form : Option Form) → 16777216 < length bytes → status ≡ 3 → IsDecided form bytes status
-  from_long form long e = record {
-    planned = λ plain scene short spelled clear. absurd (omega arith);
-    blocked = λ plain scene short spelled blocked. absurd (omega arith);
-    shown = λ show scene short spelled. absurd (omega arith);
-    refused = λ number kind short refused. e;
+  by_fault : (number : ℕ) (kind : Kind) → IsFaultyText number kind bytes → status ≡ TEXT_REFUSED → IsDecidedBy bytes command status
+  by_fault number kind f e = record {
+    done = λ scene t may. absurd (not_faulty bytes scene number kind t f);
+    blocked = λ scene t tests blocked. absurd (not_faulty bytes scene number kind t f);
+    refused = λ other_number other_kind other. e;
     long = λ long. e;
   }
 
-  from_refusal : (form : Option Form) (text : List ℕ) → RefusesScene bytes text → status ≡ 3 → IsDecided form bytes status
-  from_refusal form text r e = record {
-    planned = λ plain scene short spelled clear. absurd (Spells-not_refused supported bytes scene r.number r.kind spelled r.refused);
-    blocked = λ plain scene short spelled blocked. absurd (Spells-not_refused supported bytes scene r.number r.kind spelled r.refused);
-    shown = λ show scene short spelled. absurd (Spells-not_refused supported bytes scene r.number r.kind spelled r.refused);
-    refused = λ number kind short refused. e;
-    long = λ long. e;
+  by_start : BlocksStart bytes → IsTrue (tests_start command) → status ≡ START_BLOCKED → IsDecidedBy bytes command status
+  by_start b tests e = record {
+    done = λ scene t may. absurd (b.blocked (same_start bytes scene b.scene t b.spelled (may tests)));
+    blocked = λ scene t tests' blocked. e;
+    refused = λ number kind f. absurd (not_faulty bytes b.scene number kind b.spelled f);
+    long = λ long. let short = b.spelled.short in absurd (omega arith);
   }
 
-  from_text : (form : Option Form) (left : Option (List ℕ)) (ended : Bool) (text : List ℕ) → left ≡ Some bytes → RefusesText left ended text → status ≡ 3 → IsDecided form bytes status
-  from_text form left ended text told (inl long) e = from_long form (long.1 bytes told) e
-  from_text form left ended text told (inr r) e = from_refusal form text (subst (λ (b : List ℕ). RefusesScene b text) (r.1.1 bytes told) r.1.2) e
-
-  from_start : (form : Option Form) → form ≡ Some forms.Plain → BlocksStart bytes → status ≡ 4 → IsDecided form bytes status
-  from_start form plain b e = record {
-    planned = λ plain scene short spelled clear. absurd (b.blocked (ClearAt-spelled supported bytes scene b.scene spelled b.spelled clear));
-    blocked = λ plain scene short spelled blocked. e;
-    shown = λ show. absurd cc;
-    refused = λ number kind short refused. absurd (Spells-not_refused supported bytes b.scene number kind b.spelled refused);
-    long = λ long. absurd (omega (arith, b.short));
+  by_length : MOST_TEXT_BYTES < length bytes → status ≡ TEXT_REFUSED → IsDecidedBy bytes command status
+  by_length long e = record {
+    done = λ scene t may. let short = t.short in absurd (omega arith);
+    blocked = λ scene t tests blocked. let short = t.short in absurd (omega arith);
+    refused = λ number kind f. e;
+    long = λ longer. e;
   }
 
-  -- where no read has failed, the bytes decide the status, unless there is no memory
-  pub IsDecided-from_answer : (form : Option Form) (left : Option (List ℕ)) (ended : Bool) (rose : Type 0) (text : List ℕ) → IsAnswer form left ended rose status text → IsSome form → left ≡ Some bytes → ¬ rose → (status ≡ 7) ⊎ IsDecided form bytes status
-  IsDecided-from_answer form left ended rose text a known_form told sure =
-      ⊎_elim (λ low. inr (let s = (a.success (omega arith)).2 in from_success form text (subst (λ (b : List ℕ). Succeeds form b status text) (s.1 bytes told) s.2) (omega arith))) (λ high.
-      ⊎_elim (λ two. let none = (a.words_refused two).0 in absurd (no_form form none known_form)) (λ no_two.
-      ⊎_elim (λ three. inr (from_text form left ended text told (a.text_refused three).1 three)) (λ no_three.
-      ⊎_elim (λ four. inr (let b = (a.start_blocked four).3 in from_start form (a.start_blocked four).0 (subst BlocksStart (b.1 bytes told) b.2) four)) (λ no_four.
-      ⊎_elim (λ five. absurd (sure (a.read_fault five).1)) (λ no_five.
-      inl (let known = a.known in let other : status ≢ 6 = a.other_than_6 in omega arith)) (cases_eq status 5)) (cases_eq status 4)) (cases_eq status 3)) (cases_eq status 2)) (cases_lt status 2)
-    where
-      no_form : (form : Option Form) → form ≡ None → IsSome form → ⊥
-      no_form None e h = absurd cc
-      no_form (Some f) e h = absurd cc
+low_report : (found : Bool) → status_of_report found ≤ NO_PATH
+low_report true = omega arith
+low_report false = omega arith
+
+-- a command that succeeds ends with one of the two statuses of success
+pub Succeeds-low : (command : Command) (bytes : List ℕ) (done : Done) (text : List ℕ) → Succeeds command bytes done text →
+    done.status ≤ NO_PATH
+Succeeds-low commands.Plain bytes done text r = rw r.report.best (low_report _)
+Succeeds-low commands.Show bytes done text s = omega (arith, s.shown)
+
+-- a command that tests the start reads a scene
+tests-reads : (command : Command) → IsTrue (tests_start command) → IsTrue (reads_scene command)
+tests-reads commands.Plain tests = refl
+tests-reads commands.Show tests = refl
+
+-- a command that reads a scene succeeds as its bytes decide
+by_meaning : (bytes : List ℕ) (command : Command) (done : Done) (text : List ℕ) → Succeeds command bytes done text →
+    IsTrue (reads_scene command) → IsDecidedBy bytes command done.status
+by_meaning bytes commands.Plain done text r reads =
+    by_success bytes commands.Plain done.status r.scene r.spelled (λ tests. r.start) (Succeeds-low commands.Plain bytes done text r)
+by_meaning bytes commands.Show done text s reads =
+    by_success bytes commands.Show done.status s.scene s.spelled (λ tests. absurd (false≢true tests))
+    (Succeeds-low commands.Show bytes done text s)
+
+-- known bytes of which more came than a text may have are too many
+long_before : (before now : Option (List ℕ)) (bytes : List ℕ) → CameTooLong before now → before ≡ Some bytes →
+    MOST_TEXT_BYTES < length bytes
+long_before before now bytes came is = long_from now (subst (λ (b : Option (List ℕ)). Consumes b now came.0) is came.2)
+  where
+    long_from : (now : Option (List ℕ)) → Consumes (Some bytes) now came.0 → MOST_TEXT_BYTES < length bytes
+    long_from None consumed = absurd consumed
+    long_from (Some rest) consumed = let long = came.1 in omega (arith, ap length consumed, length-append came.0 rest)
+
+module _ (reading : Reading) (command : Command) (status : ℕ) where
+  -- what a command has read decides its status as the bytes of the source do
+  by_reading : (reads : Bool) (bytes : List ℕ) → MatchBool reads (IsReadWhole reading bytes) (IsUnread reading) →
+      (IsTrue reads → IsDecidedBy bytes command status) → status ≤ NO_PATH →
+      MatchBool reads ((known : List ℕ) → reading.before ≡ Some known → IsDecidedBy known command status) (status ≤ NO_PATH)
+  by_reading true bytes whole decided low = λ known is. subst (λ (b : List ℕ). IsDecidedBy b command status) (whole.all known is) (decided refl)
+  by_reading false bytes unread decided low = low
+
+  of_reader : IsTrue (reads_scene command) → ((known : List ℕ) → reading.before ≡ Some known → IsDecidedBy known command status) →
+      IsDecided reading.before command status
+  of_reader reads decided =
+      subst (λ (b : Bool). MatchBool b ((known : List ℕ) → reading.before ≡ Some known → IsDecidedBy known command status) (status ≤ NO_PATH))
+      (sym reads) decided
+
+  of_whole : IsTrue (reads_scene command) → (bytes : List ℕ) → IsReadWhole reading bytes → IsDecidedBy bytes command status →
+      IsDecided reading.before command status
+  of_whole reads bytes whole decided =
+      of_reader reads (λ known is. subst (λ (b : List ℕ). IsDecidedBy b command status) (whole.all known is) decided)
+
+-- the status of a success
+pub success_decided : (asked : Option Command) (reading : Reading) (done : Done) (text : List ℕ) → IsSuccess asked reading done text →
+    IfSome asked (λ command. IsDecided reading.before command done.status)
+success_decided asked reading done text s =
+    let decided = by_meaning s.bytes s.command done text s.meaning in
+    let low = Succeeds-low s.command s.bytes done text s.meaning in
+    subst (λ (a : Option Command). IfSome a (λ command. IsDecided reading.before command done.status)) (sym s.known)
+    (by_reading reading s.command done.status (reads_scene s.command) s.bytes s.read decided low)
+
+-- the status of a refusal, if no read failed
+pub refusal_decided : (asked : Option Command) (reading : Reading) (refusal : Refusal) → IsCaused asked reading refusal →
+    ¬ ReadFailed reading →
+    (status_of refusal ≡ NO_MEMORY) ⊎ IfSome asked (λ command. IsDecided reading.before command (status_of refusal))
+refusal_decided None reading refusal cause sure = inr tt
+refusal_decided (Some command) reading refusals.Words cause sure = absurd cc
+refusal_decided (Some command) reading refusals.TooLong cause sure =
+    inr (of_reader reading command _ cause.0
+      (λ known is. by_length known command _ (long_before reading.before reading.now known cause.1.came is) refl))
+refusal_decided (Some command) reading (refusals.Text number kind) cause sure =
+    inr (of_whole reading command _ cause.0 cause.1.0 cause.1.1 (by_fault cause.1.0 command _ number kind cause.1.2 refl))
+refusal_decided (Some command) reading refusals.StartBlocked cause sure =
+    inr (of_whole reading command _ (tests-reads command cause.0) cause.1.0 cause.1.1 (by_start cause.1.0 command _ cause.1.2 cause.0 refl))
+refusal_decided (Some command) reading refusals.ReadFault cause sure = absurd (sure cause.1.rose)
+refusal_decided (Some command) reading refusals.Memory cause sure = inl refl

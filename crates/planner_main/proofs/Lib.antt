@@ -2,5 +2,6 @@ pub mod PathSteps
 pub mod SumBounds
 pub mod GoalNodes
 pub mod Branches
-pub mod Outcomes
+pub mod Causes
 pub mod Decisions
+pub mod Successes

@@ -1,6 +1,9 @@
 pub mod Paths
 pub mod Refusals
 pub mod Delivery
+pub mod Exchanges
 pub mod Conclusions
+pub mod Decisions
 pub mod Faults
-pub mod Forms
+pub mod Commands
+pub mod CommandLines

@@ -1,24 +1,35 @@
--- The lines that the program writes in place of a report.
+-- The line that the program writes in place of a report, and the status that it ends with.
 use Rattle.std.specs.Prelude.{ℕ, List, ◌∷◌, [], codes}
+use Rattle.std.specs.List.{join_with_byte}
 use Rattle.plan_model.specs.declared.text_terms.Kind.{Kind}
 use Rattle.plan_model.specs.KindNames.{fault_words}
 use Rattle.plan_model.specs.ReportText.{line}
+use Rattle.planner_main.specs.declared.refusals.Refusal.{Refusal}
+use Rattle.planner_main.specs.declared.refusals.Refusal.TheVariants as refusals
+use Rattle.planner_main.specs.declared.statuses.TheConstants.{WORDS_REFUSED, TEXT_REFUSED, START_BLOCKED, READ_FAULT, NO_MEMORY}
 
--- a refusal of a text, with its line and its kind
-abbrev pub fault_line : ℕ → Kind → List ℕ
-fault_line number kind = line (fault_words number kind)
+-- the words that the program writes in place of a report
+abbrev pub words_of : Refusal → List (List ℕ)
+words_of refusals.Words = codes "words" ∷ codes "refused" ∷ []
+words_of refusals.TooLong = codes "text" ∷ codes "too" ∷ codes "long" ∷ []
+words_of (refusals.Text number kind) = fault_words number kind
+words_of refusals.StartBlocked = codes "start" ∷ codes "blocked" ∷ []
+words_of refusals.ReadFault = codes "read" ∷ codes "fault" ∷ []
+words_of refusals.Memory = codes "no" ∷ codes "memory" ∷ []
 
-abbrev pub words_line : List ℕ
-words_line = line (codes "words" ∷ codes "refused" ∷ [])
+-- a refusal in words, without a line feed
+abbrev pub message_of : Refusal → List ℕ
+message_of refusal = join_with_byte 32 (words_of refusal)
 
-abbrev pub long_line : List ℕ
-long_line = line (codes "text" ∷ codes "too" ∷ codes "long" ∷ [])
+-- the line that the program writes
+abbrev pub line_of : Refusal → List ℕ
+line_of refusal = line (words_of refusal)
 
-abbrev pub start_line : List ℕ
-start_line = line (codes "start" ∷ codes "blocked" ∷ [])
-
-abbrev pub read_line : List ℕ
-read_line = line (codes "read" ∷ codes "fault" ∷ [])
-
-abbrev pub memory_line : List ℕ
-memory_line = line (codes "no" ∷ codes "memory" ∷ [])
+-- the status that the program ends with
+abbrev pub status_of : Refusal → ℕ
+status_of refusals.Words = WORDS_REFUSED
+status_of refusals.TooLong = TEXT_REFUSED
+status_of (refusals.Text number kind) = TEXT_REFUSED
+status_of refusals.StartBlocked = START_BLOCKED
+status_of refusals.ReadFault = READ_FAULT
+status_of refusals.Memory = NO_MEMORY

@@ -1,43 +1,36 @@
-//! The planner's program: reads a scene from standard input, plans it, and writes the report to standard output.
+//! Kimorefo: plans a scene by RRT* (Karaman and Frazzoli, Sampling-based Algorithms for Optimal Motion Planning, IJRR
+//! 2011). The program reads a scene from standard input, does what the words of the command line ask for, and writes the
+//! text of its answer to standard output.
+//!
+//! Everything is done by `run`, over any source and any sink. Its contract says what each status means: with 0 and 1 the
+//! text is the report of the textbook run of the scene that the bytes read spell (or, for `show`, that scene's canonical
+//! text), each refusal has its cause, and which status comes is decided by the bytes if no read or write fails and memory
+//! lasts. The exit code is that of `exit_code`.
 #![tactic(auto)]
 
+mod answers;
 mod best_node;
+mod command_line;
+mod commands;
 mod delivery;
-mod forms;
 mod paths;
 mod refusals;
 mod reports;
 mod standard_streams;
+mod statuses;
 mod top_call;
 
+use command_line::exit_code;
 use standard_streams::{StdSink, StdSource};
+use std::env;
 use std::process::ExitCode;
-use std::{env, io};
 pub use top_call::{Done, run};
 
-/// The status where there is no memory for the words of the command line.
-const NO_MEMORY: u8 = 7;
-
-// The words of the command line, without the program's name.
-fn words_of(rt: &HostRuntime) -> io::Result<Vec<String>> {
-    let mut words = Vec::new(rt.alloc());
-    for word in env::args(rt)?.skip(1) {
-        words.push(word)?;
-    }
-    Ok(words)
-}
-
 fn main(rt: HostRuntime) -> ExitCode {
-    let words = match words_of(&rt) {
-        Ok(words) => words,
-        Err(error) if error.kind() == io::ErrorKind::OutOfMemory => {
-            return ExitCode::from(NO_MEMORY);
-        }
-        // a word that is no text makes no form of words
-        Err(_) => Vec::new(rt.alloc()),
-    };
-    let mut source = StdSource::new(rt.stdin());
-    let mut sink = StdSink::new(rt.stdout());
-    let done = run(rt.alloc(), &words, &mut source, &mut sink);
-    ExitCode::from(done.status)
+    exit_code(
+        rt.alloc(),
+        env::args(&rt),
+        &mut StdSource::new(rt.stdin()),
+        &mut StdSink::new(rt.stdout()),
+    )
 }

@@ -1,43 +1,140 @@
-//! The line that the program writes in place of a report. It is made without taking memory.
+//! Why the program writes no report: the status that it ends with, and the line that it writes, which takes no memory.
 
-ghost use Rattle.std.specs.Prelude.{◌≡◌, ◌≤◌, ◌+◌, ◌++◌, length, decimal};
-ghost use Rattle.planner_main.specs.Refusals.{fault_line};
+ghost use Rattle.std.specs.Prelude.{◌≡◌, ◌≤◌, ◌<◌, ◌+◌, ◌++◌, length, decimal};
+ghost use Rattle.planner_main.specs.Refusals.{message_of, line_of, status_of};
 
+use crate::statuses::{NO_MEMORY, READ_FAULT, START_BLOCKED, TEXT_REFUSED, WORDS_REFUSED};
 use arrayvec::ArrayString;
 use itoa::Buffer;
-use plan_model::Kind;
+use plan_model::{Kind, Memory};
+use scene_text::{FetchFault, SceneRefusal};
+use std::error::Error;
+use std::fmt;
+use std::fmt::{Display, Formatter};
 
-/// Why the program writes no report.
+/// Why the program writes no report. It is displayed as its line, without the line feed.
 #[derive(Clone, Copy, Debug, PartialEq, Eq)]
 pub enum Refusal {
-    /// The words of the command line are of no known form.
+    /// The words of the command line ask for no command.
     Words,
-    /// The text has more bytes than a scene may have.
+    /// More bytes came than a text may have.
     TooLong,
-    /// The text is no scene: the number of the line and the kind of its fault.
+    /// The text is no scene: the number of the line, from 1, and the kind of its fault.
     Text(u32, Kind),
-    /// The scene's start is not clear.
+    /// The start of the scene is not clear.
     StartBlocked,
     /// The source could not be read.
     ReadFault,
-    /// There was no memory left.
+    /// The program is out of memory.
     Memory,
 }
 
-/// A line of a refusal: at most so many bytes.
-const MOST_BYTES: usize = 64;
+impl Refusal {
+    /// The status that the program ends with.
+    pub fn status(&self) -> u8
+        ensures { result ≡ status_of self.now }
+    {
+        match self {
+            Refusal::Words => WORDS_REFUSED,
+            Refusal::TooLong | Refusal::Text(..) => TEXT_REFUSED,
+            Refusal::StartBlocked => START_BLOCKED,
+            Refusal::ReadFault => READ_FAULT,
+            Refusal::Memory => NO_MEMORY,
+        }
+    }
 
-type Line = ArrayString<MOST_BYTES>;
+    /// The line that the program writes, with its line feed.
+    pub fn line(&self) -> Line
+        ensures { result.bytes ≡ line_of self.now }
+    {
+        let mut line = self.message();
+        push(&mut line, "\n");
+        line
+    }
+
+    // The line without its line feed.
+    fn message(&self) -> Line
+        ensures text { result.bytes ≡ message_of self.now }
+        ensures short { length result.bytes < LINE_CAPACITY }
+    {
+        match self {
+            Refusal::Words => line_from("words refused"),
+            Refusal::TooLong => line_from("text too long"),
+            Refusal::Text(number, kind) => fault_message(*number, *kind),
+            Refusal::StartBlocked => line_from("start blocked"),
+            Refusal::ReadFault => line_from("read fault"),
+            Refusal::Memory => line_from("no memory"),
+        }
+    }
+}
+
+impl Display for Refusal {
+    ghost use Rattle.std.specs.Prelude.{Some};
+    ghost use Rattle.planner_main.specs.Refusals.{message_of};
+
+    ghost output = { λ refusal. Some (message_of refusal) };
+
+    fn fmt<W: fmt::Write>(&self, f: &mut Formatter<W>) -> fmt::Result {
+        f.write_str(self.message().as_str())
+    }
+}
+
+impl Error for Refusal {}
+
+impl From<FetchFault> for Refusal {
+    ghost use Rattle.planner_main.specs.Faults.{refusal_of_fetch};
+    ghost use Rattle.std.specs.Prelude.{◌≡◌};
+
+    ghost from_gives = { λ fault refusal. refusal ≡ refusal_of_fetch fault };
+
+    fn from(fault: FetchFault) -> Refusal {
+        match fault {
+            FetchFault::Read => Refusal::ReadFault,
+            FetchFault::TooLong => Refusal::TooLong,
+            FetchFault::Memory => Refusal::Memory,
+        }
+    }
+}
+
+impl From<SceneRefusal> for Refusal {
+    ghost use Rattle.planner_main.specs.Faults.{refusal_of_scene};
+    ghost use Rattle.std.specs.Prelude.{◌≡◌};
+
+    ghost from_gives = { λ fault refusal. refusal ≡ refusal_of_scene fault };
+
+    fn from(refusal: SceneRefusal) -> Refusal {
+        match refusal {
+            SceneRefusal::Fault(fault) => Refusal::Text(fault.line, fault.kind),
+            SceneRefusal::Memory => Refusal::Memory,
+        }
+    }
+}
+
+impl From<Memory> for Refusal {
+    ghost use Rattle.planner_main.specs.declared.refusals.Refusal.TheVariants as refusals;
+    ghost use Rattle.std.specs.Prelude.{◌≡◌};
+
+    ghost from_gives = { λ _ refusal. refusal ≡ refusals.Memory };
+
+    fn from(_memory: Memory) -> Refusal {
+        Refusal::Memory
+    }
+}
+
+// Room for the longest line: the number of a line has at most ten digits, the name of a kind at most ten letters.
+const LINE_CAPACITY: usize = 64;
+
+type Line = ArrayString<LINE_CAPACITY>;
 
 fn push(line: &mut Line, piece: &str)
-    requires { length line.old.bytes + length piece.now ≤ 64 }
+    requires { length line.old.bytes + length piece.now ≤ LINE_CAPACITY }
     ensures { line.new.bytes ≡ line.old.bytes ++ piece.now }
 {
     line.try_push_str(piece).unwrap()
 }
 
 fn push_number(line: &mut Line, number: u32)
-    requires { length line.old.bytes + 10 ≤ 64 }
+    requires { length line.old.bytes + 10 ≤ LINE_CAPACITY }
     ensures value { line.new.bytes ≡ line.old.bytes ++ decimal number }
     ensures short { length line.new.bytes ≤ length line.old.bytes + 10 }
 {
@@ -45,9 +142,10 @@ fn push_number(line: &mut Line, number: u32)
     push(line, buffer.format(number));
 }
 
-// The line of a text that is no scene, with the number of its line and the kind of its fault.
-fn fault_line(number: u32, kind: Kind) -> Line
-    ensures { result.bytes ≡ fault_line number kind }
+// Of a text that is no scene: the number of the line, and the kind of its fault.
+fn fault_message(number: u32, kind: Kind) -> Line
+    ensures text { result.bytes ≡ message_of (Refusal.Text number kind) }
+    ensures short { length result.bytes < LINE_CAPACITY }
 {
     let mut line = Line::new();
     push(&mut line, "line ");
@@ -56,46 +154,42 @@ fn fault_line(number: u32, kind: Kind) -> Line
     push_number(&mut line, kind.number());
     push(&mut line, " ");
     push(&mut line, kind.name());
-    push(&mut line, "\n");
     line
 }
 
-fn short_line(text: &str) -> Line
-    requires { length text.now ≤ 64 }
-    ensures { result.bytes ≡ text.now }
+fn line_from(text: &str) -> Line
+    requires { length text.now < LINE_CAPACITY }
+    ensures text { result.bytes ≡ text.now }
+    ensures short { length result.bytes < LINE_CAPACITY }
 {
     let mut line = Line::new();
     push(&mut line, text);
     line
 }
 
-impl Refusal {
-    ghost use Rattle.planner_main.specs.Conclusions.{status_of_refusal, line_of_refusal};
+#[cfg(test)]
+mod tests {
+    use super::*;
+    use std::test::Fail;
 
-    /// The status that the program ends with.
-    pub fn status(&self) -> u8
-        ensures { result ≡ status_of_refusal self.now }
-    {
-        match self {
-            Refusal::Words => 2,
-            Refusal::TooLong | Refusal::Text(..) => 3,
-            Refusal::StartBlocked => 4,
-            Refusal::ReadFault => 5,
-            Refusal::Memory => 7,
+    #[test]
+    fn displays_its_line(rt: HostRuntime) -> Result<(), Fail> {
+        for (refusal, line) in [
+            (Refusal::Words, "words refused\n"),
+            (Refusal::TooLong, "text too long\n"),
+            (
+                Refusal::Text(4_294_967_295, Kind::Version),
+                "line 4294967295 kind 1 Version\n",
+            ),
+            (Refusal::Text(7, Kind::Unbuilt), "line 7 kind 10 Unbuilt\n"),
+            (Refusal::StartBlocked, "start blocked\n"),
+            (Refusal::ReadFault, "read fault\n"),
+            (Refusal::Memory, "no memory\n"),
+        ] {
+            assert_eq!(rt; refusal.line().as_str(), line);
+            let shown = refusal.to_string(rt.alloc())?;
+            assert_eq!(rt; Some(shown.as_str()), line.strip_suffix("\n"));
         }
-    }
-
-    /// The line that the program writes.
-    pub fn line(&self) -> Line
-        ensures { result.bytes ≡ line_of_refusal self.now }
-    {
-        match self {
-            Refusal::Words => short_line("words refused\n"),
-            Refusal::TooLong => short_line("text too long\n"),
-            Refusal::Text(number, kind) => fault_line(*number, *kind),
-            Refusal::StartBlocked => short_line("start blocked\n"),
-            Refusal::ReadFault => short_line("read fault\n"),
-            Refusal::Memory => short_line("no memory\n"),
-        }
+        Ok(())
     }
 }

@@ -6,7 +6,7 @@ use super::*;
 use plan_model::{MemSink, MemSource, SureSource};
 use std::test::Fail;
 
-// What the call writes for these words and the bytes of this source, and its status.
+// The status of the call for these words over this source, and what it writes.
 fn answer_over<S: Source>(
     alloc: Global,
     words: &[&str],
@@ -24,10 +24,23 @@ fn answer_over<S: Source>(
     Ok((done.status, written))
 }
 
-// The same for a text that comes in pieces.
-fn plan_text(alloc: Global, words: &[&str], text: &str) -> Result<(u8, String), Fail> {
+// The same over a source of this text.
+fn answer_to_text(alloc: Global, words: &[&str], text: &str) -> Result<(u8, String), Fail> {
     let mut source = MemSource::new(alloc, text.as_bytes(), 1 << 16, &[])?;
     answer_over(alloc, words, &mut source)
+}
+
+// A scene of a corridor with a mark at each lattice step, so that the path has a point at each.
+fn corridor(alloc: Global, length: u32) -> Result<String, Fail> {
+    let mut text = String::new(alloc);
+    write!(
+        text,
+        "prrt 1\nroom {length} 10\nstart 0 0\ngoal {length} 0 {length} 0\nstep 4\n"
+    )?;
+    for x in 1..=length {
+        write!(text, "mark {x} 0\n")?;
+    }
+    Ok(text)
 }
 
 #[test]
@@ -82,9 +95,12 @@ fn plans_scenes(rt: HostRuntime) -> Result<(), Fail> {
             "no path\nnodes 1 placed 0 same 0 blocked 1\n",
         ),
     ] {
-        let (ended, written) = plan_text(rt.alloc(), &["plain"], text)?;
-        assert_eq!(rt; written.as_str(), report, "{shows}");
-        assert_eq!(rt; ended, status, "{shows}");
+        for most in [1, 2, 7, 1 << 16] {
+            let mut pieces = MemSource::new(rt.alloc(), text.as_bytes(), most, &[])?;
+            let (ended, written) = answer_over(rt.alloc(), &["plain"], &mut pieces)?;
+            assert_eq!(rt; written.as_str(), report, "{shows}, {most} bytes a piece");
+            assert_eq!(rt; ended, status, "{shows}, {most} bytes a piece");
+        }
         let mut whole = SureSource::new(rt.alloc(), text.as_bytes())?;
         let (ended, written) = answer_over(rt.alloc(), &["plain"], &mut whole)?;
         assert_eq!(rt; written.as_str(), report, "{shows}");
@@ -96,19 +112,31 @@ fn plans_scenes(rt: HostRuntime) -> Result<(), Fail> {
 #[test]
 fn plans_one_branch_of_a_thousand_nodes(rt: HostRuntime) -> Result<(), Fail> {
     let alloc = rt.alloc();
-    let mut text = String::from_str(
-        alloc,
-        "prrt 1\nroom 1000 10\nstart 0 0\ngoal 1000 0 1000 0\nstep 4\n",
-    )?;
-    for x in 1u32..1001 {
-        write!(text, "mark {x} 0\n")?;
-    }
-    let (status, written) = plan_text(alloc, &["plain"], &text)?;
+    let text = corridor(alloc, 1000)?;
+    let (status, written) = answer_to_text(alloc, &["plain"], &text)?;
     assert_eq!(rt; written.lines().next(), Some("path 1001 cost 256000"));
     assert_eq!(rt;
         written.lines().last(),
         Some("nodes 1001 placed 1000 same 0 blocked 0")
     );
+    assert_eq!(rt; status, 0);
+    Ok(())
+}
+
+#[test]
+fn plans_one_branch_of_four_thousand_nodes(rt: HostRuntime) -> Result<(), Fail> {
+    let alloc = rt.alloc();
+    let text = corridor(alloc, 4000)?;
+    let (status, written) = answer_to_text(alloc, &["plain"], &text)?;
+    assert_eq!(rt; written.lines().next(), Some("path 4001 cost 1024000"));
+    assert_eq!(rt; written.lines().nth(1), Some("0 0"));
+    assert_eq!(rt; written.lines().nth(2346), Some("2345 0"));
+    assert_eq!(rt; written.lines().nth(4001), Some("4000 0"));
+    assert_eq!(rt;
+        written.lines().last(),
+        Some("nodes 4001 placed 4000 same 0 blocked 0")
+    );
+    assert_eq!(rt; written.lines().count(), 4003);
     assert_eq!(rt; status, 0);
     Ok(())
 }
@@ -125,12 +153,12 @@ fn refuses_with_the_cause(rt: HostRuntime) -> Result<(), Fail> {
         &["Show"],
     ];
     for form in words {
-        let (status, written) = plan_text(rt.alloc(), form, scene)?;
+        let (status, written) = answer_to_text(rt.alloc(), form, scene)?;
         assert_eq!(rt; written.as_str(), "words refused\n", "{form:?}");
         assert_eq!(rt; status, 2);
     }
     let blocked = "prrt 1\nroom 10 10\nstart 11 5\ngoal 0 0 9 9\nstep 4\n";
-    let (status, written) = plan_text(rt.alloc(), &["plain"], blocked)?;
+    let (status, written) = answer_to_text(rt.alloc(), &["plain"], blocked)?;
     assert_eq!(rt; written.as_str(), "start blocked\n");
     assert_eq!(rt; status, 4);
     Ok(())
@@ -203,7 +231,7 @@ fn refuses_texts_with_line_and_kind(rt: HostRuntime) -> Result<(), Fail> {
         ),
     ] {
         for words in ["plain", "show"] {
-            let (status, written) = plan_text(rt.alloc(), &[words], text)?;
+            let (status, written) = answer_to_text(rt.alloc(), &[words], text)?;
             assert_eq!(rt; written.as_str(), line, "{shows}");
             assert_eq!(rt; status, 3, "{shows}");
         }
@@ -214,7 +242,7 @@ fn refuses_texts_with_line_and_kind(rt: HostRuntime) -> Result<(), Fail> {
 #[test]
 fn shows_a_scattered_scene(rt: HostRuntime) -> Result<(), Fail> {
     let text = "# a note\nprrt  1\nstep 4\ngoal 1 1 2 2\nstart 0 0\nroom 9 9";
-    let (status, written) = plan_text(rt.alloc(), &["show"], text)?;
+    let (status, written) = answer_to_text(rt.alloc(), &["show"], text)?;
     assert_eq!(rt;
         written.as_str(),
         "prrt 1\nroom 9 9\nbody 0 0\nstart 0 0\ngoal 1 1 2 2\nstep 4\ngamma 0\nseed 0\nstrips 1\n"
@@ -222,7 +250,7 @@ fn shows_a_scattered_scene(rt: HostRuntime) -> Result<(), Fail> {
     assert_eq!(rt; status, 0);
     let text =
         "prrt 1\nseed 7\nmark 3 4\nstrips 5\nroom 9 9\nstart 0 0\ngoal 1 1 2 2\nstep 4\nmark 1 2\n";
-    let (_, written) = plan_text(rt.alloc(), &["show"], text)?;
+    let (_, written) = answer_to_text(rt.alloc(), &["show"], text)?;
     assert_eq!(rt;
         written.as_str(),
         "prrt 1\nroom 9 9\nbody 0 0\nstart 0 0\ngoal 1 1 2 2\nstep 4\ngamma 0\nseed 7\nstrips 5\nmark 3 4\nmark 1 2\n"
@@ -237,62 +265,94 @@ fn shows_as_many_marks_as_there_may_be(rt: HostRuntime) -> Result<(), Fail> {
     for _ in 0..262_143 {
         text.push_str("mark 0 0\n")?;
     }
-    let (status, written) = plan_text(alloc, &["show"], &text)?;
+    let (status, written) = answer_to_text(alloc, &["show"], &text)?;
     assert_eq!(rt; status, 0);
     assert_eq!(rt; written.lines().count(), 262_152);
     text.push_str("mark 0 0\n")?;
-    let (status, written) = plan_text(alloc, &["show"], &text)?;
+    let (status, written) = answer_to_text(alloc, &["show"], &text)?;
     assert_eq!(rt; written.as_str(), "line 262149 kind 8 Many\n");
     assert_eq!(rt; status, 3);
     Ok(())
 }
 
+// A text of comments alone is no scene, as its first line that is none is missing.
 #[test]
 fn reads_as_many_bytes_as_there_may_be(rt: HostRuntime) -> Result<(), Fail> {
     let alloc = rt.alloc();
     let mut text = vec![in alloc; b'#'; 16_777_216]?;
-    let mut source = SureSource::new(alloc, &text)?;
-    let (status, written) = answer_over(alloc, &["show"], &mut source)?;
-    assert_eq!(rt; written.as_str(), "line 2 kind 1 Version\n");
-    assert_eq!(rt; status, 3);
-    text.push(b'#')?;
-    let mut source = SureSource::new(alloc, &text)?;
-    let (status, written) = answer_over(alloc, &["show"], &mut source)?;
-    assert_eq!(rt; written.as_str(), "text too long\n");
-    assert_eq!(rt; status, 3);
-    Ok(())
-}
-
-#[test]
-fn reads_pieces_and_tells_faults(rt: HostRuntime) -> Result<(), Fail> {
-    let alloc = rt.alloc();
-    let text = b"prrt 1\nroom 100 100\nstart 0 0\ngoal 30 40 30 40\nstep 100\nmark 30 40\n";
-    let mut in_bytes = MemSource::new(alloc, text, 1, &[])?;
-    let (status, written) = answer_over(alloc, &["plain"], &mut in_bytes)?;
-    assert_eq!(rt;
-        written.as_str(),
-        "path 2 cost 12800\n0 0\n30 40\nnodes 2 placed 1 same 0 blocked 0\n"
-    );
-    assert_eq!(rt; status, 0);
-    for fails in [1, 2, 8] {
-        let mut failing = MemSource::new(alloc, text, 10, &[fails])?;
-        let (status, written) = answer_over(alloc, &["plain"], &mut failing)?;
-        assert_eq!(rt; written.as_str(), "read fault\n");
-        assert_eq!(rt; status, 5);
+    for (line, too_long) in [
+        ("line 2 kind 1 Version\n", false),
+        ("text too long\n", true),
+    ] {
+        if too_long {
+            text.push(b'#')?;
+        }
+        let mut whole = SureSource::new(alloc, &text)?;
+        let (status, written) = answer_over(alloc, &["show"], &mut whole)?;
+        assert_eq!(rt; written.as_str(), line);
+        assert_eq!(rt; status, 3);
+        let mut pieces = MemSource::new(alloc, &text, 5000, &[])?;
+        let (status, written) = answer_over(alloc, &["show"], &mut pieces)?;
+        assert_eq!(rt; written.as_str(), line);
+        assert_eq!(rt; status, 3);
     }
     Ok(())
 }
 
 #[test]
-fn keeps_a_front_where_the_sink_fails(rt: HostRuntime) -> Result<(), Fail> {
+fn refuses_a_source_that_fails_early(rt: HostRuntime) -> Result<(), Fail> {
     let alloc = rt.alloc();
-    let mut words = Vec::new(alloc);
-    words.push(String::from_str(alloc, "plain")?)?;
     let text = b"prrt 1\nroom 100 100\nstart 0 0\ngoal 30 40 30 40\nstep 100\nmark 30 40\n";
-    let mut source = SureSource::new(alloc, text)?;
-    let mut sink = MemSink::new(alloc, 1000, 10, &[2])?;
-    let done = run(alloc, &words, &mut source, &mut sink);
-    assert_eq!(rt; sink.bytes(), b"path 2 cos".as_slice());
-    assert_eq!(rt; done.status, 6);
+    for fails in [1, 2, 8] {
+        let mut failing = MemSource::new(alloc, text, 10, &[fails])?;
+        let (status, written) = answer_over(alloc, &["plain"], &mut failing)?;
+        assert_eq!(rt; written.as_str(), "read fault\n");
+        assert_eq!(rt; status, 5);
+        assert_eq!(rt; failing.faults(), 1);
+    }
+    Ok(())
+}
+
+// The last bytes come at call 170, and call 171 gives the end.
+#[test]
+fn refuses_a_source_that_fails_late(rt: HostRuntime) -> Result<(), Fail> {
+    let alloc = rt.alloc();
+    let text = corridor(alloc, 1500)?;
+    assert_eq!(rt; text.len(), 16_949);
+    for words in ["plain", "show"] {
+        for fails in [100, 169, 170, 171] {
+            let mut failing = MemSource::new(alloc, text.as_bytes(), 100, &[fails])?;
+            let (status, written) = answer_over(alloc, &[words], &mut failing)?;
+            assert_eq!(rt; written.as_str(), "read fault\n", "call {fails}");
+            assert_eq!(rt; status, 5, "call {fails}");
+            assert_eq!(rt; failing.faults(), 1);
+        }
+        let mut sound = MemSource::new(alloc, text.as_bytes(), 100, &[172])?;
+        let (status, _) = answer_over(alloc, &[words], &mut sound)?;
+        assert_eq!(rt; status, 0);
+        assert_eq!(rt; sound.faults(), 0);
+    }
+    Ok(())
+}
+
+#[test]
+fn keeps_a_prefix_if_the_sink_fails(rt: HostRuntime) -> Result<(), Fail> {
+    let alloc = rt.alloc();
+    let text = b"prrt 1\nroom 100 100\nstart 0 0\ngoal 30 40 30 40\nstep 100\nmark 30 40\n";
+    for (word, fails, bytes) in [
+        ("plain", 2, "path 2 cos"),
+        ("plain", 1, ""),
+        ("show", 3, "prrt 1\nroom 100 100\n"),
+        ("words", 2, "words refu"),
+    ] {
+        let mut words = Vec::new(alloc);
+        words.push(String::from_str(alloc, word)?)?;
+        let mut source = SureSource::new(alloc, text)?;
+        let mut sink = MemSink::new(alloc, 1000, 10, &[fails])?;
+        let done = run(alloc, &words, &mut source, &mut sink);
+        assert_eq!(rt; sink.bytes(), bytes.as_bytes());
+        assert_eq!(rt; done.status, 6);
+        assert_eq!(rt; sink.faults(), 1);
+    }
     Ok(())
 }

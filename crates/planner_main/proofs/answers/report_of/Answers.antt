@@ -1,6 +1,6 @@
 use Rattle.std.proofs.Common.{arith}
 use Rattle.plan_model.proofs.MarkBounds.{length-marks}
-use Rattle.planner_main.proofs.top_call.report_of.Goals as goal
+use Rattle.planner_main.proofs.answers.report_of.Goals as goal
 
 pub short_report-requires : goal.short_report-requires
 short_report-requires c =

@@ -1,0 +1,56 @@
+-- Why a command that reads the text of a scene is refused.
+use Rattle.std.proofs.Common.{◌≡◌, ℕ, ◌<◌, false, Some, IsTrue, length, Vec, refl, sym, subst, arith}
+use Rattle.std.proofs.Common.{Result, Ok, Err, IsErrAnd, IsErrOf, IfErr}
+use Rattle.plan_model.specs.declared.limits.TheConstants.{MOST_TEXT_BYTES}
+use Rattle.plan_model.specs.Streams.{counted}
+use Rattle.scene_text.specs.declared.fetching.FetchFault.{FetchFault}
+use Rattle.scene_text.specs.declared.fetching.FetchFault.TheVariants as fetching
+use Rattle.scene_text.specs.Fetching.{Fetches}
+use Rattle.planner_main.specs.declared.commands.Command.{Command}
+use Rattle.planner_main.specs.Commands.{reads_scene}
+use Rattle.planner_main.specs.Conclusions.{IsCaused}
+use Rattle.planner_main.specs.Exchanges.{Reading, ReadFailed, CameShort}
+use Rattle.planner_main.specs.Faults.{refusal_of_fetch}
+
+-- a value is no error
+pub ok_is_no_error : {T E : Type 0} (value : T) (error : E) → Ok value ≡ Err error → ⊥
+ok_is_no_error value error is = absurd cc
+
+read≢long : fetching.Read ≡ fetching.TooLong → ⊥
+read≢long is = absurd cc
+
+read≢memory : fetching.Read ≡ fetching.Memory → ⊥
+read≢memory is = absurd cc
+
+module _ {Z : Type 0} where
+  different : (result : Result (Vec ℕ Z) FetchFault) (a b : FetchFault) → result ≡ Err a → IsErrOf result b → a ≡ b
+  different result a b is other = cc
+
+  -- a read that failed came before too many bytes
+  short_before_fault : (reading : Reading) (result : Result (Vec ℕ Z) FetchFault) → result ≡ Err fetching.Read →
+      Fetches reading.before reading.now result → CameShort reading.before reading.now
+  short_before_fault reading result is fetched =
+      let few : ¬ (MOST_TEXT_BYTES < length fetched.came) =
+        λ long. read≢long (different result fetching.Read fetching.TooLong is (fetched.too_long.1 long)) in
+      (fetched.came, omega arith, fetched.consumed)
+
+  -- a fault of the fetch is a cause of its refusal
+  pub fetch-caused : (command : Command) (reading : Reading) (result : Result (Vec ℕ Z) FetchFault) (fault : FetchFault) →
+      result ≡ Err fault → IsTrue (reads_scene command) → reading.ended ≡ false → Fetches reading.before reading.now result →
+      (IsErrOf result fetching.Read → ReadFailed reading) →
+      (IsTrue reading.counts_failures_alone → IsErrOf result fetching.Read → reading.faults ≡ counted reading.faults_before) →
+      (IsTrue reading.counts_failures_alone → ¬ IsErrOf result fetching.Read → reading.faults ≡ reading.faults_before) →
+      IsCaused (Some command) reading (refusal_of_fetch fault)
+  fetch-caused command reading result fetching.Read is reads no_end fetched rose one none =
+      (reads, record { rose = rose is; no_end = no_end; came = short_before_fault reading result is fetched; one_fault = λ alone. one alone is })
+  fetch-caused command reading result fetching.TooLong is reads no_end fetched rose one none =
+      let other : ¬ IsErrOf result fetching.Read = λ read. read≢long (different result fetching.Read fetching.TooLong read is) in
+      (reads, record { came = (fetched.came, fetched.too_long.0 is, fetched.consumed); no_end = no_end; no_fault = λ alone. none alone other })
+  fetch-caused command reading result fetching.Memory is reads no_end fetched rose one none =
+      let other : ¬ IsErrOf result fetching.Read = λ read. read≢memory (different result fetching.Read fetching.Memory read is) in
+      (refl, λ alone. none alone other)
+
+-- a result that can only be one error has what that error has
+pub IfErr-only : {T E : Type 0} (r : Result T E) (error : E) (P : E → Type 0) → IsErrAnd r (λ e. e ≡ error) → P error → IfErr r P
+IfErr-only (Ok value) error P only h = absurd only
+IfErr-only (Err e) error P only h = subst P (sym only) h

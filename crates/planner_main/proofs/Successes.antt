@@ -1,0 +1,29 @@
+-- What a command succeeds with, from the scene that it has read.
+use Rattle.std.proofs.Common.{◌≡◌, ℕ, List, Some, refl}
+use Rattle.plan_model.specs.declared.scenes.Scene.{Scene}
+use Rattle.plan_model.specs.CanonicalText.{canonical_text}
+use Rattle.planner_main.specs.declared.commands.Command.TheVariants as commands
+use Rattle.planner_main.specs.declared.statuses.TheConstants.{DONE}
+use Rattle.planner_main.specs.declared.top_call.Done.{Done}
+use Rattle.planner_main.specs.Conclusions.{HasScene, IsSuccess, ReportsScene}
+use Rattle.planner_main.specs.Exchanges.{Reading}
+
+module _ (reading : Reading) (scene : Scene) (done : Done) (text : List ℕ) where
+  pub IsSuccess-planned : HasScene commands.Plain reading scene → ReportsScene scene done text → IsSuccess (Some commands.Plain) reading done text
+  IsSuccess-planned h report = record {
+    command = commands.Plain;
+    known = refl;
+    bytes = h.bytes;
+    read = h.read;
+    meaning = record { scene = scene; spelled = h.spelled; start = h.start refl; report = report };
+  }
+
+  pub IsSuccess-shown : HasScene commands.Show reading scene → done.status ≡ DONE → text ≡ canonical_text scene →
+      IsSuccess (Some commands.Show) reading done text
+  IsSuccess-shown h shown written = record {
+    command = commands.Show;
+    known = refl;
+    bytes = h.bytes;
+    read = h.read;
+    meaning = record { scene = scene; spelled = h.spelled; written = written; shown = shown };
+  }

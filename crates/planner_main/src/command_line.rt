@@ -1,0 +1,116 @@
+//! The exit code of the program, from the words of its command line.
+
+ghost use Rattle.std.specs.Prelude.{◌≡◌, ◌≢◌, ℕ, ◌⊎◌, false, List, IfOk, IsErr};
+ghost use Rattle.std.specs.Process.{exit_status};
+ghost use Rattle.planner_main.specs.CommandLines.{given, words_after_name, IsOutOfMemory};
+ghost use Rattle.planner_main.specs.Commands.{command_of};
+ghost use Rattle.planner_main.specs.Conclusions.{IsAnswer};
+ghost use Rattle.planner_main.specs.Exchanges.{reading_of, writing_of, IsUnread, IsUnwritten, IsWritten, IsCutShort};
+
+use crate::statuses::{NO_MEMORY, WRITE_FAULT};
+use crate::top_call::run;
+use plan_model::{Memory, Sink, Source};
+use std::alloc::Global;
+use std::env::Args;
+use std::io;
+use std::process::ExitCode;
+
+/// Runs the program on the arguments that `env::args` gives, and returns the code that it ends with: the status of `run`.
+///
+/// Arguments that are no text ask for no command. If the program is out of memory for the words, the code is
+/// `NO_MEMORY`, and nothing is read or written.
+pub fn exit_code<S: Source, K: Sink>(
+    alloc: Global,
+    args: io::Result<Args>,
+    source: &mut S,
+    sink: &mut K,
+) -> ExitCode
+    requires { S.has_ended source.old ≡ false }
+    // out of memory for the words, or an answer to them with its cause, whose whole text is written
+    ensures done { let reading = reading_of S.counts_failures_alone S.bytes_left S.has_ended S.fault_count source.old source.new in
+        let writing = writing_of K.counts_failures_alone K.bytes_taken K.fault_count sink.old sink.new in
+        exit_status result ≢ WRITE_FAULT → ((exit_status result ≡ NO_MEMORY) × IsUnread reading × IsUnwritten writing)
+        ⊎ ((text : List ℕ) × IsAnswer (command_of (words_after_name args)) reading (record { status = exit_status result }) text
+        × IsWritten writing text) }
+    // the sink failed, and took a proper prefix of the text of such an answer
+    ensures cut { let reading = reading_of S.counts_failures_alone S.bytes_left S.has_ended S.fault_count source.old source.new in
+        let writing = writing_of K.counts_failures_alone K.bytes_taken K.fault_count sink.old sink.new in
+        exit_status result ≡ WRITE_FAULT → (status : ℕ) × (text : List ℕ)
+        × IsAnswer (command_of (words_after_name args)) reading (record { status = status }) text × IsCutShort writing text }
+    ensures no_words { IsOutOfMemory args → exit_status result ≡ NO_MEMORY }
+{
+    match words_of(alloc, args) {
+        Ok(words) => ExitCode::from(run(alloc, &words, source, sink).status),
+        Err(_) => ExitCode::from(NO_MEMORY),
+    }
+}
+
+// The words after the program's name: none if the arguments are no text.
+fn words_of(alloc: Global, args: io::Result<Args>) -> Result<Vec<String>, Memory>
+    ensures words { IfOk result (λ words. words.items ≡ given args) }
+    ensures no_memory { IsOutOfMemory args → IsErr result }
+{
+    match args {
+        Ok(args) => Ok(args.skip(1).collect(alloc)?),
+        Err(error) if error.kind() == io::ErrorKind::OutOfMemory => Err(Memory),
+        Err(_) => Ok(Vec::new(alloc)),
+    }
+}
+
+#[cfg(test)]
+mod tests {
+    use super::*;
+    use plan_model::{MemSink, SureSource};
+    use std::test::Fail;
+
+    const SCENE: &[u8] = b"prrt 1\nroom 10 10\nstart 5 5\ngoal 0 0 1 1\nstep 4\n";
+
+    // The code that the program ends with on these arguments, and what it writes.
+    fn ends(alloc: Global, args: io::Result<Args>) -> Result<(ExitCode, String), Fail> {
+        let mut source = SureSource::new(alloc, SCENE)?;
+        let mut sink = MemSink::new(alloc, 1000, 1000, &[])?;
+        let code = exit_code(alloc, args, &mut source, &mut sink);
+        let written = String::from_utf8(Vec::from_slice(alloc, sink.bytes())?)?;
+        Ok((code, written))
+    }
+
+    #[test]
+    fn ends_by_all_words_after_the_name(rt: HostRuntime) -> Result<(), Fail> {
+        let alloc = rt.alloc();
+        let cases: [(&[&str], u8, &str); 5] = [
+            (
+                &["prrt", "plain"],
+                1,
+                "no path\nnodes 1 placed 0 same 0 blocked 0\n",
+            ),
+            (&["plain"], 2, "words refused\n"),
+            (&["prrt", "plain", "full"], 2, "words refused\n"),
+            (&["plain", "show", "show"], 2, "words refused\n"),
+            (&[], 2, "words refused\n"),
+        ];
+        for (words, code, text) in cases {
+            let mut args = Vec::new(alloc);
+            for word in words {
+                args.push(String::from_str(alloc, word)?)?;
+            }
+            let (ended, written) = ends(alloc, Ok(args.into_iter()))?;
+            assert_eq!(rt; written.as_str(), text);
+            assert_eq!(rt; ended, ExitCode::from(code));
+        }
+        Ok(())
+    }
+
+    #[test]
+    fn ends_without_words(rt: HostRuntime) -> Result<(), Fail> {
+        let alloc = rt.alloc();
+        for (kind, code, text) in [
+            (io::ErrorKind::OutOfMemory, 7, ""),
+            (io::ErrorKind::InvalidData, 2, "words refused\n"),
+        ] {
+            let (ended, written) = ends(alloc, Err(io::Error::from(kind)))?;
+            assert_eq!(rt; written.as_str(), text);
+            assert_eq!(rt; ended, ExitCode::from(code));
+        }
+        Ok(())
+    }
+}

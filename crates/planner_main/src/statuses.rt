@@ -1,0 +1,25 @@
+//! The statuses that the program ends with, each said once.
+
+/// The command is done; for `plain`, a path was found.
+pub const DONE: u8 = 0;
+
+/// `plain`: no node of the tree lies in the goal.
+pub const NO_PATH: u8 = 1;
+
+/// The words of the command line ask for no command.
+pub const WORDS_REFUSED: u8 = 2;
+
+/// The text is too long, or is no scene.
+pub const TEXT_REFUSED: u8 = 3;
+
+/// The scene's start is not clear.
+pub const START_BLOCKED: u8 = 4;
+
+/// The source could not be read.
+pub const READ_FAULT: u8 = 5;
+
+/// The sink could not be written.
+pub const WRITE_FAULT: u8 = 6;
+
+/// The program is out of memory.
+pub const NO_MEMORY: u8 = 7;
