@@ -1,5 +1,6 @@
 -- Chains and sums of a tree with kept costs that strictly fall along parents, whichever numbers the parents have.
-use Rattle.std.proofs.Common.{◌≡◌, ℕ, zero, suc, ◌+◌, ◌<◌, ◌≤◌, Bool, true, false, cond, leb, List, [], ◌∷◌, length, map, get_or, Option, Some, None, arith, refl, sym, ap, ◌∙◌, subst, add-zero}
+use Rattle.std.proofs.Common.{◌≡◌, ℕ, zero, suc, ◌+◌, ◌<◌, ◌≤◌, Bool, true, false, cond, leb, List, [], ◌∷◌, map, get_or, Option, Some, None}
+use Rattle.std.proofs.Common.{arith, refl, sym, ap, ◌∙◌, add-zero}
 use Rattle.std.specs.Prelude.{IsSome, is_some, count_by, ◌&&◌, nat_le, option_map, unwrap_or}
 use Rattle.std.proofs.lemmas.Bool.Decides.{nat_tests}
 use Rattle.std.proofs.lemmas.List.Sums.{sum_by-cons}
@@ -54,7 +55,9 @@ no_within false x c h = refl
 no_within true x c h = grind (arith, nat_tests, common_steps)
 
 -- a present node that costs d counts at d, and not below
-rank-falls : (costs : ℕ → ℕ) (c d k : ℕ) (points : List (Option Point)) (i : ℕ) (p : Point) → c < d → get_or points i None ≡ Some p → costs (k + i) ≡ d → rank_from costs c k points < rank_from costs d k points
+rank-falls :
+    (costs : ℕ → ℕ) (c d k : ℕ) (points : List (Option Point)) (i : ℕ) (p : Point) → c < d → get_or points i None ≡ Some p → costs (k + i) ≡ d
+    → rank_from costs c k points < rank_from costs d k points
 unfolding rank_from
 rank-falls costs c d k [] i p h e f = cc
 rank-falls costs c d k (o ∷ points) zero p h e f =
@@ -70,7 +73,9 @@ rank-falls costs c d k (o ∷ points) (suc i) p h e f =
     omega arith
 
 -- a present node is one of those that cost at most what it costs
-rank-some : (costs : ℕ → ℕ) (c k : ℕ) (points : List (Option Point)) (i : ℕ) (p : Point) → get_or points i None ≡ Some p → costs (k + i) ≡ c → 0 < rank_from costs c k points
+rank-some :
+    (costs : ℕ → ℕ) (c k : ℕ) (points : List (Option Point)) (i : ℕ) (p : Point) → get_or points i None ≡ Some p → costs (k + i) ≡ c
+    → 0 < rank_from costs c k points
 unfolding rank_from
 rank-some costs c k [] i p e f = cc
 rank-some costs c k (o ∷ points) zero p e f =
@@ -128,7 +133,9 @@ module _ (costs : ℕ → ℕ) (tree : List (Option Twig)) (fall : CostsFall cos
   pub chain-parent : (n : ℕ) → IsPresent (points_of tree) (suc n) → chain tree (suc n) ≡ suc n ∷ chain tree (parent_of tree (suc n))
   chain-parent n h = goes_on (node_count (points_of tree)) (rank-le (suc n))
     where
-      goes_on : (most : ℕ) → rank (suc n) ≤ most → chain_within most (parent_of tree) (suc n) ≡ suc n ∷ chain_within most (parent_of tree) (parent_of tree (suc n))
+      goes_on :
+          (most : ℕ) → rank (suc n) ≤ most
+          → chain_within most (parent_of tree) (suc n) ≡ suc n ∷ chain_within most (parent_of tree) (parent_of tree (suc n))
       goes_on zero l = absurd (omega (arith, rank-positive (suc n) h))
       goes_on (suc most) l =
           ap (λ ns. suc n ∷ ns) (sym (chain-enough most (parent_of tree (suc n)) (fall.parent n h) (omega (arith, rank-parent n h))))
@@ -136,7 +143,10 @@ module _ (costs : ℕ → ℕ) (tree : List (Option Twig)) (fall : CostsFall cos
 -- ---- sums
 
 -- a path from p over a chain of some members is an edge longer than the chain's
-path_of_chain : (points : List (Option Point)) (most : ℕ) (parents : ℕ → ℕ) (n : ℕ) (p : Point) → length_of_path (p ∷ map (point_of points) (chain_within (suc most) parents n)) ≡ cost_of (point_of points n) p + length_of_path (map (point_of points) (chain_within (suc most) parents n))
+path_of_chain :
+    (points : List (Option Point)) (most : ℕ) (parents : ℕ → ℕ) (n : ℕ) (p : Point)
+    → length_of_path (p ∷ map (point_of points) (chain_within (suc most) parents n))
+    ≡ cost_of (point_of points n) p + length_of_path (map (point_of points) (chain_within (suc most) parents n))
 path_of_chain points most parents zero p = refl
 path_of_chain points most parents (suc n) p = refl
 
@@ -151,7 +161,10 @@ module _ (costs : ℕ → ℕ) (tree : List (Option Twig)) (fall : CostsFall cos
       let first = ap (λ ns. length_of_path (map (point_of points) ns)) (chain-parent costs tree fall n h) in
       first ∙ some_chain (node_count points) (omega (arith, rank-positive costs tree fall (suc n) h, rank-le costs tree fall (suc n)))
     where
-      some_chain : (most : ℕ) → 0 < most → length_of_path (point_of (points_of tree) (suc n) ∷ map (point_of (points_of tree)) (chain_within most (parent_of tree) (parent_of tree (suc n)))) ≡ length_of_path (map (point_of (points_of tree)) (chain_within most (parent_of tree) (parent_of tree (suc n)))) + edge_of tree (suc n)
+      some_chain :
+          (most : ℕ) → 0 < most
+          → length_of_path (point_of (points_of tree) (suc n) ∷ map (point_of (points_of tree)) (chain_within most (parent_of tree) (parent_of tree (suc n))))
+          ≡ length_of_path (map (point_of (points_of tree)) (chain_within most (parent_of tree) (parent_of tree (suc n)))) + edge_of tree (suc n)
       some_chain zero l = absurd (omega arith)
       some_chain (suc most) l = path_of_chain (points_of tree) most (parent_of tree) (parent_of tree (suc n)) (point_of (points_of tree) (suc n)) ∙ omega arith
 

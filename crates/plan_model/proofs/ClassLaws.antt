@@ -9,7 +9,8 @@ use Rattle.plan_model.specs.Radius.{class_of}
 -- a number is below the power of 2 that its binary digits give
 pub below_digits : (n : ℕ) → n < 2 ^ length (digits_of 2 n)
 below_digits n =
-    subst (λ (k : ℕ). k < 2 ^ length (digits_of 2 n)) (number_digits_of 2 n (omega arith)) (number_lt 2 (digits_of 2 n) (all_below_base_digits_of 2 n (omega arith)))
+    subst (λ (k : ℕ). k < 2 ^ length (digits_of 2 n)) (number_digits_of 2 n (omega arith))
+    (number_lt 2 (digits_of 2 n) (all_below_base_digits_of 2 n (omega arith)))
 
 -- powers are in the order of their exponents
 exponent_lt : (i j n : ℕ) → 2 ^ i ≤ n → n < 2 ^ j → i < j

@@ -37,15 +37,12 @@ use Rattle.plan_model.specs.declared.records.Outcome.{Outcome}
 use Rattle.plan_model.specs.declared.records.Outcome.TheVariants.{Placed, Same, Blocked}
 use Rattle.plan_model.specs.declared.records.Record.{Record}
 use Rattle.plan_model.specs.ConfigurationSpace.{ConfigurationSpace}
-use Rattle.plan_model.specs.PointsByNumber.{point_at, StandsAt, IsPresent, point_of, IsFree}
+use Rattle.plan_model.specs.PointsByNumber.{point_at, StandsAt, IsPresent, point_of, IsFree, AreDistinct}
 use Rattle.plan_model.specs.Nearness.{is_within, near}
 use Rattle.plan_model.specs.Trees.{points_of}
 use Rattle.plan_model.specs.Textbook.{Nodes, Setup, start_alone, near_new, with_parent, RewiresOne, Rewires, Ends, HandlesAll, IsTextbookRun}
 use Rattle.plan_model.proofs.TreeChanges.{points_of-push}
-
--- no two nodes stand at one point
-pub record AreDistinct (points : List (Option Point)) : Type 0 where
-  pub one : (i j : ℕ) (p : Point) → StandsAt points i p → StandsAt points j p → i ≡ j
+use Rattle.plan_model.proofs.NewNodes.{StandsAt-present}
 
 -- ---- points with one number more
 
@@ -64,39 +61,27 @@ push_cases points o i p h =
 
 -- an absent number at the end leaves points distinct
 pub AreDistinct-absent : (points : List (Option Point)) → AreDistinct points → AreDistinct (points ++ None ∷ [])
-AreDistinct-absent points h = record {
-  one = λ i j p a b.
-      elim (push_cases points None i p a) [
-        | inl f ↦ (elim (push_cases points None j p b) [ inl g ↦ h.one i j p f g | inr g ↦ (let e = g.1 in cc) ])
-        | inr f ↦ (let e = f.1 in cc)
-      ];
-}
+AreDistinct-absent points h = λ i j p a b.
+    elim (push_cases points None i p a) [
+      | inl f ↦ (elim (push_cases points None j p b) [ inl g ↦ h i j p f g | inr g ↦ (let e = g.1 in cc) ])
+      | inr f ↦ (let e = f.1 in cc)
+    ]
 
 -- and so does a node at a free point
 pub AreDistinct-placed : (points : List (Option Point)) (q : Point) → IsFree points q → AreDistinct points → AreDistinct (points ++ Some q ∷ [])
-AreDistinct-placed points q free h = record {
-  one = λ i j p a b.
-      elim (push_cases points (Some q) i p a) [
-        | inl f ↦ (elim (push_cases points (Some q) j p b) [ inl g ↦ h.one i j p f g | inr g ↦ absurd (free i (f ∙ sym g.1)) ])
-        | inr f ↦ (elim (push_cases points (Some q) j p b) [ inl g ↦ absurd (free j (g ∙ sym f.1)) | inr g ↦ f.0 ∙ sym g.0 ])
-      ];
-}
+AreDistinct-placed points q free h = λ i j p a b.
+    elim (push_cases points (Some q) i p a) [
+      | inl f ↦ (elim (push_cases points (Some q) j p b) [ inl g ↦ h i j p f g | inr g ↦ absurd (free i (f ∙ sym g.1)) ])
+      | inr f ↦ (elim (push_cases points (Some q) j p b) [ inl g ↦ absurd (free j (g ∙ sym f.1)) | inr g ↦ f.0 ∙ sym g.0 ])
+    ]
 
 -- ---- rewiring moves no node
-
--- a present node stands at its point
-pub present-is : (points : List (Option Point)) (i : ℕ) → IsPresent points i → Some (point_of points i) ≡ point_at points i
-present-is points i h = of_point (point_at points i) h
-  where
-    of_point : (o : Option Point) → IsSome o → Some (unwrap_or o (record { x = 0; y = 0 })) ≡ o
-    of_point None g = cc
-    of_point (Some p) g = refl
 
 -- a node with another parent stays where it is
 pub points_of-with_parent : (tree : Nodes) (i n : ℕ) → IsPresent (points_of tree) i → points_of (with_parent tree i n) ≡ points_of tree
 points_of-with_parent tree i n h =
     map-set (option_map (λ (node : Twig). node.point)) tree i (Some (record { point = point_of (points_of tree) i; parent = n }))
-    ∙ ap (set (points_of tree) i) (present-is (points_of tree) i h)
+    ∙ ap (set (points_of tree) i) (sym (StandsAt-present (points_of tree) i h))
     ∙ set-get_or (points_of tree) i None
 
 -- and so do all nodes when one near node is looked at
@@ -176,7 +161,7 @@ AreDistinct-ends setup tree k mark Blocked entry after e h = AreDistinct-unplace
 
 -- the start alone has no other at its point
 pub AreDistinct-start : (start : Point) → AreDistinct (points_of (start_alone start))
-AreDistinct-start start = record { one = λ i j p a b. alone i p a ∙ sym (alone j p b) }
+AreDistinct-start start = λ i j p a b. alone i p a ∙ sym (alone j p b)
   where
     alone : (i : ℕ) (p : Point) → StandsAt (points_of (start_alone start)) i p → i ≡ 0
     alone zero p h = refl

@@ -1,5 +1,6 @@
 -- With gamma 0 the radius is 0: no node is near a free point, its parent is the nearest node, and nothing is rewired.
-use Rattle.std.proofs.Common.{◌≡◌, ℕ, zero, suc, ◌-◌, ◌*◌, ◌^◌, ◌<◌, ◌≤◌, Bool, false, leb, List, [], ◌∷◌, ◌++◌, length, Option, Some, None, arith, refl, sym, ap, ◌∙◌, subst, inl, inr}
+use Rattle.std.proofs.Common.{◌≡◌, ℕ, zero, suc, ◌-◌, ◌*◌, ◌^◌, ◌<◌, ◌≤◌, Bool, false, leb, List, [], ◌∷◌, ◌++◌, length, Option, Some, None}
+use Rattle.std.proofs.Common.{arith, refl, sym, ap, ◌∙◌, subst, inl, inr}
 use Rattle.std.specs.Prelude.{Contains, filter}
 use Rattle.std.specs.List.{range_with_len}
 use Rattle.std.proofs.Math.Nat.{mul-pos}
@@ -30,7 +31,9 @@ not_within_zero r m b h =
 
 -- the radius for gamma 0
 radius_of-zero : (step n : ℕ) → radius_of step 0 n ≡ 0
-radius_of-zero step n = greatest-none (λ r. leb (r * r * 2 ^ (class_of n - 1)) (0 * 0 * class_of n)) step (λ r. not_within_zero r (2 ^ (class_of n - 1)) (class_of n) (pow_pos (class_of n - 1)))
+radius_of-zero step n =
+    greatest-none (λ r. leb (r * r * 2 ^ (class_of n - 1)) (0 * 0 * class_of n)) step
+    (λ r. not_within_zero r (2 ^ (class_of n - 1)) (class_of n) (pow_pos (class_of n - 1)))
 
 -- points with no distance are the same
 zero_difference : (a b : ℕ) → abs_diff a b * abs_diff a b ≤ 0 → a ≡ b
@@ -79,7 +82,8 @@ pub IsBestParent-nearest :
     → Clear setup.space (point_of (points_of tree) nearest) p → IsBestParent setup tree nearest p nearest
 IsBestParent-nearest setup tree nearest p gamma free clear =
     let only : (i : ℕ) → IsCandidate setup (points_of tree) nearest p i → i ≡ nearest =
-    λ i own. (let P : List ℕ → Type 0 = λ ns. Contains (nearest ∷ ns) i in alone nearest i (subst P (near_new-none setup (points_of tree) p gamma free) own.among)) in
+    λ i own. (let P : List ℕ → Type 0 = λ ns. Contains (nearest ∷ ns) i in
+      alone nearest i (subst P (near_new-none setup (points_of tree) p gamma free) own.among)) in
     record {
       member = record { among = (0, omega arith, refl); clear = clear };
       not_above = λ i own. record {
@@ -92,7 +96,8 @@ IsBestParent-nearest setup tree nearest p gamma free clear =
 pub EndsPlaced-nearest :
     (setup : Setup) (tree : Nodes) (k nearest : ℕ) (mark p : Point) → setup.gamma ≡ 0
     → SteersTo setup (points_of tree) mark nearest p → IsFree (points_of tree) p → Clear setup.space (point_of (points_of tree) nearest) p
-    → EndsPlaced setup tree k mark (placed_record k nearest nearest (cost_through tree p nearest) (class_of (node_count (points_of tree)))) (tree ++ Some (record { point = p; parent = nearest }) ∷ [])
+    → EndsPlaced setup tree k mark (placed_record k nearest nearest (cost_through tree p nearest) (class_of (node_count (points_of tree))))
+    (tree ++ Some (record { point = p; parent = nearest }) ∷ [])
 EndsPlaced-nearest setup tree k nearest mark p gamma steers free clear =
     let after : Nodes = tree ++ Some (record { point = p; parent = nearest }) ∷ [] in
     let P : List ℕ → Type 0 = λ ns. Rewires setup.space after (suc k) ns after in

@@ -11,7 +11,9 @@ lt-from_squares r s n low high = grind (arith, mul-le s s r r)
 next_root : (b : Bool) (n r : ℕ) → ltb (r * r) (suc n) ≡ b → IsRootCeiling n r → IsRootCeiling (suc n) (cond b (suc r) r)
 next_root true n r e h = record {
   reaches = (let below : r * r < suc n = grind (arith, nat_tests) in let up : r * r ≤ n = omega arith in omega (arith, h.reaches));
-  least = λ s g. let low : r * r ≤ n = (let below : r * r < suc n = grind (arith, nat_tests) in omega arith) in let more : r < s = lt-from_squares r s n low (omega arith) in omega arith;
+  least = λ s g.
+      let low : r * r ≤ n = (let below : r * r < suc n = grind (arith, nat_tests) in omega arith) in
+      let more : r < s = lt-from_squares r s n low (omega arith) in omega arith;
 }
 next_root false n r e h = record {
   reaches = grind (arith, nat_tests);

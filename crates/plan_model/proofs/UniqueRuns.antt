@@ -13,7 +13,7 @@ use Rattle.plan_model.specs.Clearance.{Clear}
 use Rattle.plan_model.specs.Steering.{steered}
 use Rattle.plan_model.specs.Radius.{class_of}
 use Rattle.plan_model.specs.Outcomes.{is_zero_unless_placed}
-use Rattle.plan_model.specs.PointsByNumber.{StandsAt, IsPresent, point_of, node_count}
+use Rattle.plan_model.specs.PointsByNumber.{StandsAt, IsPresent, point_of, AreDistinct, node_count}
 use Rattle.plan_model.specs.Nearness.{distance_to, IsNearest}
 use Rattle.plan_model.specs.MarkPoints.{mark_points}
 use Rattle.plan_model.specs.Trees.{points_of}
@@ -41,7 +41,7 @@ use Rattle.plan_model.specs.Textbook.{
   IsTextbookRun,
 }
 use Rattle.plan_model.proofs.LeastPairLaws.{IsFirstLeast-unique}
-use Rattle.plan_model.proofs.DistinctPoints.{AreDistinct, AreDistinct-start, AreDistinct-ends}
+use Rattle.plan_model.proofs.DistinctPoints.{AreDistinct-start, AreDistinct-ends}
 
 -- ---- records
 
@@ -125,7 +125,7 @@ module _ (setup : Setup) (tree : Nodes) (k : ℕ) (mark : Point) where
   EndsSame-unique i j one other after others distinct e f =
       let steer = SteersTo-unique setup (points_of tree) mark one.nearest other.nearest e.point f.point e.steers f.steers in
       let stands : StandsAt (points_of tree) j e.point = f.stands ∙ ap Some (sym steer.point) in
-      let node : i ≡ j = distinct.one i j e.point e.stands stands in
+      let node : i ≡ j = distinct i j e.point e.stands stands in
       record {
         records = e.account ∙ ap (λ n. same_record k n i) steer.nearest ∙ ap (same_record k other.nearest) node ∙ sym f.account;
         trees = e.added ∙ sym f.added;

@@ -1,4 +1,5 @@
--- The order of pairs (key, number), by which the nearest node, the best parent and the best node are chosen: the lesser key, and of equal keys the lesser number.
+-- The order of pairs (key, number), by which the nearest node, the best parent and the best node are chosen: the lesser
+-- key, and of equal keys the lesser number.
 use Rattle.std.specs.Prelude.{◌≡◌, ℕ, ◌≤◌, nat_lt, Option, Some, None, List, [], ◌∷◌, if◌then◌else◌}
 
 -- the pair of m is not above the pair of i

@@ -53,5 +53,6 @@ pub fn scenes_are_unique()
 /// Each text, of bytes or of any numbers, spells a scene or is refused, whichever keys are supported. With the two
 /// laws above it spells exactly one scene, or else is refused at exactly one line and for exactly one kind.
 pub fn each_text_is_decided()
-    ensures { (built : Key → Bool) (text : List ℕ) → ((scene : Scene) × Spells built text scene) ⊎ ((number : ℕ) × (kind : Kind) × Refused built text number kind) }
+    ensures { (built : Key → Bool) (text : List ℕ)
+        → ((scene : Scene) × Spells built text scene) ⊎ ((number : ℕ) × (kind : Kind) × Refused built text number kind) }
 {}

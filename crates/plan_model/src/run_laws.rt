@@ -4,7 +4,7 @@ ghost use Rattle.std.specs.Prelude.{◌≡◌, ℕ, List, Option};
 ghost use Rattle.plan_model.specs.ConfigurationSpace.{ConfigurationSpace};
 ghost use Rattle.plan_model.specs.MarkPoints.{mark_points};
 ghost use Rattle.plan_model.specs.Nearness.{IsNearest};
-ghost use Rattle.plan_model.specs.PointsByNumber.{StandsAt};
+ghost use Rattle.plan_model.specs.PointsByNumber.{AreDistinct};
 ghost use Rattle.plan_model.specs.SameRuns.{HaveSameFields, HaveSameInputs};
 ghost use Rattle.plan_model.specs.Textbook.{EndsBlocked, EndsPlaced, EndsSame, IsBestParent, IsTextbookRun, Nodes, Rewires, RewiresOne, Setup, setup_of};
 ghost use Rattle.plan_model.specs.Trees.{points_of};
@@ -42,8 +42,7 @@ pub fn outcomes_exclude_each_other()
 /// No two nodes of a textbook run stand at one point.
 pub fn nodes_stand_apart()
     ensures { (setup : Setup) (start : Point) (marks : List Point) (tree : Nodes) (records : List Record)
-        → IsTextbookRun setup start marks tree records → (i j : ℕ) (p : Point) → StandsAt (points_of tree) i p
-        → StandsAt (points_of tree) j p → i ≡ j }
+        → IsTextbookRun setup start marks tree records → AreDistinct (points_of tree) }
 {}
 
 /// The textbook run is one run: the same setup, start and marks give the same tree and the same records.
