@@ -1,5 +1,9 @@
-//! What an edge of the tree costs, how a node steers towards a mark, and the class of a number of nodes:
-//! the whole-number parts of RRT* that need no obstacles.
+//! The parts of RRT* (Karaman and Frazzoli, Sampling-based Algorithms for Optimal Motion Planning, IJRR 2011)
+//! that need no obstacles, in whole numbers: what an edge of the tree costs, how a node steers towards a mark,
+//! and the class of a number of nodes, by which the rewiring radius shrinks.
+//!
+//! Each function returns exactly the number or the point that the definitions of `plan_model` name, for all
+//! points whose distances fit 64 bits. An edge that is steered is no longer than the step.
 #![tactic(auto)]
 
 ghost use Rattle.std.specs.Prelude.{◌≡◌};
