@@ -17,6 +17,10 @@ small_square = corner 0 0 ∷ corner 2 0 ∷ corner 2 2 ∷ corner 0 2 ∷ []
 abbrev pub great_square : List Vertex
 great_square = corner 10 0 ∷ corner 20 0 ∷ corner 20 10 ∷ corner 10 10 ∷ []
 
+-- all of it lies to the right of its origin
+abbrev pub far_square : List Vertex
+far_square = corner 20 0 ∷ corner 22 0 ∷ corner 22 2 ∷ corner 20 2 ∷ []
+
 pub record MeetingVectors : Type 0 where
   -- the middle of the body's long edge touches the obstacle's corner
   pub at_corner : Meets small_triangle (at_lattice (at 9 9)) great_triangle
@@ -29,3 +33,6 @@ pub record MeetingVectors : Type 0 where
   -- two edges touch
   pub at_edge : Meets small_square (at_lattice (at 8 3)) great_square
   pub beside_edge : ¬ Meets small_square (at_lattice (at 7 3)) great_square
+  -- the body's origin is none of its points: the body lies beyond the obstacle, its origin before it
+  pub at_far_edge : Meets far_square (at_lattice (at 0 3)) great_square
+  pub beyond_far_edge : ¬ Meets far_square (at_lattice (at 1 3)) great_square

@@ -2,7 +2,7 @@ use Rattle.std.proofs.Common.{◌≡◌, ℕ, ◌<◌, List, [], ◌∷◌, leng
 use Rattle.std.specs.Prelude.{pos, ◌-ℤ◌, ◌*ℤ◌, sum}
 use Rattle.std.proofs.lemmas.Int.{ints}
 use Rattle.plan_model.specs.Meeting.{weighted}
-use Rattle.plan_model.specs.Vectors.Meetings.{small_triangle, great_triangle, small_square, great_square}
+use Rattle.plan_model.specs.Vectors.Meetings.{small_triangle, great_triangle, small_square, great_square, far_square}
 use Rattle.plan_model.proofs.vectors.meetings.Goals as goal
 
 -- a list of three numbers, by its members
@@ -54,6 +54,12 @@ beside_edge :
     (t a b c d e f g h : ℕ) → 0 < t → sum (a ∷ b ∷ c ∷ d ∷ []) ≡ t → sum (e ∷ f ∷ g ∷ h ∷ []) ≡ t
     → pos 1 *ℤ (weighted (λ v. v.x) (a ∷ b ∷ c ∷ d ∷ []) great_square -ℤ weighted (λ v. v.x) (e ∷ f ∷ g ∷ h ∷ []) small_square) ≡ pos t *ℤ pos 7 → ⊥
 beside_edge t a b c d e f g h some obstacle body horizontal = omega (arith, ints)
+
+-- each difference of an obstacle's and a body's point has an x of 0 at most
+beyond_far_edge :
+    (t a b c d e f g h : ℕ) → 0 < t → sum (a ∷ b ∷ c ∷ d ∷ []) ≡ t → sum (e ∷ f ∷ g ∷ h ∷ []) ≡ t
+    → pos 1 *ℤ (weighted (λ v. v.x) (a ∷ b ∷ c ∷ d ∷ []) great_square -ℤ weighted (λ v. v.x) (e ∷ f ∷ g ∷ h ∷ []) far_square) ≡ pos t *ℤ pos 1 → ⊥
+beyond_far_edge t a b c d e f g h some obstacle body horizontal = omega (arith, ints)
 
 pub returns : goal.returns
 returns c = record {
@@ -119,5 +125,22 @@ returns c = record {
       let o = four m.on_obstacle m.obstacle_corners in
       let b = four m.on_body m.body_corners in
       beside_edge m.total o.first o.second o.third o.fourth b.first b.second b.third b.fourth m.some_weight (rw o.are at m.obstacle_total)
+      (rw b.are at m.body_total) (rw (o.are, b.are) at m.horizontal);
+  at_far_edge = record {
+    total = 10;
+    on_obstacle = 0 ∷ 7 ∷ 3 ∷ 0 ∷ [];
+    on_body = 10 ∷ 0 ∷ 0 ∷ 0 ∷ [];
+    some_weight = omega arith;
+    obstacle_corners = refl;
+    body_corners = refl;
+    obstacle_total = refl;
+    body_total = refl;
+    horizontal = refl;
+    vertical = refl;
+  };
+  beyond_far_edge = λ m.
+      let o = four m.on_obstacle m.obstacle_corners in
+      let b = four m.on_body m.body_corners in
+      beyond_far_edge m.total o.first o.second o.third o.fourth b.first b.second b.third b.fourth m.some_weight (rw o.are at m.obstacle_total)
       (rw b.are at m.body_total) (rw (o.are, b.are) at m.horizontal);
 }
