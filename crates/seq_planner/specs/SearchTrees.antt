@@ -26,6 +26,7 @@ pub record IsSound (room : Point) (tree : Nodes) (costs : List ℕ) (present : �
   pub counted : present ≡ node_count (points_of tree)
   pub bounded : (n : ℕ) → slice_index costs n ≤ (present - 1) * 2 ^ 29
 
+-- a search tree with its lists
 abbrev pub IsSoundTree : Point → SearchTree → Type 0
 IsSoundTree room tree = IsSound room tree.nodes.items tree.costs.items tree.present
 

@@ -3,8 +3,8 @@
 //!
 //! The search tree is a plain list of nodes with kept costs-to-come, and the nearest node is found by a scan of all of
 //! them. The contract of [`textbook`] says that the tree and the records are those of the textbook run over these
-//! marks, which is a relation between them that knows no program: which node is nearest, where it steers to, what
-//! becomes of the mark, and which parent the new node has. For now the body is a point, and nothing is rewired.
+//! marks: for each mark which node is nearest, where it steers to, whether a node is placed there, and under which
+//! parent. So far the body is a point in a room without obstacles, and nothing is rewired.
 #![tactic(auto)]
 
 mod extensions;
