@@ -31,7 +31,7 @@ module _ {Z : Type 0} where
       Fetches reading.before reading.now result → CameShort reading.before reading.now
   short_before_fault reading result is fetched =
       let few : ¬ (MOST_TEXT_BYTES < length fetched.came) =
-        λ long. read≢long (different result fetching.Read fetching.TooLong is (fetched.too_long.1 long)) in
+      λ long. read≢long (different result fetching.Read fetching.TooLong is (fetched.too_long.1 long)) in
       (fetched.came, omega arith, fetched.consumed)
 
   -- a fault of the fetch is a cause of its refusal

@@ -135,7 +135,7 @@ refusal_decided None reading refusal cause sure = inr tt
 refusal_decided (Some command) reading refusals.Words cause sure = absurd cc
 refusal_decided (Some command) reading refusals.TooLong cause sure =
     inr (of_reader reading command _ cause.0
-      (λ known is. by_length known command _ (long_before reading.before reading.now known cause.1.came is) refl))
+    (λ known is. by_length known command _ (long_before reading.before reading.now known cause.1.came is) refl))
 refusal_decided (Some command) reading (refusals.Text number kind) cause sure =
     inr (of_whole reading command _ cause.0 cause.1.0 cause.1.1 (by_fault cause.1.0 command _ number kind cause.1.2 refl))
 refusal_decided (Some command) reading refusals.StartBlocked cause sure =

@@ -18,7 +18,7 @@ pub record IsDecidedBy (bytes : List ℕ) (command : Command) (status : ℕ) : T
   pub refused : (number : ℕ) (kind : Kind) → IsFaultyText number kind bytes → status ≡ TEXT_REFUSED
   pub long : MOST_TEXT_BYTES < length bytes → status ≡ TEXT_REFUSED
 
--- The status of a command: by the bytes of the source, if it tells them; a command that reads nothing succeeds.
+-- The status of a command: by the bytes of the source, if they are known; a command that reads nothing succeeds.
 abbrev pub IsDecided : Option (List ℕ) → Command → ℕ → Type 0
 IsDecided left command status =
     MatchBool (reads_scene command) ((bytes : List ℕ) → left ≡ Some bytes → IsDecidedBy bytes command status) (status ≤ NO_PATH)

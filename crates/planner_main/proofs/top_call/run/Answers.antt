@@ -7,7 +7,7 @@ pub returns-in-Ok-clause-decided : goal.returns-in-Ok-clause-decided
 returns-in-Ok-clause-decided g c = λ sure written.
     let source = g.S.Source in
     let reading = reading_of source.counts_failures_alone source.bytes_left source.has_ended source.fault_count
-      c.args.source.now c.answer_to.new.source in
+    c.args.source.now c.answer_to.new.source in
     let same = (c.conclude.ensures.done (λ six. written (c.conclude.ensures.cut six).1.rose)).0 in
     rw same (inr (success_decided _ reading _ _ c.in-Ok.ensures.success))
 
@@ -15,6 +15,6 @@ pub returns-in-Err-clause-decided : goal.returns-in-Err-clause-decided
 returns-in-Err-clause-decided g c = λ sure written.
     let source = g.S.Source in
     let reading = reading_of source.counts_failures_alone source.bytes_left source.has_ended source.fault_count
-      c.args.source.now c.answer_to.new.source in
+    c.args.source.now c.answer_to.new.source in
     let same = (c.conclude-in-Err.ensures.done (λ six. written (c.conclude-in-Err.ensures.cut six).1.rose)).0 in
     rw same (rw c.status.ensures (refusal_decided _ reading c.in-Err.refusal c.in-Err.ensures.refusal sure))
