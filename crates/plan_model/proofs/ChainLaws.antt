@@ -1,16 +1,15 @@
 -- Chains and sums of a tree with kept costs that strictly fall along parents, whichever numbers the parents have.
 use Rattle.std.proofs.Common.{◌≡◌, ℕ, zero, suc, ◌+◌, ◌<◌, ◌≤◌, Bool, true, false, cond, leb, List, [], ◌∷◌, map, get_or, Option, Some, None}
 use Rattle.std.proofs.Common.{arith, refl, sym, ap, ◌∙◌, add-zero}
-use Rattle.std.specs.Prelude.{IsSome, is_some, count_by, ◌&&◌, nat_le, option_map, unwrap_or}
+use Rattle.std.specs.Prelude.{IsSome, is_some, ◌&&◌, nat_le}
 use Rattle.std.proofs.lemmas.Bool.Decides.{nat_tests}
 use Rattle.std.proofs.lemmas.List.Sums.{sum_by-cons}
 use Rattle.std.proofs.lemmas.Grind.{common_steps}
-use Rattle.std.proofs.Math.ListN.{get_or-map}
 use Rattle.plan_model.specs.declared.geometry.Point.{Point}
 use Rattle.plan_model.specs.declared.trees.Twig.{Twig}
 use Rattle.plan_model.specs.Cost.{cost_of}
 use Rattle.plan_model.specs.PointsByNumber.{point_at, point_of, IsPresent, node_count}
-use Rattle.plan_model.specs.Trees.{node_at, points_of, parent_of, chain_within, chain, length_of_path, sum_of, edge_of, CostsFall, AreTight}
+use Rattle.plan_model.specs.Trees.{points_of, parent_of, chain_within, chain, length_of_path, sum_of, edge_of, CostsFall, AreTight}
 
 -- ---- how many present nodes cost at most so much
 

@@ -25,7 +25,7 @@ use Rattle.std.proofs.Common.{
   inl,
   inr,
 }
-use Rattle.std.specs.Prelude.{IsSome, is_some, unwrap_or, All, true, option_map}
+use Rattle.std.specs.Prelude.{IsSome, is_some, All, true, option_map}
 use Rattle.std.specs.List.{range_with_len}
 use Rattle.std.proofs.lemmas.Bool.{cases_order, cases_lt}
 use Rattle.std.proofs.lemmas.List.{get_or_append_left, get_or_past, length-append, map-set, set-get_or}

@@ -8,10 +8,8 @@ use Rattle.std.proofs.lemmas.Nat.{pow_pos}
 use Rattle.std.proofs.lemmas.Bool.Decides.{nat_tests}
 use Rattle.std.proofs.lemmas.Bool.{lt-leb, cases_lt, cases_order}
 use Rattle.plan_model.specs.declared.geometry.Point.{Point}
-use Rattle.plan_model.specs.declared.trees.Twig.{Twig}
 use Rattle.std.specs.Int.{abs_diff}
 use Rattle.plan_model.specs.Geometry.{squared_distance}
-use Rattle.plan_model.specs.ConfigurationSpace.{space_of}
 use Rattle.plan_model.specs.Clearance.{Clear}
 use Rattle.plan_model.specs.Radius.{class_of, greatest, radius_of}
 use Rattle.plan_model.specs.PointsByNumber.{point_at, point_of, IsFree, node_count}
@@ -83,7 +81,7 @@ pub IsBestParent-nearest :
 IsBestParent-nearest setup tree nearest p gamma free clear =
     let only : (i : ℕ) → IsCandidate setup (points_of tree) nearest p i → i ≡ nearest =
     λ i own. (let P : List ℕ → Type 0 = λ ns. Contains (nearest ∷ ns) i in
-      alone nearest i (subst P (near_new-none setup (points_of tree) p gamma free) own.among)) in
+    alone nearest i (subst P (near_new-none setup (points_of tree) p gamma free) own.among)) in
     record {
       member = record { among = (0, omega arith, refl); clear = clear };
       not_above = λ i own. record {

@@ -1,5 +1,5 @@
 -- The best node, and reports of small trees, for every scene with the goal that is named.
-use Rattle.std.specs.Prelude.{◌≡◌, ℕ, true, false, refl, Option, Some, None, List, [], ◌∷◌, ◌++◌, codes}
+use Rattle.std.specs.Prelude.{◌≡◌, ℕ, true, false, Option, Some, None, List, [], ◌∷◌, ◌++◌, codes}
 use Rattle.plan_model.specs.declared.geometry.Goal.{Goal}
 use Rattle.plan_model.specs.declared.scenes.Scene.{Scene}
 use Rattle.plan_model.specs.declared.trees.Twig.{Twig}
@@ -63,4 +63,4 @@ pub record ReportVectors : Type 0 where
   pub in_full :
       (scene : Scene) → scene.goal ≡ box 41 41 50 50 → full_report scene one_of_three three_records
       ≡ codes "no path\nnodes 2 placed 1 same 1 blocked 1\nnode 0 at 0 0 parent 0 cost 0\nnode 1 at 30 40 parent 0 cost 12800\n"
-    ++ codes "mark 0 worker 0 turn 0 nearest 0 placed class 1 first 0 12800\nmark 1 worker 0 turn 1 nearest 1 same 1\nmark 2 worker 0 turn 2 nearest 1 blocked\n"
+      ++ codes "mark 0 worker 0 turn 0 nearest 0 placed class 1 first 0 12800\nmark 1 worker 0 turn 1 nearest 1 same 1\nmark 2 worker 0 turn 2 nearest 1 blocked\n"
