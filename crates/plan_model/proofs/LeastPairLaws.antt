@@ -64,7 +64,7 @@ record IsPassing (p : ℕ → Bool) (k n i : ℕ) : Type 0 where
   high : i < k + n
   passes : IsTrue (p i)
 
--- the answer is the first least of the numbers that pass, and none if none passes
+-- the result is the first least of the numbers that pass, and none if none passes
 IsLeastOf : (key : ℕ → ℕ) (p : ℕ → Bool) (k n : ℕ) → Option ℕ → Type 0
 IsLeastOf key p k n None = (i : ℕ) → ¬ IsPassing p k n i
 IsLeastOf key p k n (Some m) = IsFirstLeast key (IsPassing p k n) m

@@ -15,7 +15,7 @@ cond_passes : (test : ℕ → Bool) (b : Bool) (m n : ℕ) → test m ≡ b → 
 cond_passes test true m n e h = e
 cond_passes test false m n e h = h
 
--- where 0 passes, the greatest passes
+-- if 0 passes, the greatest passes
 pub greatest-passes : (test : ℕ → Bool) (n : ℕ) → test 0 ≡ true → test (greatest test n) ≡ true
 greatest-passes test zero h = h
 greatest-passes test (suc n) h = cond_passes test (test (suc n)) (suc n) (greatest test n) refl (greatest-passes test n h)

@@ -30,7 +30,7 @@ root_ceiling-unique n r h =
     let own = root_ceiling-is n in
     omega (arith, own.least r h.reaches, h.least (root_ceiling n) own.reaches)
 
--- the root is r where the square of r reaches n, and that of the number before r does not
+-- the root is r if the square of r is at least n, and that of the number before r is not
 pub root_ceiling-from_squares : (n r : ℕ) → n ≤ r * r → (r - 1) * (r - 1) < n → root_ceiling n ≡ r
 root_ceiling-from_squares n r reaches short =
     let is_root : IsRootCeiling n r = record {

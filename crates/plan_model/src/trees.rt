@@ -13,7 +13,7 @@ pub struct Twig {
     pub parent: u32,
 }
 
-/// Nodes by number; absent where the mark was not placed.
+/// Nodes by number; absent if the mark was not placed.
 pub type Twigs = Sequence<Option<Twig>>;
 
 /// A tree with its account of every mark.
@@ -65,5 +65,5 @@ pub struct Knot {
     pub cost: u64,
 }
 
-/// Nodes with their kept costs by number; absent where the mark was not placed.
+/// Nodes with their kept costs by number; absent if the mark was not placed.
 pub type Knots = Sequence<Option<Knot>>;
