@@ -14,7 +14,7 @@ use Rattle.planner_main.specs.Conclusions.{IsTextOf, IsFaultyText, MayStart}
 pub record IsDecidedBy (bytes : List ℕ) (command : Command) (status : ℕ) : Type 0 where
   pub done : (scene : Scene) → IsTextOf scene bytes → MayStart command scene → status ≤ NO_PATH
   pub blocked :
-    (scene : Scene) → IsTextOf scene bytes → IsTrue (tests_start command) → (¬ ClearAt (space_of scene) scene.start) → status ≡ START_BLOCKED
+      (scene : Scene) → IsTextOf scene bytes → IsTrue (tests_start command) → (¬ ClearAt (space_of scene) scene.start) → status ≡ START_BLOCKED
   pub refused : (number : ℕ) (kind : Kind) → IsFaultyText number kind bytes → status ≡ TEXT_REFUSED
   pub long : MOST_TEXT_BYTES < length bytes → status ≡ TEXT_REFUSED
 

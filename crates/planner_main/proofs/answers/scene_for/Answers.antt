@@ -12,11 +12,11 @@ pub returns-in_err-text-clause-refusal : goal.returns-in_err-text-clause-refusal
 returns-in_err-text-clause-refusal g c =
     let source = g.S.Source in
     let reading = reading_of source.counts_failures_alone source.bytes_left source.has_ended source.fault_count
-      c.args.source.now c.fetch.new.source in
+    c.args.source.now c.fetch.new.source in
     let fetched = c.in_err-text.ensures in
     IfErr-only c.from_residual.result _ (IsCaused _ reading) c.from_residual.ensures.1
     (fetch-caused c.args.command reading _ c.in_err-text.field-0.0 refl c.requires.reads fetched.no_end fetched.came
-      fetched.read fetched.one_fault fetched.no_fault)
+    fetched.read fetched.one_fault fetched.no_fault)
 
 pub returns-then-not-is_in_room-clause-refusal : goal.returns-then-not-is_in_room-clause-refusal
 returns-then-not-is_in_room-clause-refusal g c =
@@ -24,8 +24,7 @@ returns-then-not-is_in_room-clause-refusal g c =
     let same = c.deref.ensures.value in
     let scene = c.in_ok-scene.scene in
     let blocked : ¬ ClearAt (space_of scene) scene.start =
-      λ clear. false≢true (sym c.if-not-is_in_room.true ∙ c.is_in_room.ensures.1 (IsInRoom-from_clear_at (space_of scene) scene.start clear)) in
-    (
+    λ clear. false≢true (sym c.if-not-is_in_room.true ∙ c.is_in_room.ensures.1 (IsInRoom-from_clear_at (space_of scene) scene.start clear)) in (
       sym c.tests_start.ensures ∙ c.if-tests_start.true,
       (
         c.deref.result.now,
