@@ -5,6 +5,8 @@ pub mod Limits
 pub mod ConfigurationSpace
 pub mod RoomOfConfigurations
 pub mod Meeting
+pub mod HalfPlanes
+pub mod Zones
 pub mod Clearance
 pub mod Roots
 pub mod Cost

@@ -54,6 +54,19 @@ pub const LEAST_OBSTACLE_COORDINATE: i32 = -131_072;
 /// The greatest coordinate of an obstacle's corner, in lattice steps.
 pub const MOST_OBSTACLE_COORDINATE: i32 = 131_071;
 
+/// The least coordinate of a corner whose orientations are taken, in lattice steps: no product of two edges' lengths
+/// passes 2^46.
+pub const LEAST_CORNER_COORDINATE: i32 = -4_194_304;
+
+/// The greatest coordinate of a corner whose orientations are taken, in lattice steps.
+pub const MOST_CORNER_COORDINATE: i32 = 4_194_304;
+
+/// The least coordinate of an obstacle's corner in a Minkowski sum, in lattice steps.
+pub const LEAST_SUMMAND_COORDINATE: i32 = -2_097_152;
+
+/// The greatest coordinate of an obstacle's corner in a Minkowski sum, in lattice steps.
+pub const MOST_SUMMAND_COORDINATE: i32 = 2_097_152;
+
 /// The greatest coordinate of a point whose distances are taken, in lattice steps: no square of a distance passes 2^41.
 pub const MOST_COORDINATE: u32 = 1_048_575;
 

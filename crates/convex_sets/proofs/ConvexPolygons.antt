@@ -1,0 +1,85 @@
+-- Strictly convex polygons, corner by corner.
+use Rattle.std.proofs.Common.{◌≡◌, ◌≢◌, ◌↔◌, ◌⊎◌, inl, inr, ℕ, suc, ◌+◌, ◌<◌, ◌≤◌, Bool, true, false, ◌&&◌, ◌||◌, nat_le, eqb, List, length}
+use Rattle.std.proofs.Common.{refl, sym, ap, ◌∙◌, arith, cond, eq-eqb}
+use Rattle.std.specs.Prelude.{ℤ, pos, ◌+ℤ◌, ◌-ℤ◌, ◌*ℤ◌, ◌<ℤ◌, ◌≤ℤ◌, int_lt}
+use Rattle.std.proofs.lemmas.Int.{ints}
+use Rattle.std.proofs.lemmas.Bool.{leb-true, eqb-true, cases_lt}
+use Rattle.std.specs.List.{list_all, range_with_len}
+use Rattle.plan_model.specs.declared.geometry.Vertex.{Vertex}
+use Rattle.plan_model.specs.Convexity.{corner_at, next_corner, is_left_of_edge, is_strictly_convex}
+use Rattle.plan_model.specs.Geometry.{orientation}
+use Rattle.convex_sets.specs.Edges.{cross, from_to, is_end_or_left}
+use Rattle.convex_sets.proofs.Crosses.{cross_self}
+use Rattle.convex_sets.proofs.Tests.{both_true, both_hold, true_below, true_of_below, false_below, last_true, one_true}
+
+pub left_of_edge : (corners : List Vertex) (i to : ℕ) → to ≡ next_corner (length corners) i
+    → ((k : ℕ) → k < length corners → is_end_or_left corners i to k ≡ true) → is_left_of_edge corners i ≡ true
+left_of_edge corners i to e h =
+    true_of_below (is_end_or_left corners i (next_corner (length corners) i)) (length corners) (λ k l. rw e at (h k l))
+
+pub not_left_of_edge : (corners : List Vertex) (i to k : ℕ) → to ≡ next_corner (length corners) i → k < length corners
+    → is_end_or_left corners i to k ≡ false → is_left_of_edge corners i ≡ false
+not_left_of_edge corners i to k e l h =
+    false_below (is_end_or_left corners i (next_corner (length corners) i)) (length corners) k l (rw e at h)
+
+pub strictly_convex : (corners : List Vertex) → 3 ≤ length corners → ((i : ℕ) → i < length corners → is_left_of_edge corners i ≡ true)
+    → is_strictly_convex corners ≡ true
+strictly_convex corners three h =
+    both_hold (nat_le 3 (length corners)) (list_all (is_left_of_edge corners) (range_with_len 0 (length corners))) (grind arith)
+    (true_of_below (is_left_of_edge corners) (length corners) h)
+
+right_fails : (a b : Bool) → b ≡ false → (a && b) ≡ false
+right_fails true b h = h
+right_fails false b h = refl
+
+pub not_strictly_convex : (corners : List Vertex) (i : ℕ) → i < length corners → is_left_of_edge corners i ≡ false → is_strictly_convex corners ≡ false
+not_strictly_convex corners i l h =
+    right_fails (nat_le 3 (length corners)) (list_all (is_left_of_edge corners) (range_with_len 0 (length corners)))
+    (false_below (is_left_of_edge corners) (length corners) i l h)
+
+-- three corners at least, and every corner but its ends strictly to the left of every edge
+pub record IsConvex (corners : List Vertex) : Type 0 where
+  pub three : 3 ≤ length corners
+  pub left : (i k : ℕ) → i < length corners → k < length corners → k ≢ i → k ≢ next_corner (length corners) i
+      → pos 0 <ℤ orientation (corner_at corners i) (corner_at corners (next_corner (length corners) i)) (corner_at corners k)
+
+pub IsConvex-from_test : (corners : List Vertex) → is_strictly_convex corners ≡ true → IsConvex corners
+IsConvex-from_test corners h =
+    let parts = both_true (nat_le 3 (length corners)) (list_all (is_left_of_edge corners) (range_with_len 0 (length corners))) h in
+    record {
+      three = leb-true 3 (length corners) parts.0;
+      left = λ i k l m p q.
+          let next = next_corner (length corners) i in
+          let edge = true_below (is_left_of_edge corners) (length corners) parts.1 i l in
+          let side : Bool = int_lt (pos 0) (orientation (corner_at corners i) (corner_at corners next) (corner_at corners k)) in
+          let test = last_true k i next side (true_below (is_end_or_left corners i next) (length corners) edge k m) p q in
+          omega (arith, ints, test);
+    }
+
+pub test-from_IsConvex : (corners : List Vertex) → IsConvex corners → is_strictly_convex corners ≡ true
+test-from_IsConvex corners c =
+    strictly_convex corners c.three (λ i l.
+    let next = next_corner (length corners) i in
+    left_of_edge corners i next refl (λ k m.
+    let side : Bool = int_lt (pos 0) (orientation (corner_at corners i) (corner_at corners next) (corner_at corners k)) in
+    one_true k i next side (λ p q. let f = c.left i k l m p q in sym (omega (arith, ints)))))
+
+pub next_inside : (n i : ℕ) → i + 1 < n → next_corner n i ≡ i + 1
+next_inside n i h = by (eqb (i + 1) n) refl
+  where
+    by : (t : Bool) → eqb (i + 1) n ≡ t → cond t 0 (i + 1) ≡ i + 1
+    by true e = absurd (omega (arith, eqb-true (i + 1) n e))
+    by false e = refl
+
+pub next_suc : (n i : ℕ) → suc i < n → next_corner n i ≡ suc i
+next_suc n i h = next_inside n i (omega arith) ∙ omega arith
+
+pub next_last : (n i : ℕ) → i + 1 ≡ n → next_corner n i ≡ 0
+next_last n i h = let t = eq-eqb (i + 1) n h in rw t
+
+pub next_within : (n i : ℕ) → i < n → next_corner n i < n
+next_within n i h = by (cases_lt (suc i) n)
+  where
+    by : (suc i < n) ⊎ (n ≤ suc i) → next_corner n i < n
+    by (inl l) = rw (next_suc n i l) l
+    by (inr l) = rw (next_last n i (omega arith)) (omega arith)

@@ -1,0 +1,46 @@
+-- What the bounds of corners say.
+use Rattle.std.proofs.Common.{◌≡◌, ℕ, ◌<◌, Bool, true, ◌&&◌, List, length, sym, arith}
+use Rattle.std.specs.Prelude.{ℤ, pos, negsuc, ◌≤ℤ◌, int_le}
+use Rattle.std.proofs.lemmas.Int.{ints}
+use Rattle.plan_model.specs.declared.geometry.Vertex.{Vertex}
+use Rattle.plan_model.specs.Convexity.{corner_at}
+use Rattle.plan_model.specs.Limits.{is_corner_between}
+use Rattle.convex_sets.specs.Bounds.{IsBoundedCorner, AreBoundedCorners}
+use Rattle.convex_sets.proofs.Tests.{both_true, both_hold, true_at}
+
+-- both coordinates are between two numbers
+pub record IsWithin (low high : ℤ) (v : Vertex) : Type 0 where
+  pub left : low ≤ℤ v.x
+  pub right : v.x ≤ℤ high
+  pub bottom : low ≤ℤ v.y
+  pub top : v.y ≤ℤ high
+
+pub within_of : (low high : ℤ) (v : Vertex) → is_corner_between low high v ≡ true → IsWithin low high v
+within_of low high v h =
+    let first = both_true (int_le low v.x) (int_le v.x high && (int_le low v.y && int_le v.y high)) h in
+    let second = both_true (int_le v.x high) (int_le low v.y && int_le v.y high) first.1 in
+    let third = both_true (int_le low v.y) (int_le v.y high) second.1 in
+    record {
+      left = omega (arith, ints, first.0);
+      right = omega (arith, ints, second.0);
+      bottom = omega (arith, ints, third.0);
+      top = omega (arith, ints, third.1);
+    }
+
+pub bounded_corner : (v : Vertex) → IsBoundedCorner v → IsWithin (negsuc 4194303) (pos 4194304) v
+bounded_corner v h = within_of (negsuc 4194303) (pos 4194304) v h
+
+pub bounded_at : (corners : List Vertex) (i : ℕ) → AreBoundedCorners corners → i < length corners → IsBoundedCorner (corner_at corners i)
+bounded_at corners i h l = true_at (is_corner_between (negsuc 4194303) (pos 4194304)) corners i (record { x = pos 0; y = pos 0 }) h l
+
+pub bounded_of : (v : Vertex) → IsWithin (negsuc 4194303) (pos 4194304) v → IsBoundedCorner v
+bounded_of v h =
+    let left = h.left in
+    let right = h.right in
+    let bottom = h.bottom in
+    let top = h.top in
+    let a : int_le (negsuc 4194303) v.x ≡ true = sym (omega (arith, ints)) in
+    let b : int_le v.x (pos 4194304) ≡ true = sym (omega (arith, ints)) in
+    let c : int_le (negsuc 4194303) v.y ≡ true = sym (omega (arith, ints)) in
+    let d : int_le v.y (pos 4194304) ≡ true = sym (omega (arith, ints)) in
+    both_hold _ _ a (both_hold _ _ b (both_hold _ _ c d))

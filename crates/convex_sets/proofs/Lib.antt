@@ -1,0 +1,16 @@
+pub mod Ring
+pub mod Signs
+pub mod Crosses
+pub mod Tests
+pub mod Corners
+pub mod ConvexPolygons
+pub mod Fans
+pub mod Hulls
+pub mod BoxLaws
+pub mod MergeSteps
+pub mod MergedPaths
+pub mod Turns
+pub mod ClosedPaths
+pub mod Lows
+pub mod Turned
+pub mod ZoneLaws

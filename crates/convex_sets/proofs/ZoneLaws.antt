@@ -1,0 +1,255 @@
+-- The merged outline of an obstacle and the reflected body is the zone: where the body meets the obstacle.
+use Rattle.std.proofs.Common.{◌≡◌, ◌≢◌, ◌⊎◌, ◌↔◌, ℕ, zero, suc, ◌+◌, ◌<◌, ◌≤◌, Bool, true, false, ◌||◌, ◌==◌, List, [], ◌∷◌, length, map, refl}
+use Rattle.std.proofs.Common.{sym, ap, subst, ◌∙◌, inl, inr, arith}
+use Rattle.std.specs.Prelude.{ℤ, pos, negsuc, neg_ℤ, ◌+ℤ◌, ◌-ℤ◌, ◌*ℤ◌, ◌<ℤ◌, ◌≤ℤ◌}
+use Rattle.std.specs.List.{list_all}
+use Rattle.std.proofs.lemmas.Int.{ints, by_lt_z}
+use Rattle.plan_model.specs.declared.geometry.Vertex.{Vertex}
+use Rattle.plan_model.specs.Convexity.{corner_at, next_corner, is_strictly_convex}
+use Rattle.plan_model.specs.Geometry.{orientation}
+use Rattle.plan_model.specs.HalfPlanes.{IsInside}
+use Rattle.plan_model.specs.Limits.{is_corner_between}
+use Rattle.plan_model.specs.Meeting.{Meets}
+use Rattle.plan_model.specs.RoomOfConfigurations.{Rational}
+use Rattle.plan_model.specs.Zones.{IsZoneOf, IsLowerOrLeft}
+use Rattle.convex_sets.specs.Bounds.{AreBoundedCorners, IsBoundedCorner}
+use Rattle.convex_sets.specs.Edges.{cross, from_to}
+use Rattle.convex_sets.specs.Outlines.{both, reflection, rise, IsMerged, IsOutlineOf, IsSum}
+use Rattle.convex_sets.proofs.Ring.{Read, var, plus, minus, times, opposite, same}
+use Rattle.convex_sets.proofs.Tests.{true_at, true_of_all}
+use Rattle.convex_sets.proofs.Corners.{IsWithin, within_of, bounded_of, bounded_corner, bounded_at}
+use Rattle.convex_sets.proofs.MergeSteps.{zero_vector}
+use Rattle.convex_sets.proofs.MergedPaths.{cross-sums, same_vector}
+use Rattle.convex_sets.proofs.ConvexPolygons.{IsConvex, IsConvex-from_test, test-from_IsConvex, next_within}
+use Rattle.convex_sets.proofs.Fans.{fan, out_to}
+use Rattle.convex_sets.proofs.Hulls.{difference, turned_back, meets_left, IsDifference, Meets-mean}
+
+-- the corners of a reflected polygon
+pub reflected-at : (corners : List Vertex) (i : ℕ) → i < length corners → corner_at (map reflection corners) i ≡ reflection (corner_at corners i)
+reflected-at [] i h = absurd (omega arith)
+reflected-at (c ∷ cs) zero h = refl
+reflected-at (c ∷ cs) (suc i) h = reflected-at cs i (omega arith)
+
+pub length-reflected : (corners : List Vertex) → length (map reflection corners) ≡ length corners
+length-reflected [] = refl
+length-reflected (c ∷ cs) = ap suc (length-reflected cs)
+
+orientation-reflected : (a b c : Vertex) → orientation (reflection a) (reflection b) (reflection c) ≡ orientation a b c
+orientation-reflected a b c =
+    same (minus (times (minus (opposite (var b.x)) (opposite (var a.x))) (minus (opposite (var c.y)) (opposite (var a.y))))
+    (times (minus (opposite (var b.y)) (opposite (var a.y))) (minus (opposite (var c.x)) (opposite (var a.x)))))
+    (minus (times (minus (var b.x) (var a.x)) (minus (var c.y) (var a.y))) (times (minus (var b.y) (var a.y)) (minus (var c.x) (var a.x))))
+    (omega arith)
+
+IsConvex-reflected : (corners : List Vertex) → IsConvex corners → IsConvex (map reflection corners)
+IsConvex-reflected corners h =
+    let number = length-reflected corners in
+    let three = h.three in
+    record {
+      three = omega arith;
+      left = λ i k p q a b.
+          let j = next_corner (length corners) i in
+          let inside : i < length corners = omega arith in
+          let other : k < length corners = omega arith in
+          rw (
+            number,
+            reflected-at corners i inside,
+            reflected-at corners j (next_within (length corners) i inside),
+            reflected-at corners k other,
+            orientation-reflected (corner_at corners i) (corner_at corners j) (corner_at corners k),
+          ) (h.left i k inside other a (rw number at b));
+    }
+
+-- a body or an obstacle has bounded corners
+pub bounded_corners : (low high : ℤ) (corners : List Vertex) → negsuc 4194303 ≤ℤ low → high ≤ℤ pos 4194304
+    → list_all (is_corner_between low high) corners ≡ true → AreBoundedCorners corners
+bounded_corners low high corners p q h =
+    true_of_all (is_corner_between (negsuc 4194303) (pos 4194304)) corners (record { x = pos 0; y = pos 0 }) (λ i l.
+    let w = within_of low high (corner_at corners i) (true_at (is_corner_between low high) corners i (record { x = pos 0; y = pos 0 }) h l) in
+    let left = w.left in
+    let right = w.right in
+    let bottom = w.bottom in
+    let top = w.top in
+    bounded_of (corner_at corners i) (record {
+      left = omega (arith, ints);
+      right = omega (arith, ints);
+      bottom = omega (arith, ints);
+      top = omega (arith, ints);
+    }))
+
+pub bounded-reflected : (corners : List Vertex) → AreBoundedCorners corners → AreBoundedCorners (map reflection corners)
+bounded-reflected corners h =
+    true_of_all (is_corner_between (negsuc 4194303) (pos 4194304)) (map reflection corners) (record { x = pos 0; y = pos 0 }) (λ i l.
+    let inside : i < length corners = omega (arith, length-reflected corners) in
+    let w = bounded_corner (corner_at corners i) (bounded_at corners i h inside) in
+    let left = w.left in
+    let right = w.right in
+    let bottom = w.bottom in
+    let top = w.top in
+    rw (reflected-at corners i inside) (bounded_of (reflection (corner_at corners i)) (record {
+      left = omega (arith, ints);
+      right = omega (arith, ints);
+      bottom = omega (arith, ints);
+      top = omega (arith, ints);
+    })))
+
+-- a sum of corners of the two outlines is a corner of the obstacle less one of the body
+IsDifference-sum : (body obstacle a b : List Vertex) (z : Vertex) → IsOutlineOf obstacle a → IsOutlineOf (map reflection body) b → IsSum a b z
+    → IsDifference body obstacle z
+IsDifference-sum body obstacle a b z first second s =
+    let f = first.from s.first s.within_first in
+    let g = second.from s.second s.within_second in
+    let inside : g.0 < length body = let h = g.1 in omega (arith, length-reflected body) in
+    let is : z ≡ difference (corner_at obstacle f.0) (corner_at body g.0) = s.is ∙ rw (f.2, g.2, reflected-at body g.0 inside) in
+    record {
+      on_obstacle = f.0;
+      on_body = g.0;
+      within_obstacle = f.1;
+      within_body = inside;
+      horizontal = ap (λ v. v.x) is;
+      vertical = ap (λ v. v.y) is;
+    }
+
+-- a vector between two corners, and that between their reflections
+back_to_back : (e a b : Vertex) → cross (turned_back e) (from_to a b) ≡ cross e (from_to (reflection a) (reflection b))
+back_to_back e a b =
+    same (minus (times (minus (var (pos 0)) (var e.x)) (minus (var b.y) (var a.y)))
+    (times (minus (var (pos 0)) (var e.y)) (minus (var b.x) (var a.x))))
+    (minus (times (var e.x) (minus (opposite (var b.y)) (opposite (var a.y))))
+    (times (var e.y) (minus (opposite (var b.x)) (opposite (var a.x))))) (omega arith)
+
+-- the merged outline z of the outlines a of the obstacle and b of the reflected body
+module _ (body obstacle a b z : List Vertex) (first : IsOutlineOf obstacle a) (second : IsOutlineOf (map reflection body) b) (merged : IsMerged a b z) where
+  edge : ℕ → Vertex
+  edge i = from_to (corner_at z i) (corner_at z (next_corner (length z) i))
+
+  -- each sum of corners lies to the left of each edge: at a corner of the outline, its two parts apart
+  on_left : (i : ℕ) (p : i < length z) (t : ℕ) → t < length obstacle
+      → pos 0 ≤ℤ cross (from_to (corner_at z i) (corner_at z (next_corner (length z) i)))
+      (from_to (corner_at a (merged.sums i p).first) (corner_at obstacle t))
+  on_left i p t q =
+      let s = merged.sums i p in
+      let k = first.all t q in
+      let e = from_to (corner_at z i) (corner_at z (next_corner (length z) i)) in
+      let f = merged.supports i k.0 s.second p k.1 s.within_second in
+      let g : from_to (corner_at z i) (both (corner_at a k.0) (corner_at b s.second)) ≡ from_to (both (corner_at a s.first) (corner_at b s.second))
+      (both (corner_at a k.0) (corner_at b s.second)) = ap (λ v. from_to v (both (corner_at a k.0) (corner_at b s.second))) s.is in
+      let h : pos 0 ≤ℤ cross e (from_to (both (corner_at a s.first) (corner_at b s.second)) (both (corner_at a k.0) (corner_at b s.second))) = subst
+      (λ (v : Vertex). pos 0 ≤ℤ cross e v) g f in
+      rw k.2 (omega (
+        arith,
+        ints,
+        h,
+        cross-sums e (corner_at a s.first) (corner_at b s.second) (corner_at a k.0) (corner_at b s.second),
+        zero_vector e
+            (corner_at b s.second),
+      ))
+
+  on_right : (i : ℕ) (p : i < length z) (t : ℕ) → t < length (map reflection body)
+      → pos 0 ≤ℤ cross (from_to (corner_at z i) (corner_at z (next_corner (length z) i)))
+      (from_to (corner_at b (merged.sums i p).second) (corner_at (map reflection body) t))
+  on_right i p t q =
+      let s = merged.sums i p in
+      let k = second.all t q in
+      let e = from_to (corner_at z i) (corner_at z (next_corner (length z) i)) in
+      let f = merged.supports i s.first k.0 p s.within_first k.1 in
+      let g : from_to (corner_at z i) (both (corner_at a s.first) (corner_at b k.0)) ≡ from_to (both (corner_at a s.first) (corner_at b s.second))
+      (both (corner_at a s.first) (corner_at b k.0)) = ap (λ v. from_to v (both (corner_at a s.first) (corner_at b k.0))) s.is in
+      let h : pos 0 ≤ℤ cross e (from_to (both (corner_at a s.first) (corner_at b s.second)) (both (corner_at a s.first) (corner_at b k.0))) = subst
+      (λ (v : Vertex). pos 0 ≤ℤ cross e v) g f in
+      rw k.2 (omega (
+        arith,
+        ints,
+        h,
+        cross-sums e (corner_at a s.first) (corner_at b s.second) (corner_at a s.first) (corner_at b k.0),
+        zero_vector e
+            (corner_at a s.first),
+      ))
+
+  inside : (q : Rational) → Meets body q obstacle → IsInside z q
+  inside q m = λ i p.
+      let e = from_to (corner_at z i) (corner_at z (next_corner (length z) i)) in
+      let s = merged.sums i p in
+      let f = first.from s.first s.within_first in
+      let g = second.from s.second s.within_second in
+      let small : g.0 < length body = let h = g.1 in omega (arith, length-reflected body) in
+      let o = corner_at obstacle f.0 in
+      let c = corner_at body g.0 in
+      let under : corner_at b s.second ≡ reflection c = g.2 ∙ reflected-at body g.0 small in
+      let is : corner_at z i ≡ difference o c = s.is ∙ rw (f.2, under) in
+      let left : (t : ℕ) → t < length obstacle
+      → pos 0 ≤ℤ cross e (from_to o (corner_at obstacle t)) = λ t r. subst (λ (v : Vertex). pos 0 ≤ℤ cross e (from_to v (corner_at obstacle t)))
+      f.2 (on_left i p t r) in
+      let right : (t : ℕ) → t < length body → pos 0 ≤ℤ cross (turned_back e) (from_to c (corner_at body t)) = λ t r.
+      let reflected = subst (λ (v : Vertex). pos 0 ≤ℤ cross e (from_to v (corner_at (map reflection body) t))) under
+      (on_right i p t (omega (arith, length-reflected body))) in
+      let there = subst (λ (v : Vertex). pos 0 ≤ℤ cross e (from_to (reflection c) v)) (reflected-at body t r) reflected in
+      rw (back_to_back e c (corner_at body t)) there in
+      subst (λ (v : Vertex). pos 0 ≤ℤ cross e (out_to v q)) (sym is) (meets_left e o c body q obstacle m left right)
+
+  meets : (q : Rational) → IsInside z q → Meets body q obstacle
+  meets q within =
+      let f = fan z q (IsConvex-from_test z merged.convex) within in
+      let k = f.0 in
+      let small : suc (suc k) < length z = f.1 in
+      let some : 0 < length z = omega arith in
+      let next : suc k < length z = omega arith in
+      Meets-mean body obstacle (corner_at z 0) (corner_at z (suc k)) (corner_at z (suc (suc k))) q f.2
+      (IsDifference-sum body obstacle a b (corner_at z 0) first second (merged.sums 0 some))
+      (IsDifference-sum body obstacle a b (corner_at z (suc k)) first second (merged.sums (suc k) next))
+      (IsDifference-sum body obstacle a b (corner_at z (suc (suc k))) first second (merged.sums (suc (suc k)) small))
+
+  -- the zone of a body and an obstacle in the ranges of a sum has bounded corners
+  bounded : list_all (is_corner_between (negsuc 4095) (pos 4096)) body ≡ true
+      → list_all (is_corner_between (negsuc 2097151) (pos 2097152)) obstacle ≡ true → AreBoundedCorners z
+  bounded p q =
+      true_of_all (is_corner_between (negsuc 4194303) (pos 4194304)) z (record { x = pos 0; y = pos 0 }) (λ i l.
+      let d = IsDifference-sum body obstacle a b (corner_at z i) first second (merged.sums i l) in
+      let o = within_of (negsuc 2097151) (pos 2097152) (corner_at obstacle d.on_obstacle)
+      (true_at (is_corner_between (negsuc 2097151) (pos 2097152)) obstacle d.on_obstacle (record { x = pos 0; y = pos 0 }) q d.within_obstacle) in
+      let c = within_of (negsuc 4095) (pos 4096) (corner_at body d.on_body)
+      (true_at (is_corner_between (negsuc 4095) (pos 4096)) body d.on_body (record { x = pos 0; y = pos 0 }) p d.within_body) in
+      let horizontal = d.horizontal in
+      let vertical = d.vertical in
+      bounded_of (corner_at z i) (record {
+        left = omega (arith, ints, o.left, c.right);
+        right = omega (arith, ints, o.right, c.left);
+        bottom = omega (arith, ints, o.bottom, c.top);
+        top = omega (arith, ints, o.top, c.bottom);
+      }))
+
+  lowest : AreBoundedCorners z → (i : ℕ) → i < length z → IsLowerOrLeft (corner_at z 0) (corner_at z i)
+  lowest h i l =
+      let f = bounded_corner (corner_at z 0) (bounded_at z 0 h (omega arith)) in
+      let g = bounded_corner (corner_at z i) (bounded_at z i h l) in
+      let r = merged.lowest i l in
+      by_lt_z (corner_at z 0).y (corner_at z i).y (λ lower. inl lower) (λ not_lower. inr (omega (arith, ints), omega (arith, ints)))
+
+  IsZoneOf-merged : AreBoundedCorners z → IsZoneOf body obstacle z
+  IsZoneOf-merged h = record { exact = λ q. (inside q, meets q); convex = merged.convex; first = lowest h }
+
+pub zone_is : (body obstacle a b z : List Vertex) → IsOutlineOf obstacle a → IsOutlineOf (map reflection body) b → IsMerged a b z
+    → list_all (is_corner_between (negsuc 4095) (pos 4096)) body ≡ true → list_all (is_corner_between (negsuc 2097151) (pos 2097152)) obstacle ≡ true
+    → IsZoneOf body obstacle z
+zone_is body obstacle a b z first second merged p q = IsZoneOf-merged body obstacle a b z first second merged
+    (bounded body obstacle a b z first second merged p q)
+
+pub zone_bounded : (body obstacle a b z : List Vertex) → IsOutlineOf obstacle a → IsOutlineOf (map reflection body) b → IsMerged a b z
+    → list_all (is_corner_between (negsuc 4095) (pos 4096)) body ≡ true → list_all (is_corner_between (negsuc 2097151) (pos 2097152)) obstacle ≡ true
+    → AreBoundedCorners z
+zone_bounded body obstacle a b z first second merged p q = bounded body obstacle a b z first second merged p q
+
+either : (a b c : Bool) → (a || b) ≡ true → (b ≡ true → c ≡ true) → (a || c) ≡ true
+either true b c h f = refl
+either false b c h f = f h
+
+-- a reflected body is one corner or strictly convex, as the body is
+pub shape-reflected : (corners : List Vertex) → (length corners == 1 || is_strictly_convex corners) ≡ true
+    → (length (map reflection corners) == 1 || is_strictly_convex (map reflection corners)) ≡ true
+shape-reflected corners h =
+    other (length corners == 1) (length (map reflection corners) == 1) (is_strictly_convex corners) (is_strictly_convex (map reflection corners))
+    (ap (λ n. n == 1) (length-reflected corners)) h
+    (λ convex. test-from_IsConvex (map reflection corners) (IsConvex-reflected corners (IsConvex-from_test corners convex)))
+  where
+    other : (a d b c : Bool) → d ≡ a → (a || b) ≡ true → (b ≡ true → c ≡ true) → (d || c) ≡ true
+    other a d b c e h f = rw e (either a b c h f)

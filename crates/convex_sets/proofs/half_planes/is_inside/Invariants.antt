@@ -1,0 +1,10 @@
+use Rattle.std.proofs.Common.{ℕ, ◌<◌}
+use Rattle.std.specs.Prelude.{pos, ◌≤ℤ◌}
+use Rattle.plan_model.specs.Convexity.{corner_at, next_corner}
+use Rattle.plan_model.specs.Geometry.{orientation}
+use Rattle.std.proofs.Common.{length}
+use Rattle.convex_sets.proofs.half_planes.is_inside.Given as goal
+
+abbrev pub invariant-loop-i : goal.invariant-loop-i
+invariant-loop-i l =
+    (k : ℕ) → k < l.i → pos 0 ≤ℤ orientation (corner_at l.corners k) (corner_at l.corners (next_corner (length l.corners) k)) l.p

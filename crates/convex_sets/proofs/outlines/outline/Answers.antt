@@ -1,0 +1,32 @@
+use Rattle.std.proofs.Common.{ℕ, List, Result, Ok, Err, IfOk, arith}
+use Rattle.plan_model.specs.declared.geometry.Vertex.{Vertex}
+use Rattle.convex_sets.specs.Outlines.{IsTurned}
+use Rattle.convex_sets.proofs.Turned.{IsRound, IsRound-point, IsRound-polygon}
+use Rattle.convex_sets.proofs.outlines.outline.Goals as goal
+use Rattle.convex_sets.proofs.outlines.outline.Goals.{then-corners-eq1, else-corners-eq1}
+
+IfOk-map : {A E : Type 0} (r : Result A E) (P Q : A → Type 0) → IfOk r P → ((v : A) → P v → Q v) → IfOk r Q
+IfOk-map (Ok v) P Q h f = f v h
+IfOk-map (Err e) P Q h f = h
+
+round : (c : goal.After-turned) (r : List Vertex) → IsTurned c.args.corners.now r c.lowest-first.result c.if-corners-eq1.count → IsRound c.args.corners.now r
+round c r turned =
+    let corners = c.args.corners.now in
+    let first = c.lowest-first.result in
+    let low = c.lowest-first.ensures in
+    let count = c.if-corners-eq1.count in
+    elim c.if-corners-eq1.branch [
+      | then-corners-eq1 w ↦ IsRound-point corners r first count w.if-corners-eq1.true w.count-is low.within c.requires.bounded turned
+      | else-corners-eq1 w ↦
+          IsRound-polygon corners r first count c.requires.shape w.if-corners-eq1.false w.count-is low.within low.lowest
+          c.requires.bounded turned
+    ]
+
+pub returns-clause-outline : goal.returns-clause-outline
+returns-clause-outline c = IfOk-map c.turned.result _ _ c.turned.ensures (λ v t. (round c v.items t).outline)
+
+pub returns-clause-corners : goal.returns-clause-corners
+returns-clause-corners c = IfOk-map c.turned.result _ _ c.turned.ensures (λ v t. (round c v.items t).same_corners)
+
+pub returns-clause-bounded : goal.returns-clause-bounded
+returns-clause-bounded c = IfOk-map c.turned.result _ _ c.turned.ensures (λ v t. (round c v.items t).bounded)

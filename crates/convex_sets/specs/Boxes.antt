@@ -1,0 +1,40 @@
+-- The bounding box of a polygon.
+use Rattle.std.specs.Prelude.{◌≡◌, ℕ, ◌<◌, pos, ◌≤ℤ◌, List, length, true}
+use Rattle.std.proofs.Math.Nat.{le_refl}
+use Rattle.plan_model.specs.declared.geometry.Point.{Point}
+use Rattle.plan_model.specs.declared.geometry.Vertex.{Vertex}
+use Rattle.plan_model.specs.Convexity.{corner_at, is_strictly_convex}
+use Rattle.plan_model.specs.RoomOfConfigurations.{Rational}
+use Rattle.convex_sets.specs.Bounds.{AreBoundedCorners}
+
+-- no corner is further left or lower, and its coordinates are those of corners: the box's lower left corner
+pub record IsLowEnd (corners : List Vertex) (low : Vertex) : Type 0 where
+  pub left : (i : ℕ) → i < length corners → low.x ≤ℤ (corner_at corners i).x
+  pub bottom : (i : ℕ) → i < length corners → low.y ≤ℤ (corner_at corners i).y
+  pub left_reached : (i : ℕ) × (i < length corners) × ((corner_at corners i).x ≡ low.x)
+  pub bottom_reached : (i : ℕ) × (i < length corners) × ((corner_at corners i).y ≡ low.y)
+
+-- no corner is further right or higher, and its coordinates are those of corners: the box's upper right corner
+pub record IsHighEnd (corners : List Vertex) (high : Vertex) : Type 0 where
+  pub right : (i : ℕ) → i < length corners → (corner_at corners i).x ≤ℤ high.x
+  pub top : (i : ℕ) → i < length corners → (corner_at corners i).y ≤ℤ high.y
+  pub right_reached : (i : ℕ) × (i < length corners) × ((corner_at corners i).x ≡ high.x)
+  pub top_reached : (i : ℕ) × (i < length corners) × ((corner_at corners i).y ≡ high.y)
+
+-- a strictly convex polygon whose corners are bounded, and its box
+pub record IsBoxed (corners : List Vertex) (low high : Vertex) : Type 0 where
+  pub convex : is_strictly_convex corners ≡ true
+  pub bounded : AreBoundedCorners corners
+  pub low_end : IsLowEnd corners low
+  pub high_end : IsHighEnd corners high
+
+-- the point lies in the box, on its sides or within them
+pub record IsInBox (low high : Vertex) (p : Point) : Type 0 where
+  pub left : low.x ≤ℤ pos p.x
+  pub right : pos p.x ≤ℤ high.x
+  pub bottom : low.y ≤ℤ pos p.y
+  pub top : pos p.y ≤ℤ high.y
+
+-- a corner as a point
+abbrev pub at_corner : Vertex → Rational
+at_corner v = record { x = v.x; y = v.y; over = 1; positive = le_refl 1 }

@@ -1,0 +1,4 @@
+pub mod Bounds
+pub mod Edges
+pub mod Boxes
+pub mod Outlines

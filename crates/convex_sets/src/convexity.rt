@@ -1,0 +1,178 @@
+//! Whether a polygon is strictly convex.
+
+ghost use Rattle.std.specs.Prelude.{◌≡◌, ◌<◌, length};
+ghost use Rattle.convex_sets.specs.Edges.{is_end_or_left};
+ghost use Rattle.convex_sets.specs.Bounds.{AreBoundedCorners};
+ghost use Rattle.plan_model.specs.Convexity.{is_left_of_edge, is_strictly_convex, next_corner};
+
+use crate::orientations::orientation;
+use plan_model::{LEAST_CORNERS, Vertex};
+
+/// Whether the corners are those of a strictly convex polygon, counterclockwise: three corners at least, and every other corner
+/// strictly to the left of the edge from each corner to the next. So no three corners stand in a line, no corner stands twice,
+/// and the polygon goes round once.
+///
+/// It stops at the first corner that fails. O(n²) at most; no memory.
+pub fn is_convex(v: &[Vertex]) -> bool
+    requires { AreBoundedCorners v.now }
+    ensures { result ≡ is_strictly_convex v.now }
+{
+    if v.len() < LEAST_CORNERS {
+        return false;
+    }
+    for i in 0..v.len() {
+        if !is_left_of(v, i) {
+            return false;
+        }
+    }
+    true
+}
+
+/// The number of the corner after corner `i` of `n`.
+pub(crate) fn after(n: usize, i: usize) -> usize
+    requires { i < n }
+    ensures value { result ≡ next_corner n i }
+    ensures within { result < n }
+{
+    if i + 1 == n { 0 } else { i + 1 }
+}
+
+/// Whether every other corner lies strictly to the left of the edge from corner `i` to the next.
+fn is_left_of(v: &[Vertex], i: usize) -> bool
+    requires within { i < length v.now }
+    requires bounded { AreBoundedCorners v.now }
+    ensures { result ≡ is_left_of_edge v.now i }
+{
+    let next = after(v.len(), i);
+    for k in 0..v.len() {
+        if !is_end_or_left(v, i, next, k) {
+            return false;
+        }
+    }
+    true
+}
+
+/// Whether corner `k` is one of the two ends of an edge, or lies strictly to its left.
+fn is_end_or_left(v: &[Vertex], from: usize, to: usize, k: usize) -> bool
+    requires from { from < length v.now }
+    requires to { to < length v.now }
+    requires other { k < length v.now }
+    requires bounded { AreBoundedCorners v.now }
+    ensures { result ≡ is_end_or_left v.now from to k }
+{
+    k == from || k == to || orientation(v[from], v[to], v[k]) > 0
+}
+
+#[cfg(test)]
+mod tests {
+    use super::*;
+    use std::test::Fail;
+
+    #[test]
+    fn three_corners_counterclockwise(rt: HostRuntime) -> Result<(), Fail> {
+        assert!(rt;
+            is_convex(&[
+                Vertex { x: 0, y: 0 },
+                Vertex { x: 9, y: 0 },
+                Vertex { x: 9, y: 9 }
+            ])
+        );
+        Ok(())
+    }
+
+    #[test]
+    fn two_corners(rt: HostRuntime) -> Result<(), Fail> {
+        assert!(rt; !is_convex(&[Vertex { x: 0, y: 0 }, Vertex { x: 9, y: 0 }]));
+        Ok(())
+    }
+
+    #[test]
+    fn clockwise(rt: HostRuntime) -> Result<(), Fail> {
+        assert!(rt;
+            !is_convex(&[
+                Vertex { x: 0, y: 0 },
+                Vertex { x: 0, y: 9 },
+                Vertex { x: 9, y: 9 }
+            ])
+        );
+        Ok(())
+    }
+
+    #[test]
+    fn three_in_a_line(rt: HostRuntime) -> Result<(), Fail> {
+        assert!(rt;
+            !is_convex(&[
+                Vertex { x: 0, y: 0 },
+                Vertex { x: 5, y: 0 },
+                Vertex { x: 9, y: 0 },
+                Vertex { x: 9, y: 9 }
+            ])
+        );
+        Ok(())
+    }
+
+    #[test]
+    fn a_corner_twice(rt: HostRuntime) -> Result<(), Fail> {
+        assert!(rt;
+            !is_convex(&[
+                Vertex { x: 0, y: 0 },
+                Vertex { x: 9, y: 0 },
+                Vertex { x: 9, y: 9 },
+                Vertex { x: 9, y: 9 }
+            ])
+        );
+        Ok(())
+    }
+
+    #[test]
+    fn a_dent(rt: HostRuntime) -> Result<(), Fail> {
+        assert!(rt;
+            !is_convex(&[
+                Vertex { x: 0, y: 0 },
+                Vertex { x: 9, y: 0 },
+                Vertex { x: 3, y: 3 },
+                Vertex { x: 0, y: 9 }
+            ])
+        );
+        Ok(())
+    }
+
+    #[test]
+    fn twice_round(rt: HostRuntime) -> Result<(), Fail> {
+        assert!(rt;
+            !is_convex(&[
+                Vertex { x: 0, y: 6 },
+                Vertex { x: 10, y: 6 },
+                Vertex { x: 2, y: 0 },
+                Vertex { x: 5, y: 9 },
+                Vertex { x: 8, y: 0 }
+            ])
+        );
+        Ok(())
+    }
+
+    #[test]
+    fn at_the_limits(rt: HostRuntime) -> Result<(), Fail> {
+        assert!(rt;
+            is_convex(&[
+                Vertex {
+                    x: -4194304,
+                    y: -4194304
+                },
+                Vertex {
+                    x: 4194304,
+                    y: -4194304
+                },
+                Vertex {
+                    x: 4194304,
+                    y: 4194304
+                },
+                Vertex {
+                    x: -4194304,
+                    y: 4194304
+                }
+            ])
+        );
+        Ok(())
+    }
+}

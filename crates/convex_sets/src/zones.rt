@@ -1,0 +1,131 @@
+//! Zones: configuration-space obstacles.
+
+use crate::boxes::{bounding_box, is_in_box};
+use crate::half_planes::is_inside;
+use crate::merging::merged;
+use crate::outlines::{outline, reflected};
+use plan_model::{Memory, Point, Poly, Vertex};
+use std::alloc::Global;
+use std::marker::Model;
+
+/// A zone, the configuration-space obstacle of one obstacle: the points at which the body, moved there, meets the obstacle.
+/// Both are closed, so touching is meeting.
+///
+/// The zone of a square with the corners (0, 0), (2, 0), (2, 2) and (0, 2) and a triangle with the corners (4, 2), (8, 2) and
+/// (4, 6):
+///
+/// ```text
+/// 6  +---o
+///    |   : \
+/// 4  |   :   \
+///    |   :     \
+/// 2  |   o.......o
+///    |           |
+/// 0  +-----------+
+///    2   4   6   8
+/// ```
+///
+/// It is kept as its corners, counterclockwise, with the two corners of its bounding box beside them.
+#[derive(Debug, Drop)]
+pub struct Zone {
+    corners: Vec<Vertex>,
+    low: Vertex,
+    high: Vertex,
+}
+
+impl Model for Zone {
+    ghost use Rattle.std.specs.Prelude.{List};
+    ghost use Rattle.plan_model.specs.declared.geometry.Vertex.{Vertex};
+    ghost use Rattle.convex_sets.specs.Boxes.{IsBoxed};
+
+    ghost Value = { List Vertex };
+
+    ghost view = { λ z. z.corners.items };
+
+    ghost invariant = { λ z. IsBoxed z.corners.items z.low z.high };
+}
+
+impl Zone {
+    ghost use Rattle.std.specs.Prelude.{◌≡◌, ◌↔◌, ◌==◌, ◌||◌, IfOk, IsTrue, length, true};
+    ghost use Rattle.std.specs.List.{list_all};
+    ghost use Rattle.plan_model.specs.declared.limits.TheConstants.{LEAST_BODY_COORDINATE, LEAST_SUMMAND_COORDINATE};
+    ghost use Rattle.plan_model.specs.declared.limits.TheConstants.{MOST_BODY_COORDINATE, MOST_SUMMAND_COORDINATE};
+    ghost use Rattle.plan_model.specs.Limits.{is_corner_between};
+    ghost use Rattle.plan_model.specs.Zones.{IsZoneOf};
+    ghost use Rattle.convex_sets.specs.Bounds.{AreBoundedCorners};
+    ghost use Rattle.convex_sets.specs.Boxes.{IsHighEnd, IsLowEnd};
+    ghost use Rattle.plan_model.specs.Convexity.{is_strictly_convex};
+    ghost use Rattle.plan_model.specs.HalfPlanes.{IsInside};
+    ghost use Rattle.plan_model.specs.RoomOfConfigurations.{at_lattice};
+
+    /// The zone of a body and an obstacle: the Minkowski sum of the obstacle and the reflected body, by merging their edges
+    /// in order of angle. Parallel edges become one, so no corner stands between two others. O(n + m).
+    ///
+    /// # Errors
+    ///
+    /// [`Memory`] if the corners found no memory.
+    pub fn sum(alloc: Global, body: &Poly, obstacle: &Poly) -> Result<Zone, Memory>
+        requires body { IsTrue (length body.now == 1 || is_strictly_convex body.now) }
+        requires body_within { IsTrue (list_all (is_corner_between LEAST_BODY_COORDINATE MOST_BODY_COORDINATE) body.now) }
+        requires obstacle { is_strictly_convex obstacle.now ≡ true }
+        requires obstacle_within { IsTrue (list_all (is_corner_between LEAST_SUMMAND_COORDINATE MOST_SUMMAND_COORDINATE) obstacle.now) }
+        ensures zone { IfOk result (λ zone. IsZoneOf body.now obstacle.now zone) }
+    {
+        let reflected = reflected(alloc, body.as_slice())?;
+        let turning = outline(alloc, reflected.as_slice())?;
+        let standing = outline(alloc, obstacle.as_slice())?;
+        let corners = merged(alloc, standing.as_slice(), turning.as_slice())?;
+        Ok(Zone::from_corners(corners))
+    }
+
+    /// The zone with these corners.
+    fn from_corners(corners: Vec<Vertex>) -> Zone
+        requires convex { is_strictly_convex corners.items ≡ true }
+        requires bounded { AreBoundedCorners corners.items }
+        ensures { result ≡ corners.items }
+    {
+        let (low, high) = bounding_box(corners.as_slice());
+        Zone { corners, low, high }
+    }
+
+    /// The corners, counterclockwise, from the lowest and of these the leftmost, in lattice steps. O(1); no memory.
+    pub fn corners(&self) -> &[Vertex]
+        ensures value { result.now ≡ self.now }
+        ensures convex { is_strictly_convex self.now ≡ true }
+        ensures bounded { AreBoundedCorners self.now }
+    {
+        self.corners.as_slice()
+    }
+
+    /// The lower left corner of the bounding box, in lattice steps. O(1).
+    pub fn low(&self) -> Vertex
+        ensures { IsLowEnd self.now result }
+    {
+        self.low
+    }
+
+    /// The upper right corner of the bounding box, in lattice steps. O(1).
+    pub fn high(&self) -> Vertex
+        ensures { IsHighEnd self.now result }
+    {
+        self.high
+    }
+
+    /// Whether the body at a configuration meets the obstacle. O(1) outside the bounding box, otherwise one orientation of
+    /// 64 bits for each edge; no memory.
+    pub fn has(&self, p: Point) -> bool
+        ensures { IsTrue result ↔ IsInside self.now (at_lattice p) }
+    {
+        if !is_in_box(self.low, self.high, p) {
+            return false;
+        }
+        let p = Vertex {
+            x: p.x as i32,
+            y: p.y as i32,
+        };
+        is_inside(self.corners.as_slice(), p)
+    }
+}
+
+#[cfg(test)]
+mod tests;

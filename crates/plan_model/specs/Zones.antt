@@ -1,0 +1,18 @@
+-- Zones: configuration-space obstacles, the Minkowski sum of an obstacle and the reflected body.
+use Rattle.std.specs.Prelude.{◌≡◌, ◌↔◌, ℕ, ◌<◌, ◌<ℤ◌, ◌≤ℤ◌, ◌⊎◌, true, List, length}
+use Rattle.plan_model.specs.declared.geometry.Vertex.{Vertex}
+use Rattle.plan_model.specs.Convexity.{corner_at, is_strictly_convex}
+use Rattle.plan_model.specs.HalfPlanes.{IsInside}
+use Rattle.plan_model.specs.Meeting.{Meets}
+use Rattle.plan_model.specs.RoomOfConfigurations.{Rational}
+
+-- a is lower than b, or as low and not further right
+abbrev pub IsLowerOrLeft : Vertex → Vertex → Type 0
+IsLowerOrLeft a b = (a.y <ℤ b.y) ⊎ ((a.y ≡ b.y) × (a.x ≤ℤ b.x))
+
+-- These are the corners of the set of points at which the body meets the obstacle: counterclockwise, none between two
+-- others, from the lowest and of these the leftmost.
+pub record IsZoneOf (body obstacle corners : List Vertex) : Type 0 where
+  pub exact : (q : Rational) → Meets body q obstacle ↔ IsInside corners q
+  pub convex : is_strictly_convex corners ≡ true
+  pub first : (i : ℕ) → i < length corners → IsLowerOrLeft (corner_at corners 0) (corner_at corners i)
