@@ -1,22 +1,20 @@
 -- Least and greatest coordinates, and the box in which a convex polygon lies.
-use Rattle.std.proofs.Common.{◌≡◌, ℕ, suc, ◌+◌, ◌*◌, ◌<◌, ◌≤◌, List, length, refl, arith, Bool, true, false, cond, ◌∙◌}
-use Rattle.std.specs.Prelude.{ℤ, pos, negsuc, ◌+ℤ◌, ◌-ℤ◌, ◌*ℤ◌, ◌≤ℤ◌, ◌<ℤ◌, int_lt}
+use Rattle.std.proofs.Common.{◌≡◌, ℕ, suc, ◌+◌, ◌<◌, List, length, refl, arith, Bool, true, false, cond, ◌∙◌}
+use Rattle.std.specs.Prelude.{ℤ, pos, negsuc, ◌+ℤ◌, ◌-ℤ◌, ◌*ℤ◌, ◌≤ℤ◌, int_lt}
 use Rattle.std.specs.Int.{int_min, int_max}
-use Rattle.std.proofs.lemmas.Int.{ints, by_lt_z}
-use borrow.Author.Differences.{up, down}
+use Rattle.std.proofs.lemmas.Int.{ints}
 use borrow.Author.Count.{below_more}
 use Rattle.plan_model.specs.declared.geometry.Vertex.{Vertex}
 use Rattle.plan_model.specs.Convexity.{corner_at}
 use Rattle.plan_model.specs.HalfPlanes.{IsInside}
 use Rattle.plan_model.specs.RoomOfConfigurations.{Rational, at_lattice}
 use Rattle.convex_sets.specs.Boxes.{IsLowEnd, IsHighEnd, IsBoxed, IsInBox}
-use Rattle.convex_sets.specs.Bounds.{IsBoundedCorner}
-use Rattle.convex_sets.proofs.Corners.{IsWithin, bounded_corner, bounded_at, bounded_of}
+use Rattle.convex_sets.proofs.Corners.{IsWithin, bounded_corner, bounded_at}
 use Rattle.plan_model.specs.declared.geometry.Point.{Point}
-use Rattle.convex_sets.proofs.Ring.{Read, var, plus, minus, times, same}
+use Rattle.convex_sets.proofs.Ring.{var, plus, minus, times, same}
 use Rattle.convex_sets.proofs.Signs.{mul-not_negative, not_negative_factor}
 use Rattle.convex_sets.proofs.ConvexPolygons.{IsConvex, IsConvex-from_test}
-use Rattle.convex_sets.proofs.Fans.{IsMeanOf, fan}
+use Rattle.convex_sets.proofs.Fans.{fan}
 
 -- a coordinate of some corner, below none of the first corners
 pub record IsLeast (f : Vertex → ℤ) (corners : List Vertex) (n : ℕ) (v : ℤ) : Type 0 where

@@ -1,18 +1,17 @@
 -- A closed merged outline is a strictly convex polygon.
-use Rattle.std.proofs.Common.{◌≡◌, ◌≢◌, ◌⊎◌, ℕ, zero, suc, ◌+◌, ◌-◌, ◌<◌, ◌≤◌, List, [], ◌∷◌, ◌++◌, length, refl, sym, ap, subst, ◌∙◌, inl, inr, arith, true}
-use Rattle.std.specs.Prelude.{ℤ, pos, negsuc, ◌+ℤ◌, ◌-ℤ◌, ◌*ℤ◌, ◌<ℤ◌, ◌≤ℤ◌}
+use Rattle.std.proofs.Common.{◌≡◌, ◌≢◌, ◌⊎◌, ℕ, zero, suc, ◌-◌, ◌<◌, ◌≤◌, List, [], ◌∷◌, ◌++◌, length, sym, ap, ◌∙◌, inl, inr, arith}
+use Rattle.std.specs.Prelude.{pos, ◌<ℤ◌, ◌≤ℤ◌}
 use Rattle.std.proofs.lemmas.Int.{ints, by_lt_z}
 use Rattle.std.proofs.lemmas.Bool.{cases_lt}
 use Rattle.plan_model.specs.declared.geometry.Vertex.{Vertex}
-use Rattle.plan_model.specs.Convexity.{corner_at, next_corner, is_strictly_convex}
-use Rattle.plan_model.specs.Geometry.{orientation}
+use Rattle.plan_model.specs.Convexity.{corner_at, next_corner}
 use Rattle.convex_sets.specs.Edges.{cross, from_to}
-use Rattle.convex_sets.specs.Outlines.{both, edge_at, start, rise, IsOutline, IsSum, IsMerged}
+use Rattle.convex_sets.specs.Outlines.{both, edge_at, start, rise, IsOutline, IsMerged}
 use Rattle.convex_sets.proofs.Crosses.{cross-by_way}
 use Rattle.convex_sets.proofs.MergeSteps.{zero_vector}
 use Rattle.convex_sets.proofs.MergedPaths.{IsPath, IsMergedTo, cross-sums, at_front, at_end, pushed}
 use Rattle.convex_sets.proofs.Turns.{IsBefore, IsBefore-ahead, IsBefore-trans, not_after, not_before, not_between}
-use Rattle.convex_sets.proofs.ConvexPolygons.{IsConvex, test-from_IsConvex, next_suc, next_last}
+use Rattle.convex_sets.proofs.ConvexPolygons.{test-from_IsConvex, next_suc, next_last}
 
 -- a path whose last corner is the first again
 module _ (a b : List Vertex) (first : IsOutline a) (second : IsOutline b) (zs : List Vertex) (e : Vertex) (path : IsPath a b zs e) (m : ℕ)

@@ -1,15 +1,14 @@
 -- Strictly convex polygons, corner by corner.
-use Rattle.std.proofs.Common.{◌≡◌, ◌≢◌, ◌↔◌, ◌⊎◌, inl, inr, ℕ, suc, ◌+◌, ◌<◌, ◌≤◌, Bool, true, false, ◌&&◌, ◌||◌, nat_le, eqb, List, length}
-use Rattle.std.proofs.Common.{refl, sym, ap, ◌∙◌, arith, cond, eq-eqb}
-use Rattle.std.specs.Prelude.{ℤ, pos, ◌+ℤ◌, ◌-ℤ◌, ◌*ℤ◌, ◌<ℤ◌, ◌≤ℤ◌, int_lt}
+use Rattle.std.proofs.Common.{◌≡◌, ◌≢◌, ◌⊎◌, inl, inr, ℕ, suc, ◌+◌, ◌<◌, ◌≤◌, Bool, true, false, ◌&&◌, nat_le, eqb, List, length}
+use Rattle.std.proofs.Common.{refl, sym, ◌∙◌, arith, cond, eq-eqb}
+use Rattle.std.specs.Prelude.{pos, ◌<ℤ◌, int_lt}
 use Rattle.std.proofs.lemmas.Int.{ints}
 use Rattle.std.proofs.lemmas.Bool.{leb-true, eqb-true, cases_lt}
 use Rattle.std.specs.List.{list_all, range_with_len}
 use Rattle.plan_model.specs.declared.geometry.Vertex.{Vertex}
 use Rattle.plan_model.specs.Convexity.{corner_at, next_corner, is_left_of_edge, is_strictly_convex}
 use Rattle.plan_model.specs.Geometry.{orientation}
-use Rattle.convex_sets.specs.Edges.{cross, from_to, is_end_or_left}
-use Rattle.convex_sets.proofs.Crosses.{cross_self}
+use Rattle.convex_sets.specs.Edges.{is_end_or_left}
 use Rattle.convex_sets.proofs.Tests.{both_true, both_hold, true_below, true_of_below, false_below, last_true, one_true}
 
 pub left_of_edge : (corners : List Vertex) (i to : ℕ) → to ≡ next_corner (length corners) i

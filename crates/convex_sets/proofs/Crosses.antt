@@ -1,15 +1,13 @@
 -- Laws of the cross product of plane vectors.
-use Rattle.std.proofs.Common.{◌≡◌, ℕ, ◌+◌, ◌*◌, arith}
-use Rattle.std.specs.Prelude.{ℤ, pos, ◌+ℤ◌, ◌-ℤ◌, ◌*ℤ◌, ◌<ℤ◌, ◌≤ℤ◌}
+use Rattle.std.proofs.Common.{◌≡◌, arith}
+use Rattle.std.specs.Prelude.{pos, ◌+ℤ◌, ◌-ℤ◌, ◌*ℤ◌, ◌<ℤ◌, ◌≤ℤ◌}
 use Rattle.std.proofs.lemmas.Int.{ints}
-use borrow.Author.Differences.{up, down}
 use Rattle.plan_model.specs.declared.geometry.Vertex.{Vertex}
 use Rattle.plan_model.specs.Convexity.{}
-use Rattle.plan_model.specs.Geometry.{orientation}
 use Rattle.convex_sets.specs.Edges.{cross, from_to}
 use Rattle.convex_sets.specs.Outlines.{both}
 use Rattle.convex_sets.proofs.Ring.{Read, var, plus, minus, times, same}
-use Rattle.convex_sets.proofs.Signs.{mul-positive, mul-not_negative, not_negative_factor, positive_factor}
+use Rattle.convex_sets.proofs.Signs.{mul-not_negative, not_negative_factor}
 
 abbrev pub cross_is : (u v : Vertex) → Read (cross u v)
 cross_is u v = minus (times (var u.x) (var v.y)) (times (var u.y) (var v.x))

@@ -1,11 +1,10 @@
 -- A point on the inner side of every edge of a strictly convex polygon lies in a triangle of the fan from its first corner.
-use Rattle.std.proofs.Common.{◌≡◌, ◌≢◌, ◌⊎◌, ℕ, ◌+◌, ◌-◌, ◌*◌, ◌<◌, ◌≤◌, zero, suc, List, length, refl, sym, ap, ◌∙◌, arith, inl, inr}
+use Rattle.std.proofs.Common.{◌≡◌, ℕ, ◌+◌, ◌-◌, ◌<◌, ◌≤◌, zero, suc, List, length, refl, ◌∙◌, arith}
 use Rattle.std.specs.Prelude.{ℤ, pos, negsuc, ◌+ℤ◌, ◌-ℤ◌, ◌*ℤ◌, ◌<ℤ◌, ◌≤ℤ◌}
 use Rattle.std.proofs.lemmas.Int.{ints, by_lt_z}
-use borrow.Author.Differences.{up, down}
 use Rattle.plan_model.specs.declared.geometry.Vertex.{Vertex}
 use Rattle.plan_model.specs.Convexity.{corner_at, next_corner}
-use Rattle.plan_model.specs.HalfPlanes.{IsInside, side_of, side_of_edge}
+use Rattle.plan_model.specs.HalfPlanes.{IsInside, side_of}
 use Rattle.plan_model.specs.RoomOfConfigurations.{Rational}
 use Rattle.convex_sets.specs.Boxes.{at_corner}
 use Rattle.convex_sets.specs.Edges.{cross, from_to}

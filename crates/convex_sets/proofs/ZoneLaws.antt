@@ -1,7 +1,7 @@
 -- The merged outline of an obstacle and the reflected body is the zone: where the body meets the obstacle.
-use Rattle.std.proofs.Common.{◌≡◌, ◌≢◌, ◌⊎◌, ◌↔◌, ℕ, zero, suc, ◌+◌, ◌<◌, ◌≤◌, Bool, true, false, ◌||◌, ◌==◌, List, [], ◌∷◌, length, map, refl}
+use Rattle.std.proofs.Common.{◌≡◌, ℕ, zero, suc, ◌<◌, Bool, true, false, ◌||◌, ◌==◌, List, [], ◌∷◌, length, map, refl}
 use Rattle.std.proofs.Common.{sym, ap, subst, ◌∙◌, inl, inr, arith}
-use Rattle.std.specs.Prelude.{ℤ, pos, negsuc, neg_ℤ, ◌+ℤ◌, ◌-ℤ◌, ◌*ℤ◌, ◌<ℤ◌, ◌≤ℤ◌}
+use Rattle.std.specs.Prelude.{ℤ, pos, negsuc, ◌≤ℤ◌}
 use Rattle.std.specs.List.{list_all}
 use Rattle.std.proofs.lemmas.Int.{ints, by_lt_z}
 use Rattle.plan_model.specs.declared.geometry.Vertex.{Vertex}
@@ -12,14 +12,14 @@ use Rattle.plan_model.specs.Limits.{is_corner_between}
 use Rattle.plan_model.specs.Meeting.{Meets}
 use Rattle.plan_model.specs.RoomOfConfigurations.{Rational}
 use Rattle.plan_model.specs.Zones.{IsZoneOf, IsLowerOrLeft}
-use Rattle.convex_sets.specs.Bounds.{AreBoundedCorners, IsBoundedCorner}
+use Rattle.convex_sets.specs.Bounds.{AreBoundedCorners}
 use Rattle.convex_sets.specs.Edges.{cross, from_to}
-use Rattle.convex_sets.specs.Outlines.{both, reflection, rise, IsMerged, IsOutlineOf, IsSum}
-use Rattle.convex_sets.proofs.Ring.{Read, var, plus, minus, times, opposite, same}
+use Rattle.convex_sets.specs.Outlines.{both, reflection, IsMerged, IsOutlineOf, IsSum}
+use Rattle.convex_sets.proofs.Ring.{var, minus, times, opposite, same}
 use Rattle.convex_sets.proofs.Tests.{true_at, true_of_all}
-use Rattle.convex_sets.proofs.Corners.{IsWithin, within_of, bounded_of, bounded_corner, bounded_at}
+use Rattle.convex_sets.proofs.Corners.{within_of, bounded_of, bounded_corner, bounded_at}
 use Rattle.convex_sets.proofs.MergeSteps.{zero_vector}
-use Rattle.convex_sets.proofs.MergedPaths.{cross-sums, same_vector}
+use Rattle.convex_sets.proofs.MergedPaths.{cross-sums}
 use Rattle.convex_sets.proofs.ConvexPolygons.{IsConvex, IsConvex-from_test, test-from_IsConvex, next_within}
 use Rattle.convex_sets.proofs.Fans.{fan, out_to}
 use Rattle.convex_sets.proofs.Hulls.{difference, turned_back, meets_left, IsDifference, Meets-mean}

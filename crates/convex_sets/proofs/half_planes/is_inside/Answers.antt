@@ -1,6 +1,5 @@
 use Rattle.std.proofs.Common.{refl, arith}
 use Rattle.std.proofs.lemmas.Int.{ints}
-use Rattle.std.specs.Prelude.{pos, ◌≤ℤ◌}
 use borrow.Author.Count.{below_more}
 use Rattle.convex_sets.proofs.Fans.{not_inside, inside_at}
 use Rattle.convex_sets.proofs.half_planes.is_inside.Goals as goal

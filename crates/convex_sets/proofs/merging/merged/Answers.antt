@@ -1,5 +1,4 @@
-use Rattle.std.proofs.Common.{inl, inr, arith, add-one, w32, to_z, of_z, ◌≡◌}
-use Rattle.std.specs.Prelude.{ℕ, ◌<◌, length, negsuc, pos}
+use Rattle.std.proofs.Common.{inl, inr, arith}
 use Rattle.std.proofs.lemmas.Int.{ints}
 use Rattle.plan_model.specs.Convexity.{corner_at}
 use Rattle.convex_sets.proofs.Corners.{bounded_corner, bounded_at}

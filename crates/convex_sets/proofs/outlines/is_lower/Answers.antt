@@ -1,6 +1,5 @@
 use Rattle.std.proofs.Common.{◌≡◌, w32, to_z, of_z, arith}
 use Rattle.std.proofs.lemmas.Int.{ints}
-use Rattle.convex_sets.proofs.Corners.{bounded_corner}
 use Rattle.convex_sets.proofs.Lows.{lt_cases, rise-lower, rise-left}
 use Rattle.convex_sets.proofs.outlines.is_lower.Goals as goal
 

@@ -1,4 +1,4 @@
-use Rattle.std.proofs.Common.{ℕ, List, Result, Ok, Err, IfOk, arith}
+use Rattle.std.proofs.Common.{List, Result, Ok, Err, IfOk}
 use Rattle.plan_model.specs.declared.geometry.Vertex.{Vertex}
 use Rattle.convex_sets.specs.Outlines.{IsTurned}
 use Rattle.convex_sets.proofs.Turned.{IsRound, IsRound-point, IsRound-polygon}

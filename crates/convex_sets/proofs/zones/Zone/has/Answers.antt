@@ -1,4 +1,4 @@
-use Rattle.std.proofs.Common.{◌≡◌, sym, subst, arith, w32, to_z, List, true}
+use Rattle.std.proofs.Common.{◌≡◌, sym, subst, arith, w32, to_z, List}
 use Rattle.std.specs.Prelude.{pos}
 use Rattle.std.proofs.lemmas.Int.{ints}
 use Rattle.plan_model.specs.declared.geometry.Vertex.{Vertex}

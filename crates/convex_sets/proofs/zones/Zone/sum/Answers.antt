@@ -1,8 +1,7 @@
-use Rattle.std.proofs.Common.{◌≡◌, ◌∙◌, ◌||◌, ap, map, List, true, length, ◌==◌, arith}
+use Rattle.std.proofs.Common.{◌≡◌, ◌∙◌, ap, map, List, arith}
 use Rattle.std.specs.Prelude.{pos, negsuc}
 use Rattle.std.proofs.lemmas.Int.{ints}
 use Rattle.plan_model.specs.declared.geometry.Vertex.{Vertex}
-use Rattle.plan_model.specs.Convexity.{is_strictly_convex}
 use Rattle.convex_sets.specs.Bounds.{AreBoundedCorners}
 use Rattle.convex_sets.specs.Outlines.{reflection, IsMerged, IsOutlineOf}
 use Rattle.convex_sets.proofs.ZoneLaws.{bounded_corners, bounded-reflected, shape-reflected, zone_is, zone_bounded}
