@@ -105,6 +105,6 @@ EndsPlaced-nearest setup tree k nearest mark p gamma steers free clear =
       free = free;
       clear = clear;
       parent = IsBestParent-nearest setup tree nearest p gamma free clear;
-      account = refl;
+      recorded = refl;
       rewired = subst P (sym (near_new-none setup (points_of tree) p gamma free)) refl;
     }

@@ -8,7 +8,7 @@ use Rattle.plan_model.specs.declared.trees.Twig.{Twig}
 use Rattle.plan_model.specs.Geometry.{squared_distance}
 use Rattle.plan_model.specs.Cost.{cost_of}
 use Rattle.plan_model.specs.PointsByNumber.{point_at, IsPresent, point_of}
-use Rattle.plan_model.specs.Trees.{node_at, points_of, parent_or_start, parent_of, sum_of, edge_of, CostsFall, AreTight}
+use Rattle.plan_model.specs.Trees.{node_at, points_of, parent_or_zero, parent_of, sum_of, edge_of, CostsFall, AreTight}
 use Rattle.plan_model.proofs.RootLaws.{root_ceiling-is}
 use Rattle.plan_model.proofs.EmptyRoomRuns.{same-from_distance}
 use Rattle.plan_model.proofs.ChainLaws.{sums-tight}
@@ -54,7 +54,7 @@ module _ (costs later : ℕ → ℕ) (tree after : List (Option Twig)) (same : (
   was_present n h = ap is_some (sym (point_at-same after tree n (same n))) ∙ h
 
   parent_is : (n : ℕ) → parent_of after n ≡ parent_of tree n
-  parent_is n = ap parent_or_start (same n)
+  parent_is n = ap parent_or_zero (same n)
 
   point_is : (n : ℕ) → point_of (points_of after) n ≡ point_of (points_of tree) n
   point_is n = ap (λ o. unwrap_or o (record { x = 0; y = 0 })) (point_at-same after tree n (same n))

@@ -5,7 +5,7 @@ use Rattle.std.proofs.lemmas.Bool.{cases_lt, cases_order}
 use Rattle.plan_model.specs.declared.geometry.Point.{Point}
 use Rattle.plan_model.specs.declared.trees.Twig.{Twig}
 use Rattle.plan_model.specs.PointsByNumber.{point_at, StandsAt, IsPresent, point_of, IsFree, AreDistinct, node_count}
-use Rattle.plan_model.specs.Trees.{node_at, points_of, parent_or_start, parent_of}
+use Rattle.plan_model.specs.Trees.{node_at, points_of, parent_or_zero, parent_of}
 use Rattle.plan_model.proofs.ChainLaws.{node_count-cons}
 use Rattle.plan_model.proofs.TreeChanges.{point_at-points_of, node_at-push, node_at-push_new, node_at-past}
 
@@ -102,14 +102,14 @@ module _ (tree : List (Option Twig)) (number : ℕ) (node : Twig) (after : List 
   point_of-kept n h = ap (λ o. unwrap_or o (record { x = 0; y = 0 })) (point_at-kept n h)
 
   pub parent_of-kept : (n : ℕ) → IsPresent (points_of tree) n → parent_of after n ≡ parent_of tree n
-  parent_of-kept n h = ap parent_or_start (node_at-kept n h)
+  parent_of-kept n h = ap parent_or_zero (node_at-kept n h)
 
   -- the new node
   pub StandsAt-new : StandsAt (points_of after) number node.point
   StandsAt-new = StandsAt-node after number node adds.here
 
   pub parent_of-new : parent_of after number ≡ node.parent
-  parent_of-new = ap parent_or_start adds.here
+  parent_of-new = ap parent_or_zero adds.here
 
   -- a node of the longer tree is the new one, or was there
   pub new_or_kept : (n : ℕ) (p : Point) → StandsAt (points_of after) n p → ((n ≡ number) × (p ≡ node.point)) ⊎ StandsAt (points_of tree) n p

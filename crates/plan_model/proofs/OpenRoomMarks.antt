@@ -57,7 +57,7 @@ EndsPlaced-placeable tree k m p f cost class near after h =
         };
         not_above = λ i own. All-contains (IsNotAbove (cost_through tree p) f) (m ∷ near_new open_setup points p) i best own.among;
       };
-      account = ap (λ c. placed_record k m f c class) (sym h.costs) ∙ ap (placed_record k m f (cost_through tree p f)) (sym h.of_class);
+      recorded = ap (λ c. placed_record k m f c class) (sym h.costs) ∙ ap (placed_record k m f (cost_through tree p f)) (sym h.of_class);
       rewired = subst R (sym h.are_near) h.rewired;
     }
 

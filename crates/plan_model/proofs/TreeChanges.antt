@@ -36,7 +36,7 @@ use Rattle.std.proofs.lemmas.List.{map-append}
 use Rattle.plan_model.specs.declared.geometry.Point.{Point}
 use Rattle.plan_model.specs.declared.trees.Twig.{Twig}
 use Rattle.plan_model.specs.PointsByNumber.{point_at, point_of, node_count}
-use Rattle.plan_model.specs.Trees.{node_at, points_of, parent_or_start, parent_of, chain_within, chain, length_of_path, sum_of}
+use Rattle.plan_model.specs.Trees.{node_at, points_of, parent_or_zero, parent_of, chain_within, chain, length_of_path, sum_of}
 
 -- where node n stands, by the node itself
 pub point_at-points_of : (tree : List (Option Twig)) (n : ℕ) → point_at (points_of tree) n ≡ option_map (λ node. node.point) (node_at tree n)
@@ -83,7 +83,7 @@ chain_within-same :
 chain_within-same one other zero n h = refl
 chain_within-same one other (suc most) zero h = refl
 chain_within-same one other (suc most) (suc n) h =
-    let parent : parent_of one (suc n) ≡ parent_of other (suc n) = ap parent_or_start (h.same (suc n)) in
+    let parent : parent_of one (suc n) ≡ parent_of other (suc n) = ap parent_or_zero (h.same (suc n)) in
     ap (λ m. suc n ∷ chain_within most (parent_of one) m) parent ∙ ap (λ ns. suc n ∷ ns) (chain_within-same one other most (parent_of other (suc n)) h)
 
 pub chain-same : (one other : List (Option Twig)) (n : ℕ) → HaveSameNodes one other → chain one n ≡ chain other n

@@ -112,13 +112,13 @@ SteersTo-unique setup points mark m n p q f g =
 
 -- ---- the outcomes of one mark
 
--- two accounts of one mark are the same, and so are the trees after it
+-- two records of one mark are the same, and so are the trees after it
 pub record EndAlike (one other : Record) (tree others : Nodes) : Type 0 where
   pub records : one ≡ other
   pub trees : tree ≡ others
 
 module _ (setup : Setup) (tree : Nodes) (k : ℕ) (mark : Point) where
-  -- two accounts of a mark that ends at a node are the same: no two nodes stand at one point
+  -- two records of a mark that ends at a node are the same: no two nodes stand at one point
   EndsSame-unique :
       (i j : ℕ) (one other : Record) (after others : Nodes) → AreDistinct (points_of tree)
       → EndsSame setup tree k mark i one after → EndsSame setup tree k mark j other others → EndAlike one other after others
@@ -127,22 +127,22 @@ module _ (setup : Setup) (tree : Nodes) (k : ℕ) (mark : Point) where
       let stands : StandsAt (points_of tree) j e.point = f.stands ∙ ap Some (sym steer.point) in
       let node : i ≡ j = distinct i j e.point e.stands stands in
       record {
-        records = e.account ∙ ap (λ n. same_record k n i) steer.nearest ∙ ap (same_record k other.nearest) node ∙ sym f.account;
+        records = e.recorded ∙ ap (λ n. same_record k n i) steer.nearest ∙ ap (same_record k other.nearest) node ∙ sym f.recorded;
         trees = e.added ∙ sym f.added;
       }
 
-  -- two accounts of a blocked mark are the same
+  -- two records of a blocked mark are the same
   EndsBlocked-unique :
       (one other : Record) (after others : Nodes)
       → EndsBlocked setup tree k mark one after → EndsBlocked setup tree k mark other others → EndAlike one other after others
   EndsBlocked-unique one other after others e f =
       let steer = SteersTo-unique setup (points_of tree) mark one.nearest other.nearest e.point f.point e.steers f.steers in
       record {
-        records = e.account ∙ ap (blocked_record k) steer.nearest ∙ sym f.account;
+        records = e.recorded ∙ ap (blocked_record k) steer.nearest ∙ sym f.recorded;
         trees = e.added ∙ sym f.added;
       }
 
-  -- two accounts of a placed mark are the same
+  -- two records of a placed mark are the same
   EndsPlaced-unique :
       (one other : Record) (after others : Nodes)
       → EndsPlaced setup tree k mark one after → EndsPlaced setup tree k mark other others → EndAlike one other after others
@@ -154,7 +154,7 @@ module _ (setup : Setup) (tree : Nodes) (k : ℕ) (mark : Point) where
       subst P (sym steer.nearest) (subst Q (sym steer.point) f.parent)) in
       let parent : one.first_parent ≡ other.first_parent =
       IsBestParent-unique setup tree one.nearest e.point one.first_parent other.first_parent e.parent own in
-      let account : ℕ → ℕ → Point → Record =
+      let record_by : ℕ → ℕ → Point → Record =
       λ n g p. placed_record k n g (cost_through tree p g) (class_of (node_count (points_of tree))) in
       let rewired : ℕ → Point → Type 0 =
       λ g p. Rewires setup.space (tree ++ Some (record { point = p; parent = g }) ∷ []) (suc k) (near_new setup (points_of tree) p) others in
@@ -164,11 +164,11 @@ module _ (setup : Setup) (tree : Nodes) (k : ℕ) (mark : Point) where
       subst P (sym parent) (subst Q (sym steer.point) f.rewired)) in
       record {
         records =
-            e.account
-            ∙ ap (λ n. account n one.first_parent e.point) steer.nearest
-            ∙ ap (λ g. account other.nearest g e.point) parent
-            ∙ ap (account other.nearest other.first_parent) steer.point
-            ∙ sym f.account;
+            e.recorded
+            ∙ ap (λ n. record_by n one.first_parent e.point) steer.nearest
+            ∙ ap (λ g. record_by other.nearest g e.point) parent
+            ∙ ap (record_by other.nearest other.first_parent) steer.point
+            ∙ sym f.recorded;
         trees =
             Rewires-unique setup.space (tree ++ Some (record { point = e.point; parent = one.first_parent }) ∷ []) (suc k)
             (near_new setup (points_of tree) e.point) after others e.rewired moved;
@@ -199,7 +199,7 @@ module _ (setup : Setup) (tree : Nodes) (k : ℕ) (mark : Point) where
       let Q : Point → Type 0 = λ p. Clear setup.space (point_of (points_of tree) other.nearest) p in
       e.blocked (subst P (sym steer.nearest) (subst Q (sym steer.point) f.clear))
 
-  -- whatever the outcomes, two accounts of a mark are the same
+  -- whatever the outcomes, two records of a mark are the same
   pub Ends-unique :
       (one_outcome other_outcome : Outcome) (one other : Record) (after others : Nodes) → AreDistinct (points_of tree)
       → Ends setup tree k mark one_outcome one after → Ends setup tree k mark other_outcome other others → EndAlike one other after others
@@ -244,10 +244,10 @@ IsTextbookRun-one_tree setup start marks one other records entries r s =
     (HandlesAll-unique setup 0 (start_alone start) marks records entries one other (AreDistinct-start start) r s).trees
 
 -- and one list of records
-pub IsTextbookRun-one_account :
+pub IsTextbookRun-one_records :
     (setup : Setup) (start : Point) (marks : List Point) (one other : Nodes) (records entries : List Record)
     → IsTextbookRun setup start marks one records → IsTextbookRun setup start marks other entries → records ≡ entries
-IsTextbookRun-one_account setup start marks one other records entries r s =
+IsTextbookRun-one_records setup start marks one other records entries r s =
     (HandlesAll-unique setup 0 (start_alone start) marks records entries one other (AreDistinct-start start) r s).records
 
 -- scenes with the same space, step and gamma have the same setup

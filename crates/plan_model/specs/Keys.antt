@@ -2,7 +2,7 @@
 use Rattle.std.specs.Prelude.{ℕ, ◌*◌, ◌%◌, ◌==◌, nat_le, ◌&&◌, ◌||◌, Bool, ℤ, pos, Option, Some, None, List, [], ◌∷◌, bytes_eq, codes, if◌then◌else◌}
 use Rattle.plan_model.specs.declared.text_terms.Key.{Key}
 use Rattle.plan_model.specs.declared.text_terms.Key.TheVariants as keys
-use Rattle.plan_model.specs.declared.limits.TheConstants.{LEAST_BODY_COORDINATE, LEAST_CORNERS, LEAST_OBSTACLE_COORDINATE, LEAST_SIDE, LEAST_STEP}
+use Rattle.plan_model.specs.declared.limits.TheConstants.{LEAST_BODY_COORDINATE, LEAST_CORNERS, LEAST_OBSTACLE_COORDINATE, LEAST_SIDE, LEAST_STEP, LEAST_STRIPS}
 use Rattle.plan_model.specs.declared.limits.TheConstants.{MOST_BODY_COORDINATE, MOST_BODY_CORNERS, MOST_GAMMA, MOST_MARKS, MOST_OBSTACLE_COORDINATE}
 use Rattle.plan_model.specs.declared.limits.TheConstants.{MOST_OBSTACLE_CORNERS, MOST_OBSTACLES, MOST_SIDE, MOST_STEP, MOST_STRIPS}
 
@@ -89,7 +89,7 @@ least_of keys.Room = pos LEAST_SIDE
 least_of keys.Body = LEAST_BODY_COORDINATE
 least_of keys.Obstacle = LEAST_OBSTACLE_COORDINATE
 least_of keys.Step = pos LEAST_STEP
-least_of keys.Strips = pos 1
+least_of keys.Strips = pos LEAST_STRIPS
 least_of key = pos 0
 
 -- the greatest number that may stand after the key; a seed has 64 bits

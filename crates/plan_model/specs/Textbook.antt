@@ -127,7 +127,7 @@ pub record EndsSame (setup : Setup) (tree : Nodes) (k : ℕ) (mark : Point) (j :
   pub point : Point
   pub steers : SteersTo setup (points_of tree) mark entry.nearest point
   pub stands : StandsAt (points_of tree) j point
-  pub account : entry ≡ same_record k entry.nearest j
+  pub recorded : entry ≡ same_record k entry.nearest j
   pub added : after ≡ tree ++ None ∷ []
 
 -- The segment to the point that mark k steers to is not clear: nothing is placed.
@@ -136,7 +136,7 @@ pub record EndsBlocked (setup : Setup) (tree : Nodes) (k : ℕ) (mark : Point) (
   pub steers : SteersTo setup (points_of tree) mark entry.nearest point
   pub free : IsFree (points_of tree) point
   pub blocked : ¬ Clear setup.space (point_of (points_of tree) entry.nearest) point
-  pub account : entry ≡ blocked_record k entry.nearest
+  pub recorded : entry ≡ blocked_record k entry.nearest
   pub added : after ≡ tree ++ None ∷ []
 
 -- Mark k is placed: the new node stands under its best parent, and near nodes that are cheaper through it are rewired.
@@ -146,7 +146,7 @@ pub record EndsPlaced (setup : Setup) (tree : Nodes) (k : ℕ) (mark : Point) (e
   pub free : IsFree (points_of tree) point
   pub clear : Clear setup.space (point_of (points_of tree) entry.nearest) point
   pub parent : IsBestParent setup tree entry.nearest point entry.first_parent
-  pub account :
+  pub recorded :
       entry ≡ placed_record k entry.nearest entry.first_parent (cost_through tree point entry.first_parent) (class_of (node_count (points_of tree)))
   pub rewired :
       Rewires setup.space (tree ++ Some (record { point = point; parent = entry.first_parent }) ∷ []) (suc k) (near_new setup (points_of tree) point) after

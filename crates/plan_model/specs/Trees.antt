@@ -14,13 +14,13 @@ node_at tree n = slice_index_or tree n None
 abbrev pub points_of : List (Option Twig) → List (Option Point)
 points_of tree = map (option_map (λ node. node.point)) tree
 
-abbrev pub parent_or_start : Option Twig → ℕ
-parent_or_start None = 0
-parent_or_start (Some node) = node.parent
+abbrev pub parent_or_zero : Option Twig → ℕ
+parent_or_zero None = 0
+parent_or_zero (Some node) = node.parent
 
 -- the parent of a present node (definitions ask it of present nodes alone)
 abbrev pub parent_of : List (Option Twig) → ℕ → ℕ
-parent_of tree n = parent_or_start (node_at tree n)
+parent_of tree n = parent_or_zero (node_at tree n)
 
 -- node n, its parent, and so on up to node 0, as far as so many members go
 abbrev pub chain_within : ℕ → (ℕ → ℕ) → ℕ → List ℕ

@@ -1,4 +1,4 @@
-//! Points and corners of the plane, in lattice steps; the y axis points vertical.
+//! Points and corners of the plane, in lattice steps; the y axis points upwards.
 
 /// A configuration: where the body's origin stands.
 #[derive(Clone, Copy, Debug, PartialEq, Eq)]

@@ -12,6 +12,9 @@ pub const MOST_NODES: u32 = 262_144;
 /// The most workers that grow a tree.
 pub const MOST_WORKERS: u32 = 64;
 
+/// The fewest strips that a room is cut into.
+pub const LEAST_STRIPS: u32 = 1;
+
 /// The most strips that a room is cut into.
 pub const MOST_STRIPS: u32 = 64;
 
@@ -54,14 +57,15 @@ pub const LEAST_OBSTACLE_COORDINATE: i32 = -131_072;
 /// The greatest coordinate of an obstacle's corner, in lattice steps.
 pub const MOST_OBSTACLE_COORDINATE: i32 = 131_071;
 
-/// The least coordinate of a corner whose orientations are taken, in lattice steps: no product of two edges' lengths
-/// passes 2^46.
+/// The least coordinate of a corner whose orientations are taken, in lattice steps: no product of two coordinates of
+/// edges passes 2^46.
 pub const LEAST_CORNER_COORDINATE: i32 = -4_194_304;
 
 /// The greatest coordinate of a corner whose orientations are taken, in lattice steps.
 pub const MOST_CORNER_COORDINATE: i32 = 4_194_304;
 
-/// The least coordinate of an obstacle's corner in a Minkowski sum, in lattice steps.
+/// The least coordinate of an obstacle's corner in a Minkowski sum, in lattice steps. The range is symmetric, so that it
+/// holds for reflected polygons too.
 pub const LEAST_SUMMAND_COORDINATE: i32 = -2_097_152;
 
 /// The greatest coordinate of an obstacle's corner in a Minkowski sum, in lattice steps.

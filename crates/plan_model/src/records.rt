@@ -16,7 +16,7 @@ pub enum Outcome {
     Blocked,
 }
 
-/// The account of one mark.
+/// What became of one mark, and who handled it when.
 #[derive(Clone, Copy, Debug, PartialEq, Eq)]
 pub struct Record {
     /// The worker that handled the mark.

@@ -2,7 +2,7 @@
 
 ghost use Rattle.std.specs.Prelude.{◌≡◌, ◌≤◌, IsTrue};
 ghost use Rattle.plan_model.specs.Limits.{IsBetween, IsGoal, is_body, are_obstacles, is_plan};
-ghost use Rattle.plan_model.specs.declared.limits.TheConstants.{LEAST_SIDE, LEAST_STEP, MOST_GAMMA, MOST_SIDE, MOST_STEP, MOST_STRIPS};
+ghost use Rattle.plan_model.specs.declared.limits.TheConstants.{LEAST_SIDE, LEAST_STEP, LEAST_STRIPS, MOST_GAMMA, MOST_SIDE, MOST_STEP, MOST_STRIPS};
 
 use crate::geometry::{Goal, Point, Vertex};
 use crate::lists::Sequence;
@@ -61,7 +61,7 @@ pub struct Scene {
     ghost step_low: { LEAST_STEP ≤ step },
     ghost step_high: { step ≤ MOST_STEP },
     ghost gamma_high: { gamma ≤ MOST_GAMMA },
-    ghost strips_low: { 1 ≤ strips },
+    ghost strips_low: { LEAST_STRIPS ≤ strips },
     ghost strips_high: { strips ≤ MOST_STRIPS },
     ghost plan_within: { IsTrue (is_plan plan) },
 }

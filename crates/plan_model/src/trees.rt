@@ -16,7 +16,7 @@ pub struct Twig {
 /// Nodes by number; absent if the mark was not placed.
 pub type Twigs = Sequence<Option<Twig>>;
 
-/// A tree with its account of every mark.
+/// A tree with the record of every mark.
 #[derive(Debug, Drop)]
 pub struct Tree {
     pub twigs: Twigs,

@@ -7,7 +7,7 @@ use Rattle.plan_model.specs.declared.geometry.Point.{Point}
 use Rattle.plan_model.specs.declared.trees.Twig.{Twig}
 use Rattle.plan_model.specs.Bounds.{IsBounded}
 use Rattle.plan_model.specs.PointsByNumber.{IsPresent, StandsAt, point_at, point_of}
-use Rattle.plan_model.specs.Trees.{node_at, points_of, parent_or_start, parent_of, edge_of, CostsFall}
+use Rattle.plan_model.specs.Trees.{node_at, points_of, parent_or_zero, parent_of, edge_of, CostsFall}
 use Rattle.plan_model.proofs.ChainLaws.{sum-parent}
 use Rattle.plan_model.proofs.CostLaws.{cost_of-zero}
 use Rattle.plan_model.proofs.TreeChanges.{point_at-points_of, node_at-push, node_at-push_new, node_at-past}
@@ -57,7 +57,7 @@ module _ (tree : List (Option Twig)) (branch : IsBranch tree) where
   present n l = ap is_some (at_point n l)
 
   parent_is : (n : ℕ) → IsPresent (points_of tree) (suc n) → parent_of tree (suc n) ≡ n
-  parent_is n h = ap parent_or_start (branch (suc n) (stands (suc n) h)) ∙ omega arith
+  parent_is n h = ap parent_or_zero (branch (suc n) (stands (suc n) h)) ∙ omega arith
 
   parent_present : (n : ℕ) → IsPresent (points_of tree) (suc n) → IsPresent (points_of tree) (parent_of tree (suc n))
   parent_present n h = subst (IsPresent (points_of tree)) (sym (parent_is n h)) (present n (omega (arith, stands (suc n) h)))

@@ -6,7 +6,7 @@ use Rattle.plan_model.specs.declared.geometry.Point.{Point}
 use Rattle.plan_model.specs.declared.trees.Twig.{Twig}
 use Rattle.plan_model.specs.Cost.{cost_of}
 use Rattle.plan_model.specs.PointsByNumber.{point_at, point_of, IsPresent}
-use Rattle.plan_model.specs.Trees.{node_at, points_of, parent_or_start, parent_of, chain, sum_of, CostsFall}
+use Rattle.plan_model.specs.Trees.{node_at, points_of, parent_or_zero, parent_of, chain, sum_of, CostsFall}
 use Rattle.plan_model.specs.ReportText.{path_to}
 use Rattle.plan_model.proofs.ChainLaws.{chain-start, chain-parent, sum-parent}
 use Rattle.plan_model.proofs.TreeChanges.{point_at-points_of}
@@ -33,7 +33,7 @@ module _ (tree : List (Option Twig)) (fall : CostsFall (sum_of tree) tree) where
   steps_up (suc n) child other e =
       let stands = point_at-node tree (suc n) child e in
       let here : IsPresent (points_of tree) (suc n) = rw stands refl in
-      let parent : parent_of tree (suc n) ≡ child.parent = ap parent_or_start e in
+      let parent : parent_of tree (suc n) ≡ child.parent = ap parent_or_zero e in
       let at : point_of (points_of tree) (suc n) ≡ child.point = rw stands refl in
       let up : chain tree (suc n) ≡ suc n ∷ chain tree child.parent =
       chain-parent (sum_of tree) tree fall n here ∙ ap (λ (m : ℕ). suc n ∷ chain tree m) parent in

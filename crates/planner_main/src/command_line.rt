@@ -1,11 +1,13 @@
 //! The exit code of the program, from the words of its command line.
 
-ghost use Rattle.std.specs.Prelude.{◌≡◌, ◌≢◌, ℕ, ◌⊎◌, false, List, IfOk, IsErr};
+ghost use Rattle.std.specs.Prelude.{◌≡◌, ◌≢◌, ℕ, ◌⊎◌, false, List, IfOk, IfSome, IsErr};
 ghost use Rattle.std.specs.Process.{exit_status};
 ghost use Rattle.planner_main.specs.CommandLines.{given, words_after_name, IsOutOfMemory};
-ghost use Rattle.planner_main.specs.Commands.{command_of};
-ghost use Rattle.planner_main.specs.Conclusions.{IsAnswer};
-ghost use Rattle.planner_main.specs.Exchanges.{reading_of, writing_of, IsUnread, IsUnwritten, IsWritten, IsCutShort};
+ghost use Rattle.scene_text.specs.Fetching.{ReadsWithin};
+ghost use Rattle.planner_main.specs.Commands.{command_of, reads_scene};
+ghost use Rattle.planner_main.specs.Conclusions.{IsAnswer, Asks};
+ghost use Rattle.planner_main.specs.Decisions.{IsDecided};
+ghost use Rattle.planner_main.specs.Exchanges.{reading_of, writing_of, ReadFailed, WriteFailed, IsUnread, IsUnwritten, IsWritten, IsCutShort};
 
 use crate::statuses::{NO_MEMORY, WRITE_FAULT};
 use crate::top_call::run;
@@ -37,6 +39,16 @@ pub fn exit_code<S: Source, K: Sink>(
         let writing = writing_of K.counts_failures_alone K.bytes_taken K.fault_count sink.old sink.new in
         exit_status result ≡ WRITE_FAULT → (status : ℕ) × (text : List ℕ)
         × IsAnswer (command_of (words_after_name args)) reading (record { status = status }) text × IsCutShort writing text }
+    // if no count of faults rose, the bytes decide the code, or the program is out of memory
+    ensures decided { let reading = reading_of S.counts_failures_alone S.bytes_left S.has_ended S.fault_count source.old source.new in
+        let writing = writing_of K.counts_failures_alone K.bytes_taken K.fault_count sink.old sink.new in
+        (¬ ReadFailed reading) → (¬ WriteFailed writing) → (exit_status result ≡ NO_MEMORY)
+        ⊎ IfSome (command_of (words_after_name args)) (λ command. IsDecided reading.before command (exit_status result)) }
+    // unless the words ask for a command that reads a scene, nothing is read
+    ensures unread { (¬ Asks reads_scene (command_of (words_after_name args)))
+        → IsUnread (reading_of S.counts_failures_alone S.bytes_left S.has_ended S.fault_count source.old source.new) }
+    // never more than one byte past the limit of a text is read
+    ensures within { ReadsWithin (S.bytes_left source.old) (S.bytes_left source.new) }
     ensures no_words { IsOutOfMemory args → exit_status result ≡ NO_MEMORY }
 {
     match words_of(alloc, args) {

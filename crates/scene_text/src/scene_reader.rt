@@ -15,7 +15,7 @@ use std::alloc::Global;
 /// A text that is no scene by the grammar is refused at the first line that fails a check, with the first check that
 /// it fails; if something is missing, at the line after the last. The error is `Memory` if the program is out of memory.
 pub fn read_scene(alloc: Global, text: &[u8]) -> Result<Scene, SceneRefusal>
-    requires { length text.now < 4294967295 }
+    requires { length text.now < u32.MAX }
     ensures scene { IfOk result (λ scene. Spells supported text.now scene) }
     // with the number of the line and the kind of the first check that fails
     ensures fault { IfErr result (IsRefusal text.now) }

@@ -69,7 +69,7 @@ pub IsExtensionOf-same :
     → IsUnplaced extension (same_record k nearest number) → IsExtensionOf scene tree mark extension
 IsExtensionOf-same scene tree mark extension k nearest number from point h stands own =
     let P : ℕ → Type 0 = λ n. Handles (setup_of scene) tree.nodes.items n mark (same_record k nearest number) (tree.nodes.items ++ None ∷ []) in
-    let ends : P k = record { point = point; steers = steers_to scene tree mark k nearest from point h; stands = stands; account = refl; added = refl } in
+    let ends : P k = record { point = point; steers = steers_to scene tree mark k nearest from point h; stands = stands; recorded = refl; added = refl } in
     unplaced scene tree mark extension (same_record k nearest number) h.sound (subst P h.turn ends) own
 
 -- the segment to the point is not clear
@@ -85,7 +85,7 @@ IsExtensionOf-blocked scene tree mark extension k nearest from point h free bloc
       steers = steers_to scene tree mark k nearest from point h;
       free = free;
       blocked = subst Q h.begins blocked;
-      account = refl;
+      recorded = refl;
       added = refl;
     } in
     unplaced scene tree mark extension (blocked_record k nearest) h.sound (subst P h.turn ends) own

@@ -63,4 +63,5 @@ pub record ReportVectors : Type 0 where
   pub in_full :
       (scene : Scene) → scene.goal ≡ box 41 41 50 50 → full_report scene one_of_three three_records
       ≡ codes "no path\nnodes 2 placed 1 same 1 blocked 1\nnode 0 at 0 0 parent 0 cost 0\nnode 1 at 30 40 parent 0 cost 12800\n"
-      ++ codes "mark 0 worker 0 turn 0 nearest 0 placed class 1 first 0 12800\nmark 1 worker 0 turn 1 nearest 1 same 1\nmark 2 worker 0 turn 2 nearest 1 blocked\n"
+      ++ codes "mark 0 worker 0 turn 0 nearest 0 placed class 1 first 0 12800\n"
+      ++ codes "mark 1 worker 0 turn 1 nearest 1 same 1\nmark 2 worker 0 turn 2 nearest 1 blocked\n"
