@@ -1,9 +1,10 @@
 -- Least and greatest coordinates, and the box in which a convex polygon lies.
 use Rattle.std.proofs.Common.{◌≡◌, ℕ, suc, ◌+◌, ◌<◌, List, length, refl, arith, Bool, true, false, cond, ◌∙◌}
-use Rattle.std.specs.Prelude.{ℤ, pos, negsuc, ◌+ℤ◌, ◌-ℤ◌, ◌*ℤ◌, ◌≤ℤ◌, int_lt}
+use Rattle.std.specs.Prelude.{ℤ, pos, ◌+ℤ◌, ◌-ℤ◌, ◌*ℤ◌, ◌≤ℤ◌, int_lt}
 use Rattle.std.specs.Int.{int_min, int_max}
 use Rattle.std.proofs.lemmas.Int.{ints}
 use borrow.Author.Count.{below_more}
+use Rattle.plan_model.specs.declared.limits.TheConstants.{LEAST_CORNER_COORDINATE, MOST_CORNER_COORDINATE}
 use Rattle.plan_model.specs.declared.geometry.Vertex.{Vertex}
 use Rattle.plan_model.specs.Convexity.{corner_at}
 use Rattle.plan_model.specs.HalfPlanes.{IsInside}
@@ -157,10 +158,10 @@ in_box corners low high p h inside =
 
 -- a point of the box is bounded as its corners are
 pub bounded_in_box : (corners : List Vertex) (low high : Vertex) (p : Point) → IsBoxed corners low high → IsInBox low high p
-    → IsWithin (negsuc 4194303) (pos 4194304) (record { x = pos p.x; y = pos p.y })
+    → IsWithin LEAST_CORNER_COORDINATE MOST_CORNER_COORDINATE (record { x = pos p.x; y = pos p.y })
 bounded_in_box corners low high p h b =
     let bounds : (i : ℕ) → i < length corners
-    → IsWithin (negsuc 4194303) (pos 4194304) (corner_at corners i) = λ i l. bounded_corner (corner_at corners i)
+    → IsWithin LEAST_CORNER_COORDINATE MOST_CORNER_COORDINATE (corner_at corners i) = λ i l. bounded_corner (corner_at corners i)
     (bounded_at corners i h.bounded l) in
     let a = h.low_end.left_reached in
     let c = h.high_end.right_reached in

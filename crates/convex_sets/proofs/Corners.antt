@@ -1,7 +1,8 @@
 -- What the bounds of corners say.
 use Rattle.std.proofs.Common.{◌≡◌, ℕ, ◌<◌, true, ◌&&◌, List, length, sym, arith}
-use Rattle.std.specs.Prelude.{ℤ, pos, negsuc, ◌≤ℤ◌, int_le}
+use Rattle.std.specs.Prelude.{ℤ, pos, ◌≤ℤ◌, int_le}
 use Rattle.std.proofs.lemmas.Int.{ints}
+use Rattle.plan_model.specs.declared.limits.TheConstants.{LEAST_CORNER_COORDINATE, MOST_CORNER_COORDINATE}
 use Rattle.plan_model.specs.declared.geometry.Vertex.{Vertex}
 use Rattle.plan_model.specs.Convexity.{corner_at}
 use Rattle.plan_model.specs.Limits.{is_corner_between}
@@ -27,20 +28,20 @@ within_of low high v h =
       top = omega (arith, ints, third.1);
     }
 
-pub bounded_corner : (v : Vertex) → IsBoundedCorner v → IsWithin (negsuc 4194303) (pos 4194304) v
-bounded_corner v h = within_of (negsuc 4194303) (pos 4194304) v h
+pub bounded_corner : (v : Vertex) → IsBoundedCorner v → IsWithin LEAST_CORNER_COORDINATE MOST_CORNER_COORDINATE v
+bounded_corner v h = within_of LEAST_CORNER_COORDINATE MOST_CORNER_COORDINATE v h
 
 pub bounded_at : (corners : List Vertex) (i : ℕ) → AreBoundedCorners corners → i < length corners → IsBoundedCorner (corner_at corners i)
-bounded_at corners i h l = true_at (is_corner_between (negsuc 4194303) (pos 4194304)) corners i (record { x = pos 0; y = pos 0 }) h l
+bounded_at corners i h l = true_at (is_corner_between LEAST_CORNER_COORDINATE MOST_CORNER_COORDINATE) corners i (record { x = pos 0; y = pos 0 }) h l
 
-pub bounded_of : (v : Vertex) → IsWithin (negsuc 4194303) (pos 4194304) v → IsBoundedCorner v
+pub bounded_of : (v : Vertex) → IsWithin LEAST_CORNER_COORDINATE MOST_CORNER_COORDINATE v → IsBoundedCorner v
 bounded_of v h =
     let left = h.left in
     let right = h.right in
     let bottom = h.bottom in
     let top = h.top in
-    let a : int_le (negsuc 4194303) v.x ≡ true = sym (omega (arith, ints)) in
-    let b : int_le v.x (pos 4194304) ≡ true = sym (omega (arith, ints)) in
-    let c : int_le (negsuc 4194303) v.y ≡ true = sym (omega (arith, ints)) in
-    let d : int_le v.y (pos 4194304) ≡ true = sym (omega (arith, ints)) in
+    let a : int_le LEAST_CORNER_COORDINATE v.x ≡ true = sym (omega (arith, ints)) in
+    let b : int_le v.x MOST_CORNER_COORDINATE ≡ true = sym (omega (arith, ints)) in
+    let c : int_le LEAST_CORNER_COORDINATE v.y ≡ true = sym (omega (arith, ints)) in
+    let d : int_le v.y MOST_CORNER_COORDINATE ≡ true = sym (omega (arith, ints)) in
     both_hold _ _ a (both_hold _ _ b (both_hold _ _ c d))

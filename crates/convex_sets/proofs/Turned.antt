@@ -1,9 +1,10 @@
 -- The corners of a strictly convex polygon from the lowest on are an outline.
 use Rattle.std.proofs.Common.{◌≡◌, ◌≢◌, ◌⊎◌, ℕ, suc, ◌+◌, ◌-◌, ◌<◌, ◌≤◌, Bool, true, false, cond, ltb, ◌||◌, ◌==◌, List, [], ◌∷◌, ◌++◌}
 use Rattle.std.proofs.Common.{length, refl, sym, ap, ◌∙◌, inl, inr, arith}
-use Rattle.std.specs.Prelude.{ℤ, pos, negsuc, ◌<ℤ◌, ◌≤ℤ◌}
+use Rattle.std.specs.Prelude.{ℤ, pos, ◌<ℤ◌, ◌≤ℤ◌}
 use Rattle.std.proofs.lemmas.Int.{ints, by_lt_z}
 use Rattle.std.proofs.lemmas.Bool.{cases_lt, cases_order, ltb-true, ltb-false, eqb-true}
+use Rattle.plan_model.specs.declared.limits.TheConstants.{LEAST_CORNER_COORDINATE, MOST_CORNER_COORDINATE}
 use Rattle.plan_model.specs.declared.geometry.Vertex.{Vertex}
 use Rattle.plan_model.specs.Convexity.{corner_at, next_corner, is_strictly_convex}
 use Rattle.plan_model.specs.Geometry.{orientation}
@@ -312,7 +313,7 @@ module _ (corners r : List Vertex) (first count : ℕ) (inside : first < length 
 
   bounded-round : AreBoundedCorners corners → AreBoundedCorners r
   bounded-round h =
-      true_of_all (is_corner_between (negsuc 4194303) (pos 4194304)) r (record { x = pos 0; y = pos 0 }) (λ i l.
+      true_of_all (is_corner_between LEAST_CORNER_COORDINATE MOST_CORNER_COORDINATE) r (record { x = pos 0; y = pos 0 }) (λ i l.
       let f = from i l in
       let e = f.2 in
       rw e (bounded_at corners f.0 h f.1))

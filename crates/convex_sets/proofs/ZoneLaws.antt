@@ -1,9 +1,11 @@
 -- The merged outline of an obstacle and the reflected body is the zone: where the body meets the obstacle.
 use Rattle.std.proofs.Common.{◌≡◌, ℕ, zero, suc, ◌<◌, Bool, true, false, ◌||◌, ◌==◌, List, [], ◌∷◌, length, map, refl}
 use Rattle.std.proofs.Common.{sym, ap, subst, ◌∙◌, inl, inr, arith}
-use Rattle.std.specs.Prelude.{ℤ, pos, negsuc, ◌≤ℤ◌}
+use Rattle.std.specs.Prelude.{ℤ, pos, ◌≤ℤ◌}
 use Rattle.std.specs.List.{list_all}
 use Rattle.std.proofs.lemmas.Int.{ints, by_lt_z}
+use Rattle.plan_model.specs.declared.limits.TheConstants.{LEAST_BODY_COORDINATE, LEAST_CORNER_COORDINATE, LEAST_SUMMAND_COORDINATE}
+use Rattle.plan_model.specs.declared.limits.TheConstants.{MOST_BODY_COORDINATE, MOST_CORNER_COORDINATE, MOST_SUMMAND_COORDINATE}
 use Rattle.plan_model.specs.declared.geometry.Vertex.{Vertex}
 use Rattle.plan_model.specs.Convexity.{corner_at, next_corner, is_strictly_convex}
 use Rattle.plan_model.specs.Geometry.{orientation}
@@ -61,10 +63,10 @@ IsConvex-reflected corners h =
     }
 
 -- a body or an obstacle has bounded corners
-pub bounded_corners : (low high : ℤ) (corners : List Vertex) → negsuc 4194303 ≤ℤ low → high ≤ℤ pos 4194304
+pub bounded_corners : (low high : ℤ) (corners : List Vertex) → LEAST_CORNER_COORDINATE ≤ℤ low → high ≤ℤ MOST_CORNER_COORDINATE
     → list_all (is_corner_between low high) corners ≡ true → AreBoundedCorners corners
 bounded_corners low high corners p q h =
-    true_of_all (is_corner_between (negsuc 4194303) (pos 4194304)) corners (record { x = pos 0; y = pos 0 }) (λ i l.
+    true_of_all (is_corner_between LEAST_CORNER_COORDINATE MOST_CORNER_COORDINATE) corners (record { x = pos 0; y = pos 0 }) (λ i l.
     let w = within_of low high (corner_at corners i) (true_at (is_corner_between low high) corners i (record { x = pos 0; y = pos 0 }) h l) in
     let left = w.left in
     let right = w.right in
@@ -79,7 +81,7 @@ bounded_corners low high corners p q h =
 
 pub bounded-reflected : (corners : List Vertex) → AreBoundedCorners corners → AreBoundedCorners (map reflection corners)
 bounded-reflected corners h =
-    true_of_all (is_corner_between (negsuc 4194303) (pos 4194304)) (map reflection corners) (record { x = pos 0; y = pos 0 }) (λ i l.
+    true_of_all (is_corner_between LEAST_CORNER_COORDINATE MOST_CORNER_COORDINATE) (map reflection corners) (record { x = pos 0; y = pos 0 }) (λ i l.
     let inside : i < length corners = omega (arith, length-reflected corners) in
     let w = bounded_corner (corner_at corners i) (bounded_at corners i h inside) in
     let left = w.left in
@@ -200,15 +202,16 @@ module _ (body obstacle a b z : List Vertex) (first : IsOutlineOf obstacle a) (s
       (IsDifference-sum body obstacle a b (corner_at z (suc (suc k))) first second (merged.sums (suc (suc k)) small))
 
   -- the zone of a body and an obstacle in the ranges of a sum has bounded corners
-  bounded : list_all (is_corner_between (negsuc 4095) (pos 4096)) body ≡ true
-      → list_all (is_corner_between (negsuc 2097151) (pos 2097152)) obstacle ≡ true → AreBoundedCorners z
+  bounded : list_all (is_corner_between LEAST_BODY_COORDINATE MOST_BODY_COORDINATE) body ≡ true
+      → list_all (is_corner_between LEAST_SUMMAND_COORDINATE MOST_SUMMAND_COORDINATE) obstacle ≡ true → AreBoundedCorners z
   bounded p q =
-      true_of_all (is_corner_between (negsuc 4194303) (pos 4194304)) z (record { x = pos 0; y = pos 0 }) (λ i l.
+      true_of_all (is_corner_between LEAST_CORNER_COORDINATE MOST_CORNER_COORDINATE) z (record { x = pos 0; y = pos 0 }) (λ i l.
       let d = IsDifference-sum body obstacle a b (corner_at z i) first second (merged.sums i l) in
-      let o = within_of (negsuc 2097151) (pos 2097152) (corner_at obstacle d.on_obstacle)
-      (true_at (is_corner_between (negsuc 2097151) (pos 2097152)) obstacle d.on_obstacle (record { x = pos 0; y = pos 0 }) q d.within_obstacle) in
-      let c = within_of (negsuc 4095) (pos 4096) (corner_at body d.on_body)
-      (true_at (is_corner_between (negsuc 4095) (pos 4096)) body d.on_body (record { x = pos 0; y = pos 0 }) p d.within_body) in
+      let o = within_of LEAST_SUMMAND_COORDINATE MOST_SUMMAND_COORDINATE (corner_at obstacle d.on_obstacle)
+      (true_at (is_corner_between LEAST_SUMMAND_COORDINATE MOST_SUMMAND_COORDINATE) obstacle d.on_obstacle (record { x = pos 0; y = pos 0 }) q
+      d.within_obstacle) in
+      let c = within_of LEAST_BODY_COORDINATE MOST_BODY_COORDINATE (corner_at body d.on_body)
+      (true_at (is_corner_between LEAST_BODY_COORDINATE MOST_BODY_COORDINATE) body d.on_body (record { x = pos 0; y = pos 0 }) p d.within_body) in
       let horizontal = d.horizontal in
       let vertical = d.vertical in
       bounded_of (corner_at z i) (record {
@@ -229,13 +232,15 @@ module _ (body obstacle a b z : List Vertex) (first : IsOutlineOf obstacle a) (s
   IsZoneOf-merged h = record { exact = λ q. (inside q, meets q); convex = merged.convex; first = lowest h }
 
 pub zone_is : (body obstacle a b z : List Vertex) → IsOutlineOf obstacle a → IsOutlineOf (map reflection body) b → IsMerged a b z
-    → list_all (is_corner_between (negsuc 4095) (pos 4096)) body ≡ true → list_all (is_corner_between (negsuc 2097151) (pos 2097152)) obstacle ≡ true
+    → list_all (is_corner_between LEAST_BODY_COORDINATE MOST_BODY_COORDINATE) body ≡ true
+    → list_all (is_corner_between LEAST_SUMMAND_COORDINATE MOST_SUMMAND_COORDINATE) obstacle ≡ true
     → IsZoneOf body obstacle z
 zone_is body obstacle a b z first second merged p q = IsZoneOf-merged body obstacle a b z first second merged
     (bounded body obstacle a b z first second merged p q)
 
 pub zone_bounded : (body obstacle a b z : List Vertex) → IsOutlineOf obstacle a → IsOutlineOf (map reflection body) b → IsMerged a b z
-    → list_all (is_corner_between (negsuc 4095) (pos 4096)) body ≡ true → list_all (is_corner_between (negsuc 2097151) (pos 2097152)) obstacle ≡ true
+    → list_all (is_corner_between LEAST_BODY_COORDINATE MOST_BODY_COORDINATE) body ≡ true
+    → list_all (is_corner_between LEAST_SUMMAND_COORDINATE MOST_SUMMAND_COORDINATE) obstacle ≡ true
     → AreBoundedCorners z
 zone_bounded body obstacle a b z first second merged p q = bounded body obstacle a b z first second merged p q
 

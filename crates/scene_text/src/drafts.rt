@@ -14,8 +14,8 @@ use crate::key_words::{fits_words, is_supported, key_of, most_corners, most_line
 use crate::line_words::{are_numbers, count_words, next_word};
 use crate::refusals::LineRefusal;
 use plan_model::{
-    Goal, Key, Kind, LEAST_SIDE, LEAST_STEP, LEAST_STRIPS, MOST_STEP, MOST_STRIPS, Marks, Point, Points, Poly,
-    Polys, Scene, Vertex,
+    Goal, Key, Kind, LEAST_SIDE, LEAST_STEP, LEAST_STRIPS, MOST_STEP, MOST_STRIPS, Marks, Point,
+    Points, Poly, Polys, Scene, Vertex,
 };
 use std::alloc::Global;
 
@@ -150,7 +150,9 @@ impl Draft {
                 read_amount(words, LEAST_STEP.into(), MOST_STEP.into())? as u32,
             ),
             Key::Seed => self.seed = Some(read_amount(words, 0, u64::MAX)?),
-            Key::Strips => self.strips = Some(read_amount(words, LEAST_STRIPS.into(), MOST_STRIPS.into())? as u32),
+            Key::Strips => self.strips = Some(
+                read_amount(words, LEAST_STRIPS.into(), MOST_STRIPS.into())? as u32,
+            ),
             Key::Mark => self.marks.push(read_point(words, 0)?)?,
             Key::Body | Key::Obstacle | Key::Gamma | Key::Marks => unreachable!(),
         }

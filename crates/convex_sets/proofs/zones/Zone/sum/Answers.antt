@@ -1,6 +1,6 @@
 use Rattle.std.proofs.Common.{◌≡◌, ◌∙◌, ap, map, List, arith}
-use Rattle.std.specs.Prelude.{pos, negsuc}
 use Rattle.std.proofs.lemmas.Int.{ints}
+use Rattle.plan_model.specs.declared.limits.TheConstants.{LEAST_BODY_COORDINATE, LEAST_SUMMAND_COORDINATE, MOST_BODY_COORDINATE, MOST_SUMMAND_COORDINATE}
 use Rattle.plan_model.specs.declared.geometry.Vertex.{Vertex}
 use Rattle.convex_sets.specs.Bounds.{AreBoundedCorners}
 use Rattle.convex_sets.specs.Outlines.{reflection, IsMerged, IsOutlineOf}
@@ -8,11 +8,12 @@ use Rattle.convex_sets.proofs.ZoneLaws.{bounded_corners, bounded-reflected, shap
 use Rattle.convex_sets.proofs.zones.Zone.sum.Goals as goal
 
 body_bounded : (c : goal.After-as_slice) → AreBoundedCorners c.args.body.now
-body_bounded c = bounded_corners (negsuc 4095) (pos 4096) c.args.body.now (omega (arith, ints)) (omega (arith, ints)) c.requires.body_within
+body_bounded c = bounded_corners LEAST_BODY_COORDINATE MOST_BODY_COORDINATE c.args.body.now (omega (arith, ints)) (omega (arith, ints)) c.requires.body_within
 
 pub reflected-requires : goal.reflected-requires
 reflected-requires c =
-    rw c.as_slice.ensures (bounded_corners (negsuc 4095) (pos 4096) c.args.body.now (omega (arith, ints)) (omega (arith, ints)) c.requires.body_within)
+    rw c.as_slice.ensures (bounded_corners LEAST_BODY_COORDINATE MOST_BODY_COORDINATE c.args.body.now (omega (arith, ints)) (omega (arith, ints))
+    c.requires.body_within)
 
 pub outline-requires-clause-shape : goal.outline-requires-clause-shape
 outline-requires-clause-shape c =
@@ -25,11 +26,11 @@ outline-requires-clause-bounded c =
     let e : c.as_slice-2.result.now ≡ map reflection c.args.body.now = c.as_slice-2.ensures.value ∙ c.in_ok-reflected.ensures ∙ ap (map reflection)
     c.as_slice.ensures in
     rw e (bounded-reflected c.args.body.now
-    (bounded_corners (negsuc 4095) (pos 4096) c.args.body.now (omega (arith, ints)) (omega (arith, ints)) c.requires.body_within))
+    (bounded_corners LEAST_BODY_COORDINATE MOST_BODY_COORDINATE c.args.body.now (omega (arith, ints)) (omega (arith, ints)) c.requires.body_within))
 
 pub outline-requires-2-clause-bounded : goal.outline-requires-2-clause-bounded
 outline-requires-2-clause-bounded c =
-    rw c.as_slice-3.ensures (bounded_corners (negsuc 2097151) (pos 2097152) c.args.obstacle.now (omega (arith, ints)) (omega (arith, ints))
+    rw c.as_slice-3.ensures (bounded_corners LEAST_SUMMAND_COORDINATE MOST_SUMMAND_COORDINATE c.args.obstacle.now (omega (arith, ints)) (omega (arith, ints))
     c.requires.obstacle_within)
 
 record Parts (body obstacle standing turning corners : List Vertex) : Type 0 where
