@@ -18,4 +18,5 @@ mod outlines;
 mod zones;
 
 pub use convexity::is_convex;
+pub use orientations::orientation;
 pub use zones::Zone;

@@ -1,0 +1,9 @@
+pub mod Parameters
+pub mod LinearValues
+pub mod ClippedParts
+pub mod SideValues
+pub mod Crossings
+pub mod RoomLaws
+pub mod BoxRejects
+pub mod HallLaws
+pub mod SceneSummands

@@ -1,0 +1,113 @@
+-- The room of configurations is convex: a segment lies in it if its ends do.
+use Rattle.std.proofs.Common.{◌≡◌, ℕ, ◌+◌, ◌*◌, ◌<◌, ◌≤◌, List, arith}
+use Rattle.std.specs.Prelude.{ℤ, pos, ◌+ℤ◌, ◌-ℤ◌, ◌*ℤ◌, ◌≤ℤ◌}
+use Rattle.std.proofs.lemmas.Int.{ints}
+use Rattle.plan_model.specs.declared.geometry.Point.{Point}
+use Rattle.plan_model.specs.declared.geometry.Vertex.{Vertex}
+use Rattle.plan_model.specs.declared.limits.TheConstants.{MOST_SIDE}
+use Rattle.plan_model.specs.Bounds.{IsBounded}
+use Rattle.plan_model.specs.ConfigurationSpace.{ConfigurationSpace}
+use Rattle.plan_model.specs.RoomOfConfigurations.{IsInBox, InRoom, at_lattice, moved_by}
+use Rattle.plan_model.specs.Clearance.{on_the_way}
+use Rattle.plan_model.specs.MarkPoints.{IsInSpan, columns, rows}
+use Rattle.plan_model.proofs.SpanLaws.{HasPlace-from_in_room, InRoom-from_place}
+use Rattle.swept_check.specs.Clipping.{value_at}
+use Rattle.swept_check.specs.declared.places.Places.{Places}
+use Rattle.swept_check.specs.PlacesOfRooms.{ArePlacesOf, span_of}
+use Rattle.swept_check.proofs.LinearValues.{IsAdmitted-inside}
+use Rattle.convex_sets.proofs.Ring.{var, plus, minus, times, same}
+
+-- the coordinate of a moved corner, at s / d of the way
+moved_on_way : (a b c d s : ℤ) → (((d *ℤ a) +ℤ (s *ℤ (b -ℤ a))) +ℤ (d *ℤ c)) ≡ ((d *ℤ (a +ℤ c)) +ℤ (s *ℤ ((b +ℤ c) -ℤ (a +ℤ c))))
+moved_on_way a b c d s =
+    same (plus (plus (times (var d) (var a)) (times (var s) (minus (var b) (var a)))) (times (var d) (var c)))
+    (plus (times (var d) (plus (var a) (var c))) (times (var s) (minus (plus (var b) (var c)) (plus (var a) (var c))))) (omega arith)
+
+-- and how far it is from the side
+rest_on_way : (a b c d s m : ℤ) → ((d *ℤ m) -ℤ (((d *ℤ a) +ℤ (s *ℤ (b -ℤ a))) +ℤ (d *ℤ c)))
+    ≡ ((d *ℤ (m -ℤ (a +ℤ c))) +ℤ (s *ℤ ((m -ℤ (b +ℤ c)) -ℤ (m -ℤ (a +ℤ c)))))
+rest_on_way a b c d s m =
+    same (minus (times (var d) (var m)) (plus (plus (times (var d) (var a)) (times (var s) (minus (var b) (var a)))) (times (var d) (var c))))
+    (plus (times (var d) (minus (var m) (plus (var a) (var c))))
+    (times (var s) (minus (minus (var m) (plus (var b) (var c))) (minus (var m) (plus (var a) (var c)))))) (omega arith)
+
+-- a number between 0 and a side
+pub record IsOnSide (side x : ℤ) : Type 0 where
+  pub low : pos 0 ≤ℤ x
+  pub high : x ≤ℤ side
+
+on_side : (a b c : ℤ) (m s d : ℕ) → s ≤ d → IsOnSide (pos m) (a +ℤ c) → IsOnSide (pos m) (b +ℤ c)
+    → IsOnSide (pos (d * m)) (((pos d *ℤ a) +ℤ (pos s *ℤ (b -ℤ a))) +ℤ (pos d *ℤ c))
+on_side a b c m s d l f g =
+    let f_low = f.low in
+    let f_high = f.high in
+    let g_low = g.low in
+    let g_high = g.high in
+    let low = IsAdmitted-inside (a +ℤ c) (b +ℤ c) s d f_low g_low l in
+    let high = IsAdmitted-inside (pos m -ℤ (a +ℤ c)) (pos m -ℤ (b +ℤ c)) s d (omega (arith, ints)) (omega (arith, ints)) l in
+    let left = rw (← moved_on_way a b c (pos d) (pos s)) at low in
+    let right = rw (← rest_on_way a b c (pos d) (pos s) (pos m)) at high in
+    record { low = left; high = omega (arith, ints) }
+
+-- the same, for corners of the lattice
+on_side_lattice : (a b : ℕ) (c : ℤ) (m s d : ℕ) → s ≤ d → IsOnSide (pos (1 * m)) (pos a +ℤ (pos 1 *ℤ c)) → IsOnSide (pos (1 * m)) (pos b +ℤ (pos 1 *ℤ c))
+    → IsOnSide (pos (d * m)) (((pos d *ℤ pos a) +ℤ (pos s *ℤ (pos b -ℤ pos a))) +ℤ (pos d *ℤ c))
+on_side_lattice a b c m s d l f g =
+    let f_low = f.low in
+    let f_high = f.high in
+    let g_low = g.low in
+    let g_high = g.high in
+    on_side (pos a) (pos b) c m s d l (record { low = omega (arith, ints); high = omega (arith, ints) })
+    (record { low = omega (arith, ints); high = omega (arith, ints) })
+
+-- without a corner
+on_side_alone : (a b m s d : ℕ) → s ≤ d → IsOnSide (pos (1 * m)) (pos a) → IsOnSide (pos (1 * m)) (pos b)
+    → IsOnSide (pos (d * m)) ((pos d *ℤ pos a) +ℤ (pos s *ℤ (pos b -ℤ pos a)))
+on_side_alone a b m s d l f g =
+    let f_low = f.low in
+    let f_high = f.high in
+    let g_low = g.low in
+    let g_high = g.high in
+    let all = on_side (pos a) (pos b) (pos 0) m s d l (record { low = omega (arith, ints); high = omega (arith, ints) })
+    (record { low = omega (arith, ints); high = omega (arith, ints) }) in
+    let low = all.low in
+    let high = all.high in
+    record { low = omega (arith, ints); high = omega (arith, ints) }
+
+pub InRoom-on_the_way : (space : ConfigurationSpace) (a b : Point) (s d : ℕ) (p : 0 < d) → s ≤ d → InRoom space (at_lattice a) → InRoom space (at_lattice b)
+    → InRoom space (on_the_way a b s d p)
+InRoom-on_the_way space a b s d p l f g =
+    let here = f.here in
+    let there = g.here in
+    let x = on_side_alone a.x b.x space.room.x s d l (record { low = here.left; high = here.right }) (record { low = there.left; high = there.right }) in
+    let y = on_side_alone a.y b.y space.room.y s d l (record { low = here.bottom; high = here.top }) (record { low = there.bottom; high = there.top }) in
+    record {
+      here = record { left = x.low; right = x.high; bottom = y.low; top = y.high };
+      corners = λ k v m. (
+          let one = f.corners k v m in
+          let two = g.corners k v m in
+          let across = on_side_lattice a.x b.x _ space.room.x s d l (record { low = one.left; high = one.right }) (record { low = two.left; high = two.right }) in
+          let up = on_side_lattice a.y b.y _ space.room.y s d l (record { low = one.bottom; high = one.top }) (record { low = two.bottom; high = two.top }) in
+          record { left = across.low; right = across.high; bottom = up.low; top = up.high });
+    }
+
+-- a lattice point in the room is bounded
+pub bounded_in_room : (space : ConfigurationSpace) (p : Point) → space.room.x ≤ MOST_SIDE → space.room.y ≤ MOST_SIDE → InRoom space (at_lattice p) → IsBounded p
+bounded_in_room space p f g h =
+    let right = h.here.right in
+    let top = h.here.top in
+    record { right = omega (arith, ints); top = omega (arith, ints) }
+
+-- the places say which lattice points are in the room
+pub in_room_of_places : (space : ConfigurationSpace) (places : Places) (p : Point) → ArePlacesOf space.room space.body places
+    → IsInSpan (span_of places.columns) p.x → IsInSpan (span_of places.rows) p.y → InRoom space (at_lattice p)
+in_room_of_places space places p h f g =
+    InRoom-from_place space p (record { column = rw h.columns at f; row = rw h.rows at g })
+
+pub columns_of_in_room : (space : ConfigurationSpace) (places : Places) (p : Point) → ArePlacesOf space.room space.body places
+    → InRoom space (at_lattice p) → IsInSpan (span_of places.columns) p.x
+columns_of_in_room space places p h room = rw h.columns (HasPlace-from_in_room space p room).column
+
+pub rows_of_in_room : (space : ConfigurationSpace) (places : Places) (p : Point) → ArePlacesOf space.room space.body places
+    → InRoom space (at_lattice p) → IsInSpan (span_of places.rows) p.y
+rows_of_in_room space places p h room = rw h.rows (HasPlace-from_in_room space p room).row

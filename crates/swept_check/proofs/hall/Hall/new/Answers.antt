@@ -1,0 +1,31 @@
+use Rattle.std.proofs.Common.{◌≡◌, rules, ◌<◌, [], ◌∷◌, ◌++◌, length, get_or, take, arith, ◌∙◌, sym, ap}
+use Rattle.std.proofs.lemmas.List.{get_or_default, take_more}
+use Rattle.swept_check.proofs.SceneSummands.{obstacle_within, AreFirstZones-more}
+use Rattle.swept_check.proofs.hall.Hall.new.Goals as goal
+
+pub sum-requires-clause-obstacle_within : goal.sum-requires-clause-obstacle_within
+sum-requires-clause-obstacle_within c =
+    let scene = c.args.scene.now in
+    let i = c.loop-obstacle.obstacle-index in
+    let items = c.as_slice-obstacle-items.ensures in
+    let within : i < length c.as_slice-obstacle-items.result.now = omega arith in
+    let l : i < length scene.obstacles = rw items at within in
+    let item : c.obstacle-item.result ≡ get_or c.as_slice-obstacle-items.result.now i [] = c.obstacle-item.is ∙ get_or_default _ i _ [] within in
+    let is : c.obstacle-item.result ≡ get_or scene.obstacles i [] = rw items at item in
+    rw is (obstacle_within scene.obstacles i scene.obstacles_within l)
+
+pub loop-obstacle-preserved : goal.loop-obstacle-preserved
+loop-obstacle-preserved c =
+    let scene = c.args.scene.now in
+    let i = c.loop-obstacle.obstacle-index in
+    let items = c.as_slice-obstacle-items.ensures in
+    let within : i < length c.as_slice-obstacle-items.result.now = omega arith in
+    let l : i < length scene.obstacles = rw items at within in
+    let item : c.obstacle-item.result ≡ get_or c.as_slice-obstacle-items.result.now i [] = c.obstacle-item.is ∙ get_or_default _ i _ [] within in
+    let is : c.obstacle-item.result ≡ get_or scene.obstacles i [] = rw items at item in
+    let copy = c.in_ok-push-2.ensures.items in
+    record {
+      zones = AreFirstZones-more scene.body scene.obstacles c.loop-obstacle.zones.items c.push.new.self.items i _ c.loop-obstacle.invariant.zones
+          c.in_ok-push.ensures.items (rw is at c.in_ok-sum.ensures.zone);
+      copies = rw (c.loop-obstacle.invariant.copies, c.in_ok-copied.ensures, is, ← take_more scene.obstacles i [] l) at copy;
+    }

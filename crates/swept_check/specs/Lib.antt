@@ -1,0 +1,5 @@
+pub mod Clipping
+pub mod Crossings
+pub mod Halls
+pub mod PlacesOfRooms
+pub mod Apart

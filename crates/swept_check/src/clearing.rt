@@ -1,0 +1,18 @@
+//! Collision checkers, as a planner sees them.
+
+ghost use Rattle.std.specs.Prelude.{◌↔◌, IsTrue};
+ghost use Rattle.plan_model.specs.ConfigurationSpace.{ConfigurationSpace};
+ghost use Rattle.plan_model.specs.Clearance.{Clear};
+
+use plan_model::Point;
+
+/// A collision checker: it stands for the configuration space of a body in a room among obstacles.
+pub trait Clearing: Sync {
+    /// The room, the body and the obstacles that it stands for.
+    ghost space: { Self → ConfigurationSpace };
+
+    /// Whether the body is clear of the walls and the obstacles at every rational point of the segment from `a` to `b`, both
+    /// ends included. Touching an obstacle collides; touching a wall does not. It takes no memory.
+    fn clear(&self, a: Point, b: Point) -> bool
+        ensures { IsTrue result ↔ Clear (space self.now) a b };
+}

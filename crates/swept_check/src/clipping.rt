@@ -1,0 +1,106 @@
+//! Clipping a segment against the half-planes of a polygon.
+
+ghost use Rattle.std.specs.Prelude.{◌≡◌, ◌↔◌, ℕ, ◌<◌, ◌≤◌, pos, IsTrue, MatchOption, length};
+ghost use Rattle.convex_sets.specs.Bounds.{AreBoundedCorners, IsBoundedCorner};
+ghost use Rattle.plan_model.specs.Bounds.{IsBounded};
+ghost use Rattle.plan_model.specs.Convexity.{next_corner};
+ghost use Rattle.swept_check.specs.Clipping.{IsBetweenFractions, IsAdmitted};
+ghost use Rattle.swept_check.specs.Crossings.{Crosses, corner_of};
+
+use crate::fractions::Fraction;
+use convex_sets::orientation;
+use plan_model::{Point, Vertex};
+
+/// The part of a segment between two parameters; empty if the exit lies before the entry.
+#[derive(Clone, Copy)]
+pub(crate) struct Part {
+    pub(crate) entry: Fraction,
+    pub(crate) exit: Fraction,
+}
+
+impl Part {
+    /// The part that is also in a half-plane, by the sides of it on which the segment's ends lie; `None` if both lie
+    /// strictly outside.
+    pub(crate) fn clipped(self, from: i64, to: i64) -> Option<Part>
+        ensures { MatchOption result
+            ((s d : ℕ) → 0 < d → s ≤ d → ¬ IsAdmitted from to s d)
+            (λ part. (s d : ℕ) → 0 < d → s ≤ d → IsBetweenFractions part.entry part.exit s d
+                ↔ (IsBetweenFractions self.entry self.exit s d × IsAdmitted from to s d)) }
+    {
+        match (from >= 0, to >= 0) {
+            (true, true) => Some(self),
+            (false, false) => None,
+            (false, true) => {
+                let entry = Fraction::share(from.unsigned_abs(), to.unsigned_abs());
+                Some(Part {
+                    entry: self.entry.max(entry),
+                    exit: self.exit,
+                })
+            }
+            (true, false) => {
+                let exit = Fraction::share(from.unsigned_abs(), to.unsigned_abs());
+                Some(Part {
+                    entry: self.entry,
+                    exit: self.exit.min(exit),
+                })
+            }
+        }
+    }
+}
+
+/// Whether some rational point of the segment from `a` to `b` lies in a convex polygon or on its edge.
+///
+/// ```text
+///          +------+              +------+                 +------+
+///     a----|------|----b         |      |                 |      |
+///          |      |              |      |   a----b        |      a------b
+///          +------+              +------+                 +------+
+///     crosses: in at one         does not                 crosses: touching
+///     edge, out at another                                at one end
+/// ```
+///
+/// Each edge clips the segment to the part on its inner side, and the segment crosses if a part is left at the end. O(n) for
+/// n corners; no memory.
+pub(crate) fn crosses(corners: &[Vertex], a: Point, b: Point) -> bool
+    requires corners { AreBoundedCorners corners.now }
+    requires from { IsBounded a }
+    requires to { IsBounded b }
+    ensures { IsTrue result ↔ Crosses corners.now a b }
+{
+    let (first, last) = (corner(a), corner(b));
+    let mut part = Part {
+        entry: Fraction::zero(),
+        exit: Fraction::one(),
+    };
+    for i in 0..corners.len() {
+        let next = after(corners.len(), i);
+        let from = orientation(corners[i], corners[next], first);
+        let to = orientation(corners[i], corners[next], last);
+        match part.clipped(from, to) {
+            Some(clipped) => part = clipped,
+            None => return false,
+        }
+    }
+    part.entry.is_at_most(part.exit)
+}
+
+/// The point as a corner.
+fn corner(p: Point) -> Vertex
+    requires { IsBounded p }
+    ensures value { result ≡ corner_of p }
+    ensures bounded { IsBoundedCorner result }
+{
+    Vertex {
+        x: p.x as i32,
+        y: p.y as i32,
+    }
+}
+
+/// The number of the corner after corner `i` of `n`.
+fn after(n: usize, i: usize) -> usize
+    requires { i < n }
+    ensures value { result ≡ next_corner n i }
+    ensures within { result < n }
+{
+    if i + 1 == n { 0 } else { i + 1 }
+}

@@ -1,0 +1,17 @@
+//! The exact collision checker: where a translating convex body is clear of the walls of a room and of convex obstacles,
+//! at a point and at every rational point of a segment.
+//!
+//! A segment is clipped against the zones (configuration-space obstacles) of `convex_sets`, as in Cyrus and Beck,
+//! Generalized Two- and Three-Dimensional Clipping, Computers and Graphics 1978, with rational parameters in place of
+//! floating ones. The contract of `clear` speaks of every rational point of the segment.
+#![tactic(auto)]
+
+mod clearing;
+mod clipping;
+mod fractions;
+mod hall;
+mod places;
+mod rejecting;
+
+pub use clearing::Clearing;
+pub use hall::Hall;
