@@ -1,12 +1,11 @@
--- The scenes that the supported keys spell: a point body in an empty room, nothing rewired, and listed marks.
-use Rattle.std.proofs.Common.{◌≡◌, List, ℕ, [], false, map, refl, sym, ap, ◌∙◌, subst}
+-- The scenes that the supported keys spell: nothing is rewired, and the marks are listed.
+use Rattle.std.proofs.Common.{◌≡◌, List, ℕ, [], false, refl, sym, ap, ◌∙◌, subst}
 use Rattle.plan_model.specs.declared.scenes.Scene.{Scene}
 use Rattle.plan_model.specs.declared.text_terms.Key.{Key}
 use Rattle.plan_model.specs.declared.text_terms.Key.TheVariants as keys
 use Rattle.plan_model.specs.TextLines.{lines_of, statements_of}
-use Rattle.plan_model.specs.LineChecks.{corners_from}
-use Rattle.plan_model.specs.SceneGrammar.{first_of, number_or, body_from, plan_from, given_after_version, Spells, supported}
-use Rattle.plan_model.specs.EmptyRooms.{IsPointInEmptyRoom, IsListed}
+use Rattle.plan_model.specs.SceneGrammar.{first_of, number_or, plan_from, given_after_version, Spells, supported}
+use Rattle.plan_model.specs.EmptyRooms.{IsListed}
 use Rattle.plan_model.proofs.SoundStatements.{IsSoundGiven-text}
 
 -- a key that is not supported stands in no line of a text that spells a scene
@@ -14,15 +13,10 @@ none-given : (text : List ℕ) (scene : Scene) (key : Key) → Spells supported 
     → given_after_version (statements_of (lines_of text)) key ≡ []
 none-given text scene key spelled unbuilt = (IsSoundGiven-text supported text spelled.sound).supported key unbuilt
 
--- the body is a point, there is no obstacle, and nothing is rewired
-pub IsPointInEmptyRoom-spelled : (text : List ℕ) (scene : Scene) → Spells supported text scene → IsPointInEmptyRoom scene
-IsPointInEmptyRoom-spelled text scene spelled =
-    let fields = spelled.fields in
-    record {
-      body = fields.body ∙ ap body_from (none-given text scene keys.Body spelled refl);
-      obstacles = fields.obstacles ∙ ap (map corners_from) (none-given text scene keys.Obstacle spelled refl);
-      gamma = fields.gamma ∙ ap (λ lists. number_or 0 (first_of lists)) (none-given text scene keys.Gamma spelled refl);
-    }
+-- nothing is rewired
+pub HasNoRadius-spelled : (text : List ℕ) (scene : Scene) → Spells supported text scene → scene.gamma ≡ 0
+HasNoRadius-spelled text scene spelled =
+    spelled.fields.gamma ∙ ap (λ lists. number_or 0 (first_of lists)) (none-given text scene keys.Gamma spelled refl)
 
 -- the marks are listed
 pub IsListed-spelled : (text : List ℕ) (scene : Scene) → Spells supported text scene → IsListed scene.plan

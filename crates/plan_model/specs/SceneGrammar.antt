@@ -108,6 +108,8 @@ all_keys key = true
 -- the keys that this version of the reader supports
 abbrev pub supported : Key → Bool
 supported keys.Room = true
+supported keys.Body = true
+supported keys.Obstacle = true
 supported keys.Start = true
 supported keys.Goal = true
 supported keys.Step = true

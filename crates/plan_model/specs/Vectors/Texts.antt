@@ -11,14 +11,17 @@ pub record RefusalVectors : Type 0 where
   pub empty_text : Refused supported [] 1 kinds.Version
   pub other_version : Refused supported (codes "# a scene\n\nprrt 2\n") 3 kinds.Version
   pub not_a_key : Refused supported (codes "prrt 1\nroom 10 10\nstar\n") 3 kinds.Key
-  pub not_supported : Refused supported (codes "prrt 1\nroom 10 10\nbody 0 0\n") 3 kinds.Unbuilt
+  pub not_supported : Refused supported (codes "prrt 1\nroom 10 10\ngamma 0\n") 3 kinds.Unbuilt
   pub repeated : Refused supported (codes "prrt 1\nroom 10 10\nstep 4\nstep 4\n") 4 kinds.Repeat
   pub word_missing : Refused supported (codes "prrt 1\nroom 10\n") 2 kinds.Words
   pub not_a_number : Refused supported (codes "prrt 1\nroom 10 010\n") 2 kinds.Number
   pub too_low : Refused supported (codes "prrt 1\nroom 10 0\n") 2 kinds.Range
   pub too_high : Refused supported (codes "prrt 1\nstart 65536 0\n") 2 kinds.Range
   pub not_in_order : Refused supported (codes "prrt 1\ngoal 8 9 9 8\n") 2 kinds.Range
-  pub clockwise : Refused all_keys (codes "prrt 1\nobstacle 0 0 0 9 9 9\n") 2 kinds.Corners
+  pub clockwise : Refused supported (codes "prrt 1\nobstacle 0 0 0 9 9 9\n") 2 kinds.Corners
+  pub body_of_two_corners : Refused supported (codes "prrt 1\nbody 0 0 1 0\n") 2 kinds.Words
+  pub body_twice : Refused supported (codes "prrt 1\nbody 0 0\nbody 1 1\n") 3 kinds.Repeat
+  pub three_in_a_line : Refused supported (codes "prrt 1\nbody 0 0 5 0 9 0 9 9\n") 2 kinds.Corners
   pub drawn_and_listed : Refused all_keys (codes "prrt 1\nmarks 5\nmark 1 1\n") 3 kinds.Repeat
   pub missing : Refused supported (codes "prrt 1\nroom 10 10\nstart 5 5\nstep 4\n") 5 kinds.Missing
   pub comments_alone : Refused supported (codes "# a\n\n  # b") 4 kinds.Version
