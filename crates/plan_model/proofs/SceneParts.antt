@@ -5,10 +5,9 @@ use Rattle.std.specs.List.{list_all}
 use Rattle.std.proofs.lemmas.Bool.{and_parts, and_from, or_cases, or_left, or_right, leb-true, le-leb, eqb-true, eq-eqb, ltb-false}
 use Rattle.std.proofs.lemmas.List.{length-map}
 use Rattle.std.proofs.lemmas.List.Elements.{All-head, All-tail}
-use Rattle.plan_model.specs.declared.geometry.Vertex.{Vertex}
 use Rattle.plan_model.specs.declared.text_terms.Key.TheVariants as keys
 use Rattle.plan_model.specs.Convexity.{is_strictly_convex}
-use Rattle.plan_model.specs.Limits.{IsBetween, IsGoal, is_body, is_obstacle, is_mark, is_plan}
+use Rattle.plan_model.specs.Limits.{IsBetween, IsGoal, is_corner_between, is_body, is_obstacle, is_mark, is_plan}
 use Rattle.plan_model.specs.declared.limits.TheConstants.{LEAST_BODY_COORDINATE, LEAST_OBSTACLE_COORDINATE, LEAST_SIDE, LEAST_STEP}
 use Rattle.plan_model.specs.declared.limits.TheConstants.{MOST_BODY_COORDINATE, MOST_BODY_CORNERS, MOST_GAMMA, MOST_MARKS}
 use Rattle.plan_model.specs.declared.limits.TheConstants.{MOST_OBSTACLE_COORDINATE, MOST_OBSTACLE_CORNERS, MOST_SIDE, MOST_STEP, MOST_STRIPS}
@@ -117,12 +116,8 @@ corners (x ∷ y ∷ zs) =
     let rest = corners zs in
     record { most = omega arith; least = omega arith }
 
--- the coordinates of a corner are from low to high
-abbrev is_corner_within : ℤ → ℤ → Vertex → Bool
-is_corner_within low high v =
-    int_le low v.x && (int_le v.x high && (int_le low v.y && int_le v.y high))
-
-corners-within : (low high : ℤ) (zs : List ℤ) → are_between low high zs ≡ true → list_all (is_corner_within low high) (corners_from zs) ≡ true
+-- corners whose numbers are in a range are in it
+pub corners-within : (low high : ℤ) (zs : List ℤ) → are_between low high zs ≡ true → list_all (is_corner_between low high) (corners_from zs) ≡ true
 corners-within low high [] h = refl
 corners-within low high (x ∷ []) h = refl
 corners-within low high (x ∷ y ∷ zs) h =
@@ -149,7 +144,7 @@ polygon-of_body zs h =
     let shape = body-shape (length vs) (length zs) (is_strictly_convex vs) many.most many.least h.few
     (or_cases (eqb (length zs) 2) (is_strictly_convex vs) h.corners) in
     and_from (eqb (length vs) 1 || (leb (length vs) MOST_BODY_CORNERS && is_strictly_convex vs))
-    (list_all (is_corner_within LEAST_BODY_COORDINATE MOST_BODY_COORDINATE) vs) shape (corners-within LEAST_BODY_COORDINATE MOST_BODY_COORDINATE zs ranged)
+    (list_all (is_corner_between LEAST_BODY_COORDINATE MOST_BODY_COORDINATE) vs) shape (corners-within LEAST_BODY_COORDINATE MOST_BODY_COORDINATE zs ranged)
 
 pub polygon-of_obstacle : (zs : List ℤ) → MayStand keys.Obstacle zs → is_obstacle (corners_from zs) ≡ true
 polygon-of_obstacle zs h =
@@ -161,7 +156,7 @@ polygon-of_obstacle zs h =
     let shape : (leb (length vs) MOST_OBSTACLE_CORNERS && is_strictly_convex vs)
     ≡ true = and_from (leb (length vs) MOST_OBSTACLE_CORNERS) (is_strictly_convex vs) small h.corners in
     and_from (leb (length vs) MOST_OBSTACLE_CORNERS && is_strictly_convex vs)
-    (list_all (is_corner_within LEAST_OBSTACLE_COORDINATE MOST_OBSTACLE_COORDINATE) vs) shape
+    (list_all (is_corner_between LEAST_OBSTACLE_COORDINATE MOST_OBSTACLE_COORDINATE) vs) shape
     (corners-within LEAST_OBSTACLE_COORDINATE MOST_OBSTACLE_COORDINATE zs ranged)
 
 -- ---- lists of parts

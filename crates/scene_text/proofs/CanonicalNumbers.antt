@@ -90,7 +90,7 @@ pub corners_from-numbers : (corners : List Vertex) → corners_from (corner_numb
 corners_from-numbers [] = refl
 corners_from-numbers (corner ∷ corners) = ap (λ rest. corner ∷ rest) (corners_from-numbers corners)
 
-length-corner_numbers : (corners : List Vertex) → length (corner_numbers corners) ≡ 2 * length corners
+pub length-corner_numbers : (corners : List Vertex) → length (corner_numbers corners) ≡ 2 * length corners
 length-corner_numbers [] = refl
 length-corner_numbers (corner ∷ corners) = let rest = length-corner_numbers corners in omega arith
 

@@ -1,16 +1,20 @@
 -- The checks of a draft are those of the grammar over what the draft gives.
-use Rattle.std.proofs.Common.{◌≡◌, ℕ, ◌&&◌, ◌||◌, not, Bool, true, false, ltb, None, List, [], ◌∷◌, length, map, Result, Ok, Err, OnOk, refl, arith}
+use Rattle.std.proofs.Common.{◌≡◌, ℕ, ◌&&◌, ◌||◌, not, Bool, true, false, ltb, None, List, [], ◌∷◌, ◌++◌, length, map, Result, Ok, Err, OnOk}
+use Rattle.std.proofs.Common.{refl, sym, ap, ◌∙◌, arith}
 use mathlib.Core.Path.{fun_ext}
 use Rattle.std.specs.List.{list_all}
+use Rattle.std.proofs.lemmas.List.{map-append}
+use Rattle.plan_model.specs.declared.geometry.Vertex.{Vertex}
 use Rattle.plan_model.specs.declared.text_terms.Key.{Key}
 use Rattle.plan_model.specs.declared.text_terms.Key.TheVariants as keys
 use Rattle.plan_model.specs.declared.text_terms.Kind.TheVariants as kinds
 use Rattle.plan_model.specs.TextLines.{is_skipped}
 use Rattle.plan_model.specs.TextNumbers.{is_number, value_of}
-use Rattle.plan_model.specs.Keys.{fits_words}
+use Rattle.plan_model.specs.Keys.{name_of, fits_words}
 use Rattle.plan_model.specs.LineChecks.{Given, Check, with_statement, is_version, fault_of_statement, is_inhabited, is_repeated, is_too_many}
 use Rattle.plan_model.specs.LineChecks.{first_failing, number_checks, checks_of}
 use Rattle.plan_model.specs.SceneGrammar.{supported}
+use Rattle.plan_model.specs.CanonicalText.{corner_numbers}
 use Rattle.scene_text.specs.declared.drafts.Draft.{Draft}
 use Rattle.scene_text.specs.Drafts.{IsFormed, given_by_draft, TakesLine}
 
@@ -55,6 +59,19 @@ given-version draft = fun_ext (λ key. same key)
   where
     same : (key : Key) → given_by_draft (record draft { version_read = true }) key ≡ given_by_draft draft key
     same keys.Room = refl
+    same key = refl
+
+-- one more obstacle is what its line gives
+pub given-obstacle : (old new : Draft) (words : List (List ℕ)) (corners : List Vertex) → new.obstacles.items ≡ old.obstacles.items ++ corners ∷ []
+    → map value_of words ≡ corner_numbers corners
+    → given_by_draft (record old { obstacles = new.obstacles }) ≡ with_statement (given_by_draft old) (name_of keys.Obstacle ∷ words)
+given-obstacle old new words corners items value = fun_ext (λ key. same key)
+  where
+    same : (key : Key) → given_by_draft (record old { obstacles = new.obstacles }) key
+        ≡ with_statement (given_by_draft old) (name_of keys.Obstacle ∷ words) key
+    same keys.Obstacle =
+        ap (map corner_numbers) items ∙ map-append corner_numbers old.obstacles.items (corners ∷ [])
+        ∙ ap (λ zs. map corner_numbers old.obstacles.items ++ zs ∷ []) (sym value)
     same key = refl
 
 -- the version gives nothing but that it was read

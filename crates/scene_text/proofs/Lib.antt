@@ -3,6 +3,7 @@ pub mod WordLemmas
 pub mod NumberLemmas
 pub mod FetchLemmas
 pub mod MappedErrors
+pub mod PolygonLemmas
 pub mod DraftLemmas
 pub mod DraftScenes
 pub mod ReaderLemmas

@@ -8,7 +8,7 @@ use Rattle.plan_model.specs.TextNumbers.{is_number}
 use Rattle.plan_model.specs.Keys.{fits_words}
 use Rattle.plan_model.specs.LineChecks.{Given, with_statement, is_repeated, is_too_many, fault_of_words}
 use Rattle.plan_model.specs.SceneGrammar.{supported}
-use Rattle.plan_model.specs.CanonicalText.{point_numbers, goal_numbers}
+use Rattle.plan_model.specs.CanonicalText.{point_numbers, goal_numbers, corner_numbers}
 use Rattle.scene_text.specs.declared.drafts.Draft.{Draft}
 
 -- ---- what a draft gives
@@ -25,6 +25,8 @@ amount_numbers n = pos n ∷ []
 -- the numbers of the lines that have given the fields of a draft
 abbrev pub given_by_draft : Draft → Given
 given_by_draft draft keys.Room = line_numbers point_numbers draft.room
+given_by_draft draft keys.Body = line_numbers corner_numbers draft.body
+given_by_draft draft keys.Obstacle = map corner_numbers draft.obstacles.items
 given_by_draft draft keys.Start = line_numbers point_numbers draft.start
 given_by_draft draft keys.Goal = line_numbers goal_numbers draft.goal
 given_by_draft draft keys.Step = line_numbers amount_numbers draft.step

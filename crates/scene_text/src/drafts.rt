@@ -6,10 +6,12 @@ ghost use Rattle.plan_model.specs.TextNumbers.{value_of};
 ghost use Rattle.plan_model.specs.Keys.{name_of};
 ghost use Rattle.plan_model.specs.LineChecks.{given_by, with_statement, stands, is_repeated, is_too_many, first_failing, number_checks, checks_of};
 ghost use Rattle.plan_model.specs.LineChecks.{is_version, fault_of_statement, fault_of_words, fault_at_end, AllMayStand};
-ghost use Rattle.plan_model.specs.SceneGrammar.{supported, HasFields};
+ghost use Rattle.plan_model.specs.SceneGrammar.{supported, body_from, HasFields};
+ghost use Rattle.plan_model.specs.CanonicalText.{corner_numbers};
+ghost use Rattle.scene_text.specs.Drafts.{line_numbers};
 ghost use Rattle.scene_text.specs.Refusals.{IsLineRefusal};
 
-use crate::field_words::{read_amount, read_goal, read_point};
+use crate::field_words::{read_amount, read_body, read_goal, read_obstacle, read_point};
 use crate::key_words::{fits_words, is_supported, key_of, most_corners, most_lines, rival_of};
 use crate::line_words::{are_numbers, count_words, next_word};
 use crate::refusals::LineRefusal;
@@ -17,7 +19,7 @@ use plan_model::{
     Goal, Key, Kind, LEAST_SIDE, LEAST_STEP, LEAST_STRIPS, MOST_STEP, MOST_STRIPS, Marks, Point,
     Points, Poly, Polys, Scene, Vertex,
 };
-use std::alloc::Global;
+use std::alloc::{AllocError, Global};
 
 /// What the lines so far give: a field for each key that is supported.
 ///
@@ -27,6 +29,8 @@ use std::alloc::Global;
 pub(crate) struct Draft {
     version_read: bool,
     room: Option<Point>,
+    body: Option<Poly>,
+    obstacles: Vec<Poly>,
     start: Option<Point>,
     goal: Option<Goal>,
     step: Option<u32>,
@@ -45,6 +49,16 @@ fn is_version(word: &[u8], words: &[u8]) -> bool
     }
 }
 
+// The body, or without a line for it the point at the origin.
+fn body_or_origin(alloc: Global, body: Option<Poly>) -> Result<Poly, AllocError>
+    ensures { IfOk result (λ corners. corners ≡ body_from (line_numbers corner_numbers body)) }
+{
+    match body {
+        Some(body) => Ok(body),
+        None => Ok(Poly::from_vec(vec![in alloc; Vertex { x: 0, y: 0 }]?)),
+    }
+}
+
 impl Draft {
     ghost use Rattle.scene_text.specs.Drafts.{given_by_draft, IsFormed, TakesLine};
 
@@ -56,6 +70,8 @@ impl Draft {
         Draft {
             version_read: false,
             room: None,
+            body: None,
+            obstacles: Vec::new(alloc),
             start: None,
             goal: None,
             step: None,
@@ -71,13 +87,15 @@ impl Draft {
     {
         match key {
             Key::Room => usize::from(self.room.is_some()),
+            Key::Body => usize::from(self.body.is_some()),
+            Key::Obstacle => self.obstacles.len(),
             Key::Start => usize::from(self.start.is_some()),
             Key::Goal => usize::from(self.goal.is_some()),
             Key::Step => usize::from(self.step.is_some()),
             Key::Seed => usize::from(self.seed.is_some()),
             Key::Strips => usize::from(self.strips.is_some()),
             Key::Mark => self.marks.len(),
-            Key::Body | Key::Obstacle | Key::Gamma | Key::Marks => 0,
+            Key::Gamma | Key::Marks => 0,
         }
     }
 
@@ -134,7 +152,7 @@ impl Draft {
     }
 
     // Takes the field that the numbers after the key give, or returns the first of their checks that fails.
-    fn take_field(&mut self, key: Key, words: &[u8]) -> Result<(), LineRefusal>
+    fn take_field(&mut self, alloc: Global, key: Key, words: &[u8]) -> Result<(), LineRefusal>
         requires { IsFormed (given_by_draft self.old) key (words_of words.now) }
         ensures sound { OnOk result (first_failing (number_checks key (map value_of (words_of words.now))) ≡ None) }
         ensures version_read { OnOk result (self.new.version_read ≡ self.old.version_read) }
@@ -144,6 +162,8 @@ impl Draft {
     {
         match key {
             Key::Room => self.room = Some(read_point(words, LEAST_SIDE)?),
+            Key::Body => self.body = Some(read_body(alloc, words)?),
+            Key::Obstacle => self.obstacles.push(read_obstacle(alloc, words)?)?,
             Key::Start => self.start = Some(read_point(words, 0)?),
             Key::Goal => self.goal = Some(read_goal(words)?),
             Key::Step => self.step = Some(
@@ -154,13 +174,18 @@ impl Draft {
                 read_amount(words, LEAST_STRIPS.into(), MOST_STRIPS.into())? as u32,
             ),
             Key::Mark => self.marks.push(read_point(words, 0)?)?,
-            Key::Body | Key::Obstacle | Key::Gamma | Key::Marks => unreachable!(),
+            Key::Gamma | Key::Marks => unreachable!(),
         }
         Ok(())
     }
 
     // Takes a statement after the version, by its first word and the words after it.
-    fn take_statement(&mut self, word: &[u8], words: &[u8]) -> Result<(), LineRefusal>
+    fn take_statement(
+        &mut self,
+        alloc: Global,
+        word: &[u8],
+        words: &[u8],
+    ) -> Result<(), LineRefusal>
         ensures sound { OnOk result (fault_of_statement supported (given_by_draft self.old) (word.now ∷ words_of words.now) ≡ None) }
         ensures version_read { OnOk result (self.new.version_read ≡ self.old.version_read) }
         ensures given { OnOk result (given_by_draft self.new ≡ with_statement (given_by_draft self.old) (word.now ∷ words_of words.now)) }
@@ -168,11 +193,11 @@ impl Draft {
     {
         let key = key_of(word).ok_or(Kind::Key)?;
         self.check_form(key, words)?;
-        self.take_field(key, words)
+        self.take_field(alloc, key, words)
     }
 
     /// Takes a line, or returns the first check that it fails.
-    pub(crate) fn take_line(&mut self, line: &[u8]) -> Result<(), LineRefusal>
+    pub(crate) fn take_line(&mut self, alloc: Global, line: &[u8]) -> Result<(), LineRefusal>
         ensures taken { OnOk result (TakesLine self.old self.new (words_of line.now)) }
         ensures refused { IfErr result (IsLineRefusal
             (fault_of_words supported self.old.version_read (given_by_draft self.old) (words_of line.now))) }
@@ -184,7 +209,7 @@ impl Draft {
             return Ok(());
         }
         if self.version_read {
-            return self.take_statement(word, words);
+            return self.take_statement(alloc, word, words);
         }
         if !is_version(word, words) {
             return Err(LineRefusal::Fault(Kind::Version));
@@ -208,12 +233,12 @@ impl Draft {
         ) else {
             return Err(LineRefusal::Fault(Kind::Missing));
         };
-        let body = vec![in alloc; Vertex { x: 0, y: 0 }]?;
+        let body = body_or_origin(alloc, self.body)?;
         Ok(Scene {
             version: 1,
             room,
-            body: Poly::from_vec(body),
-            obstacles: Polys::from_vec(Vec::new(alloc)),
+            body,
+            obstacles: Polys::from_vec(self.obstacles),
             start,
             goal,
             step,

@@ -1,18 +1,28 @@
 //! The fields that the words after a key give, a reader for each shape of field.
 
-ghost use Rattle.std.specs.Prelude.{◌≡◌, ◌≤◌, ◌<◌, [], ◌∷◌, pos, false, length, map, is_ok, IfOk, IfErr, IfSome, IfNone, IsTrue};
+ghost use Rattle.std.specs.Prelude.{◌≡◌, ◌≤◌, ◌<◌, ◌%◌, ◌==◌, ◌||◌, [], ◌∷◌, pos, true, false, None, Some, length, map, is_ok, if◌then◌else◌};
+ghost use Rattle.std.specs.Prelude.{IfOk, IfErr, OnOk, IfSome, IfNone, IsTrue};
 ghost use Rattle.std.specs.List.{list_all};
-ghost use Rattle.plan_model.specs.CanonicalText.{point_numbers, goal_numbers};
+ghost use Rattle.convex_sets.specs.Bounds.{AreBoundedCorners};
+ghost use Rattle.plan_model.specs.Convexity.{is_strictly_convex};
+ghost use Rattle.plan_model.specs.CanonicalText.{point_numbers, goal_numbers, corner_numbers};
 ghost use Rattle.plan_model.specs.TextLines.{words_of};
 ghost use Rattle.plan_model.specs.TextNumbers.{is_number, value_of};
-ghost use Rattle.plan_model.specs.LineChecks.{are_between, is_in_range};
+ghost use Rattle.plan_model.specs.LineChecks.{are_between, is_in_range, first_failing, number_checks};
 ghost use Rattle.plan_model.specs.declared.limits.TheConstants.{MOST_SIDE};
 ghost use Rattle.plan_model.specs.declared.text_terms.Key.TheVariants as keys;
 ghost use Rattle.plan_model.specs.declared.text_terms.Kind.TheVariants as kinds;
+ghost use Rattle.scene_text.specs.Refusals.{IsLineRefusal};
 
 use crate::line_words::next_word;
-use crate::number_words::natural;
-use plan_model::{Goal, Kind, MOST_SIDE, Point};
+use crate::number_words::{integer, natural};
+use crate::refusals::LineRefusal;
+use convex_sets::is_convex;
+use plan_model::{
+    Goal, Kind, LEAST_BODY_COORDINATE, LEAST_OBSTACLE_COORDINATE, MOST_BODY_COORDINATE,
+    MOST_OBSTACLE_COORDINATE, MOST_SIDE, Point, Poly, Vertex,
+};
+use std::alloc::Global;
 
 // The first of the numbers, if it is in the range, and the words after it.
 fn read_number(words: &[u8], least: u64, most: u64) -> Option<(u64, &[u8])>
@@ -90,4 +100,106 @@ pub(crate) fn read_amount(words: &[u8], least: u64, most: u64) -> Result<u64, Ki
 {
     let (amount, _) = read_number(words, least, most).ok_or(Kind::Range)?;
     Ok(amount)
+}
+
+// The first of the coordinates, if it is in the range, and the words after it.
+fn read_coordinate(words: &[u8], least: i32, most: i32) -> Option<(i32, &[u8])>
+    requires numbers { IsTrue (list_all is_number (words_of words.now)) }
+    requires some { 0 < length (words_of words.now) }
+    ensures value { IfSome result (λ found. map value_of (words_of words.now) ≡ found.0 ∷ map value_of (words_of found.1.now)) }
+    ensures within { IfSome result (λ found. are_between least most (found.0 ∷ []) ≡ true) }
+    ensures rest { IfSome result (λ found. IsTrue (list_all is_number (words_of found.1.now))) }
+    ensures outside { IfNone result (are_between least most (map value_of (words_of words.now)) ≡ false) }
+{
+    let (word, rest) = next_word(words)?;
+    let coordinate = integer(word, least, most)?;
+    Some((coordinate, rest))
+}
+
+// The first of the corners, if it is in the range, and the words after it.
+fn read_corner(words: &[u8], least: i32, most: i32) -> Option<(Vertex, &[u8])>
+    requires numbers { IsTrue (list_all is_number (words_of words.now)) }
+    requires two { 1 < length (words_of words.now) }
+    ensures value { IfSome result (λ found. map value_of (words_of words.now)
+        ≡ found.0.x ∷ found.0.y ∷ map value_of (words_of found.1.now)) }
+    ensures within { IfSome result (λ found. are_between least most (found.0.x ∷ found.0.y ∷ []) ≡ true) }
+    ensures rest { IfSome result (λ found. IsTrue (list_all is_number (words_of found.1.now))) }
+    ensures outside { IfNone result (are_between least most (map value_of (words_of words.now)) ≡ false) }
+{
+    let (x, rest) = read_coordinate(words, least, most)?;
+    let (y, rest) = read_coordinate(rest, least, most)?;
+    Some((Vertex { x, y }, rest))
+}
+
+// The corners that the numbers give, two for each. The error is `Range` if a number is out of the range.
+fn read_corners(
+    alloc: Global,
+    words: &[u8],
+    least: i32,
+    most: i32,
+) -> Result<Vec<Vertex>, LineRefusal>
+    requires numbers { IsTrue (list_all is_number (words_of words.now)) }
+    requires pairs { length (words_of words.now) % 2 ≡ 0 }
+    ensures value { IfOk result (λ corners. map value_of (words_of words.now) ≡ corner_numbers corners.items) }
+    ensures within { OnOk result (are_between least most (map value_of (words_of words.now)) ≡ true) }
+    ensures outside { IfErr result (IsLineRefusal
+        (if are_between least most (map value_of (words_of words.now)) then None else Some kinds.Range)) }
+{
+    let mut corners = Vec::new(alloc);
+    let mut rest = words;
+    while next_word(rest).is_some() {
+        let (corner, after) = read_corner(rest, least, most).ok_or(Kind::Range)?;
+        corners.push(corner)?;
+        rest = after;
+    }
+    Ok(corners)
+}
+
+/// The obstacle that the numbers give, two for each corner.
+///
+/// The error is `Range` if a coordinate is out of its range, `Corners` if the corners are not strictly convex and
+/// counterclockwise, and `Memory` if the program is out of memory.
+pub(crate) fn read_obstacle(alloc: Global, words: &[u8]) -> Result<Poly, LineRefusal>
+    requires numbers { IsTrue (list_all is_number (words_of words.now)) }
+    requires pairs { length (words_of words.now) % 2 ≡ 0 }
+    ensures value { IfOk result (λ corners. map value_of (words_of words.now) ≡ corner_numbers corners) }
+    ensures sound { OnOk result (first_failing (number_checks keys.Obstacle (map value_of (words_of words.now))) ≡ None) }
+    ensures refused { IfErr result (IsLineRefusal (first_failing (number_checks keys.Obstacle (map value_of (words_of words.now))))) }
+{
+    let corners = read_corners(
+        alloc,
+        words,
+        LEAST_OBSTACLE_COORDINATE,
+        MOST_OBSTACLE_COORDINATE,
+    )?;
+    if !is_convex(corners.as_slice()) {
+        return Err(LineRefusal::Fault(Kind::Corners));
+    }
+    Ok(Poly::from_vec(corners))
+}
+
+// Whether the corners are one, or strictly convex and counterclockwise.
+fn is_point_or_convex(corners: &[Vertex]) -> bool
+    requires { AreBoundedCorners corners.now }
+    ensures { result ≡ (length corners.now == 1 || is_strictly_convex corners.now) }
+{
+    corners.len() == 1 || is_convex(corners)
+}
+
+/// The body that the numbers give, two for each corner; a body of one corner is a point.
+///
+/// The error is `Range` if a coordinate is out of its range, `Corners` if three corners or more are not strictly convex
+/// and counterclockwise, and `Memory` if the program is out of memory.
+pub(crate) fn read_body(alloc: Global, words: &[u8]) -> Result<Poly, LineRefusal>
+    requires numbers { IsTrue (list_all is_number (words_of words.now)) }
+    requires pairs { length (words_of words.now) % 2 ≡ 0 }
+    ensures value { IfOk result (λ corners. map value_of (words_of words.now) ≡ corner_numbers corners) }
+    ensures sound { OnOk result (first_failing (number_checks keys.Body (map value_of (words_of words.now))) ≡ None) }
+    ensures refused { IfErr result (IsLineRefusal (first_failing (number_checks keys.Body (map value_of (words_of words.now))))) }
+{
+    let corners = read_corners(alloc, words, LEAST_BODY_COORDINATE, MOST_BODY_COORDINATE)?;
+    if !is_point_or_convex(corners.as_slice()) {
+        return Err(LineRefusal::Fault(Kind::Corners));
+    }
+    Ok(Poly::from_vec(corners))
 }

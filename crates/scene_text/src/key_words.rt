@@ -34,7 +34,15 @@ pub(crate) fn is_supported(key: Key) -> bool
 {
     matches!(
         key,
-        Key::Room | Key::Start | Key::Goal | Key::Step | Key::Seed | Key::Strips | Key::Mark
+        Key::Room
+            | Key::Body
+            | Key::Obstacle
+            | Key::Start
+            | Key::Goal
+            | Key::Step
+            | Key::Seed
+            | Key::Strips
+            | Key::Mark
     )
 }
 

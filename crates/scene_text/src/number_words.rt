@@ -1,6 +1,6 @@
 //! Words that stand for whole numbers in decimal.
 
-ghost use Rattle.std.specs.Prelude.{◌≡◌, ◌≤◌, ◌+◌, ◌-◌, ◌*◌, ◌^◌, ◌&&◌, false, pos, int_le, IfNone, IfSome, IsTrue};
+ghost use Rattle.std.specs.Prelude.{◌≡◌, ◌≤◌, ◌+◌, ◌-◌, ◌*◌, ◌^◌, ◌&&◌, false, pos, unsigned_abs, int_le, IfNone, IfSome, IsTrue};
 ghost use Rattle.std.specs.List.{list_all};
 ghost use Rattle.plan_model.specs.TextNumbers.{is_digit, is_positive, is_number as is_number_word, magnitude, value_of};
 
@@ -45,6 +45,29 @@ pub(crate) fn natural(word: &[u8], least: u64, most: u64) -> Option<u64>
     }
     let number = decimal(word)?;
     (least <= number && number <= most).then_some(number)
+}
+
+/// The whole number that a word stands for, if it is one from `least` to `most`.
+pub(crate) fn integer(word: &[u8], least: i32, most: i32) -> Option<i32>
+    requires { IsTrue (is_number_word word.now) }
+    ensures value { IfSome result (λ z. value_of word.now ≡ z) }
+    ensures within { IfSome result (λ z. IsTrue (int_le least z && int_le z most)) }
+    ensures outside { IfNone result ((int_le least (value_of word.now) && int_le (value_of word.now) most) ≡ false) }
+{
+    let number = i32::try_from(signed(word)?).ok()?;
+    (least <= number && number <= most).then_some(number)
+}
+
+/// The whole number that a word stands for, if its magnitude is below 2^63.
+fn signed(word: &[u8]) -> Option<i64>
+    requires { IsTrue (is_number_word word.now) }
+    ensures value { IfSome result (λ z. value_of word.now ≡ z) }
+    ensures large { IfNone result (2 ^ 63 ≤ unsigned_abs (value_of word.now)) }
+{
+    if let [b'-', digits @ ..] = word {
+        return Some(-i64::try_from(decimal(digits)?).ok()?);
+    }
+    i64::try_from(decimal(word)?).ok()
 }
 
 /// The number that digits stand for, if it is below 2^64.

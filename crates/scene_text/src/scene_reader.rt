@@ -25,7 +25,9 @@ pub fn read_scene(alloc: Global, text: &[u8]) -> Result<Scene, SceneRefusal>
     let mut number = 0;
     while let Some((line, after)) = next_line(rest) {
         number += 1;
-        draft.take_line(line).map_err(|refusal| refusal.at(number))?;
+        draft
+            .take_line(alloc, line)
+            .map_err(|refusal| refusal.at(number))?;
         rest = after;
     }
     draft

@@ -3,13 +3,21 @@ use Rattle.plan_model.specs.declared.scenes.Marks.TheVariants.{Listed}
 use Rattle.plan_model.specs.SceneGrammar.{point_from, goal_from, number_or}
 use Rattle.plan_model.specs.CanonicalText.{point_numbers, goal_numbers}
 use Rattle.scene_text.specs.Drafts.{amount_numbers}
-use Rattle.scene_text.proofs.DraftScenes.{AreWithin-draft, known-given, default-given, points-given}
+use Rattle.scene_text.proofs.DraftScenes.{AreWithin-draft, known-given, default-given, polygons-given, points-given}
 use Rattle.scene_text.proofs.drafts.Draft.into_scene.Goals as goal
 
 pub invariant_of-result-clause-room_within : goal.invariant_of-result-clause-room_within
 invariant_of-result-clause-room_within c =
     let known = c.in-Some-Some-Some-Some in
     (AreWithin-draft c.args.self c.requires).room known.room known.is-0
+
+pub invariant_of-result-clause-body_within : goal.invariant_of-result-clause-body_within
+invariant_of-result-clause-body_within c =
+    rw c.in_ok-body.ensures (AreWithin-draft c.args.self c.requires).body
+
+pub invariant_of-result-clause-obstacles_within : goal.invariant_of-result-clause-obstacles_within
+invariant_of-result-clause-obstacles_within c =
+    rw c.from_vec.ensures (AreWithin-draft c.args.self c.requires).obstacles
 
 pub invariant_of-result-clause-start_within : goal.invariant_of-result-clause-start_within
 invariant_of-result-clause-start_within c =
@@ -41,7 +49,7 @@ invariant_of-result-clause-strips_high c =
 
 pub invariant_of-result-clause-plan_within : goal.invariant_of-result-clause-plan_within
 invariant_of-result-clause-plan_within c =
-    rw c.from_vec-3.ensures (AreWithin-draft c.args.self c.requires).plan
+    rw c.from_vec-2.ensures (AreWithin-draft c.args.self c.requires).plan
 
 pub returns-clause-fields : goal.returns-clause-fields
 returns-clause-fields c =
@@ -50,13 +58,13 @@ returns-clause-fields c =
     record {
       version = refl;
       room = known-given point_numbers point_from draft.room known.room known.is-0 refl;
-      body = c.from_vec.ensures ∙ c.in_ok-body.ensures.items;
-      obstacles = c.from_vec-2.ensures ∙ c.new.ensures.items;
+      body = c.in_ok-body.ensures;
+      obstacles = c.from_vec.ensures ∙ polygons-given draft.obstacles.items;
       start = known-given point_numbers point_from draft.start known.start known.is-1 refl;
       goal = known-given goal_numbers goal_from draft.goal known.goal known.is-2 refl;
       step = known-given amount_numbers (number_or 0) draft.step known.step known.is-3 refl;
       gamma = refl;
       seed = c.unwrap_or.ensures ∙ default-given 0 draft.seed;
       strips = c.unwrap_or-2.ensures ∙ default-given 1 draft.strips;
-      plan = ap Listed (c.from_vec-3.ensures ∙ points-given draft.marks.items);
+      plan = ap Listed (c.from_vec-2.ensures ∙ points-given draft.marks.items);
     }
