@@ -1,5 +1,5 @@
--- A point body in an empty room is clear exactly if it is in the room.
-use Rattle.std.proofs.Common.{◌≡◌, ℕ, ◌+◌, ◌-◌, ◌*◌, ◌≤◌, arith, List, [], subst, sym, ap, ◌∙◌}
+-- A point body is clear in an empty room, and any body is clear only at points of its room.
+use Rattle.std.proofs.Common.{ℕ, ◌+◌, ◌-◌, ◌*◌, ◌≤◌, arith, List, []}
 use Rattle.std.specs.Prelude.{ℤ, pos, ◌+ℤ◌, ◌-ℤ◌, ◌*ℤ◌, ◌≤ℤ◌}
 use Rattle.std.proofs.Math.Nat.{le_refl}
 use Rattle.std.proofs.lemmas.Int.{ints}
@@ -7,12 +7,11 @@ use Rattle.std.proofs.lemmas.Nat.{mul-le}
 use Rattle.std.proofs.lemmas.List.Elements.{All-cons, All-nil}
 use Rattle.plan_model.specs.declared.geometry.Vertex.{Vertex}
 use Rattle.plan_model.specs.declared.geometry.Point.{Point}
-use Rattle.plan_model.specs.declared.scenes.Scene.{Scene}
-use Rattle.plan_model.specs.ConfigurationSpace.{ConfigurationSpace, space_of}
-use Rattle.plan_model.specs.RoomOfConfigurations.{Rational, at_lattice, moved_by, IsInBox}
+use Rattle.plan_model.specs.ConfigurationSpace.{ConfigurationSpace}
+use Rattle.plan_model.specs.RoomOfConfigurations.{Rational, moved_by, IsInBox}
 use Rattle.plan_model.specs.Meeting.{Meets}
 use Rattle.plan_model.specs.Clearance.{IsClear, ClearAt, on_the_way, Clear}
-use Rattle.plan_model.specs.EmptyRooms.{empty_room, IsPointInEmptyRoom, IsInRoom}
+use Rattle.plan_model.specs.EmptyRooms.{empty_room, IsInRoom}
 use Rattle.plan_model.proofs.SegmentLaws.{part_and_rest, way_is}
 
 -- a coordinate on the way lies between 0 and the side
@@ -46,18 +45,6 @@ IsClear-from_box room q h =
       meets_none = All-nil Q;
     }
 
-box_at : (room p : Point) → IsInRoom room p → IsInBox room (at_lattice p)
-box_at room p h = record {
-  left = omega (arith, ints);
-  right = omega (arith, ints, h.horizontal);
-  bottom = omega (arith, ints);
-  top = omega (arith, ints, h.vertical);
-}
-
--- the body at a point of an empty room is clear
-pub ClearAt-empty_room : (room p : Point) → IsInRoom room p → ClearAt (empty_room room) p
-ClearAt-empty_room room p h = IsClear-from_box room (at_lattice p) (box_at room p h)
-
 -- if the body is clear at a point, the point is in the room
 pub IsInRoom-from_clear_at : (space : ConfigurationSpace) (p : Point) → ClearAt space p → IsInRoom space.room p
 IsInRoom-from_clear_at space p h =
@@ -90,29 +77,3 @@ AreInRoom-from_clear space a b h =
       first = record { horizontal = omega (arith, ints); vertical = omega (arith, ints) };
       last = record { horizontal = omega (arith, ints); vertical = omega (arith, ints) };
     }
-
--- the space of a scene with a point body in an empty room
-pub space_of-empty : (scene : Scene) → IsPointInEmptyRoom scene → space_of scene ≡ empty_room scene.room
-space_of-empty scene plain =
-    let bodied : List Vertex → ConfigurationSpace = λ body. record { room = scene.room; body = body; obstacles = scene.obstacles } in
-    let among : List (List Vertex) → ConfigurationSpace =
-    λ obstacles. record { room = scene.room; body = (empty_room scene.room).body; obstacles = obstacles } in
-    ap bodied plain.body ∙ ap among plain.obstacles
-
--- such a scene is clear at the points of its room
-pub ClearAt-from_room : (scene : Scene) (p : Point) → IsPointInEmptyRoom scene → IsInRoom scene.room p → ClearAt (space_of scene) p
-ClearAt-from_room scene p plain h =
-    let P : ConfigurationSpace → Type 0 = λ space. ClearAt space p in
-    subst P (sym (space_of-empty scene plain)) (ClearAt-empty_room scene.room p h)
-
--- a segment is clear in the scene if it is in the empty room
-pub Clear-in_scene : (scene : Scene) (a b : Point) → IsPointInEmptyRoom scene → Clear (empty_room scene.room) a b → Clear (space_of scene) a b
-Clear-in_scene scene a b plain h =
-    let P : ConfigurationSpace → Type 0 = λ space. Clear space a b in
-    subst P (sym (space_of-empty scene plain)) h
-
--- and in the empty room if it is in the scene
-pub Clear-in_empty_room : (scene : Scene) (a b : Point) → IsPointInEmptyRoom scene → Clear (space_of scene) a b → Clear (empty_room scene.room) a b
-Clear-in_empty_room scene a b plain h =
-    let P : ConfigurationSpace → Type 0 = λ space. Clear space a b in
-    subst P (space_of-empty scene plain) h

@@ -14,7 +14,7 @@ pub mod RewiredRun
 pub mod KeptRun
 pub mod RunLaws
 pub mod MarkBounds
-pub mod EmptyRoomRuns
+pub mod GammaZero
 pub mod ClassLaws
 pub mod RadiusLaws
 pub mod SteeringLaws

@@ -1,24 +1,30 @@
--- The marks of a plain scene are few, and lie at most a step outside of the greatest room.
+-- The marks of a scene are few, and lie at most a step outside of the greatest room.
 use Rattle.std.proofs.Common.{◌≡◌, ℕ, ◌+◌, ◌-◌, ◌*◌, ◌/◌, ◌%◌, ◌^◌, ◌<◌, ◌≤◌, Bool, true, false, cond, ltb, length, arith, refl, ap}
-use Rattle.std.specs.Prelude.{IsTrue, All, bit_xor, ◌&&◌}
-use Rattle.std.specs.List.{range_with_len}
+use Rattle.std.specs.Prelude.{IsTrue, All, bit_xor, ◌&&◌, ℤ, pos, negsuc, int_le}
+use Rattle.std.specs.List.{list_all, range_with_len}
 use Rattle.std.proofs.Math.Nat.{div-le_of_le-mul, div-le_self}
 use Rattle.std.proofs.lemmas.Nat.{mul-le, xor_lt, mod_below, div_below, pow_pos}
 use Rattle.std.proofs.lemmas.List.{length-map}
 use Rattle.std.proofs.lemmas.List.FromFn.{length-range_with_len}
 use Rattle.std.proofs.lemmas.List.Sums.{AllPass-from_list_all}
 use Rattle.std.proofs.lemmas.List.Elements.{All-map, All-weaker, All-same}
-use Rattle.std.proofs.lemmas.Bool.{leb-true}
+use Rattle.std.proofs.lemmas.Bool.{and_parts, leb-true}
 use Rattle.plan_model.specs.declared.geometry.Point.{Point}
 use Rattle.plan_model.specs.declared.scenes.Scene.{Scene}
 use Rattle.plan_model.specs.declared.tasks.Task.{Task}
 use Rattle.plan_model.specs.declared.scenes.Marks.{Marks}
 use Rattle.plan_model.specs.declared.scenes.Marks.TheVariants.{Drawn, Listed}
-use Rattle.plan_model.specs.Limits.{IsBetween, is_mark, is_plan}
-use Rattle.plan_model.specs.EmptyRooms.{IsPointInEmptyRoom}
+use Rattle.plan_model.specs.declared.geometry.Vertex.{Vertex}
+use Rattle.plan_model.specs.declared.limits.TheConstants.{LEAST_BODY_COORDINATE, MOST_BODY_COORDINATE}
+use Rattle.plan_model.specs.Limits.{IsBetween, is_corner_between, is_mark, is_plan}
 use Rattle.plan_model.specs.ConfigurationSpace.{space_of}
 use Rattle.plan_model.specs.MarkPoints.{mark_points, mixed, word_of_state, first_word, second_word, next_state, below_zero, above_zero, reach, Span}
+use Rattle.plan_model.proofs.SpanLaws.{reach-bounded}
 use Rattle.plan_model.specs.MarkPoints.{span_within, columns, rows, strip, picked, drawn_mark, points_of}
+
+-- both coordinates of the corner are in the range of a body's
+abbrev is_body_corner : Vertex → Bool
+is_body_corner v = is_corner_between LEAST_BODY_COORDINATE MOST_BODY_COORDINATE v
 
 -- a share of c is at most c
 share_le : (u c m : ℕ) → u ≤ m → (u * c) / m ≤ c
@@ -55,28 +61,14 @@ strip_end all strips g h =
           strips;
     }) (end_of all) (omega arith) (omega arith)
 
--- if the body does not reach back, the side of the room bounds where it fits
-span_end : (side back forth : ℕ) → back ≡ 0 → end_of (span_within side back forth) ≤ side + 1
+-- the side of the greatest room, or how far the greatest body reaches back, bounds where the body fits
+span_end : (side back forth : ℕ) → side ≤ 65535 → back ≤ 4096 → end_of (span_within side back forth) ≤ 65536
 unfolding end_of
-span_end side back forth e = omega arith
+span_end side back forth low short = omega arith
 
 picked_below : (span : Span) (word : ℕ) → word < 2 ^ 64 → picked span word ≤ end_of span
 unfolding end_of
 picked_below span word h = picked_le span word (2 ^ 32) (pow_pos 32) h
-
-drawn_within : (scene : Scene) (k : ℕ) → IsPointInEmptyRoom scene → IsBetween 1 65535 scene.room → 1 ≤ scene.strips → IsBetween 0 65536 (drawn_mark scene k)
-drawn_within scene k plain room strips =
-    let state : ℕ = (scene.seed + k) % 2 ^ 64 in
-    let back_x : reach (λ v. below_zero v.x) scene.body ≡ 0 = ap (reach (λ v. below_zero v.x)) plain.body in
-    let back_y : reach (λ v. below_zero v.y) scene.body ≡ 0 = ap (reach (λ v. below_zero v.y)) plain.body in
-    let own = strip (columns (space_of scene)) scene.strips (k % scene.strips) in
-    let g : k % scene.strips < scene.strips = mod_below k scene.strips (omega arith) in
-    let x = picked_below own (first_word state) (word_below (next_state state)) in
-    let x_end = strip_end (columns (space_of scene)) scene.strips (k % scene.strips) g in
-    let x_side = span_end scene.room.x (reach (λ v. below_zero v.x) scene.body) (reach (λ v. above_zero v.x) scene.body) back_x in
-    let y = picked_below (rows (space_of scene)) (second_word state) (word_below (next_state (next_state state))) in
-    let y_side = span_end scene.room.y (reach (λ v. below_zero v.y) scene.body) (reach (λ v. above_zero v.y) scene.body) back_y in
-    record { left = omega arith; right = omega (arith, x, x_end, x_side, room.right); bottom = omega arith; top = omega (arith, y, y_side, room.top) }
 
 first_true : (a b : Bool) → (a && b) ≡ true → a ≡ true
 first_true true b h = refl
@@ -86,6 +78,44 @@ second_true : (a b : Bool) → (a && b) ≡ true → b ≡ true
 second_true true b h = h
 second_true false b h = cc
 
+-- a coordinate of a body's corner is not far below 0
+short_below_zero : (z : ℤ) → int_le LEAST_BODY_COORDINATE z ≡ true → below_zero z ≤ 4096
+short_below_zero (pos n) h = omega arith
+short_below_zero (negsuc n) h = omega (arith, leb-true n 4095 h)
+
+-- so the body does not reach far back
+short_reach :
+    (scene : Scene) (coordinate : Vertex → ℤ) → ((v : Vertex) → is_body_corner v ≡ true → int_le LEAST_BODY_COORDINATE (coordinate v) ≡ true)
+    → reach (λ v. below_zero (coordinate v)) scene.body ≤ 4096
+short_reach scene coordinate low =
+    let own = (and_parts _ (list_all is_body_corner scene.body) scene.body_within).1 in
+    let short : (v : Vertex) → is_body_corner v ≡ true → below_zero (coordinate v) ≤ 4096 = λ v h. short_below_zero (coordinate v) (low v h) in
+    reach-bounded (λ v. below_zero (coordinate v)) 0 scene.body 4096 (record {
+      start = omega arith;
+      corners = All-weaker (λ v. is_body_corner v ≡ true) (λ v. below_zero (coordinate v) ≤ 4096) short scene.body
+          (AllPass-from_list_all is_body_corner scene.body own);
+    })
+
+low_x : (v : Vertex) → is_body_corner v ≡ true → int_le LEAST_BODY_COORDINATE v.x ≡ true
+low_x v h = first_true _ _ h
+
+low_y : (v : Vertex) → is_body_corner v ≡ true → int_le LEAST_BODY_COORDINATE v.y ≡ true
+low_y v h = first_true _ _ (second_true _ _ (second_true _ _ h))
+
+drawn_within : (scene : Scene) (k : ℕ) → IsBetween 0 65536 (drawn_mark scene k)
+drawn_within scene k =
+    let state : ℕ = (scene.seed + k) % 2 ^ 64 in
+    let back_x : reach (λ v. below_zero v.x) scene.body ≤ 4096 = short_reach scene (λ v. v.x) low_x in
+    let back_y : reach (λ v. below_zero v.y) scene.body ≤ 4096 = short_reach scene (λ v. v.y) low_y in
+    let own = strip (columns (space_of scene)) scene.strips (k % scene.strips) in
+    let g : k % scene.strips < scene.strips = mod_below k scene.strips (omega (arith, scene.strips_low)) in
+    let x = picked_below own (first_word state) (word_below (next_state state)) in
+    let x_end = strip_end (columns (space_of scene)) scene.strips (k % scene.strips) g in
+    let x_side = span_end scene.room.x (reach (λ v. below_zero v.x) scene.body) (reach (λ v. above_zero v.x) scene.body) scene.room_within.right back_x in
+    let y = picked_below (rows (space_of scene)) (second_word state) (word_below (next_state (next_state state))) in
+    let y_side = span_end scene.room.y (reach (λ v. below_zero v.y) scene.body) (reach (λ v. above_zero v.y) scene.body) scene.room_within.top back_y in
+    record { left = omega arith; right = omega (arith, x, x_end, x_side); bottom = omega arith; top = omega (arith, y, y_side) }
+
 listed_within : (p : Point) → is_mark p ≡ true → IsBetween 0 65536 p
 listed_within p h =
     let x = leb-true p.x 65535 (first_true _ _ h) in
@@ -93,11 +123,9 @@ listed_within p h =
     record { left = omega arith; right = omega (arith, x); bottom = omega arith; top = omega (arith, y) }
 
 -- no coordinate of a mark is above 65,536
-pub All-marks_within : (scene : Scene) (plan : Marks) → IsPointInEmptyRoom scene → IsBetween 1 65535 scene.room → 1 ≤ scene.strips → IsTrue (is_plan plan)
-    → All (IsBetween 0 65536) (points_of scene plan)
-All-marks_within scene (Drawn n) plain room strips h =
-    All-map (IsBetween 0 65536) (drawn_mark scene) (range_with_len 0 n) (λ k d l. drawn_within scene _ plain room strips)
-All-marks_within scene (Listed points) plain room strips h =
+pub All-marks_within : (scene : Scene) (plan : Marks) → IsTrue (is_plan plan) → All (IsBetween 0 65536) (points_of scene plan)
+All-marks_within scene (Drawn n) h = All-map (IsBetween 0 65536) (drawn_mark scene) (range_with_len 0 n) (λ k d l. drawn_within scene _)
+All-marks_within scene (Listed points) h =
     All-weaker (λ p. is_mark p ≡ true) (IsBetween 0 65536) listed_within points (AllPass-from_list_all is_mark points (second_true _ _ h))
 
 -- there are at most 262,143 marks
@@ -109,8 +137,7 @@ length-points_of scene (Listed points) h = leb-true (length points) 262143 (firs
 pub length-marks : (task : Task) → length task.marks ≤ 262143
 length-marks task = omega (arith, ap length task.of_scene, length-points_of task.scene task.scene.plan task.scene.plan_within)
 
-pub All-task_marks_within : (task : Task) → IsPointInEmptyRoom task.scene → All (IsBetween 0 65536) task.marks
-All-task_marks_within task plain =
+pub All-task_marks_within : (task : Task) → All (IsBetween 0 65536) task.marks
+All-task_marks_within task =
     let scene = task.scene in
-    All-same (IsBetween 0 65536) task.marks (mark_points scene) task.of_scene
-    (All-marks_within scene scene.plan plain scene.room_within scene.strips_low scene.plan_within)
+    All-same (IsBetween 0 65536) task.marks (mark_points scene) task.of_scene (All-marks_within scene scene.plan scene.plan_within)

@@ -10,11 +10,11 @@ use Rattle.plan_model.specs.RoomOfConfigurations.{at_lattice, InRoom}
 use Rattle.plan_model.specs.MarkPoints.{below_zero, above_zero, reach, Span, IsInSpan, span_within, columns, rows, BodyFits}
 
 -- ---- how far a body reaches, seen from a bound of it
-record IsReachBounded (extent : Vertex → ℕ) (far : ℕ) (body : List Vertex) (n : ℕ) : Type 0 where
-  start : far ≤ n
-  corners : All (λ corner. extent corner ≤ n) body
+pub record IsReachBounded (extent : Vertex → ℕ) (far : ℕ) (body : List Vertex) (n : ℕ) : Type 0 where
+  pub start : far ≤ n
+  pub corners : All (λ corner. extent corner ≤ n) body
 
-reach-bounded :
+pub reach-bounded :
     (extent : Vertex → ℕ) (far : ℕ) (body : List Vertex) (n : ℕ) → IsReachBounded extent far body n → fold (λ far corner. max far (extent corner)) far body ≤ n
 reach-bounded extent far [] n h = h.start
 reach-bounded extent far (corner ∷ body) n h =

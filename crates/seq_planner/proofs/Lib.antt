@@ -1,4 +1,3 @@
-pub mod ClearSegments
 pub mod RecordFacts
 pub mod Scans
 pub mod SoundTrees

@@ -11,14 +11,13 @@ use Rattle.plan_model.specs.Clearance.{Clear}
 use Rattle.plan_model.specs.Cost.{cost_of}
 use Rattle.plan_model.specs.Radius.{class_of}
 use Rattle.plan_model.specs.Steering.{steered}
-use Rattle.plan_model.specs.EmptyRooms.{IsPointInEmptyRoom}
 use Rattle.plan_model.specs.Nearness.{IsNearest}
 use Rattle.plan_model.specs.PointsByNumber.{StandsAt, IsPresent, IsFree, point_of, node_count}
 use Rattle.plan_model.specs.Trees.{points_of}
 use Rattle.plan_model.specs.Textbook.{setup_of, SteersTo, Handles, cost_through, same_record, blocked_record, placed_record}
 use Rattle.plan_model.proofs.ChainLaws.{sums-tight}
 use Rattle.plan_model.proofs.EmptyRoomClearance.{AreInRoom-from_clear}
-use Rattle.plan_model.proofs.EmptyRoomRuns.{EndsPlaced-nearest}
+use Rattle.plan_model.proofs.GammaZero.{EndsPlaced-nearest}
 use Rattle.plan_model.proofs.NewNodes.{present_below}
 use Rattle.seq_planner.specs.declared.extensions.Extension.{Extension}
 use Rattle.seq_planner.specs.declared.search_tree.SearchTree.{SearchTree}
@@ -110,10 +109,10 @@ pub record IsPlaced (tree : SearchTree) (extension : Extension) (k nearest : ℕ
 -- a node is placed at the point
 pub IsExtensionOf-placed :
     (scene : Scene) (tree : SearchTree) (mark : Point) (extension : Extension) (k nearest : ℕ) (from point : Point) (kept edge class : ℕ)
-    → IsPointInEmptyRoom scene → Steers scene tree mark k nearest from point → IsFree (points_of tree.nodes.items) point
+    → scene.gamma ≡ 0 → Steers scene tree mark k nearest from point → IsFree (points_of tree.nodes.items) point
     → Clear (space_of scene) from point → IsPlaced tree extension k nearest from point kept edge class
     → IsExtensionOf scene tree mark extension
-IsExtensionOf-placed scene tree mark extension k nearest from point kept edge class plain h free clear own =
+IsExtensionOf-placed scene tree mark extension k nearest from point kept edge class gamma h free clear own =
     let nodes = tree.nodes.items in
     let costs = tree.costs.items in
     let points = points_of nodes in
@@ -125,7 +124,7 @@ IsExtensionOf-placed scene tree mark extension k nearest from point kept edge cl
     let through : cost_through nodes point nearest ≡ kept + edge = omega (arith, cost, price, sum) in
     let Q : Point → Type 0 = λ p. Clear (space_of scene) p point in
     let ends =
-    EndsPlaced-nearest (setup_of scene) nodes k nearest mark point plain.gamma (steers_to scene tree mark k nearest from point h) free
+    EndsPlaced-nearest (setup_of scene) nodes k nearest mark point gamma (steers_to scene tree mark k nearest from point h) free
     (subst Q h.begins clear) in
     let H : ℕ → Record → Option Twig → Type 0 = λ n entry new. Handles (setup_of scene) nodes n mark entry (nodes ++ new ∷ []) in
     let R : ℕ → ℕ → Record = λ sum class. placed_record k nearest nearest sum class in

@@ -2,7 +2,8 @@
 
 ghost use Rattle.std.specs.Prelude.{◌≡◌, ◌<◌, ◌≤◌, [], length, IfOk, OnOk, MatchOption};
 ghost use Rattle.plan_model.specs.Bounds.{IsBounded};
-ghost use Rattle.plan_model.specs.EmptyRooms.{IsPointInEmptyRoom, IsInRoom};
+ghost use Rattle.plan_model.specs.ConfigurationSpace.{space_of};
+ghost use Rattle.plan_model.specs.EmptyRooms.{IsInRoom};
 ghost use Rattle.plan_model.specs.Nearness.{IsNearest};
 ghost use Rattle.plan_model.specs.PointsByNumber.{IsFree, IsPresent, StandsAt, point_of};
 ghost use Rattle.plan_model.specs.Textbook.{start_alone};
@@ -11,10 +12,10 @@ ghost use Rattle.plan_model.specs.declared.limits.TheConstants.{MOST_MARKS, MOST
 ghost use Rattle.seq_planner.specs.SearchTrees.{AreBounded, HandlesNext, IsExtensionOf, IsSoundTree};
 
 use crate::extensions::Extension;
-use crate::rooms::is_clear;
 use edge_cost::{class, cost, steer};
 use plan_model::{Memory, Point, Record, Scene, Sequence, Tree, Twig};
 use std::alloc::Global;
+use swept_check::Clearing;
 
 /// The tree that RRT* grows, by a number for each mark, with the record of each mark so far.
 ///
@@ -61,8 +62,14 @@ impl SearchTree {
     /// # Errors
     ///
     /// `Memory` if out of memory; the tree is then of no more use.
-    pub(crate) fn handle(&mut self, scene: &Scene, mark: Point) -> Result<(), Memory>
-        requires empty_room { IsPointInEmptyRoom scene.now }
+    pub(crate) fn handle<C: Clearing>(
+        &mut self,
+        scene: &Scene,
+        hall: &C,
+        mark: Point,
+    ) -> Result<(), Memory>
+        requires gamma { scene.now.gamma ≡ 0 }
+        requires hall { C.space hall.now ≡ space_of scene.now }
         requires sound { IsSoundTree scene.now.room self.old }
         requires few { length self.old.nodes.items ≤ MOST_MARKS }
         requires turn { length self.old.records.items < length self.old.nodes.items }
@@ -70,7 +77,7 @@ impl SearchTree {
         ensures handles { OnOk result (HandlesNext scene.now self.old mark self.new) }
         ensures sound { OnOk result (IsSoundTree scene.now.room self.new) }
     {
-        let extension = self.extension(scene, mark);
+        let extension = self.extension(scene, hall, mark);
         self.present += u64::from(extension.node.is_some());
         self.nodes.push(extension.node)?;
         self.costs.push(extension.cost)?;
@@ -91,8 +98,9 @@ impl SearchTree {
 
     /// What the next mark adds: the nearest node steers towards it, and a node is placed at the point that this
     /// leads to, unless one stands there already or the segment is not clear.
-    fn extension(&self, scene: &Scene, mark: Point) -> Extension
-        requires empty_room { IsPointInEmptyRoom scene.now }
+    fn extension<C: Clearing>(&self, scene: &Scene, hall: &C, mark: Point) -> Extension
+        requires gamma { scene.now.gamma ≡ 0 }
+        requires hall { C.space hall.now ≡ space_of scene.now }
         requires sound { IsSoundTree scene.now.room self.now }
         requires few { length self.now.nodes.items ≤ MOST_MARKS }
         requires turn { length self.now.records.items < length self.now.nodes.items }
@@ -106,7 +114,7 @@ impl SearchTree {
         if let Some(number) = self.find(point) {
             return Extension::same(turn, nearest, number);
         }
-        if !is_clear(scene.room, from, point) {
+        if !hall.clear(from, point) {
             return Extension::blocked(turn, nearest);
         }
         // at radius 0 no node is near a free point, so the nearest one is the only choice

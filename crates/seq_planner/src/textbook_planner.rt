@@ -3,7 +3,7 @@
 ghost use Rattle.std.specs.Prelude.{◌≡◌, ◌+◌, length, IfOk, IsTrue};
 ghost use Rattle.plan_model.specs.Clearance.{ClearAt};
 ghost use Rattle.plan_model.specs.ConfigurationSpace.{space_of};
-ghost use Rattle.plan_model.specs.EmptyRooms.{IsPointInEmptyRoom, LiesIn};
+ghost use Rattle.plan_model.specs.EmptyRooms.{LiesIn};
 ghost use Rattle.plan_model.specs.Limits.{is_plan};
 ghost use Rattle.plan_model.specs.Textbook.{IsTextbookRun, setup_of};
 ghost use Rattle.plan_model.specs.Trees.{CostsFall, points_of, sum_of};
@@ -11,18 +11,20 @@ ghost use Rattle.plan_model.specs.Trees.{CostsFall, points_of, sum_of};
 use crate::search_tree::SearchTree;
 use plan_model::{Memory, Task, Tree};
 use std::alloc::Global;
+use swept_check::Clearing;
 
 /// RRT* over the marks (the samples) of a task in rising number, from its start.
 ///
 /// Every node is looked at for each mark, once for the nearest and once for one that stands at the steered
-/// point already: O(n) for each of n marks. The scene has a point body, no obstacle and gamma 0, so the
-/// parent of a new node is the nearest node, and no node gets another parent later.
+/// point already: O(n) for each of n marks. The hall is the collision checker of the scene; each mark asks it at most
+/// once. The scene has gamma 0, so the parent of a new node is the nearest node, and no node gets another parent later.
 ///
 /// # Errors
 ///
 /// `Memory` if out of memory for the nodes or the records.
-pub fn textbook(alloc: Global, task: Task) -> Result<Tree, Memory>
-    requires empty_room { IsPointInEmptyRoom task.scene }
+pub fn textbook<C: Clearing>(alloc: Global, task: Task, hall: &C) -> Result<Tree, Memory>
+    requires gamma { task.scene.gamma ≡ 0 }
+    requires hall { C.space hall.now ≡ space_of task.scene }
     requires start { ClearAt (space_of task.scene) task.scene.start }
     ensures run { IfOk result (λ tree. IsTextbookRun (setup_of task.scene) task.scene.start task.marks tree.twigs tree.records) }
     ensures nodes { IfOk result (λ tree. length tree.twigs ≡ length task.marks + 1) }
@@ -34,7 +36,7 @@ pub fn textbook(alloc: Global, task: Task) -> Result<Tree, Memory>
     let marks = task.marks.as_slice();
     let mut tree = SearchTree::new(alloc, scene)?;
     for &mark in marks {
-        tree.handle(scene, mark)?;
+        tree.handle(scene, hall, mark)?;
     }
     Ok(tree.into_tree())
 }
@@ -43,11 +45,12 @@ pub fn textbook(alloc: Global, task: Task) -> Result<Tree, Memory>
 mod tests {
     use super::*;
     use plan_model::{Goal, Marks, Outcome, Point, Record, Scene, Sequence, Twig, Vertex};
+    use swept_check::Hall;
 
     /// The task of these marks in a room of 100 by 100, from its lower left corner by steps of 50.
     fn small_task(alloc: Global, marks: &[Point]) -> Result<Task, Memory>
         requires { IsTrue (is_plan (Marks.Listed marks.now)) }
-        ensures empty_room { IfOk result (λ task. IsPointInEmptyRoom task.scene) }
+        ensures gamma { IfOk result (λ task. task.scene.gamma ≡ 0) }
         ensures start { IfOk result (λ task. ClearAt (space_of task.scene) task.scene.start) }
     {
         let scene = Scene {
@@ -106,7 +109,8 @@ mod tests {
     #[test]
     fn leaves_the_start_alone_without_marks(rt: HostRuntime) -> Result<(), Memory> {
         let task = small_task(rt.alloc(), &[])?;
-        let tree = textbook(rt.alloc(), task)?;
+        let hall = Hall::new(rt.alloc(), &task.scene)?;
+        let tree = textbook(rt.alloc(), task, &hall)?;
         assert!(rt; tree.twigs.as_slice() == [node(0, 0, 0)].as_slice());
         assert!(rt; tree.records.is_empty());
         Ok(())
@@ -123,7 +127,8 @@ mod tests {
             Point { x: 150, y: 80 },
         ];
         let task = small_task(rt.alloc(), &marks)?;
-        let tree = textbook(rt.alloc(), task)?;
+        let hall = Hall::new(rt.alloc(), &task.scene)?;
+        let tree = textbook(rt.alloc(), task, &hall)?;
         let nodes = [
             node(0, 0, 0),
             node(30, 40, 0),

@@ -9,25 +9,25 @@ use Rattle.seq_planner.proofs.SoundTrees.{CostsFall-sound}
 use Rattle.seq_planner.proofs.textbook_planner.textbook.Goals as goal
 
 pub handle-requires-clause-few : goal.handle-requires-clause-few
-handle-requires-clause-few c =
+handle-requires-clause-few g c =
     let marks : length c.as_slice-marks.result.now ≡ length c.args.task.marks = ap length c.as_slice-marks.ensures in
     omega (arith, c.loop-mark.invariant.nodes, length-take c.loop-mark.mark-index c.as_slice-marks.result.now, length-marks c.args.task)
 
 pub handle-requires-clause-bounded : goal.handle-requires-clause-bounded
-handle-requires-clause-bounded c =
+handle-requires-clause-bounded g c =
     let marks : length c.as_slice-marks.result.now ≡ length c.args.task.marks = ap length c.as_slice-marks.ensures in
     let mark : Point = record { x = 0; y = 0 } in
-    let here = All-task_marks_within c.args.task c.requires.empty_room c.loop-mark.mark-index mark (omega arith) in
+    let here = All-task_marks_within c.args.task c.loop-mark.mark-index mark (omega arith) in
     rw c.as_slice-marks.ensures (record { right = omega (arith, here.right); top = omega (arith, here.top) })
 
 pub loop-mark-preserved : goal.loop-mark-preserved
-loop-mark-preserved c =
+loop-mark-preserved g c =
     IsRunSoFar-more c.args.task.scene c.as_slice-marks.result.now c.loop-mark.tree c.handle.new.self c.loop-mark.mark-index _ c.loop-mark.invariant
     c.loop-mark-test.true (get_or_default c.as_slice-marks.result.now c.loop-mark.mark-index _ _ c.loop-mark-test.true)
     c.in_ok-handle.ensures.handles c.in_ok-handle.ensures.sound
 
 pub returns-clause-parents : goal.returns-clause-parents
-returns-clause-parents c =
+returns-clause-parents g c =
     let P : Nodes → Type 0 = λ nodes. CostsFall (sum_of nodes) nodes in
     let tree = c.loop-mark.tree in
     subst P (sym c.into_tree.ensures.nodes)

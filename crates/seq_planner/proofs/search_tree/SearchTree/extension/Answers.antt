@@ -1,12 +1,13 @@
-use Rattle.std.proofs.Common.{true, ◌≡◌, arith, rules}
+use Rattle.std.proofs.Common.{true, ◌≡◌, arith, rules, subst, sym}
 use Rattle.plan_model.specs.Bounds.{IsBounded}
-use Rattle.plan_model.proofs.EmptyRoomClearance.{Clear-in_scene, Clear-in_empty_room}
+use Rattle.plan_model.specs.ConfigurationSpace.{ConfigurationSpace}
+use Rattle.plan_model.specs.Clearance.{Clear}
 use Rattle.seq_planner.proofs.SoundTrees.{IsBounded-present, few_present}
 use Rattle.seq_planner.proofs.MarkExtensions.{Steers, IsExtensionOf-same, IsExtensionOf-blocked, IsExtensionOf-placed, kept_cost}
 use Rattle.seq_planner.proofs.search_tree.SearchTree.extension.Goals as goal
 
 pub returns-in-Some : goal.returns-in-Some
-returns-in-Some c =
+returns-in-Some g c =
     let steers : Steers c.args.scene.now c.args.self.now c.args.mark c.len-turn.result c.nearest-nearest.result c.point-from.result c.steer-point.result =
     record {
       sound = c.requires.sound;
@@ -19,8 +20,8 @@ returns-in-Some c =
     c.point-from.result c.steer-point.result steers c.in-Some.ensures
     (record { node = c.same.ensures.node; cost = c.same.ensures.cost; recorded = c.same.ensures.entry })
 
-pub returns-then-not-is_clear : goal.returns-then-not-is_clear
-returns-then-not-is_clear c =
+pub returns-then-not-clear : goal.returns-then-not-clear
+returns-then-not-clear g c =
     let steers : Steers c.args.scene.now c.args.self.now c.args.mark c.len-turn.result c.nearest-nearest.result c.point-from.result c.steer-point.result =
     record {
       sound = c.requires.sound;
@@ -32,13 +33,13 @@ returns-then-not-is_clear c =
     IsExtensionOf-blocked c.args.scene.now c.args.self.now c.args.mark c.blocked.result c.len-turn.result c.nearest-nearest.result
     c.point-from.result c.steer-point.result steers c.in_default.ensures
     (λ clear. (
-    let yes : c.is_clear.result ≡ true =
-    c.is_clear.ensures.1 (Clear-in_empty_room c.args.scene.now c.point-from.result c.steer-point.result c.requires.empty_room clear) in
+    let yes : c.clear.result ≡ true =
+    c.clear.ensures.1 (subst (λ (space : ConfigurationSpace). Clear space c.point-from.result c.steer-point.result) (sym c.requires.hall) clear) in
     cc))
     (record { node = c.blocked.ensures.node; cost = c.blocked.ensures.cost; recorded = c.blocked.ensures.entry })
 
 pub cost-requires-clause-to : goal.cost-requires-clause-to
-cost-requires-clause-to c =
+cost-requires-clause-to g c =
     let tree = c.args.self.now in
     let from : IsBounded c.point-from.result =
     IsBounded-present c.args.scene.now tree.nodes.items tree.costs.items tree.present c.nearest-nearest.result c.point-from.result c.requires.sound
@@ -46,7 +47,7 @@ cost-requires-clause-to c =
     record { right = omega (arith, c.steer-point.ensures.right); top = omega (arith, c.steer-point.ensures.top) }
 
 pub overflow_add-first_cost : goal.overflow_add-first_cost
-overflow_add-first_cost c =
+overflow_add-first_cost g c =
     let tree = c.args.self.now in
     let nearest = c.nearest-nearest.result in
     let kept = kept_cost c.args.scene.now.room tree nearest c.index.result.now c.requires.sound c.nearest-nearest.ensures.member c.index.ensures in
@@ -54,7 +55,7 @@ overflow_add-first_cost c =
     omega (arith, kept, few, c.requires.sound.bounded nearest)
 
 pub returns : goal.returns
-returns c =
+returns g c =
     let tree = c.args.self.now in
     let steers : Steers c.args.scene.now tree c.args.mark c.len-turn.result c.nearest-nearest.result c.point-from.result c.steer-point.result =
     record {
@@ -65,8 +66,9 @@ returns c =
       ends = c.steer-point.ensures.value;
     } in
     IsExtensionOf-placed c.args.scene.now tree c.args.mark c.placed.result c.len-turn.result c.nearest-nearest.result
-    c.point-from.result c.steer-point.result c.index.result.now c.cost.result c.class.result c.requires.empty_room steers c.in_default.ensures
-    (Clear-in_scene c.args.scene.now c.point-from.result c.steer-point.result c.requires.empty_room (c.is_clear.ensures.0 c.if-not-is_clear.false))
+    c.point-from.result c.steer-point.result c.index.result.now c.cost.result c.class.result c.requires.gamma steers c.in_default.ensures
+    (subst (λ (space : ConfigurationSpace). Clear space c.point-from.result c.steer-point.result) c.requires.hall
+    (c.clear.ensures.0 c.if-not-clear.false))
     (record {
       read = c.index.ensures;
       edge_is = c.cost.ensures.value;

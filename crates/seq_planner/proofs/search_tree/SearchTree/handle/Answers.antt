@@ -3,7 +3,7 @@ use Rattle.plan_model.specs.Textbook.{Nodes, setup_of, Handles}
 use Rattle.seq_planner.proofs.search_tree.SearchTree.handle.Goals as goal
 
 pub returns-clause-handles : goal.returns-clause-handles
-returns-clause-handles c =
+returns-clause-handles g c =
     let tree = c.args.self.now in
     let extension = c.extension-extension.result in
     let P : Nodes → Type 0 = λ after. Handles (setup_of c.args.scene.now) tree.nodes.items (length tree.records.items) c.args.mark extension.entry after in
