@@ -1,7 +1,8 @@
 use Rattle.std.proofs.Common.{◌≡◌, sym, ap, arith, length, subst}
 use Rattle.std.proofs.lemmas.List.{length-take, get_or_default}
 use Rattle.plan_model.specs.declared.geometry.Point.{Point}
-use Rattle.plan_model.specs.Trees.{CostsFall, sum_of}
+use Rattle.plan_model.specs.EmptyRooms.{LiesIn}
+use Rattle.plan_model.specs.Trees.{CostsFall, points_of, sum_of}
 use Rattle.plan_model.specs.Textbook.{Nodes}
 use Rattle.plan_model.proofs.MarkBounds.{length-marks, All-task_marks_within}
 use Rattle.seq_planner.proofs.RunsSoFar.{IsRunSoFar-more}
@@ -18,7 +19,7 @@ handle-requires-clause-bounded g c =
     let marks : length c.as_slice-marks.result.now ≡ length c.args.task.marks = ap length c.as_slice-marks.ensures in
     let mark : Point = record { x = 0; y = 0 } in
     let here = All-task_marks_within c.args.task c.loop-mark.mark-index mark (omega arith) in
-    rw c.as_slice-marks.ensures (record { right = omega (arith, here.right); top = omega (arith, here.top) })
+    λ κs lives. rw c.as_slice-marks.ensures (record { right = omega (arith, here.right); top = omega (arith, here.top) })
 
 pub loop-mark-preserved : goal.loop-mark-preserved
 loop-mark-preserved g c =
@@ -32,3 +33,8 @@ returns-clause-parents g c =
     let tree = c.loop-mark.tree in
     subst P (sym c.into_tree.ensures.nodes)
     (CostsFall-sound c.args.task.scene.room tree.nodes.items tree.costs.items tree.present c.loop-mark.invariant.sound)
+
+pub returns-clause-in_room : goal.returns-clause-in_room
+returns-clause-in_room g c =
+    let P : Nodes → Type 0 = λ nodes. LiesIn c.args.task.scene.room (points_of nodes) in
+    subst P (sym c.into_tree.ensures.nodes) c.loop-mark.invariant.sound.in_room
