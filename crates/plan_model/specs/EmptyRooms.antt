@@ -1,7 +1,6 @@
--- Rooms with a point body and no obstacle, scenes in which nothing is rewired, and trees that lie in a room.
-use Rattle.std.specs.Prelude.{◌≡◌, ℕ, ◌≤◌, pos, Option, List, [], ◌∷◌}
+-- Rooms with a point body and no obstacle, listed marks, and trees that lie in a room.
+use Rattle.std.specs.Prelude.{ℕ, ◌≤◌, pos, Option, List, [], ◌∷◌}
 use Rattle.plan_model.specs.declared.geometry.Point.{Point}
-use Rattle.plan_model.specs.declared.scenes.Scene.{Scene}
 use Rattle.plan_model.specs.declared.scenes.Marks.{Marks}
 use Rattle.plan_model.specs.declared.scenes.Marks.TheVariants.{Drawn, Listed}
 use Rattle.plan_model.specs.ConfigurationSpace.{ConfigurationSpace}
@@ -10,12 +9,6 @@ use Rattle.plan_model.specs.PointsByNumber.{StandsAt}
 -- the configuration space of a body that is a point, in a room without obstacles
 abbrev pub empty_room : Point → ConfigurationSpace
 empty_room room = record { room = room; body = record { x = pos 0; y = pos 0 } ∷ []; obstacles = [] }
-
--- a scene of a point body in an empty room, without rewiring
-pub record IsPointInEmptyRoom (scene : Scene) : Type 0 where
-  pub body : scene.body ≡ record { x = pos 0; y = pos 0 } ∷ []
-  pub obstacles : scene.obstacles ≡ []
-  pub gamma : scene.gamma ≡ 0
 
 -- the marks are listed
 abbrev pub IsListed : Marks → Type 0

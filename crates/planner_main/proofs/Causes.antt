@@ -1,14 +1,19 @@
 -- Why a command that reads the text of a scene is refused.
-use Rattle.std.proofs.Common.{◌≡◌, ℕ, ◌<◌, false, Some, IsTrue, length, Vec, refl, sym, subst, arith}
+use Rattle.std.proofs.Common.{◌≡◌, ◌⊎◌, inl, inr, ℕ, ◌<◌, false, Some, IsTrue, length, Vec, refl, sym, subst, arith}
 use Rattle.std.proofs.Common.{Result, Ok, Err, IsErrAnd, IsErrOf, IfErr}
 use Rattle.plan_model.specs.declared.limits.TheConstants.{MOST_TEXT_BYTES}
+use Rattle.plan_model.specs.declared.scenes.Scene.{Scene}
+use Rattle.plan_model.specs.Clearance.{ClearAt}
+use Rattle.plan_model.specs.ConfigurationSpace.{space_of}
 use Rattle.plan_model.specs.Streams.{counted}
 use Rattle.scene_text.specs.declared.fetching.FetchFault.{FetchFault}
 use Rattle.scene_text.specs.declared.fetching.FetchFault.TheVariants as fetching
 use Rattle.scene_text.specs.Fetching.{Fetches}
 use Rattle.planner_main.specs.declared.commands.Command.{Command}
-use Rattle.planner_main.specs.Commands.{reads_scene}
-use Rattle.planner_main.specs.Conclusions.{IsCaused}
+use Rattle.planner_main.specs.declared.refusals.Refusal.{Refusal}
+use Rattle.planner_main.specs.declared.refusals.Refusal.TheVariants as refusals
+use Rattle.planner_main.specs.Commands.{reads_scene, tests_start}
+use Rattle.planner_main.specs.Conclusions.{IsCaused, HasScene}
 use Rattle.planner_main.specs.Exchanges.{Reading, ReadFailed, CameShort}
 use Rattle.planner_main.specs.Faults.{refusal_of_fetch}
 
@@ -54,3 +59,13 @@ module _ {Z : Type 0} where
 pub IfErr-only : {T E : Type 0} (r : Result T E) (error : E) (P : E → Type 0) → IsErrAnd r (λ e. e ≡ error) → P error → IfErr r P
 IfErr-only (Ok value) error P only h = absurd only
 IfErr-only (Err e) error P only h = subst P (sym only) h
+
+-- a start that is not clear, and memory that is out after the whole text was read, are causes of their refusals
+pub hall-caused : (command : Command) (reading : Reading) (scene : Scene) (refusal : Refusal) → IsTrue (tests_start command) →
+    HasScene reading scene → (refusal ≡ refusals.Memory) ⊎ ((refusal ≡ refusals.StartBlocked) × ¬ ClearAt (space_of scene) scene.start) →
+    IsCaused (Some command) reading refusal
+hall-caused command reading scene refusal tests h (inl memory) =
+    subst (IsCaused (Some command) reading) (sym memory) (refl, h.read.no_fault)
+hall-caused command reading scene refusal tests h (inr blocked) =
+    subst (IsCaused (Some command) reading) (sym blocked.0)
+    (tests, (h.bytes, h.read, record { scene = scene; spelled = h.spelled; blocked = blocked.1 }))

@@ -2,6 +2,8 @@
 use Rattle.std.proofs.Common.{◌≡◌, ℕ, List, Some, refl}
 use Rattle.plan_model.specs.declared.scenes.Scene.{Scene}
 use Rattle.plan_model.specs.CanonicalText.{canonical_text}
+use Rattle.plan_model.specs.ConfigurationSpace.{space_of}
+use Rattle.plan_model.specs.Clearance.{ClearAt}
 use Rattle.planner_main.specs.declared.commands.Command.TheVariants as commands
 use Rattle.planner_main.specs.declared.statuses.TheConstants.{DONE}
 use Rattle.planner_main.specs.declared.top_call.Done.{Done}
@@ -9,16 +11,17 @@ use Rattle.planner_main.specs.Conclusions.{HasScene, IsSuccess, ReportsScene}
 use Rattle.planner_main.specs.Exchanges.{Reading}
 
 module _ (reading : Reading) (scene : Scene) (done : Done) (text : List ℕ) where
-  pub IsSuccess-planned : HasScene commands.Plain reading scene → ReportsScene scene done text → IsSuccess (Some commands.Plain) reading done text
-  IsSuccess-planned h report = record {
+  pub IsSuccess-planned : HasScene reading scene → ClearAt (space_of scene) scene.start → ReportsScene scene done text →
+      IsSuccess (Some commands.Plain) reading done text
+  IsSuccess-planned h start report = record {
     command = commands.Plain;
     known = refl;
     bytes = h.bytes;
     read = h.read;
-    meaning = record { scene = scene; spelled = h.spelled; start = h.start refl; report = report };
+    meaning = record { scene = scene; spelled = h.spelled; start = start; report = report };
   }
 
-  pub IsSuccess-shown : HasScene commands.Show reading scene → done.status ≡ DONE → text ≡ canonical_text scene →
+  pub IsSuccess-shown : HasScene reading scene → done.status ≡ DONE → text ≡ canonical_text scene →
       IsSuccess (Some commands.Show) reading done text
   IsSuccess-shown h shown written = record {
     command = commands.Show;

@@ -106,12 +106,11 @@ IsCaused asked reading refusals.Memory = IsSome asked × NoReadFailed reading
 abbrev pub MayStart : Command → Scene → Type 0
 MayStart command scene = IsTrue (tests_start command) → ClearAt (space_of scene) scene.start
 
--- the source was read to its end, and the command may go on with the scene that came
-pub record HasScene (command : Command) (reading : Reading) (scene : Scene) : Type 0 where
+-- the source was read to its end, and what came is a text of the scene
+pub record HasScene (reading : Reading) (scene : Scene) : Type 0 where
   pub bytes : List ℕ
   pub read : IsReadWhole reading bytes
   pub spelled : IsTextOf scene bytes
-  pub start : MayStart command scene
 
 -- a refusal with its cause, its status and its line
 pub record IsRefusal (asked : Option Command) (reading : Reading) (done : Done) (text : List ℕ) : Type 0 where

@@ -1,10 +1,10 @@
 //! What is to be written for the words of the command line. Each command has a function that reads what it needs from
 //! the source and makes the text of the answer.
 
-ghost use Rattle.std.specs.Prelude.{◌≡◌, ◌≤◌, true, false, length, map, string_bytes, IfOk, IfErr, Some};
+ghost use Rattle.std.specs.Prelude.{◌≡◌, ◌≤◌, ◌⊎◌, true, false, length, map, string_bytes, IfOk, IfErr, Some};
 ghost use Rattle.plan_model.specs.ConfigurationSpace.{space_of};
 ghost use Rattle.plan_model.specs.Clearance.{ClearAt};
-ghost use Rattle.plan_model.specs.EmptyRooms.{IsPointInEmptyRoom, IsListed};
+ghost use Rattle.plan_model.specs.EmptyRooms.{IsListed};
 ghost use Rattle.plan_model.specs.SceneGrammar.{Spells, supported};
 ghost use Rattle.plan_model.specs.declared.limits.TheConstants.{MOST_TEXT_BYTES};
 ghost use Rattle.scene_text.specs.Fetching.{ReadsWithin};
@@ -22,6 +22,7 @@ use plan_model::{Marks, Memory, Points, Scene, Source, Task};
 use scene_text::{SceneRefusal, fetch, read_scene, write_scene};
 use seq_planner::textbook;
 use std::alloc::Global;
+use swept_check::Hall;
 
 /// The answer of a command that succeeds.
 #[derive(Drop)]
@@ -85,7 +86,8 @@ fn plan<S: Source>(alloc: Global, source: &mut S) -> Result<Answer, Refusal>
     ensures within { ReadsWithin (S.bytes_left source.old) (S.bytes_left source.new) }
 {
     let scene = scene_for(alloc, Command::Plain, source)?;
-    Ok(report_of(alloc, scene)?)
+    let hall = hall_for(alloc, &scene)?;
+    Ok(report_of(alloc, scene, &hall)?)
 }
 
 // Shows the scene that is read.
@@ -108,44 +110,56 @@ fn show<S: Source>(alloc: Global, source: &mut S) -> Result<Answer, Refusal>
 fn scene_for<S: Source>(alloc: Global, command: Command, source: &mut S) -> Result<Scene, Refusal>
     requires reads { reads_scene command ≡ true }
     requires unended { S.has_ended source.old ≡ false }
-    ensures scene { IfOk result (HasScene command
+    ensures scene { IfOk result (HasScene
         (reading_of S.counts_failures_alone S.bytes_left S.has_ended S.fault_count source.old source.new)) }
     ensures refusal { IfErr result (IsCaused (Some command)
         (reading_of S.counts_failures_alone S.bytes_left S.has_ended S.fault_count source.old source.new)) }
-    ensures empty_room { IfOk result IsPointInEmptyRoom }
+    ensures gamma { IfOk result (λ scene. scene.gamma ≡ 0) }
     ensures listed { IfOk result (λ scene. IsListed scene.plan) }
     ensures within { ReadsWithin (S.bytes_left source.old) (S.bytes_left source.new) }
 {
     let text = fetch(alloc, source)?;
     let scene = spelled_scene(alloc, &text)?;
-    if command.tests_start() && !scene.start.is_in_room(scene.room) {
-        return Err(Refusal::StartBlocked);
-    }
     Ok(scene)
 }
 
-// The scene that a text spells. The keys that are supported today give a point body in an empty room, and listed marks.
+// The scene that a text spells. The keys that are supported today give gamma 0 and listed marks.
 fn spelled_scene(alloc: Global, text: &[u8]) -> Result<Scene, SceneRefusal>
     requires { length text.now ≤ MOST_TEXT_BYTES }
     ensures scene { IfOk result (λ scene. Spells supported text.now scene) }
     ensures fault { IfErr result (IsRefusal text.now) }
-    ensures empty_room { IfOk result IsPointInEmptyRoom }
+    ensures gamma { IfOk result (λ scene. scene.gamma ≡ 0) }
     ensures listed { IfOk result (λ scene. IsListed scene.plan) }
 {
     let scene = read_scene(alloc, text)?;
     Ok(scene)
 }
 
+// The collision checker of a scene that is to be planned, so one whose start is clear.
+fn hall_for(alloc: Global, scene: &Scene) -> Result<Hall, Refusal>
+    ensures hall { IfOk result (λ hall. hall ≡ space_of scene.now) }
+    ensures start { IfOk result (λ hall. ClearAt (space_of scene.now) scene.now.start) }
+    ensures refusal { IfErr result (λ refusal. (refusal ≡ Refusal.Memory)
+        ⊎ ((refusal ≡ Refusal.StartBlocked) × ¬ ClearAt (space_of scene.now) scene.now.start)) }
+{
+    let hall = Hall::new(alloc, scene)?;
+    if !hall.clear_at(scene.start) {
+        return Err(Refusal::StartBlocked);
+    }
+    Ok(hall)
+}
+
 // The short report of the textbook run of a scene.
-fn report_of(alloc: Global, scene: Scene) -> Result<Answer, Memory>
-    requires empty_room { IsPointInEmptyRoom scene }
+fn report_of(alloc: Global, scene: Scene, hall: &Hall) -> Result<Answer, Memory>
+    requires gamma { scene.gamma ≡ 0 }
     requires listed { IsListed scene.plan }
+    requires hall { hall.now ≡ space_of scene }
     requires start { ClearAt (space_of scene) scene.start }
     ensures { IfOk result (λ answer. ReportsScene scene answer.done answer.text.items) }
 {
     let goal = scene.goal;
     let task = task_of(alloc, scene)?;
-    let tree = textbook(alloc, task)?;
+    let tree = textbook(alloc, task, hall)?;
     let report = short_report(alloc, goal, &tree)?;
     let status = if report.found { DONE } else { NO_PATH };
     Ok(Answer {

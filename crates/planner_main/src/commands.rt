@@ -1,7 +1,7 @@
 //! The commands that the words of the command line may ask for.
 
 ghost use Rattle.std.specs.Prelude.{◌≡◌, map, string_bytes};
-ghost use Rattle.planner_main.specs.Commands.{command_of, command_of_word, tests_start};
+ghost use Rattle.planner_main.specs.Commands.{command_of, command_of_word};
 
 /// What the words of the command line ask for.
 #[derive(Clone, Copy, Debug, PartialEq, Eq)]
@@ -10,18 +10,6 @@ pub enum Command {
     Plain,
     /// `show`: the canonical text of the scene that is read.
     Show,
-}
-
-impl Command {
-    /// Whether the command is refused if the start of the scene is not clear.
-    pub fn tests_start(self) -> bool
-        ensures { result ≡ tests_start self }
-    {
-        match self {
-            Command::Plain => true,
-            Command::Show => false,
-        }
-    }
 }
 
 /// The command that the words ask for, without the program's name. `None` if they ask for none.

@@ -1,5 +1,19 @@
+use Rattle.std.proofs.Common.{refl}
+use Rattle.planner_main.specs.Conclusions.{IsCaused}
+use Rattle.planner_main.specs.Exchanges.{reading_of}
+use Rattle.planner_main.specs.declared.commands.Command.TheVariants as commands
+use Rattle.planner_main.proofs.Causes.{hall-caused, IfErr-only}
 use Rattle.planner_main.proofs.Successes.{IsSuccess-planned}
 use Rattle.planner_main.proofs.answers.plan.Goals as goal
 
+pub returns-in_err-hall-clause-refusal : goal.returns-in_err-hall-clause-refusal
+returns-in_err-hall-clause-refusal g c =
+    let source = g.S.Source in
+    let reading = reading_of source.counts_failures_alone source.bytes_left source.has_ended source.fault_count
+    c.args.source.now c.scene_for.new.source in
+    IfErr-only c.from_residual-in_err-hall.result _ (IsCaused _ reading) c.from_residual-in_err-hall.ensures.1
+    (hall-caused commands.Plain reading c.in_ok-scene.scene c.in_err-hall.field-0.0 refl c.in_ok-scene.ensures.scene c.in_err-hall.ensures.refusal)
+
 pub returns-clause-success : goal.returns-clause-success
-returns-clause-success g c = IsSuccess-planned _ c.in_ok-scene.scene _ _ c.in_ok-scene.ensures.scene c.in_ok-report_of.ensures
+returns-clause-success g c =
+    IsSuccess-planned _ c.in_ok-scene.scene _ _ c.in_ok-scene.ensures.scene c.in_ok-hall.ensures.start c.in_ok-report_of.ensures

@@ -17,27 +17,3 @@ returns-in_err-text-clause-refusal g c =
     IfErr-only c.from_residual.result _ (IsCaused _ reading) c.from_residual.ensures.1
     (fetch-caused c.args.command reading _ c.in_err-text.field-0.0 refl c.requires.reads fetched.no_end fetched.came
     fetched.read fetched.one_fault fetched.no_fault)
-
-pub returns-then-not-is_in_room-clause-refusal : goal.returns-then-not-is_in_room-clause-refusal
-returns-then-not-is_in_room-clause-refusal g c =
-    let fetched = c.in_ok-text.ensures in
-    let same = c.deref.ensures.value in
-    let scene = c.in_ok-scene.scene in
-    let blocked : ¬ ClearAt (space_of scene) scene.start =
-    λ clear. false≢true (sym c.if-not-is_in_room.true ∙ c.is_in_room.ensures.1 (IsInRoom-from_clear_at (space_of scene) scene.start clear)) in (
-      sym c.tests_start.ensures ∙ c.if-tests_start.true,
-      (
-        c.deref.result.now,
-        record {
-          end = fetched.end;
-          all = λ known is. same ∙ fetched.bytes known is;
-          none_left = fetched.none_left;
-          no_fault = λ alone. fetched.no_fault alone (ok_is_no_error _ _);
-        },
-        record {
-          scene = scene;
-          spelled = record { short = omega (arith, fetched.small, ap length same); spelled = c.in_ok-scene.ensures.scene };
-          blocked = blocked;
-        },
-      ),
-    )
