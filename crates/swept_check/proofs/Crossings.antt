@@ -1,6 +1,6 @@
 -- A segment crosses a polygon if some parameter is in the half-plane of each edge.
 use Rattle.std.proofs.Common.{◌≡◌, ℕ, ◌+◌, ◌*◌, ◌<◌, ◌≤◌, List, length, arith}
-use Rattle.std.specs.Prelude.{ℤ, pos, ◌≤ℤ◌, ◌↔◌}
+use Rattle.std.specs.Prelude.{ℤ, ◌↔◌}
 use borrow.Author.Count.{below_more}
 use Rattle.plan_model.specs.declared.geometry.Point.{Point}
 use Rattle.plan_model.specs.declared.geometry.Vertex.{Vertex}
@@ -9,7 +9,7 @@ use Rattle.plan_model.specs.Geometry.{orientation}
 use Rattle.plan_model.specs.Clearance.{on_the_way}
 use Rattle.plan_model.specs.HalfPlanes.{IsInside}
 use Rattle.swept_check.specs.declared.fractions.Fraction.{Fraction}
-use Rattle.swept_check.specs.Clipping.{value_at, IsAdmitted, IsBetweenFractions}
+use Rattle.swept_check.specs.Clipping.{IsAdmitted, IsBetweenFractions}
 use Rattle.swept_check.specs.Crossings.{Crosses, corner_of}
 use Rattle.swept_check.proofs.SideValues.{side_of-on_the_way}
 use Rattle.swept_check.proofs.Parameters.{in_order}
@@ -45,8 +45,8 @@ admitted_of_inside corners a b s d p h i l =
 pub crosses_between : (corners : List Vertex) (a b : Point) (entry exit : Fraction)
     → ((s d : ℕ) → 0 < d → s ≤ d → IsBetweenFractions entry exit s d ↔ IsAdmittedBelow corners (corner_of a) (corner_of b) (length corners) s d)
     → (entry.over * exit.under ≤ exit.over * entry.under) ↔ Crosses corners a b
-crosses_between corners a b entry exit h =
-    (λ order.
+crosses_between corners a b entry exit h = (
+  λ order.
       let p = entry.positive in
       let l = entry.at_most_one in
       let between : IsBetweenFractions entry exit entry.over entry.under = record { after_entry = omega arith; before_exit = order } in
@@ -57,9 +57,10 @@ crosses_between corners a b entry exit h =
         on_segment = l;
         inside = inside_of_admitted corners a b entry.over entry.under p ((h entry.over entry.under p l).0 between);
       },
-    λ x.
+  λ x.
       let between = (h x.s x.d x.positive x.on_segment).1 (admitted_of_inside corners a b x.s x.d x.positive x.inside) in
-      in_order entry.over entry.under exit.over exit.under x.s x.d x.positive between.after_entry between.before_exit)
+      in_order entry.over entry.under exit.over exit.under x.s x.d x.positive between.after_entry between.before_exit,
+)
 
 -- no parameter is admitted by some edge: not crossing
 pub not_crossing : (corners : List Vertex) (a b : Point) (first last : Vertex) (i next : ℕ) (from to : ℤ)

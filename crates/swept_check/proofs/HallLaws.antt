@@ -1,11 +1,11 @@
 -- A segment is clear if its ends are in the room of configurations and it crosses no zone.
-use Rattle.std.proofs.Common.{◌≡◌, ℕ, ◌<◌, ◌≤◌, List, [], length, get_or, All, sym, arith}
+use Rattle.std.proofs.Common.{◌<◌, List, [], length, All, arith}
 use Rattle.std.proofs.lemmas.List.Elements.{All-get_or, All-from_get_or}
 use Rattle.plan_model.specs.declared.geometry.Point.{Point}
 use Rattle.plan_model.specs.declared.geometry.Vertex.{Vertex}
 use Rattle.plan_model.specs.ConfigurationSpace.{ConfigurationSpace}
 use Rattle.plan_model.specs.RoomOfConfigurations.{InRoom, at_lattice}
-use Rattle.plan_model.specs.Clearance.{on_the_way, Clear, IsClear}
+use Rattle.plan_model.specs.Clearance.{on_the_way, Clear}
 use Rattle.plan_model.specs.Meeting.{Meets}
 use Rattle.plan_model.proofs.SegmentLaws.{Clear-first, Clear-last}
 use Rattle.swept_check.specs.Crossings.{Crosses}

@@ -1,6 +1,6 @@
 -- A linear function along a segment, by its values at the ends.
-use Rattle.std.proofs.Common.{◌≡◌, ℕ, suc, ◌+◌, ◌-◌, ◌*◌, ◌<◌, ◌≤◌, arith, subst, sym, refl, ap, inl, inr}
-use Rattle.std.specs.Prelude.{ℤ, pos, negsuc, ◌+ℤ◌, ◌-ℤ◌, ◌*ℤ◌, ◌≤ℤ◌, ◌<ℤ◌, ◌↔◌, unsigned_abs}
+use Rattle.std.proofs.Common.{◌≡◌, ℕ, suc, ◌+◌, ◌-◌, ◌*◌, ◌<◌, ◌≤◌, arith, subst, ap, inl, inr}
+use Rattle.std.specs.Prelude.{ℤ, pos, negsuc, ◌+ℤ◌, ◌*ℤ◌, ◌≤ℤ◌, ◌<ℤ◌, ◌↔◌, unsigned_abs}
 use Rattle.std.proofs.lemmas.Int.{ints}
 use Rattle.std.proofs.lemmas.Bool.{cases_lt}
 use Rattle.std.proofs.Math.Nat.{mul-pos}
@@ -11,9 +11,9 @@ use Rattle.convex_sets.proofs.Ring.{var, plus, minus, times, same}
 value_at-parts : (f t : ℤ) (s k : ℕ) → value_at f t s (s + k) ≡ (pos k *ℤ f) +ℤ (pos s *ℤ t)
 value_at-parts f t s k =
     same
-      (plus (times (var (pos (s + k))) (var f)) (times (var (pos s)) (minus (var t) (var f))))
-      (plus (times (var (pos k)) (var f)) (times (var (pos s)) (var t)))
-      (omega arith)
+    (plus (times (var (pos (s + k))) (var f)) (times (var (pos s)) (minus (var t) (var f))))
+    (plus (times (var (pos k)) (var f)) (times (var (pos s)) (var t)))
+    (omega arith)
 
 value_at-mean : (f t : ℤ) (s d : ℕ) → s ≤ d → value_at f t s d ≡ (pos (d - s) *ℤ f) +ℤ (pos s *ℤ t)
 value_at-mean f t s d l =
@@ -42,21 +42,25 @@ IsAdmitted-outside (pos f) t s d h g p l = absurd (omega (arith, ints))
 IsAdmitted-outside (negsuc f) (pos t) s d h g p l = absurd (omega (arith, ints))
 
 -- entering: from the share of the part outside on
-pub IsAdmitted-entering : (f t : ℤ) (s d : ℕ) → f <ℤ pos 0 → pos 0 ≤ℤ t → s ≤ d → IsAdmitted f t s d ↔ (unsigned_abs f * d ≤ s * (unsigned_abs f + unsigned_abs t))
+pub IsAdmitted-entering : (f t : ℤ) (s d : ℕ) → f <ℤ pos 0 → pos 0 ≤ℤ t → s ≤ d
+    → IsAdmitted f t s d ↔ (unsigned_abs f * d ≤ s * (unsigned_abs f + unsigned_abs t))
 IsAdmitted-entering (negsuc f) (pos t) s d h g l =
     let mean = value_at-mean (negsuc f) (pos t) s d l in
-    let whole : (d - s) * suc f + s * suc f ≡ d * suc f = parts s d (suc f) l in
-    (λ yes. (let low : pos 0 ≤ℤ ((pos (d - s) *ℤ negsuc f) +ℤ (pos s *ℤ pos t)) = rw mean at yes in omega (arith, ints)),
-     λ past. rw mean (omega (arith, ints)))
+    let whole : (d - s) * suc f + s * suc f ≡ d * suc f = parts s d (suc f) l in (
+      λ yes. (let low : pos 0 ≤ℤ ((pos (d - s) *ℤ negsuc f) +ℤ (pos s *ℤ pos t)) = rw mean at yes in omega (arith, ints)),
+      λ past. rw mean (omega (arith, ints)),
+    )
 IsAdmitted-entering (pos f) t s d h g l = absurd (omega (arith, ints))
 IsAdmitted-entering (negsuc f) (negsuc t) s d h g l = absurd (omega (arith, ints))
 
 -- leaving: up to the share of the part inside
-pub IsAdmitted-leaving : (f t : ℤ) (s d : ℕ) → pos 0 ≤ℤ f → t <ℤ pos 0 → s ≤ d → IsAdmitted f t s d ↔ (s * (unsigned_abs f + unsigned_abs t) ≤ unsigned_abs f * d)
+pub IsAdmitted-leaving : (f t : ℤ) (s d : ℕ) → pos 0 ≤ℤ f → t <ℤ pos 0 → s ≤ d
+    → IsAdmitted f t s d ↔ (s * (unsigned_abs f + unsigned_abs t) ≤ unsigned_abs f * d)
 IsAdmitted-leaving (pos f) (negsuc t) s d h g l =
     let mean = value_at-mean (pos f) (negsuc t) s d l in
-    let whole : (d - s) * f + s * f ≡ d * f = parts s d f l in
-    (λ yes. (let low : pos 0 ≤ℤ ((pos (d - s) *ℤ pos f) +ℤ (pos s *ℤ negsuc t)) = rw mean at yes in omega (arith, ints)),
-     λ before. rw mean (omega (arith, ints)))
+    let whole : (d - s) * f + s * f ≡ d * f = parts s d f l in (
+      λ yes. (let low : pos 0 ≤ℤ ((pos (d - s) *ℤ pos f) +ℤ (pos s *ℤ negsuc t)) = rw mean at yes in omega (arith, ints)),
+      λ before. rw mean (omega (arith, ints)),
+    )
 IsAdmitted-leaving (negsuc f) t s d h g l = absurd (omega (arith, ints))
 IsAdmitted-leaving (pos f) (pos t) s d h g l = absurd (omega (arith, ints))

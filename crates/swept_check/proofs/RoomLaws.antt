@@ -1,17 +1,15 @@
 -- The room of configurations is convex: a segment lies in it if its ends do.
-use Rattle.std.proofs.Common.{◌≡◌, ℕ, ◌+◌, ◌*◌, ◌<◌, ◌≤◌, List, arith}
+use Rattle.std.proofs.Common.{◌≡◌, ℕ, ◌*◌, ◌<◌, ◌≤◌, arith}
 use Rattle.std.specs.Prelude.{ℤ, pos, ◌+ℤ◌, ◌-ℤ◌, ◌*ℤ◌, ◌≤ℤ◌}
 use Rattle.std.proofs.lemmas.Int.{ints}
 use Rattle.plan_model.specs.declared.geometry.Point.{Point}
-use Rattle.plan_model.specs.declared.geometry.Vertex.{Vertex}
 use Rattle.plan_model.specs.declared.limits.TheConstants.{MOST_SIDE}
 use Rattle.plan_model.specs.Bounds.{IsBounded}
 use Rattle.plan_model.specs.ConfigurationSpace.{ConfigurationSpace}
-use Rattle.plan_model.specs.RoomOfConfigurations.{IsInBox, InRoom, at_lattice, moved_by}
+use Rattle.plan_model.specs.RoomOfConfigurations.{InRoom, at_lattice}
 use Rattle.plan_model.specs.Clearance.{on_the_way}
-use Rattle.plan_model.specs.MarkPoints.{IsInSpan, columns, rows}
+use Rattle.plan_model.specs.MarkPoints.{IsInSpan}
 use Rattle.plan_model.proofs.SpanLaws.{HasPlace-from_in_room, InRoom-from_place}
-use Rattle.swept_check.specs.Clipping.{value_at}
 use Rattle.swept_check.specs.declared.places.Places.{Places}
 use Rattle.swept_check.specs.PlacesOfRooms.{ArePlacesOf, span_of}
 use Rattle.swept_check.proofs.LinearValues.{IsAdmitted-inside}
@@ -86,8 +84,10 @@ InRoom-on_the_way space a b s d p l f g =
       corners = λ k v m. (
           let one = f.corners k v m in
           let two = g.corners k v m in
-          let across = on_side_lattice a.x b.x _ space.room.x s d l (record { low = one.left; high = one.right }) (record { low = two.left; high = two.right }) in
-          let up = on_side_lattice a.y b.y _ space.room.y s d l (record { low = one.bottom; high = one.top }) (record { low = two.bottom; high = two.top }) in
+          let across = on_side_lattice a.x b.x _ space.room.x s d l (record { low = one.left; high = one.right })
+          (record { low = two.left; high = two.right }) in
+          let up = on_side_lattice a.y b.y _ space.room.y s d l (record { low = one.bottom; high = one.top })
+          (record { low = two.bottom; high = two.top }) in
           record { left = across.low; right = across.high; bottom = up.low; top = up.high });
     }
 

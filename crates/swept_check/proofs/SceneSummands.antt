@@ -1,6 +1,6 @@
 -- The body and the obstacles of a scene have zones, which are made one after another.
-use Rattle.std.proofs.Common.{◌≡◌, ℕ, ◌+◌, ◌<◌, Bool, true, ◌&&◌, List, [], ◌∷◌, ◌++◌, length, length-append, get_or, nat_le, refl, sym, ap, arith}
-use Rattle.std.specs.Prelude.{ℤ, pos, negsuc, ◌≤ℤ◌, int_le}
+use Rattle.std.proofs.Common.{◌≡◌, ℕ, ◌+◌, ◌<◌, true, ◌&&◌, List, [], ◌∷◌, ◌++◌, length, length-append, get_or, nat_le, refl, sym, arith}
+use Rattle.std.specs.Prelude.{ℤ, ◌≤ℤ◌, int_le}
 use Rattle.std.specs.List.{list_all}
 use Rattle.std.proofs.lemmas.Int.{ints}
 use Rattle.std.proofs.lemmas.List.{get_or_append_left, get_or_push}
@@ -38,7 +38,8 @@ obstacle_within obstacles i h l =
     let v = get_or obstacles i [] in
     let here = both_true (nat_le (length v) MOST_OBSTACLE_CORNERS && is_strictly_convex v)
     (list_all (is_corner_between LEAST_OBSTACLE_COORDINATE MOST_OBSTACLE_COORDINATE) v) (true_at is_obstacle obstacles i [] all.1 l) in
-    widened LEAST_OBSTACLE_COORDINATE MOST_OBSTACLE_COORDINATE LEAST_SUMMAND_COORDINATE MOST_SUMMAND_COORDINATE (omega (arith, ints)) (omega (arith, ints)) v here.1
+    widened LEAST_OBSTACLE_COORDINATE MOST_OBSTACLE_COORDINATE LEAST_SUMMAND_COORDINATE MOST_SUMMAND_COORDINATE (omega (arith, ints))
+    (omega (arith, ints)) v here.1
 
 -- the zones of the first obstacles
 pub record AreFirstZones (body : List Vertex) (obstacles zones : List (List Vertex)) (n : ℕ) : Type 0 where

@@ -1,5 +1,5 @@
 -- On which side of a line the points of a segment lie: a linear function of the parameter.
-use Rattle.std.proofs.Common.{◌≡◌, ℕ, ◌+◌, ◌*◌, ◌<◌, ◌≤◌, arith}
+use Rattle.std.proofs.Common.{◌≡◌, ℕ, ◌<◌, arith}
 use Rattle.std.specs.Prelude.{ℤ, pos, ◌+ℤ◌, ◌-ℤ◌, ◌*ℤ◌}
 use Rattle.plan_model.specs.declared.geometry.Point.{Point}
 use Rattle.plan_model.specs.declared.geometry.Vertex.{Vertex}
@@ -15,19 +15,19 @@ product_on_way : (e u a b d s : ℤ) → (e *ℤ (((d *ℤ a) +ℤ (s *ℤ (b -�
     ≡ (d *ℤ (e *ℤ (a -ℤ u))) +ℤ (s *ℤ ((e *ℤ (b -ℤ u)) -ℤ (e *ℤ (a -ℤ u))))
 product_on_way e u a b d s =
     same
-      (times (var e) (minus (plus (times (var d) (var a)) (times (var s) (minus (var b) (var a)))) (times (var d) (var u))))
-      (plus (times (var d) (times (var e) (minus (var a) (var u))))
-        (times (var s) (minus (times (var e) (minus (var b) (var u))) (times (var e) (minus (var a) (var u))))))
-      (omega arith)
+    (times (var e) (minus (plus (times (var d) (var a)) (times (var s) (minus (var b) (var a)))) (times (var d) (var u))))
+    (plus (times (var d) (times (var e) (minus (var a) (var u))))
+    (times (var s) (minus (times (var e) (minus (var b) (var u))) (times (var e) (minus (var a) (var u))))))
+    (omega arith)
 
 -- the difference of two such values
 value_at-difference : (f t g u d s : ℤ) → (((d *ℤ f) +ℤ (s *ℤ (t -ℤ f))) -ℤ ((d *ℤ g) +ℤ (s *ℤ (u -ℤ g))))
     ≡ ((d *ℤ (f -ℤ g)) +ℤ (s *ℤ ((t -ℤ u) -ℤ (f -ℤ g))))
 value_at-difference f t g u d s =
     same
-      (minus (plus (times (var d) (var f)) (times (var s) (minus (var t) (var f)))) (plus (times (var d) (var g)) (times (var s) (minus (var u) (var g)))))
-      (plus (times (var d) (minus (var f) (var g))) (times (var s) (minus (minus (var t) (var u)) (minus (var f) (var g)))))
-      (omega arith)
+    (minus (plus (times (var d) (var f)) (times (var s) (minus (var t) (var f)))) (plus (times (var d) (var g)) (times (var s) (minus (var u) (var g)))))
+    (plus (times (var d) (minus (var f) (var g))) (times (var s) (minus (minus (var t) (var u)) (minus (var f) (var g)))))
+    (omega arith)
 
 pub side_of-on_the_way : (u v : Vertex) (a b : Point) (s d : ℕ) (p : 0 < d)
     → side_of u v (on_the_way a b s d p) ≡ value_at (orientation u v (corner_of a)) (orientation u v (corner_of b)) s d

@@ -2,7 +2,6 @@
 use Rattle.std.specs.Prelude.{◌≡◌, List, []}
 use Rattle.plan_model.specs.declared.geometry.Point.{Point}
 use Rattle.plan_model.specs.declared.geometry.Vertex.{Vertex}
-use Rattle.plan_model.specs.ConfigurationSpace.{ConfigurationSpace}
 use Rattle.plan_model.specs.MarkPoints as marks
 use Rattle.swept_check.specs.declared.places.Span.{Span}
 use Rattle.swept_check.specs.declared.places.Places.{Places}

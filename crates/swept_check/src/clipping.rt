@@ -25,7 +25,7 @@ impl Part {
         ensures { MatchOption result
             ((s d : ℕ) → 0 < d → s ≤ d → ¬ IsAdmitted from to s d)
             (λ part. (s d : ℕ) → 0 < d → s ≤ d → IsBetweenFractions part.entry part.exit s d
-                ↔ (IsBetweenFractions self.entry self.exit s d × IsAdmitted from to s d)) }
+            ↔ (IsBetweenFractions self.entry self.exit s d × IsAdmitted from to s d)) }
     {
         match (from >= 0, to >= 0) {
             (true, true) => Some(self),

@@ -1,20 +1,31 @@
 //! The exact collision checker of a scene.
 
-ghost use Rattle.std.specs.Prelude.{◌≡◌, ◌↔◌, All, IfOk, IsTrue};
-ghost use Rattle.plan_model.specs.Bounds.{IsBounded};
+ghost use Rattle.std.specs.Prelude.{◌≡◌, ◌↔◌, IfOk, IsTrue};
 ghost use Rattle.plan_model.specs.ConfigurationSpace.{space_of};
 ghost use Rattle.plan_model.specs.RoomOfConfigurations.{InRoom, at_lattice};
-ghost use Rattle.swept_check.specs.Crossings.{Crosses};
 
 use crate::clearing::Clearing;
 use crate::places::Places;
-use crate::rejecting::is_crossed;
+use crate::zone_crossings::crosses_none;
 use convex_sets::Zone;
 use plan_model::{Memory, Point, Poly, Polys, Scene, Sequence};
 use std::alloc::Global;
 use std::marker::Model;
 
 /// The exact collision checker of a scene, by a zone (configuration-space obstacle) for each obstacle.
+///
+/// The body is clear along a segment if both ends lie in the room of configurations and the segment crosses no zone:
+///
+/// ```text
+///     +--------------------------+  the room
+///     | +----------------------+ |
+///     | |  a----------b        | |  the room of configurations, for a body that
+///     | |       +----+         | |  reaches one step to each side of its origin
+///     | |  c----|----|--d      | |
+///     | |       +----+ zone    | |  clear: a to b; not clear: c to d
+///     | +----------------------+ |
+///     +--------------------------+
+/// ```
 #[derive(Debug, Drop)]
 pub struct Hall {
     room: Point,
@@ -36,10 +47,10 @@ impl Model for Hall {
     ghost view = { λ h. record { room = h.room; body = h.body; obstacles = h.obstacles } };
 
     ghost invariant = { λ h. record {
-        zones : AreZonesOf h.body h.obstacles h.zones.items;
-        places : ArePlacesOf h.room h.body h.places;
-        right : h.room.x ≤ MOST_SIDE;
-        top : h.room.y ≤ MOST_SIDE;
+      zones : AreZonesOf h.body h.obstacles h.zones.items;
+      places : ArePlacesOf h.room h.body h.places;
+      right : h.room.x ≤ MOST_SIDE;
+      top : h.room.y ≤ MOST_SIDE;
     } };
 }
 
@@ -47,11 +58,11 @@ impl Hall {
     ghost use Rattle.plan_model.specs.Clearance.{ClearAt};
     ghost use Rattle.swept_check.specs.Halls.{AreZonesOf};
 
-    /// The collision checker of a scene's room, body and obstacles. O(n) for all corners of the scene.
+    /// The collision checker of a scene's room, body and obstacles. O(n) for n corners in all of the zones.
     ///
     /// # Errors
     ///
-    /// `Memory` if out of memory.
+    /// [`Memory`] if the zones, or the copies of the body and the obstacles, found no memory.
     pub fn new(alloc: Global, scene: &Scene) -> Result<Hall, Memory>
         ensures { IfOk result (λ hall. hall ≡ space_of scene.now) }
     {
@@ -70,21 +81,22 @@ impl Hall {
         })
     }
 
-    /// Whether the body is clear of the walls and the obstacles at a configuration. It takes no memory.
+    /// Whether the body is clear of the walls and the obstacles at a configuration. Touching an obstacle collides; touching a
+    /// wall does not. As fast as [`clear`](Clearing::clear) from the point to itself; no memory.
     pub fn clear_at(&self, p: Point) -> bool
         ensures { IsTrue result ↔ ClearAt self.now p }
     {
         self.clear(p, p)
     }
 
-    /// Whether the body at a configuration lies in the room.
+    /// Whether the body at a configuration lies in the room, touching its walls or not. O(1).
     fn is_in_room(&self, p: Point) -> bool
         ensures { IsTrue result ↔ InRoom self.now (at_lattice p) }
     {
         self.places.contains(p)
     }
 
-    /// The zones, one for each obstacle, in the scene's order.
+    /// The zones, one for each obstacle, in the scene's order. O(1); no memory.
     pub fn zones(&self) -> &[Zone]
         ensures { AreZonesOf self.now.body self.now.obstacles result.now }
     {
@@ -95,6 +107,9 @@ impl Hall {
 impl Clearing for Hall {
     ghost space = { λ h. h };
 
+    /// O(1) for each zone whose bounding box lies apart from the segment's, otherwise two orientations of 64 bits for each of
+    /// its edges, up to the first that has both ends strictly on its outer side, and a product of 128 bits only where an edge
+    /// clips the segment.
     fn clear(&self, a: Point, b: Point) -> bool {
         // The room of configurations is convex, so a segment lies in it if its ends do.
         if !self.is_in_room(a) || !self.is_in_room(b) {
@@ -104,23 +119,12 @@ impl Clearing for Hall {
     }
 }
 
-/// Whether the segment from `a` to `b` has no point in any of the zones.
-fn crosses_none(zones: &[Zone], a: Point, b: Point) -> bool
-    requires from { IsBounded a }
-    requires to { IsBounded b }
-    ensures { IsTrue result ↔ All (λ zone. ¬ Crosses zone a b) zones.now }
-{
-    for zone in zones {
-        if is_crossed(zone, a, b) {
-            return false;
-        }
-    }
-    true
-}
-
 /// A copy of a polygon.
 fn copied(alloc: Global, polygon: &Poly) -> Result<Poly, Memory>
     ensures { IfOk result (λ copy. copy ≡ polygon.now) }
 {
     Ok(Sequence::from_vec(polygon.as_slice().to_vec(alloc)?))
 }
+
+#[cfg(test)]
+mod tests;

@@ -11,7 +11,7 @@ mod clipping;
 mod fractions;
 mod hall;
 mod places;
-mod rejecting;
+mod zone_crossings;
 
 pub use clearing::Clearing;
 pub use hall::Hall;

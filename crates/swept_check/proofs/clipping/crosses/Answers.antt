@@ -1,8 +1,8 @@
-use Rattle.std.proofs.Common.{◌≡◌, ℕ, ◌<◌, ◌≤◌, ◌*◌, length, arith, w64, to_z, of_z}
+use Rattle.std.proofs.Common.{◌≡◌, ℕ, ◌<◌, ◌≤◌, length, arith, w64, to_z, of_z}
 use Rattle.std.proofs.lemmas.Int.{ints}
 use Rattle.std.specs.Prelude.{◌↔◌}
 use Rattle.swept_check.specs.Clipping.{IsAdmitted, IsBetweenFractions}
-use Rattle.swept_check.specs.Crossings.{Crosses, corner_of}
+use Rattle.swept_check.specs.Crossings.{corner_of}
 use Rattle.swept_check.proofs.Crossings.{IsAdmittedAt, IsAdmittedBelow, one_more, crosses_between, not_crossing}
 use Rattle.swept_check.proofs.clipping.crosses.Goals as goal
 

@@ -1,4 +1,4 @@
-use Rattle.std.proofs.Common.{ℕ, ◌<◌, ◌≤◌, ◌↔◌, length}
+use Rattle.std.proofs.Common.{ℕ, ◌<◌, ◌≤◌, ◌↔◌}
 use Rattle.swept_check.specs.Clipping.{IsBetweenFractions}
 use Rattle.swept_check.proofs.Crossings.{IsAdmittedBelow}
 use Rattle.swept_check.proofs.clipping.crosses.Given as goal

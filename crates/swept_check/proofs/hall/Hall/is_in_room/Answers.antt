@@ -8,6 +8,7 @@ returns c =
     let p = c.args.p in
     let places = c.self.invariant.places in
     let space : ConfigurationSpace = record { room = h.room; body = h.body; obstacles = h.obstacles } in
-    rw (← c.self.view_is)
-    (λ t. (let parts = c.contains.ensures.0 t in in_room_of_places space h.places p places parts.0 parts.1),
-    λ room. c.contains.ensures.1 (columns_of_in_room space h.places p places room, rows_of_in_room space h.places p places room))
+    rw (← c.self.view_is) (
+      λ t. (let parts = c.contains.ensures.0 t in in_room_of_places space h.places p places parts.0 parts.1),
+      λ room. c.contains.ensures.1 (columns_of_in_room space h.places p places room, rows_of_in_room space h.places p places room),
+    )

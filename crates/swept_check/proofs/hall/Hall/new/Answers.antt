@@ -1,4 +1,4 @@
-use Rattle.std.proofs.Common.{◌≡◌, rules, ◌<◌, [], ◌∷◌, ◌++◌, length, get_or, take, arith, ◌∙◌, sym, ap}
+use Rattle.std.proofs.Common.{◌≡◌, ◌<◌, [], length, get_or, arith, ◌∙◌}
 use Rattle.std.proofs.lemmas.List.{get_or_default, take_more}
 use Rattle.swept_check.proofs.SceneSummands.{obstacle_within, AreFirstZones-more}
 use Rattle.swept_check.proofs.hall.Hall.new.Goals as goal

@@ -30,6 +30,7 @@ returns c =
     let first : InRoom space (at_lattice a) = rw (← c.self.view_is) at (c.if-not-is_in_room.ensures.0 refl) in
     let last : InRoom space (at_lattice b) = rw (← c.self.view_is) at (c.if-not-is_in_room-2.ensures.0 refl) in
     let none : IsTrue c.crosses_none.result ↔ CrossesNone h.zones.items a b = rw c.as_slice.ensures.value at c.crosses_none.ensures in
-    rw (← c.self.view_is)
-    (λ t. clear_of space h.zones.items a b c.self.invariant.zones first last (none.0 t),
-    λ clear. none.1 (crosses_none space h.zones.items a b c.self.invariant.zones clear))
+    rw (← c.self.view_is) (
+      λ t. clear_of space h.zones.items a b c.self.invariant.zones first last (none.0 t),
+      λ clear. none.1 (crosses_none space h.zones.items a b c.self.invariant.zones clear),
+    )

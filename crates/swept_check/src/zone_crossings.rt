@@ -1,6 +1,6 @@
-//! Whether a segment crosses a zone, by their boxes first.
+//! Whether a segment crosses zones, by their bounding boxes first.
 
-ghost use Rattle.std.specs.Prelude.{◌↔◌, IsTrue};
+ghost use Rattle.std.specs.Prelude.{◌↔◌, All, IsTrue};
 ghost use Rattle.plan_model.specs.Bounds.{IsBounded};
 ghost use Rattle.swept_check.specs.Apart.{IsApart};
 ghost use Rattle.swept_check.specs.Crossings.{Crosses};
@@ -9,9 +9,23 @@ use crate::clipping::crosses;
 use convex_sets::Zone;
 use plan_model::Point;
 
+/// Whether the segment from `a` to `b` has no point in any of the zones. O(n) for n corners of zones; no memory.
+pub(crate) fn crosses_none(zones: &[Zone], a: Point, b: Point) -> bool
+    requires from { IsBounded a }
+    requires to { IsBounded b }
+    ensures { IsTrue result ↔ All (λ zone. ¬ Crosses zone a b) zones.now }
+{
+    for zone in zones {
+        if is_crossed(zone, a, b) {
+            return false;
+        }
+    }
+    true
+}
+
 /// Whether some rational point of the segment from `a` to `b` lies in the zone. O(1) if their bounding boxes are apart,
 /// otherwise O(n) for n corners; no memory.
-pub(crate) fn is_crossed(zone: &Zone, a: Point, b: Point) -> bool
+fn is_crossed(zone: &Zone, a: Point, b: Point) -> bool
     requires from { IsBounded a }
     requires to { IsBounded b }
     ensures { IsTrue result ↔ Crosses zone.now a b }

@@ -2,8 +2,8 @@ use Rattle.std.proofs.Common.{◌≡◌, arith, w32, to_z, of_z}
 use Rattle.std.proofs.lemmas.Int.{ints}
 use Rattle.convex_sets.proofs.ConvexPolygons.{IsConvex-from_test}
 use Rattle.swept_check.proofs.BoxRejects.{crossed_box}
-use Rattle.swept_check.proofs.rejecting.is_crossed.Goals as goal
-use Rattle.swept_check.proofs.rejecting.is_crossed.Goals.{then-is_apart-via-then-is_apart, then-is_apart-via-else-is_apart+then-is_apart-2}
+use Rattle.swept_check.proofs.zone_crossings.is_crossed.Goals as goal
+use Rattle.swept_check.proofs.zone_crossings.is_crossed.Goals.{then-is_apart-via-then-is_apart, then-is_apart-via-else-is_apart+then-is_apart-2}
 
 pub returns-then-is_apart : goal.returns-then-is_apart
 returns-then-is_apart c = (

@@ -1,7 +1,7 @@
 use Rattle.std.proofs.Common.{[], arith, refl}
 use Rattle.std.proofs.lemmas.List.Elements.{All-from_get_or}
 use Rattle.swept_check.specs.Crossings.{Crosses}
-use Rattle.swept_check.proofs.hall.crosses_none.Goals as goal
+use Rattle.swept_check.proofs.zone_crossings.crosses_none.Goals as goal
 
 pub returns : goal.returns
 returns c =
