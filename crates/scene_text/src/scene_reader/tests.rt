@@ -1,0 +1,180 @@
+//! Scenes that are read, and texts that are refused.
+
+use super::*;
+use crate::refusals::SceneFault;
+use crate::scene_writer::write_scene;
+use plan_model::{Goal, Kind, MOST_TEXT_BYTES, Marks, Point, Vertex};
+use std::alloc::AllocError;
+use std::test::Fail;
+
+const SMALL: &str =
+    "# a room\nprrt 1\n\nroom 10 12\nstart 5 6\ngoal 7 8 9 10\nmark 1 2\nstep 4\nmark 3 0";
+
+const SEEDED: &str =
+    "prrt 1\nseed 18446744073709551615\nroom 9 9\nstart 1 1\ngoal 2 2 2 2\nstep 4\nstrips 64\n";
+
+#[test]
+fn reads_the_fields(rt: HostRuntime) {
+    let scene = read_scene(rt.alloc(), SMALL.as_bytes()).unwrap_or_else(|_| panic!(rt; "not read"));
+    assert_eq!(rt; scene.room, Point { x: 10, y: 12 });
+    assert_eq!(rt; scene.start, Point { x: 5, y: 6 });
+    assert_eq!(rt;
+        scene.goal,
+        Goal {
+            low: Point { x: 7, y: 8 },
+            high: Point { x: 9, y: 10 }
+        }
+    );
+    assert_eq!(rt; scene.step, 4);
+    let Marks::Listed(marks) = &scene.plan else {
+        panic!(rt; "no listed marks");
+    };
+    assert_eq!(rt;
+        marks.as_slice(),
+        [Point { x: 1, y: 2 }, Point { x: 3, y: 0 }].as_slice()
+    );
+}
+
+#[test]
+fn reads_seed_and_strips(rt: HostRuntime) {
+    for (text, seed, strips) in [(SMALL, 0, 1), (SEEDED, u64::MAX, 64)] {
+        let scene = read_scene(rt.alloc(), text.as_bytes()).unwrap_or_else(|_| panic!(rt;
+            "not read"
+        ));
+        assert_eq!(rt; scene.seed, seed);
+        assert_eq!(rt; scene.strips, strips);
+    }
+}
+
+#[test]
+fn refuses_the_first_fault(rt: HostRuntime) {
+    for (text, line, kind) in [
+        ("prrt 1\nroom 10 10\nstart 5 5\nstep 4\n", 5, Kind::Missing),
+        ("prrt 1\nroom 10 10\nstep 4\nstep 4\n", 4, Kind::Repeat),
+        ("", 1, Kind::Version),
+        ("prrt 1\nroom 10 10\nstar\n", 3, Kind::Key),
+        ("prrt 1\nstep 04\n", 2, Kind::Number),
+        ("prrt 1\nstep 99999999999999999999999\n", 2, Kind::Range),
+        ("prrt 1\nstart -1 0\n", 2, Kind::Range),
+        ("prrt 1\nseed 18446744073709551616\n", 2, Kind::Range),
+        ("prrt 1\nseed 1\nseed 1\n", 3, Kind::Repeat),
+        ("prrt 1\nstrips 0\n", 2, Kind::Range),
+        ("prrt 1\nstrips 65\n", 2, Kind::Range),
+        ("prrt 1\ngamma 5\n", 2, Kind::Unbuilt),
+    ] {
+        match read_scene(rt.alloc(), text.as_bytes()) {
+            Err(refusal) => assert_eq!(rt; refusal, SceneRefusal::Fault(SceneFault { line, kind })),
+            Ok(_) => panic!(rt; "read"),
+        }
+    }
+}
+
+const POLYGONS: &str =
+    "prrt 1\nobstacle 4 4 6 4 5 7\nroom 9 9\nstart 0 0\nstep 4\ngoal 1 1 2 2\nbody -1 -2 3 -2 3 4 -1 4\nobstacle -9 2 3 2 3 3\n";
+
+const CANONICAL: &str =
+    "prrt 1\nroom 9 9\nbody -1 -2 3 -2 3 4 -1 4\nobstacle 4 4 6 4 5 7\nobstacle -9 2 3 2 3 3\nstart 0 0\ngoal 1 1 2 2\nstep 4\ngamma 0\nseed 0\nstrips 1\n";
+
+#[test]
+fn reads_polygons_and_writes_them_again(rt: HostRuntime) -> Result<(), Fail> {
+    let scene = read_scene(rt.alloc(), POLYGONS.as_bytes())?;
+    let body = [
+        Vertex { x: -1, y: -2 },
+        Vertex { x: 3, y: -2 },
+        Vertex { x: 3, y: 4 },
+        Vertex { x: -1, y: 4 },
+    ];
+    assert_eq!(rt; scene.body.as_slice(), body.as_slice());
+    assert_eq!(rt; scene.obstacles.len(), 2);
+    let text = write_scene(rt.alloc(), &scene)?;
+    assert_eq!(rt; text.as_slice(), CANONICAL.as_bytes());
+    Ok(())
+}
+
+#[test]
+fn refuses_polygons(rt: HostRuntime) {
+    for (text, kind) in [
+        // three corners in a line, and so also at the last corner
+        ("prrt 1\nobstacle 0 0 5 0 9 0 9 9\n", Kind::Corners),
+        ("prrt 1\nbody 0 0 9 0 9 9 0 9 0 5\n", Kind::Corners),
+        // a corner twice
+        ("prrt 1\nobstacle 0 0 9 0 9 9 9 9\n", Kind::Corners),
+        ("prrt 1\nbody 0 0 0 0 0 0\n", Kind::Corners),
+        // clockwise
+        ("prrt 1\nobstacle 0 0 0 9 9 9\n", Kind::Corners),
+        ("prrt 1\nbody 0 0 0 9 9 9\n", Kind::Corners),
+        // a dent
+        ("prrt 1\nobstacle 0 0 9 0 3 3 0 9\n", Kind::Corners),
+        // twice round, with left turns only
+        ("prrt 1\nobstacle 8 0 5 9 2 0 10 6 0 6\n", Kind::Corners),
+        // two corners, and half a corner
+        ("prrt 1\nbody 0 0 1 0\n", Kind::Words),
+        ("prrt 1\nobstacle 0 0 9 0\n", Kind::Words),
+        ("prrt 1\nobstacle 0 0 9 0 9 9 0\n", Kind::Words),
+        ("prrt 1\nobstacle 0 0 9 0 9 x\n", Kind::Number),
+        // out of the range, by one
+        ("prrt 1\nbody 0 -4097\n", Kind::Range),
+        ("prrt 1\nobstacle 0 0 131072 0 9 9\n", Kind::Range),
+        ("prrt 1\nobstacle -2147483648 0 9 0 9 9\n", Kind::Range),
+        (
+            "prrt 1\nobstacle 0 0 99999999999999999999 0 9 9\n",
+            Kind::Range,
+        ),
+        (
+            "prrt 1\nobstacle 0 0 -99999999999999999999 0 9 9\n",
+            Kind::Range,
+        ),
+    ] {
+        match read_scene(rt.alloc(), text.as_bytes()) {
+            Err(refusal) => assert_eq!(rt;
+                refusal,
+                SceneRefusal::Fault(SceneFault { line: 2, kind })
+            ),
+            Ok(_) => panic!(rt; "read"),
+        }
+    }
+}
+
+// A text, and then a piece of text so many times.
+fn repeated(alloc: Global, before: &str, piece: &str, count: usize) -> Result<String, AllocError> {
+    let mut text = String::new(alloc);
+    text.push_str(before)?;
+    for _number in 0..count {
+        text.push_str(piece)?;
+    }
+    Ok(text)
+}
+
+const TRIANGLE: &str = "obstacle 0 0 9 0 0 9\n";
+
+#[test]
+fn refuses_too_many_corners_and_obstacles(rt: HostRuntime) -> Result<(), Fail> {
+    for (before, piece, count, line, kind) in [
+        ("prrt 1\nbody", " 0 0", 16, 2, Kind::Corners),
+        ("prrt 1\nbody", " 0 0", 17, 2, Kind::Many),
+        ("prrt 1\nobstacle", " 0 0", 64, 2, Kind::Corners),
+        ("prrt 1\nobstacle", " 0 0", 65, 2, Kind::Many),
+        ("prrt 1\n", TRIANGLE, 1_024, 1_026, Kind::Missing),
+        ("prrt 1\n", TRIANGLE, 1_025, 1_026, Kind::Many),
+        ("prrt 1\n", "body 0 0\n", 2, 3, Kind::Repeat),
+    ] {
+        let text = repeated(rt.alloc(), before, piece, count)?;
+        assert!(rt; text.len() <= MOST_TEXT_BYTES);
+        match read_scene(rt.alloc(), text.as_bytes()) {
+            Err(refusal) => assert_eq!(rt; refusal, SceneRefusal::Fault(SceneFault { line, kind })),
+            Ok(_) => panic!(rt; "read"),
+        }
+    }
+    Ok(())
+}
+
+#[test]
+fn reads_as_many_obstacles_as_there_may_be(rt: HostRuntime) -> Result<(), Fail> {
+    let before = "prrt 1\nroom 9 9\nstart 0 0\ngoal 1 1 2 2\nstep 4\n";
+    let text = repeated(rt.alloc(), before, TRIANGLE, 1_024)?;
+    assert!(rt; text.len() <= MOST_TEXT_BYTES);
+    let scene = read_scene(rt.alloc(), text.as_bytes())?;
+    assert_eq!(rt; scene.obstacles.len(), 1_024);
+    assert_eq!(rt; scene.body.as_slice(), [Vertex { x: 0, y: 0 }].as_slice());
+    Ok(())
+}
