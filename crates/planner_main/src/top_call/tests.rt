@@ -141,6 +141,190 @@ fn plans_one_branch_of_four_thousand_nodes(rt: HostRuntime) -> Result<(), Fail> 
     Ok(())
 }
 
+// A room with one obstacle on its floor, 20 wide and 60 high.
+fn scene_with_obstacle(
+    alloc: Global,
+    body: &str,
+    start: &str,
+    goal: &str,
+    more: &str,
+) -> Result<String, Fail> {
+    let mut text = String::new(alloc);
+    write!(
+        text,
+        "prrt 1\nroom 100 100\n{body}obstacle 40 0 60 0 60 60 40 60\nstart {start}\ngoal {goal}\n{more}"
+    )?;
+    Ok(text)
+}
+
+// Obstacles are closed, so to touch one is to collide.
+#[test]
+fn plans_past_an_obstacle(rt: HostRuntime) -> Result<(), Fail> {
+    for (shows, start, goal, mark, status, report) in [
+        (
+            "an edge along the top of the obstacle",
+            "30 60",
+            "70 60 70 61",
+            "70 60",
+            1,
+            "no path\nnodes 1 placed 0 same 0 blocked 1\n",
+        ),
+        (
+            "an edge one step above it",
+            "30 61",
+            "70 61 70 61",
+            "70 61",
+            0,
+            "path 2 cost 10240\n30 61\n70 61\nnodes 2 placed 1 same 0 blocked 0\n",
+        ),
+        (
+            "an edge through it between two clear ends",
+            "30 10",
+            "70 10 70 10",
+            "70 10",
+            1,
+            "no path\nnodes 1 placed 0 same 0 blocked 1\n",
+        ),
+        (
+            "an edge that touches a corner at its middle",
+            "30 70",
+            "50 50 50 50",
+            "50 50",
+            1,
+            "no path\nnodes 1 placed 0 same 0 blocked 1\n",
+        ),
+        (
+            "a start at a corner",
+            "60 60",
+            "70 60 70 61",
+            "70 60",
+            4,
+            "start blocked\n",
+        ),
+        (
+            "a start within",
+            "50 30",
+            "70 60 70 61",
+            "70 60",
+            4,
+            "start blocked\n",
+        ),
+    ] {
+        let mut more = String::new(rt.alloc());
+        write!(more, "step 100\nmark {mark}\n")?;
+        let text = scene_with_obstacle(rt.alloc(), "", start, goal, &more)?;
+        let (ended, written) = answer_to_text(rt.alloc(), &["plain"], &text)?;
+        assert_eq!(rt; written.as_str(), report, "{shows}");
+        assert_eq!(rt; ended, status, "{shows}");
+    }
+    Ok(())
+}
+
+// The body may touch a wall, and no obstacle.
+#[test]
+fn plans_for_a_body(rt: HostRuntime) -> Result<(), Fail> {
+    for (shows, start, status, report) in [
+        (
+            "a body that touches the obstacle",
+            "36 0",
+            4,
+            "start blocked\n",
+        ),
+        (
+            "a body one step before it",
+            "35 0",
+            0,
+            "path 1 cost 0\n35 0\nnodes 1 placed 0 same 0 blocked 0\n",
+        ),
+        (
+            "a body that leaves the room",
+            "97 0",
+            4,
+            "start blocked\n",
+        ),
+        (
+            "a body that touches the right wall",
+            "96 0",
+            1,
+            "no path\nnodes 1 placed 0 same 0 blocked 0\n",
+        ),
+    ] {
+        let body = "body 0 0 4 0 4 4 0 4\n";
+        let text = scene_with_obstacle(rt.alloc(), body, start, "35 0 36 0", "step 4\n")?;
+        let (ended, written) = answer_to_text(rt.alloc(), &["plain"], &text)?;
+        assert_eq!(rt; written.as_str(), report, "{shows}");
+        assert_eq!(rt; ended, status, "{shows}");
+    }
+    Ok(())
+}
+
+#[test]
+fn refuses_what_is_not_convex(rt: HostRuntime) -> Result<(), Fail> {
+    for (shows, text, line) in [
+        (
+            "clockwise corners",
+            "prrt 1\nroom 100 100\nobstacle 0 0 0 9 9 9\n",
+            "line 3 kind 7 Corners\n",
+        ),
+        (
+            "a corner on an edge",
+            "prrt 1\nroom 100 100\nobstacle 0 0 5 0 9 0 9 9\n",
+            "line 3 kind 7 Corners\n",
+        ),
+        (
+            "a body with a corner on an edge",
+            "prrt 1\nbody 0 0 5 0 9 0 9 9\n",
+            "line 2 kind 7 Corners\n",
+        ),
+        (
+            "a body of two corners",
+            "prrt 1\nbody 0 0 1 0\n",
+            "line 2 kind 3 Words\n",
+        ),
+    ] {
+        for words in ["plain", "show"] {
+            let (status, written) = answer_to_text(rt.alloc(), &[words], text)?;
+            assert_eq!(rt; written.as_str(), line, "{shows}");
+            assert_eq!(rt; status, 3, "{shows}");
+        }
+    }
+    Ok(())
+}
+
+#[test]
+fn shows_a_body_and_obstacles(rt: HostRuntime) -> Result<(), Fail> {
+    let text =
+        "prrt 1\nstep 4\ngoal 1 1 2 2\nobstacle 5 5 6 5 6 6\nstart 0 0\nroom 9 9\nobstacle -1 -1 0 -1 -1 0\nbody -1 0 1 0 0 1\n";
+    let (status, written) = answer_to_text(rt.alloc(), &["show"], text)?;
+    assert_eq!(rt;
+        written.as_str(),
+        "prrt 1\nroom 9 9\nbody -1 0 1 0 0 1\nobstacle 5 5 6 5 6 6\nobstacle -1 -1 0 -1 -1 0\nstart 0 0\ngoal 1 1 2 2\nstep 4\ngamma 0\nseed 0\nstrips 1\n"
+    );
+    assert_eq!(rt; status, 0);
+    Ok(())
+}
+
+#[test]
+fn plans_among_as_many_obstacles_as_there_may_be(rt: HostRuntime) -> Result<(), Fail> {
+    let alloc = rt.alloc();
+    let mut text = String::from_str(alloc, "prrt 1\nroom 100 100\n")?;
+    for _ in 0..1_024 {
+        text.push_str("obstacle 40 0 60 0 60 60\n")?;
+    }
+    let rest = "start 0 0\ngoal 0 0 0 0\nstep 4\n";
+    let mut most = text.clone()?;
+    most.push_str(rest)?;
+    let (status, written) = answer_to_text(alloc, &["plain"], &most)?;
+    assert_eq!(rt; written.as_str(), "path 1 cost 0\n0 0\nnodes 1 placed 0 same 0 blocked 0\n");
+    assert_eq!(rt; status, 0);
+    text.push_str("obstacle 40 0 60 0 60 60\n")?;
+    text.push_str(rest)?;
+    let (status, written) = answer_to_text(alloc, &["plain"], &text)?;
+    assert_eq!(rt; written.as_str(), "line 1027 kind 8 Many\n");
+    assert_eq!(rt; status, 3);
+    Ok(())
+}
+
 #[test]
 fn refuses_with_the_cause(rt: HostRuntime) -> Result<(), Fail> {
     let scene = "prrt 1\nroom 10 10\nstart 5 5\ngoal 0 0 9 9\nstep 4\n";
