@@ -51,7 +51,8 @@ strips-given (zs ∷ lists) all =
     strips-within zs (All-head (MayStand keys.Strips) zs lists all)
 
 -- polygons that may stand are obstacles of a scene, if they are not too many
-pub obstacles-given : (lists : List (List ℤ)) → All (MayStand keys.Obstacle) lists → length lists ≤ MOST_OBSTACLES → are_obstacles (map corners_from lists) ≡ true
+pub obstacles-given : (lists : List (List ℤ)) → All (MayStand keys.Obstacle) lists → length lists ≤ MOST_OBSTACLES
+    → are_obstacles (map corners_from lists) ≡ true
 obstacles-given lists all few =
     and_from (leb (length (map corners_from lists)) MOST_OBSTACLES) (list_all is_obstacle (map corners_from lists))
     (le-leb (length (map corners_from lists)) MOST_OBSTACLES (omega (arith, length-map lists corners_from))) (obstacles-within lists all)

@@ -14,7 +14,7 @@ ghost use Rattle.plan_model.specs.Vectors.Runs.{RunVectors};
 ghost use Rattle.plan_model.specs.Vectors.Steps.{SteeringVectors};
 ghost use Rattle.plan_model.specs.Vectors.Streams.{StreamVectors};
 ghost use Rattle.plan_model.specs.Vectors.Strips.{StripVectors};
-ghost use Rattle.plan_model.specs.Vectors.Texts.{RefusalVectors, SpellingVector};
+ghost use Rattle.plan_model.specs.Vectors.Texts.{PolygonSpellingVector, RefusalVectors, SpellingVector};
 ghost use Rattle.plan_model.specs.Vectors.Trees.{TreeVectors};
 ghost use Rattle.plan_model.specs.Vectors.Words.{LineVectors, NumberVectors};
 
@@ -81,6 +81,11 @@ pub fn refusals()
 /// A text that spells a scene.
 pub fn spelling()
     ensures { SpellingVector }
+{}
+
+/// A text with a body and obstacles.
+pub fn polygon_spelling()
+    ensures { PolygonSpellingVector }
 {}
 
 /// Lines at the limits of the grammar.

@@ -5,7 +5,7 @@ use Rattle.plan_model.specs.declared.scenes.Marks.TheVariants.{Listed}
 use Rattle.plan_model.specs.declared.text_terms.Kind.TheVariants as kinds
 use Rattle.plan_model.specs.SceneGrammar.{all_keys, supported, Refused, Spells}
 use Rattle.plan_model.specs.CanonicalText.{canonical_text}
-use Rattle.plan_model.specs.Vectors.Shapes.{at, corner}
+use Rattle.plan_model.specs.Vectors.Shapes.{at, corner, corner_below}
 
 pub record RefusalVectors : Type 0 where
   pub empty_text : Refused supported [] 1 kinds.Version
@@ -51,3 +51,14 @@ pub record SpellingVector : Type 0 where
   pub strips : scene.strips ≡ 1
   -- its canonical text, with a line for each field, whether the text has one or not
   pub canonical : canonical_text scene ≡ codes "prrt 1\nroom 10 10\nbody 0 0\nstart 5 5\ngoal 8 8 9 9\nstep 4\ngamma 0\nseed 0\nstrips 1\nmark 7 7\n"
+
+abbrev pub text_with_polygons : List ℕ
+text_with_polygons =
+    codes "prrt 1\nobstacle 4 4 6 4 5 7\nroom 9 9\nbody -1 -2 3 0 0 4\nstart 0 0\nobstacle -9 -2 3 2 3 3\ngoal 1 1 2 2\nstep 4\n"
+
+-- the text has a body and two obstacles, and the scene has their corners, in the order of the lines
+pub record PolygonSpellingVector : Type 0 where
+  pub scene : Scene
+  pub spelled : Spells supported text_with_polygons scene
+  pub body : scene.body ≡ corner_below 1 2 ∷ corner 3 0 ∷ corner 0 4 ∷ []
+  pub obstacles : scene.obstacles ≡ (corner 4 4 ∷ corner 6 4 ∷ corner 5 7 ∷ []) ∷ (corner_below 9 2 ∷ corner 3 2 ∷ corner 3 3 ∷ []) ∷ []
