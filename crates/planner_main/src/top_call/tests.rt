@@ -236,12 +236,7 @@ fn plans_for_a_body(rt: HostRuntime) -> Result<(), Fail> {
             0,
             "path 1 cost 0\n35 0\nnodes 1 placed 0 same 0 blocked 0\n",
         ),
-        (
-            "a body that leaves the room",
-            "97 0",
-            4,
-            "start blocked\n",
-        ),
+        ("a body that leaves the room", "97 0", 4, "start blocked\n"),
         (
             "a body that touches the right wall",
             "96 0",
@@ -315,7 +310,10 @@ fn plans_among_as_many_obstacles_as_there_may_be(rt: HostRuntime) -> Result<(), 
     let mut most = text.clone()?;
     most.push_str(rest)?;
     let (status, written) = answer_to_text(alloc, &["plain"], &most)?;
-    assert_eq!(rt; written.as_str(), "path 1 cost 0\n0 0\nnodes 1 placed 0 same 0 blocked 0\n");
+    assert_eq!(rt;
+        written.as_str(),
+        "path 1 cost 0\n0 0\nnodes 1 placed 0 same 0 blocked 0\n"
+    );
     assert_eq!(rt; status, 0);
     text.push_str("obstacle 40 0 60 0 60 60\n")?;
     text.push_str(rest)?;
