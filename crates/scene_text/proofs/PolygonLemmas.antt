@@ -1,5 +1,5 @@
 -- The corners of a polygon, from the numbers of its line.
-use Rattle.std.proofs.Common.{◌≡◌, ℕ, ◌+◌, ◌*◌, ◌<◌, ◌%◌, Bool, true, false, ◌||◌, eqb, cond, ℤ, ◌≤ℤ◌, None, Some, List, [], ◌∷◌, ◌++◌, length, map}
+use Rattle.std.proofs.Common.{◌≡◌, ℕ, ◌+◌, ◌*◌, ◌<◌, ◌%◌, Bool, true, false, ◌||◌, eqb, ℤ, ◌≤ℤ◌, None, Some, List, [], ◌∷◌, ◌++◌, length, map}
 use Rattle.std.proofs.Common.{refl, ap, ◌∙◌, subst, arith}
 use Rattle.std.specs.List.{list_all}
 use Rattle.std.proofs.lemmas.List.{length-map}
@@ -13,12 +13,9 @@ use Rattle.plan_model.specs.declared.text_terms.Kind.TheVariants as kinds
 use Rattle.plan_model.specs.declared.limits.TheConstants.{LEAST_CORNER_COORDINATE, MOST_CORNER_COORDINATE}
 use Rattle.plan_model.specs.Convexity.{is_strictly_convex}
 use Rattle.plan_model.specs.Limits.{is_corner_between}
-use Rattle.plan_model.specs.LineChecks.{Check, are_between, corners_from, has_corners, first_failing}
+use Rattle.plan_model.specs.LineChecks.{are_between, corners_from, has_corners, first_failing}
 use Rattle.plan_model.specs.CanonicalText.{corner_numbers}
 use Rattle.plan_model.proofs.SceneParts.{corners-within}
-use Rattle.scene_text.specs.declared.refusals.LineRefusal.{LineRefusal}
-use Rattle.scene_text.specs.declared.refusals.LineRefusal.TheVariants as line_refusal
-use Rattle.scene_text.specs.Refusals.{IsLineRefusal}
 use Rattle.scene_text.proofs.CanonicalNumbers.{corners_from-numbers, length-corner_numbers}
 
 -- ---- corners that are read one after another
