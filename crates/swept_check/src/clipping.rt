@@ -61,6 +61,8 @@ impl Part {
 ///
 /// Each edge clips the segment to the part on its inner side, and the segment crosses if a part is left at the end. O(n) for
 /// n corners; no memory.
+// Few segments come this far. Inlined, it would slow down the loop over the boxes of the zones.
+#[inline(never)]
 pub(crate) fn crosses(corners: &[Vertex], a: Point, b: Point) -> bool
     requires corners { AreBoundedCorners corners.now }
     requires from { IsBounded a }

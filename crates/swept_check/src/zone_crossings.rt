@@ -10,6 +10,8 @@ use convex_sets::Zone;
 use plan_model::Point;
 
 /// Whether the segment from `a` to `b` has no point in any of the zones. O(n) for n corners of zones; no memory.
+// Inlined, its loop would share the registers with its caller, and take half as long again.
+#[inline(never)]
 pub(crate) fn crosses_none(zones: &[Zone], a: Point, b: Point) -> bool
     requires from { IsBounded a }
     requires to { IsBounded b }
