@@ -1,7 +1,6 @@
 -- The line that the program writes in place of a report, and the status that it ends with.
 use Rattle.std.specs.Prelude.{ℕ, List, ◌∷◌, [], codes}
 use Rattle.std.specs.List.{join_with_byte}
-use Rattle.plan_model.specs.declared.text_terms.Kind.{Kind}
 use Rattle.plan_model.specs.KindNames.{fault_words}
 use Rattle.plan_model.specs.ReportText.{line}
 use Rattle.planner_main.specs.declared.refusals.Refusal.{Refusal}

@@ -1,11 +1,7 @@
-use Rattle.std.proofs.Common.{length, refl, sym, ap, ◌∙◌, arith}
-use Rattle.std.proofs.lemmas.Bool.{false≢true}
-use Rattle.plan_model.specs.ConfigurationSpace.{space_of}
-use Rattle.plan_model.specs.Clearance.{ClearAt}
-use Rattle.plan_model.proofs.EmptyRoomClearance.{IsInRoom-from_clear_at}
+use Rattle.std.proofs.Common.{refl}
 use Rattle.planner_main.specs.Conclusions.{IsCaused}
 use Rattle.planner_main.specs.Exchanges.{reading_of}
-use Rattle.planner_main.proofs.Causes.{fetch-caused, IfErr-only, ok_is_no_error}
+use Rattle.planner_main.proofs.Causes.{fetch-caused, IfErr-only}
 use Rattle.planner_main.proofs.answers.scene_for.Goals as goal
 
 pub returns-in_err-text-clause-refusal : goal.returns-in_err-text-clause-refusal
