@@ -35,6 +35,10 @@ pub record IsInBox (low high : Vertex) (p : Point) : Type 0 where
   pub bottom : low.y ≤ℤ pos p.y
   pub top : pos p.y ≤ℤ high.y
 
+-- a point as a corner
+abbrev pub corner_of : Point → Vertex
+corner_of p = record { x = pos p.x; y = pos p.y }
+
 -- a corner as a point
 abbrev pub at_corner : Vertex → Rational
 at_corner v = record { x = v.x; y = v.y; over = 1; positive = le_refl 1 }

@@ -3,9 +3,10 @@
 ghost use Rattle.std.specs.Prelude.{◌≡◌, ◌<◌, length};
 ghost use Rattle.convex_sets.specs.Edges.{is_end_or_left};
 ghost use Rattle.convex_sets.specs.Bounds.{AreBoundedCorners};
-ghost use Rattle.plan_model.specs.Convexity.{is_left_of_edge, is_strictly_convex, next_corner};
+ghost use Rattle.plan_model.specs.Convexity.{is_left_of_edge, is_strictly_convex};
 
 use crate::orientations::orientation;
+use crate::polygon_corners::next_corner;
 use plan_model::{LEAST_CORNERS, Vertex};
 
 /// Whether the corners are those of a strictly convex polygon, counterclockwise: three corners at least, and every other corner
@@ -28,22 +29,13 @@ pub fn is_convex(v: &[Vertex]) -> bool
     true
 }
 
-/// The number of the corner after corner `i` of `n`.
-pub(crate) fn after(n: usize, i: usize) -> usize
-    requires { i < n }
-    ensures value { result ≡ next_corner n i }
-    ensures within { result < n }
-{
-    if i + 1 == n { 0 } else { i + 1 }
-}
-
 /// Whether every other corner lies strictly to the left of the edge from corner `i` to the next.
 fn is_left_of(v: &[Vertex], i: usize) -> bool
     requires within { i < length v.now }
     requires bounded { AreBoundedCorners v.now }
     ensures { result ≡ is_left_of_edge v.now i }
 {
-    let next = after(v.len(), i);
+    let next = next_corner(v.len(), i);
     for k in 0..v.len() {
         if !is_end_or_left(v, i, next, k) {
             return false;

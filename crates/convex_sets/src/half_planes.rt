@@ -5,8 +5,8 @@ ghost use Rattle.convex_sets.specs.Bounds.{AreBoundedCorners, IsBoundedCorner};
 ghost use Rattle.convex_sets.specs.Boxes.{at_corner};
 ghost use Rattle.plan_model.specs.HalfPlanes.{IsInside};
 
-use crate::convexity::after;
 use crate::orientations::orientation;
+use crate::polygon_corners::next_corner;
 use plan_model::Vertex;
 
 /// Whether the point lies on the inner side of every edge, or on it.
@@ -16,7 +16,7 @@ pub(crate) fn is_inside(corners: &[Vertex], p: Vertex) -> bool
     ensures { IsTrue result ↔ IsInside corners.now (at_corner p) }
 {
     for i in 0..corners.len() {
-        let next = after(corners.len(), i);
+        let next = next_corner(corners.len(), i);
         if orientation(corners[i], corners[next], p) < 0 {
             return false;
         }

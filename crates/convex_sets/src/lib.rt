@@ -15,8 +15,10 @@ mod half_planes;
 mod merging;
 mod orientations;
 mod outlines;
+mod polygon_corners;
 mod zones;
 
 pub use convexity::is_convex;
 pub use orientations::orientation;
+pub use polygon_corners::{corner_of, next_corner};
 pub use zones::Zone;

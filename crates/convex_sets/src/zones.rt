@@ -4,6 +4,7 @@ use crate::boxes::{bounding_box, is_in_box};
 use crate::half_planes::is_inside;
 use crate::merging::merged;
 use crate::outlines::{outline, reflected};
+use crate::polygon_corners::corner_of;
 use plan_model::{Memory, Point, Poly, Vertex};
 use std::alloc::Global;
 use std::marker::Model;
@@ -119,11 +120,7 @@ impl Zone {
         if !is_in_box(self.low, self.high, p) {
             return false;
         }
-        let p = Vertex {
-            x: p.x as i32,
-            y: p.y as i32,
-        };
-        is_inside(self.corners.as_slice(), p)
+        is_inside(self.corners.as_slice(), corner_of(p))
     }
 }
 

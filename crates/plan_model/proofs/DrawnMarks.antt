@@ -4,7 +4,8 @@ use Rattle.std.proofs.lemmas.Nat.{mul-le, mod_below, div_below, pow_pos}
 use Rattle.plan_model.specs.declared.scenes.Scene.{Scene}
 use Rattle.plan_model.specs.ConfigurationSpace.{space_of}
 use Rattle.plan_model.specs.RoomOfConfigurations.{at_lattice, InRoom}
-use Rattle.plan_model.specs.MarkPoints.{Span, IsInSpan, strip, picked, first_word, second_word, next_state, drawn_mark, columns, rows, BodyFits}
+use Rattle.plan_model.specs.MarkPoints.{IsInSpan, strip, picked, first_word, second_word, next_state, drawn_mark, columns, rows, BodyFits}
+use Rattle.plan_model.specs.declared.places.Span.{Span}
 use Rattle.plan_model.proofs.MarkBounds.{word_below}
 use Rattle.plan_model.proofs.SpanLaws.{InRoom-from_place}
 use Rattle.plan_model.proofs.StripLaws.{strip-some, strip-within}

@@ -18,7 +18,8 @@ use Rattle.plan_model.specs.declared.geometry.Vertex.{Vertex}
 use Rattle.plan_model.specs.declared.limits.TheConstants.{LEAST_BODY_COORDINATE, MOST_BODY_COORDINATE}
 use Rattle.plan_model.specs.Limits.{IsBetween, is_corner_between, is_mark, is_plan}
 use Rattle.plan_model.specs.ConfigurationSpace.{space_of}
-use Rattle.plan_model.specs.MarkPoints.{mark_points, mixed, word_of_state, first_word, second_word, next_state, below_zero, above_zero, reach, Span}
+use Rattle.plan_model.specs.MarkPoints.{mark_points, mixed, word_of_state, first_word, second_word, next_state, below_zero, above_zero, reach}
+use Rattle.plan_model.specs.declared.places.Span.{Span}
 use Rattle.plan_model.proofs.SpanLaws.{reach-bounded}
 use Rattle.plan_model.specs.MarkPoints.{span_within, columns, rows, strip, picked, drawn_mark, points_of}
 

@@ -7,7 +7,8 @@ use Rattle.plan_model.specs.declared.geometry.Vertex.{Vertex}
 use Rattle.plan_model.specs.declared.geometry.Point.{Point}
 use Rattle.plan_model.specs.ConfigurationSpace.{ConfigurationSpace}
 use Rattle.plan_model.specs.RoomOfConfigurations.{at_lattice, InRoom}
-use Rattle.plan_model.specs.MarkPoints.{below_zero, above_zero, reach, Span, IsInSpan, span_within, columns, rows, BodyFits}
+use Rattle.plan_model.specs.MarkPoints.{below_zero, above_zero, reach, IsInSpan, span_within, columns, rows, BodyFits}
+use Rattle.plan_model.specs.declared.places.Span.{Span}
 
 -- ---- how far a body reaches, seen from a bound of it
 pub record IsReachBounded (extent : Vertex → ℕ) (far : ℕ) (body : List Vertex) (n : ℕ) : Type 0 where

@@ -3,6 +3,7 @@ use Rattle.std.specs.Prelude.{ℕ, ◌+◌, ◌-◌, ◌*◌, ◌/◌, ◌%◌, 
 use Rattle.std.specs.List.{range_with_len}
 use Rattle.plan_model.specs.declared.geometry.Point.{Point}
 use Rattle.plan_model.specs.declared.geometry.Vertex.{Vertex}
+use Rattle.plan_model.specs.declared.places.Span.{Span}
 use Rattle.plan_model.specs.declared.scenes.Scene.{Scene}
 use Rattle.plan_model.specs.declared.scenes.Marks.{Marks}
 use Rattle.plan_model.specs.declared.scenes.Marks.TheVariants.{Drawn, Listed}
@@ -40,11 +41,6 @@ above_zero (negsuc n) = 0
 -- how far the body reaches in a direction from its origin
 abbrev pub reach : (Vertex → ℕ) → List Vertex → ℕ
 reach extent body = fold (λ far corner. max far (extent corner)) 0 body
-
--- Columns or rows of the room of configurations: the first of them, and how many there are.
-pub record Span : Type 0 where
-  pub first : ℕ
-  pub count : ℕ
 
 -- the span has the coordinate
 pub record IsInSpan (span : Span) (n : ℕ) : Type 0 where

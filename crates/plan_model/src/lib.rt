@@ -9,6 +9,7 @@ mod laws;
 mod limits;
 mod lists;
 mod memory_streams;
+mod places;
 mod records;
 mod run_laws;
 mod scenes;
@@ -31,6 +32,7 @@ pub use limits::{
 };
 pub use lists::Sequence;
 pub use memory_streams::{MemSink, MemSource, SureSource};
+pub use places::{Places, Span};
 pub use records::{Outcome, Record, Records};
 pub use scenes::{Marks, Points, Poly, Polys, Scene};
 pub use sinks::Sink;

@@ -10,7 +10,8 @@ use Rattle.plan_model.specs.Clearance.{on_the_way}
 use Rattle.plan_model.specs.HalfPlanes.{IsInside}
 use Rattle.swept_check.specs.declared.fractions.Fraction.{Fraction}
 use Rattle.swept_check.specs.Clipping.{IsAdmitted, IsBetweenFractions}
-use Rattle.swept_check.specs.Crossings.{Crosses, corner_of}
+use Rattle.swept_check.specs.Crossings.{Crosses}
+use Rattle.convex_sets.specs.Boxes.{corner_of}
 use Rattle.swept_check.proofs.SideValues.{side_of-on_the_way}
 use Rattle.swept_check.proofs.Parameters.{in_order}
 

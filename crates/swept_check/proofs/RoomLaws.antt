@@ -10,8 +10,8 @@ use Rattle.plan_model.specs.RoomOfConfigurations.{InRoom, at_lattice}
 use Rattle.plan_model.specs.Clearance.{on_the_way}
 use Rattle.plan_model.specs.MarkPoints.{IsInSpan}
 use Rattle.plan_model.proofs.SpanLaws.{HasPlace-from_in_room, InRoom-from_place}
-use Rattle.swept_check.specs.declared.places.Places.{Places}
-use Rattle.swept_check.specs.PlacesOfRooms.{ArePlacesOf, span_of}
+use Rattle.plan_model.specs.declared.places.Places.{Places}
+use Rattle.plan_model.specs.PlacesOfRooms.{ArePlacesOf}
 use Rattle.swept_check.proofs.LinearValues.{IsAdmitted-inside}
 use Rattle.convex_sets.proofs.Ring.{var, plus, minus, times, same}
 
@@ -100,14 +100,14 @@ bounded_in_room space p f g h =
 
 -- the places say which lattice points are in the room
 pub in_room_of_places : (space : ConfigurationSpace) (places : Places) (p : Point) → ArePlacesOf space.room space.body places
-    → IsInSpan (span_of places.columns) p.x → IsInSpan (span_of places.rows) p.y → InRoom space (at_lattice p)
+    → IsInSpan places.columns p.x → IsInSpan places.rows p.y → InRoom space (at_lattice p)
 in_room_of_places space places p h f g =
     InRoom-from_place space p (record { column = rw h.columns at f; row = rw h.rows at g })
 
 pub columns_of_in_room : (space : ConfigurationSpace) (places : Places) (p : Point) → ArePlacesOf space.room space.body places
-    → InRoom space (at_lattice p) → IsInSpan (span_of places.columns) p.x
+    → InRoom space (at_lattice p) → IsInSpan places.columns p.x
 columns_of_in_room space places p h room = rw h.columns (HasPlace-from_in_room space p room).column
 
 pub rows_of_in_room : (space : ConfigurationSpace) (places : Places) (p : Point) → ArePlacesOf space.room space.body places
-    → InRoom space (at_lattice p) → IsInSpan (span_of places.rows) p.y
+    → InRoom space (at_lattice p) → IsInSpan places.rows p.y
 rows_of_in_room space places p h room = rw h.rows (HasPlace-from_in_room space p room).row

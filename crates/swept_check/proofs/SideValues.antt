@@ -7,7 +7,7 @@ use Rattle.plan_model.specs.Geometry.{orientation}
 use Rattle.plan_model.specs.Clearance.{on_the_way}
 use Rattle.plan_model.specs.HalfPlanes.{side_of}
 use Rattle.swept_check.specs.Clipping.{value_at}
-use Rattle.swept_check.specs.Crossings.{corner_of}
+use Rattle.convex_sets.specs.Boxes.{corner_of}
 use Rattle.convex_sets.proofs.Ring.{var, plus, minus, times, same}
 
 -- one product of the orientation, at s / d of the way from a to b

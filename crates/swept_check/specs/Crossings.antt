@@ -1,13 +1,9 @@
 -- A segment that has a rational point in a polygon.
-use Rattle.std.specs.Prelude.{ℕ, ◌<◌, ◌≤◌, pos, List}
+use Rattle.std.specs.Prelude.{ℕ, ◌<◌, ◌≤◌, List}
 use Rattle.plan_model.specs.declared.geometry.Point.{Point}
 use Rattle.plan_model.specs.declared.geometry.Vertex.{Vertex}
 use Rattle.plan_model.specs.Clearance.{on_the_way}
 use Rattle.plan_model.specs.HalfPlanes.{IsInside}
-
--- a point as a corner
-abbrev pub corner_of : Point → Vertex
-corner_of p = record { x = pos p.x; y = pos p.y }
 
 -- the point s / d of the way from a to b lies in the polygon, or on its edge
 pub record Crosses (corners : List Vertex) (a b : Point) : Type 0 where

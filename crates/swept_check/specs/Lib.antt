@@ -1,5 +1,4 @@
 pub mod Clipping
 pub mod Crossings
 pub mod Halls
-pub mod PlacesOfRooms
 pub mod Apart

@@ -1,14 +1,13 @@
 //! Clipping a segment against the half-planes of a polygon.
 
-ghost use Rattle.std.specs.Prelude.{◌≡◌, ◌↔◌, ℕ, ◌<◌, ◌≤◌, pos, IsTrue, MatchOption, length};
-ghost use Rattle.convex_sets.specs.Bounds.{AreBoundedCorners, IsBoundedCorner};
+ghost use Rattle.std.specs.Prelude.{◌↔◌, ℕ, ◌<◌, ◌≤◌, pos, IsTrue, MatchOption, length};
+ghost use Rattle.convex_sets.specs.Bounds.{AreBoundedCorners};
 ghost use Rattle.plan_model.specs.Bounds.{IsBounded};
-ghost use Rattle.plan_model.specs.Convexity.{next_corner};
 ghost use Rattle.swept_check.specs.Clipping.{IsBetweenFractions, IsAdmitted};
-ghost use Rattle.swept_check.specs.Crossings.{Crosses, corner_of};
+ghost use Rattle.swept_check.specs.Crossings.{Crosses};
 
 use crate::fractions::Fraction;
-use convex_sets::orientation;
+use convex_sets::{corner_of, next_corner, orientation};
 use plan_model::{Point, Vertex};
 
 /// The part of a segment between two parameters; empty if the exit lies before the entry.
@@ -69,13 +68,13 @@ pub(crate) fn crosses(corners: &[Vertex], a: Point, b: Point) -> bool
     requires to { IsBounded b }
     ensures { IsTrue result ↔ Crosses corners.now a b }
 {
-    let (first, last) = (corner(a), corner(b));
+    let (first, last) = (corner_of(a), corner_of(b));
     let mut part = Part {
         entry: Fraction::zero(),
         exit: Fraction::one(),
     };
     for i in 0..corners.len() {
-        let next = after(corners.len(), i);
+        let next = next_corner(corners.len(), i);
         let from = orientation(corners[i], corners[next], first);
         let to = orientation(corners[i], corners[next], last);
         match part.clipped(from, to) {
@@ -84,25 +83,4 @@ pub(crate) fn crosses(corners: &[Vertex], a: Point, b: Point) -> bool
         }
     }
     part.entry.is_at_most(part.exit)
-}
-
-/// The point as a corner.
-fn corner(p: Point) -> Vertex
-    requires { IsBounded p }
-    ensures value { result ≡ corner_of p }
-    ensures bounded { IsBoundedCorner result }
-{
-    Vertex {
-        x: p.x as i32,
-        y: p.y as i32,
-    }
-}
-
-/// The number of the corner after corner `i` of `n`.
-fn after(n: usize, i: usize) -> usize
-    requires { i < n }
-    ensures value { result ≡ next_corner n i }
-    ensures within { result < n }
-{
-    if i + 1 == n { 0 } else { i + 1 }
 }

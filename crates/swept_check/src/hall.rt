@@ -5,10 +5,9 @@ ghost use Rattle.plan_model.specs.ConfigurationSpace.{space_of};
 ghost use Rattle.plan_model.specs.RoomOfConfigurations.{InRoom, at_lattice};
 
 use crate::clearing::Clearing;
-use crate::places::Places;
 use crate::zone_crossings::crosses_none;
 use convex_sets::Zone;
-use plan_model::{Memory, Point, Poly, Polys, Scene, Sequence};
+use plan_model::{Memory, Places, Point, Poly, Polys, Scene, Sequence};
 use std::alloc::Global;
 use std::marker::Model;
 
@@ -39,7 +38,7 @@ impl Model for Hall {
     ghost use Rattle.plan_model.specs.ConfigurationSpace.{ConfigurationSpace};
     ghost use Rattle.plan_model.specs.declared.limits.TheConstants.{MOST_SIDE};
     ghost use Rattle.swept_check.specs.Halls.{AreZonesOf};
-    ghost use Rattle.swept_check.specs.PlacesOfRooms.{ArePlacesOf};
+    ghost use Rattle.plan_model.specs.PlacesOfRooms.{ArePlacesOf};
     ghost use Rattle.std.specs.Prelude.{◌≤◌};
 
     ghost Value = { ConfigurationSpace };
@@ -108,8 +107,8 @@ impl Clearing for Hall {
     ghost space = { λ h. h };
 
     /// O(1) for each zone whose bounding box lies apart from the segment's, otherwise two orientations of 64 bits for each of
-    /// its edges, up to the first that has both ends strictly on its outer side, and a product of 128 bits only where an edge
-    /// clips the segment.
+    /// its edges, up to the first that has both ends strictly on its outer side. Fractions are compared by products of 128
+    /// bits: once for each edge that clips the segment, and once more at the end if no edge has both ends on its outer side.
     fn clear(&self, a: Point, b: Point) -> bool {
         // The room of configurations is convex, so a segment lies in it if its ends do.
         if !self.is_in_room(a) || !self.is_in_room(b) {

@@ -10,7 +10,6 @@ mod clearing;
 mod clipping;
 mod fractions;
 mod hall;
-mod places;
 mod zone_crossings;
 
 pub use clearing::Clearing;

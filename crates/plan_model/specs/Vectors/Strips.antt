@@ -1,7 +1,8 @@
 -- Columns cut into three strips, the quotas of three strips, and the columns in which a body fits.
 use Rattle.std.specs.Prelude.{◌≡◌, [], ◌∷◌}
 use Rattle.plan_model.specs.ConfigurationSpace.{ConfigurationSpace}
-use Rattle.plan_model.specs.MarkPoints.{Span, IsInSpan, strip, quota_of, span_within, columns, rows, reach, below_zero, above_zero}
+use Rattle.plan_model.specs.MarkPoints.{IsInSpan, strip, quota_of, span_within, columns, rows, reach, below_zero, above_zero}
+use Rattle.plan_model.specs.declared.places.Span.{Span}
 use Rattle.plan_model.specs.Vectors.Shapes.{at, corner, corner_below}
 
 abbrev pub hundred : Span

@@ -2,7 +2,8 @@
 
 ghost use Rattle.std.specs.Prelude.{◌≡◌, ℕ, ◌+◌, ◌*◌, ◌%◌, ◌<◌, ◌≤◌, ◌↔◌};
 ghost use Rattle.plan_model.specs.ConfigurationSpace.{space_of};
-ghost use Rattle.plan_model.specs.MarkPoints.{BodyFits, IsInSpan, Span, columns, drawn_mark, quota_of, rows, strip};
+ghost use Rattle.plan_model.specs.MarkPoints.{BodyFits, IsInSpan, columns, drawn_mark, quota_of, rows, strip};
+ghost use Rattle.plan_model.specs.declared.places.Span.{Span};
 ghost use Rattle.plan_model.specs.RoomOfConfigurations.{InRoom, at_lattice};
 ghost use Rattle.plan_model.specs.declared.scenes.Scene.{Scene};
 

@@ -8,11 +8,11 @@ pub returns-then-orientation-lt0 : goal.returns-then-orientation-lt0
 returns-then-orientation-lt0 c = (
   λ t. cc,
   λ inside. absurd
-      (not_inside c.args.corners.now c.args.p c.loop-i.i c.after-next.result c.after-next.ensures.value (omega arith) (omega (arith, ints)) inside),
+      (not_inside c.args.corners.now c.args.p c.loop-i.i c.next_corner-next.result c.next_corner-next.ensures.value (omega arith) (omega (arith, ints)) inside),
 )
 
 pub loop-i-preserved : goal.loop-i-preserved
-loop-i-preserved c = below_more _ _ c.loop-i.invariant (rw (← c.after-next.ensures.value) (omega (arith, ints)))
+loop-i-preserved c = below_more _ _ c.loop-i.invariant (rw (← c.next_corner-next.ensures.value) (omega (arith, ints)))
 
 pub returns : goal.returns
 returns c =
