@@ -51,9 +51,9 @@ cond_end true one other n p q = p
 cond_end false one other n p q = q
 
 -- a strip does not end after the whole
-strip_end : (all : Span) (strips g : ℕ) → g < strips → end_of (strip all strips g) ≤ end_of all
+pub strip-end : (all : Span) (strips g : ℕ) → g < strips → (strip all strips g).first + (strip all strips g).count ≤ all.first + all.count
 unfolding end_of
-strip_end all strips g h =
+strip-end all strips g h =
     let low : (g * all.count) / strips ≤ all.count = share_le g all.count strips (omega arith) in
     let high : ((g + 1) * all.count) / strips ≤ all.count = share_le (g + 1) all.count strips (omega arith) in
     cond_end (ltb all.count strips) all (record {
@@ -103,18 +103,30 @@ low_x v h = first_true _ _ h
 low_y : (v : Vertex) → is_body_corner v ≡ true → int_le LEAST_BODY_COORDINATE v.y ≡ true
 low_y v h = first_true _ _ (second_true _ _ (second_true _ _ h))
 
+-- no column and no row has a number above 65,535
+pub columns-end : (scene : Scene) → (columns (space_of scene)).first + (columns (space_of scene)).count ≤ 65536
+unfolding end_of
+columns-end scene =
+    span_end scene.room.x (reach (λ v. below_zero v.x) scene.body) (reach (λ v. above_zero v.x) scene.body) scene.room_within.right
+    (short_reach scene (λ v. v.x) low_x)
+
+pub rows-end : (scene : Scene) → (rows (space_of scene)).first + (rows (space_of scene)).count ≤ 65536
+unfolding end_of
+rows-end scene =
+    span_end scene.room.y (reach (λ v. below_zero v.y) scene.body) (reach (λ v. above_zero v.y) scene.body) scene.room_within.top
+    (short_reach scene (λ v. v.y) low_y)
+
 drawn_within : (scene : Scene) (k : ℕ) → IsBetween 0 65536 (drawn_mark scene k)
+unfolding end_of
 drawn_within scene k =
     let state : ℕ = (scene.seed + k) % 2 ^ 64 in
-    let back_x : reach (λ v. below_zero v.x) scene.body ≤ 4096 = short_reach scene (λ v. v.x) low_x in
-    let back_y : reach (λ v. below_zero v.y) scene.body ≤ 4096 = short_reach scene (λ v. v.y) low_y in
     let own = strip (columns (space_of scene)) scene.strips (k % scene.strips) in
     let g : k % scene.strips < scene.strips = mod_below k scene.strips (omega (arith, scene.strips_low)) in
     let x = picked_below own (first_word state) (word_below (next_state state)) in
-    let x_end = strip_end (columns (space_of scene)) scene.strips (k % scene.strips) g in
-    let x_side = span_end scene.room.x (reach (λ v. below_zero v.x) scene.body) (reach (λ v. above_zero v.x) scene.body) scene.room_within.right back_x in
+    let x_end = strip-end (columns (space_of scene)) scene.strips (k % scene.strips) g in
+    let x_side = columns-end scene in
     let y = picked_below (rows (space_of scene)) (second_word state) (word_below (next_state (next_state state))) in
-    let y_side = span_end scene.room.y (reach (λ v. below_zero v.y) scene.body) (reach (λ v. above_zero v.y) scene.body) scene.room_within.top back_y in
+    let y_side = rows-end scene in
     record { left = omega arith; right = omega (arith, x, x_end, x_side); bottom = omega arith; top = omega (arith, y, y_side) }
 
 listed_within : (p : Point) → is_mark p ≡ true → IsBetween 0 65536 p

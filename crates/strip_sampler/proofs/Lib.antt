@@ -1,0 +1,3 @@
+pub mod QuotaCounts
+pub mod GeneratorWords
+pub mod DrawnPoints

@@ -1,0 +1,79 @@
+//! How one mark is drawn.
+
+ghost use Rattle.std.specs.Prelude.{◌≡◌, ◌+◌, ◌%◌, ◌^◌, ◌≤◌};
+ghost use Rattle.plan_model.specs.MarkPoints.{drawn_mark, first_word, picked, second_word};
+ghost use Rattle.plan_model.specs.PlacesOfRooms.{ArePlacesOf};
+ghost use Rattle.plan_model.specs.declared.limits.TheConstants.{MOST_SIDE};
+
+use crate::strips::strip_of;
+use plan_model::{Places, Point, Scene, Span};
+use rand_core::{Rng, SeedableRng};
+use rand_xoshiro::SplitMix64;
+
+/// Mark `k` of the plan of a scene, whatever its length: a column of its strip and a row, by the two words of its own
+/// generator. O(1).
+pub(crate) fn drawn(scene: &Scene, places: Places, k: u32) -> Point
+    requires { ArePlacesOf scene.now.room scene.now.body places }
+    ensures { result ≡ drawn_mark scene.now k }
+{
+    let strip = strip_of(places.columns, scene.strips, k % scene.strips);
+    let (first, second) = words_of(scene.seed, k);
+    Point {
+        x: picked(strip, first),
+        y: picked(places.rows, second),
+    }
+}
+
+/// The first two words of the generator of mark `k`, whose state is the seed plus `k` modulo 2^64.
+fn words_of(seed: u64, k: u32) -> (u64, u64)
+    ensures first { result.0 ≡ first_word ((seed + k) % 2 ^ 64) }
+    ensures second { result.1 ≡ second_word ((seed + k) % 2 ^ 64) }
+{
+    let state = seed.wrapping_add(u64::from(k));
+    let mut generator = SplitMix64::from_seed(state.to_le_bytes());
+    let first = generator.next_u64();
+    let second = generator.next_u64();
+    (first, second)
+}
+
+/// The place in a span that the upper half of a word picks: the span's count times that half, as a fraction of 2^32.
+fn picked(span: Span, word: u64) -> u32
+    requires { span.first + span.count ≤ MOST_SIDE + 1 }
+    ensures { result ≡ picked span word }
+{
+    let share = ((word >> 32) * u64::from(span.count)) >> 32;
+    span.first + share as u32
+}
+
+#[cfg(test)]
+mod tests {
+    use super::*;
+
+    #[test]
+    fn draws_the_words_of_splitmix64(rt: HostRuntime) {
+        let words = (0xE220_A839_7B1D_CDAF, 0x6E78_9E6A_A1B9_65F4);
+        assert_eq!(rt; words_of(0, 0), words);
+        // the state is 0 again
+        assert_eq!(rt; words_of(u64::MAX, 1), words);
+        assert!(rt; words_of(0, 1) == words_of(1, 0));
+        assert!(rt; words_of(0, 1) != words);
+    }
+
+    #[test]
+    fn picks_places_of_a_span(rt: HostRuntime) {
+        let span = Span {
+            first: 5,
+            count: 10,
+        };
+        for (word, want) in [
+            (0, 5),
+            (0xFFFF_FFFF, 5),
+            (0x8000_0000_0000_0000, 10),
+            (0x7FFF_FFFF_FFFF_FFFF, 9),
+            (u64::MAX, 14),
+        ] {
+            assert_eq!(rt; picked(span, word), want, "word {word}");
+        }
+        assert_eq!(rt; picked(Span { first: 5, count: 0 }, u64::MAX), 5);
+    }
+}
