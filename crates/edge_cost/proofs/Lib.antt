@@ -1,1 +1,2 @@
+pub mod CostLimits
 pub mod RootBounds

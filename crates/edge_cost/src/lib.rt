@@ -10,11 +10,13 @@ ghost use Rattle.std.specs.Prelude.{◌≡◌};
 ghost use Rattle.plan_model.specs.Bounds.{IsBounded};
 
 mod classes;
+mod cost_limits;
 mod costs;
 mod roots;
 mod steering;
 
 pub use classes::class;
+pub use cost_limits::costs_less;
 pub use costs::cost;
 pub use steering::steer;
 
