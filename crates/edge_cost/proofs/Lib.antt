@@ -1,2 +1,3 @@
 pub mod CostLimits
+pub mod RadiusFromRoot
 pub mod RootBounds

@@ -12,12 +12,14 @@ ghost use Rattle.plan_model.specs.Bounds.{IsBounded};
 mod classes;
 mod cost_limits;
 mod costs;
+mod radii;
 mod roots;
 mod steering;
 
 pub use classes::class;
 pub use cost_limits::costs_less;
 pub use costs::cost;
+pub use radii::Radii;
 pub use steering::steer;
 
 /// A point of a test's table.

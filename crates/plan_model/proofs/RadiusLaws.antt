@@ -34,3 +34,9 @@ pub greatest-most : (test : ℕ → Bool) (n r : ℕ) → r ≤ n → test r ≡
 greatest-most test zero r h passes = h
 greatest-most test (suc n) r h passes =
     cond_most test (test (suc n)) n (greatest test n) r refl (greatest-le test n) h passes (λ l. greatest-most test n r l passes)
+
+-- a number up to the bound that passes is the greatest, if no greater one passes
+pub greatest-unique : (test : ℕ → Bool) (n r : ℕ) → test 0 ≡ true → r ≤ n → test r ≡ true
+    → ((s : ℕ) → s ≤ n → test s ≡ true → s ≤ r) → r ≡ greatest test n
+greatest-unique test n r start within passes most =
+    omega (arith, greatest-most test n r within passes, most (greatest test n) (greatest-le test n) (greatest-passes test n start))
