@@ -28,6 +28,7 @@ pub mod SceneParts
 pub mod GivenScenes
 pub mod SupportedScenes
 pub mod CostLaws
+pub mod TriangleLaw
 pub mod StripLaws
 pub mod Differences
 pub mod RationalPoints

@@ -1,6 +1,6 @@
 //! Laws of the definitions, each the contract of a function that does nothing.
 
-ghost use Rattle.std.specs.Prelude.{◌≡◌, ℕ, Bool, List, ◌-◌, ◌*◌, ◌^◌, ◌<◌, ◌≤◌, ◌⊎◌};
+ghost use Rattle.std.specs.Prelude.{◌≡◌, ℕ, Bool, List, ◌+◌, ◌-◌, ◌*◌, ◌^◌, ◌<◌, ◌≤◌, ◌⊎◌};
 ghost use Rattle.plan_model.specs.Cost.{cost_of};
 ghost use Rattle.plan_model.specs.Radius.{class_of, radius_of_class};
 ghost use Rattle.plan_model.specs.Roots.{IsRootCeiling, root_ceiling};
@@ -19,10 +19,12 @@ pub fn root_is_least()
     ensures { (n : ℕ) → IsRootCeiling n (root_ceiling n) }
 {}
 
-/// An edge costs the same in both directions, and only one without length costs nothing.
+/// An edge costs the same in both directions, only one without length costs nothing, and none costs more than
+/// two edges over a third point (the triangle law).
 pub fn costs_are_distances()
     ensures both_ways { (a b : Point) → cost_of a b ≡ cost_of b a }
     ensures apart { (a b : Point) → cost_of a b ≡ 0 → a ≡ b }
+    ensures triangle { (a b c : Point) → cost_of a c ≤ cost_of a b + cost_of b c }
 {}
 
 /// Class b holds the numbers from 2 ^ (b - 1) up to 2 ^ b - 1.
