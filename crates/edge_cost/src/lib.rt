@@ -1,9 +1,9 @@
 //! The parts of RRT* (Karaman and Frazzoli, Sampling-based Algorithms for Optimal Motion Planning, IJRR 2011)
-//! that need no obstacles, in whole numbers: what an edge of the tree costs, how a node steers towards a mark,
-//! and the class of a number of nodes, by which the rewiring radius shrinks.
+//! that need no obstacles, in whole numbers: what an edge of the tree costs, whether it costs less than a limit,
+//! how a node steers towards a mark, the class of a number of nodes, and the rewiring radius of each class.
 //!
-//! Each function returns exactly the number or the point that the definitions of `plan_model` name, for all
-//! points whose distances fit 64 bits. An edge that is steered is no longer than the step.
+//! Each function returns exactly what the definitions of `plan_model` say, for all points whose distances fit
+//! 64 bits. An edge that is steered is no longer than the step.
 #![tactic(auto)]
 
 ghost use Rattle.std.specs.Prelude.{◌≡◌};
