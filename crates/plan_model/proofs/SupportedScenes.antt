@@ -1,10 +1,10 @@
--- The scenes that the supported keys spell: nothing is rewired, and the marks are listed.
+-- The scenes that the supported keys spell: the marks are listed.
 use Rattle.std.proofs.Common.{◌≡◌, List, ℕ, [], false, refl, sym, ap, ◌∙◌, subst}
 use Rattle.plan_model.specs.declared.scenes.Scene.{Scene}
 use Rattle.plan_model.specs.declared.text_terms.Key.{Key}
 use Rattle.plan_model.specs.declared.text_terms.Key.TheVariants as keys
 use Rattle.plan_model.specs.TextLines.{lines_of, statements_of}
-use Rattle.plan_model.specs.SceneGrammar.{first_of, number_or, plan_from, given_after_version, Spells, supported}
+use Rattle.plan_model.specs.SceneGrammar.{plan_from, given_after_version, Spells, supported}
 use Rattle.plan_model.specs.EmptyRooms.{IsListed}
 use Rattle.plan_model.proofs.SoundStatements.{IsSoundGiven-text}
 
@@ -12,11 +12,6 @@ use Rattle.plan_model.proofs.SoundStatements.{IsSoundGiven-text}
 none-given : (text : List ℕ) (scene : Scene) (key : Key) → Spells supported text scene → supported key ≡ false
     → given_after_version (statements_of (lines_of text)) key ≡ []
 none-given text scene key spelled unbuilt = (IsSoundGiven-text supported text spelled.sound).supported key unbuilt
-
--- nothing is rewired
-pub HasNoRadius-spelled : (text : List ℕ) (scene : Scene) → Spells supported text scene → scene.gamma ≡ 0
-HasNoRadius-spelled text scene spelled =
-    spelled.fields.gamma ∙ ap (λ lists. number_or 0 (first_of lists)) (none-given text scene keys.Gamma spelled refl)
 
 -- the marks are listed
 pub IsListed-spelled : (text : List ℕ) (scene : Scene) → Spells supported text scene → IsListed scene.plan

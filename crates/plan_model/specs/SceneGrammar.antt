@@ -113,6 +113,7 @@ supported keys.Obstacle = true
 supported keys.Start = true
 supported keys.Goal = true
 supported keys.Step = true
+supported keys.Gamma = true
 supported keys.Seed = true
 supported keys.Strips = true
 supported keys.Mark = true

@@ -14,7 +14,7 @@ ghost use Rattle.plan_model.specs.Vectors.Runs.{RunVectors};
 ghost use Rattle.plan_model.specs.Vectors.Steps.{SteeringVectors};
 ghost use Rattle.plan_model.specs.Vectors.Streams.{StreamVectors};
 ghost use Rattle.plan_model.specs.Vectors.Strips.{StripVectors};
-ghost use Rattle.plan_model.specs.Vectors.Texts.{PolygonSpellingVector, RefusalVectors, SpellingVector};
+ghost use Rattle.plan_model.specs.Vectors.Texts.{FieldSpellingVector, PolygonSpellingVector, RefusalVectors, SpellingVector};
 ghost use Rattle.plan_model.specs.Vectors.Trees.{TreeVectors};
 ghost use Rattle.plan_model.specs.Vectors.Words.{LineVectors, NumberVectors};
 
@@ -86,6 +86,11 @@ pub fn spelling()
 /// A text with a body and obstacles.
 pub fn polygon_spelling()
     ensures { PolygonSpellingVector }
+{}
+
+/// A text that gives every field of a scene.
+pub fn field_spelling()
+    ensures { FieldSpellingVector }
 {}
 
 /// Lines at the limits of the grammar.

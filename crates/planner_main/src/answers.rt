@@ -114,7 +114,6 @@ fn scene_for<S: Source>(alloc: Global, command: Command, source: &mut S) -> Resu
         (reading_of S.counts_failures_alone S.bytes_left S.has_ended S.fault_count source.old source.new)) }
     ensures refusal { IfErr result (IsCaused (Some command)
         (reading_of S.counts_failures_alone S.bytes_left S.has_ended S.fault_count source.old source.new)) }
-    ensures gamma { IfOk result (λ scene. scene.gamma ≡ 0) }
     ensures listed { IfOk result (λ scene. IsListed scene.plan) }
     ensures within { ReadsWithin (S.bytes_left source.old) (S.bytes_left source.new) }
 {
@@ -123,12 +122,11 @@ fn scene_for<S: Source>(alloc: Global, command: Command, source: &mut S) -> Resu
     Ok(scene)
 }
 
-// The scene that a text spells. The keys that are supported today give gamma 0 and listed marks.
+// The scene that a text spells. The keys that are supported today give listed marks.
 fn spelled_scene(alloc: Global, text: &[u8]) -> Result<Scene, SceneRefusal>
     requires { length text.now ≤ MOST_TEXT_BYTES }
     ensures scene { IfOk result (λ scene. Spells supported text.now scene) }
     ensures fault { IfErr result (IsRefusal text.now) }
-    ensures gamma { IfOk result (λ scene. scene.gamma ≡ 0) }
     ensures listed { IfOk result (λ scene. IsListed scene.plan) }
 {
     let scene = read_scene(alloc, text)?;
@@ -151,7 +149,6 @@ fn hall_for(alloc: Global, scene: &Scene) -> Result<Hall, Refusal>
 
 // The short report of the textbook run of a scene.
 fn report_of(alloc: Global, scene: Scene, hall: &Hall) -> Result<Answer, Memory>
-    requires gamma { scene.gamma ≡ 0 }
     requires listed { IsListed scene.plan }
     requires hall { hall.now ≡ space_of scene }
     requires start { ClearAt (space_of scene) scene.start }

@@ -4,6 +4,7 @@ use Rattle.std.proofs.Common.{refl, sym, ap, ◌∙◌, arith}
 use mathlib.Core.Path.{fun_ext}
 use Rattle.std.specs.List.{list_all}
 use Rattle.std.proofs.lemmas.List.{map-append}
+use Rattle.plan_model.specs.declared.geometry.Point.{Point}
 use Rattle.plan_model.specs.declared.geometry.Vertex.{Vertex}
 use Rattle.plan_model.specs.declared.text_terms.Key.{Key}
 use Rattle.plan_model.specs.declared.text_terms.Key.TheVariants as keys
@@ -14,7 +15,7 @@ use Rattle.plan_model.specs.Keys.{name_of, fits_words}
 use Rattle.plan_model.specs.LineChecks.{Given, Check, with_statement, is_version, fault_of_statement, is_inhabited, is_repeated, is_too_many}
 use Rattle.plan_model.specs.LineChecks.{first_failing, number_checks, checks_of}
 use Rattle.plan_model.specs.SceneGrammar.{supported}
-use Rattle.plan_model.specs.CanonicalText.{corner_numbers}
+use Rattle.plan_model.specs.CanonicalText.{point_numbers, corner_numbers}
 use Rattle.scene_text.specs.declared.drafts.Draft.{Draft}
 use Rattle.scene_text.specs.Drafts.{IsFormed, given_by_draft, TakesLine}
 
@@ -72,6 +73,19 @@ given-obstacle old new words corners items value = fun_ext (λ key. same key)
     same keys.Obstacle =
         ap (map corner_numbers) items ∙ map-append corner_numbers old.obstacles.items (corners ∷ [])
         ∙ ap (λ zs. map corner_numbers old.obstacles.items ++ zs ∷ []) (sym value)
+    same key = refl
+
+-- one more mark is what its line gives
+pub given-mark : (old new : Draft) (words : List (List ℕ)) (p : Point) → new.marks.items ≡ old.marks.items ++ p ∷ []
+    → map value_of words ≡ point_numbers p
+    → given_by_draft (record old { marks = new.marks }) ≡ with_statement (given_by_draft old) (name_of keys.Mark ∷ words)
+given-mark old new words p items value = fun_ext (λ key. same key)
+  where
+    same : (key : Key) → given_by_draft (record old { marks = new.marks }) key
+        ≡ with_statement (given_by_draft old) (name_of keys.Mark ∷ words) key
+    same keys.Mark =
+        ap (map point_numbers) items ∙ map-append point_numbers old.marks.items (p ∷ [])
+        ∙ ap (λ zs. map point_numbers old.marks.items ++ zs ∷ []) (sym value)
     same key = refl
 
 -- the version gives nothing but that it was read

@@ -1,5 +1,5 @@
 -- The scene that a draft gives: its fields are in their ranges, and are those of the lines.
-use Rattle.std.proofs.Common.{◌≡◌, ℕ, true, ℤ, Option, Some, None, List, [], ◌∷◌, map, All, refl, sym, ap, ◌∙◌, subst, arith}
+use Rattle.std.proofs.Common.{◌≡◌, ℕ, ◌≤◌, true, ℤ, Option, Some, None, List, [], ◌∷◌, map, All, refl, sym, ap, ◌∙◌, subst, arith}
 use Rattle.std.specs.Option.{unwrap_or}
 use Rattle.std.proofs.lemmas.List.Elements.{All-head}
 use Rattle.plan_model.specs.declared.geometry.Point.{Point}
@@ -8,12 +8,13 @@ use Rattle.plan_model.specs.declared.geometry.Goal.{Goal}
 use Rattle.plan_model.specs.declared.scenes.Marks.TheVariants.{Listed}
 use Rattle.plan_model.specs.declared.text_terms.Key.{Key}
 use Rattle.plan_model.specs.declared.text_terms.Key.TheVariants as keys
-use Rattle.plan_model.specs.declared.limits.TheConstants.{LEAST_SIDE, LEAST_STEP, MOST_SIDE, MOST_STEP, MOST_STRIPS}
+use Rattle.plan_model.specs.declared.limits.TheConstants.{LEAST_SIDE, LEAST_STEP, MOST_GAMMA, MOST_SIDE, MOST_STEP, MOST_STRIPS}
 use Rattle.plan_model.specs.Limits.{IsBetween, IsGoal, is_body, are_obstacles, is_plan}
 use Rattle.plan_model.specs.LineChecks.{corners_from, MayStand, AllMayStand}
 use Rattle.plan_model.specs.SceneGrammar.{first_of, number_or, point_from, body_from}
 use Rattle.plan_model.specs.CanonicalText.{point_numbers, goal_numbers, corner_numbers}
-use Rattle.plan_model.proofs.SceneParts.{IsWithin, room-within, body-within, start-within, goal-within, step-within, strips-within, plan-within}
+use Rattle.plan_model.proofs.SceneParts.{IsWithin, room-within, body-within, start-within, goal-within, step-within, gamma-within, strips-within}
+use Rattle.plan_model.proofs.SceneParts.{plan-within}
 use Rattle.plan_model.proofs.GivenScenes.{obstacles-given}
 use Rattle.scene_text.specs.declared.drafts.Draft.{Draft}
 use Rattle.scene_text.specs.Drafts.{line_numbers, amount_numbers, given_by_draft}
@@ -52,6 +53,11 @@ polygons-given (corners ∷ polygons) =
     ap (λ rest. corners ∷ rest) (polygons-given polygons)
     ∙ ap (λ vs. vs ∷ map corners_from (map corner_numbers polygons)) (sym (corners_from-numbers corners))
 
+gamma-default : (field : Option ℕ) → All (MayStand keys.Gamma) (line_numbers amount_numbers field) → unwrap_or field 0 ≤ MOST_GAMMA
+gamma-default None all = omega arith
+gamma-default (Some n) all =
+    gamma-within (amount_numbers n) (All-head (MayStand keys.Gamma) (amount_numbers n) [] all)
+
 strips-default : (field : Option ℕ) → All (MayStand keys.Strips) (line_numbers amount_numbers field) → IsWithin 1 MOST_STRIPS (unwrap_or field 1)
 strips-default None all = record { above = omega arith; below = omega arith }
 strips-default (Some n) all =
@@ -67,6 +73,7 @@ pub record AreWithin (draft : Draft) : Type 0 where
   pub start : (p : Point) → draft.start ≡ Some p → IsBetween 0 MOST_SIDE p
   pub goal : (goal : Goal) → draft.goal ≡ Some goal → IsGoal goal
   pub step : (n : ℕ) → draft.step ≡ Some n → IsWithin LEAST_STEP MOST_STEP n
+  pub gamma : unwrap_or draft.gamma 0 ≤ MOST_GAMMA
   pub strips : IsWithin 1 MOST_STRIPS (unwrap_or draft.strips 1)
   pub plan : is_plan (Listed draft.marks.items) ≡ true
 
@@ -84,6 +91,7 @@ AreWithin-draft draft h =
       start = λ p known. start-within (point_numbers p) (known-stands keys.Start point_numbers draft.start p (h.stand keys.Start) known);
       goal = λ goal known. goal-within (goal_numbers goal) (known-stands keys.Goal goal_numbers draft.goal goal (h.stand keys.Goal) known);
       step = λ n known. step-within (amount_numbers n) (known-stands keys.Step amount_numbers draft.step n (h.stand keys.Step) known);
+      gamma = gamma-default draft.gamma (h.stand keys.Gamma);
       strips = strips-default draft.strips (h.stand keys.Strips);
       plan = ap (λ ps. is_plan (Listed ps)) (points-given points) ∙ plan;
     }

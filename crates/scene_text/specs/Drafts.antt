@@ -30,6 +30,7 @@ given_by_draft draft keys.Obstacle = map corner_numbers draft.obstacles.items
 given_by_draft draft keys.Start = line_numbers point_numbers draft.start
 given_by_draft draft keys.Goal = line_numbers goal_numbers draft.goal
 given_by_draft draft keys.Step = line_numbers amount_numbers draft.step
+given_by_draft draft keys.Gamma = line_numbers amount_numbers draft.gamma
 given_by_draft draft keys.Seed = line_numbers amount_numbers draft.seed
 given_by_draft draft keys.Strips = line_numbers amount_numbers draft.strips
 given_by_draft draft keys.Mark = map point_numbers draft.marks.items

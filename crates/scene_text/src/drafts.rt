@@ -16,8 +16,8 @@ use crate::key_words::{fits_words, is_supported, key_of, most_corners, most_line
 use crate::line_words::{are_numbers, count_words, next_word};
 use crate::refusals::LineRefusal;
 use plan_model::{
-    Goal, Key, Kind, LEAST_SIDE, LEAST_STEP, LEAST_STRIPS, MOST_STEP, MOST_STRIPS, Marks, Point,
-    Points, Poly, Polys, Scene, Vertex,
+    Goal, Key, Kind, LEAST_SIDE, LEAST_STEP, LEAST_STRIPS, MOST_GAMMA, MOST_STEP, MOST_STRIPS,
+    Marks, Point, Points, Poly, Polys, Scene, Vertex,
 };
 use std::alloc::{AllocError, Global};
 
@@ -34,6 +34,7 @@ pub(crate) struct Draft {
     start: Option<Point>,
     goal: Option<Goal>,
     step: Option<u32>,
+    gamma: Option<u32>,
     seed: Option<u64>,
     strips: Option<u32>,
     marks: Vec<Point>,
@@ -75,6 +76,7 @@ impl Draft {
             start: None,
             goal: None,
             step: None,
+            gamma: None,
             seed: None,
             strips: None,
             marks: Vec::new(alloc),
@@ -92,10 +94,11 @@ impl Draft {
             Key::Start => usize::from(self.start.is_some()),
             Key::Goal => usize::from(self.goal.is_some()),
             Key::Step => usize::from(self.step.is_some()),
+            Key::Gamma => usize::from(self.gamma.is_some()),
             Key::Seed => usize::from(self.seed.is_some()),
             Key::Strips => usize::from(self.strips.is_some()),
             Key::Mark => self.marks.len(),
-            Key::Gamma | Key::Marks => 0,
+            Key::Marks => 0,
         }
     }
 
@@ -169,12 +172,13 @@ impl Draft {
             Key::Step => self.step = Some(
                 read_amount(words, LEAST_STEP.into(), MOST_STEP.into())? as u32,
             ),
+            Key::Gamma => self.gamma = Some(read_amount(words, 0, MOST_GAMMA.into())? as u32),
             Key::Seed => self.seed = Some(read_amount(words, 0, u64::MAX)?),
             Key::Strips => self.strips = Some(
                 read_amount(words, LEAST_STRIPS.into(), MOST_STRIPS.into())? as u32,
             ),
             Key::Mark => self.marks.push(read_point(words, 0)?)?,
-            Key::Gamma | Key::Marks => unreachable!(),
+            Key::Marks => unreachable!(),
         }
         Ok(())
     }
@@ -242,7 +246,7 @@ impl Draft {
             start,
             goal,
             step,
-            gamma: 0,
+            gamma: self.gamma.unwrap_or(0),
             seed: self.seed.unwrap_or(0),
             strips: self.strips.unwrap_or(1),
             plan: Marks::Listed(Points::from_vec(self.marks)),

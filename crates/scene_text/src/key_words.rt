@@ -40,6 +40,7 @@ pub(crate) fn is_supported(key: Key) -> bool
             | Key::Start
             | Key::Goal
             | Key::Step
+            | Key::Gamma
             | Key::Seed
             | Key::Strips
             | Key::Mark

@@ -1,5 +1,5 @@
 -- Texts that are refused, and a text that spells a scene.
-use Rattle.std.specs.Prelude.{◌≡◌, List, ℕ, [], ◌∷◌, codes}
+use Rattle.std.specs.Prelude.{◌≡◌, List, ℕ, [], ◌∷◌, ◌++◌, codes}
 use Rattle.plan_model.specs.declared.scenes.Scene.{Scene}
 use Rattle.plan_model.specs.declared.scenes.Marks.TheVariants.{Listed}
 use Rattle.plan_model.specs.declared.text_terms.Kind.TheVariants as kinds
@@ -11,7 +11,7 @@ pub record RefusalVectors : Type 0 where
   pub empty_text : Refused supported [] 1 kinds.Version
   pub other_version : Refused supported (codes "# a scene\n\nprrt 2\n") 3 kinds.Version
   pub not_a_key : Refused supported (codes "prrt 1\nroom 10 10\nstar\n") 3 kinds.Key
-  pub not_supported : Refused supported (codes "prrt 1\nroom 10 10\ngamma 0\n") 3 kinds.Unbuilt
+  pub not_supported : Refused supported (codes "prrt 1\nroom 10 10\nmarks 0\n") 3 kinds.Unbuilt
   pub repeated : Refused supported (codes "prrt 1\nroom 10 10\nstep 4\nstep 4\n") 4 kinds.Repeat
   pub word_missing : Refused supported (codes "prrt 1\nroom 10\n") 2 kinds.Words
   pub not_a_number : Refused supported (codes "prrt 1\nroom 10 010\n") 2 kinds.Number
@@ -62,3 +62,21 @@ pub record PolygonSpellingVector : Type 0 where
   pub spelled : Spells supported text_with_polygons scene
   pub body : scene.body ≡ corner_below 1 2 ∷ corner 3 0 ∷ corner 0 4 ∷ []
   pub obstacles : scene.obstacles ≡ (corner 4 4 ∷ corner 6 4 ∷ corner 5 7 ∷ []) ∷ (corner_below 9 2 ∷ corner 3 2 ∷ corner 3 3 ∷ []) ∷ []
+
+abbrev pub text_of_every_field : List ℕ
+text_of_every_field =
+    codes "prrt 1\nstrips 64\nseed 18446744073709551615\ngamma 16777215\nstep 4096\n"
+    ++ codes "body 1 2\nobstacle 4 4 6 4 5 7\nroom 9 9\nstart 0 0\ngoal 1 1 2 2\nmark 3 4\n"
+
+-- the text gives every field, some of them the greatest number that may stand there
+pub record FieldSpellingVector : Type 0 where
+  pub scene : Scene
+  pub spelled : Spells supported text_of_every_field scene
+  pub gamma : scene.gamma ≡ 16777215
+  pub seed : scene.seed ≡ 18446744073709551615
+  pub strips : scene.strips ≡ 64
+  pub plan : scene.plan ≡ Listed (at 3 4 ∷ [])
+  pub canonical :
+      canonical_text scene
+      ≡ codes "prrt 1\nroom 9 9\nbody 1 2\nobstacle 4 4 6 4 5 7\nstart 0 0\ngoal 1 1 2 2\n"
+      ++ codes "step 4096\ngamma 16777215\nseed 18446744073709551615\nstrips 64\nmark 3 4\n"

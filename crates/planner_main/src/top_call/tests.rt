@@ -109,6 +109,54 @@ fn plans_scenes(rt: HostRuntime) -> Result<(), Fail> {
     Ok(())
 }
 
+const WALL_WITH_GAP: &str = "\
+# wall with a gap above
+prrt 1
+room 200 100
+body 0 0 10 0 10 10 0 10
+obstacle 90 0 110 0 110 60 90 60
+start 20 20
+goal 170 10 189 40
+step 120
+gamma 500
+mark 75 65
+mark 115 65
+mark 175 20
+mark 100 30
+";
+
+// The nodes near a new one get it as their parent if they get cheaper.
+#[test]
+fn plans_with_rewiring(rt: HostRuntime) -> Result<(), Fail> {
+    for (shows, text, report) in [
+        (
+            "a node that is rewired",
+            "prrt 1\nroom 100 100\nstart 0 0\ngoal 40 79 40 79\nstep 50\ngamma 1000\nmark 0 50\nmark 40 79\nmark 40 30\n",
+            "path 3 cost 25344\n0 0\n40 30\n40 79\nnodes 4 placed 3 same 0 blocked 0\n",
+        ),
+        (
+            "a node that costs as much through the new one, and keeps its parent",
+            "prrt 1\nroom 100 100\nstart 0 0\ngoal 40 80 40 80\nstep 50\ngamma 1000\nmark 0 50\nmark 40 80\nmark 40 30\n",
+            "path 3 cost 25600\n0 0\n0 50\n40 80\nnodes 4 placed 3 same 0 blocked 0\n",
+        ),
+        (
+            "without gamma no node is near, and none is rewired",
+            "prrt 1\nroom 100 100\nstart 0 0\ngoal 40 79 40 79\nstep 50\nmark 0 50\nmark 40 79\nmark 40 30\n",
+            "path 3 cost 25449\n0 0\n0 50\n40 79\nnodes 4 placed 3 same 0 blocked 0\n",
+        ),
+        (
+            "a wall with a gap above",
+            WALL_WITH_GAP,
+            "path 4 cost 47633\n20 20\n75 65\n115 65\n175 20\nnodes 4 placed 3 same 0 blocked 1\n",
+        ),
+    ] {
+        let (status, written) = answer_to_text(rt.alloc(), &["plain"], text)?;
+        assert_eq!(rt; written.as_str(), report, "{shows}");
+        assert_eq!(rt; status, 0, "{shows}");
+    }
+    Ok(())
+}
+
 #[test]
 fn plans_one_branch_of_a_thousand_nodes(rt: HostRuntime) -> Result<(), Fail> {
     let alloc = rt.alloc();
@@ -382,7 +430,7 @@ fn refuses_texts_with_line_and_kind(rt: HostRuntime) -> Result<(), Fail> {
         ),
         (
             "a key that is not supported",
-            "prrt 1\ngamma 5\n",
+            "prrt 1\nmarks 5\n",
             "line 2 kind 10 Unbuilt\n",
         ),
         ("too few words", "prrt 1\nroom 5\n", "line 2 kind 3 Words\n"),
@@ -431,11 +479,11 @@ fn shows_a_scattered_scene(rt: HostRuntime) -> Result<(), Fail> {
     );
     assert_eq!(rt; status, 0);
     let text =
-        "prrt 1\nseed 7\nmark 3 4\nstrips 5\nroom 9 9\nstart 0 0\ngoal 1 1 2 2\nstep 4\nmark 1 2\n";
+        "prrt 1\nseed 7\nmark 3 4\nstrips 5\ngamma 6\nroom 9 9\nstart 0 0\ngoal 1 1 2 2\nstep 4\nmark 1 2\n";
     let (_, written) = answer_to_text(rt.alloc(), &["show"], text)?;
     assert_eq!(rt;
         written.as_str(),
-        "prrt 1\nroom 9 9\nbody 0 0\nstart 0 0\ngoal 1 1 2 2\nstep 4\ngamma 0\nseed 7\nstrips 5\nmark 3 4\nmark 1 2\n"
+        "prrt 1\nroom 9 9\nbody 0 0\nstart 0 0\ngoal 1 1 2 2\nstep 4\ngamma 6\nseed 7\nstrips 5\nmark 3 4\nmark 1 2\n"
     );
     Ok(())
 }

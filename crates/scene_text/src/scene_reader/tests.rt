@@ -10,8 +10,8 @@ use std::test::Fail;
 const SMALL: &str =
     "# a room\nprrt 1\n\nroom 10 12\nstart 5 6\ngoal 7 8 9 10\nmark 1 2\nstep 4\nmark 3 0";
 
-const SEEDED: &str =
-    "prrt 1\nseed 18446744073709551615\nroom 9 9\nstart 1 1\ngoal 2 2 2 2\nstep 4\nstrips 64\n";
+const GREATEST: &str =
+    "prrt 1\nseed 18446744073709551615\ngamma 16777215\nroom 9 9\nstart 1 1\ngoal 2 2 2 2\nstep 4096\nstrips 64\n";
 
 #[test]
 fn reads_the_fields(rt: HostRuntime) {
@@ -36,11 +36,12 @@ fn reads_the_fields(rt: HostRuntime) {
 }
 
 #[test]
-fn reads_seed_and_strips(rt: HostRuntime) {
-    for (text, seed, strips) in [(SMALL, 0, 1), (SEEDED, u64::MAX, 64)] {
+fn reads_gamma_seed_and_strips(rt: HostRuntime) {
+    for (text, gamma, seed, strips) in [(SMALL, 0, 0, 1), (GREATEST, 16_777_215, u64::MAX, 64)] {
         let scene = read_scene(rt.alloc(), text.as_bytes()).unwrap_or_else(|_| panic!(rt;
             "not read"
         ));
+        assert_eq!(rt; scene.gamma, gamma);
         assert_eq!(rt; scene.seed, seed);
         assert_eq!(rt; scene.strips, strips);
     }
@@ -60,7 +61,11 @@ fn refuses_the_first_fault(rt: HostRuntime) {
         ("prrt 1\nseed 1\nseed 1\n", 3, Kind::Repeat),
         ("prrt 1\nstrips 0\n", 2, Kind::Range),
         ("prrt 1\nstrips 65\n", 2, Kind::Range),
-        ("prrt 1\ngamma 5\n", 2, Kind::Unbuilt),
+        ("prrt 1\ngamma 16777216\n", 2, Kind::Range),
+        ("prrt 1\ngamma -1\n", 2, Kind::Range),
+        ("prrt 1\ngamma 1 1\n", 2, Kind::Words),
+        ("prrt 1\ngamma 0\ngamma 0\n", 3, Kind::Repeat),
+        ("prrt 1\nmarks 5\n", 2, Kind::Unbuilt),
     ] {
         match read_scene(rt.alloc(), text.as_bytes()) {
             Err(refusal) => assert_eq!(rt; refusal, SceneRefusal::Fault(SceneFault { line, kind })),

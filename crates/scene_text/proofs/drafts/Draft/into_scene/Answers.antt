@@ -39,13 +39,17 @@ invariant_of-result-clause-step_high c =
     let known = c.in-Some-Some-Some-Some in
     ((AreWithin-draft c.args.self c.requires).step known.step known.is-3).below
 
+pub invariant_of-result-clause-gamma_high : goal.invariant_of-result-clause-gamma_high
+invariant_of-result-clause-gamma_high c =
+    rw c.unwrap_or.ensures (AreWithin-draft c.args.self c.requires).gamma
+
 pub invariant_of-result-clause-strips_low : goal.invariant_of-result-clause-strips_low
 invariant_of-result-clause-strips_low c =
-    rw c.unwrap_or-2.ensures (AreWithin-draft c.args.self c.requires).strips.above
+    rw c.unwrap_or-3.ensures (AreWithin-draft c.args.self c.requires).strips.above
 
 pub invariant_of-result-clause-strips_high : goal.invariant_of-result-clause-strips_high
 invariant_of-result-clause-strips_high c =
-    rw c.unwrap_or-2.ensures (AreWithin-draft c.args.self c.requires).strips.below
+    rw c.unwrap_or-3.ensures (AreWithin-draft c.args.self c.requires).strips.below
 
 pub invariant_of-result-clause-plan_within : goal.invariant_of-result-clause-plan_within
 invariant_of-result-clause-plan_within c =
@@ -63,8 +67,8 @@ returns-clause-fields c =
       start = known-given point_numbers point_from draft.start known.start known.is-1 refl;
       goal = known-given goal_numbers goal_from draft.goal known.goal known.is-2 refl;
       step = known-given amount_numbers (number_or 0) draft.step known.step known.is-3 refl;
-      gamma = refl;
-      seed = c.unwrap_or.ensures ∙ default-given 0 draft.seed;
-      strips = c.unwrap_or-2.ensures ∙ default-given 1 draft.strips;
+      gamma = c.unwrap_or.ensures ∙ default-given 0 draft.gamma;
+      seed = c.unwrap_or-2.ensures ∙ default-given 0 draft.seed;
+      strips = c.unwrap_or-3.ensures ∙ default-given 1 draft.strips;
       plan = ap Listed (c.from_vec-2.ensures ∙ points-given draft.marks.items);
     }
