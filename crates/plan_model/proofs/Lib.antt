@@ -26,7 +26,6 @@ pub mod StatementNumbers
 pub mod SoundStatements
 pub mod SceneParts
 pub mod GivenScenes
-pub mod SupportedScenes
 pub mod CostLaws
 pub mod TriangleLaw
 pub mod StripLaws

@@ -1,5 +1,5 @@
 -- The grammar of scene texts, version 1: two relations over the list of lines, one for each answer of a reader.
-use Rattle.std.specs.Prelude.{◌≡◌, ℕ, ◌+◌, ◌<◌, Bool, true, false, ℤ, pos, unsigned_abs, ◌⊎◌, Option, Some, None, List, [], ◌∷◌, length, map, take, drop}
+use Rattle.std.specs.Prelude.{◌≡◌, ℕ, ◌+◌, ◌<◌, Bool, true, ℤ, pos, unsigned_abs, ◌⊎◌, Option, Some, None, List, [], ◌∷◌, length, map, take, drop}
 use Rattle.std.specs.Prelude.{get_or}
 use Rattle.plan_model.specs.declared.geometry.Point.{Point}
 use Rattle.plan_model.specs.declared.geometry.Vertex.{Vertex}
@@ -101,20 +101,6 @@ Refused built text number kind =
 
 -- ---- the keys that are supported
 
--- every key
-abbrev pub all_keys : Key → Bool
-all_keys key = true
-
--- the keys that this version of the reader supports
+-- the keys that this version of the reader supports: every key
 abbrev pub supported : Key → Bool
-supported keys.Room = true
-supported keys.Body = true
-supported keys.Obstacle = true
-supported keys.Start = true
-supported keys.Goal = true
-supported keys.Step = true
-supported keys.Gamma = true
-supported keys.Seed = true
-supported keys.Strips = true
-supported keys.Mark = true
-supported key = false
+supported key = true

@@ -5,10 +5,7 @@ ghost use Rattle.std.specs.Prelude.{◌≡◌, ◌≤◌, ◌⊎◌, true, false
 ghost use Rattle.plan_model.specs.ConfigurationSpace.{space_of};
 ghost use Rattle.plan_model.specs.Clearance.{ClearAt};
 ghost use Rattle.plan_model.specs.EmptyRooms.{IsListed};
-ghost use Rattle.plan_model.specs.SceneGrammar.{Spells, supported};
-ghost use Rattle.plan_model.specs.declared.limits.TheConstants.{MOST_TEXT_BYTES};
 ghost use Rattle.scene_text.specs.Fetching.{ReadsWithin};
-ghost use Rattle.scene_text.specs.Refusals.{IsRefusal};
 ghost use Rattle.planner_main.specs.Commands.{command_of, reads_scene};
 ghost use Rattle.planner_main.specs.Conclusions.{IsSuccess, IsCaused, HasScene, ReportsScene, Asks};
 ghost use Rattle.planner_main.specs.Exchanges.{reading_of, IsUnread};
@@ -19,7 +16,7 @@ use crate::reports::short_report;
 use crate::statuses::{DONE, NO_PATH};
 use crate::top_call::Done;
 use plan_model::{Marks, Memory, Points, Scene, Source, Task};
-use scene_text::{SceneRefusal, fetch, read_scene, write_scene};
+use scene_text::{fetch, read_scene, write_scene};
 use seq_planner::textbook;
 use std::alloc::Global;
 use swept_check::Hall;
@@ -114,22 +111,10 @@ fn scene_for<S: Source>(alloc: Global, command: Command, source: &mut S) -> Resu
         (reading_of S.counts_failures_alone S.bytes_left S.has_ended S.fault_count source.old source.new)) }
     ensures refusal { IfErr result (IsCaused (Some command)
         (reading_of S.counts_failures_alone S.bytes_left S.has_ended S.fault_count source.old source.new)) }
-    ensures listed { IfOk result (λ scene. IsListed scene.plan) }
     ensures within { ReadsWithin (S.bytes_left source.old) (S.bytes_left source.new) }
 {
     let text = fetch(alloc, source)?;
-    let scene = spelled_scene(alloc, &text)?;
-    Ok(scene)
-}
-
-// The scene that a text spells. The keys that are supported today give listed marks.
-fn spelled_scene(alloc: Global, text: &[u8]) -> Result<Scene, SceneRefusal>
-    requires { length text.now ≤ MOST_TEXT_BYTES }
-    ensures scene { IfOk result (λ scene. Spells supported text.now scene) }
-    ensures fault { IfErr result (IsRefusal text.now) }
-    ensures listed { IfOk result (λ scene. IsListed scene.plan) }
-{
-    let scene = read_scene(alloc, text)?;
+    let scene = read_scene(alloc, &text)?;
     Ok(scene)
 }
 
@@ -149,7 +134,6 @@ fn hall_for(alloc: Global, scene: &Scene) -> Result<Hall, Refusal>
 
 // The short report of the textbook run of a scene.
 fn report_of(alloc: Global, scene: Scene, hall: &Hall) -> Result<Answer, Memory>
-    requires listed { IsListed scene.plan }
     requires hall { hall.now ≡ space_of scene }
     requires start { ClearAt (space_of scene) scene.start }
     ensures { IfOk result (λ answer. ReportsScene scene answer.done answer.text.items) }

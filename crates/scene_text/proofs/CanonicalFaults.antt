@@ -16,7 +16,7 @@ use Rattle.plan_model.specs.declared.limits.TheConstants.{MOST_MARKS, MOST_OBSTA
 use Rattle.plan_model.specs.Limits.{is_obstacle, is_mark, is_plan}
 use Rattle.plan_model.specs.Keys.{name_of, most_corners, most_lines, rival_of}
 use Rattle.plan_model.specs.LineChecks.{begins_with, given_by, is_inhabited, is_repeated, is_too_many, fault_of_statement}
-use Rattle.plan_model.specs.SceneGrammar.{all_keys}
+use Rattle.plan_model.specs.SceneGrammar.{supported}
 use Rattle.plan_model.specs.CanonicalText.{point_numbers, goal_numbers, corner_numbers, statement, version_statement, obstacle_statement, mark_statement}
 use Rattle.plan_model.specs.CanonicalText.{plan_statements, task_statements, canonical_statements}
 use Rattle.plan_model.proofs.StatementNumbers.{given_by-append}
@@ -55,7 +55,7 @@ record StandsOnce (key : Key) : Type 0 where
 
 -- the statement has no fault if its key does not stand yet
 fault-once : (key : Key) (zs : List ℤ) (before : List (List (List ℕ))) → StandsOnce key → IsFit key zs → ltb (2 * most_corners key) (length zs) ≡ false
-    → given_by before key ≡ [] → fault_of_statement all_keys (given_by before) (statement key zs) ≡ None
+    → given_by before key ≡ [] → fault_of_statement supported (given_by before) (statement key zs) ≡ None
 fault-once key zs before once fit few none =
     let fresh : is_repeated (given_by before) key ≡ false = rw (once.once, once.alone, none) refl in
     let room : is_too_many (given_by before) key (length zs) ≡ false = rw (few, once.once, none) refl in

@@ -16,7 +16,8 @@ use Rattle.plan_model.specs.TextNumbers.{value_of}
 use Rattle.plan_model.specs.Keys.{name_of}
 use Rattle.plan_model.specs.declared.limits.TheConstants.{MOST_MARKS}
 use Rattle.plan_model.specs.LineChecks.{begins_with, given_by, is_inhabited, stands, corners_from}
-use Rattle.plan_model.specs.SceneGrammar.{point_from, goal_from, number_or, plan_from, first_of, fault_of_end, given_after_version, HasFields, Spells, all_keys}
+use Rattle.plan_model.specs.SceneGrammar.{point_from, goal_from, number_or, plan_from, first_of, fault_of_end, given_after_version, HasFields, Spells}
+use Rattle.plan_model.specs.SceneGrammar.{supported}
 use Rattle.plan_model.specs.CanonicalText.{point_numbers, goal_numbers, corner_numbers, obstacle_statement, mark_statement, plan_statements}
 use Rattle.plan_model.specs.CanonicalText.{task_statements, canonical_statements, canonical_text}
 use Rattle.plan_model.proofs.StatementNumbers.{given_by-append}
@@ -129,10 +130,10 @@ statements-canonical scene short =
     ap statements_of (lines_of-text (canonical_statements scene) clean) ∙ statements_of-lines (canonical_statements scene) clean
 
 -- a text that is the canonical one spells the scene
-pub Spells-canonical : (scene : Scene) (text : List ℕ) → scene.seed < 2 ^ 64 → text ≡ canonical_text scene → Spells all_keys text scene
+pub Spells-canonical : (scene : Scene) (text : List ℕ) → scene.seed < 2 ^ 64 → text ≡ canonical_text scene → Spells supported text scene
 Spells-canonical scene text short same =
     let statements = statements-canonical scene short in
-    subst (λ t. Spells all_keys t scene) (sym same) (record {
+    subst (λ t. Spells supported t scene) (sym same) (record {
       sound = IsSoundBelow-text (canonical_statements scene) (clean-canonical scene short) (sound-canonical scene short);
       whole = ap fault_of_end statements ∙ whole-canonical scene;
       fields = subst (λ sts. HasFields (given_after_version sts) scene) (sym statements) (HasFields-canonical scene short);

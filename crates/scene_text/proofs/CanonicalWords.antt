@@ -13,7 +13,7 @@ use Rattle.plan_model.specs.TextNumbers.{is_number, value_of}
 use Rattle.plan_model.specs.Keys.{name_of, least_of, most_of, fits_words}
 use Rattle.plan_model.specs.LineChecks.{is_repeated, is_too_many, is_in_range, is_ordered, are_between, has_corners, first_failing, fault_at_key}
 use Rattle.plan_model.specs.LineChecks.{fault_of_statement, Given}
-use Rattle.plan_model.specs.SceneGrammar.{all_keys}
+use Rattle.plan_model.specs.SceneGrammar.{supported}
 use Rattle.plan_model.specs.CanonicalText.{statement}
 use Rattle.plan_model.proofs.StatementNumbers.{key_of-name}
 use Rattle.scene_text.proofs.StatementTexts.{both, is_word, is_clean}
@@ -102,12 +102,12 @@ checked-none repeated fits many numbers ranged corners a b c d e f = rw (a, b, c
 
 -- a statement whose numbers may stand there has no fault
 pub fault-none : (key : Key) (zs : List ℤ) (given : Given) → IsFit key zs → is_repeated given key ≡ false → is_too_many given key (length zs) ≡ false
-    → fault_of_statement all_keys given (statement key zs) ≡ None
+    → fault_of_statement supported given (statement key zs) ≡ None
 fault-none key zs given h fresh few =
     let words = map signed_decimal zs in
     let count : length words ≡ length zs = length-map zs signed_decimal in
     let values : map value_of words ≡ zs = values-decimal zs (short-ranged key zs h.ranged) in
-    ap (λ found. fault_at_key all_keys given found words) (key_of-name key)
+    ap (λ found. fault_at_key supported given found words) (key_of-name key)
     ∙ checked-none (is_repeated given key) (fits_words key (length words)) (is_too_many given key (length words)) (list_all is_number words)
     (is_in_range key (map value_of words)) (has_corners key (map value_of words)) fresh (ap (fits_words key) count ∙ h.words)
     (ap (λ n. is_too_many given key n) count ∙ few) (numbers-decimal zs (short-ranged key zs h.ranged)) (ap (is_in_range key) values ∙ h.ranged)

@@ -5,13 +5,12 @@ use Rattle.std.proofs.lemmas.List.Elements.{All-head}
 use Rattle.plan_model.specs.declared.geometry.Point.{Point}
 use Rattle.plan_model.specs.declared.geometry.Vertex.{Vertex}
 use Rattle.plan_model.specs.declared.geometry.Goal.{Goal}
-use Rattle.plan_model.specs.declared.scenes.Marks.TheVariants.{Listed}
 use Rattle.plan_model.specs.declared.text_terms.Key.{Key}
 use Rattle.plan_model.specs.declared.text_terms.Key.TheVariants as keys
 use Rattle.plan_model.specs.declared.limits.TheConstants.{LEAST_SIDE, LEAST_STEP, MOST_GAMMA, MOST_SIDE, MOST_STEP, MOST_STRIPS}
 use Rattle.plan_model.specs.Limits.{IsBetween, IsGoal, is_body, are_obstacles, is_plan}
 use Rattle.plan_model.specs.LineChecks.{corners_from, MayStand, AllMayStand}
-use Rattle.plan_model.specs.SceneGrammar.{first_of, number_or, point_from, body_from}
+use Rattle.plan_model.specs.SceneGrammar.{first_of, number_or, point_from, body_from, plan_from}
 use Rattle.plan_model.specs.CanonicalText.{point_numbers, goal_numbers, corner_numbers}
 use Rattle.plan_model.proofs.SceneParts.{IsWithin, room-within, body-within, start-within, goal-within, step-within, gamma-within, strips-within}
 use Rattle.plan_model.proofs.SceneParts.{plan-within}
@@ -75,14 +74,13 @@ pub record AreWithin (draft : Draft) : Type 0 where
   pub step : (n : ℕ) → draft.step ≡ Some n → IsWithin LEAST_STEP MOST_STEP n
   pub gamma : unwrap_or draft.gamma 0 ≤ MOST_GAMMA
   pub strips : IsWithin 1 MOST_STRIPS (unwrap_or draft.strips 1)
-  pub plan : is_plan (Listed draft.marks.items) ≡ true
+  pub plan : is_plan (plan_from (line_numbers amount_numbers draft.drawn) (map point_numbers draft.marks.items)) ≡ true
 
 -- what may stand gives fields in their ranges
 pub AreWithin-draft : (draft : Draft) → AllMayStand (given_by_draft draft) → AreWithin draft
 AreWithin-draft draft h =
     let polygons = draft.obstacles.items in
     let points = draft.marks.items in
-    let plan = plan-within [] (map point_numbers points) (h.stand keys.Marks) (h.stand keys.Mark) (h.few keys.Mark) in
     record {
       room = λ p known. room-within (point_numbers p) (known-stands keys.Room point_numbers draft.room p (h.stand keys.Room) known);
       body = body-within (line_numbers corner_numbers draft.body) (h.stand keys.Body);
@@ -93,5 +91,5 @@ AreWithin-draft draft h =
       step = λ n known. step-within (amount_numbers n) (known-stands keys.Step amount_numbers draft.step n (h.stand keys.Step) known);
       gamma = gamma-default draft.gamma (h.stand keys.Gamma);
       strips = strips-default draft.strips (h.stand keys.Strips);
-      plan = ap (λ ps. is_plan (Listed ps)) (points-given points) ∙ plan;
+      plan = plan-within (line_numbers amount_numbers draft.drawn) (map point_numbers points) (h.stand keys.Marks) (h.stand keys.Mark) (h.few keys.Mark);
     }

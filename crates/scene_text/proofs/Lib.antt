@@ -14,3 +14,4 @@ pub mod CanonicalWords
 pub mod CanonicalNumbers
 pub mod CanonicalFaults
 pub mod CanonicalFields
+pub mod CanonicalLengths

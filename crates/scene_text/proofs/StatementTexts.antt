@@ -10,7 +10,7 @@ use Rattle.plan_model.specs.ReportText.{line}
 use Rattle.plan_model.specs.TextLines.{lines_of, pieces_of, words_of, is_skipped, statements_of}
 use Rattle.plan_model.specs.LineChecks.{fault_after}
 use Rattle.plan_model.specs.declared.text_terms.Kind.{Kind}
-use Rattle.plan_model.specs.SceneGrammar.{is_version_read, given_after_version, fault_of_line, IsSoundBelow, all_keys}
+use Rattle.plan_model.specs.SceneGrammar.{is_version_read, given_after_version, fault_of_line, IsSoundBelow, supported}
 
 -- ---- words
 
@@ -153,14 +153,14 @@ fault_of_line-statement built statements i h below =
 abbrev pub AreSound : List (List (List ℕ)) → List (List (List ℕ)) → Type 0
 AreSound before [] = Unit {0}
 AreSound before (words ∷ statements) =
-    (fault_after_statements all_keys before words ≡ None) × AreSound (before ++ words ∷ []) statements
+    (fault_after_statements supported before words ≡ None) × AreSound (before ++ words ∷ []) statements
 
 sound-at : (before statements : List (List (List ℕ))) (i : ℕ) → AreSound before statements → i < length statements
-    → fault_after_statements all_keys (before ++ take i statements) (get_or statements i []) ≡ None
+    → fault_after_statements supported (before ++ take i statements) (get_or statements i []) ≡ None
 sound-at before [] i h below = absurd (omega arith)
 sound-at before (words ∷ statements) zero h below = rw (append-nil before) h.0
 sound-at before (words ∷ statements) (suc i) h below =
-    ap (λ prefix. fault_after_statements all_keys prefix (get_or statements i [])) (sym (append_assoc before (words ∷ []) (take i statements)))
+    ap (λ prefix. fault_after_statements supported prefix (get_or statements i [])) (sym (append_assoc before (words ∷ []) (take i statements)))
     ∙ sound-at (before ++ words ∷ []) statements i h.1 (omega arith)
 
 pub AreSound-append : (before xs ys : List (List (List ℕ))) → AreSound before xs → AreSound (before ++ xs) ys → AreSound before (xs ++ ys)
@@ -170,8 +170,8 @@ AreSound-append before (words ∷ xs) ys h k =
 
 -- no line of the text has a fault
 pub IsSoundBelow-text : (statements : List (List (List ℕ))) → list_all is_clean statements ≡ true → AreSound [] statements
-    → IsSoundBelow all_keys (lines_of (flat_map line statements)) (length (lines_of (flat_map line statements)))
+    → IsSoundBelow supported (lines_of (flat_map line statements)) (length (lines_of (flat_map line statements)))
 IsSoundBelow-text statements clean sound =
-    subst (λ lines. IsSoundBelow all_keys lines (length lines)) (sym (lines_of-text statements clean))
-    (λ i below. let within : i < length statements = omega (arith, length-map statements line_of) in fault_of_line-statement all_keys statements i clean
+    subst (λ lines. IsSoundBelow supported lines (length lines)) (sym (lines_of-text statements clean))
+    (λ i below. let within : i < length statements = omega (arith, length-map statements line_of) in fault_of_line-statement supported statements i clean
     within ∙ sound-at [] statements i sound within)

@@ -6,9 +6,9 @@ ghost use Rattle.plan_model.specs.TextNumbers.{value_of};
 ghost use Rattle.plan_model.specs.Keys.{name_of};
 ghost use Rattle.plan_model.specs.LineChecks.{given_by, with_statement, stands, is_repeated, is_too_many, first_failing, number_checks, checks_of};
 ghost use Rattle.plan_model.specs.LineChecks.{is_version, fault_of_statement, fault_of_words, fault_at_end, AllMayStand};
-ghost use Rattle.plan_model.specs.SceneGrammar.{supported, body_from, HasFields};
-ghost use Rattle.plan_model.specs.CanonicalText.{corner_numbers};
-ghost use Rattle.scene_text.specs.Drafts.{line_numbers};
+ghost use Rattle.plan_model.specs.SceneGrammar.{supported, body_from, plan_from, HasFields};
+ghost use Rattle.plan_model.specs.CanonicalText.{point_numbers, corner_numbers};
+ghost use Rattle.scene_text.specs.Drafts.{line_numbers, amount_numbers};
 ghost use Rattle.scene_text.specs.Refusals.{IsLineRefusal};
 
 use crate::field_words::{read_amount, read_body, read_goal, read_obstacle, read_point};
@@ -16,12 +16,12 @@ use crate::key_words::{fits_words, is_supported, key_of, most_corners, most_line
 use crate::line_words::{are_numbers, count_words, next_word};
 use crate::refusals::LineRefusal;
 use plan_model::{
-    Goal, Key, Kind, LEAST_SIDE, LEAST_STEP, LEAST_STRIPS, MOST_GAMMA, MOST_STEP, MOST_STRIPS,
-    Marks, Point, Points, Poly, Polys, Scene, Vertex,
+    Goal, Key, Kind, LEAST_SIDE, LEAST_STEP, LEAST_STRIPS, MOST_GAMMA, MOST_MARKS, MOST_STEP,
+    MOST_STRIPS, Marks, Point, Points, Poly, Polys, Scene, Vertex,
 };
 use std::alloc::{AllocError, Global};
 
-/// What the lines so far give: a field for each key that is supported.
+/// What the lines so far give: a field for each key.
 ///
 /// It stands for the numbers of those lines, by their keys, and has nothing else. So the checks of the next line are
 /// those of the grammar over these numbers.
@@ -37,6 +37,7 @@ pub(crate) struct Draft {
     gamma: Option<u32>,
     seed: Option<u64>,
     strips: Option<u32>,
+    drawn: Option<u32>,
     marks: Vec<Point>,
 }
 
@@ -60,6 +61,16 @@ fn body_or_origin(alloc: Global, body: Option<Poly>) -> Result<Poly, AllocError>
     }
 }
 
+// The plan: so many drawn marks if there is a line for them, or else the listed ones.
+fn plan_of(drawn: Option<u32>, listed: Vec<Point>) -> Marks
+    ensures { result ≡ plan_from (line_numbers amount_numbers drawn) (map point_numbers listed.items) }
+{
+    match drawn {
+        Some(count) => Marks::Drawn(count),
+        None => Marks::Listed(Points::from_vec(listed)),
+    }
+}
+
 impl Draft {
     ghost use Rattle.scene_text.specs.Drafts.{given_by_draft, IsFormed, TakesLine};
 
@@ -79,6 +90,7 @@ impl Draft {
             gamma: None,
             seed: None,
             strips: None,
+            drawn: None,
             marks: Vec::new(alloc),
         }
     }
@@ -97,8 +109,8 @@ impl Draft {
             Key::Gamma => usize::from(self.gamma.is_some()),
             Key::Seed => usize::from(self.seed.is_some()),
             Key::Strips => usize::from(self.strips.is_some()),
+            Key::Marks => usize::from(self.drawn.is_some()),
             Key::Mark => self.marks.len(),
-            Key::Marks => 0,
         }
     }
 
@@ -177,8 +189,8 @@ impl Draft {
             Key::Strips => self.strips = Some(
                 read_amount(words, LEAST_STRIPS.into(), MOST_STRIPS.into())? as u32,
             ),
+            Key::Marks => self.drawn = Some(read_amount(words, 0, MOST_MARKS.into())? as u32),
             Key::Mark => self.marks.push(read_point(words, 0)?)?,
-            Key::Marks => unreachable!(),
         }
         Ok(())
     }
@@ -249,7 +261,7 @@ impl Draft {
             gamma: self.gamma.unwrap_or(0),
             seed: self.seed.unwrap_or(0),
             strips: self.strips.unwrap_or(1),
-            plan: Marks::Listed(Points::from_vec(self.marks)),
+            plan: plan_of(self.drawn, self.marks),
         })
     }
 }

@@ -28,23 +28,23 @@ pub(crate) fn key_of(word: &[u8]) -> Option<Key>
     }
 }
 
-/// Whether this version of the reader supports the key.
+/// Whether this version of the reader supports the key. It supports each key today.
 pub(crate) fn is_supported(key: Key) -> bool
     ensures { result ≡ supported key }
 {
-    matches!(
-        key,
+    match key {
         Key::Room
-            | Key::Body
-            | Key::Obstacle
-            | Key::Start
-            | Key::Goal
-            | Key::Step
-            | Key::Gamma
-            | Key::Seed
-            | Key::Strips
-            | Key::Mark
-    )
+        | Key::Body
+        | Key::Obstacle
+        | Key::Start
+        | Key::Goal
+        | Key::Step
+        | Key::Gamma
+        | Key::Seed
+        | Key::Strips
+        | Key::Marks
+        | Key::Mark => true,
+    }
 }
 
 /// Whether so many words may stand after the key.

@@ -3,13 +3,15 @@
 //! A text is read line by line: each line is cut into words, and its checks are made over what the lines before it give.
 //! The grammar is a relation over the list of lines, in `plan_model`. `read_scene` returns the one scene that the text
 //! spells by the grammar, or the first line that fails a check, with the first check that it fails. `write_scene` returns
-//! the canonical text of a scene, and that text spells the scene. `fetch` reads a whole text from a source.
+//! the canonical text of a scene, and that text spells the scene, so that it is read again as the same one (`laws`).
+//! `fetch` reads a whole text from a source.
 #![tactic(auto)]
 
 mod drafts;
 mod fetching;
 mod field_words;
 mod key_words;
+pub mod laws;
 mod line_words;
 mod number_words;
 mod refusals;

@@ -1,10 +1,11 @@
 //! The writer of a scene's canonical text.
 
-ghost use Rattle.std.specs.Prelude.{◌≡◌, ◌<◌, ◌^◌, ◌∷◌, ◌++◌, map, flat_map, string_bytes, IfOk, OnOk};
+ghost use Rattle.std.specs.Prelude.{◌≡◌, ◌<◌, ◌≤◌, ◌^◌, ◌∷◌, ◌++◌, length, map, flat_map, string_bytes, IfOk, OnOk};
 ghost use Rattle.std.specs.Fmt.{signed_decimal};
 ghost use Rattle.plan_model.specs.CanonicalText.{canonical_text, corner_numbers, obstacle_statement, mark_statement, plan_statements, task_statements};
 ghost use Rattle.plan_model.specs.ReportText.{line};
-ghost use Rattle.plan_model.specs.SceneGrammar.{Spells, all_keys};
+ghost use Rattle.plan_model.specs.SceneGrammar.{Spells, supported};
+ghost use Rattle.plan_model.specs.declared.limits.TheConstants.{MOST_TEXT_BYTES};
 
 use plan_model::{Marks, Memory, Point, Poly, Scene, Vertex};
 use std::alloc::{AllocError, Global};
@@ -15,8 +16,9 @@ use std::alloc::{AllocError, Global};
 /// The error is `Memory` if the program is out of memory.
 pub fn write_scene(alloc: Global, scene: &Scene) -> Result<Vec<u8>, Memory>
     ensures text { IfOk result (λ text. text.items ≡ canonical_text scene.now) }
-    // read with every key supported, it spells this scene
-    ensures spells { IfOk result (λ text. Spells all_keys text.items scene.now) }
+    // read again, it gives this scene
+    ensures spells { IfOk result (λ text. Spells supported text.items scene.now) }
+    ensures fits { IfOk result (λ text. length text.items ≤ MOST_TEXT_BYTES) }
 {
     let mut text = String::new(alloc);
     write!(text, "prrt 1\nroom {} {}\n", scene.room.x, scene.room.y)?;

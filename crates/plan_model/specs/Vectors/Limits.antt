@@ -6,15 +6,15 @@ use Rattle.plan_model.specs.declared.text_terms.Kind.TheVariants as kinds
 use Rattle.plan_model.specs.TextLines.{words_of}
 use Rattle.plan_model.specs.Keys.{most_lines}
 use Rattle.plan_model.specs.LineChecks.{given_by, fault_of_statement, is_too_many}
-use Rattle.plan_model.specs.SceneGrammar.{all_keys}
+use Rattle.plan_model.specs.SceneGrammar.{supported}
 
--- the fault of a line right after the version, if every key is supported
+-- the fault of a line right after the version
 abbrev pub fault_alone : List ℕ → Option Kind
-fault_alone line = fault_of_statement all_keys (given_by []) (words_of line)
+fault_alone line = fault_of_statement supported (given_by []) (words_of line)
 
 -- the same of a line of a key and so many words `x`
 abbrev pub fault_of_xs : List ℕ → ℕ → Option Kind
-fault_of_xs key n = fault_of_statement all_keys (given_by []) (key ∷ replicate n (codes "x"))
+fault_of_xs key n = fault_of_statement supported (given_by []) (key ∷ replicate n (codes "x"))
 
 pub record LimitVectors : Type 0 where
   -- the least and the greatest numbers of each key, and the numbers just beyond

@@ -1,9 +1,9 @@
 -- Texts that are refused, and a text that spells a scene.
-use Rattle.std.specs.Prelude.{◌≡◌, List, ℕ, [], ◌∷◌, ◌++◌, codes}
+use Rattle.std.specs.Prelude.{◌≡◌, false, List, ℕ, [], ◌∷◌, ◌++◌, codes}
 use Rattle.plan_model.specs.declared.scenes.Scene.{Scene}
-use Rattle.plan_model.specs.declared.scenes.Marks.TheVariants.{Listed}
+use Rattle.plan_model.specs.declared.scenes.Marks.TheVariants.{Drawn, Listed}
 use Rattle.plan_model.specs.declared.text_terms.Kind.TheVariants as kinds
-use Rattle.plan_model.specs.SceneGrammar.{all_keys, supported, Refused, Spells}
+use Rattle.plan_model.specs.SceneGrammar.{supported, Refused, Spells}
 use Rattle.plan_model.specs.CanonicalText.{canonical_text}
 use Rattle.plan_model.specs.Vectors.Shapes.{at, corner, corner_below}
 
@@ -11,7 +11,8 @@ pub record RefusalVectors : Type 0 where
   pub empty_text : Refused supported [] 1 kinds.Version
   pub other_version : Refused supported (codes "# a scene\n\nprrt 2\n") 3 kinds.Version
   pub not_a_key : Refused supported (codes "prrt 1\nroom 10 10\nstar\n") 3 kinds.Key
-  pub not_supported : Refused supported (codes "prrt 1\nroom 10 10\nmarks 0\n") 3 kinds.Unbuilt
+  -- with a table that supports no key
+  pub not_supported : Refused (λ key. false) (codes "prrt 1\nroom 10 10\n") 2 kinds.Unbuilt
   pub repeated : Refused supported (codes "prrt 1\nroom 10 10\nstep 4\nstep 4\n") 4 kinds.Repeat
   pub word_missing : Refused supported (codes "prrt 1\nroom 10\n") 2 kinds.Words
   pub not_a_number : Refused supported (codes "prrt 1\nroom 10 010\n") 2 kinds.Number
@@ -22,14 +23,14 @@ pub record RefusalVectors : Type 0 where
   pub body_of_two_corners : Refused supported (codes "prrt 1\nbody 0 0 1 0\n") 2 kinds.Words
   pub body_twice : Refused supported (codes "prrt 1\nbody 0 0\nbody 1 1\n") 3 kinds.Repeat
   pub three_in_a_line : Refused supported (codes "prrt 1\nbody 0 0 5 0 9 0 9 9\n") 2 kinds.Corners
-  pub drawn_and_listed : Refused all_keys (codes "prrt 1\nmarks 5\nmark 1 1\n") 3 kinds.Repeat
+  pub drawn_and_listed : Refused supported (codes "prrt 1\nmarks 5\nmark 1 1\n") 3 kinds.Repeat
   pub missing : Refused supported (codes "prrt 1\nroom 10 10\nstart 5 5\nstep 4\n") 5 kinds.Missing
   pub comments_alone : Refused supported (codes "# a\n\n  # b") 4 kinds.Version
   pub third_word : Refused supported (codes "prrt 1 1\n") 1 kinds.Version
   pub version_again : Refused supported (codes "prrt 1\nprrt 1\n") 2 kinds.Key
   pub version_alone : Refused supported (codes "prrt 1") 2 kinds.Missing
-  pub listed_and_drawn : Refused all_keys (codes "prrt 1\nmark 1 1\nmarks 5\n") 3 kinds.Repeat
-  pub first_of_two_faults : Refused all_keys (codes "prrt 1\nroom 0 1\nstar\n") 2 kinds.Range
+  pub listed_and_drawn : Refused supported (codes "prrt 1\nmark 1 1\nmarks 5\n") 3 kinds.Repeat
+  pub first_of_two_faults : Refused supported (codes "prrt 1\nroom 0 1\nstar\n") 2 kinds.Range
 
 abbrev pub sound_text : List ℕ
 sound_text =
@@ -66,7 +67,7 @@ pub record PolygonSpellingVector : Type 0 where
 abbrev pub text_of_every_field : List ℕ
 text_of_every_field =
     codes "prrt 1\nstrips 64\nseed 18446744073709551615\ngamma 16777215\nstep 4096\n"
-    ++ codes "body 1 2\nobstacle 4 4 6 4 5 7\nroom 9 9\nstart 0 0\ngoal 1 1 2 2\nmark 3 4\n"
+    ++ codes "body 1 2\nobstacle 4 4 6 4 5 7\nroom 9 9\nstart 0 0\ngoal 1 1 2 2\nmarks 262143\n"
 
 -- the text gives every field, some of them the greatest number that may stand there
 pub record FieldSpellingVector : Type 0 where
@@ -75,8 +76,8 @@ pub record FieldSpellingVector : Type 0 where
   pub gamma : scene.gamma ≡ 16777215
   pub seed : scene.seed ≡ 18446744073709551615
   pub strips : scene.strips ≡ 64
-  pub plan : scene.plan ≡ Listed (at 3 4 ∷ [])
+  pub plan : scene.plan ≡ Drawn 262143
   pub canonical :
       canonical_text scene
       ≡ codes "prrt 1\nroom 9 9\nbody 1 2\nobstacle 4 4 6 4 5 7\nstart 0 0\ngoal 1 1 2 2\n"
-      ++ codes "step 4096\ngamma 16777215\nseed 18446744073709551615\nstrips 64\nmark 3 4\n"
+      ++ codes "step 4096\ngamma 16777215\nseed 18446744073709551615\nstrips 64\nmarks 262143\n"

@@ -158,6 +158,27 @@ fn plans_with_rewiring(rt: HostRuntime) -> Result<(), Fail> {
 }
 
 #[test]
+fn plans_over_drawn_marks(rt: HostRuntime) -> Result<(), Fail> {
+    for (shows, text, report) in [
+        (
+            "the first mark of seed 0",
+            "prrt 1\nroom 99 99\nstart 0 0\ngoal 88 43 88 43\nstep 4096\nseed 0\nstrips 1\nmarks 1\n",
+            "path 2 cost 25074\n0 0\n88 43\nnodes 2 placed 1 same 0 blocked 0\n",
+        ),
+        (
+            "no mark",
+            "prrt 1\nroom 99 99\nstart 0 0\ngoal 0 0 9 9\nstep 4\nmarks 0\n",
+            "path 1 cost 0\n0 0\nnodes 1 placed 0 same 0 blocked 0\n",
+        ),
+    ] {
+        let (status, written) = answer_to_text(rt.alloc(), &["plain"], text)?;
+        assert_eq!(rt; written.as_str(), report, "{shows}");
+        assert_eq!(rt; status, 0, "{shows}");
+    }
+    Ok(())
+}
+
+#[test]
 fn plans_one_branch_of_a_thousand_nodes(rt: HostRuntime) -> Result<(), Fail> {
     let alloc = rt.alloc();
     let text = corridor(alloc, 1000)?;
@@ -429,9 +450,19 @@ fn refuses_texts_with_line_and_kind(rt: HostRuntime) -> Result<(), Fail> {
             "line 2 kind 5 Range\n",
         ),
         (
-            "a key that is not supported",
-            "prrt 1\nmarks 5\n",
-            "line 2 kind 10 Unbuilt\n",
+            "a listed mark beside drawn ones",
+            "prrt 1\nmarks 5\nmark 1 1\n",
+            "line 3 kind 6 Repeat\n",
+        ),
+        (
+            "drawn marks beside a listed one",
+            "prrt 1\nmark 1 1\nmarks 5\n",
+            "line 3 kind 6 Repeat\n",
+        ),
+        (
+            "a line of drawn marks without a number",
+            "prrt 1\nmarks\n",
+            "line 2 kind 3 Words\n",
         ),
         ("too few words", "prrt 1\nroom 5\n", "line 2 kind 3 Words\n"),
         (
@@ -484,6 +515,12 @@ fn shows_a_scattered_scene(rt: HostRuntime) -> Result<(), Fail> {
     assert_eq!(rt;
         written.as_str(),
         "prrt 1\nroom 9 9\nbody 0 0\nstart 0 0\ngoal 1 1 2 2\nstep 4\ngamma 6\nseed 7\nstrips 5\nmark 3 4\nmark 1 2\n"
+    );
+    let text = "prrt 1\nmarks 5\nroom 9 9\nstart 0 0\ngoal 1 1 2 2\nstep 4\n";
+    let (_, written) = answer_to_text(rt.alloc(), &["show"], text)?;
+    assert_eq!(rt;
+        written.as_str(),
+        "prrt 1\nroom 9 9\nbody 0 0\nstart 0 0\ngoal 1 1 2 2\nstep 4\ngamma 0\nseed 0\nstrips 1\nmarks 5\n"
     );
     Ok(())
 }

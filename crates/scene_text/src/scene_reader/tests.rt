@@ -48,6 +48,28 @@ fn reads_gamma_seed_and_strips(rt: HostRuntime) {
 }
 
 #[test]
+fn reads_drawn_marks(rt: HostRuntime) {
+    for (text, expected) in [
+        (
+            "prrt 1\nmarks 0\nroom 9 9\nstart 1 1\ngoal 2 2 2 2\nstep 4\n",
+            0,
+        ),
+        (
+            "prrt 1\nroom 9 9\nstart 1 1\ngoal 2 2 2 2\nstep 4\nmarks 262143\n",
+            262_143,
+        ),
+    ] {
+        let scene = read_scene(rt.alloc(), text.as_bytes()).unwrap_or_else(|_| panic!(rt;
+            "not read"
+        ));
+        let Marks::Drawn(count) = scene.plan else {
+            panic!(rt; "no drawn marks");
+        };
+        assert_eq!(rt; count, expected);
+    }
+}
+
+#[test]
 fn refuses_the_first_fault(rt: HostRuntime) {
     for (text, line, kind) in [
         ("prrt 1\nroom 10 10\nstart 5 5\nstep 4\n", 5, Kind::Missing),
@@ -65,7 +87,12 @@ fn refuses_the_first_fault(rt: HostRuntime) {
         ("prrt 1\ngamma -1\n", 2, Kind::Range),
         ("prrt 1\ngamma 1 1\n", 2, Kind::Words),
         ("prrt 1\ngamma 0\ngamma 0\n", 3, Kind::Repeat),
-        ("prrt 1\nmarks 5\n", 2, Kind::Unbuilt),
+        ("prrt 1\nmarks 262144\n", 2, Kind::Range),
+        ("prrt 1\nmarks -1\n", 2, Kind::Range),
+        ("prrt 1\nmarks\n", 2, Kind::Words),
+        ("prrt 1\nmarks 5\nmarks 5\n", 3, Kind::Repeat),
+        ("prrt 1\nmarks 5\nmark 1 1\n", 3, Kind::Repeat),
+        ("prrt 1\nmark 1 1\nmarks 5\n", 3, Kind::Repeat),
     ] {
         match read_scene(rt.alloc(), text.as_bytes()) {
             Err(refusal) => assert_eq!(rt; refusal, SceneRefusal::Fault(SceneFault { line, kind })),

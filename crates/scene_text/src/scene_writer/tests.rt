@@ -1,6 +1,6 @@
-//! Canonical texts of a small scene, and of one with as many obstacles as there may be.
+//! Canonical texts of a small scene, of one with as many obstacles as there may be, and of scenes that are read again.
 
-ghost use Rattle.std.specs.Prelude.{IfOk, IsTrue};
+ghost use Rattle.std.specs.Prelude.{◌≡◌, IfOk, IsTrue};
 ghost use Rattle.plan_model.specs.Limits.{is_obstacle, are_obstacles};
 
 use super::*;
@@ -60,5 +60,35 @@ fn writes_as_many_obstacles_as_there_may_be(rt: HostRuntime) -> Result<(), Fail>
     }
     expected.push_str(AFTER)?;
     assert_eq!(rt; text.as_slice(), expected.as_bytes());
+    Ok(())
+}
+
+// Texts that are canonical already, with a line for each field: drawn marks, and listed ones.
+const DRAWN: &str =
+    "prrt 1\nroom 65535 1\nbody -4096 0 4096 -1 0 4096\nobstacle -131072 0 131071 0 0 131071\nobstacle 4 4 6 4 5 7\n\
+start 65535 0\ngoal 0 1 65535 65535\nstep 4096\ngamma 16777215\nseed 18446744073709551615\nstrips 64\nmarks 262143\n";
+
+const LISTED: &str =
+    "prrt 1\nroom 1 65535\nbody -3 -4\nobstacle 0 0 9 0 9 9\nstart 0 1\ngoal 0 0 0 0\nstep 4\ngamma 1\nseed 1\nstrips 2\n\
+mark 0 0\nmark 65535 65535\nmark 0 0\n";
+
+// The scene that is read from what is written for it.
+fn read_again(alloc: Global, scene: &Scene) -> Result<Scene, Fail>
+    // it is the same
+    ensures { IfOk result (λ again. again ≡ scene.now) }
+{
+    let text = write_scene(alloc, scene)?;
+    let again = read_scene(alloc, &text)?;
+    Ok(again)
+}
+
+#[test]
+fn what_is_written_is_read_again(rt: HostRuntime) -> Result<(), Fail> {
+    for canonical in [DRAWN, LISTED] {
+        let scene = read_scene(rt.alloc(), canonical.as_bytes())?;
+        let again = read_again(rt.alloc(), &scene)?;
+        let text = write_scene(rt.alloc(), &again)?;
+        assert_eq!(rt; text.as_slice(), canonical.as_bytes());
+    }
     Ok(())
 }

@@ -1,7 +1,7 @@
 use Rattle.std.proofs.Common.{[], ◌∷◌, arith, refl}
 use Rattle.std.specs.Fmt.{digits}
 use Rattle.plan_model.specs.declared.scenes.Scene.{Scene}
-use Rattle.plan_model.specs.declared.scenes.Marks.TheVariants.{Listed}
+use Rattle.plan_model.specs.declared.scenes.Marks.TheVariants.{Drawn}
 use Rattle.plan_model.specs.TextLines.{lines_of}
 use Rattle.plan_model.specs.SceneGrammar.{supported}
 use Rattle.plan_model.specs.Vectors.Shapes.{at, corner}
@@ -21,7 +21,7 @@ the_scene = record {
   gamma = 16777215;
   seed = 18446744073709551615;
   strips = 64;
-  plan = Listed (at 3 4 ∷ []);
+  plan = Drawn 262143;
   version_is_one = refl;
   room_within = record { left = omega arith; right = omega arith; bottom = omega arith; top = omega arith };
   body_within = refl;

@@ -1,7 +1,7 @@
-use Rattle.std.proofs.Common.{arith, refl, inr}
+use Rattle.std.proofs.Common.{false, arith, refl, inr}
 use Rattle.std.specs.Prelude.{codes}
 use Rattle.plan_model.specs.TextLines.{lines_of}
-use Rattle.plan_model.specs.SceneGrammar.{all_keys, supported}
+use Rattle.plan_model.specs.SceneGrammar.{supported}
 use Rattle.plan_model.specs.declared.text_terms.Kind.TheVariants as kinds
 use Rattle.plan_model.proofs.Soundness.{are_sound, IsSoundBelow-from_test, refused_at_line}
 use Rattle.plan_model.proofs.vectors.refusals.Goals as goal
@@ -12,7 +12,7 @@ returns c = record {
   empty_text = (0, refl, (λ i h. absurd (omega arith)), inr (refl, refl));
   other_version = refused_at_line supported (codes "# a scene\n\nprrt 2\n") 2 kinds.Version refl (omega arith) refl;
   not_a_key = refused_at_line supported (codes "prrt 1\nroom 10 10\nstar\n") 2 kinds.Key refl (omega arith) refl;
-  not_supported = refused_at_line supported (codes "prrt 1\nroom 10 10\nmarks 0\n") 2 kinds.Unbuilt refl (omega arith) refl;
+  not_supported = refused_at_line (λ key. false) (codes "prrt 1\nroom 10 10\n") 1 kinds.Unbuilt refl (omega arith) refl;
   repeated = refused_at_line supported (codes "prrt 1\nroom 10 10\nstep 4\nstep 4\n") 3 kinds.Repeat refl (omega arith) refl;
   word_missing = refused_at_line supported (codes "prrt 1\nroom 10\n") 1 kinds.Words refl (omega arith) refl;
   not_a_number = refused_at_line supported (codes "prrt 1\nroom 10 010\n") 1 kinds.Number refl (omega arith) refl;
@@ -23,12 +23,12 @@ returns c = record {
   body_of_two_corners = refused_at_line supported (codes "prrt 1\nbody 0 0 1 0\n") 1 kinds.Words refl (omega arith) refl;
   body_twice = refused_at_line supported (codes "prrt 1\nbody 0 0\nbody 1 1\n") 2 kinds.Repeat refl (omega arith) refl;
   three_in_a_line = refused_at_line supported (codes "prrt 1\nbody 0 0 5 0 9 0 9 9\n") 1 kinds.Corners refl (omega arith) refl;
-  drawn_and_listed = refused_at_line all_keys (codes "prrt 1\nmarks 5\nmark 1 1\n") 2 kinds.Repeat refl (omega arith) refl;
+  drawn_and_listed = refused_at_line supported (codes "prrt 1\nmarks 5\nmark 1 1\n") 2 kinds.Repeat refl (omega arith) refl;
   missing = (4, refl, IsSoundBelow-from_test supported (lines_of (codes "prrt 1\nroom 10 10\nstart 5 5\nstep 4\n")) 4 refl, inr (refl, refl));
   comments_alone = (3, refl, IsSoundBelow-from_test supported (lines_of (codes "# a\n\n  # b")) 3 refl, inr (refl, refl));
   third_word = refused_at_line supported (codes "prrt 1 1\n") 0 kinds.Version refl (omega arith) refl;
   version_again = refused_at_line supported (codes "prrt 1\nprrt 1\n") 1 kinds.Key refl (omega arith) refl;
   version_alone = (1, refl, IsSoundBelow-from_test supported (lines_of (codes "prrt 1")) 1 refl, inr (refl, refl));
-  listed_and_drawn = refused_at_line all_keys (codes "prrt 1\nmark 1 1\nmarks 5\n") 2 kinds.Repeat refl (omega arith) refl;
-  first_of_two_faults = refused_at_line all_keys (codes "prrt 1\nroom 0 1\nstar\n") 1 kinds.Range refl (omega arith) refl;
+  listed_and_drawn = refused_at_line supported (codes "prrt 1\nmark 1 1\nmarks 5\n") 2 kinds.Repeat refl (omega arith) refl;
+  first_of_two_faults = refused_at_line supported (codes "prrt 1\nroom 0 1\nstar\n") 1 kinds.Range refl (omega arith) refl;
 }

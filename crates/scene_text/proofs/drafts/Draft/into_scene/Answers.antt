@@ -1,9 +1,8 @@
-use Rattle.std.proofs.Common.{refl, ap, ◌∙◌}
-use Rattle.plan_model.specs.declared.scenes.Marks.TheVariants.{Listed}
+use Rattle.std.proofs.Common.{refl, ◌∙◌}
 use Rattle.plan_model.specs.SceneGrammar.{point_from, goal_from, number_or}
 use Rattle.plan_model.specs.CanonicalText.{point_numbers, goal_numbers}
 use Rattle.scene_text.specs.Drafts.{amount_numbers}
-use Rattle.scene_text.proofs.DraftScenes.{AreWithin-draft, known-given, default-given, polygons-given, points-given}
+use Rattle.scene_text.proofs.DraftScenes.{AreWithin-draft, known-given, default-given, polygons-given}
 use Rattle.scene_text.proofs.drafts.Draft.into_scene.Goals as goal
 
 pub invariant_of-result-clause-room_within : goal.invariant_of-result-clause-room_within
@@ -53,7 +52,7 @@ invariant_of-result-clause-strips_high c =
 
 pub invariant_of-result-clause-plan_within : goal.invariant_of-result-clause-plan_within
 invariant_of-result-clause-plan_within c =
-    rw c.from_vec-2.ensures (AreWithin-draft c.args.self c.requires).plan
+    rw c.plan_of.ensures (AreWithin-draft c.args.self c.requires).plan
 
 pub returns-clause-fields : goal.returns-clause-fields
 returns-clause-fields c =
@@ -70,5 +69,5 @@ returns-clause-fields c =
       gamma = c.unwrap_or.ensures ∙ default-given 0 draft.gamma;
       seed = c.unwrap_or-2.ensures ∙ default-given 0 draft.seed;
       strips = c.unwrap_or-3.ensures ∙ default-given 1 draft.strips;
-      plan = ap Listed (c.from_vec-2.ensures ∙ points-given draft.marks.items);
+      plan = c.plan_of.ensures;
     }

@@ -1,0 +1,8 @@
+use Rattle.std.proofs.Common.{ap, ◌∙◌}
+use Rattle.plan_model.specs.declared.scenes.Marks.TheVariants.{Listed}
+use Rattle.scene_text.proofs.DraftScenes.{points-given}
+use Rattle.scene_text.proofs.drafts.plan_of.Goals as goal
+
+pub returns-in-None : goal.returns-in-None
+returns-in-None c =
+    rw c.in-None.is (ap Listed (c.from_vec.ensures ∙ points-given c.args.listed.items))
