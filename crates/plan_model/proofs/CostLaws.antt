@@ -6,7 +6,7 @@ use Rattle.plan_model.specs.Geometry.{squared_distance}
 use Rattle.plan_model.specs.Cost.{cost_of}
 use Rattle.plan_model.specs.Roots.{root_ceiling}
 use Rattle.plan_model.proofs.RootLaws.{root_ceiling-is}
-use Rattle.plan_model.proofs.GammaZero.{same-from_distance}
+use Rattle.plan_model.proofs.FreePoints.{same-from_distance}
 
 abs_diff-swap : (a b : ℕ) → abs_diff a b ≡ abs_diff b a
 abs_diff-swap a b = omega arith

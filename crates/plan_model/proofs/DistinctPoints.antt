@@ -103,7 +103,7 @@ points_of-rewires space tree n (i ∷ ns) after h r =
     points_of-rewires space r.0 n ns after rest r.2 ∙ here
 
 -- what is within the radius is present
-within_present : (p : Point) (r : ℕ) (o : Option Point) → is_within p r o ≡ true → IsSome o
+pub within_present : (p : Point) (r : ℕ) (o : Option Point) → is_within p r o ≡ true → IsSome o
 within_present p r None h = cc
 within_present p r (Some q) h = refl
 

@@ -10,7 +10,7 @@ use Rattle.plan_model.specs.Cost.{cost_of}
 use Rattle.plan_model.specs.PointsByNumber.{point_at, IsPresent, point_of}
 use Rattle.plan_model.specs.Trees.{node_at, points_of, parent_or_zero, parent_of, sum_of, edge_of, CostsFall, AreTight}
 use Rattle.plan_model.proofs.RootLaws.{root_ceiling-is}
-use Rattle.plan_model.proofs.GammaZero.{same-from_distance}
+use Rattle.plan_model.proofs.FreePoints.{same-from_distance}
 use Rattle.plan_model.proofs.ChainLaws.{sums-tight}
 use Rattle.plan_model.specs.Textbook.{start_alone}
 use Rattle.plan_model.proofs.TreeChanges.{node_at-past}

@@ -14,6 +14,7 @@ pub mod RewiredRun
 pub mod KeptRun
 pub mod RunLaws
 pub mod MarkBounds
+pub mod FreePoints
 pub mod GammaZero
 pub mod ClassLaws
 pub mod RadiusLaws
@@ -35,3 +36,4 @@ pub mod SegmentLaws
 pub mod SpanLaws
 pub mod QuotaLaws
 pub mod DrawnMarks
+pub mod ParentChanges

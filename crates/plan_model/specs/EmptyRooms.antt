@@ -1,19 +1,12 @@
--- Rooms with a point body and no obstacle, listed marks, and trees that lie in a room.
+-- Rooms with a point body and no obstacle, and trees that lie in a room.
 use Rattle.std.specs.Prelude.{ℕ, ◌≤◌, pos, Option, List, [], ◌∷◌}
 use Rattle.plan_model.specs.declared.geometry.Point.{Point}
-use Rattle.plan_model.specs.declared.scenes.Marks.{Marks}
-use Rattle.plan_model.specs.declared.scenes.Marks.TheVariants.{Drawn, Listed}
 use Rattle.plan_model.specs.ConfigurationSpace.{ConfigurationSpace}
 use Rattle.plan_model.specs.PointsByNumber.{StandsAt}
 
 -- the configuration space of a body that is a point, in a room without obstacles
 abbrev pub empty_room : Point → ConfigurationSpace
 empty_room room = record { room = room; body = record { x = pos 0; y = pos 0 } ∷ []; obstacles = [] }
-
--- the marks are listed
-abbrev pub IsListed : Marks → Type 0
-IsListed (Drawn n) = ⊥
-IsListed (Listed points) = Unit {0}
 
 -- the point lies between the origin and the room's upper right corner
 pub record IsInRoom (room p : Point) : Type 0 where

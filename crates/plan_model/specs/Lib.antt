@@ -18,6 +18,7 @@ pub mod PointsByNumber
 pub mod LeastPairs
 pub mod Nearness
 pub mod Trees
+pub mod Branches
 pub mod Outcomes
 pub mod BestNode
 pub mod Textbook

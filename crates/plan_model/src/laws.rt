@@ -1,10 +1,12 @@
 //! Laws of the definitions, each the contract of a function that does nothing.
 
-ghost use Rattle.std.specs.Prelude.{◌≡◌, ℕ, Bool, List, ◌+◌, ◌-◌, ◌*◌, ◌^◌, ◌<◌, ◌≤◌, ◌⊎◌};
+ghost use Rattle.std.specs.Prelude.{◌≡◌, ℕ, Bool, Option, List, [], ◌+◌, ◌-◌, ◌*◌, ◌^◌, ◌<◌, ◌≤◌, ◌⊎◌};
 ghost use Rattle.plan_model.specs.Cost.{cost_of};
 ghost use Rattle.plan_model.specs.Radius.{class_of, radius_of_class};
 ghost use Rattle.plan_model.specs.Roots.{IsRootCeiling, root_ceiling};
 ghost use Rattle.plan_model.specs.SceneGrammar.{Refused, Spells};
+ghost use Rattle.plan_model.specs.PointsByNumber.{IsFree};
+ghost use Rattle.plan_model.specs.Textbook.{Setup, near_new};
 ghost use Rattle.plan_model.specs.declared.geometry.Point.{Point};
 ghost use Rattle.plan_model.specs.declared.scenes.Scene.{Scene};
 ghost use Rattle.plan_model.specs.declared.text_terms.Key.{Key};
@@ -38,6 +40,11 @@ pub fn radius_is_greatest()
     ensures within { (step gamma b : ℕ) → radius_of_class step gamma b ≤ step }
     ensures meets { (step gamma b : ℕ) → radius_of_class step gamma b * radius_of_class step gamma b * 2 ^ (b - 1) ≤ gamma * gamma * b }
     ensures greatest { (step gamma b r : ℕ) → r ≤ step → r * r * 2 ^ (b - 1) ≤ gamma * gamma * b → r ≤ radius_of_class step gamma b }
+{}
+
+/// With gamma 0 no node is near a point at which none stands: the planner is RRT, which chooses no parents and rewires nothing.
+pub fn gamma_0_is_rrt()
+    ensures { (setup : Setup) (points : List (Option Point)) (p : Point) → setup.gamma ≡ 0 → IsFree points p → near_new setup points p ≡ [] }
 {}
 
 /// A text is refused at one line and for one kind, and no text that spells a scene is refused.

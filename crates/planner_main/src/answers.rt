@@ -4,7 +4,6 @@
 ghost use Rattle.std.specs.Prelude.{◌≡◌, ◌≤◌, ◌⊎◌, true, false, length, map, string_bytes, IfOk, IfErr, Some};
 ghost use Rattle.plan_model.specs.ConfigurationSpace.{space_of};
 ghost use Rattle.plan_model.specs.Clearance.{ClearAt};
-ghost use Rattle.plan_model.specs.EmptyRooms.{IsListed};
 ghost use Rattle.scene_text.specs.Fetching.{ReadsWithin};
 ghost use Rattle.planner_main.specs.Commands.{command_of, reads_scene};
 ghost use Rattle.planner_main.specs.Conclusions.{IsSuccess, IsCaused, HasScene, ReportsScene, Asks};
@@ -15,10 +14,11 @@ use crate::refusals::Refusal;
 use crate::reports::short_report;
 use crate::statuses::{DONE, NO_PATH};
 use crate::top_call::Done;
-use plan_model::{Marks, Memory, Points, Scene, Source, Task};
+use plan_model::{Memory, Scene, Source, Task};
 use scene_text::{fetch, read_scene, write_scene};
 use seq_planner::textbook;
 use std::alloc::Global;
+use strip_sampler::marks;
 use swept_check::Hall;
 
 /// The answer of a command that succeeds.
@@ -139,7 +139,9 @@ fn report_of(alloc: Global, scene: Scene, hall: &Hall) -> Result<Answer, Memory>
     ensures { IfOk result (λ answer. ReportsScene scene answer.done answer.text.items) }
 {
     let goal = scene.goal;
-    let task = task_of(alloc, scene)?;
+    // the start is clear, so there is room to draw marks in
+    let marks = marks(alloc, &scene)?;
+    let task = Task { scene, marks };
     let tree = textbook(alloc, task, hall)?;
     let report = short_report(alloc, goal, &tree)?;
     let status = if report.found { DONE } else { NO_PATH };
@@ -147,23 +149,4 @@ fn report_of(alloc: Global, scene: Scene, hall: &Hall) -> Result<Answer, Memory>
         done: Done { status },
         text: report.text,
     })
-}
-
-// The task of a scene with listed marks.
-fn task_of(alloc: Global, scene: Scene) -> Result<Task, Memory>
-    requires { IsListed scene.plan }
-    ensures { IfOk result (λ task. task.scene ≡ scene) }
-{
-    let marks = copy_of_marks(alloc, &scene.plan)?;
-    Ok(Task { scene, marks })
-}
-
-fn copy_of_marks(alloc: Global, plan: &Marks) -> Result<Points, Memory>
-    requires { IsListed plan.now }
-    ensures { IfOk result (λ marks. plan.now ≡ Marks.Listed marks) }
-{
-    match plan {
-        Marks::Listed(points) => Ok(Points::from_vec(Vec::from_slice(alloc, points.as_slice())?)),
-        Marks::Drawn(_) => unreachable!(),
-    }
 }

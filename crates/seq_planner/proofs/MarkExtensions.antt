@@ -1,42 +1,69 @@
--- What a mark adds to a sound tree handles it, by its outcome, and keeps the tree sound.
-use Rattle.std.proofs.Common.{◌≡◌, ℕ, ◌+◌, ◌^◌, ◌<◌, cond, [], ◌∷◌, ◌++◌, length, get_or, Option, Some, None, arith, refl, sym, ap, ◌∙◌, subst}
-use Rattle.std.specs.Prelude.{is_some}
-use Rattle.std.proofs.lemmas.List.{get_or_default}
+-- What a mark adds to a sound tree handles it, by its outcome.
+use Rattle.std.proofs.Common.{◌≡◌, ℕ, suc, ◌+◌, List, [], ◌∷◌, ◌++◌, length, Option, Some, None, arith, refl, sym, ap, ◌∙◌, subst}
+use Rattle.std.specs.Prelude.{All, ◌≢◌}
+use Rattle.std.specs.List.Sorted.{IsStrictlyIncreasing}
+use Rattle.std.proofs.lemmas.List.Elements.{All-nil}
 use Rattle.plan_model.specs.declared.geometry.Point.{Point}
 use Rattle.plan_model.specs.declared.trees.Twig.{Twig}
 use Rattle.plan_model.specs.declared.scenes.Scene.{Scene}
 use Rattle.plan_model.specs.declared.records.Record.{Record}
 use Rattle.plan_model.specs.ConfigurationSpace.{space_of}
 use Rattle.plan_model.specs.Clearance.{Clear}
-use Rattle.plan_model.specs.Cost.{cost_of}
-use Rattle.plan_model.specs.Radius.{class_of}
+use Rattle.plan_model.specs.EmptyRooms.{IsInRoom}
+use Rattle.plan_model.specs.LeastPairs.{IsFirstLeast}
+use Rattle.plan_model.specs.Radius.{class_of, radius_of}
 use Rattle.plan_model.specs.Steering.{steered}
 use Rattle.plan_model.specs.Nearness.{IsNearest}
 use Rattle.plan_model.specs.PointsByNumber.{StandsAt, IsPresent, IsFree, point_of, node_count}
 use Rattle.plan_model.specs.Trees.{points_of}
-use Rattle.plan_model.specs.Textbook.{setup_of, SteersTo, Handles, cost_through, same_record, blocked_record, placed_record}
-use Rattle.plan_model.proofs.ChainLaws.{sums-tight}
+use Rattle.plan_model.specs.Textbook.{Nodes, setup_of, near_new, SteersTo, Rewires, EndsPlaced, Handles, IsCandidate, IsBestParent, cost_through, same_record}
+use Rattle.plan_model.specs.Textbook.{blocked_record, placed_record}
+use Rattle.plan_model.proofs.LeastPairLaws.{IsFirstLeast-among}
 use Rattle.plan_model.proofs.EmptyRoomClearance.{AreInRoom-from_clear}
-use Rattle.plan_model.proofs.GammaZero.{EndsPlaced-nearest}
-use Rattle.plan_model.proofs.NewNodes.{present_below}
+use Rattle.plan_model.proofs.SteeredNodes.{steered-is_nearest}
+use Rattle.plan_model.proofs.DistinctPoints.{near-present}
+use Rattle.plan_model.proofs.NewNodes.{StandsAt-present}
 use Rattle.seq_planner.specs.declared.extensions.Extension.{Extension}
+use Rattle.seq_planner.specs.declared.extensions.Parent.{Parent}
 use Rattle.seq_planner.specs.declared.search_tree.SearchTree.{SearchTree}
-use Rattle.seq_planner.specs.SearchTrees.{IsSound, IsSoundTree, IsExtensionOf}
-use Rattle.seq_planner.proofs.SoundTrees.{IsSound-absent, IsSound-node, Joins}
+use Rattle.seq_planner.specs.SearchTrees.{IsOpenTo, IsParentOf, IsExtensionOf, Fits}
+use Rattle.seq_planner.proofs.ScannedLists.{near-rising}
+use Rattle.seq_planner.proofs.SoundTrees.{IsBounded-in_room}
 
 -- The next mark, of number k, steers from its nearest node, which stands at from, to the point.
 pub record Steers (scene : Scene) (tree : SearchTree) (mark : Point) (k nearest : ℕ) (from point : Point) : Type 0 where
-  pub sound : IsSoundTree scene.room tree
   pub turn : k ≡ length tree.records.items
-  pub is_nearest : IsNearest (points_of tree.nodes.items) mark nearest
-  pub begins : from ≡ point_of (points_of tree.nodes.items) nearest
+  pub numbers : length tree.records.items + 1 ≡ length tree.nodes
+  pub is_nearest : IsNearest (points_of tree.nodes) mark nearest
+  pub begins : from ≡ point_of (points_of tree.nodes) nearest
   pub ends : point ≡ steered from mark scene.step
 
-steers_to :
-    (scene : Scene) (tree : SearchTree) (mark : Point) (k nearest : ℕ) (from point : Point) → Steers scene tree mark k nearest from point
-    → SteersTo (setup_of scene) (points_of tree.nodes.items) mark nearest point
-steers_to scene tree mark k nearest from point h =
-    record { nearest = h.is_nearest; reached = h.ends ∙ ap (λ a. steered a mark scene.step) h.begins }
+module _ (scene : Scene) (tree : SearchTree) (mark : Point) (k nearest : ℕ) (from point : Point) (h : Steers scene tree mark k nearest from point) where
+  points : List (Option Point)
+  points = points_of tree.nodes
+
+  reached : point ≡ steered (point_of (points_of tree.nodes) nearest) mark scene.step
+  reached = h.ends ∙ ap (λ a. steered a mark scene.step) h.begins
+
+  steers_to : SteersTo (setup_of scene) (points_of tree.nodes) mark nearest point
+  steers_to = record { nearest = h.is_nearest; reached = reached }
+
+  -- if the point is the nearest node's own, that node stands there
+  nearest_stands : point ≡ from → StandsAt (points_of tree.nodes) nearest point
+  nearest_stands same =
+      StandsAt-present (points_of tree.nodes) nearest h.is_nearest.member ∙ ap Some (sym (same ∙ h.begins))
+
+  -- otherwise no node does
+  pub IsFree-steered : point ≢ from → IsFree (points_of tree.nodes) point
+  IsFree-steered apart = λ j own.
+      let stands : StandsAt (points_of tree.nodes) j (steered (point_of (points_of tree.nodes) nearest) mark scene.step) = own ∙ ap Some reached in
+      apart (reached ∙ steered-is_nearest (points_of tree.nodes) mark scene.step nearest j h.is_nearest stands ∙ sym h.begins)
+
+  -- a clear segment ends in the room
+  pub IsInRoom-reached : Clear (space_of scene) from point → IsInRoom scene.room point
+  IsInRoom-reached clear = (AreInRoom-from_clear (space_of scene) from point clear).last
+
+-- ---- marks that are not placed
 
 -- The extension has no node, no cost and this record.
 pub record IsUnplaced (extension : Extension) (entry : Record) : Type 0 where
@@ -44,106 +71,153 @@ pub record IsUnplaced (extension : Extension) (entry : Record) : Type 0 where
   pub cost : extension.cost ≡ 0
   pub recorded : extension.entry ≡ entry
 
+fits_none : (nodes : Nodes) (node : Option Twig) (cost : ℕ) → node ≡ None → cost ≡ 0 → Fits nodes node cost
+fits_none nodes o cost e f = (let P : Option Twig → Type 0 = λ n. Fits nodes n cost in subst P (sym e) f)
+
 unplaced :
-    (scene : Scene) (tree : SearchTree) (mark : Point) (extension : Extension) (entry : Record) → IsSoundTree scene.room tree
-    → Handles (setup_of scene) tree.nodes.items (length tree.records.items) mark entry (tree.nodes.items ++ None ∷ [])
-    → IsUnplaced extension entry → IsExtensionOf scene tree mark extension
-unplaced scene tree mark extension entry sound handles h =
+    (scene : Scene) (tree : SearchTree) (mark : Point) (extension : Extension) (entry : Record) (ns : List ℕ) → ns ≡ []
+    → Handles (setup_of scene) tree.nodes (length tree.records.items) mark entry (tree.nodes ++ None ∷ [])
+    → IsUnplaced extension entry → IsExtensionOf scene tree mark extension ns
+unplaced scene tree mark extension entry ns none handles h =
     let k : ℕ = length tree.records.items in
-    let nodes = tree.nodes.items in
-    let costs = tree.costs.items in
-    let E : Record → Type 0 = λ r. Handles (setup_of scene) nodes k mark r (nodes ++ None ∷ []) in
-    let N : Option Twig → Type 0 = λ n. Handles (setup_of scene) nodes k mark extension.entry (nodes ++ n ∷ []) in
-    let C : ℕ → Type 0 = λ c. IsSound scene.room (nodes ++ None ∷ []) (costs ++ c ∷ []) (tree.present + 0) in
-    let S : Option Twig → Type 0 = λ n. IsSound scene.room (nodes ++ n ∷ []) (costs ++ extension.cost ∷ []) (tree.present + cond (is_some n) 1 0) in
+    let E : Record → Nodes → Type 0 = λ r after. Handles (setup_of scene) tree.nodes k mark r after in
+    let put : Option Twig → Nodes = λ node. tree.nodes ++ node ∷ [] in
     record {
-      handles = subst N (sym h.node) (subst E (sym h.recorded) handles);
-      sound = subst S (sym h.node) (subst C (sym h.cost) (IsSound-absent scene.room nodes costs tree.present sound));
+      fits = fits_none tree.nodes extension.node extension.cost h.node h.cost;
+      handles = λ after rewired.
+          let R : List ℕ → Type 0 = λ is. Rewires (space_of scene) (put extension.node) (length tree.nodes) is after in
+          let same : after ≡ put None = subst R none rewired ∙ ap put h.node in
+          subst (λ (r : Record). E r after) (sym h.recorded) (subst (E entry) (sym same) handles);
+      present = subst (All (IsPresent (points_of tree.nodes))) (sym none) (All-nil (IsPresent (points_of tree.nodes)));
+      rising = subst IsStrictlyIncreasing (sym none) (λ i l. absurd (omega arith));
+      in_room = λ node e. (let never : None ≡ Some node = sym h.node ∙ e in cc);
+      none_near = λ e. none;
     }
 
--- a node stands at the point already
-pub IsExtensionOf-same :
-    (scene : Scene) (tree : SearchTree) (mark : Point) (extension : Extension) (k nearest number : ℕ) (from point : Point)
-    → Steers scene tree mark k nearest from point → StandsAt (points_of tree.nodes.items) number point
-    → IsUnplaced extension (same_record k nearest number) → IsExtensionOf scene tree mark extension
-IsExtensionOf-same scene tree mark extension k nearest number from point h stands own =
-    let P : ℕ → Type 0 = λ n. Handles (setup_of scene) tree.nodes.items n mark (same_record k nearest number) (tree.nodes.items ++ None ∷ []) in
-    let ends : P k = record { point = point; steers = steers_to scene tree mark k nearest from point h; stands = stands; recorded = refl; added = refl } in
-    unplaced scene tree mark extension (same_record k nearest number) h.sound (subst P h.turn ends) own
+module _ (scene : Scene) (tree : SearchTree) (mark : Point) (k nearest : ℕ) (from point : Point) (h : Steers scene tree mark k nearest from point) where
+  at_turn : Record → Type 0
+  at_turn entry = Handles (setup_of scene) tree.nodes k mark entry (tree.nodes ++ None ∷ [])
 
--- the segment to the point is not clear
-pub IsExtensionOf-blocked :
-    (scene : Scene) (tree : SearchTree) (mark : Point) (extension : Extension) (k nearest : ℕ) (from point : Point)
-    → Steers scene tree mark k nearest from point → IsFree (points_of tree.nodes.items) point → ¬ Clear (space_of scene) from point
-    → IsUnplaced extension (blocked_record k nearest) → IsExtensionOf scene tree mark extension
-IsExtensionOf-blocked scene tree mark extension k nearest from point h free blocked own =
-    let P : ℕ → Type 0 = λ n. Handles (setup_of scene) tree.nodes.items n mark (blocked_record k nearest) (tree.nodes.items ++ None ∷ []) in
-    let Q : Point → Type 0 = λ p. ¬ Clear (space_of scene) p point in
-    let ends : P k = record {
-      point = point;
-      steers = steers_to scene tree mark k nearest from point h;
-      free = free;
-      blocked = subst Q h.begins blocked;
-      recorded = refl;
-      added = refl;
-    } in
-    unplaced scene tree mark extension (blocked_record k nearest) h.sound (subst P h.turn ends) own
+  -- the nearest node stands at the point already
+  pub IsExtensionOf-same :
+      (extension : Extension) (ns : List ℕ) → ns ≡ [] → point ≡ from → IsUnplaced extension (same_record k nearest nearest)
+      → IsExtensionOf scene tree mark extension ns
+  IsExtensionOf-same extension ns none same own =
+      let P : ℕ → Type 0 = λ n. Handles (setup_of scene) tree.nodes n mark (same_record k nearest nearest) (tree.nodes ++ None ∷ []) in
+      let ends : P k = record {
+        point = point;
+        steers = steers_to scene tree mark k nearest from point h;
+        stands = nearest_stands scene tree mark k nearest from point h same;
+        recorded = refl;
+        added = refl;
+      } in
+      unplaced scene tree mark extension (same_record k nearest nearest) ns none (subst P h.turn ends) own
 
--- the kept cost that was read is the node's
-pub kept_cost :
-    (room : Point) (tree : SearchTree) (n kept : ℕ) → IsSoundTree room tree → IsPresent (points_of tree.nodes.items) n
-    → kept ≡ get_or tree.costs.items n kept → kept ≡ get_or tree.costs.items n 0
-kept_cost room tree n kept sound own e =
-    e ∙ get_or_default tree.costs.items n kept 0 (omega (arith, present_below tree.nodes.items n own, sound.cost_count))
+  -- the segment to the point is not clear
+  pub IsExtensionOf-blocked :
+      (extension : Extension) (ns : List ℕ) → ns ≡ [] → point ≢ from → ¬ Clear (space_of scene) from point
+      → IsUnplaced extension (blocked_record k nearest) → IsExtensionOf scene tree mark extension ns
+  IsExtensionOf-blocked extension ns none apart blocked own =
+      let P : ℕ → Type 0 = λ n. Handles (setup_of scene) tree.nodes n mark (blocked_record k nearest) (tree.nodes ++ None ∷ []) in
+      let Q : Point → Type 0 = λ p. ¬ Clear (space_of scene) p point in
+      let ends : P k = record {
+        point = point;
+        steers = steers_to scene tree mark k nearest from point h;
+        free = IsFree-steered scene tree mark k nearest from point h apart;
+        blocked = subst Q h.begins blocked;
+        recorded = refl;
+        added = refl;
+      } in
+      unplaced scene tree mark extension (blocked_record k nearest) ns none (subst P h.turn ends) own
 
--- The extension is a new node under the nearest, at the cost that is kept of that and the edge, with its record.
-pub record IsPlaced (tree : SearchTree) (extension : Extension) (k nearest : ℕ) (from point : Point) (kept edge class : ℕ) : Type 0 where
-  pub read : kept ≡ get_or tree.costs.items nearest kept
-  pub edge_is : edge ≡ cost_of from point
-  pub low : edge < 2 ^ 29
-  pub class_is : class ≡ class_of tree.present
-  pub node : extension.node ≡ Some (record { point = point; parent = nearest })
-  pub cost : extension.cost ≡ kept + edge
-  pub entry : extension.entry ≡ placed_record k nearest nearest (kept + edge) class
+-- ---- a mark that is placed
 
--- a node is placed at the point
-pub IsExtensionOf-placed :
-    (scene : Scene) (tree : SearchTree) (mark : Point) (extension : Extension) (k nearest : ℕ) (from point : Point) (kept edge class : ℕ)
-    → scene.gamma ≡ 0 → Steers scene tree mark k nearest from point → IsFree (points_of tree.nodes.items) point
-    → Clear (space_of scene) from point → IsPlaced tree extension k nearest from point kept edge class
-    → IsExtensionOf scene tree mark extension
-IsExtensionOf-placed scene tree mark extension k nearest from point kept edge class gamma h free clear own =
-    let nodes = tree.nodes.items in
-    let costs = tree.costs.items in
-    let points = points_of nodes in
-    let node : Twig = record { point = point; parent = nearest } in
-    let present : IsPresent points nearest = h.is_nearest.member in
-    let cost : kept ≡ get_or costs nearest 0 = kept_cost scene.room tree nearest kept h.sound present own.read in
-    let price : edge ≡ cost_of (point_of points nearest) point = own.edge_is ∙ ap (λ a. cost_of a point) h.begins in
-    let sum = sums-tight (λ n. get_or costs n 0) nodes h.sound.falling h.sound.tight nearest present in
-    let through : cost_through nodes point nearest ≡ kept + edge = omega (arith, cost, price, sum) in
-    let Q : Point → Type 0 = λ p. Clear (space_of scene) p point in
-    let ends =
-    EndsPlaced-nearest (setup_of scene) nodes k nearest mark point gamma (steers_to scene tree mark k nearest from point h) free
-    (subst Q h.begins clear) in
-    let H : ℕ → Record → Option Twig → Type 0 = λ n entry new. Handles (setup_of scene) nodes n mark entry (nodes ++ new ∷ []) in
-    let R : ℕ → ℕ → Record = λ sum class. placed_record k nearest nearest sum class in
-    let classed : class ≡ class_of (node_count points) = own.class_is ∙ ap class_of h.sound.counted in
-    let recorded : R (cost_through nodes point nearest) (class_of (node_count points)) ≡ extension.entry =
-    ap (λ sum. R sum (class_of (node_count points))) through ∙ ap (R (kept + edge)) (sym classed) ∙ sym own.entry in
-    let handled : H k extension.entry (Some node) = subst (λ r. H k r (Some node)) recorded ends in
-    let joins : Joins scene.room nodes node edge = record {
-      parent = present;
-      free = free;
-      in_room = (AreInRoom-from_clear (space_of scene) from point clear).last;
-      cost = price;
-      low = own.low;
-    } in
-    let sound = IsSound-node scene.room nodes costs tree.present node edge h.sound joins in
-    let priced : get_or costs nearest 0 + edge ≡ extension.cost = omega (arith, cost, own.cost) in
-    let C : ℕ → Type 0 = λ c. IsSound scene.room (nodes ++ Some node ∷ []) (costs ++ c ∷ []) (tree.present + 1) in
-    let S : Option Twig → Type 0 = λ n. IsSound scene.room (nodes ++ n ∷ []) (costs ++ extension.cost ∷ []) (tree.present + cond (is_some n) 1 0) in
-    record {
-      handles = subst (H (length tree.records.items) extension.entry) (sym own.node) (subst (λ n. H n extension.entry (Some node)) h.turn handled);
-      sound = subst S (sym own.node) (subst C priced sound);
-    }
+-- The extension is a new node under the best parent of the nearest node and the near ones, with its record.
+pub record IsPlaced (scene : Scene) (tree : SearchTree) (extension : Extension) (k nearest : ℕ) (point : Point) (ns : List ℕ) (parent : Parent) (class : ℕ) : Type 0 where
+  pub are_near : ns ≡ near_new (setup_of scene) (points_of tree.nodes) point
+  pub best : IsFirstLeast (cost_through tree.nodes point) (IsOpenTo (space_of scene) (points_of tree.nodes) point (nearest ∷ ns)) parent.number
+  pub is_parent : IsParentOf tree.nodes point parent
+  pub class_is : class ≡ class_of (node_count (points_of tree.nodes))
+  pub node : extension.node ≡ Some (record { point = point; parent = parent.number })
+  pub cost : extension.cost ≡ parent.cost
+  pub entry : extension.entry ≡ placed_record k nearest parent.number parent.cost class
+
+module _ (scene : Scene) (tree : SearchTree) (mark : Point) (k nearest : ℕ) (from point : Point) (h : Steers scene tree mark k nearest from point)
+    (extension : Extension) (ns : List ℕ) (parent : Parent) (class : ℕ) (own : IsPlaced scene tree extension k nearest point ns parent class)
+    (apart : point ≢ from) (clear : Clear (space_of scene) from point) where
+  abbrev new_node : Twig
+  new_node = record { point = point; parent = parent.number }
+
+  -- it is the best of the candidates
+  best_parent : IsBestParent (setup_of scene) tree.nodes nearest point parent.number
+  best_parent =
+      let among : List ℕ → ℕ → Type 0 = IsOpenTo (space_of scene) (points_of tree.nodes) point in
+      let L : List ℕ → Type 0 = λ is. IsFirstLeast (cost_through tree.nodes point) (among (nearest ∷ is)) parent.number in
+      IsFirstLeast-among (cost_through tree.nodes point) (among (nearest ∷ near_new (setup_of scene) (points_of tree.nodes) point))
+      (IsCandidate (setup_of scene) (points_of tree.nodes) nearest point) parent.number
+      (λ i o. record { among = o.one_of; clear = o.clear }) (λ i o. record { one_of = o.among; clear = o.clear })
+      (subst L own.are_near own.best)
+
+  -- the record that the definition gives is that of the extension
+  is_recorded :
+      placed_record k nearest parent.number (cost_through tree.nodes point parent.number) (class_of (node_count (points_of tree.nodes))) ≡ extension.entry
+  is_recorded =
+      ap (λ sum. placed_record k nearest parent.number sum (class_of (node_count (points_of tree.nodes)))) (sym own.is_parent.cost)
+      ∙ ap (placed_record k nearest parent.number parent.cost) (sym own.class_is)
+      ∙ sym own.entry
+
+  handles_placed :
+      (after : Nodes) → Rewires (space_of scene) (tree.nodes ++ Some new_node ∷ []) (suc k) ns after
+      → Handles (setup_of scene) tree.nodes k mark extension.entry after
+  handles_placed after rewired =
+      let Q : Point → Type 0 = λ p. Clear (space_of scene) p point in
+      let R : List ℕ → Type 0 = λ is. Rewires (space_of scene) (tree.nodes ++ Some new_node ∷ []) (suc k) is after in
+      let entry : Record =
+      placed_record k nearest parent.number (cost_through tree.nodes point parent.number) (class_of (node_count (points_of tree.nodes))) in
+      let ends : EndsPlaced (setup_of scene) tree.nodes k mark entry after = record {
+        point = point;
+        steers = steers_to scene tree mark k nearest from point h;
+        free = IsFree-steered scene tree mark k nearest from point h apart;
+        clear = subst Q h.begins clear;
+        parent = best_parent;
+        recorded = refl;
+        rewired = subst R own.are_near rewired;
+      } in
+      subst (λ (r : Record). Handles (setup_of scene) tree.nodes k mark r after) is_recorded ends
+
+  fits_new : Fits tree.nodes (Some new_node) extension.cost
+  fits_new =
+      let in_room = IsInRoom-reached scene tree mark k nearest from point h clear in (
+        own.is_parent.present,
+        IsFree-steered scene tree mark k nearest from point h apart,
+        IsBounded-in_room scene point in_room,
+        own.cost ∙ own.is_parent.cost,
+        omega (arith, own.cost, own.is_parent.cost_bound),
+      )
+
+  -- a node is placed at the point
+  pub IsExtensionOf-placed : IsExtensionOf scene tree mark extension ns
+  IsExtensionOf-placed =
+      let F : Option Twig → Type 0 = λ node. Fits tree.nodes node extension.cost in
+      let rewires : Option Twig → ℕ → Nodes → Type 0 = λ node n after. Rewires (space_of scene) (tree.nodes ++ node ∷ []) n ns after in
+      let handled : ℕ → Nodes → Type 0 = λ n after. Handles (setup_of scene) tree.nodes n mark extension.entry after in
+      let points : List (Option Point) = points_of tree.nodes in
+      record {
+        fits = subst F (sym own.node) fits_new;
+        handles = λ after rewired.
+            let number : length tree.nodes ≡ suc k = omega (arith, h.turn, h.numbers) in
+            let with_node : rewires (Some new_node) (length tree.nodes) after = subst (λ (n : Option Twig). rewires n (length tree.nodes) after) own.node rewired in
+            let with_number : rewires (Some new_node) (suc k) after = subst (λ (n : ℕ). rewires (Some new_node) n after) number with_node in
+            subst (λ (n : ℕ). handled n after) h.turn (handles_placed after with_number);
+        present = subst (All (IsPresent points)) (sym own.are_near) (near-present points point (radius_of scene.step scene.gamma (node_count points)));
+        rising = subst IsStrictlyIncreasing (sym own.are_near) (near-rising points point (radius_of scene.step scene.gamma (node_count points)));
+        in_room = λ node e.
+            let is : Some new_node ≡ Some node = sym own.node ∙ e in
+            in_room_of node is;
+        none_near = λ e. (let never : Some new_node ≡ None = sym own.node ∙ e in cc);
+      }
+    where
+      in_room_of : (node : Twig) → Some new_node ≡ Some node → IsInRoom scene.room node.point
+      in_room_of node e =
+          let same : new_node ≡ node = cc in
+          subst (λ (n : Twig). IsInRoom scene.room n.point) same (IsInRoom-reached scene tree mark k nearest from point h clear)

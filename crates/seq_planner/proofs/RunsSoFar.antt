@@ -4,27 +4,31 @@ use Rattle.std.proofs.lemmas.List.{take_more}
 use Rattle.plan_model.specs.declared.geometry.Point.{Point}
 use Rattle.plan_model.specs.declared.scenes.Scene.{Scene}
 use Rattle.plan_model.specs.declared.records.Record.{Record}
+use Rattle.plan_model.specs.EmptyRooms.{LiesIn}
 use Rattle.plan_model.specs.Textbook.{setup_of, start_alone, Handles, HandlesAll}
+use Rattle.plan_model.specs.Trees.{points_of}
 use Rattle.plan_model.proofs.RunLaws.{HandlesAll-push}
 use Rattle.seq_planner.specs.declared.search_tree.SearchTree.{SearchTree}
 use Rattle.seq_planner.specs.SearchTrees.{IsSoundTree, HandlesNext}
 
 -- these marks are handled, and the tree is what they left
 pub record IsRunSoFar (scene : Scene) (marks : List Point) (tree : SearchTree) : Type 0 where
-  pub run : HandlesAll (setup_of scene) 0 (start_alone scene.start) marks tree.records.items tree.nodes.items
-  pub sound : IsSoundTree scene.room tree
-  pub nodes : length tree.nodes.items ≡ length marks + 1
+  pub run : HandlesAll (setup_of scene) 0 (start_alone scene.start) marks tree.records.items tree.nodes
+  pub sound : IsSoundTree tree
+  pub in_room : LiesIn scene.room (points_of tree.nodes)
+  pub nodes : length tree.nodes ≡ length marks + 1
   pub records : length tree.records.items ≡ length marks
 
 -- before the first mark
 pub IsRunSoFar-none :
-    (scene : Scene) (marks : List Point) (tree : SearchTree) → tree.nodes.items ≡ start_alone scene.start → tree.records.items ≡ []
-    → IsSoundTree scene.room tree → IsRunSoFar scene (take 0 marks) tree
-IsRunSoFar-none scene marks tree nodes records sound =
-    let P : List Record → Type 0 = λ entries. HandlesAll (setup_of scene) 0 (start_alone scene.start) [] entries tree.nodes.items in
+    (scene : Scene) (marks : List Point) (tree : SearchTree) → tree.nodes ≡ start_alone scene.start → tree.records.items ≡ []
+    → IsSoundTree tree → LiesIn scene.room (points_of (start_alone scene.start)) → IsRunSoFar scene (take 0 marks) tree
+IsRunSoFar-none scene marks tree nodes records sound in_room =
+    let P : List Record → Type 0 = λ entries. HandlesAll (setup_of scene) 0 (start_alone scene.start) [] entries tree.nodes in
     record {
       run = subst P (sym records) nodes;
       sound = sound;
+      in_room = subst (λ t. LiesIn scene.room (points_of t)) (sym nodes) in_room;
       nodes = ap length nodes;
       records = ap length records;
     }
@@ -32,20 +36,21 @@ IsRunSoFar-none scene marks tree nodes records sound =
 -- after one more mark
 pub IsRunSoFar-more :
     (scene : Scene) (marks : List Point) (tree after : SearchTree) (i : ℕ) (mark : Point) → IsRunSoFar scene (take i marks) tree
-    → i < length marks → mark ≡ get_or marks i mark → HandlesNext scene tree mark after → IsSoundTree scene.room after
-    → IsRunSoFar scene (take (i + 1) marks) after
-IsRunSoFar-more scene marks tree after i mark h l e next sound =
+    → i < length marks → mark ≡ get_or marks i mark → HandlesNext scene tree mark after → IsSoundTree after
+    → LiesIn scene.room (points_of after.nodes) → IsRunSoFar scene (take (i + 1) marks) after
+IsRunSoFar-more scene marks tree after i mark h l e next sound in_room =
     let done : List Point = take i marks in
-    let K : ℕ → Type 0 = λ k. Handles (setup_of scene) tree.nodes.items k mark next.entry after.nodes.items in
+    let K : ℕ → Type 0 = λ k. Handles (setup_of scene) tree.nodes k mark next.entry after.nodes in
     let handled : K (0 + length done) = subst K (omega (arith, h.records)) next.handled in
     let run =
-    HandlesAll-push (setup_of scene) 0 (start_alone scene.start) done tree.records.items tree.nodes.items mark next.entry after.nodes.items h.run handled in
+    HandlesAll-push (setup_of scene) 0 (start_alone scene.start) done tree.records.items tree.nodes mark next.entry after.nodes h.run handled in
     let more : take (i + 1) marks ≡ done ++ mark ∷ [] = take_more marks i mark l ∙ ap (λ m. done ++ m ∷ []) (sym e) in
-    let P : List Record → Type 0 = λ entries. HandlesAll (setup_of scene) 0 (start_alone scene.start) (done ++ mark ∷ []) entries after.nodes.items in
-    let Q : List Point → Type 0 = λ ms. HandlesAll (setup_of scene) 0 (start_alone scene.start) ms after.records.items after.nodes.items in
+    let P : List Record → Type 0 = λ entries. HandlesAll (setup_of scene) 0 (start_alone scene.start) (done ++ mark ∷ []) entries after.nodes in
+    let Q : List Point → Type 0 = λ ms. HandlesAll (setup_of scene) 0 (start_alone scene.start) ms after.records.items after.nodes in
     record {
       run = subst Q (sym more) (subst P (sym next.recorded) run);
       sound = sound;
+      in_room = in_room;
       nodes = omega (arith, ap length more, length-append done (mark ∷ []), next.one_more, h.nodes);
       records =
           omega (arith, ap length more, length-append done (mark ∷ []), ap length next.recorded, length-append tree.records.items (next.entry ∷ []), h.records);

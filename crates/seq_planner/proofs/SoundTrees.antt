@@ -1,5 +1,5 @@
 -- A tree with its kept costs stays sound if a node, or an absent one, is put at its end.
-use Rattle.std.proofs.Common.{◌≡◌, ℕ, zero, suc, ◌+◌, ◌-◌, ◌*◌, ◌^◌, ◌<◌, ◌≤◌, List, [], ◌∷◌, ◌++◌}
+use Rattle.std.proofs.Common.{◌≡◌, ℕ, zero, suc, ◌+◌, ◌<◌, ◌≤◌, List, [], ◌∷◌, ◌++◌}
 use Rattle.std.proofs.Common.{length, get_or, Option, Some, None, arith, refl, sym, ap, ◌∙◌, subst, inl, inr, length-append}
 use Rattle.std.proofs.Math.Seq.{get_or-append_seam}
 use Rattle.std.specs.Prelude.{is_some, option_map}
@@ -10,9 +10,8 @@ use Rattle.plan_model.specs.declared.geometry.Point.{Point}
 use Rattle.plan_model.specs.declared.trees.Twig.{Twig}
 use Rattle.plan_model.specs.declared.scenes.Scene.{Scene}
 use Rattle.plan_model.specs.Bounds.{IsBounded}
-use Rattle.plan_model.specs.Cost.{cost_of}
-use Rattle.plan_model.specs.EmptyRooms.{IsInRoom, LiesIn}
-use Rattle.plan_model.specs.PointsByNumber.{StandsAt, IsPresent, IsFree, point_of, node_count}
+use Rattle.plan_model.specs.EmptyRooms.{IsInRoom}
+use Rattle.plan_model.specs.PointsByNumber.{StandsAt, IsPresent, point_of, node_count}
 use Rattle.plan_model.specs.Trees.{points_of, sum_of, CostsFall}
 use Rattle.plan_model.specs.Textbook.{Nodes, start_alone}
 use Rattle.plan_model.proofs.TreeChanges.{node_at-past, points_of-push, node_count-push, node_at-absent}
@@ -20,7 +19,10 @@ use Rattle.plan_model.proofs.NewNodes.{Adds, Adds-push, AreDistinct-adds, IsPres
 use Rattle.plan_model.proofs.NewNodes.{node_count-some, new_or_kept, point_at-same, present_below, not_present}
 use Rattle.plan_model.proofs.KeptCosts.{CostsFall-start, AreTight-start, CostsFall-same, AreTight-same, CostsFall-adds}
 use Rattle.plan_model.proofs.KeptCosts.{AreTight-adds, CostsFall-sums, KeepsCosts, IsPriced, AddsPriced}
-use Rattle.seq_planner.specs.SearchTrees.{AreBounded, IsSound}
+use Rattle.plan_model.proofs.ChainLaws.{sums-tight}
+use Rattle.seq_planner.specs.declared.placed_points.PlacedPoints.{PlacedPoints}
+use Rattle.seq_planner.specs.PlacedLists.{ArePlaced}
+use Rattle.seq_planner.specs.SearchTrees.{AreBounded, IsSound, Fits, most_cost}
 
 -- ---- kept costs of a longer list
 
@@ -52,15 +54,17 @@ only_start start (suc n) p h =
     let absent = node_at-past (start_alone start) (suc n) (omega arith) in
     absurd (not_present (start_alone start) (suc n) absent (IsPresent-stands (points_of (start_alone start)) (suc n) p h))
 
-pub IsSound-start : (room start : Point) → IsInRoom room start → IsSound room (start_alone start) (0 ∷ []) 1
-IsSound-start room start h = record {
+pub IsSound-start :
+    (start : Point) (placed : PlacedPoints) → IsBounded start → ArePlaced (Some start ∷ []) placed
+    → IsSound (start_alone start) (0 ∷ []) placed
+IsSound-start start placed h are = record {
   falling = CostsFall-start (λ n. get_or (0 ∷ []) n 0) start;
   tight = AreTight-start (λ n. get_or (0 ∷ []) n 0) start refl;
   distinct = λ i j p one other. (only_start start i p one).0 ∙ sym (only_start start j p other).0;
-  in_room = λ n p own. subst (IsInRoom room) (only_start start n p own).1 h;
+  bounded = λ n p own. subst IsBounded (only_start start n p own).1 h;
+  are_placed = are;
   cost_count = refl;
-  counted = refl;
-  bounded = λ n. within_put [] 0 0 n (λ m. omega (arith, get_or_past {X = ℕ} [] m 0 (omega arith))) (omega arith);
+  cost_bound = λ n. within_put [] 0 0 n (λ m. omega (arith, get_or_past {X = ℕ} [] m 0 (omega arith))) (omega arith);
 }
 
 -- ---- an absent node
@@ -70,89 +74,105 @@ at_absent tree n p h = sym (point_at-same (tree ++ None ∷ []) tree n (node_at-
 
 -- a mark that is not placed puts an absent node at the end, at no cost
 pub IsSound-absent :
-    (room : Point) (tree : Nodes) (costs : List ℕ) (present : ℕ) → IsSound room tree costs present
-    → IsSound room (tree ++ None ∷ []) (costs ++ 0 ∷ []) (present + 0)
-IsSound-absent room tree costs present h =
+    (tree : Nodes) (costs : List ℕ) (placed after : PlacedPoints) → IsSound tree costs placed
+    → ArePlaced (points_of (tree ++ None ∷ [])) after → IsSound (tree ++ None ∷ []) (costs ++ 0 ∷ []) after
+IsSound-absent tree costs placed after h are =
     let before : ℕ → ℕ = λ n. get_or costs n 0 in
-    let after : ℕ → ℕ = λ n. get_or (costs ++ 0 ∷ []) n 0 in
+    let later : ℕ → ℕ = λ n. get_or (costs ++ 0 ∷ []) n 0 in
     let longer : Nodes = tree ++ None ∷ [] in
     let keeps = keeps_costs tree costs 0 h.cost_count in
+    let count : node_count (points_of longer) ≡ node_count (points_of tree) =
+    omega (arith, ap node_count (points_of-push tree None), node_count-push (points_of tree) None) in
     record {
-      falling = CostsFall-same before after tree longer (node_at-absent tree) keeps h.falling;
-      tight = AreTight-same before after tree longer (node_at-absent tree) keeps h.falling h.tight;
+      falling = CostsFall-same before later tree longer (node_at-absent tree) keeps h.falling;
+      tight = AreTight-same before later tree longer (node_at-absent tree) keeps h.falling h.tight;
       distinct = λ i j p one other. h.distinct i j p (at_absent tree i p one) (at_absent tree j p other);
-      in_room = λ n p own. h.in_room n p (at_absent tree n p own);
+      bounded = λ n p own. h.bounded n p (at_absent tree n p own);
+      are_placed = are;
       cost_count = omega (arith, length-append tree (None ∷ []), length-append costs (0 ∷ []), h.cost_count);
-      counted = omega (arith, h.counted, ap node_count (points_of-push tree None), node_count-push (points_of tree) None);
-      bounded = λ n. omega (arith, within_put costs 0 ((present - 1) * 2 ^ 29) n h.bounded (omega arith));
+      cost_bound = λ n. omega (arith, count, within_put costs 0 (most_cost (points_of tree)) n h.cost_bound (omega arith));
     }
 
 -- ---- one more node
 
--- The node may join the tree: under a present parent, where no node stands, in the room, by an edge of this cost.
-pub record Joins (room : Point) (tree : Nodes) (node : Twig) (edge : ℕ) : Type 0 where
-  pub parent : IsPresent (points_of tree) node.parent
-  pub free : IsFree (points_of tree) node.point
-  pub in_room : IsInRoom room node.point
-  pub cost : edge ≡ cost_of (point_of (points_of tree) node.parent) node.point
-  pub low : edge < 2 ^ 29
+-- a kept cost is the node's sum
+pub kept_sum : (tree : Nodes) (costs : List ℕ) (placed : PlacedPoints) (n : ℕ) → IsSound tree costs placed → IsPresent (points_of tree) n → sum_of tree n ≡ get_or costs n 0
+kept_sum tree costs placed n h own = sums-tight (λ n. get_or costs n 0) tree h.falling h.tight n own
 
 priced :
-    (room : Point) (tree : Nodes) (costs : List ℕ) (node : Twig) (edge price : ℕ) → Joins room tree node edge
-    → price ≡ get_or costs node.parent 0 + edge → IsPriced tree (λ n. get_or costs n 0) node price
-priced room tree costs node edge price h e = record {
-  parent = h.parent;
-  apart = λ same. h.free node.parent (StandsAt-present (points_of tree) node.parent h.parent ∙ ap Some same);
-  cost = omega (arith, e, h.cost);
+    (tree : Nodes) (costs : List ℕ) (placed : PlacedPoints) (node : Twig) (cost price : ℕ) → IsSound tree costs placed → Fits tree (Some node) cost
+    → price ≡ cost → IsPriced tree (λ n. get_or costs n 0) node price
+priced tree costs placed node cost price h new e = record {
+  parent = new.0;
+  apart = λ same. new.1 node.parent (StandsAt-present (points_of tree) node.parent new.0 ∙ ap Some same);
+  cost = omega (arith, e, new.3, kept_sum tree costs placed node.parent h new.0);
 }
 
-in_room_put :
-    (room : Point) (tree : Nodes) (node : Twig) (edge : ℕ) → LiesIn room (points_of tree) → Joins room tree node edge
-    → LiesIn room (points_of (tree ++ Some node ∷ []))
-in_room_put room tree node edge h new = λ n p own.
-    elim (new_or_kept tree (length tree) node (tree ++ Some node ∷ []) (Adds-push tree node) n p own) [
-      | inl here ↦ subst (IsInRoom room) (sym here.1) new.in_room
+bounded_put :
+    (tree : Nodes) (node : Twig) → AreBounded (points_of tree) → IsBounded node.point → AreBounded (points_of (tree ++ Some node ∷ []))
+bounded_put tree node h own = λ n p stands.
+    elim (new_or_kept tree (length tree) node (tree ++ Some node ∷ []) (Adds-push tree node) n p stands) [
+      | inl here ↦ subst IsBounded (sym here.1) own
       | inr before ↦ h n p before
     ]
 
--- a node that joins at the end costs what its parent costs and the edge
+-- a node that fits stands at the end, at its cost
 pub IsSound-node :
-    (room : Point) (tree : Nodes) (costs : List ℕ) (present : ℕ) (node : Twig) (edge : ℕ) → IsSound room tree costs present → Joins room tree node edge
-    → IsSound room (tree ++ Some node ∷ []) (costs ++ (get_or costs node.parent 0 + edge) ∷ []) (present + 1)
-IsSound-node room tree costs present node edge h new =
-    let price : ℕ = get_or costs node.parent 0 + edge in
+    (tree : Nodes) (costs : List ℕ) (placed after : PlacedPoints) (node : Twig) (cost : ℕ) → IsSound tree costs placed
+    → Fits tree (Some node) cost
+    → ArePlaced (points_of (tree ++ Some node ∷ [])) after → IsSound (tree ++ Some node ∷ []) (costs ++ cost ∷ []) after
+IsSound-node tree costs placed after node cost h new are =
     let before : ℕ → ℕ = λ n. get_or costs n 0 in
-    let after : ℕ → ℕ = λ n. get_or (costs ++ price ∷ []) n 0 in
+    let later : ℕ → ℕ = λ n. get_or (costs ++ cost ∷ []) n 0 in
     let longer : Nodes = tree ++ Some node ∷ [] in
     let adds : Adds tree (length tree) node longer = Adds-push tree node in
-    let more : AddsPriced before after tree longer (length tree) node = record {
+    let more : AddsPriced before later tree longer (length tree) node = record {
       adds = adds;
-      keeps = keeps_costs tree costs price h.cost_count;
-      priced = priced room tree costs node edge (after (length tree)) new (kept_last costs price (length tree) (sym h.cost_count));
+      keeps = keeps_costs tree costs cost h.cost_count;
+      priced = priced tree costs placed node cost (later (length tree)) h new (kept_last costs cost (length tree) (sym h.cost_count));
     } in
     let some = node_count-some (points_of tree) 0 h.falling.start in
+    let count : node_count (points_of longer) ≡ node_count (points_of tree) + 1 =
+    omega (arith, ap node_count (points_of-push tree (Some node)), node_count-push (points_of tree) (Some node.point)) in
     record {
-      falling = CostsFall-adds before after tree longer (length tree) node more h.falling h.tight;
-      tight = AreTight-adds before after tree longer (length tree) node more h.falling h.tight;
-      distinct = AreDistinct-adds tree (length tree) node longer adds h.distinct new.free;
-      in_room = in_room_put room tree node edge h.in_room new;
-      cost_count = omega (arith, length-append tree (Some node ∷ []), length-append costs (price ∷ []), h.cost_count);
-      counted = omega (arith, h.counted, ap node_count (points_of-push tree (Some node)), node_count-push (points_of tree) (Some node.point));
-      bounded = λ n.
-          within_put costs price ((present + 1 - 1) * 2 ^ 29) n (λ m. omega (arith, h.bounded m))
-          (omega (arith, h.bounded node.parent, new.low, some, h.counted));
+      falling = CostsFall-adds before later tree longer (length tree) node more h.falling h.tight;
+      tight = AreTight-adds before later tree longer (length tree) node more h.falling h.tight;
+      distinct = AreDistinct-adds tree (length tree) node longer adds h.distinct new.1;
+      bounded = bounded_put tree node h.bounded new.2;
+      are_placed = are;
+      cost_count = omega (arith, length-append tree (Some node ∷ []), length-append costs (cost ∷ []), h.cost_count);
+      cost_bound = λ n.
+          within_put costs cost (most_cost (points_of longer)) n (λ m. omega (arith, h.cost_bound m, some, count))
+          (omega (arith, new.4, some, count));
     }
+
+-- the same lists are sound
+pub IsSound-same :
+    (tree after : Nodes) (costs later : List ℕ) (placed : PlacedPoints) → after ≡ tree → later ≡ costs → IsSound tree costs placed
+    → IsSound after later placed
+IsSound-same tree after costs later placed e f h =
+    let P : Nodes → Type 0 = λ nodes. IsSound nodes later placed in
+    let Q : List ℕ → Type 0 = λ kept. IsSound tree kept placed in
+    subst P (sym e) (subst Q (sym f) h)
+
+-- what fits is put at the end
+pub IsSound-put :
+    (tree : Nodes) (costs : List ℕ) (placed later : PlacedPoints) (node : Option Twig) (cost : ℕ) → IsSound tree costs placed → Fits tree node cost
+    → ArePlaced (points_of (tree ++ node ∷ [])) later → IsSound (tree ++ node ∷ []) (costs ++ cost ∷ []) later
+IsSound-put tree costs placed later None cost h fits are =
+    let Q : ℕ → Type 0 = λ c. IsSound (tree ++ None ∷ []) (costs ++ c ∷ []) later in
+    subst Q (sym fits) (IsSound-absent tree costs placed later h are)
+IsSound-put tree costs placed later (Some node) cost h fits are = IsSound-node tree costs placed later node cost h fits are
 
 -- ---- what a sound tree has
 
 -- the start is present, so there is a node
-pub some_present : (room : Point) (tree : Nodes) (costs : List ℕ) (present : ℕ) → IsSound room tree costs present → 1 ≤ present
-some_present room tree costs present h = omega (arith, h.counted, node_count-some (points_of tree) 0 h.falling.start)
+pub some_present : (tree : Nodes) (costs : List ℕ) (placed : PlacedPoints) → IsSound tree costs placed → 1 ≤ node_count (points_of tree)
+some_present tree costs placed h = node_count-some (points_of tree) 0 h.falling.start
 
 -- there are at most as many nodes as numbers
-pub few_present : (room : Point) (tree : Nodes) (costs : List ℕ) (present : ℕ) → IsSound room tree costs present → present ≤ length tree
-few_present room tree costs present h =
-    omega (arith, h.counted, count_by-le-length is_some (points_of tree), length-map tree (option_map (λ node. node.point)))
+pub few_present : (tree : Nodes) → node_count (points_of tree) ≤ length tree
+few_present tree = omega (arith, count_by-le-length is_some (points_of tree), length-map tree (option_map (λ node. node.point)))
 
 -- distances can be taken in a room of at most the greatest side
 pub IsBounded-in_room : (scene : Scene) (p : Point) → IsInRoom scene.room p → IsBounded p
@@ -160,16 +180,13 @@ IsBounded-in_room scene p h =
     let within = scene.room_within in
     record { right = omega (arith, h.horizontal, within.right); top = omega (arith, h.vertical, within.top) }
 
-pub AreBounded-in_room : (scene : Scene) (points : List (Option Point)) → LiesIn scene.room points → AreBounded points
-AreBounded-in_room scene points h = λ n p own. IsBounded-in_room scene p (h n p own)
-
--- so from a present node of a sound tree
+-- and from a present node of a sound tree
 pub IsBounded-present :
-    (scene : Scene) (tree : Nodes) (costs : List ℕ) (present n : ℕ) (p : Point) → IsSound scene.room tree costs present
+    (tree : Nodes) (costs : List ℕ) (placed : PlacedPoints) (n : ℕ) (p : Point) → IsSound tree costs placed
     → IsPresent (points_of tree) n → p ≡ point_of (points_of tree) n → IsBounded p
-IsBounded-present scene tree costs present n p h own e =
-    IsBounded-in_room scene p (h.in_room n p (StandsAt-present (points_of tree) n own ∙ ap Some (sym e)))
+IsBounded-present tree costs placed n p h own e =
+    h.bounded n p (StandsAt-present (points_of tree) n own ∙ ap Some (sym e))
 
 -- sums fall along the parents of a sound tree
-pub CostsFall-sound : (room : Point) (tree : Nodes) (costs : List ℕ) (present : ℕ) → IsSound room tree costs present → CostsFall (sum_of tree) tree
-CostsFall-sound room tree costs present h = CostsFall-sums (λ n. get_or costs n 0) tree h.falling h.tight
+pub CostsFall-sound : (tree : Nodes) (costs : List ℕ) (placed : PlacedPoints) → IsSound tree costs placed → CostsFall (sum_of tree) tree
+CostsFall-sound tree costs placed h = CostsFall-sums (λ n. get_or costs n 0) tree h.falling h.tight

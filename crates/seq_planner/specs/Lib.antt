@@ -1,1 +1,3 @@
+pub mod PlacedLists
+pub mod LinkedTrees
 pub mod SearchTrees

@@ -1,46 +1,82 @@
 -- The search tree: it grows by one number for each mark, and costs are kept beside its nodes.
-use Rattle.std.specs.Prelude.{◌≡◌, ℕ, ◌+◌, ◌-◌, ◌*◌, ◌^◌, ◌≤◌, is_some, Option, List, [], ◌∷◌, ◌++◌, length, slice_index, if◌then◌else◌}
+use Rattle.std.specs.Prelude.{◌≡◌, ℕ, ◌+◌, ◌-◌, ◌*◌, ◌^◌, ◌≤◌, All, Contains, Option, Some, None, List, [], ◌∷◌, ◌++◌, length, slice_index}
+use Rattle.std.specs.List.Sorted.{IsStrictlyIncreasing}
 use Rattle.plan_model.specs.declared.geometry.Point.{Point}
+use Rattle.plan_model.specs.declared.trees.Twig.{Twig}
 use Rattle.plan_model.specs.declared.scenes.Scene.{Scene}
 use Rattle.plan_model.specs.declared.records.Record.{Record}
 use Rattle.plan_model.specs.Bounds.{IsBounded}
-use Rattle.plan_model.specs.EmptyRooms.{LiesIn}
-use Rattle.plan_model.specs.PointsByNumber.{StandsAt, AreDistinct, node_count}
+use Rattle.plan_model.specs.Clearance.{Clear}
+use Rattle.plan_model.specs.ConfigurationSpace.{ConfigurationSpace, space_of}
+use Rattle.plan_model.specs.EmptyRooms.{IsInRoom}
+use Rattle.plan_model.specs.PointsByNumber.{StandsAt, IsPresent, IsFree, AreDistinct, point_of, node_count}
 use Rattle.plan_model.specs.Trees.{points_of, CostsFall, AreTight}
-use Rattle.plan_model.specs.Textbook.{Nodes, setup_of, Handles}
+use Rattle.plan_model.specs.Textbook.{Nodes, setup_of, cost_through, Rewires, Handles}
 use Rattle.seq_planner.specs.declared.extensions.Extension.{Extension}
+use Rattle.seq_planner.specs.declared.extensions.Parent.{Parent}
+use Rattle.seq_planner.specs.declared.placed_points.PlacedPoints.{PlacedPoints}
 use Rattle.seq_planner.specs.declared.search_tree.SearchTree.{SearchTree}
+use Rattle.seq_planner.specs.PlacedLists.{ArePlaced}
 
 -- every node stands where distances can be taken
 abbrev pub AreBounded : List (Option Point) → Type 0
 AreBounded points = (n : ℕ) (p : Point) → StandsAt points n p → IsBounded p
 
--- Each kept cost is the parent's and the edge, so they fall along parents. All nodes are in the room, no two at the
--- same point. The kept number of nodes is right, and no cost passes that of a greatest edge for each node after the start.
-pub record IsSound (room : Point) (tree : Nodes) (costs : List ℕ) (present : ℕ) : Type 0 where
-  pub falling : CostsFall (λ n. slice_index costs n) tree
-  pub tight : AreTight (λ n. slice_index costs n) tree
-  pub distinct : AreDistinct (points_of tree)
-  pub in_room : LiesIn room (points_of tree)
-  pub cost_count : length costs ≡ length tree
-  pub counted : present ≡ node_count (points_of tree)
-  pub bounded : (n : ℕ) → slice_index costs n ≤ (present - 1) * 2 ^ 29
+-- the greatest cost of a tree with so many nodes: a greatest edge for each node after the start
+abbrev pub most_cost : List (Option Point) → ℕ
+most_cost points = (node_count points - 1) * 2 ^ 29
+
+-- Each kept cost is the parent's and the edge, so they fall along parents. No two nodes stand at the same point, and the
+-- points for the scans are those of the nodes.
+pub record IsSound (nodes : Nodes) (costs : List ℕ) (placed : PlacedPoints) : Type 0 where
+  pub falling : CostsFall (λ n. slice_index costs n) nodes
+  pub tight : AreTight (λ n. slice_index costs n) nodes
+  pub distinct : AreDistinct (points_of nodes)
+  pub bounded : AreBounded (points_of nodes)
+  pub are_placed : ArePlaced (points_of nodes) placed
+  pub cost_count : length costs ≡ length nodes
+  pub cost_bound : (n : ℕ) → slice_index costs n ≤ most_cost (points_of nodes)
 
 -- a search tree with its lists
-abbrev pub IsSoundTree : Point → SearchTree → Type 0
-IsSoundTree room tree = IsSound room tree.nodes.items tree.costs.items tree.present
+abbrev pub IsSoundTree : SearchTree → Type 0
+IsSoundTree tree = IsSound tree.nodes tree.costs.items tree.placed
 
--- The next mark is handled by adding this node and this record, and the tree stays sound.
-pub record IsExtensionOf (scene : Scene) (tree : SearchTree) (mark : Point) (extension : Extension) : Type 0 where
+-- the cost of reaching p through a present node, as the node's parent-to-be keeps it
+pub record IsParentOf (nodes : Nodes) (p : Point) (parent : Parent) : Type 0 where
+  pub present : IsPresent (points_of nodes) parent.number
+  pub cost : parent.cost ≡ cost_through nodes p parent.number
+  pub cost_bound : parent.cost ≤ node_count (points_of nodes) * 2 ^ 29
+
+-- one of some nodes with a clear edge to p
+pub record IsOpenTo (space : ConfigurationSpace) (points : List (Option Point)) (p : Point) (among : List ℕ) (i : ℕ) : Type 0 where
+  pub one_of : Contains among i
+  pub clear : Clear space (point_of points i) p
+
+-- The node that is to be added, if there is one, stands in bounds where no node does, under a present parent, at the cost
+-- through that; and at no cost if there is none.
+abbrev pub Fits : Nodes → Option Twig → ℕ → Type 0
+Fits nodes None cost = cost ≡ 0
+Fits nodes (Some node) cost =
+    IsPresent (points_of nodes) node.parent
+    × IsFree (points_of nodes) node.point
+    × IsBounded node.point
+    × (cost ≡ cost_through nodes node.point node.parent)
+    × (cost ≤ node_count (points_of nodes) * 2 ^ 29)
+
+-- The next mark is handled by adding this node and this record, and by rewiring these near nodes.
+pub record IsExtensionOf (scene : Scene) (tree : SearchTree) (mark : Point) (extension : Extension) (near : List ℕ) : Type 0 where
+  pub fits : Fits tree.nodes extension.node extension.cost
   pub handles :
-      Handles (setup_of scene) tree.nodes.items (length tree.records.items) mark extension.entry (tree.nodes.items ++ extension.node ∷ [])
-  pub sound :
-      IsSound scene.room (tree.nodes.items ++ extension.node ∷ []) (tree.costs.items ++ extension.cost ∷ [])
-      (tree.present + (if is_some extension.node then 1 else 0))
+      (after : Nodes) → Rewires (space_of scene) (tree.nodes ++ extension.node ∷ []) (length tree.nodes) near after
+      → Handles (setup_of scene) tree.nodes (length tree.records.items) mark extension.entry after
+  pub present : All (IsPresent (points_of tree.nodes)) near
+  pub rising : IsStrictlyIncreasing near
+  pub in_room : (node : Twig) → extension.node ≡ Some node → IsInRoom scene.room node.point
+  pub none_near : extension.node ≡ None → near ≡ []
 
 -- The next mark is handled, and its record is the last.
 pub record HandlesNext (scene : Scene) (tree : SearchTree) (mark : Point) (after : SearchTree) : Type 0 where
   pub entry : Record
   pub recorded : after.records.items ≡ tree.records.items ++ entry ∷ []
-  pub handled : Handles (setup_of scene) tree.nodes.items (length tree.records.items) mark entry after.nodes.items
-  pub one_more : length after.nodes.items ≡ length tree.nodes.items + 1
+  pub handled : Handles (setup_of scene) tree.nodes (length tree.records.items) mark entry after.nodes
+  pub one_more : length after.nodes ≡ length tree.nodes + 1

@@ -3,7 +3,16 @@
 ghost use Rattle.std.specs.Prelude.{◌≡◌, Some, None};
 ghost use Rattle.plan_model.specs.Textbook.{blocked_record, placed_record, same_record};
 
-use plan_model::{Outcome, Record, Twig};
+use plan_model::{Outcome, Point, Record, Twig};
+
+/// A node as the parent of a new one.
+#[derive(Clone, Copy)]
+pub(crate) struct Parent {
+    /// Its number.
+    pub(crate) number: u32,
+    /// The cost from the start through it to the new node, in 256ths of a lattice step.
+    pub(crate) cost: u64,
+}
 
 /// What a mark (a sample) adds to a search tree.
 #[derive(Clone, Copy)]
@@ -59,22 +68,31 @@ impl Extension {
         }
     }
 
-    /// The extension by a mark that is placed: a new node at this cost from the start, in a tree of this class.
-    pub(crate) fn placed(turn: u32, nearest: u32, node: Twig, cost: u64, class: u32) -> Extension
-        ensures node { result.node ≡ Some node }
-        ensures cost { result.cost ≡ cost }
-        ensures entry { result.entry ≡ placed_record turn nearest node.parent cost class }
+    /// The extension by a mark that is placed: a new node at a point under this parent, in a tree of this class.
+    pub(crate) fn placed(
+        turn: u32,
+        nearest: u32,
+        point: Point,
+        parent: Parent,
+        class: u32,
+    ) -> Extension
+        ensures node { result.node ≡ Some (record { point = point; parent = parent.number }) }
+        ensures cost { result.cost ≡ parent.cost }
+        ensures entry { result.entry ≡ placed_record turn nearest parent.number parent.cost class }
     {
         Extension {
-            node: Some(node),
-            cost,
+            node: Some(Twig {
+                point,
+                parent: parent.number,
+            }),
+            cost: parent.cost,
             entry: Record {
                 worker: 0,
                 turn,
                 nearest,
                 outcome: Outcome::Placed,
-                first_parent: node.parent,
-                first_cost: cost,
+                first_parent: parent.number,
+                first_cost: parent.cost,
                 class,
             },
         }

@@ -1,14 +1,21 @@
 //! The textbook planner: RRT* of Karaman and Frazzoli (Sampling-based Algorithms for Optimal Motion Planning, IJRR
 //! 2011, algorithm 6) over the marks (the samples) in rising number, one after another.
 //!
-//! The search tree is a plain list of nodes with kept costs-to-come, and the nearest node is found by a scan of all of
-//! them. The contract of [`textbook`] says that the tree and the records are those of the textbook run over these
-//! marks: for each mark which node is nearest, where it steers to, whether a node is placed there, and under which
-//! parent. Which edges are clear it asks of a collision checker that stands for the scene. So far nothing is rewired.
+//! The search tree is plain lists by number: nodes with their children in lists, and costs-to-come. Nearest and near nodes
+//! are found by scans over the points of the nodes that are present. A new node gets the best parent of the nearest node and
+//! the near ones; near nodes that are strictly cheaper through it are rewired, and their lowered costs reach their
+//! descendants by the lists of children. The contract of [`textbook`] says that the tree and the records are those of the
+//! textbook run over these marks. Which edges are clear it asks of a collision checker that stands for the scene.
 #![tactic(auto)]
 
+mod child_lists;
+mod choice;
 mod extensions;
+mod linked_tree;
+mod placed_points;
+mod rewiring;
 mod search_tree;
+mod spreading;
 mod textbook_planner;
 
 pub use textbook_planner::textbook;

@@ -8,22 +8,23 @@ ghost use Rattle.plan_model.specs.Limits.{is_plan};
 ghost use Rattle.plan_model.specs.Textbook.{IsTextbookRun, setup_of};
 ghost use Rattle.plan_model.specs.Trees.{CostsFall, points_of, sum_of};
 
-use crate::search_tree::SearchTree;
+use crate::search_tree::{Lists, SearchTree};
+use edge_cost::Radii;
 use plan_model::{Memory, Task, Tree};
 use std::alloc::Global;
 use swept_check::Clearing;
 
 /// RRT* over the marks (the samples) of a task in rising number, from its start.
 ///
-/// Every node is looked at for each mark, once for the nearest and once for one that stands at the steered
-/// point already: O(n) for each of n marks. The hall is the collision checker of the scene; each mark asks it at most
-/// once. The scene has gamma 0, so the parent of a new node is the nearest node, and no node gets another parent later.
+/// The points of all nodes are looked at for each mark, once for the nearest node and, if gamma is above 0, once for the
+/// near ones: O(n) for each of n marks. Besides, a mark costs a root for each parent that is tried and each node that is
+/// rewired, and O(1) for each node whose cost is lowered. `hall` is the collision checker of the scene; it is asked about the
+/// edge from the nearest node, and about those to near nodes that would be cheaper.
 ///
 /// # Errors
 ///
-/// `Memory` if out of memory for the nodes or the records.
+/// `Memory` if out of memory for the nodes, the records or the lists of near nodes.
 pub fn textbook<C: Clearing>(alloc: Global, task: Task, hall: &C) -> Result<Tree, Memory>
-    requires gamma { task.scene.gamma ≡ 0 }
     requires hall { C.space hall.now ≡ space_of task.scene }
     requires start { ClearAt (space_of task.scene) task.scene.start }
     ensures run { IfOk result (λ tree. IsTextbookRun (setup_of task.scene) task.scene.start task.marks tree.twigs tree.records) }
@@ -34,9 +35,11 @@ pub fn textbook<C: Clearing>(alloc: Global, task: Task, hall: &C) -> Result<Tree
 {
     let scene = &task.scene;
     let marks = task.marks.as_slice();
-    let mut tree = SearchTree::new(alloc, scene)?;
+    let radii = Radii::new(scene.step, scene.gamma);
+    let mut lists = Lists::new(alloc);
+    let mut tree = SearchTree::new(alloc, scene.start)?;
     for &mark in marks {
-        tree.handle(scene, hall, mark)?;
+        tree.handle(scene, &radii, hall, mark, &mut lists)?;
     }
     Ok(tree.into_tree())
 }

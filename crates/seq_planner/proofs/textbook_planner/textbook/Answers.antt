@@ -10,31 +10,30 @@ use Rattle.seq_planner.proofs.SoundTrees.{CostsFall-sound}
 use Rattle.seq_planner.proofs.textbook_planner.textbook.Goals as goal
 
 pub handle-requires-clause-few : goal.handle-requires-clause-few
-handle-requires-clause-few g c =
+handle-requires-clause-few g c κs within =
     let marks : length c.as_slice-marks.result.now ≡ length c.args.task.marks = ap length c.as_slice-marks.ensures in
     omega (arith, c.loop-mark.invariant.nodes, length-take c.loop-mark.mark-index c.as_slice-marks.result.now, length-marks c.args.task)
 
 pub handle-requires-clause-bounded : goal.handle-requires-clause-bounded
-handle-requires-clause-bounded g c =
+handle-requires-clause-bounded g c κs within =
     let marks : length c.as_slice-marks.result.now ≡ length c.args.task.marks = ap length c.as_slice-marks.ensures in
     let mark : Point = record { x = 0; y = 0 } in
     let here = All-task_marks_within c.args.task c.loop-mark.mark-index mark (omega arith) in
-    λ κs lives. rw c.as_slice-marks.ensures (record { right = omega (arith, here.right); top = omega (arith, here.top) })
+    rw c.as_slice-marks.ensures (record { right = omega (arith, here.right); top = omega (arith, here.top) })
 
 pub loop-mark-preserved : goal.loop-mark-preserved
 loop-mark-preserved g c =
     IsRunSoFar-more c.args.task.scene c.as_slice-marks.result.now c.loop-mark.tree c.handle.new.self c.loop-mark.mark-index _ c.loop-mark.invariant
     c.loop-mark-test.true (get_or_default c.as_slice-marks.result.now c.loop-mark.mark-index _ _ c.loop-mark-test.true)
-    c.in_ok-handle.ensures.handles c.in_ok-handle.ensures.sound
+    c.in_ok-handle.ensures.handles c.in_ok-handle.ensures.sound c.in_ok-handle.ensures.in_room
 
 pub returns-clause-parents : goal.returns-clause-parents
 returns-clause-parents g c =
     let P : Nodes → Type 0 = λ nodes. CostsFall (sum_of nodes) nodes in
     let tree = c.loop-mark.tree in
-    subst P (sym c.into_tree.ensures.nodes)
-    (CostsFall-sound c.args.task.scene.room tree.nodes.items tree.costs.items tree.present c.loop-mark.invariant.sound)
+    subst P (sym c.into_tree.ensures.nodes) (CostsFall-sound tree.nodes tree.costs.items tree.placed c.loop-mark.invariant.sound)
 
 pub returns-clause-in_room : goal.returns-clause-in_room
 returns-clause-in_room g c =
     let P : Nodes → Type 0 = λ nodes. LiesIn c.args.task.scene.room (points_of nodes) in
-    subst P (sym c.into_tree.ensures.nodes) c.loop-mark.invariant.sound.in_room
+    subst P (sym c.into_tree.ensures.nodes) c.loop-mark.invariant.in_room

@@ -1,80 +1,152 @@
-use Rattle.std.proofs.Common.{true, ◌≡◌, arith, rules, subst, sym}
-use Rattle.plan_model.specs.Bounds.{IsBounded}
-use Rattle.plan_model.specs.ConfigurationSpace.{ConfigurationSpace}
+use Rattle.std.proofs.Common.{◌≡◌, ℕ, List, ◌∷◌, true, arith, rules, sym, ap, ◌∙◌, subst}
+use Rattle.std.specs.Prelude.{All}
+use Rattle.plan_model.specs.declared.geometry.Point.{Point}
+use Rattle.plan_model.specs.ConfigurationSpace.{ConfigurationSpace, space_of}
 use Rattle.plan_model.specs.Clearance.{Clear}
-use Rattle.seq_planner.proofs.SoundTrees.{IsBounded-present, few_present}
-use Rattle.seq_planner.proofs.MarkExtensions.{Steers, IsExtensionOf-same, IsExtensionOf-blocked, IsExtensionOf-placed, kept_cost}
+use Rattle.plan_model.specs.LeastPairs.{IsFirstLeast}
+use Rattle.plan_model.specs.Nearness.{near}
+use Rattle.plan_model.specs.PointsByNumber.{IsPresent, node_count}
+use Rattle.plan_model.specs.Radius.{class_of, radius_of}
+use Rattle.plan_model.specs.Textbook.{setup_of, near_new, cost_through}
+use Rattle.plan_model.specs.Trees.{points_of}
+use Rattle.plan_model.proofs.DistinctPoints.{near-present}
+use Rattle.seq_planner.specs.SearchTrees.{IsOpenTo}
+use Rattle.seq_planner.proofs.PlacedLists.{ArePlaced-bounded}
+use Rattle.seq_planner.proofs.SamePoints.{same_point-true, same_point-false}
+use Rattle.seq_planner.proofs.SoundTrees.{IsBounded-present, some_present}
+use Rattle.seq_planner.proofs.MarkExtensions.{Steers, IsFree-steered, IsExtensionOf-same, IsExtensionOf-blocked, IsExtensionOf-placed}
 use Rattle.seq_planner.proofs.search_tree.SearchTree.extension.Goals as goal
 
-pub returns-in-Some : goal.returns-in-Some
-returns-in-Some g c =
-    let steers : Steers c.args.scene.now c.args.self.now c.args.mark c.len-turn.result c.nearest-nearest.result c.point-from.result c.steer-point.result =
-    record {
-      sound = c.requires.sound;
+pub nearest-nearest-requires-clause-nodes : goal.nearest-nearest-requires-clause-nodes
+nearest-nearest-requires-clause-nodes g c =
+    ArePlaced-bounded (points_of c.args.self.now.nodes) c.args.self.now.placed c.requires.sound.are_placed c.requires.sound.bounded
+
+pub returns-then-eq : goal.returns-then-eq
+returns-then-eq g c =
+    let tree = c.args.self.now in
+    let nearest = c.nearest-nearest.result in
+    let steers : Steers c.args.scene.now tree c.args.mark c.len-turn.result nearest c.point-from.result c.steer-point.result = record {
       turn = search (rules, c.len-turn.ensures);
-      is_nearest = c.nearest-nearest.ensures;
+      numbers = c.requires.turn;
+      is_nearest = c.nearest-nearest.ensures (points_of tree.nodes) c.requires.sound.are_placed;
       begins = c.point-from.ensures;
       ends = c.steer-point.ensures.value;
     } in
-    IsExtensionOf-same c.args.scene.now c.args.self.now c.args.mark c.same.result c.len-turn.result c.nearest-nearest.result c.in-Some.number
-    c.point-from.result c.steer-point.result steers c.in-Some.ensures
+    IsExtensionOf-same c.args.scene.now tree c.args.mark c.len-turn.result nearest c.point-from.result c.steer-point.result steers
+    c.same.result c.clear.new.self.items c.clear.ensures.items
+    (same_point-true c.steer-point.result c.point-from.result (sym c.eq.ensures ∙ c.if-eq.true))
     (record { node = c.same.ensures.node; cost = c.same.ensures.cost; recorded = c.same.ensures.entry })
 
 pub returns-then-not-clear : goal.returns-then-not-clear
 returns-then-not-clear g c =
-    let steers : Steers c.args.scene.now c.args.self.now c.args.mark c.len-turn.result c.nearest-nearest.result c.point-from.result c.steer-point.result =
-    record {
-      sound = c.requires.sound;
+    let tree = c.args.self.now in
+    let nearest = c.nearest-nearest.result in
+    let steers : Steers c.args.scene.now tree c.args.mark c.len-turn.result nearest c.point-from.result c.steer-point.result = record {
       turn = search (rules, c.len-turn.ensures);
-      is_nearest = c.nearest-nearest.ensures;
+      numbers = c.requires.turn;
+      is_nearest = c.nearest-nearest.ensures (points_of tree.nodes) c.requires.sound.are_placed;
       begins = c.point-from.ensures;
       ends = c.steer-point.ensures.value;
     } in
-    IsExtensionOf-blocked c.args.scene.now c.args.self.now c.args.mark c.blocked.result c.len-turn.result c.nearest-nearest.result
-    c.point-from.result c.steer-point.result steers c.in_default.ensures
+    IsExtensionOf-blocked c.args.scene.now tree c.args.mark c.len-turn.result nearest c.point-from.result c.steer-point.result steers
+    c.blocked.result c.clear.new.self.items c.clear.ensures.items
+    (same_point-false c.steer-point.result c.point-from.result (sym c.eq.ensures ∙ c.if-eq.false))
     (λ clear. (
-    let yes : c.clear.result ≡ true =
-    c.clear.ensures.1 (subst (λ (space : ConfigurationSpace). Clear space c.point-from.result c.steer-point.result) (sym c.requires.hall) clear) in
+    let yes : c.clear-2.result ≡ true =
+    c.clear-2.ensures.1 (subst (λ (space : ConfigurationSpace). Clear space c.point-from.result c.steer-point.result) (sym c.requires.hall) clear) in
     cc))
     (record { node = c.blocked.ensures.node; cost = c.blocked.ensures.cost; recorded = c.blocked.ensures.entry })
 
-pub cost-requires-clause-to : goal.cost-requires-clause-to
-cost-requires-clause-to g c =
-    let tree = c.args.self.now in
-    let from : IsBounded c.point-from.result =
-    IsBounded-present c.args.scene.now tree.nodes.items tree.costs.items tree.present c.nearest-nearest.result c.point-from.result c.requires.sound
-    c.nearest-nearest.ensures.member c.point-from.ensures in
-    record { right = omega (arith, c.steer-point.ensures.right); top = omega (arith, c.steer-point.ensures.top) }
+pub near-requires-clause-nodes : goal.near-requires-clause-nodes
+near-requires-clause-nodes g c =
+    ArePlaced-bounded (points_of c.args.self.now.nodes) c.args.self.now.placed c.requires.sound.are_placed c.requires.sound.bounded
 
-pub overflow_add-first_cost : goal.overflow_add-first_cost
-overflow_add-first_cost g c =
+pub near-requires-clause-bounded : goal.near-requires-clause-bounded
+near-requires-clause-bounded g c =
     let tree = c.args.self.now in
-    let nearest = c.nearest-nearest.result in
-    let kept = kept_cost c.args.scene.now.room tree nearest c.index.result.now c.requires.sound c.nearest-nearest.ensures.member c.index.ensures in
-    let few = few_present c.args.scene.now.room tree.nodes.items tree.costs.items tree.present c.requires.sound in
-    omega (arith, kept, few, c.requires.sound.bounded nearest)
+    let nearest = c.nearest-nearest.ensures (points_of tree.nodes) c.requires.sound.are_placed in
+    let from = IsBounded-present tree.nodes tree.costs.items tree.placed c.nearest-nearest.result c.point-from.result c.requires.sound nearest.member
+    c.point-from.ensures in
+    record {
+      right = omega (arith, c.steer-point.ensures.right, from.right, c.requires.bounded.right);
+      top = omega (arith, c.steer-point.ensures.top, from.top, c.requires.bounded.top);
+    }
+
+pub choose-parent-requires-clause-bounded : goal.choose-parent-requires-clause-bounded
+choose-parent-requires-clause-bounded g c κs within =
+    let tree = c.args.self.now in
+    let nearest = c.nearest-nearest.ensures (points_of tree.nodes) c.requires.sound.are_placed in
+    let from = IsBounded-present tree.nodes tree.costs.items tree.placed c.nearest-nearest.result c.point-from.result c.requires.sound nearest.member
+    c.point-from.ensures in
+    record {
+      right = omega (arith, c.steer-point.ensures.right, from.right, c.requires.bounded.right);
+      top = omega (arith, c.steer-point.ensures.top, from.top, c.requires.bounded.top);
+    }
+
+pub choose-parent-requires-clause-clear : goal.choose-parent-requires-clause-clear
+choose-parent-requires-clause-clear g c κs within =
+    subst (λ (p : Point). Clear (g.C.Clearing.space c.args.hall.now) p c.steer-point.result) c.point-from.ensures
+    (c.clear-2.ensures.0 c.if-not-clear.false)
+
+pub choose-parent-requires-clause-near : goal.choose-parent-requires-clause-near
+choose-parent-requires-clause-near g c κs within =
+    let tree = c.args.self.now in
+    let points = points_of tree.nodes in
+    let steers : Steers c.args.scene.now tree c.args.mark c.len-turn.result c.nearest-nearest.result c.point-from.result c.steer-point.result = record {
+      turn = search (rules, c.len-turn.ensures);
+      numbers = c.requires.turn;
+      is_nearest = c.nearest-nearest.ensures points c.requires.sound.are_placed;
+      begins = c.point-from.ensures;
+      ends = c.steer-point.ensures.value;
+    } in
+    let free = IsFree-steered c.args.scene.now tree c.args.mark c.len-turn.result c.nearest-nearest.result c.point-from.result c.steer-point.result steers
+    (same_point-false c.steer-point.result c.point-from.result (sym c.eq.ensures ∙ c.if-eq.false)) in
+    let found : c.deref.result.now ≡ near points c.steer-point.result c.at.result =
+    c.deref.ensures.value ∙ c.in_ok-near.ensures points c.requires.sound.are_placed free in
+    subst (All (IsPresent points)) (sym found) (near-present points c.steer-point.result c.at.result)
+
+pub class-requires : goal.class-requires
+class-requires g c =
+    let tree = c.args.self.now in
+    omega (arith, c.count-present.ensures (points_of tree.nodes) c.requires.sound.are_placed, some_present tree.nodes tree.costs.items tree.placed c.requires.sound)
 
 pub returns : goal.returns
 returns g c =
     let tree = c.args.self.now in
-    let steers : Steers c.args.scene.now tree c.args.mark c.len-turn.result c.nearest-nearest.result c.point-from.result c.steer-point.result =
-    record {
-      sound = c.requires.sound;
+    let scene = c.args.scene.now in
+    let points = points_of tree.nodes in
+    let steers : Steers scene tree c.args.mark c.len-turn.result c.nearest-nearest.result c.point-from.result c.steer-point.result = record {
       turn = search (rules, c.len-turn.ensures);
-      is_nearest = c.nearest-nearest.ensures;
+      numbers = c.requires.turn;
+      is_nearest = c.nearest-nearest.ensures points c.requires.sound.are_placed;
       begins = c.point-from.ensures;
       ends = c.steer-point.ensures.value;
     } in
-    IsExtensionOf-placed c.args.scene.now tree c.args.mark c.placed.result c.len-turn.result c.nearest-nearest.result
-    c.point-from.result c.steer-point.result c.index.result.now c.cost.result c.class.result c.requires.gamma steers c.in_default.ensures
-    (subst (λ (space : ConfigurationSpace). Clear space c.point-from.result c.steer-point.result) c.requires.hall
-    (c.clear.ensures.0 c.if-not-clear.false))
+    let apart = same_point-false c.steer-point.result c.point-from.result (sym c.eq.ensures ∙ c.if-eq.false) in
+    let free = IsFree-steered scene tree c.args.mark c.len-turn.result c.nearest-nearest.result c.point-from.result c.steer-point.result steers apart in
+    let count : c.count-present.result ≡ node_count points = c.count-present.ensures points c.requires.sound.are_placed in
+    let radius : c.at.result ≡ radius_of scene.step scene.gamma (node_count points) =
+    c.at.ensures ∙ ap (λ s. radius_of s c.args.radii.now.gamma c.count-present.result) c.requires.step
+    ∙ ap (λ e. radius_of scene.step e c.count-present.result) c.requires.gamma ∙ ap (radius_of scene.step scene.gamma) count in
+    let are_near : c.near.new.found.items ≡ near_new (setup_of scene) points c.steer-point.result =
+    c.in_ok-near.ensures points c.requires.sound.are_placed free ∙ ap (near points c.steer-point.result) radius in
+    let S : ConfigurationSpace → List ℕ → Type 0 =
+    λ space ns. IsFirstLeast (cost_through tree.nodes c.steer-point.result) (IsOpenTo space points c.steer-point.result (c.nearest-nearest.result ∷ ns))
+    c.choose-parent.result.number in
+    let best : S (space_of scene) c.near.new.found.items =
+    subst (λ (space : ConfigurationSpace). S space c.near.new.found.items) c.requires.hall
+    (subst (S (g.C.Clearing.space c.args.hall.now)) c.deref.ensures.value c.choose-parent.ensures.best) in
+    IsExtensionOf-placed scene tree c.args.mark c.len-turn.result c.nearest-nearest.result c.point-from.result c.steer-point.result steers
+    c.placed.result c.near.new.found.items c.choose-parent.result c.class.result
     (record {
-      read = c.index.ensures;
-      edge_is = c.cost.ensures.value;
-      low = c.cost.ensures.bound;
-      class_is = c.class.ensures.value;
+      are_near = are_near;
+      best = best;
+      is_parent = c.choose-parent.ensures.parent;
+      class_is = c.class.ensures.value ∙ ap class_of count;
       node = c.placed.ensures.node;
       cost = c.placed.ensures.cost;
       entry = c.placed.ensures.entry;
     })
+    apart
+    (subst (λ (space : ConfigurationSpace). Clear space c.point-from.result c.steer-point.result) c.requires.hall
+    (c.clear-2.ensures.0 c.if-not-clear.false))

@@ -1,16 +1,72 @@
-use Rattle.std.proofs.Common.{◌≡◌, [], ◌∷◌, ◌++◌, length, length-append, arith, ap, sym, subst}
-use Rattle.plan_model.specs.Textbook.{Nodes, setup_of, Handles}
+use Rattle.std.proofs.Common.{◌≡◌, ℕ, List, [], ◌∷◌, ◌++◌, length, length-append, get_or, arith, sym, ap, ◌∙◌, subst}
+use Rattle.std.specs.Prelude.{All}
+use Rattle.plan_model.specs.ConfigurationSpace.{ConfigurationSpace, space_of}
+use Rattle.plan_model.specs.EmptyRooms.{LiesIn}
+use Rattle.plan_model.specs.PointsByNumber.{IsPresent}
+use Rattle.plan_model.specs.Trees.{points_of}
+use Rattle.plan_model.specs.Textbook.{Nodes, Rewires}
+use Rattle.seq_planner.proofs.HandledMarks.{present-put, LiesIn-put, no_child-put, none-put, HandlesNext-put}
 use Rattle.seq_planner.proofs.search_tree.SearchTree.handle.Goals as goal
 
-pub returns-clause-handles : goal.returns-clause-handles
-returns-clause-handles g c =
+pub rewire-requires-clause-near : goal.rewire-requires-clause-near
+rewire-requires-clause-near g c κs within =
     let tree = c.args.self.now in
-    let extension = c.extension-extension.result in
-    let P : Nodes → Type 0 = λ after. Handles (setup_of c.args.scene.now) tree.nodes.items (length tree.records.items) c.args.mark extension.entry after in
-    let pushed : c.push.new.self.items ≡ tree.nodes.items ++ extension.node ∷ [] = c.in_ok-push.ensures.items in
-    record {
-      entry = extension.entry;
-      recorded = c.in_ok-push-3.ensures.items;
-      handled = subst P (sym pushed) c.extension-extension.ensures.handles;
-      one_more = omega (arith, ap length pushed, length-append tree.nodes.items (extension.node ∷ []));
-    }
+    let extension = c.in_ok-extension.extension in
+    subst (All (IsPresent (points_of c.push.new.self.nodes))) (sym c.deref.ensures.value)
+    (present-put tree.nodes c.push.new.self.nodes extension.node c.extension.new.near.items c.in_ok-number.ensures.nodes c.in_ok-extension.ensures.present)
+
+pub rewire-requires-clause-leaf : goal.rewire-requires-clause-leaf
+rewire-requires-clause-leaf g c κs within = λ child.
+    let tree = c.args.self.now in
+    let extension = c.in_ok-extension.extension in
+    no_child-put (λ n. get_or tree.costs.items n 0) tree.nodes c.push.new.self.nodes extension.node extension.cost c.in_ok-number.number child
+    c.in_ok-number.ensures.nodes c.in_ok-number.ensures.number (sym c.is_some.ensures ∙ c.if-is_some.true) c.in_ok-extension.ensures.fits
+    c.requires.sound.falling
+
+pub returns-in_ok-rewire-clause-handles : goal.returns-in_ok-rewire-clause-handles
+returns-in_ok-rewire-clause-handles g c =
+    let tree = c.args.self.now in
+    let extension = c.in_ok-extension.extension in
+    let after = c.rewire.new.self in
+    let R : ConfigurationSpace → Nodes → ℕ → List ℕ → Type 0 = λ space nodes n ns. Rewires space nodes n ns after.nodes in
+    let near = c.extension.new.near.items in
+    let put : Nodes = tree.nodes ++ extension.node ∷ [] in
+    let in_space : R (space_of c.args.scene.now) c.push.new.self.nodes c.in_ok-number.number c.deref.result.now =
+    subst (λ (space : ConfigurationSpace). R space c.push.new.self.nodes c.in_ok-number.number c.deref.result.now) c.requires.hall
+    c.in_ok-rewire.ensures.rewired in
+    let of_near : R (space_of c.args.scene.now) c.push.new.self.nodes c.in_ok-number.number near =
+    subst (R (space_of c.args.scene.now) c.push.new.self.nodes c.in_ok-number.number) c.deref.ensures.value in_space in
+    let numbered : R (space_of c.args.scene.now) c.push.new.self.nodes (length tree.nodes) near =
+    subst (λ (n : ℕ). R (space_of c.args.scene.now) c.push.new.self.nodes n near) c.in_ok-number.ensures.number of_near in
+    let rewired : R (space_of c.args.scene.now) put (length tree.nodes) near =
+    subst (λ (t : Nodes). R (space_of c.args.scene.now) t (length tree.nodes) near) c.in_ok-number.ensures.nodes numbered in
+    HandlesNext-put c.args.scene.now tree after c.args.mark extension near c.in_ok-extension.ensures
+    (c.in_ok-rewire.ensures.records ∙ c.in_ok-number.ensures.records) rewired
+    (omega (arith, c.in_ok-rewire.ensures.count, ap length c.in_ok-number.ensures.nodes, length-append tree.nodes (extension.node ∷ [])))
+
+pub returns-in_ok-rewire-clause-in_room : goal.returns-in_ok-rewire-clause-in_room
+returns-in_ok-rewire-clause-in_room g c =
+    let tree = c.args.self.now in
+    let extension = c.in_ok-extension.extension in
+    subst (LiesIn c.args.scene.now.room) (sym c.in_ok-rewire.ensures.points)
+    (LiesIn-put c.args.scene.now.room tree.nodes c.push.new.self.nodes extension.node c.in_ok-number.ensures.nodes c.requires.in_room
+    c.in_ok-extension.ensures.in_room)
+
+pub returns-else-is_some-clause-handles : goal.returns-else-is_some-clause-handles
+returns-else-is_some-clause-handles g c =
+    let tree = c.args.self.now in
+    let extension = c.in_ok-extension.extension in
+    let near = c.extension.new.near.items in
+    let none : near ≡ [] = c.in_ok-extension.ensures.none_near (none-put extension.node (sym c.is_some.ensures ∙ c.if-is_some.false)) in
+    let put : Nodes = tree.nodes ++ extension.node ∷ [] in
+    let R : List ℕ → Type 0 = λ ns. Rewires (space_of c.args.scene.now) put (length tree.nodes) ns c.push.new.self.nodes in
+    HandlesNext-put c.args.scene.now tree c.push.new.self c.args.mark extension near c.in_ok-extension.ensures
+    c.in_ok-number.ensures.records (subst R (sym none) c.in_ok-number.ensures.nodes)
+    (omega (arith, ap length c.in_ok-number.ensures.nodes, length-append tree.nodes (extension.node ∷ [])))
+
+pub returns-else-is_some-clause-in_room : goal.returns-else-is_some-clause-in_room
+returns-else-is_some-clause-in_room g c =
+    let tree = c.args.self.now in
+    let extension = c.in_ok-extension.extension in
+    LiesIn-put c.args.scene.now.room tree.nodes c.push.new.self.nodes extension.node c.in_ok-number.ensures.nodes c.requires.in_room
+    c.in_ok-extension.ensures.in_room

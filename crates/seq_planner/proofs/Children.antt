@@ -1,0 +1,45 @@
+-- A child, by its parent, and what it costs.
+use Rattle.std.proofs.Common.{◌≡◌, ℕ, zero, suc, ◌<◌, true, List, Option, Some, None, arith, refl, sym, ap, ◌∙◌}
+use Rattle.std.specs.Prelude.{is_some, option_map}
+use Rattle.std.proofs.lemmas.Bool.{eq-eqb, eqb-true}
+use Rattle.plan_model.specs.declared.trees.Twig.{Twig}
+use Rattle.plan_model.specs.PointsByNumber.{IsPresent}
+use Rattle.plan_model.specs.Trees.{node_at, points_of, parent_or_zero, parent_of, CostsFall}
+use Rattle.plan_model.proofs.TreeChanges.{point_at-points_of}
+use Rattle.seq_planner.specs.LinkedTrees.{is_number, is_child_of}
+
+-- Node c is present and not the start, and has node f as its parent.
+pub record IsChild (tree : List (Option Twig)) (f c : ℕ) : Type 0 where
+  pub child : 0 < c
+  pub present : IsPresent (points_of tree) c
+  pub parent : parent_of tree c ≡ f
+
+is_number-node :
+    (f : ℕ) (node : Option Twig) → is_number f (option_map (λ n. n.parent) node) ≡ true
+    → (is_some (option_map (λ n. n.point) node) ≡ true) × (parent_or_zero node ≡ f)
+is_number-node f None h = cc
+is_number-node f (Some node) h = (refl, eqb-true node.parent f h)
+
+node-is_number :
+    (f : ℕ) (node : Option Twig) → is_some (option_map (λ n. n.point) node) ≡ true → parent_or_zero node ≡ f
+    → is_number f (option_map (λ n. n.parent) node) ≡ true
+node-is_number f None present parent = cc
+node-is_number f (Some node) present parent = eq-eqb node.parent f parent
+
+-- the number that is listed as a child is one
+pub IsChild-is_child_of : (tree : List (Option Twig)) (f c : ℕ) → is_child_of tree f c ≡ true → IsChild tree f c
+IsChild-is_child_of tree f zero h = cc
+IsChild-is_child_of tree f (suc n) h =
+    let is = is_number-node f (node_at tree (suc n)) h in
+    record { child = omega arith; present = ap is_some (point_at-points_of tree (suc n)) ∙ is.0; parent = is.1 }
+
+-- and each child is listed
+pub is_child_of-present :
+    (tree : List (Option Twig)) (f n : ℕ) → IsPresent (points_of tree) (suc n) → parent_of tree (suc n) ≡ f → is_child_of tree f (suc n) ≡ true
+is_child_of-present tree f n present parent =
+    node-is_number f (node_at tree (suc n)) (ap is_some (sym (point_at-points_of tree (suc n))) ∙ present) parent
+
+-- a child costs more than its parent
+pub IsChild-costs : (costs : ℕ → ℕ) (tree : List (Option Twig)) (f c : ℕ) → CostsFall costs tree → IsChild tree f c → costs f < costs c
+IsChild-costs costs tree f zero falling h = absurd (omega (arith, h.child))
+IsChild-costs costs tree f (suc n) falling h = omega (arith, ap costs h.parent, falling.falls n h.present)

@@ -1,0 +1,72 @@
+-- A mark is handled: its node is put at the end, and near nodes are rewired.
+use Rattle.std.proofs.Common.{◌≡◌, ℕ, ◌+◌, List, [], ◌∷◌, ◌++◌, length, Option, Some, None, true, false, refl, sym, ap, ◌∙◌, subst, inl, inr}
+use Rattle.std.specs.Prelude.{All, is_some, option_map}
+use Rattle.std.proofs.lemmas.List.Elements.{All-weaker}
+use Rattle.plan_model.specs.declared.geometry.Point.{Point}
+use Rattle.plan_model.specs.declared.trees.Twig.{Twig}
+use Rattle.plan_model.specs.declared.scenes.Scene.{Scene}
+use Rattle.plan_model.specs.ConfigurationSpace.{space_of}
+use Rattle.plan_model.specs.EmptyRooms.{IsInRoom, LiesIn}
+use Rattle.plan_model.specs.PointsByNumber.{IsPresent, point_at}
+use Rattle.plan_model.specs.Trees.{points_of, CostsFall}
+use Rattle.plan_model.specs.Textbook.{Nodes, Rewires}
+use Rattle.plan_model.proofs.TreeChanges.{points_of-push, node_at-absent}
+use Rattle.plan_model.proofs.NewNodes.{Adds-push, new_or_kept, point_at-same}
+use Rattle.plan_model.proofs.DistinctPoints.{IsPresent-push}
+use Rattle.seq_planner.specs.declared.extensions.Extension.{Extension}
+use Rattle.seq_planner.specs.declared.search_tree.SearchTree.{SearchTree}
+use Rattle.seq_planner.specs.LinkedTrees.{is_child_of}
+use Rattle.seq_planner.specs.SearchTrees.{Fits, IsExtensionOf, HandlesNext}
+use Rattle.seq_planner.proofs.NewLeaves.{no_child-new}
+
+-- present nodes are present beside one more number
+pub present-put :
+    (tree after : Nodes) (node : Option Twig) (ns : List ℕ) → after ≡ tree ++ node ∷ [] → All (IsPresent (points_of tree)) ns
+    → All (IsPresent (points_of after)) ns
+present-put tree after node ns e h =
+    let points : points_of after ≡ points_of tree ++ option_map (λ (n : Twig). n.point) node ∷ [] =
+    ap points_of e ∙ points_of-push tree node in
+    All-weaker (IsPresent (points_of tree)) (IsPresent (points_of after))
+    (λ i present. subst (λ ps. IsPresent ps i) (sym points) (IsPresent-push (points_of tree) _ i present)) ns h
+
+-- all nodes are in the room beside one that is
+pub LiesIn-put :
+    (room : Point) (tree after : Nodes) (node : Option Twig) → after ≡ tree ++ node ∷ [] → LiesIn room (points_of tree)
+    → ((new : Twig) → node ≡ Some new → IsInRoom room new.point) → LiesIn room (points_of after)
+LiesIn-put room tree after None e h new = λ n p own.
+    h n p (sym (point_at-same (tree ++ None ∷ []) tree n (node_at-absent tree n)) ∙ ap (λ t. point_at (points_of t) n) (sym e) ∙ own)
+LiesIn-put room tree after (Some node) e h new = λ n p own.
+    elim (new_or_kept tree (length tree) node (tree ++ Some node ∷ []) (Adds-push tree node) n p
+    (ap (λ t. point_at (points_of t) n) (sym e) ∙ own)) [
+      | inl here ↦ subst (IsInRoom room) (sym here.1) (new node refl)
+      | inr before ↦ h n p before
+    ]
+
+-- a node that was put at the end has no children
+pub no_child-put :
+    (costs : ℕ → ℕ) (tree after : Nodes) (node : Option Twig) (cost number c : ℕ) → after ≡ tree ++ node ∷ [] → number ≡ length tree
+    → is_some node ≡ true → Fits tree node cost → CostsFall costs tree → ¬ is_child_of after number c ≡ true
+no_child-put costs tree after None cost number c e at some fits fall h = cc
+no_child-put costs tree after (Some node) cost number c e at some fits fall h =
+    let placed : is_child_of (tree ++ Some node ∷ []) number c ≡ true = ap (λ t. is_child_of t number c) (sym e) ∙ h in
+    let numbered : is_child_of (tree ++ Some node ∷ []) (length tree) c ≡ true =
+    ap (λ f. is_child_of (tree ++ Some node ∷ []) f c) (sym at) ∙ placed in
+    no_child-new costs tree node c fall fits.0 numbered
+
+-- no node was put
+pub none-put : (node : Option Twig) → is_some node ≡ false → node ≡ None
+none-put None e = refl
+none-put (Some node) e = cc
+
+-- the mark is handled by what rewiring leaves
+pub HandlesNext-put :
+    (scene : Scene) (tree after : SearchTree) (mark : Point) (extension : Extension) (ns : List ℕ) → IsExtensionOf scene tree mark extension ns
+    → after.records.items ≡ tree.records.items ++ extension.entry ∷ []
+    → Rewires (space_of scene) (tree.nodes ++ extension.node ∷ []) (length tree.nodes) ns after.nodes
+    → length after.nodes ≡ length tree.nodes + 1 → HandlesNext scene tree mark after
+HandlesNext-put scene tree after mark extension ns h recorded rewired count = record {
+  entry = extension.entry;
+  recorded = recorded;
+  handled = h.handles after.nodes rewired;
+  one_more = count;
+}

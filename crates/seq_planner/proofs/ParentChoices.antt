@@ -1,0 +1,132 @@
+-- The choice of a parent: the least pair of cost and number among the nodes that were looked at.
+use Rattle.std.proofs.Common.{◌≡◌, ℕ, ◌+◌, ◌*◌, ◌^◌, ◌<◌, ◌≤◌, List, [], ◌∷◌, ◌++◌, Option, get_or}
+use Rattle.std.proofs.Common.{arith, refl, sym, ap, ◌∙◌, subst, inl, inr, ◌⊎◌}
+use Rattle.std.specs.Prelude.{Contains}
+use Rattle.std.proofs.lemmas.List.{get_or_default}
+use Rattle.std.proofs.lemmas.List.Elements.{Contains-append_left, Contains-push, Contains-push_cases}
+use Rattle.std.proofs.lemmas.Bool.{cases_lt}
+use Rattle.plan_model.specs.declared.geometry.Point.{Point}
+use Rattle.plan_model.specs.Clearance.{Clear}
+use Rattle.plan_model.specs.ConfigurationSpace.{ConfigurationSpace}
+use Rattle.plan_model.specs.LeastPairs.{IsNotAbove, IsFirstLeast}
+use Rattle.plan_model.specs.PointsByNumber.{IsPresent, point_of, node_count}
+use Rattle.plan_model.specs.Cost.{cost_of}
+use Rattle.plan_model.specs.Trees.{points_of, sum_of}
+use Rattle.plan_model.specs.Textbook.{Nodes, cost_through}
+use Rattle.plan_model.proofs.LeastPairLaws.{IsNotAbove-refl, IsNotAbove-lesser, IsNotAbove-trans}
+use Rattle.plan_model.proofs.NewNodes.{present_below}
+use Rattle.seq_planner.specs.declared.placed_points.PlacedPoints.{PlacedPoints}
+use Rattle.seq_planner.specs.SearchTrees.{IsSound, IsParentOf, IsOpenTo}
+use Rattle.seq_planner.proofs.SoundTrees.{kept_sum, some_present}
+
+-- ---- costs that are read
+
+-- the kept cost of a present node that was read is its sum
+pub sum-read :
+    (nodes : Nodes) (costs : List ℕ) (placed : PlacedPoints) (n kept : ℕ) → IsSound nodes costs placed → IsPresent (points_of nodes) n
+    → kept ≡ get_or costs n kept → sum_of nodes n ≡ kept
+sum-read nodes costs placed n kept h own e =
+    kept_sum nodes costs placed n h own
+    ∙ sym (e ∙ get_or_default costs n kept 0 (omega (arith, present_below nodes n own, h.cost_count)))
+
+-- so the cost through it is that and the edge
+pub through-read :
+    (nodes : Nodes) (costs : List ℕ) (placed : PlacedPoints) (n kept : ℕ) (from p : Point) → IsSound nodes costs placed → IsPresent (points_of nodes) n
+    → kept ≡ get_or costs n kept → from ≡ point_of (points_of nodes) n → cost_through nodes p n ≡ kept + cost_of from p
+through-read nodes costs placed n kept from p h own e at =
+    omega (arith, sum-read nodes costs placed n kept h own e, ap (λ a. cost_of a p) at)
+
+-- a kept cost and one edge more are within the bound of one node more
+pub kept-bound :
+    (nodes : Nodes) (costs : List ℕ) (placed : PlacedPoints) (n kept : ℕ) → IsSound nodes costs placed → IsPresent (points_of nodes) n
+    → kept ≡ get_or costs n kept → kept + 2 ^ 29 ≤ node_count (points_of nodes) * 2 ^ 29
+kept-bound nodes costs placed n kept h own e =
+    omega (arith, e ∙ get_or_default costs n kept 0 (omega (arith, present_below nodes n own, h.cost_count)), h.cost_bound n, some_present nodes costs placed h)
+
+-- so the node is a parent, at the cost that was read and the edge
+pub IsParentOf-read :
+    (nodes : Nodes) (costs : List ℕ) (placed : PlacedPoints) (n kept edge : ℕ) (from p : Point) → IsSound nodes costs placed → IsPresent (points_of nodes) n
+    → kept ≡ get_or costs n kept → from ≡ point_of (points_of nodes) n → edge ≡ cost_of from p → edge < 2 ^ 29
+    → IsParentOf nodes p (record { number = n; cost = kept + edge })
+IsParentOf-read nodes costs placed n kept edge from p h own e at price low = record {
+  present = own;
+  cost = omega (arith, price, through-read nodes costs placed n kept from p h own e at);
+  cost_bound = omega (arith, low, kept-bound nodes costs placed n kept h own e);
+}
+
+-- ---- who wins
+
+-- what the key of n must be below to win against the best: at equal keys the lesser number wins
+pub record IsLimit (best_key n best limit : ℕ) : Type 0 where
+  pub lesser : n < best → limit ≡ best_key + 1
+  pub other : best ≤ n → limit ≡ best_key
+
+-- a key below the limit wins
+pub IsNotAbove-wins : (key : ℕ → ℕ) (n best limit : ℕ) → IsLimit (key best) n best limit → key n < limit → IsNotAbove key n best
+IsNotAbove-wins key n best limit h below = elim (cases_lt n best) [
+  | inl less ↦ record { least = omega (arith, below, h.lesser less); first = λ e. omega (arith, less) }
+  | inr other ↦ IsNotAbove-lesser key n best (omega (arith, below, h.other other))
+]
+
+-- and any other loses
+pub IsNotAbove-loses : (key : ℕ → ℕ) (n best limit : ℕ) → IsLimit (key best) n best limit → limit ≤ key n → IsNotAbove key best n
+IsNotAbove-loses key n best limit h above = elim (cases_lt n best) [
+  | inl less ↦ IsNotAbove-lesser key best n (omega (arith, above, h.lesser less))
+  | inr other ↦ record { least = omega (arith, above, h.other other); first = λ e. other }
+]
+
+-- ---- the best of the nodes that are open
+
+module _ (space : ConfigurationSpace) (points : List (Option Point)) (p : Point) where
+  -- an open node of one number more was open before, or has that number
+  open_cases :
+      (among more : List ℕ) (n i : ℕ) → more ≡ among ++ n ∷ [] → IsOpenTo space points p more i → IsOpenTo space points p among i ⊎ (n ≡ i)
+  open_cases among more n i e h = elim (Contains-push_cases among n i (subst (λ ns. Contains ns i) e h.one_of)) [
+    | inl before ↦ inl (record { one_of = before; clear = h.clear })
+    | inr last ↦ inr last
+  ]
+
+  -- what was open before is so still
+  still_open : (among more : List ℕ) (n i : ℕ) → more ≡ among ++ n ∷ [] → IsOpenTo space points p among i → IsOpenTo space points p more i
+  still_open among more n i e h = record {
+    one_of = subst (λ ns. Contains ns i) (sym e) (Contains-append_left among (n ∷ []) i h.one_of);
+    clear = h.clear;
+  }
+
+  -- the last number is open if its edge is clear
+  last_open : (among more : List ℕ) (n : ℕ) → more ≡ among ++ n ∷ [] → Clear space (point_of points n) p → IsOpenTo space points p more n
+  last_open among more n e h = record { one_of = subst (λ ns. Contains ns n) (sym e) (Contains-push among n); clear = h }
+
+  -- one node alone is the best
+  pub IsFirstLeast-alone : (key : ℕ → ℕ) (n : ℕ) → Clear space (point_of points n) p → IsFirstLeast key (IsOpenTo space points p (n ∷ [])) n
+  IsFirstLeast-alone key n h = record {
+    member = last_open [] (n ∷ []) n refl h;
+    not_above = λ i own. elim (open_cases [] (n ∷ []) n i refl own) [
+      | inl none ↦ absurd (omega (arith, none.one_of.1))
+      | inr last ↦ subst (IsNotAbove key n) last (IsNotAbove-refl key n)
+    ];
+  }
+
+  -- one node more, which is open and not above the best
+  pub IsFirstLeast-takes :
+      (key : ℕ → ℕ) (among more : List ℕ) (n best : ℕ) → more ≡ among ++ n ∷ [] → Clear space (point_of points n) p → IsNotAbove key n best
+      → IsFirstLeast key (IsOpenTo space points p among) best → IsFirstLeast key (IsOpenTo space points p more) n
+  IsFirstLeast-takes key among more n best e clear wins h = record {
+    member = last_open among more n e clear;
+    not_above = λ i own. elim (open_cases among more n i e own) [
+      | inl before ↦ IsNotAbove-trans key n best i wins (h.not_above i before)
+      | inr last ↦ subst (IsNotAbove key n) last (IsNotAbove-refl key n)
+    ];
+  }
+
+  -- one node more, which is not open or loses against the best
+  pub IsFirstLeast-keeps :
+      (key : ℕ → ℕ) (among more : List ℕ) (n best : ℕ) → more ≡ among ++ n ∷ [] → (Clear space (point_of points n) p → IsNotAbove key best n)
+      → IsFirstLeast key (IsOpenTo space points p among) best → IsFirstLeast key (IsOpenTo space points p more) best
+  IsFirstLeast-keeps key among more n best e loses h = record {
+    member = still_open among more n best e h.member;
+    not_above = λ i own. elim (open_cases among more n i e own) [
+      | inl before ↦ h.not_above i before
+      | inr last ↦ subst (IsNotAbove key best) last (loses (subst (λ j. Clear space (point_of points j) p) (sym last) own.clear))
+    ];
+  }

@@ -1,0 +1,13 @@
+use Rattle.std.proofs.Common.{◌≡◌, List, Option, take}
+use Rattle.std.specs.Prelude.{filter}
+use Rattle.plan_model.specs.declared.geometry.Point.{Point}
+use Rattle.plan_model.specs.Nearness.{is_within}
+use Rattle.plan_model.specs.PointsByNumber.{point_at}
+use Rattle.seq_planner.specs.PlacedLists.{ArePlaced}
+use Rattle.seq_planner.proofs.placed_points.PlacedPoints.near.Given as goal
+
+-- the list has those of the earlier nodes that are near
+abbrev pub invariant-loop-place : goal.invariant-loop-place
+invariant-loop-place l =
+    (points : List (Option Point)) → ArePlaced points l.self
+    → l.found.items ≡ filter (λ i. is_within l.point l.radius (point_at points i)) (take l.place l.self.numbers.items)

@@ -1,0 +1,155 @@
+//! The points of the nodes that are present, and the two scans over them.
+
+ghost use Rattle.std.specs.Prelude.{◌≡◌, ◌<◌, Option, List, Some, [], ◌∷◌, ◌++◌, length, All, IfOk, OnOk};
+ghost use Rattle.plan_model.specs.Bounds.{IsBounded};
+ghost use Rattle.plan_model.specs.Nearness.{IsNearest, near};
+ghost use Rattle.plan_model.specs.PointsByNumber.{IsFree, node_count};
+ghost use Rattle.plan_model.specs.declared.geometry.Point.{Point};
+ghost use Rattle.seq_planner.specs.PlacedLists.{ArePlaced};
+
+use plan_model::{Memory, Point};
+use std::alloc::Global;
+
+/// The points of the nodes that are present, in rising number.
+///
+/// They are kept apart from the rest of the nodes, so that the two scans of a mark run over nothing but points.
+#[derive(Drop)]
+pub(crate) struct PlacedPoints {
+    /// Where each node stands.
+    points: Vec<Point>,
+    /// Its number.
+    numbers: Vec<u32>,
+}
+
+impl PlacedPoints {
+    /// The point of the start alone.
+    ///
+    /// # Errors
+    ///
+    /// `Memory` if out of memory.
+    pub(crate) fn new(alloc: Global, start: Point) -> Result<PlacedPoints, Memory>
+        ensures { IfOk result (λ placed. ArePlaced (Some start ∷ []) placed) }
+    {
+        Ok(PlacedPoints {
+            points: vec![in alloc; start]?,
+            numbers: vec![in alloc; 0]?,
+        })
+    }
+
+    /// How many nodes are present.
+    pub(crate) fn count(&self) -> u64
+        ensures { (points : List (Option Point)) → ArePlaced points self.now → result ≡ node_count points }
+    {
+        self.points.len() as u64
+    }
+
+    /// Adds the node with the next number.
+    ///
+    /// # Errors
+    ///
+    /// `Memory` if out of memory; the points are then of no more use.
+    pub(crate) fn push(&mut self, number: u32, point: Point) -> Result<(), Memory>
+        ensures { OnOk result ((points : List (Option Point)) → number ≡ length points → ArePlaced points self.old
+            → ArePlaced (points ++ Some point ∷ []) self.new) }
+    {
+        self.points.push(point)?;
+        self.numbers.push(number)?;
+        Ok(())
+    }
+
+    /// The nearest node to a mark, of those equally near the one with the least number. O(n) for n nodes.
+    pub(crate) fn nearest(&self, mark: Point) -> u32
+        requires some { 0 < length self.now.points.items }
+        requires numbered { length self.now.numbers.items ≡ length self.now.points.items }
+        requires nodes { All IsBounded self.now.points.items }
+        requires bounded { IsBounded mark }
+        ensures { (points : List (Option Point)) → ArePlaced points self.now → IsNearest points mark result }
+    {
+        let mut best = 0;
+        let mut least = self.points[0].squared_distance(mark);
+        for (place, point) in self.points.iter().enumerate() {
+            let distance = point.squared_distance(mark);
+            if distance < least {
+                best = place;
+                least = distance;
+            }
+        }
+        self.numbers[best]
+    }
+
+    /// Fills a list with the nodes at most `radius` away from a point at which no node stands, in rising number. O(n)
+    /// for n nodes; with radius 0 there are none, and nothing is scanned.
+    ///
+    /// # Errors
+    ///
+    /// `Memory` if out of memory.
+    pub(crate) fn near(&self, point: Point, radius: u32, found: &mut Vec<u32>) -> Result<(), Memory>
+        requires numbered { length self.now.numbers.items ≡ length self.now.points.items }
+        requires nodes { All IsBounded self.now.points.items }
+        requires bounded { IsBounded point }
+        ensures { OnOk result ((points : List (Option Point)) → ArePlaced points self.now → IsFree points point
+            → found.new.items ≡ near points point radius) }
+    {
+        found.clear();
+        if radius == 0 {
+            return Ok(());
+        }
+        let most = u64::from(radius) * u64::from(radius);
+        for (place, other) in self.points.iter().enumerate() {
+            if other.squared_distance(point) <= most {
+                found.push(self.numbers[place])?;
+            }
+        }
+        Ok(())
+    }
+}
+
+#[cfg(test)]
+mod tests {
+    use super::*;
+
+    // five nodes of which the third is absent
+    fn four_points(alloc: Global) -> Result<PlacedPoints, Memory>
+        ensures some { IfOk result (λ placed. 0 < length placed.points.items) }
+        ensures numbered { IfOk result (λ placed. length placed.numbers.items ≡ length placed.points.items) }
+        ensures nodes { IfOk result (λ placed. All IsBounded placed.points.items) }
+    {
+        let mut placed = PlacedPoints::new(alloc, Point { x: 0, y: 0 })?;
+        placed.push(1, Point { x: 10, y: 0 })?;
+        placed.push(3, Point { x: 0, y: 10 })?;
+        placed.push(4, Point { x: 10, y: 20 })?;
+        Ok(placed)
+    }
+
+    #[test]
+    fn of_equally_near_nodes_the_least_number_wins(rt: HostRuntime) -> Result<(), Memory> {
+        let placed = four_points(rt.alloc())?;
+        assert_eq!(rt; placed.nearest(Point { x: 10, y: 10 }), 1);
+        assert_eq!(rt; placed.nearest(Point { x: 9, y: 21 }), 4);
+        assert_eq!(rt; placed.count(), 4);
+        Ok(())
+    }
+
+    #[test]
+    fn nodes_at_the_radius_exactly_are_near(rt: HostRuntime) -> Result<(), Memory> {
+        let placed = four_points(rt.alloc())?;
+        let mut found = Vec::new(rt.alloc());
+        placed.near(Point { x: 10, y: 10 }, 15, &mut found)?;
+        assert!(rt; found.as_slice() == [0, 1, 3, 4].as_slice());
+        placed.near(Point { x: 10, y: 10 }, 10, &mut found)?;
+        assert!(rt; found.as_slice() == [1, 3, 4].as_slice());
+        placed.near(Point { x: 10, y: 10 }, 9, &mut found)?;
+        assert!(rt; found.is_empty());
+        Ok(())
+    }
+
+    #[test]
+    fn no_node_is_near_within_radius_0(rt: HostRuntime) -> Result<(), Memory> {
+        let placed = four_points(rt.alloc())?;
+        let mut found = Vec::new(rt.alloc());
+        found.push(7)?;
+        placed.near(Point { x: 10, y: 10 }, 0, &mut found)?;
+        assert!(rt; found.is_empty());
+        Ok(())
+    }
+}

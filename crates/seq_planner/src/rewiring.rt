@@ -1,0 +1,95 @@
+//! The rewiring of nodes near a new one.
+
+ghost use Rattle.std.specs.Prelude.{◌≡◌, ◌↔◌, ◌<◌, ◌≤◌, ℕ, true, length, All, IsTrue, OnOk};
+ghost use Rattle.std.specs.List.Sorted.{IsStrictlyIncreasing};
+ghost use Rattle.plan_model.specs.PointsByNumber.{IsPresent};
+ghost use Rattle.plan_model.specs.Textbook.{IsCheaperThrough, Rewires, RewiresOne};
+ghost use Rattle.plan_model.specs.Trees.{points_of};
+ghost use Rattle.plan_model.specs.declared.limits.TheConstants.{MOST_NODES};
+ghost use Rattle.seq_planner.specs.LinkedTrees.{is_child_of};
+ghost use Rattle.seq_planner.specs.SearchTrees.{IsSoundTree};
+
+use crate::search_tree::SearchTree;
+use crate::spreading::spread;
+use edge_cost::costs_less;
+use plan_model::Memory;
+use swept_check::Clearing;
+
+impl SearchTree {
+    /// Looks at near nodes, one after another, each by the costs as they then stand: it gets the new node as its parent
+    /// if it then costs strictly less and the edge is clear, and its descendants cost less by as much.
+    ///
+    /// `pending` is scratch memory. O(n + m) for n near nodes and m nodes whose costs are lowered.
+    ///
+    /// # Errors
+    ///
+    /// `Memory` if out of memory; the tree is then of no more use.
+    pub(crate) fn rewire<C: Clearing>(
+        &mut self,
+        hall: &C,
+        number: u32,
+        near: &[u32],
+        pending: &mut Vec<u32>,
+    ) -> Result<(), Memory>
+        requires sound { IsSoundTree self.old }
+        requires few { length self.old.nodes ≤ MOST_NODES }
+        requires present { IsPresent (points_of self.old.nodes) number }
+        requires near { All (IsPresent (points_of self.old.nodes)) near.now }
+        requires rising { IsStrictlyIncreasing near.now }
+        requires leaf { (c : ℕ) → ¬ is_child_of self.old.nodes number c ≡ true }
+        ensures rewired { OnOk result (Rewires (C.space hall.now) self.old.nodes number near.now self.new.nodes) }
+        ensures sound { OnOk result (IsSoundTree self.new) }
+        ensures points { OnOk result (points_of self.new.nodes ≡ points_of self.old.nodes) }
+        ensures count { OnOk result (length self.new.nodes ≡ length self.old.nodes) }
+        ensures records { OnOk result (self.new.records.items ≡ self.old.records.items) }
+    {
+        for &other in near {
+            self.rewire_one(hall, number, other, pending)?;
+        }
+        Ok(())
+    }
+
+    /// Gives a near node the new node as its parent if its cost is then strictly lower and the edge is clear.
+    fn rewire_one<C: Clearing>(
+        &mut self,
+        hall: &C,
+        number: u32,
+        other: u32,
+        pending: &mut Vec<u32>,
+    ) -> Result<(), Memory>
+        requires sound { IsSoundTree self.old }
+        requires few { length self.old.nodes ≤ MOST_NODES }
+        requires present { IsPresent (points_of self.old.nodes) number }
+        requires near { IsPresent (points_of self.old.nodes) other }
+        requires last { (c : ℕ) → is_child_of self.old.nodes number c ≡ true → c < other }
+        ensures rewired { OnOk result (RewiresOne (C.space hall.now) self.old.nodes number other self.new.nodes) }
+        ensures sound { OnOk result (IsSoundTree self.new) }
+        ensures points { OnOk result (points_of self.new.nodes ≡ points_of self.old.nodes) }
+        ensures count { OnOk result (length self.new.nodes ≡ length self.old.nodes) }
+        ensures records { OnOk result (self.new.records.items ≡ self.old.records.items) }
+    {
+        if !self.is_cheaper(hall, number, other) {
+            return Ok(());
+        }
+        let through = self.parent(number, self.nodes.point(other)).cost;
+        let fall = self.costs[other as usize] - through;
+        self.nodes.set_parent(other, number);
+        spread(&self.nodes, &mut self.costs, other, fall, pending)
+    }
+
+    /// Whether a near node would cost strictly less with the new node as its parent, over a clear edge.
+    fn is_cheaper<C: Clearing>(&self, hall: &C, number: u32, other: u32) -> bool
+        requires sound { IsSoundTree self.now }
+        requires few { length self.now.nodes ≤ MOST_NODES }
+        requires present { IsPresent (points_of self.now.nodes) number }
+        requires near { IsPresent (points_of self.now.nodes) other }
+        ensures { IsTrue result ↔ IsCheaperThrough (C.space hall.now) self.now.nodes number other }
+    {
+        let from = self.nodes.point(number);
+        let to = self.nodes.point(other);
+        let through = self.costs[number as usize];
+        let kept = self.costs[other as usize];
+        // a root is taken, and an edge tested, only for what wins
+        through < kept && costs_less(from, to, kept - through) && hall.clear(from, to)
+    }
+}
