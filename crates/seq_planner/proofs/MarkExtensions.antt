@@ -133,7 +133,9 @@ module _ (scene : Scene) (tree : SearchTree) (mark : Point) (k nearest : ℕ) (f
 -- ---- a mark that is placed
 
 -- The extension is a new node under the best parent of the nearest node and the near ones, with its record.
-pub record IsPlaced (scene : Scene) (tree : SearchTree) (extension : Extension) (k nearest : ℕ) (point : Point) (ns : List ℕ) (parent : Parent) (class : ℕ) : Type 0 where
+pub record IsPlaced
+    (scene : Scene) (tree : SearchTree) (extension : Extension) (k nearest : ℕ) (point : Point) (ns : List ℕ) (parent : Parent) (class : ℕ)
+    : Type 0 where
   pub are_near : ns ≡ near_new (setup_of scene) (points_of tree.nodes) point
   pub best : IsFirstLeast (cost_through tree.nodes point) (IsOpenTo (space_of scene) (points_of tree.nodes) point (nearest ∷ ns)) parent.number
   pub is_parent : IsParentOf tree.nodes point parent
@@ -206,7 +208,8 @@ module _ (scene : Scene) (tree : SearchTree) (mark : Point) (k nearest : ℕ) (f
         fits = subst F (sym own.node) fits_new;
         handles = λ after rewired.
             let number : length tree.nodes ≡ suc k = omega (arith, h.turn, h.numbers) in
-            let with_node : rewires (Some new_node) (length tree.nodes) after = subst (λ (n : Option Twig). rewires n (length tree.nodes) after) own.node rewired in
+            let with_node : rewires (Some new_node) (length tree.nodes) after =
+            subst (λ (n : Option Twig). rewires n (length tree.nodes) after) own.node rewired in
             let with_number : rewires (Some new_node) (suc k) after = subst (λ (n : ℕ). rewires (Some new_node) n after) number with_node in
             subst (λ (n : ℕ). handled n after) h.turn (handles_placed after with_number);
         present = subst (All (IsPresent points)) (sym own.are_near) (near-present points point (radius_of scene.step scene.gamma (node_count points)));

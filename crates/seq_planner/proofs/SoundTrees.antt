@@ -96,7 +96,9 @@ IsSound-absent tree costs placed after h are =
 -- ---- one more node
 
 -- a kept cost is the node's sum
-pub kept_sum : (tree : Nodes) (costs : List ℕ) (placed : PlacedPoints) (n : ℕ) → IsSound tree costs placed → IsPresent (points_of tree) n → sum_of tree n ≡ get_or costs n 0
+pub kept_sum :
+    (tree : Nodes) (costs : List ℕ) (placed : PlacedPoints) (n : ℕ) → IsSound tree costs placed → IsPresent (points_of tree) n
+    → sum_of tree n ≡ get_or costs n 0
 kept_sum tree costs placed n h own = sums-tight (λ n. get_or costs n 0) tree h.falling h.tight n own
 
 priced :

@@ -108,7 +108,11 @@ choose-parent-requires-clause-near g c κs within =
 pub class-requires : goal.class-requires
 class-requires g c =
     let tree = c.args.self.now in
-    omega (arith, c.count-present.ensures (points_of tree.nodes) c.requires.sound.are_placed, some_present tree.nodes tree.costs.items tree.placed c.requires.sound)
+    omega (
+      arith,
+      c.count-present.ensures (points_of tree.nodes) c.requires.sound.are_placed,
+      some_present tree.nodes tree.costs.items tree.placed c.requires.sound,
+    )
 
 pub returns : goal.returns
 returns g c =

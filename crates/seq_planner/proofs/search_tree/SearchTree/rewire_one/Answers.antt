@@ -163,6 +163,8 @@ returns-clause-points g c =
     let change =
     HasCheaperParent-cheaper tree.nodes tree.costs.items tree.placed c.args.number c.args.other c.parent-through.result.cost c.index.result.now is
     c.set_parent.new.self c.set_parent.ensures in
-    OnOk-two c.spread.result (λ lowered count. points_of-cheaper_parent (λ m. get_or tree.costs.items m 0) tree.nodes c.args.other c.args.number (c.index.result.now - c.parent-through.result.cost)
+    OnOk-two c.spread.result
+    (λ lowered count.
+    points_of-cheaper_parent (λ m. get_or tree.costs.items m 0) tree.nodes c.args.other c.args.number (c.index.result.now - c.parent-through.result.cost)
     c.set_parent.new.self change)
     c.spread.ensures.lowered c.spread.ensures.each
