@@ -1,6 +1,7 @@
 //! The textbook planner over the marks of a task.
 
-ghost use Rattle.std.specs.Prelude.{◌≡◌, ◌+◌, length, IfOk, IsTrue};
+ghost use Rattle.std.specs.Prelude.{◌≡◌, ◌+◌, ◌≤◌, length, IfOk, IsTrue};
+ghost use Rattle.plan_model.specs.declared.limits.TheConstants.{MOST_GAMMA};
 ghost use Rattle.plan_model.specs.Clearance.{ClearAt};
 ghost use Rattle.plan_model.specs.ConfigurationSpace.{space_of};
 ghost use Rattle.plan_model.specs.EmptyRooms.{LiesIn};
@@ -51,10 +52,10 @@ mod tests {
     use swept_check::Hall;
 
     /// The task of these marks in a room of 100 by 100, from its lower left corner by steps of 50.
-    fn small_task(alloc: Global, marks: &[Point]) -> Result<Task, Memory>
-        requires { IsTrue (is_plan (Marks.Listed marks.now)) }
-        ensures gamma { IfOk result (λ task. task.scene.gamma ≡ 0) }
-        ensures start { IfOk result (λ task. ClearAt (space_of task.scene) task.scene.start) }
+    fn small_task(alloc: Global, gamma: u32, marks: &[Point]) -> Result<Task, Memory>
+        requires gamma { gamma ≤ MOST_GAMMA }
+        requires marks { IsTrue (is_plan (Marks.Listed marks.now)) }
+        ensures { IfOk result (λ task. ClearAt (space_of task.scene) task.scene.start) }
     {
         let scene = Scene {
             version: 1,
@@ -67,7 +68,7 @@ mod tests {
                 high: Point { x: 99, y: 99 },
             },
             step: 50,
-            gamma: 0,
+            gamma,
             seed: 0,
             strips: 1,
             plan: Marks::Listed(Sequence::from_vec(Vec::from_slice(alloc, marks)?)),
@@ -78,13 +79,13 @@ mod tests {
         })
     }
 
-    fn placed(turn: u32, nearest: u32, first_cost: u64, class: u32) -> Record {
+    fn placed(turn: u32, nearest: u32, first_parent: u32, first_cost: u64, class: u32) -> Record {
         Record {
             worker: 0,
             turn,
             nearest,
             outcome: Outcome::Placed,
-            first_parent: nearest,
+            first_parent,
             first_cost,
             class,
         }
@@ -111,7 +112,7 @@ mod tests {
 
     #[test]
     fn leaves_the_start_alone_without_marks(rt: HostRuntime) -> Result<(), Memory> {
-        let task = small_task(rt.alloc(), &[])?;
+        let task = small_task(rt.alloc(), 0, &[])?;
         let hall = Hall::new(rt.alloc(), &task.scene)?;
         let tree = textbook(rt.alloc(), task, &hall)?;
         assert!(rt; tree.twigs.as_slice() == [node(0, 0, 0)].as_slice());
@@ -129,7 +130,7 @@ mod tests {
             Point { x: 60, y: 80 },
             Point { x: 150, y: 80 },
         ];
-        let task = small_task(rt.alloc(), &marks)?;
+        let task = small_task(rt.alloc(), 0, &marks)?;
         let hall = Hall::new(rt.alloc(), &task.scene)?;
         let tree = textbook(rt.alloc(), task, &hall)?;
         let nodes = [
@@ -141,11 +142,44 @@ mod tests {
             None,
         ];
         let records = [
-            placed(0, 0, 12_800, 1),
-            placed(1, 1, 25_600, 2),
-            placed(2, 2, 29_221, 2),
+            placed(0, 0, 0, 12_800, 1),
+            placed(1, 1, 1, 25_600, 2),
+            placed(2, 2, 2, 29_221, 2),
             unplaced(3, 3, Outcome::Same(3)),
             unplaced(4, 2, Outcome::Blocked),
+        ];
+        assert!(rt; tree.twigs.as_slice() == nodes.as_slice());
+        assert!(rt; tree.records.as_slice() == records.as_slice());
+        Ok(())
+    }
+
+    // The fourth mark gives the second node a cheaper way, which its child gets too: the fifth node costs less by as much.
+    #[test]
+    fn lowers_the_costs_of_descendants(rt: HostRuntime) -> Result<(), Memory> {
+        let marks = [
+            Point { x: 0, y: 50 },
+            Point { x: 40, y: 79 },
+            Point { x: 60, y: 79 },
+            Point { x: 40, y: 30 },
+            Point { x: 100, y: 79 },
+        ];
+        let task = small_task(rt.alloc(), 1000, &marks)?;
+        let hall = Hall::new(rt.alloc(), &task.scene)?;
+        let tree = textbook(rt.alloc(), task, &hall)?;
+        let nodes = [
+            node(0, 0, 0),
+            node(0, 50, 0),
+            node(40, 79, 4),
+            node(60, 79, 2),
+            node(40, 30, 0),
+            node(100, 79, 3),
+        ];
+        let records = [
+            placed(0, 0, 0, 12_800, 1),
+            placed(1, 1, 1, 25_449, 2),
+            placed(2, 2, 2, 30_569, 2),
+            placed(3, 1, 0, 12_800, 3),
+            placed(4, 3, 3, 40_704, 3),
         ];
         assert!(rt; tree.twigs.as_slice() == nodes.as_slice());
         assert!(rt; tree.records.as_slice() == records.as_slice());
