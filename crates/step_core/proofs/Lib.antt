@@ -1,0 +1,3 @@
+pub mod PackedFields
+pub mod ReadRecords
+pub mod PackedRecords

@@ -1,0 +1,135 @@
+-- The 64-bit words that a run keeps: points, tree words and records as numbers, and what a word reads as.
+use Rattle.std.specs.Prelude.{ℕ, zero, suc, ◌+◌, ◌*◌, ◌/◌, ◌%◌, ◌^◌, ◌<◌, nat_lt, if◌then◌else◌, ◌≡◌, Option, Some, None, refl}
+use Rattle.plan_model.specs.declared.geometry.Point.{Point}
+use Rattle.plan_model.specs.declared.records.Outcome.{Outcome}
+use Rattle.plan_model.specs.declared.records.Outcome.TheVariants.{Placed, Same, Blocked}
+use Rattle.plan_model.specs.declared.records.Record.{Record}
+use Rattle.plan_model.specs.Outcomes.{number_of_outcome}
+
+-- what a word reads as: nothing before it is written, when bit 63 is not set
+abbrev pub if_written : {A : Type 0} → ℕ → A → Option A
+if_written word value = if nat_lt word (2 ^ 63) then None else Some value
+
+-- ---- points
+
+-- a point as a word: y above the 20 bits of x
+abbrev pub point_word : Point → ℕ
+point_word p = 2 ^ 63 + p.y * 2 ^ 20 + p.x
+
+-- the point that a word holds
+abbrev pub point_of_word : ℕ → Option Point
+point_of_word word = if_written word (record { x = word % 2 ^ 20; y = word / 2 ^ 20 % 2 ^ 20 })
+
+-- ---- parents and costs
+
+-- a parent and a cost as a word: the cost above the 18 bits of the parent
+abbrev pub tree_word : ℕ → ℕ → ℕ
+tree_word parent cost = 2 ^ 63 + cost * 2 ^ 18 + parent
+
+-- the parent in a tree word or a first word
+abbrev pub parent_in : ℕ → ℕ
+parent_in word = word % 2 ^ 18
+
+-- the cost in it
+abbrev pub cost_in : ℕ → ℕ
+cost_in word = word / 2 ^ 18 % 2 ^ 44
+
+-- the parent and the cost that a word holds
+abbrev pub tree_of_word : ℕ → Option (ℕ × ℕ)
+tree_of_word word = if_written word (parent_in word, cost_in word)
+
+-- ---- records
+
+-- the last field of a record's word: the class of a placed mark, the node of one that ended at a node, 0 of a blocked one
+abbrev pub last_field : Outcome → ℕ → ℕ
+last_field Placed class = class
+last_field (Same j) class = j
+last_field Blocked class = 0
+
+-- a record as a word, without its first parent and first cost
+abbrev pub record_word : Record → ℕ
+record_word entry =
+    2 ^ 63 + last_field entry.outcome entry.class * 2 ^ 44 + number_of_outcome entry.outcome * 2 ^ 42 + entry.nearest * 2 ^ 24 + entry.turn * 2 ^ 6
+    + entry.worker
+
+-- each field of the record fits its part of the word
+pub record FitsWord (entry : Record) : Type 0 where
+  pub worker : entry.worker < 2 ^ 6
+  pub turn : entry.turn < 2 ^ 18
+  pub nearest : entry.nearest < 2 ^ 18
+  pub last : last_field entry.outcome entry.class < 2 ^ 18
+
+-- Beside this first word the record's word is whole: if a node was placed, its first word has the first parent and the
+-- first cost of the record. Both fit their parts of it.
+pub record IsFirstWord (entry : Record) (first : ℕ) : Type 0 where
+  pub word : entry.outcome ≡ Placed → first ≡ tree_word entry.first_parent entry.first_cost
+  pub parent : entry.first_parent < 2 ^ 18
+  pub cost : entry.first_cost < 2 ^ 44
+
+-- the fields in a record's word
+abbrev pub worker_in : ℕ → ℕ
+worker_in word = word % 2 ^ 6
+
+abbrev pub turn_in : ℕ → ℕ
+turn_in word = word / 2 ^ 6 % 2 ^ 18
+
+abbrev pub nearest_in : ℕ → ℕ
+nearest_in word = word / 2 ^ 24 % 2 ^ 18
+
+abbrev pub outcome_in : ℕ → ℕ
+outcome_in word = word / 2 ^ 42 % 2 ^ 2
+
+abbrev pub last_in : ℕ → ℕ
+last_in word = word / 2 ^ 44 % 2 ^ 18
+
+-- the record of a placed mark in a word: its first parent and first cost are in the first word of its node
+abbrev pub placed_in : ℕ → ℕ → Record
+placed_in word first =
+    record {
+      worker = worker_in word;
+      turn = turn_in word;
+      nearest = nearest_in word;
+      outcome = Placed;
+      first_parent = parent_in first;
+      first_cost = cost_in first;
+      class = last_in word;
+      unplaced = refl;
+    }
+
+-- the record in a word of a mark that ended at a node
+abbrev pub same_in : ℕ → Record
+same_in word =
+    record {
+      worker = worker_in word;
+      turn = turn_in word;
+      nearest = nearest_in word;
+      outcome = Same (last_in word);
+      first_parent = 0;
+      first_cost = 0;
+      class = 0;
+      unplaced = refl;
+    }
+
+-- the record of a blocked mark in a word
+abbrev pub blocked_in : ℕ → Record
+blocked_in word =
+    record {
+      worker = worker_in word;
+      turn = turn_in word;
+      nearest = nearest_in word;
+      outcome = Blocked;
+      first_parent = 0;
+      first_cost = 0;
+      class = 0;
+      unplaced = refl;
+    }
+
+-- the record in a word, by the number of its outcome: 0 placed, 1 the same point, and any other blocked
+abbrev pub record_in : ℕ → ℕ → ℕ → Record
+record_in zero word first = placed_in word first
+record_in (suc zero) word first = same_in word
+record_in (suc (suc n)) word first = blocked_in word
+
+-- the record that a word holds, with the first word of its node
+abbrev pub record_of_word : ℕ → ℕ → Option Record
+record_of_word word first = if_written word (record_in (outcome_in word) word first)

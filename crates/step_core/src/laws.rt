@@ -1,0 +1,46 @@
+//! Laws of the words, each the contract of a function that does nothing.
+
+ghost use Rattle.std.specs.Prelude.{◌≡◌, ℕ, ◌<◌, ◌^◌, ◌↔◌, Option, Some, None};
+ghost use Rattle.std.specs.Int.{bit_at};
+ghost use Rattle.plan_model.specs.Bounds.{IsBounded};
+ghost use Rattle.plan_model.specs.declared.geometry.Point.{Point};
+ghost use Rattle.plan_model.specs.declared.records.Record.{Record};
+ghost use Rattle.step_core.specs.Words.{FitsWord, IsFirstWord, point_of_word, point_word, record_of_word, record_word, tree_of_word, tree_word};
+
+/// What is packed is read again: a point, a parent with its cost, and a whole record with the first word of its node.
+pub fn packed_words_are_read_again()
+    ensures point { (p : Point) → IsBounded p → point_of_word (point_word p) ≡ Some p }
+    ensures tree { (parent cost : ℕ) → parent < 2 ^ 18 → cost < 2 ^ 44 → tree_of_word (tree_word parent cost) ≡ Some (parent, cost) }
+    ensures record { (entry : Record) (first : ℕ) → FitsWord entry → IsFirstWord entry first
+        → record_of_word (record_word entry) first ≡ Some entry }
+{}
+
+/// Packed words fit 64 bits.
+pub fn packed_words_fit()
+    ensures point { (p : Point) → IsBounded p → point_word p < 2 ^ 64 }
+    ensures tree { (parent cost : ℕ) → parent < 2 ^ 18 → cost < 2 ^ 44 → tree_word parent cost < 2 ^ 64 }
+    ensures record { (entry : Record) → FitsWord entry → record_word entry < 2 ^ 64 }
+{}
+
+/// Different values have different words: values with the same word are the same. For records the first words count too.
+pub fn different_values_have_different_words()
+    ensures point { (p q : Point) → IsBounded p → IsBounded q → point_word p ≡ point_word q → p ≡ q }
+    ensures parent { (parent other cost more : ℕ) → parent < 2 ^ 18 → other < 2 ^ 18 → cost < 2 ^ 44 → more < 2 ^ 44
+        → tree_word parent cost ≡ tree_word other more → parent ≡ other }
+    ensures cost { (parent other cost more : ℕ) → parent < 2 ^ 18 → other < 2 ^ 18 → cost < 2 ^ 44 → more < 2 ^ 44
+        → tree_word parent cost ≡ tree_word other more → cost ≡ more }
+    ensures record { (one other : Record) (first : ℕ) → FitsWord one → FitsWord other → IsFirstWord one first → IsFirstWord other first
+        → record_word one ≡ record_word other → one ≡ other }
+{}
+
+/// A word holds nothing exactly if its bit 63 is 0.
+pub fn words_without_bit_63_hold_nothing()
+    ensures point { (word : ℕ) → word < 2 ^ 64 → (point_of_word word ≡ None ↔ bit_at word 63 ≡ 0) }
+    ensures tree { (word : ℕ) → word < 2 ^ 64 → (tree_of_word word ≡ None ↔ bit_at word 63 ≡ 0) }
+    ensures record { (word first : ℕ) → word < 2 ^ 64 → (record_of_word word first ≡ None ↔ bit_at word 63 ≡ 0) }
+{}
+
+/// A lower cost has a lower word, whichever the parents are.
+pub fn lower_costs_have_lower_words()
+    ensures { (parent other cost more : ℕ) → parent < 2 ^ 18 → cost < more → tree_word parent cost < tree_word other more }
+{}

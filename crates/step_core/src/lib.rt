@@ -1,0 +1,15 @@
+//! The words of a run: how a point, a parent with its cost, and a record are packed into 64 bits each, and read again.
+//!
+//! This is the one place where numbers are packed into one another. Every word that is written has bit 63 set, so that
+//! 0 is a word that is not written yet. `docs/words.md` has the layout, and `layout` has it as constants.
+#![tactic(auto)]
+
+mod laws;
+mod layout;
+mod point_words;
+mod record_words;
+mod tree_words;
+
+pub use point_words::{pack_point, read_point};
+pub use record_words::{pack_mark, read_mark};
+pub use tree_words::{pack_tree, read_tree};

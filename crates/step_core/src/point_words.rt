@@ -1,0 +1,60 @@
+//! Points as words: bit 63 set, y in bits 20 to 39, x in bits 0 to 19. A word is 0 until its point is written.
+
+ghost use Rattle.std.specs.Prelude.{◌≡◌};
+ghost use Rattle.plan_model.specs.Bounds.{IsBounded};
+ghost use Rattle.step_core.specs.Words.{point_of_word, point_word};
+
+use crate::layout::{COORDINATE_MASK, WRITTEN, Y_SHIFT};
+use plan_model::Point;
+
+/// The word of a point. That of (30, 40) is 2^63 + 40 * 2^20 + 30.
+pub fn pack_point(p: Point) -> u64
+    requires { IsBounded p }
+    ensures { result ≡ point_word p }
+{
+    WRITTEN | u64::from(p.y) << Y_SHIFT | u64::from(p.x)
+}
+
+/// The point of a word; `None` exactly if bit 63 is 0, as it is until the word is written.
+pub fn read_point(word: u64) -> Option<Point>
+    ensures read { result ≡ point_of_word word }
+{
+    if word < WRITTEN {
+        return None;
+    }
+    Some(Point {
+        x: (word & COORDINATE_MASK) as u32,
+        y: (word >> Y_SHIFT & COORDINATE_MASK) as u32,
+    })
+}
+
+#[cfg(test)]
+mod tests {
+    use super::*;
+    use plan_model::MOST_COORDINATE;
+
+    #[test]
+    fn packs_y_above_x(rt: HostRuntime) {
+        assert_eq!(rt;
+            pack_point(Point { x: 30, y: 40 }),
+            (1 << 63) + 40 * (1 << 20) + 30
+        );
+        assert_eq!(rt; pack_point(Point { x: 0, y: 0 }), 1 << 63);
+    }
+
+    #[test]
+    fn reads_what_was_packed(rt: HostRuntime) {
+        let most = MOST_COORDINATE;
+        for (x, y) in [(30, 40), (0, 0), (most, 0), (0, most), (most, most)] {
+            assert!(rt; x <= MOST_COORDINATE && y <= MOST_COORDINATE);
+            let p = Point { x, y };
+            assert_eq!(rt; read_point(pack_point(p)), Some(p), "({x}, {y})");
+        }
+    }
+
+    #[test]
+    fn a_word_without_bit_63_holds_no_point(rt: HostRuntime) {
+        assert_eq!(rt; read_point(0), None);
+        assert_eq!(rt; read_point((1 << 63) - 1), None);
+    }
+}

@@ -1,0 +1,229 @@
+//! Records as words: bit 63 set, the worker in bits 0 to 5, its turn in bits 6 to 23, the nearest node in bits 24 to
+//! 41, the outcome in bits 42 and 43 (0 placed, 1 the same point, 2 blocked), and in bits 44 to 61 the class of a
+//! placed mark, the node of one that ended at a node, and 0 of a blocked one. A word is 0 until its mark is done.
+//!
+//! The first parent and the first cost of a placed mark are not in it: they are in the first word of its node.
+
+ghost use Rattle.std.specs.Prelude.{◌≡◌, ◌<◌};
+ghost use Rattle.plan_model.specs.Outcomes.{number_of_outcome};
+ghost use Rattle.step_core.specs.Words.{blocked_in, FitsWord, last_field, last_in, nearest_in, placed_in, record_of_word, record_word, same_in, turn_in, worker_in};
+
+use crate::layout::{
+    LAST_SHIFT, NEAREST_SHIFT, NUMBER_MASK, OUTCOME_MASK, OUTCOME_SHIFT, TURN_SHIFT, WORKER_MASK,
+    WRITTEN,
+};
+use crate::tree_words::{cost_in, parent_in};
+use plan_model::{Outcome, Record};
+
+/// The word of a record. That of worker 0, turn 2, nearest node 1, placed with class 2, is
+/// 2^63 + 2 * 2^6 + 1 * 2^24 + 2 * 2^44.
+pub fn pack_mark(entry: &Record) -> u64
+    requires { FitsWord entry.now }
+    ensures { result ≡ record_word entry.now }
+{
+    WRITTEN
+        | u64::from(last_field(entry)) << LAST_SHIFT
+        | number_of(entry.outcome) << OUTCOME_SHIFT
+        | u64::from(entry.nearest) << NEAREST_SHIFT
+        | u64::from(entry.turn) << TURN_SHIFT
+        | u64::from(entry.worker)
+}
+
+/// The record of a word; `None` exactly if bit 63 is 0, as it is until the word is written.
+///
+/// `first` is the first word of the node that was placed, and counts only if one was. The fourth number of an outcome,
+/// which no packed record has, reads as blocked.
+pub fn read_mark(word: u64, first: u64) -> Option<Record>
+    ensures read { result ≡ record_of_word word first }
+{
+    if word < WRITTEN {
+        return None;
+    }
+    Some(match word >> OUTCOME_SHIFT & OUTCOME_MASK {
+        0 => placed_in(word, first),
+        1 => same_in(word),
+        _ => blocked_in(word),
+    })
+}
+
+/// The record of a placed mark, whose first parent and first cost are in the first word of its node.
+fn placed_in(word: u64, first: u64) -> Record
+    ensures { result ≡ placed_in word first }
+{
+    Record {
+        worker: worker_in(word),
+        turn: turn_in(word),
+        nearest: nearest_in(word),
+        outcome: Outcome::Placed,
+        first_parent: parent_in(first),
+        first_cost: cost_in(first),
+        class: last_in(word),
+    }
+}
+
+/// The record of a mark that ended at a node.
+fn same_in(word: u64) -> Record
+    ensures { result ≡ same_in word }
+{
+    Record {
+        worker: worker_in(word),
+        turn: turn_in(word),
+        nearest: nearest_in(word),
+        outcome: Outcome::Same(last_in(word)),
+        first_parent: 0,
+        first_cost: 0,
+        class: 0,
+    }
+}
+
+/// The record of a blocked mark.
+fn blocked_in(word: u64) -> Record
+    ensures { result ≡ blocked_in word }
+{
+    Record {
+        worker: worker_in(word),
+        turn: turn_in(word),
+        nearest: nearest_in(word),
+        outcome: Outcome::Blocked,
+        first_parent: 0,
+        first_cost: 0,
+        class: 0,
+    }
+}
+
+/// The worker in a record's word.
+fn worker_in(word: u64) -> u32
+    ensures { result ≡ worker_in word }
+{
+    (word & WORKER_MASK) as u32
+}
+
+/// The turn in a record's word.
+fn turn_in(word: u64) -> u32
+    ensures { result ≡ turn_in word }
+{
+    (word >> TURN_SHIFT & NUMBER_MASK) as u32
+}
+
+/// The nearest node in a record's word.
+fn nearest_in(word: u64) -> u32
+    ensures { result ≡ nearest_in word }
+{
+    (word >> NEAREST_SHIFT & NUMBER_MASK) as u32
+}
+
+/// The last field in a record's word.
+fn last_in(word: u64) -> u32
+    ensures { result ≡ last_in word }
+{
+    (word >> LAST_SHIFT & NUMBER_MASK) as u32
+}
+
+/// The last field of a record's word.
+fn last_field(entry: &Record) -> u32
+    ensures { result ≡ last_field entry.now.outcome entry.now.class }
+{
+    match entry.outcome {
+        Outcome::Placed => entry.class,
+        Outcome::Same(node) => node,
+        Outcome::Blocked => 0,
+    }
+}
+
+/// The number of an outcome.
+fn number_of(outcome: Outcome) -> u64
+    ensures value { result ≡ number_of_outcome outcome }
+    ensures few { result < 3 }
+{
+    match outcome {
+        Outcome::Placed => 0,
+        Outcome::Same(_) => 1,
+        Outcome::Blocked => 2,
+    }
+}
+
+#[cfg(test)]
+mod tests {
+    use super::*;
+    use crate::tree_words::pack_tree;
+
+    /// A placed mark with the first parent 3 and the first cost 25,344.
+    const PLACED: Record = Record {
+        worker: 0,
+        turn: 2,
+        nearest: 1,
+        outcome: Outcome::Placed,
+        first_parent: 3,
+        first_cost: 25_344,
+        class: 2,
+    };
+
+    #[test]
+    fn packs_a_placed_mark(rt: HostRuntime) {
+        let word = (1 << 63) + 2 * (1 << 6) + (1 << 24) + 2 * (1 << 44);
+        assert_eq!(rt; pack_mark(&PLACED), word);
+        assert_eq!(rt; read_mark(word, pack_tree(3, 25_344)), Some(PLACED));
+    }
+
+    #[test]
+    fn packs_a_mark_that_ended_at_a_node(rt: HostRuntime) {
+        let entry = Record {
+            worker: 63,
+            turn: 262_142,
+            nearest: 262_143,
+            outcome: Outcome::Same(262_143),
+            first_parent: 0,
+            first_cost: 0,
+            class: 0,
+        };
+        let word = (1 << 63)
+            + 63
+            + 262_142 * (1 << 6)
+            + 262_143 * (1 << 24)
+            + (1 << 42)
+            + 262_143 * (1 << 44);
+        assert_eq!(rt; pack_mark(&entry), word);
+        assert_eq!(rt; read_mark(word, 0), Some(entry));
+        // no node was placed, so its first word does not count
+        assert_eq!(rt; read_mark(word, u64::MAX), Some(entry));
+    }
+
+    #[test]
+    fn packs_a_blocked_mark(rt: HostRuntime) {
+        let entry = Record {
+            worker: 1,
+            turn: 0,
+            nearest: 262_143,
+            outcome: Outcome::Blocked,
+            first_parent: 0,
+            first_cost: 0,
+            class: 0,
+        };
+        let word = (1 << 63) + 1 + 262_143 * (1 << 24) + 2 * (1 << 42);
+        assert_eq!(rt; pack_mark(&entry), word);
+        assert_eq!(rt; read_mark(word, 0), Some(entry));
+        // the fourth number of an outcome
+        assert_eq!(rt; read_mark(word + (1 << 42), 0), Some(entry));
+    }
+
+    #[test]
+    fn reads_the_greatest_fields(rt: HostRuntime) {
+        let entry = Record {
+            worker: 63,
+            turn: 262_142,
+            nearest: 262_143,
+            outcome: Outcome::Placed,
+            first_parent: 262_143,
+            first_cost: 17_592_186_044_415,
+            class: 19,
+        };
+        let first = pack_tree(262_143, 17_592_186_044_415);
+        assert_eq!(rt; read_mark(pack_mark(&entry), first), Some(entry));
+    }
+
+    #[test]
+    fn a_word_without_bit_63_holds_no_record(rt: HostRuntime) {
+        assert_eq!(rt; read_mark(0, 0), None);
+        assert_eq!(rt; read_mark((1 << 63) - 1, 0), None);
+    }
+}
