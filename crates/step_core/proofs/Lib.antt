@@ -1,3 +1,4 @@
 pub mod PackedFields
-pub mod ReadRecords
+pub mod ReadWords
+pub mod PackedWords
 pub mod PackedRecords

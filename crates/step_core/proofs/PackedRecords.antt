@@ -7,34 +7,9 @@ use Rattle.plan_model.specs.declared.records.Outcome.TheVariants.{Placed, Same, 
 use Rattle.plan_model.specs.declared.records.Record.{Record}
 use Rattle.plan_model.specs.Outcomes.{number_of_outcome, is_zero_unless_placed}
 use Rattle.plan_model.proofs.UniqueRuns.{Record-from_fields}
-use Rattle.step_core.specs.Words.{
-  tree_word,
-  parent_in,
-  cost_in,
-  last_field,
-  record_word,
-  FitsWord,
-  IsFirstWord,
-  worker_in,
-  turn_in,
-  nearest_in,
-  outcome_in,
-  last_in,
-  placed_in,
-  same_in,
-  blocked_in,
-  record_in,
-  record_of_word,
-}
-use Rattle.step_core.proofs.ReadRecords.{if_written-set}
-
--- ---- tree words
-
-pub parent_in-tree_word : (parent cost : ℕ) → parent < 2 ^ 18 → parent_in (tree_word parent cost) ≡ parent
-parent_in-tree_word parent cost small = omega (arith, small)
-
-pub cost_in-tree_word : (parent cost : ℕ) → parent < 2 ^ 18 → cost < 2 ^ 44 → cost_in (tree_word parent cost) ≡ cost
-cost_in-tree_word parent cost small low = omega (arith, small, low)
+use Rattle.step_core.specs.Words.{parent_in, cost_in, last_field, record_word, FitsWord, IsFirstWord, worker_in, turn_in, nearest_in, outcome_in, last_in, placed_in, same_in, blocked_in, record_in, record_of_word}
+use Rattle.step_core.proofs.ReadWords.{if_written-set}
+use Rattle.step_core.proofs.PackedWords.{parent_in-tree_word, cost_in-tree_word}
 
 -- ---- the fields of a packed record
 

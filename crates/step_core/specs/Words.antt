@@ -1,12 +1,14 @@
--- The 64-bit words that a run keeps: points, tree words and records as numbers, and what a word reads as.
-use Rattle.std.specs.Prelude.{ℕ, zero, suc, ◌+◌, ◌*◌, ◌/◌, ◌%◌, ◌^◌, ◌<◌, nat_lt, if◌then◌else◌, ◌≡◌, Option, Some, None, refl}
+-- Points, parents with their costs, and records as 64-bit words: bit 63 set, and each field times the power of 2 at which
+-- it stands. What a word reads as: each field by division and remainder.
+use Rattle.std.specs.Prelude.{◌≡◌, ℕ, zero, suc, ◌+◌, ◌*◌, ◌/◌, ◌%◌, ◌^◌, ◌<◌, nat_lt, refl}
+use Rattle.std.specs.Prelude.{if◌then◌else◌, Option, Some, None}
 use Rattle.plan_model.specs.declared.geometry.Point.{Point}
 use Rattle.plan_model.specs.declared.records.Outcome.{Outcome}
 use Rattle.plan_model.specs.declared.records.Outcome.TheVariants.{Placed, Same, Blocked}
 use Rattle.plan_model.specs.declared.records.Record.{Record}
 use Rattle.plan_model.specs.Outcomes.{number_of_outcome}
 
--- what a word reads as: nothing before it is written, when bit 63 is not set
+-- a word holds its value once bit 63 is set, and nothing before
 abbrev pub if_written : {A : Type 0} → ℕ → A → Option A
 if_written word value = if nat_lt word (2 ^ 63) then None else Some value
 
@@ -26,11 +28,11 @@ point_of_word word = if_written word (record { x = word % 2 ^ 20; y = word / 2 ^
 abbrev pub tree_word : ℕ → ℕ → ℕ
 tree_word parent cost = 2 ^ 63 + cost * 2 ^ 18 + parent
 
--- the parent in a tree word or a first word
+-- the parent in a tree word or a first word: its lowest 18 bits
 abbrev pub parent_in : ℕ → ℕ
 parent_in word = word % 2 ^ 18
 
--- the cost in it
+-- the cost in it: 44 bits from bit 18 on
 abbrev pub cost_in : ℕ → ℕ
 cost_in word = word / 2 ^ 18 % 2 ^ 44
 
@@ -66,19 +68,23 @@ pub record IsFirstWord (entry : Record) (first : ℕ) : Type 0 where
   pub parent : entry.first_parent < 2 ^ 18
   pub cost : entry.first_cost < 2 ^ 44
 
--- the fields in a record's word
+-- the worker in a record's word: its lowest 6 bits
 abbrev pub worker_in : ℕ → ℕ
 worker_in word = word % 2 ^ 6
 
+-- the turn: 18 bits from bit 6 on
 abbrev pub turn_in : ℕ → ℕ
 turn_in word = word / 2 ^ 6 % 2 ^ 18
 
+-- the nearest node: 18 bits from bit 24 on
 abbrev pub nearest_in : ℕ → ℕ
 nearest_in word = word / 2 ^ 24 % 2 ^ 18
 
+-- the number of the outcome: bits 42 and 43
 abbrev pub outcome_in : ℕ → ℕ
 outcome_in word = word / 2 ^ 42 % 2 ^ 2
 
+-- the last field: 18 bits from bit 44 on
 abbrev pub last_in : ℕ → ℕ
 last_in word = word / 2 ^ 44 % 2 ^ 18
 

@@ -34,5 +34,14 @@ pub(crate) const OUTCOME_SHIFT: u32 = 42;
 /// The number of an outcome has 2 bits.
 pub(crate) const OUTCOME_MASK: u64 = (1 << 2) - 1;
 
+/// The outcome of a placed mark.
+pub(crate) const PLACED: u64 = 0;
+
+/// The outcome of a mark that ended at a node.
+pub(crate) const SAME: u64 = 1;
+
+/// The outcome of a blocked mark.
+pub(crate) const BLOCKED: u64 = 2;
+
 /// The lowest bit of the last field in a record's word: the class, or the node of the same point.
 pub(crate) const LAST_SHIFT: u32 = 44;

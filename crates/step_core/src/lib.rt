@@ -1,7 +1,8 @@
 //! The words of a run: how a point, a parent with its cost, and a record are packed into 64 bits each, and read again.
 //!
 //! This is the one place where numbers are packed into one another. Every word that is written has bit 63 set, so that
-//! 0 is a word that is not written yet. `docs/words.md` has the layout, and `layout` has it as constants.
+//! 0 is a word that is not written yet. `docs/words.md` has the layout, and `layout` has it as constants. The contracts
+//! say what a word is as a number: a sum of products for what is packed, quotients and remainders for what is read.
 #![tactic(auto)]
 
 mod laws;

@@ -6,11 +6,12 @@
 
 ghost use Rattle.std.specs.Prelude.{◌≡◌, ◌<◌};
 ghost use Rattle.plan_model.specs.Outcomes.{number_of_outcome};
-ghost use Rattle.step_core.specs.Words.{blocked_in, FitsWord, last_field, last_in, nearest_in, placed_in, record_of_word, record_word, same_in, turn_in, worker_in};
+ghost use Rattle.step_core.specs.Words.{FitsWord, last_field, record_of_word, record_word};
+ghost use Rattle.step_core.specs.Words.{blocked_in, last_in, nearest_in, placed_in, same_in, turn_in, worker_in};
 
 use crate::layout::{
-    LAST_SHIFT, NEAREST_SHIFT, NUMBER_MASK, OUTCOME_MASK, OUTCOME_SHIFT, TURN_SHIFT, WORKER_MASK,
-    WRITTEN,
+    BLOCKED, LAST_SHIFT, NEAREST_SHIFT, NUMBER_MASK, OUTCOME_MASK, OUTCOME_SHIFT, PLACED, SAME,
+    TURN_SHIFT, WORKER_MASK, WRITTEN,
 };
 use crate::tree_words::{cost_in, parent_in};
 use plan_model::{Outcome, Record};
@@ -31,8 +32,8 @@ pub fn pack_mark(entry: &Record) -> u64
 
 /// The record of a word; `None` exactly if bit 63 is 0, as it is until the word is written.
 ///
-/// `first` is the first word of the node that was placed, and counts only if one was. The fourth number of an outcome,
-/// which no packed record has, reads as blocked.
+/// `first` is the first word of the node that was placed, and counts only if one was; its two fields are taken as they
+/// stand. The fourth number of an outcome, which no packed record has, reads as blocked.
 pub fn read_mark(word: u64, first: u64) -> Option<Record>
     ensures read { result ≡ record_of_word word first }
 {
@@ -40,8 +41,8 @@ pub fn read_mark(word: u64, first: u64) -> Option<Record>
         return None;
     }
     Some(match word >> OUTCOME_SHIFT & OUTCOME_MASK {
-        0 => placed_in(word, first),
-        1 => same_in(word),
+        PLACED => placed_in(word, first),
+        SAME => same_in(word),
         _ => blocked_in(word),
     })
 }
@@ -136,9 +137,9 @@ fn number_of(outcome: Outcome) -> u64
     ensures few { result < 3 }
 {
     match outcome {
-        Outcome::Placed => 0,
-        Outcome::Same(_) => 1,
-        Outcome::Blocked => 2,
+        Outcome::Placed => PLACED,
+        Outcome::Same(_) => SAME,
+        Outcome::Blocked => BLOCKED,
     }
 }
 
@@ -148,7 +149,7 @@ mod tests {
     use crate::tree_words::pack_tree;
 
     /// A placed mark with the first parent 3 and the first cost 25,344.
-    const PLACED: Record = Record {
+    const ENTRY: Record = Record {
         worker: 0,
         turn: 2,
         nearest: 1,
@@ -161,8 +162,8 @@ mod tests {
     #[test]
     fn packs_a_placed_mark(rt: HostRuntime) {
         let word = (1 << 63) + 2 * (1 << 6) + (1 << 24) + 2 * (1 << 44);
-        assert_eq!(rt; pack_mark(&PLACED), word);
-        assert_eq!(rt; read_mark(word, pack_tree(3, 25_344)), Some(PLACED));
+        assert_eq!(rt; pack_mark(&ENTRY), word);
+        assert_eq!(rt; read_mark(word, pack_tree(3, 25_344)), Some(ENTRY));
     }
 
     #[test]

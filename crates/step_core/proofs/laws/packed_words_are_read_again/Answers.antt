@@ -1,5 +1,12 @@
+use Rattle.step_core.proofs.PackedWords.{point_of_word-packed, tree_of_word-packed}
 use Rattle.step_core.proofs.PackedRecords.{record_of_word-packed}
 use Rattle.step_core.proofs.laws.packed_words_are_read_again.Goals as goal
+
+pub returns-clause-point : goal.returns-clause-point
+returns-clause-point c = point_of_word-packed
+
+pub returns-clause-tree : goal.returns-clause-tree
+returns-clause-tree c = tree_of_word-packed
 
 pub returns-clause-record : goal.returns-clause-record
 returns-clause-record c = record_of_word-packed

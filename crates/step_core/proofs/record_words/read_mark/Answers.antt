@@ -1,5 +1,5 @@
 use Rattle.std.proofs.Common.{◌/◌, ◌^◌, ◌∙◌, bit_and, refl, sym, arith}
-use Rattle.step_core.proofs.ReadRecords.{record_of_word-is, record_in-blocked}
+use Rattle.step_core.proofs.ReadWords.{record_of_word-is, record_in-blocked}
 use Rattle.step_core.proofs.record_words.read_mark.Goals as goal
 
 pub returns-in-0 : goal.returns-in-0

@@ -1,5 +1,6 @@
--- The record that a word holds, outcome by outcome.
-use Rattle.std.proofs.Common.{◌≡◌, ℕ, zero, suc, ◌<◌, ◌≤◌, ◌/◌, ◌^◌, false, nat_lt, bit_and, Some, None, if◌then◌else◌, refl, sym, ap, ◌∙◌, arith}
+-- A word that is written holds its value, and a record outcome by outcome.
+use Rattle.std.proofs.Common.{◌≡◌, ℕ, zero, suc, ◌<◌, ◌≤◌, ◌/◌, ◌^◌, false, nat_lt, bit_and, refl, sym, ap, ◌∙◌, arith}
+use Rattle.std.proofs.Common.{if◌then◌else◌, Some, None}
 use Rattle.std.proofs.lemmas.Bool.Decides.{nat_tests}
 use Rattle.std.proofs.lemmas.Nat.{and_mask}
 use Rattle.plan_model.specs.declared.records.Record.{Record}
@@ -21,6 +22,7 @@ record_in-blocked (suc (suc n)) word first more = refl
 pub outcome_in-mask : (word number : ℕ) → bit_and (word / 2 ^ 42) 3 ≡ number → outcome_in word ≡ number
 outcome_in-mask word number found = sym (and_mask (word / 2 ^ 42) 2) ∙ found
 
+-- a written word holds the record by its number
 pub record_of_word-is : (word first number : ℕ) (entry : Record) → 2 ^ 63 ≤ word → bit_and (word / 2 ^ 42) 3 ≡ number
     → entry ≡ record_in number word first → Some entry ≡ record_of_word word first
 record_of_word-is word first number entry set found is =
