@@ -1,5 +1,9 @@
 //! Points and corners of the plane, in lattice steps; the y axis points upwards.
 
+ghost use Rattle.std.specs.Prelude.{◌≡◌, ◌≤◌, ◌*◌};
+ghost use Rattle.std.specs.Int.{abs_diff};
+ghost use Rattle.plan_model.specs.declared.limits.TheConstants.{MOST_COORDINATE};
+
 /// A configuration: where the body's origin stands.
 #[derive(Clone, Copy, Debug, PartialEq, Eq)]
 pub struct Point {
@@ -13,17 +17,26 @@ impl Point {
     ghost use Rattle.plan_model.specs.Bounds.{IsBounded};
 
     /// The square of the distance to another point, in square lattice steps.
-    #[tactic(auto, using(crate::proofs::Differences::square_of_difference))]
     pub fn squared_distance(self, other: Point) -> u64
         requires from { IsBounded self }
         requires to { IsBounded other }
         ensures value { result ≡ squared_distance self other }
         ensures bound { result < 2 ^ 41 }
     {
-        let horizontal = u64::from(self.x.abs_diff(other.x));
-        let vertical = u64::from(self.y.abs_diff(other.y));
-        horizontal * horizontal + vertical * vertical
+        square_of_difference(self.x, other.x) + square_of_difference(self.y, other.y)
     }
+}
+
+/// The square of the difference of two coordinates.
+#[tactic(auto, using(crate::proofs::Differences::square_of_gap, crate::proofs::Differences::square_of_difference))]
+fn square_of_difference(a: u32, b: u32) -> u64
+    requires first { a ≤ MOST_COORDINATE }
+    requires second { b ≤ MOST_COORDINATE }
+    ensures value { result ≡ abs_diff a b * abs_diff a b }
+    ensures bound { result ≤ MOST_COORDINATE * MOST_COORDINATE }
+{
+    let difference = i64::from(a) - i64::from(b);
+    (difference * difference) as u64
 }
 
 impl Point {

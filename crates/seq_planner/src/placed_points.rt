@@ -58,6 +58,8 @@ impl PlacedPoints {
     }
 
     /// The nearest node to a mark, of those equally near the one with the least number. O(n) for n nodes.
+    // Inlined, the loops of both scans would share the registers with their caller.
+    #[inline(never)]
     pub(crate) fn nearest(&self, mark: Point) -> u32
         requires some { 0 < length self.now.points.items }
         requires numbered { length self.now.numbers.items ≡ length self.now.points.items }
@@ -83,6 +85,7 @@ impl PlacedPoints {
     /// # Errors
     ///
     /// `Memory` if out of memory.
+    #[inline(never)]
     pub(crate) fn near(&self, point: Point, radius: u32, found: &mut Vec<u32>) -> Result<(), Memory>
         requires numbered { length self.now.numbers.items ≡ length self.now.points.items }
         requires nodes { All IsBounded self.now.points.items }
