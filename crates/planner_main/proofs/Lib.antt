@@ -5,3 +5,5 @@ pub mod Branches
 pub mod Causes
 pub mod Decisions
 pub mod Successes
+pub mod GeneratedObstacles
+pub mod ClearStarts

@@ -7,3 +7,4 @@ pub mod Decisions
 pub mod Faults
 pub mod Commands
 pub mod CommandLines
+pub mod GeneratedScenes

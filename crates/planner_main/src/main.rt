@@ -13,6 +13,7 @@ mod best_node;
 mod command_line;
 mod commands;
 mod delivery;
+mod generated_scenes;
 mod paths;
 mod refusals;
 mod reports;

@@ -17,15 +17,16 @@ pub(crate) fn drawn(scene: &Scene, places: Places, k: u32) -> Point
     ensures { result ≡ drawn_mark scene.now k }
 {
     let strip = strip_of(places.columns, scene.strips, k % scene.strips);
-    let (first, second) = words_of(scene.seed, k);
+    let (first, second) = drawn_words(scene.seed, k);
     Point {
         x: picked(strip, first),
         y: picked(places.rows, second),
     }
 }
 
-/// The first two words of the generator of mark `k`, whose state is the seed plus `k` modulo 2^64.
-fn words_of(seed: u64, k: u32) -> (u64, u64)
+/// The first two words of the SplitMix64 whose state is the seed plus `k` modulo 2^64. Those of mark `k` are drawn from the
+/// seed of its scene. O(1).
+pub fn drawn_words(seed: u64, k: u32) -> (u64, u64)
     ensures first { result.0 ≡ first_word ((seed + k) % 2 ^ 64) }
     ensures second { result.1 ≡ second_word ((seed + k) % 2 ^ 64) }
 {
@@ -52,11 +53,11 @@ mod tests {
     #[test]
     fn draws_the_words_of_splitmix64(rt: HostRuntime) {
         let words = (0xE220_A839_7B1D_CDAF, 0x6E78_9E6A_A1B9_65F4);
-        assert_eq!(rt; words_of(0, 0), words);
+        assert_eq!(rt; drawn_words(0, 0), words);
         // the state is 0 again
-        assert_eq!(rt; words_of(u64::MAX, 1), words);
-        assert!(rt; words_of(0, 1) == words_of(1, 0));
-        assert!(rt; words_of(0, 1) != words);
+        assert_eq!(rt; drawn_words(u64::MAX, 1), words);
+        assert!(rt; drawn_words(0, 1) == drawn_words(1, 0));
+        assert!(rt; drawn_words(0, 1) != words);
     }
 
     #[test]

@@ -5,7 +5,7 @@
 //! depend on the marks before it, and a longer plan of the same scene begins with the same marks.
 //!
 //! What the contracts give: [`marks`] are the mark points of the scene by their definition, and [`quota`] is the number of
-//! marks of a strip below a limit.
+//! marks of a strip below a limit. [`drawn_words`] are the words that a mark is drawn by, for whatever else is drawn so.
 #![tactic(auto)]
 
 mod draws;
@@ -13,5 +13,6 @@ mod mark_points;
 mod quotas;
 mod strips;
 
+pub use draws::drawn_words;
 pub use mark_points::marks;
 pub use quotas::quota;

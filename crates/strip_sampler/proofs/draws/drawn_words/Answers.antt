@@ -1,7 +1,7 @@
 use Rattle.std.proofs.Common.{ℕ, ◌+◌, ◌%◌, ◌^◌, ◌<◌}
 use Rattle.std.proofs.lemmas.Nat.{mod_below, pow_pos}
 use Rattle.strip_sampler.proofs.GeneratorWords.{seed-state, word-first, word-second}
-use Rattle.strip_sampler.proofs.draws.words_of.Goals as goal
+use Rattle.strip_sampler.proofs.draws.drawn_words.Goals as goal
 
 pub returns-clause-first : goal.returns-clause-first
 returns-clause-first c =

@@ -1,0 +1,9 @@
+use Rattle.std.proofs.Common.{arith, refl}
+use Rattle.std.proofs.lemmas.List.FromFn.{map-range_with_len_more}
+use Rattle.planner_main.specs.GeneratedScenes.{generated_obstacle}
+use Rattle.planner_main.proofs.generated_scenes.obstacles.Goals as goal
+
+pub loop-cell-preserved : goal.loop-cell-preserved
+loop-cell-preserved c =
+    let more = map-range_with_len_more (generated_obstacle c.args.number) 0 c.loop-cell.cell c.loop-cell.cell (omega arith) in
+    rw (c.in_ok-push.ensures.items, c.loop-cell.invariant, more, c.in_ok-obstacle.ensures) refl
