@@ -65,8 +65,13 @@ right_of x y h = omega (arith, ints)
 
 square_right : (at : Point) (side : ℕ) → 200 ≤ at.x → All (λ v. pos 200 ≤ℤ v.x) (square at side)
 square_right at side h =
-    All-from_recursion (λ v. pos 200 ≤ℤ v.x) (square at side)
-    (right_of at.x at.y h, (right_of (at.x + side) at.y (omega arith), (right_of (at.x + side) (at.y + side) (omega arith), (right_of at.x (at.y + side) h, tt))))
+    All-from_recursion (λ v. pos 200 ≤ℤ v.x) (square at side) (
+      right_of at.x at.y h,
+      (
+        right_of (at.x + side) at.y (omega arith),
+        (right_of (at.x + side) (at.y + side) (omega arith), (right_of at.x (at.y + side) h, tt)),
+      ),
+    )
 
 triangle_right : (at : Point) (side : ℕ) → 200 ≤ at.x → All (λ v. pos 200 ≤ℤ v.x) (triangle at side)
 triangle_right at side h =

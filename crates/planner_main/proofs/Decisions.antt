@@ -18,7 +18,7 @@ use Rattle.planner_main.specs.declared.refusals.Refusal.{Refusal}
 use Rattle.planner_main.specs.declared.refusals.Refusal.TheVariants as refusals
 use Rattle.planner_main.specs.declared.statuses.TheConstants.{NO_PATH, TEXT_REFUSED, START_BLOCKED, NO_MEMORY}
 use Rattle.planner_main.specs.declared.top_call.Done.{Done}
-use Rattle.planner_main.specs.Commands.{reads_scene, tests_start}
+use Rattle.planner_main.specs.Commands.{reads_scene, tests_start, greatest_success}
 use Rattle.planner_main.specs.Conclusions.{IsTextOf, IsFaultyText, BlocksStart, MayStart, Succeeds, status_of_report, IsCaused, IsSuccess}
 use Rattle.planner_main.specs.Decisions.{IsDecidedBy, IsDecided}
 use Rattle.planner_main.specs.Exchanges.{Reading, ReadFailed, IsReadWhole, IsUnread}
@@ -34,7 +34,7 @@ same_start bytes a b s t clear = ClearAt-spelled supported bytes a b s.spelled t
 
 module _ (bytes : List ℕ) (command : Command) (status : ℕ) where
   -- the bytes spell a scene at whose start the command may start, and it succeeds
-  by_success : (scene : Scene) → IsTextOf scene bytes → MayStart command scene → status ≤ NO_PATH → IsDecidedBy bytes command status
+  by_success : (scene : Scene) → IsTextOf scene bytes → MayStart command scene → status ≤ greatest_success command → IsDecidedBy bytes command status
   by_success scene t may low = record {
     done = λ other s m. low;
     blocked = λ other s tests blocked. absurd (blocked (same_start bytes scene other t s (may tests)));
@@ -70,16 +70,31 @@ low_report : (found : Bool) → status_of_report found ≤ NO_PATH
 low_report true = omega arith
 low_report false = omega arith
 
--- a command that succeeds ends with one of the two statuses of success
+-- a command that succeeds ends with one of its statuses of success
 pub Succeeds-low : (command : Command) (bytes : List ℕ) (done : Done) (text : List ℕ) → Succeeds command bytes done text →
-    done.status ≤ NO_PATH
+    done.status ≤ greatest_success command
 Succeeds-low commands.Plain bytes done text r = rw r.report.best (low_report _)
 Succeeds-low commands.Show bytes done text s = omega (arith, s.shown)
+Succeeds-low (commands.Gen number) bytes done text w = omega (arith, w.status)
+Succeeds-low (commands.Trial number) bytes done text t = rw t.report.best (low_report _)
+
+greatest_success-low : (command : Command) → greatest_success command ≤ NO_PATH
+greatest_success-low commands.Plain = omega arith
+greatest_success-low commands.Show = omega arith
+greatest_success-low (commands.Gen number) = omega arith
+greatest_success-low (commands.Trial number) = omega arith
+
+pub IsSuccess-low : (asked : Option Command) (reading : Reading) (done : Done) (text : List ℕ) → IsSuccess asked reading done text →
+    done.status ≤ NO_PATH
+IsSuccess-low asked reading done text s =
+    omega (arith, Succeeds-low s.command s.bytes done text s.meaning, greatest_success-low s.command)
 
 -- a command that tests the start reads a scene
 tests-reads : (command : Command) → IsTrue (tests_start command) → IsTrue (reads_scene command)
 tests-reads commands.Plain tests = refl
 tests-reads commands.Show tests = refl
+tests-reads (commands.Gen number) tests = absurd (false≢true tests)
+tests-reads (commands.Trial number) tests = absurd (false≢true tests)
 
 -- a command that reads a scene succeeds as its bytes decide
 by_meaning : (bytes : List ℕ) (command : Command) (done : Done) (text : List ℕ) → Succeeds command bytes done text →
@@ -89,6 +104,8 @@ by_meaning bytes commands.Plain done text r reads =
 by_meaning bytes commands.Show done text s reads =
     by_success bytes commands.Show done.status s.scene s.spelled (λ tests. absurd (false≢true tests))
     (Succeeds-low commands.Show bytes done text s)
+by_meaning bytes (commands.Gen number) done text w reads = absurd (false≢true reads)
+by_meaning bytes (commands.Trial number) done text t reads = absurd (false≢true reads)
 
 -- known bytes of which more came than a text may have are too many
 long_before : (before now : Option (List ℕ)) (bytes : List ℕ) → CameTooLong before now → before ≡ Some bytes →
@@ -102,15 +119,15 @@ long_before before now bytes came is = long_from now (subst (λ (b : Option (Lis
 module _ (reading : Reading) (command : Command) (status : ℕ) where
   -- what a command has read decides its status as the bytes of the source do
   by_reading : (reads : Bool) (bytes : List ℕ) → MatchBool reads (IsReadWhole reading bytes) (IsUnread reading) →
-      (IsTrue reads → IsDecidedBy bytes command status) → status ≤ NO_PATH →
-      MatchBool reads ((known : List ℕ) → reading.before ≡ Some known → IsDecidedBy known command status) (status ≤ NO_PATH)
+      (IsTrue reads → IsDecidedBy bytes command status) → status ≤ greatest_success command →
+      MatchBool reads ((known : List ℕ) → reading.before ≡ Some known → IsDecidedBy known command status) (status ≤ greatest_success command)
   by_reading true bytes whole decided low = λ known is. subst (λ (b : List ℕ). IsDecidedBy b command status) (whole.all known is) (decided refl)
   by_reading false bytes unread decided low = low
 
   of_reader : IsTrue (reads_scene command) → ((known : List ℕ) → reading.before ≡ Some known → IsDecidedBy known command status) →
       IsDecided reading.before command status
   of_reader reads decided =
-      subst (λ (b : Bool). MatchBool b ((known : List ℕ) → reading.before ≡ Some known → IsDecidedBy known command status) (status ≤ NO_PATH))
+      subst (λ (b : Bool). MatchBool b ((known : List ℕ) → reading.before ≡ Some known → IsDecidedBy known command status) (status ≤ greatest_success command))
       (sym reads) decided
 
   of_whole : IsTrue (reads_scene command) → (bytes : List ℕ) → IsReadWhole reading bytes → IsDecidedBy bytes command status →

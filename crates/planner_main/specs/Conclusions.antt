@@ -21,6 +21,8 @@ use Rattle.planner_main.specs.declared.refusals.Refusal.TheVariants as refusals
 use Rattle.planner_main.specs.declared.statuses.TheConstants.{DONE, NO_PATH}
 use Rattle.planner_main.specs.declared.top_call.Done.{Done}
 use Rattle.planner_main.specs.Commands.{reads_scene, tests_start}
+use Rattle.planner_main.specs.GeneratedScenes.{IsGenerated}
+use Rattle.planner_main.specs.Summaries.{summary}
 use Rattle.planner_main.specs.Exchanges.{Reading, IsReadWhole, IsUnread, IsReadFault, IsTooLong, NoReadFailed}
 use Rattle.planner_main.specs.Refusals.{status_of, line_of}
 
@@ -39,21 +41,25 @@ abbrev pub status_of_report : Bool → ℕ
 status_of_report true = DONE
 status_of_report false = NO_PATH
 
--- The text is the short report of the textbook run of the scene, and the status says whether some node of that run lies
--- in the goal.
-pub record ReportsScene (scene : Scene) (done : Done) (text : List ℕ) : Type 0 where
+-- how the run of a scene becomes a text
+abbrev pub Report : Type 0
+Report = Scene → List (Option Twig) → List Record → List ℕ
+
+-- The text is such a report of the textbook run of the scene, and the status says whether some node of that run lies in
+-- the goal.
+pub record ReportsScene (report : Report) (scene : Scene) (done : Done) (text : List ℕ) : Type 0 where
   pub nodes : List (Option Twig)
   pub records : List Record
   pub run : IsTextbookRun (setup_of scene) scene.start (mark_points scene) nodes records
   pub best : done.status ≡ status_of_report (is_some (best_node scene nodes))
-  pub written : text ≡ short_report scene nodes records
+  pub written : text ≡ report scene nodes records
 
 -- the text reports the textbook run of the scene that the bytes spell, whose start is clear
 pub record ReportsRun (bytes : List ℕ) (done : Done) (text : List ℕ) : Type 0 where
   pub scene : Scene
   pub spelled : IsTextOf scene bytes
   pub start : ClearAt (space_of scene) scene.start
-  pub report : ReportsScene scene done text
+  pub report : ReportsScene short_report scene done text
 
 -- the text is the canonical text of the scene that the bytes spell
 pub record ShowsScene (bytes : List ℕ) (done : Done) (text : List ℕ) : Type 0 where
@@ -62,10 +68,26 @@ pub record ShowsScene (bytes : List ℕ) (done : Done) (text : List ℕ) : Type 
   pub written : text ≡ canonical_text scene
   pub shown : done.status ≡ DONE
 
+-- the text is the canonical text of the generated scene of a number
+pub record WritesGenerated (number : ℕ) (done : Done) (text : List ℕ) : Type 0 where
+  pub scene : Scene
+  pub generated : IsGenerated number scene
+  pub written : text ≡ canonical_text scene
+  pub status : done.status ≡ DONE
+
+-- the text is the summary of the textbook run of the generated scene of a number, whose start is clear
+pub record TriesGenerated (number : ℕ) (done : Done) (text : List ℕ) : Type 0 where
+  pub scene : Scene
+  pub generated : IsGenerated number scene
+  pub start : ClearAt (space_of scene) scene.start
+  pub report : ReportsScene summary scene done text
+
 -- what the success of a command means: of the bytes that it read, of what was done, and of the text
 abbrev pub Succeeds : Command → List ℕ → Done → List ℕ → Type 0
 Succeeds commands.Plain bytes done text = ReportsRun bytes done text
 Succeeds commands.Show bytes done text = ShowsScene bytes done text
+Succeeds (commands.Gen number) bytes done text = WritesGenerated number done text
+Succeeds (commands.Trial number) bytes done text = TriesGenerated number done text
 
 -- what a command that succeeds has read: the whole text of the scene, or nothing
 abbrev pub HasRead : Command → Reading → List ℕ → Type 0

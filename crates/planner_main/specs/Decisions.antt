@@ -6,13 +6,13 @@ use Rattle.plan_model.specs.declared.text_terms.Kind.{Kind}
 use Rattle.plan_model.specs.ConfigurationSpace.{space_of}
 use Rattle.plan_model.specs.Clearance.{ClearAt}
 use Rattle.planner_main.specs.declared.commands.Command.{Command}
-use Rattle.planner_main.specs.declared.statuses.TheConstants.{NO_PATH, TEXT_REFUSED, START_BLOCKED}
-use Rattle.planner_main.specs.Commands.{reads_scene, tests_start}
+use Rattle.planner_main.specs.declared.statuses.TheConstants.{TEXT_REFUSED, START_BLOCKED}
+use Rattle.planner_main.specs.Commands.{reads_scene, tests_start, greatest_success}
 use Rattle.planner_main.specs.Conclusions.{IsTextOf, IsFaultyText, MayStart}
 
 -- the status of a command that reads the text of a scene, by the bytes of the source
 pub record IsDecidedBy (bytes : List ℕ) (command : Command) (status : ℕ) : Type 0 where
-  pub done : (scene : Scene) → IsTextOf scene bytes → MayStart command scene → status ≤ NO_PATH
+  pub done : (scene : Scene) → IsTextOf scene bytes → MayStart command scene → status ≤ greatest_success command
   pub blocked :
       (scene : Scene) → IsTextOf scene bytes → IsTrue (tests_start command) → (¬ ClearAt (space_of scene) scene.start) → status ≡ START_BLOCKED
   pub refused : (number : ℕ) (kind : Kind) → IsFaultyText number kind bytes → status ≡ TEXT_REFUSED
@@ -21,4 +21,4 @@ pub record IsDecidedBy (bytes : List ℕ) (command : Command) (status : ℕ) : T
 -- The status of a command: by the bytes of the source, if they are known; a command that reads nothing succeeds.
 abbrev pub IsDecided : Option (List ℕ) → Command → ℕ → Type 0
 IsDecided left command status =
-    MatchBool (reads_scene command) ((bytes : List ℕ) → left ≡ Some bytes → IsDecidedBy bytes command status) (status ≤ NO_PATH)
+    MatchBool (reads_scene command) ((bytes : List ℕ) → left ≡ Some bytes → IsDecidedBy bytes command status) (status ≤ greatest_success command)

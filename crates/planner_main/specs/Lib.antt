@@ -8,3 +8,4 @@ pub mod Faults
 pub mod Commands
 pub mod CommandLines
 pub mod GeneratedScenes
+pub mod Summaries

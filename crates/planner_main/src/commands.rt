@@ -1,7 +1,10 @@
 //! The commands that the words of the command line may ask for.
 
-ghost use Rattle.std.specs.Prelude.{◌≡◌, map, string_bytes};
-ghost use Rattle.planner_main.specs.Commands.{command_of, command_of_word};
+ghost use Rattle.std.specs.Prelude.{◌≡◌, ◌≤◌, map, string_bytes, IfSome};
+ghost use Rattle.planner_main.specs.Commands.{command_of, command_of_word, command_of_two, number_of, IsNumbered};
+
+use crate::generated_scenes::MOST_GENERATED;
+use scene_text::{is_number, natural};
 
 /// What the words of the command line ask for.
 #[derive(Clone, Copy, Debug, PartialEq, Eq)]
@@ -10,24 +13,55 @@ pub enum Command {
     Plain,
     /// `show`: the canonical text of the scene that is read.
     Show,
+    /// `gen N`: the canonical text of the generated scene of this number.
+    Gen(u32),
+    /// `trial N`: the summary of the textbook run of the generated scene of this number.
+    Trial(u32),
 }
 
 /// The command that the words ask for, without the program's name. `None` if they ask for none.
 pub fn command_of(words: &[String]) -> Option<Command>
-    ensures { result ≡ command_of (map string_bytes words.now) }
+    ensures value { result ≡ command_of (map string_bytes words.now) }
+    ensures scene { IfSome result IsNumbered }
 {
     match words {
         [word] => command_of_word(word.as_str()),
+        [word, number] => command_of_two(word.as_str(), number.as_bytes()),
         _ => None,
     }
 }
 
 fn command_of_word(word: &str) -> Option<Command>
-    ensures { result ≡ command_of_word word.now }
+    ensures value { result ≡ command_of_word word.now }
+    ensures scene { IfSome result IsNumbered }
 {
     match word {
         "plain" => Some(Command::Plain),
         "show" => Some(Command::Show),
         _ => None,
     }
+}
+
+fn command_of_two(word: &str, number: &[u8]) -> Option<Command>
+    ensures value { result ≡ command_of_two word.now number.now }
+    ensures scene { IfSome result IsNumbered }
+{
+    let number = number_of(number)?;
+    match word {
+        "gen" => Some(Command::Gen(number)),
+        "trial" => Some(Command::Trial(number)),
+        _ => None,
+    }
+}
+
+// The number of a generated scene that a word stands for, if it is one.
+fn number_of(word: &[u8]) -> Option<u32>
+    ensures value { result ≡ number_of word.now }
+    ensures small { IfSome result (λ number. number ≤ MOST_GENERATED) }
+{
+    if !is_number(word) {
+        return None;
+    }
+    let number = natural(word, 0, u64::from(MOST_GENERATED))?;
+    Some(number as u32)
 }

@@ -4,8 +4,8 @@
 //!
 //! Everything is done by `run`, over any source and any sink. Its contract says what each status means: with 0 and 1 the
 //! text is the report of the textbook run of the scene that the bytes read spell (or, for `show`, that scene's canonical
-//! text), each refusal has its cause, and which status comes is decided by the bytes if no read or write fails and memory
-//! lasts. The exit code is that of `exit_code`.
+//! text), or of a generated scene, each refusal has its cause, and which status comes is decided by the bytes if no read or
+//! write fails and memory lasts. The exit code is that of `exit_code`.
 #![tactic(auto)]
 
 mod answers;

@@ -1,12 +1,13 @@
 //! The short report of a tree: its cheapest path into the goal, and the counts.
 
-ghost use Rattle.std.specs.Prelude.{◌≡◌, ◌++◌, IfOk, OnOk, is_some, length, string_bytes};
+ghost use Rattle.std.specs.Prelude.{◌≡◌, ◌++◌, IfOk, IfSome, OnOk, is_some, length, string_bytes};
 ghost use Rattle.plan_model.specs.declared.scenes.Scene.{Scene};
-ghost use Rattle.plan_model.specs.PointsByNumber.{node_count};
+ghost use Rattle.plan_model.specs.PointsByNumber.{IsPresent, node_count};
 ghost use Rattle.plan_model.specs.Trees.{points_of};
 ghost use Rattle.plan_model.specs.BestNode.{best_node};
 ghost use Rattle.plan_model.specs.ReportText as spec;
 ghost use Rattle.planner_main.specs.Paths.{HasPaths};
+ghost use Rattle.planner_main.specs.Summaries.{summary};
 
 use crate::best_node::best_node;
 use crate::paths::{cost_to_come, path_to};
@@ -35,19 +36,65 @@ pub fn short_report(alloc: Global, goal: Goal, tree: &Tree) -> Result<Report, Me
 {
     let mut text = String::new(alloc);
     let best = best_node(goal, tree);
-    match best {
-        Some(node) => {
-            let path = path_to(alloc, tree, node)?;
-            push_path_line(&mut text, &path, cost_to_come(tree, node))?;
-            push_point_lines(&mut text, &path)?;
-        }
-        None => text.push_str("no path\n")?,
-    }
+    let path = best_path(alloc, tree, best)?;
+    push_head_line(&mut text, tree, best, &path)?;
+    push_point_lines(&mut text, &path)?;
     push_counts_line(&mut text, tree)?;
     Ok(Report {
         found: best.is_some(),
         text: text.into_bytes(),
     })
+}
+
+/// The short report of a tree without the lines of its path's points: how many points and which cost, and the counts.
+///
+/// `Memory` if the path or the text is out of memory.
+pub fn summary(alloc: Global, goal: Goal, tree: &Tree) -> Result<Report, Memory>
+    requires paths { HasPaths tree.now.twigs }
+    ensures text { (scene : Scene) → scene.goal ≡ goal
+        → IfOk result (λ report. report.text.items ≡ summary scene tree.now.twigs tree.now.records) }
+    ensures found { (scene : Scene) → scene.goal ≡ goal
+        → IfOk result (λ report. report.found ≡ is_some (best_node scene tree.now.twigs)) }
+{
+    let mut text = String::new(alloc);
+    let best = best_node(goal, tree);
+    let path = best_path(alloc, tree, best)?;
+    push_head_line(&mut text, tree, best, &path)?;
+    push_counts_line(&mut text, tree)?;
+    Ok(Report {
+        found: best.is_some(),
+        text: text.into_bytes(),
+    })
+}
+
+// The path to the best node; no point if there is none.
+fn best_path(alloc: Global, tree: &Tree, best: Option<u32>) -> Result<Vec<Point>, Memory>
+    requires paths { HasPaths tree.now.twigs }
+    requires present { IfSome best (IsPresent (points_of tree.now.twigs)) }
+    ensures { IfOk result (λ path. path.items ≡ spec.best_path tree.now.twigs best) }
+{
+    match best {
+        Some(node) => path_to(alloc, tree, node),
+        None => Ok(Vec::new(alloc)),
+    }
+}
+
+// The first line: of the path to the best node, or that there is none.
+fn push_head_line(
+    text: &mut String,
+    tree: &Tree,
+    best: Option<u32>,
+    path: &[Point],
+) -> Result<(), AllocError>
+    requires paths { HasPaths tree.now.twigs }
+    requires present { IfSome best (IsPresent (points_of tree.now.twigs)) }
+    requires path { path.now ≡ spec.best_path tree.now.twigs best }
+    ensures { OnOk result (string_bytes text.new ≡ string_bytes text.old ++ spec.head_line tree.now.twigs best) }
+{
+    match best {
+        Some(node) => push_path_line(text, path, cost_to_come(tree, node)),
+        None => text.push_str("no path\n"),
+    }
 }
 
 // The line of a path: of how many points, and its cost in 256ths of a lattice step.

@@ -21,7 +21,9 @@ pub struct Done {
 }
 
 /// Does as the words say: for `plain`, reads a scene from the source, plans it by textbook RRT* (Karaman and Frazzoli,
-/// IJRR 2011), and writes the short report to the sink; for `show`, reads a scene and writes its canonical text.
+/// IJRR 2011), and writes the short report to the sink; for `show`, reads a scene and writes its canonical text. For `gen`
+/// and `trial` it reads nothing: it writes the text of a generated scene, or plans that scene and writes the report without
+/// the points of its path.
 ///
 /// The text is made whole before anything is written. Each status but `WRITE_FAULT` has one text, which the sink takes
 /// whole; with `WRITE_FAULT` the sink failed, and took a proper prefix of the text.

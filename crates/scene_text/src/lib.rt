@@ -19,6 +19,7 @@ mod scene_reader;
 mod scene_writer;
 
 pub use fetching::{FetchFault, fetch};
+pub use number_words::{is_number, natural};
 pub use plan_model::Kind;
 pub use refusals::{SceneFault, SceneRefusal};
 pub use scene_reader::read_scene;

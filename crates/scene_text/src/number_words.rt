@@ -5,7 +5,7 @@ ghost use Rattle.std.specs.List.{list_all};
 ghost use Rattle.plan_model.specs.TextNumbers.{is_digit, is_positive, is_number as is_number_word, magnitude, value_of};
 
 /// Whether a word is a number: `0`, or digits of which the first is not `0`, and these also after a `-`.
-pub(crate) fn is_number(word: &[u8]) -> bool
+pub fn is_number(word: &[u8]) -> bool
     ensures { result ≡ is_number_word word.now }
 {
     match word {
@@ -33,7 +33,7 @@ fn are_digits(bytes: &[u8]) -> bool
 }
 
 /// The number that a word stands for, if it is one from `least` to `most`.
-pub(crate) fn natural(word: &[u8], least: u64, most: u64) -> Option<u64>
+pub fn natural(word: &[u8], least: u64, most: u64) -> Option<u64>
     requires { IsTrue (is_number_word word.now) }
     ensures value { IfSome result (λ n. value_of word.now ≡ pos n) }
     ensures within { IfSome result (λ n. (least ≤ n) × (n ≤ most)) }

@@ -395,13 +395,21 @@ fn plans_among_as_many_obstacles_as_there_may_be(rt: HostRuntime) -> Result<(), 
 #[test]
 fn refuses_with_the_cause(rt: HostRuntime) -> Result<(), Fail> {
     let scene = "prrt 1\nroom 10 10\nstart 5 5\ngoal 0 0 9 9\nstep 4\n";
-    let words: [&[&str]; 6] = [
+    let words: [&[&str]; 14] = [
         &[],
         &["plan", "4"],
         &["plain", "full"],
         &["plan"],
         &["show", "show"],
         &["Show"],
+        &["gen"],
+        &["gen", "10000"],
+        &["gen", "01"],
+        &["gen", "-1"],
+        &["gen", "-0"],
+        &["gen", ""],
+        &["gen", "1", "2"],
+        &["trial", "x"],
     ];
     for form in words {
         let (status, written) = answer_to_text(rt.alloc(), form, scene)?;
@@ -412,6 +420,48 @@ fn refuses_with_the_cause(rt: HostRuntime) -> Result<(), Fail> {
     let (status, written) = answer_to_text(rt.alloc(), &["plain"], blocked)?;
     assert_eq!(rt; written.as_str(), "start blocked\n");
     assert_eq!(rt; status, 4);
+    Ok(())
+}
+
+// The same over a source whose first read fails; and how many of its reads failed.
+fn answer_over_failing(alloc: Global, words: &[&str]) -> Result<(u8, String, u64), Fail> {
+    let mut failing = MemSource::new(alloc, b"prrt 1\n", 10, &[1])?;
+    let (status, written) = answer_over(alloc, words, &mut failing)?;
+    Ok((status, written, failing.faults()))
+}
+
+#[test]
+fn writes_a_generated_scene(rt: HostRuntime) -> Result<(), Fail> {
+    let begin =
+        "prrt 1\nroom 9999 9999\nbody 0 0 20 0 20 20 0 20\nobstacle 631 700 961 700 961 1030 631 1030\n";
+    let (status, written, faults) = answer_over_failing(rt.alloc(), &["gen", "0"])?;
+    assert!(rt; written.as_str().starts_with(begin));
+    assert_eq!(rt; written.lines().last(), Some("marks 2000"));
+    assert_eq!(rt; status, 0);
+    assert_eq!(rt; faults, 0);
+    let (status, written, faults) = answer_over_failing(rt.alloc(), &["gen", "9999"])?;
+    assert_eq!(rt; written.lines().last(), Some("marks 20000"));
+    assert_eq!(rt; status, 0);
+    assert_eq!(rt; faults, 0);
+    Ok(())
+}
+
+// A trial is the plan of the generated scene without the lines of the points. A separate program computed it.
+#[test]
+fn tries_a_generated_scene(rt: HostRuntime) -> Result<(), Fail> {
+    let alloc = rt.alloc();
+    let (status, summary, faults) = answer_over_failing(alloc, &["trial", "3"])?;
+    assert_eq!(rt;
+        summary.as_str(),
+        "path 48 cost 3522991\nnodes 7605 placed 7604 same 0 blocked 396\n"
+    );
+    assert_eq!(rt; status, 0);
+    assert_eq!(rt; faults, 0);
+    let (_, text, _) = answer_over_failing(alloc, &["gen", "3"])?;
+    let (planned, report) = answer_to_text(alloc, &["plain"], &text)?;
+    assert_eq!(rt; report.lines().next(), summary.lines().next());
+    assert_eq!(rt; report.lines().last(), summary.lines().last());
+    assert_eq!(rt; planned, status);
     Ok(())
 }
 

@@ -1,7 +1,12 @@
-use Rattle.std.proofs.Common.{inr}
+use Rattle.std.proofs.Common.{inr, arith}
 use Rattle.planner_main.specs.Exchanges.{reading_of}
-use Rattle.planner_main.proofs.Decisions.{success_decided, refusal_decided}
+use Rattle.planner_main.proofs.Decisions.{IsSuccess-low, success_decided, refusal_decided}
 use Rattle.planner_main.proofs.top_call.run.Goals as goal
+
+-- no success ends with the status of a sink that failed
+pub conclude-requires : goal.conclude-requires
+conclude-requires g c = λ fault.
+    let low = IsSuccess-low _ _ _ _ c.in-Ok.ensures.success in omega arith
 
 pub returns-in-Ok-clause-decided : goal.returns-in-Ok-clause-decided
 returns-in-Ok-clause-decided g c = λ sure written.
