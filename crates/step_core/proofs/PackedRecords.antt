@@ -7,7 +7,8 @@ use Rattle.plan_model.specs.declared.records.Outcome.TheVariants.{Placed, Same, 
 use Rattle.plan_model.specs.declared.records.Record.{Record}
 use Rattle.plan_model.specs.Outcomes.{number_of_outcome, is_zero_unless_placed}
 use Rattle.plan_model.proofs.UniqueRuns.{Record-from_fields}
-use Rattle.step_core.specs.Words.{parent_in, cost_in, last_field, record_word, FitsWord, IsFirstWord, worker_in, turn_in, nearest_in, outcome_in, last_in, placed_in, same_in, blocked_in, record_in, record_of_word}
+use Rattle.step_core.specs.Words.{parent_in, cost_in, last_field, record_word, FitsWord, IsFirstWord, worker_in, turn_in}
+use Rattle.step_core.specs.Words.{nearest_in, outcome_in, last_in, placed_in, same_in, blocked_in, record_in, record_of_word}
 use Rattle.step_core.proofs.ReadWords.{if_written-set}
 use Rattle.step_core.proofs.PackedWords.{parent_in-tree_word, cost_in-tree_word}
 

@@ -596,16 +596,26 @@ fn shows_as_many_marks_as_there_may_be(rt: HostRuntime) -> Result<(), Fail> {
 #[test]
 fn plans_over_as_many_marks_as_there_may_be(rt: HostRuntime) -> Result<(), Fail> {
     let alloc = rt.alloc();
-    let mut text = String::from_str(alloc, "prrt 1\nroom 9 9\nstart 0 0\ngoal 1 1 2 2\nstep 4\ngamma 9\n")?;
+    let mut text = String::from_str(
+        alloc,
+        "prrt 1\nroom 9 9\nstart 0 0\ngoal 1 1 2 2\nstep 4\ngamma 9\n",
+    )?;
     for _ in 0..262_143 {
         text.push_str("mark 0 0\n")?;
     }
     let (status, written) = answer_to_text(alloc, &["plain"], &text)?;
-    assert_eq!(rt; written.as_str(), "no path\nnodes 1 placed 0 same 262143 blocked 0\n");
+    assert_eq!(rt;
+        written.as_str(),
+        "no path\nnodes 1 placed 0 same 262143 blocked 0\n"
+    );
     assert_eq!(rt; status, 1);
-    let text = "prrt 1\nroom 1 1\nstart 0 0\ngoal 1 1 1 1\nstep 4\ngamma 9\nstrips 2\nmarks 262143\n";
+    let text =
+        "prrt 1\nroom 1 1\nstart 0 0\ngoal 1 1 1 1\nstep 4\ngamma 9\nstrips 2\nmarks 262143\n";
     let (status, written) = answer_to_text(alloc, &["plain"], text)?;
-    assert_eq!(rt; written.as_str(), "path 2 cost 363\n0 0\n1 1\nnodes 4 placed 3 same 262140 blocked 0\n");
+    assert_eq!(rt;
+        written.as_str(),
+        "path 2 cost 363\n0 0\n1 1\nnodes 4 placed 3 same 262140 blocked 0\n"
+    );
     assert_eq!(rt; status, 0);
     Ok(())
 }
