@@ -58,8 +58,7 @@ pub fn summary(alloc: Global, goal: Goal, tree: &Tree) -> Result<Report, Memory>
 {
     let mut text = String::new(alloc);
     let best = best_node(goal, tree);
-    let path = best_path(alloc, tree, best)?;
-    push_head_line(&mut text, tree, best, &path)?;
+    push_head_line(&mut text, tree, best, &best_path(alloc, tree, best)?)?;
     push_counts_line(&mut text, tree)?;
     Ok(Report {
         found: best.is_some(),
