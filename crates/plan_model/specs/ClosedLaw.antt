@@ -1,0 +1,43 @@
+-- The closed law: what a run has when no mark is being handled. Each mark below its limit has one record, and each record is lawful.
+use Rattle.std.specs.Prelude.{◌≡◌, ◌↔◌, ℕ, suc, ◌<◌, ◌≤◌, IsSome, Option, Some, None, List, length, slice_index_or}
+use Rattle.plan_model.specs.declared.geometry.Point.{Point}
+use Rattle.plan_model.specs.declared.limits.TheConstants.{MOST_WORKERS}
+use Rattle.plan_model.specs.declared.records.Outcome.TheVariants.{Placed}
+use Rattle.plan_model.specs.declared.records.Record.{Record}
+use Rattle.plan_model.specs.PointsByNumber.{IsPresent}
+use Rattle.plan_model.specs.TreeStates.{TreeState}
+use Rattle.plan_model.specs.OrderLaw.{KeepsOrder}
+use Rattle.plan_model.specs.RecordLaw.{IsLawful}
+use Rattle.plan_model.specs.Textbook.{Setup}
+
+-- the point of a mark (the law asks it of marks that there are)
+abbrev pub mark_at : List Point → ℕ → Point
+mark_at marks k = slice_index_or marks k (record { x = 0; y = 0 })
+
+-- exactly the marks below the limit have a record
+pub record AreRecordedBelow (limit : ℕ) (record_of : ℕ → Option Record) : Type 0 where
+  pub recorded : (k : ℕ) → k < limit → IsSome (record_of k)
+  pub none_else : (k : ℕ) → limit ≤ k → record_of k ≡ None
+
+-- The turns of each worker run from 0, with no gap and none twice.
+pub record AreTurns (record_of : ℕ → Option Record) : Type 0 where
+  pub once : (j k : ℕ) (one other : Record) → record_of j ≡ Some one → record_of k ≡ Some other
+      → one.worker ≡ other.worker → one.turn ≡ other.turn → j ≡ k
+  pub no_gap : (k turn : ℕ) (entry : Record) → record_of k ≡ Some entry → entry.turn ≡ suc turn
+      → (j : ℕ) × (before : Record) × (record_of j ≡ Some before) × (before.worker ≡ entry.worker) × (before.turn ≡ turn)
+
+-- node k + 1 is present exactly if mark k was placed
+abbrev pub ArePlacedMarks : TreeState → Type 0
+ArePlacedMarks state =
+    (k : ℕ) → IsPresent state.points (suc k) ↔ ((entry : Record) × (state.record_of k ≡ Some entry) × (entry.outcome ≡ Placed))
+
+-- A run over these marks that was closed at this limit.
+pub record IsClosed (setup : Setup) (start : Point) (marks : List Point) (limit : ℕ) (state : TreeState) : Type 0 where
+  pub order : KeepsOrder setup start state
+  pub within : limit ≤ length marks
+  pub records : AreRecordedBelow limit state.record_of
+  pub workers : (k : ℕ) (entry : Record) → state.record_of k ≡ Some entry → entry.worker < MOST_WORKERS
+  pub turns : AreTurns state.record_of
+  pub lawful : (k : ℕ) (entry : Record) → state.record_of k ≡ Some entry → IsLawful setup state k (mark_at marks k) entry
+  pub placed : ArePlacedMarks state
+  pub start_first : state.first_cost 0 ≡ 0

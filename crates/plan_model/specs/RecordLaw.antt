@@ -1,0 +1,103 @@
+-- The record law: what the record of a mark says is borne out by the tree, whoever handled the mark and whatever others did meanwhile.
+use Rattle.std.specs.Prelude.{◌≡◌, ◌≢◌, ℕ, zero, suc, ◌+◌, ◌*◌, ◌==◌, ◌≤◌, nat_lt, ◌&&◌, Bool, true, false, IsTrue, Option, Some, None, List, length, filter}
+use Rattle.std.specs.List.{range_with_len}
+use Rattle.plan_model.specs.declared.geometry.Point.{Point}
+use Rattle.plan_model.specs.declared.records.Outcome.{Outcome}
+use Rattle.plan_model.specs.declared.records.Outcome.TheVariants.{Placed, Same, Blocked}
+use Rattle.plan_model.specs.declared.records.Record.{Record}
+use Rattle.plan_model.specs.Clearance.{Clear}
+use Rattle.plan_model.specs.Cost.{cost_of}
+use Rattle.plan_model.specs.LeastPairs.{IsNotAbove}
+use Rattle.plan_model.specs.Nearness.{distance_to, is_within}
+use Rattle.plan_model.specs.PointsByNumber.{StandsAt, IsPresent, point_at, point_of, node_count}
+use Rattle.plan_model.specs.Radius.{class_of, radius_of_class}
+use Rattle.plan_model.specs.Steering.{steered}
+use Rattle.plan_model.specs.TreeStates.{TreeState}
+use Rattle.plan_model.specs.OrderLaw.{IsTreeEdge, most_cost_of}
+use Rattle.plan_model.specs.Textbook.{Setup}
+
+-- ---- earlier nodes
+
+abbrev pub is_placed : Outcome → Bool
+is_placed Placed = true
+is_placed (Same j) = false
+is_placed Blocked = false
+
+-- a record of a placed mark that the same worker handled in an earlier turn
+abbrev pub is_earlier_record : Record → Option Record → Bool
+is_earlier_record entry None = false
+is_earlier_record entry (Some other) =
+    is_placed other.outcome && (other.worker == entry.worker && nat_lt other.turn entry.turn)
+
+-- node n stood already when the worker of this record handled its mark, by the worker's own records: the start, or a node of its own
+abbrev pub is_earlier : TreeState → Record → ℕ → Bool
+is_earlier state entry zero = true
+is_earlier state entry (suc k) = is_earlier_record entry (state.record_of k)
+
+abbrev pub IsEarlier : TreeState → Record → ℕ → Type 0
+IsEarlier state entry n = IsTrue (is_earlier state entry n)
+
+-- how many nodes stood already, by the worker's own records
+abbrev pub earlier_count : TreeState → Record → ℕ
+earlier_count state entry = length (filter (is_earlier state entry) (range_with_len 0 (length state.points)))
+
+-- ---- placed marks
+
+-- Node i is a neighbour of a new node at p, in a tree of this class: an earlier node within the radius, with a clear edge.
+pub record IsNeighbour (setup : Setup) (state : TreeState) (entry : Record) (p : Point) (i : ℕ) : Type 0 where
+  pub earlier : IsEarlier state entry i
+  pub near : IsTrue (is_within p (radius_of_class setup.step setup.gamma entry.class) (point_at state.points i))
+  pub clear : Clear setup.space (point_of state.points i) p
+
+-- the cost of reaching p by way of node i, by the cost that node i was placed at
+abbrev pub first_cost_through : TreeState → Point → ℕ → ℕ
+first_cost_through state p i = state.first_cost i + cost_of (point_of state.points i) p
+
+-- The class is that of a number of nodes between those that the worker knew of and those that there are now.
+pub record HasClass (state : TreeState) (entry : Record) : Type 0 where
+  pub low : class_of (earlier_count state entry) ≤ entry.class
+  pub high : entry.class ≤ class_of (node_count state.points)
+
+-- The first parent hangs on an edge of the tree. The first cost is between what its kept and its first cost give, and not above
+-- that by way of the nearest node.
+pub record HasFirstParent (setup : Setup) (state : TreeState) (k : ℕ) (entry : Record) (p : Point) : Type 0 where
+  pub parent : IsPresent state.points entry.first_parent
+  pub other : entry.first_parent ≢ suc k
+  pub nearest_other : entry.nearest ≢ suc k
+  pub edge : IsTreeEdge setup (point_of state.points entry.first_parent) p
+  pub above_kept : state.cost entry.first_parent + cost_of (point_of state.points entry.first_parent) p ≤ entry.first_cost
+  pub below_first : entry.first_cost ≤ first_cost_through state p entry.first_parent
+  pub below_nearest : entry.first_cost ≤ first_cost_through state p entry.nearest
+  pub bounded : entry.first_cost ≤ most_cost_of setup (node_count state.points)
+
+-- Mark k was placed: its node stands at p over a clear segment. No neighbour was a cheaper parent, and none stays dearer than
+-- by way of the new node.
+pub record IsPlacedLawfully (setup : Setup) (state : TreeState) (k : ℕ) (entry : Record) (p : Point) : Type 0 where
+  pub clear : Clear setup.space (point_of state.points entry.nearest) p
+  pub stands : StandsAt state.points (suc k) p
+  pub of_class : HasClass state entry
+  pub first : HasFirstParent setup state k entry p
+  pub chosen : (i : ℕ) → IsNeighbour setup state entry p i → entry.first_cost ≤ first_cost_through state p i
+  pub rewired :
+      (i : ℕ) → IsNeighbour setup state entry p i → state.cost i ≤ entry.first_cost + cost_of (point_of state.points i) p
+  pub kept : state.cost (suc k) ≤ entry.first_cost
+  pub first_cost : state.first_cost (suc k) ≡ entry.first_cost
+
+-- ---- the law
+
+-- the segment to p is not clear, and no earlier node stands at p
+pub record IsBlockedLawfully (setup : Setup) (state : TreeState) (entry : Record) (p : Point) : Type 0 where
+  pub blocked : ¬ Clear setup.space (point_of state.points entry.nearest) p
+  pub free : (i : ℕ) → IsEarlier state entry i → ¬ StandsAt state.points i p
+
+-- what the outcome of mark k says, where the nearest node steered to p
+abbrev pub HasLawfulOutcome : Setup → TreeState → ℕ → Record → Point → Outcome → Type 0
+HasLawfulOutcome setup state k entry p Placed = IsPlacedLawfully setup state k entry p
+HasLawfulOutcome setup state k entry p (Same j) = StandsAt state.points j p
+HasLawfulOutcome setup state k entry p Blocked = IsBlockedLawfully setup state entry p
+
+-- The record of mark k: no earlier node is nearer to the mark than the nearest one, and the outcome is what it says.
+pub record IsLawful (setup : Setup) (state : TreeState) (k : ℕ) (mark : Point) (entry : Record) : Type 0 where
+  pub present : IsPresent state.points entry.nearest
+  pub nearest : (i : ℕ) → IsEarlier state entry i → IsNotAbove (distance_to mark state.points) entry.nearest i
+  pub outcome : HasLawfulOutcome setup state k entry (steered (point_of state.points entry.nearest) mark setup.step) entry.outcome
