@@ -7,10 +7,10 @@ use Rattle.plan_model.specs.declared.records.Record.{Record}
 use Rattle.plan_model.specs.PointsByNumber.{IsPresent}
 use Rattle.plan_model.specs.TreeStates.{TreeState}
 use Rattle.plan_model.specs.OrderLaw.{KeepsOrder}
-use Rattle.plan_model.specs.RecordLaw.{IsLawful}
+use Rattle.plan_model.specs.RecordLaw.{IsLawfulRecord}
 use Rattle.plan_model.specs.Textbook.{Setup}
 
--- the point of a mark (the law asks it of marks that there are)
+-- the point of mark k (asked only of marks below the limit)
 abbrev pub mark_at : List Point → ℕ → Point
 mark_at marks k = slice_index_or marks k (record { x = 0; y = 0 })
 
@@ -38,6 +38,5 @@ pub record IsClosed (setup : Setup) (start : Point) (marks : List Point) (limit 
   pub records : AreRecordedBelow limit state.record_of
   pub workers : (k : ℕ) (entry : Record) → state.record_of k ≡ Some entry → entry.worker < MOST_WORKERS
   pub turns : AreTurns state.record_of
-  pub lawful : (k : ℕ) (entry : Record) → state.record_of k ≡ Some entry → IsLawful setup state k (mark_at marks k) entry
+  pub lawful : (k : ℕ) (entry : Record) → state.record_of k ≡ Some entry → IsLawfulRecord setup state k (mark_at marks k) entry
   pub placed : ArePlacedMarks state
-  pub start_first : state.first_cost 0 ≡ 0

@@ -22,6 +22,11 @@ pub mod Branches
 pub mod Outcomes
 pub mod BestNode
 pub mod Textbook
+pub mod TreeStates
+pub mod OrderLaw
+pub mod RecordLaw
+pub mod ClosedLaw
+pub mod Ways
 pub mod SameRuns
 pub mod ReportText
 pub mod TextLines

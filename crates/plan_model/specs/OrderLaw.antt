@@ -1,27 +1,26 @@
 -- The order law: what a tree with kept costs keeps at every moment. Costs strictly fall along parents, so there is no cycle.
-use Rattle.std.specs.Prelude.{◌≡◌, ◌≢◌, ℕ, zero, suc, ◌+◌, ◌-◌, ◌*◌, ◌≤◌, Option, List}
+use Rattle.std.specs.Prelude.{◌≡◌, ◌≢◌, ℕ, suc, ◌+◌, ◌-◌, ◌*◌, ◌≤◌}
 use Rattle.plan_model.specs.declared.geometry.Point.{Point}
-use Rattle.plan_model.specs.ConfigurationSpace.{ConfigurationSpace}
 use Rattle.plan_model.specs.Clearance.{Clear, ClearAt}
 use Rattle.plan_model.specs.Cost.{cost_of}
 use Rattle.plan_model.specs.Geometry.{squared_distance}
 use Rattle.plan_model.specs.PointsByNumber.{StandsAt, IsPresent, AreDistinct, point_of, node_count}
-use Rattle.plan_model.specs.TreeStates.{TreeState}
+use Rattle.plan_model.specs.TreeStates.{TreeState, first_cost_of}
 use Rattle.plan_model.specs.Textbook.{Setup}
 
--- The tree may have an edge from a to b: it is clear and no longer than the step.
-pub record IsTreeEdge (setup : Setup) (a b : Point) : Type 0 where
+-- A tree may have an edge from a to b: it is clear and no longer than the step.
+pub record IsAllowedEdge (setup : Setup) (a b : Point) : Type 0 where
   pub clear : Clear setup.space a b
   pub short : squared_distance a b ≤ setup.step * setup.step
 
--- Node n hangs below its parent by an edge of the tree, and costs at least what its parent costs and the edge.
+-- Node n hangs below its parent by an allowed edge, and costs at least what its parent costs and the edge.
 pub record HangsBelow (setup : Setup) (state : TreeState) (n : ℕ) : Type 0 where
   pub parent : IsPresent state.points (state.parent n)
   pub other : state.parent n ≢ n
-  pub edge : IsTreeEdge setup (point_of state.points (state.parent n)) (point_of state.points n)
+  pub edge : IsAllowedEdge setup (point_of state.points (state.parent n)) (point_of state.points n)
   pub cost : state.cost (state.parent n) + cost_of (point_of state.points (state.parent n)) (point_of state.points n) ≤ state.cost n
 
--- the greatest cost in a tree with so many nodes: a longest edge for each node after the start
+-- a bound on the costs of a tree with so many nodes: a longest edge for each node after the start
 abbrev pub most_cost_of : Setup → ℕ → ℕ
 most_cost_of setup nodes = 256 * setup.step * (nodes - 1)
 
@@ -34,3 +33,8 @@ pub record KeepsOrder (setup : Setup) (start : Point) (state : TreeState) : Type
   pub start_cost : state.cost 0 ≡ 0
   pub hangs : (n : ℕ) → IsPresent state.points (suc n) → HangsBelow setup state (suc n)
   pub bounded : (n : ℕ) → IsPresent state.points n → state.cost n ≤ most_cost_of setup (node_count state.points)
+
+-- No node costs more than it was placed at, and that is within the bound.
+pub record KeepsFirstCosts (setup : Setup) (state : TreeState) : Type 0 where
+  pub kept : (n : ℕ) → IsPresent state.points n → state.cost n ≤ first_cost_of state n
+  pub bounded : (n : ℕ) → IsPresent state.points n → first_cost_of state n ≤ most_cost_of setup (node_count state.points)

@@ -1,5 +1,5 @@
 -- The record law: what the record of a mark says is borne out by the tree, whoever handled the mark and whatever others did meanwhile.
-use Rattle.std.specs.Prelude.{◌≡◌, ◌≢◌, ℕ, zero, suc, ◌+◌, ◌*◌, ◌==◌, ◌≤◌, nat_lt, ◌&&◌, Bool, true, false, IsTrue, Option, Some, None, List, length, filter}
+use Rattle.std.specs.Prelude.{◌≡◌, ◌≢◌, ℕ, zero, suc, ◌+◌, ◌==◌, ◌≤◌, nat_lt, ◌&&◌, Bool, true, false, IsTrue, Option, Some, None, length, filter}
 use Rattle.std.specs.List.{range_with_len}
 use Rattle.plan_model.specs.declared.geometry.Point.{Point}
 use Rattle.plan_model.specs.declared.records.Outcome.{Outcome}
@@ -12,11 +12,11 @@ use Rattle.plan_model.specs.Nearness.{distance_to, is_within}
 use Rattle.plan_model.specs.PointsByNumber.{StandsAt, IsPresent, point_at, point_of, node_count}
 use Rattle.plan_model.specs.Radius.{class_of, radius_of_class}
 use Rattle.plan_model.specs.Steering.{steered}
-use Rattle.plan_model.specs.TreeStates.{TreeState}
-use Rattle.plan_model.specs.OrderLaw.{IsTreeEdge, most_cost_of}
+use Rattle.plan_model.specs.TreeStates.{TreeState, first_cost_of}
+use Rattle.plan_model.specs.OrderLaw.{IsAllowedEdge, most_cost_of}
 use Rattle.plan_model.specs.Textbook.{Setup}
 
--- ---- earlier nodes
+-- ---- the nodes that the same worker placed earlier
 
 abbrev pub is_placed : Outcome → Bool
 is_placed Placed = true
@@ -29,7 +29,7 @@ is_earlier_record entry None = false
 is_earlier_record entry (Some other) =
     is_placed other.outcome && (other.worker == entry.worker && nat_lt other.turn entry.turn)
 
--- node n stood already when the worker of this record handled its mark, by the worker's own records: the start, or a node of its own
+-- node n stood already when the worker of this record handled its mark, by its own records: the start, or a node that it placed
 abbrev pub is_earlier : TreeState → Record → ℕ → Bool
 is_earlier state entry zero = true
 is_earlier state entry (suc k) = is_earlier_record entry (state.record_of k)
@@ -43,7 +43,7 @@ earlier_count state entry = length (filter (is_earlier state entry) (range_with_
 
 -- ---- placed marks
 
--- Node i is a neighbour of a new node at p, in a tree of this class: an earlier node within the radius, with a clear edge.
+-- Node i is a neighbour of a new node at p: an earlier node within the radius of the record's class, with a clear edge.
 pub record IsNeighbour (setup : Setup) (state : TreeState) (entry : Record) (p : Point) (i : ℕ) : Type 0 where
   pub earlier : IsEarlier state entry i
   pub near : IsTrue (is_within p (radius_of_class setup.step setup.gamma entry.class) (point_at state.points i))
@@ -51,37 +51,39 @@ pub record IsNeighbour (setup : Setup) (state : TreeState) (entry : Record) (p :
 
 -- the cost of reaching p by way of node i, by the cost that node i was placed at
 abbrev pub first_cost_through : TreeState → Point → ℕ → ℕ
-first_cost_through state p i = state.first_cost i + cost_of (point_of state.points i) p
+first_cost_through state p i = first_cost_of state i + cost_of (point_of state.points i) p
 
--- The class is that of a number of nodes between those that the worker knew of and those that there are now.
-pub record HasClass (state : TreeState) (entry : Record) : Type 0 where
+-- The class is that of a number of nodes between the earlier nodes and so many nodes.
+pub record HasClass (state : TreeState) (entry : Record) (nodes : ℕ) : Type 0 where
   pub low : class_of (earlier_count state entry) ≤ entry.class
-  pub high : entry.class ≤ class_of (node_count state.points)
+  pub high : entry.class ≤ class_of nodes
 
--- The first parent hangs on an edge of the tree. The first cost is between what its kept and its first cost give, and not above
--- that by way of the nearest node.
-pub record HasFirstParent (setup : Setup) (state : TreeState) (k : ℕ) (entry : Record) (p : Point) : Type 0 where
+-- What the worker knows of a mark that it placed at p, where there were so many nodes: the segment is clear, no neighbour was a
+-- cheaper parent, and none stays dearer than by way of the new node.
+pub record IsChosenLawfully (setup : Setup) (state : TreeState) (entry : Record) (p : Point) (nodes : ℕ) : Type 0 where
+  pub clear : Clear setup.space (point_of state.points entry.nearest) p
+  pub of_class : HasClass state entry nodes
+  pub chosen : (i : ℕ) → IsNeighbour setup state entry p i → entry.first_cost ≤ first_cost_through state p i
+  pub rewired : (i : ℕ) → IsNeighbour setup state entry p i → state.cost i ≤ entry.first_cost + cost_of (point_of state.points i) p
+
+-- What the tree knows of the node of mark k: it stands at p. The first cost is at least what the first parent costs now and the
+-- edge, and at most what that parent, and what the nearest node, was placed at and the edge.
+pub record HangsLawfully (setup : Setup) (state : TreeState) (k : ℕ) (entry : Record) (p : Point) : Type 0 where
+  pub stands : StandsAt state.points (suc k) p
   pub parent : IsPresent state.points entry.first_parent
   pub other : entry.first_parent ≢ suc k
   pub nearest_other : entry.nearest ≢ suc k
-  pub edge : IsTreeEdge setup (point_of state.points entry.first_parent) p
+  pub edge : IsAllowedEdge setup (point_of state.points entry.first_parent) p
   pub above_kept : state.cost entry.first_parent + cost_of (point_of state.points entry.first_parent) p ≤ entry.first_cost
   pub below_first : entry.first_cost ≤ first_cost_through state p entry.first_parent
   pub below_nearest : entry.first_cost ≤ first_cost_through state p entry.nearest
   pub bounded : entry.first_cost ≤ most_cost_of setup (node_count state.points)
-
--- Mark k was placed: its node stands at p over a clear segment. No neighbour was a cheaper parent, and none stays dearer than
--- by way of the new node.
-pub record IsPlacedLawfully (setup : Setup) (state : TreeState) (k : ℕ) (entry : Record) (p : Point) : Type 0 where
-  pub clear : Clear setup.space (point_of state.points entry.nearest) p
-  pub stands : StandsAt state.points (suc k) p
-  pub of_class : HasClass state entry
-  pub first : HasFirstParent setup state k entry p
-  pub chosen : (i : ℕ) → IsNeighbour setup state entry p i → entry.first_cost ≤ first_cost_through state p i
-  pub rewired :
-      (i : ℕ) → IsNeighbour setup state entry p i → state.cost i ≤ entry.first_cost + cost_of (point_of state.points i) p
   pub kept : state.cost (suc k) ≤ entry.first_cost
-  pub first_cost : state.first_cost (suc k) ≡ entry.first_cost
+
+-- mark k was placed at p
+pub record IsPlacedLawfully (setup : Setup) (state : TreeState) (k : ℕ) (entry : Record) (p : Point) : Type 0 where
+  pub by_worker : IsChosenLawfully setup state entry p (node_count state.points)
+  pub by_tree : HangsLawfully setup state k entry p
 
 -- ---- the law
 
@@ -97,7 +99,7 @@ HasLawfulOutcome setup state k entry p (Same j) = StandsAt state.points j p
 HasLawfulOutcome setup state k entry p Blocked = IsBlockedLawfully setup state entry p
 
 -- The record of mark k: no earlier node is nearer to the mark than the nearest one, and the outcome is what it says.
-pub record IsLawful (setup : Setup) (state : TreeState) (k : ℕ) (mark : Point) (entry : Record) : Type 0 where
+pub record IsLawfulRecord (setup : Setup) (state : TreeState) (k : ℕ) (mark : Point) (entry : Record) : Type 0 where
   pub present : IsPresent state.points entry.nearest
   pub nearest : (i : ℕ) → IsEarlier state entry i → IsNotAbove (distance_to mark state.points) entry.nearest i
   pub outcome : HasLawfulOutcome setup state k entry (steered (point_of state.points entry.nearest) mark setup.step) entry.outcome

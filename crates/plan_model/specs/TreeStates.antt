@@ -1,20 +1,36 @@
--- A tree with its costs and records at some moment: of a finished run, of a table in the middle of one, or what one worker has seen.
-use Rattle.std.specs.Prelude.{◌≡◌, ℕ, zero, suc, ◌+◌, ◌≤◌, Option, Some, None, List}
+-- A tree with its costs and records at some moment: of a finished run, or of a table in the middle of one.
+use Rattle.std.specs.Prelude.{◌≡◌, ◌<◌, ◌⊎◌, ℕ, zero, suc, Option, Some, None, List}
 use Rattle.plan_model.specs.declared.geometry.Point.{Point}
 use Rattle.plan_model.specs.declared.records.Record.{Record}
 use Rattle.plan_model.specs.PointsByNumber.{StandsAt, IsPresent}
 
--- Where each node stands, and by its number its parent, its kept cost and the cost that it was placed at; the records by mark.
+-- Where each node stands, and by its number its parent, its kept cost, and the cost that was written when it was placed; the
+-- records by mark. Of a number without a node nothing is said.
 pub record TreeState : Type 0 where
   pub points : List (Option Point)
   pub parent : ℕ → ℕ
   pub cost : ℕ → ℕ
-  pub first_cost : ℕ → ℕ
+  pub written_cost : ℕ → ℕ
   pub record_of : ℕ → Option Record
+
+-- the first cost of a record, or else another
+abbrev pub recorded_or : ℕ → Option Record → ℕ
+recorded_or written None = written
+recorded_or written (Some entry) = entry.first_cost
+
+-- The cost that node n was placed at: by the record of its mark, or as it was written while the mark is in hand.
+abbrev pub first_cost_of : TreeState → ℕ → ℕ
+first_cost_of state zero = 0
+first_cost_of state (suc k) = recorded_or (state.written_cost (suc k)) (state.record_of k)
+
+-- a node keeps its parent and its cost, or its cost fell
+abbrev pub KeepsOrFalls : TreeState → TreeState → ℕ → Type 0
+KeepsOrFalls before after n =
+    ((after.cost n ≡ before.cost n) × (after.parent n ≡ before.parent n)) ⊎ (after.cost n < before.cost n)
 
 -- What stays from one moment to a later one: nodes, first costs and records stand, and no cost rises.
 pub record GrowsInto (before after : TreeState) : Type 0 where
   pub nodes : (n : ℕ) (p : Point) → StandsAt before.points n p → StandsAt after.points n p
-  pub first_costs : (n : ℕ) → IsPresent before.points n → after.first_cost n ≡ before.first_cost n
-  pub costs_fall : (n : ℕ) → IsPresent before.points n → after.cost n ≤ before.cost n
+  pub first_costs : (n : ℕ) → IsPresent before.points n → first_cost_of after n ≡ first_cost_of before n
+  pub trees : (n : ℕ) → IsPresent before.points n → KeepsOrFalls before after n
   pub records : (k : ℕ) (entry : Record) → before.record_of k ≡ Some entry → after.record_of k ≡ Some entry
