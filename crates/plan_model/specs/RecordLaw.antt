@@ -1,5 +1,5 @@
 -- The record law: what the record of a mark says is borne out by the tree, whoever handled the mark and whatever others did meanwhile.
-use Rattle.std.specs.Prelude.{◌≡◌, ◌≢◌, ℕ, zero, suc, ◌+◌, ◌==◌, ◌≤◌, nat_lt, ◌&&◌, Bool, true, false, IsTrue, Option, Some, None, length, filter}
+use Rattle.std.specs.Prelude.{◌≢◌, ℕ, zero, suc, ◌+◌, ◌==◌, ◌≤◌, nat_lt, ◌&&◌, Bool, true, false, IsTrue, Option, Some, None, length, filter}
 use Rattle.std.specs.List.{range_with_len}
 use Rattle.plan_model.specs.declared.geometry.Point.{Point}
 use Rattle.plan_model.specs.declared.records.Outcome.{Outcome}
