@@ -37,3 +37,8 @@ pub mod SpanLaws
 pub mod QuotaLaws
 pub mod DrawnMarks
 pub mod ParentChanges
+pub mod NodeCounts
+pub mod TreeStateLaws
+pub mod OrderLaws
+pub mod LoweredCosts
+pub mod AddedNodes

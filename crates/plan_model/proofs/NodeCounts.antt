@@ -1,0 +1,57 @@
+-- How many nodes are present: not fewer if each present node stays, and one more if one number more has a node.
+use Rattle.std.proofs.Common.{◌≡◌, ℕ, zero, suc, ◌+◌, ◌≤◌, Bool, true, false, cond, List, [], ◌∷◌, Option, arith, refl, sym, ap, ◌∙◌}
+use Rattle.std.specs.Prelude.{◌≢◌, is_some}
+use Rattle.std.proofs.lemmas.Bool.{false_from_ne_true}
+use Rattle.plan_model.specs.declared.geometry.Point.{Point}
+use Rattle.plan_model.specs.PointsByNumber.{point_at, IsPresent, node_count}
+use Rattle.plan_model.proofs.ChainLaws.{node_count-cons}
+
+-- the points from number 1 on
+abbrev rest : List (Option Point) → List (Option Point)
+rest [] = []
+rest (o ∷ points) = points
+
+node_count-rest : (points : List (Option Point)) → node_count points ≡ cond (is_some (point_at points 0)) 1 0 + node_count (rest points)
+node_count-rest [] = refl
+node_count-rest (o ∷ points) = node_count-cons o points
+
+point_at-rest : (points : List (Option Point)) (i : ℕ) → point_at (rest points) i ≡ point_at points (suc i)
+point_at-rest [] i = refl
+point_at-rest (o ∷ points) i = refl
+
+one_or_none : (a b : Bool) → (a ≡ true → b ≡ true) → cond a 1 0 ≤ cond b 1 0
+one_or_none false b h = omega arith
+one_or_none true b h =
+    let here : ◌≡◌ {A = ℕ} (cond b 1 0) 1 = ap (λ t. cond {A = ℕ} t 1 0) (h refl) in
+    omega (arith, here)
+
+-- if each node of the one list is present in the other, the other has as many at least
+pub node_count-le : (one other : List (Option Point)) → ((i : ℕ) → IsPresent one i → IsPresent other i) → node_count one ≤ node_count other
+node_count-le [] other h = omega arith
+node_count-le (o ∷ one) other h =
+    let here = one_or_none (is_some o) (is_some (point_at other 0)) (h 0) in
+    let later = node_count-le one (rest other) (λ i present. ap is_some (point_at-rest other i) ∙ h (suc i) present) in
+    omega (arith, node_count-cons o one, node_count-rest other, here, later)
+
+-- lists with the same points have as many nodes
+pub node_count-same : (one other : List (Option Point)) → ((i : ℕ) → point_at other i ≡ point_at one i) → node_count other ≡ node_count one
+node_count-same one other same =
+    let up = node_count-le one other (λ i h. ap is_some (same i) ∙ h) in
+    let down = node_count-le other one (λ i h. ap is_some (sym (same i)) ∙ h) in
+    omega (arith, up, down)
+
+-- if the other list has a node at one number more, it has one node more
+pub node_count-one_more :
+    (one other : List (Option Point)) (n : ℕ) → ¬ IsPresent one n → IsPresent other n → ((i : ℕ) → i ≢ n → point_at other i ≡ point_at one i)
+    → node_count other ≡ suc (node_count one)
+node_count-one_more one other zero absent here same =
+    let later = node_count-same (rest one) (rest other) (λ i. point_at-rest other i ∙ same (suc i) (λ e. omega arith) ∙ sym (point_at-rest one i)) in
+    let some : ◌≡◌ {A = ℕ} (cond (is_some (point_at other 0)) 1 0) 1 = ap (λ t. cond {A = ℕ} t 1 0) here in
+    let none : ◌≡◌ {A = ℕ} (cond (is_some (point_at one 0)) 1 0) 0 = ap (λ t. cond {A = ℕ} t 1 0) (false_from_ne_true (is_some (point_at one 0)) absent) in
+    omega (arith, node_count-rest one, node_count-rest other, later, some, none)
+node_count-one_more one other (suc n) absent here same =
+    let later =
+    node_count-one_more (rest one) (rest other) n (λ h. absent (ap is_some (sym (point_at-rest one n)) ∙ h)) (ap is_some (point_at-rest other n) ∙ here)
+    (λ i apart. point_at-rest other i ∙ same (suc i) (λ e. apart (omega arith)) ∙ sym (point_at-rest one i)) in
+    let first = ap (λ o. cond {A = ℕ} (is_some o) 1 0) (same 0 (λ e. omega arith)) in
+    omega (arith, node_count-rest one, node_count-rest other, later, first)
