@@ -34,6 +34,7 @@ pub mod Differences
 pub mod RationalPoints
 pub mod SegmentLaws
 pub mod SpanLaws
+pub mod CountsBelow
 pub mod QuotaLaws
 pub mod DrawnMarks
 pub mod ParentChanges
@@ -42,3 +43,6 @@ pub mod TreeStateLaws
 pub mod OrderLaws
 pub mod LoweredCosts
 pub mod AddedNodes
+pub mod EarlierNodes
+pub mod RecordLaws
+pub mod CountLaws

@@ -1,22 +1,12 @@
 -- The c-th mark of strip g has the number c * strips + g, so the quota counts the marks of the strip below the limit.
-use Rattle.std.proofs.Common.{◌≡◌, ℕ, zero, suc, ◌+◌, ◌*◌, ◌/◌, ◌%◌, ◌<◌, ◌≤◌, Bool, true, false, cond, eqb, [], ◌∷◌, ◌++◌, arith, refl, ap, ◌∙◌, inl, inr}
-use Rattle.std.specs.List.{range_with_len, sum_by}
+use Rattle.std.proofs.Common.{◌≡◌, ℕ, zero, suc, ◌+◌, ◌*◌, ◌/◌, ◌%◌, ◌<◌, ◌≤◌, Bool, true, false, cond, eqb, arith, refl, ap, ◌∙◌, inl, inr}
 use Rattle.std.proofs.lemmas.Nat.{mul-le, div-add-mod', mod-mul-add}
 use Rattle.std.proofs.lemmas.Bool.{cases_lt, eqb-true, eqb-false}
-use Rattle.std.proofs.lemmas.List.Sums.{sum_by_push}
 use Rattle.plan_model.specs.MarkPoints.{quota_of}
-
-range-more : (a n : ℕ) → range_with_len a (suc n) ≡ range_with_len a n ++ (a + n) ∷ []
-range-more a zero = ap (λ k. k ∷ []) (omega arith)
-range-more a (suc n) =
-    let e : (a + 1) + n ≡ a + suc n = omega arith in
-    ap (λ ks. a ∷ ks) (range-more (a + 1) n ∙ ap (λ k. range_with_len (a + 1) n ++ k ∷ []) e)
+use Rattle.plan_model.proofs.CountsBelow.{count-more}
 
 quota-more : (strips g n : ℕ) → quota_of strips g (suc n) ≡ quota_of strips g n + cond (eqb (n % strips) g) 1 0
-quota-more strips g n =
-    let own : ℕ → ℕ = λ k. cond (eqb (k % strips) g) 1 0 in
-    let number : 0 + n ≡ n = omega arith in
-    ap (sum_by own) (range-more 0 n ∙ ap (λ k. range_with_len 0 n ++ k ∷ []) number) ∙ sum_by_push own (range_with_len 0 n) n
+quota-more strips g n = count-more (λ k. eqb (k % strips) g) n
 
 -- the marks of the strip below the limit are those below its quota
 pub record IsCutAt (strips g limit quota : ℕ) : Type 0 where

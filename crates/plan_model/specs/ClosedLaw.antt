@@ -1,9 +1,11 @@
 -- The closed law: what a run has when no mark is being handled. Each mark below its limit has one record, and each record is lawful.
-use Rattle.std.specs.Prelude.{◌≡◌, ◌↔◌, ℕ, suc, ◌<◌, ◌≤◌, IsSome, Option, Some, None, List, length, slice_index_or}
+use Rattle.std.specs.Prelude.{◌≡◌, ◌↔◌, ℕ, suc, ◌==◌, ◌<◌, ◌≤◌, Bool, false, IsSome, Option, Some, None, List, length, count_by, slice_index_or}
+use Rattle.std.specs.List.{range_with_len}
 use Rattle.plan_model.specs.declared.geometry.Point.{Point}
 use Rattle.plan_model.specs.declared.limits.TheConstants.{MOST_WORKERS}
 use Rattle.plan_model.specs.declared.records.Outcome.TheVariants.{Placed}
 use Rattle.plan_model.specs.declared.records.Record.{Record}
+use Rattle.plan_model.specs.Outcomes.{number_of_outcome}
 use Rattle.plan_model.specs.PointsByNumber.{IsPresent}
 use Rattle.plan_model.specs.TreeStates.{TreeState}
 use Rattle.plan_model.specs.OrderLaw.{KeepsOrder}
@@ -40,3 +42,14 @@ pub record IsClosed (setup : Setup) (start : Point) (marks : List Point) (limit 
   pub turns : AreTurns state.record_of
   pub lawful : (k : ℕ) (entry : Record) → state.record_of k ≡ Some entry → IsLawfulRecord setup state k (mark_at marks k) entry
   pub placed : ArePlacedMarks state
+
+-- ---- counts
+
+-- whether a mark has a record with the outcome of this number
+abbrev pub has_outcome : ℕ → Option Record → Bool
+has_outcome number None = false
+has_outcome number (Some entry) = number_of_outcome entry.outcome == number
+
+-- how many marks below the limit have the outcome of this number
+abbrev pub outcome_count : (ℕ → Option Record) → ℕ → ℕ → ℕ
+outcome_count record_of limit number = count_by (λ k. has_outcome number (record_of k)) (range_with_len 0 limit)

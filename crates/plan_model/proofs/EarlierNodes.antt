@@ -1,0 +1,119 @@
+-- The nodes that stood already when the worker of a record handled its mark: they stay the same, and as many.
+use Rattle.std.proofs.Common.{◌≡◌, ℕ, zero, suc, ◌<◌, ◌≤◌, Bool, true, false, eqb, ltb, Option, Some, None, length, refl, sym, ap, ◌∙◌, inl, inr}
+use Rattle.std.specs.Prelude.{◌≢◌, ◌⊎◌, ◌&&◌, IsTrue}
+use Rattle.std.specs.List.{range_with_len}
+use Rattle.std.proofs.lemmas.Bool.{cases_eq, and_parts, and_left, and_right, ne_eqb, le-ltb}
+use Rattle.std.proofs.lemmas.List.Sums.{length-filter}
+use Rattle.plan_model.specs.declared.geometry.Point.{Point}
+use Rattle.plan_model.specs.declared.records.Outcome.{Outcome}
+use Rattle.plan_model.specs.declared.records.Outcome.TheVariants.{Placed, Same, Blocked}
+use Rattle.plan_model.specs.declared.records.Record.{Record}
+use Rattle.plan_model.specs.PointsByNumber.{IsPresent, point_of}
+use Rattle.plan_model.specs.Steering.{steered}
+use Rattle.plan_model.specs.TreeStates.{TreeState, GrowsInto}
+use Rattle.plan_model.specs.RecordLaw.{is_placed, is_earlier_record, is_earlier, IsEarlier, earlier_count, HasLawfulOutcome, IsLawfulRecord}
+use Rattle.plan_model.specs.ClosedLaw.{ArePlacedMarks}
+use Rattle.plan_model.specs.Textbook.{Setup}
+use Rattle.plan_model.proofs.CountsBelow.{count-same, count-limits}
+use Rattle.plan_model.proofs.DistinctPoints.{IsPresent-below}
+use Rattle.plan_model.proofs.NewNodes.{IsPresent-stands}
+use Rattle.plan_model.proofs.TreeStateLaws.{IsPresent-grows}
+
+-- ---- earlier nodes are present
+
+is_placed-true : (outcome : Outcome) → is_placed outcome ≡ true → outcome ≡ Placed
+is_placed-true Placed h = refl
+is_placed-true (Same j) h = cc
+is_placed-true Blocked h = cc
+
+-- the record of an earlier mark is that of a placed one
+earlier_placed : (entry : Record) (o : Option Record) → IsTrue (is_earlier_record entry o) → (other : Record) × (o ≡ Some other) × (other.outcome ≡ Placed)
+earlier_placed entry None h = cc
+earlier_placed entry (Some other) h =
+    let placed = (and_parts (is_placed other.outcome) (eqb other.worker entry.worker && ltb other.turn entry.turn) h).0 in
+    (other, refl, is_placed-true other.outcome placed)
+
+-- if the present nodes are the start and those of the placed marks
+pub earlier-present :
+    (state : TreeState) (entry : Record) → IsPresent state.points 0 → ArePlacedMarks state → (n : ℕ) → IsEarlier state entry n → IsPresent state.points n
+earlier-present state entry start placed zero h = start
+earlier-present state entry start placed (suc k) h =
+    let own = earlier_placed entry (state.record_of k) h in
+    (placed k).1 own
+
+-- the node of a mark that was placed lawfully is present
+placed_present :
+    (setup : Setup) (state : TreeState) (k : ℕ) (entry : Record) (p : Point) (outcome : Outcome) → outcome ≡ Placed
+    → HasLawfulOutcome setup state k entry p outcome → IsPresent state.points (suc k)
+placed_present setup state k entry p Placed e h = IsPresent-stands state.points (suc k) p h.by_tree.stands
+placed_present setup state k entry p (Same j) e h = let b = ap is_placed e in cc
+placed_present setup state k entry p Blocked e h = let b = ap is_placed e in cc
+
+-- or if all records are lawful
+pub earlier-present_lawful :
+    (setup : Setup) (mark : ℕ → Point) (state : TreeState) (entry : Record) → IsPresent state.points 0
+    → ((k : ℕ) (own : Record) → state.record_of k ≡ Some own → IsLawfulRecord setup state k (mark k) own)
+    → (n : ℕ) → IsEarlier state entry n → IsPresent state.points n
+earlier-present_lawful setup mark state entry start lawful zero h = start
+earlier-present_lawful setup mark state entry start lawful (suc k) h =
+    let own = earlier_placed entry (state.record_of k) h in
+    let point : Point = steered (point_of state.points own.0.nearest) (mark k) setup.step in
+    placed_present setup state k own.0 point own.0.outcome own.2 (lawful k own.0 own.1).outcome
+
+-- ---- the same earlier nodes
+
+-- The earlier nodes of a record are the same at both moments, and were present.
+pub record HaveSameEarlier (before after : TreeState) (entry : Record) : Type 0 where
+  pub same : (n : ℕ) → is_earlier after entry n ≡ is_earlier before entry n
+  pub present : (n : ℕ) → IsEarlier before entry n → IsPresent before.points n
+
+-- then they are as many
+pub earlier_count-same :
+    (before after : TreeState) (entry : Record) → GrowsInto before after → HaveSameEarlier before after entry
+    → earlier_count after entry ≡ earlier_count before entry
+earlier_count-same before after entry grows h =
+    let early : ℕ → Bool = is_earlier before entry in
+    let below : (i : ℕ) → early i ≡ true → i < length before.points =
+    λ i e. IsPresent-below before.points i (h.present i e) in
+    let later_below : (i : ℕ) → early i ≡ true → i < length after.points =
+    λ i e. IsPresent-below after.points i (IsPresent-grows before after grows i (h.present i e)) in
+    length-filter (is_earlier after entry) (range_with_len 0 (length after.points))
+    ∙ count-same (is_earlier after entry) early (length after.points) (λ i l. h.same i)
+    ∙ count-limits early (length after.points) (length before.points) later_below below
+    ∙ sym (length-filter early (range_with_len 0 (length before.points)))
+
+-- The record of mark k is the only new one: of another worker than `entry`, or of no earlier turn.
+pub record AddsLaterRecord (before after : TreeState) (k : ℕ) (new entry : Record) : Type 0 where
+  pub absent : before.record_of k ≡ None
+  pub recorded : after.record_of k ≡ Some new
+  pub others : (j : ℕ) → j ≢ k → after.record_of j ≡ before.record_of j
+  pub later : (new.worker ≢ entry.worker) ⊎ (entry.turn ≤ new.turn)
+
+-- such a record is not that of an earlier mark
+not_earlier : (new entry : Record) → (new.worker ≢ entry.worker) ⊎ (entry.turn ≤ new.turn) → is_earlier_record entry (Some new) ≡ false
+not_earlier new entry (inl apart) =
+    and_right (is_placed new.outcome) (eqb new.worker entry.worker && ltb new.turn entry.turn)
+    (and_left (eqb new.worker entry.worker) (ltb new.turn entry.turn) (ne_eqb new.worker entry.worker apart))
+not_earlier new entry (inr no_less) =
+    and_right (is_placed new.outcome) (eqb new.worker entry.worker && ltb new.turn entry.turn)
+    (and_right (eqb new.worker entry.worker) (ltb new.turn entry.turn) (le-ltb new.turn entry.turn no_less))
+
+-- so the earlier nodes are the same with it
+pub is_earlier-same :
+    (before after : TreeState) (k : ℕ) (new entry : Record) → AddsLaterRecord before after k new entry
+    → (n : ℕ) → is_earlier after entry n ≡ is_earlier before entry n
+is_earlier-same before after k new entry change zero = refl
+is_earlier-same before after k new entry change (suc j) =
+    elim (cases_eq j k) [
+      | inl e ↦ (
+          ap (λ m. is_earlier_record entry (after.record_of m)) e ∙ ap (is_earlier_record entry) change.recorded ∙ not_earlier new entry change.later
+          ∙ sym (ap (λ m. is_earlier_record entry (before.record_of m)) e ∙ ap (is_earlier_record entry) change.absent))
+      | inr apart ↦ ap (is_earlier_record entry) (change.others j apart)
+    ]
+
+-- and so they are with the same records
+pub is_earlier-same_records :
+    (before after : TreeState) (entry : Record) → ((k : ℕ) → after.record_of k ≡ before.record_of k)
+    → (n : ℕ) → is_earlier after entry n ≡ is_earlier before entry n
+is_earlier-same_records before after entry same zero = refl
+is_earlier-same_records before after entry same (suc k) = ap (is_earlier_record entry) (same k)

@@ -1,0 +1,147 @@
+-- A lawful record stays lawful while the tree grows, if the earlier nodes of the record stay the same.
+use Rattle.std.proofs.Common.{◌≡◌, ℕ, suc, ◌≤◌, arith, sym, ap, ◌∙◌, subst}
+use Rattle.std.specs.Prelude.{IsTrue}
+use Rattle.std.proofs.lemmas.Int.Digits.{length-digits_of-le}
+use Rattle.plan_model.specs.declared.geometry.Point.{Point}
+use Rattle.plan_model.specs.declared.records.Outcome.{Outcome}
+use Rattle.plan_model.specs.declared.records.Outcome.TheVariants.{Placed, Same, Blocked}
+use Rattle.plan_model.specs.declared.records.Record.{Record}
+use Rattle.plan_model.specs.Clearance.{Clear}
+use Rattle.plan_model.specs.Cost.{cost_of}
+use Rattle.plan_model.specs.Geometry.{squared_distance}
+use Rattle.plan_model.specs.LeastPairs.{IsNotAbove}
+use Rattle.plan_model.specs.Nearness.{distance_to, is_within}
+use Rattle.plan_model.specs.PointsByNumber.{IsPresent, point_of, node_count}
+use Rattle.plan_model.specs.Radius.{class_of, radius_of_class}
+use Rattle.plan_model.specs.Steering.{steered}
+use Rattle.plan_model.specs.TreeStates.{TreeState, GrowsInto}
+use Rattle.plan_model.specs.OrderLaw.{IsAllowedEdge, most_cost_of}
+use Rattle.plan_model.specs.RecordLaw.{IsEarlier, IsNeighbour, first_cost_through, IsChosenLawfully, HangsLawfully, IsBlockedLawfully, HasLawfulOutcome, IsLawfulRecord}
+use Rattle.plan_model.specs.Textbook.{Setup}
+use Rattle.plan_model.proofs.ClassLaws.{below_digits}
+use Rattle.plan_model.proofs.EarlierNodes.{HaveSameEarlier, earlier_count-same}
+use Rattle.plan_model.proofs.NewNodes.{IsPresent-stands}
+use Rattle.plan_model.proofs.OrderLaws.{most_cost_of-le}
+use Rattle.plan_model.proofs.TreeStateLaws.{IsPresent-grows, point_at-grows, point_of-grows, StandsAt-before, cost-grows, node_count-grows}
+
+-- more nodes have no smaller class
+pub class_of-le : (m n : ℕ) → m ≤ n → class_of m ≤ class_of n
+class_of-le m n h = length-digits_of-le 2 (class_of n) m (omega arith) (omega (arith, below_digits n, h))
+
+module _ (setup : Setup) (before after : TreeState) (grows : GrowsInto before after) (entry : Record) (same : HaveSameEarlier before after entry) where
+  was_earlier : (i : ℕ) → IsEarlier after entry i → IsEarlier before entry i
+  was_earlier i h = sym (same.same i) ∙ h
+
+  same_point : (i : ℕ) → IsPresent before.points i → point_of after.points i ≡ point_of before.points i
+  same_point i h = point_of-grows before after grows i h
+
+  same_edge : (p : Point) (i : ℕ) → IsPresent before.points i → cost_of (point_of after.points i) p ≡ cost_of (point_of before.points i) p
+  same_edge p i h = ap (λ a. cost_of a p) (same_point i h)
+
+  same_through : (p : Point) (i : ℕ) → IsPresent before.points i → first_cost_through after p i ≡ first_cost_through before p i
+  same_through p i h = omega (arith, grows.first_costs i h, same_edge p i h)
+
+  bound_rises : most_cost_of setup (node_count before.points) ≤ most_cost_of setup (node_count after.points)
+  bound_rises = most_cost_of-le setup (node_count before.points) (node_count after.points) (node_count-grows before after grows)
+
+  -- ---- placed marks
+
+  -- no neighbour is new
+  IsNeighbour-before : (p : Point) (i : ℕ) → IsNeighbour setup after entry p i → IsNeighbour setup before entry p i
+  IsNeighbour-before p i h =
+      let early = was_earlier i h.earlier in
+      let here = same.present i early in
+      record {
+        earlier = early;
+        near =
+            subst (λ o. IsTrue (is_within p (radius_of_class setup.step setup.gamma entry.class) o)) (point_at-grows before after grows i here)
+            h.near;
+        clear = subst (λ a. Clear setup.space a p) (same_point i here) h.clear;
+      }
+
+  -- what the worker knows stays true
+  pub IsChosenLawfully-grows :
+      (p : Point) (nodes later : ℕ) → nodes ≤ later → IsPresent before.points entry.nearest
+      → IsChosenLawfully setup before entry p nodes → IsChosenLawfully setup after entry p later
+  IsChosenLawfully-grows p nodes later more nearest h = record {
+    clear = subst (λ a. Clear setup.space a p) (sym (same_point entry.nearest nearest)) h.clear;
+    of_class = record {
+      low = omega (arith, ap class_of (earlier_count-same before after entry grows same), h.of_class.low);
+      high = omega (arith, h.of_class.high, class_of-le nodes later more);
+    };
+    chosen = λ i n.
+        let was = IsNeighbour-before p i n in
+        omega (arith, h.chosen i was, same_through p i (same.present i was.earlier));
+    rewired = λ i n.
+        let was = IsNeighbour-before p i n in
+        let here = same.present i was.earlier in
+        omega (arith, h.rewired i was, cost-grows before after grows i here, same_edge p i here);
+  }
+
+  -- and what the tree knows
+  pub HangsLawfully-grows :
+      (k : ℕ) (p : Point) → IsPresent before.points entry.nearest → HangsLawfully setup before k entry p → HangsLawfully setup after k entry p
+  HangsLawfully-grows k p nearest h =
+      let f : ℕ = entry.first_parent in
+      let own = IsPresent-stands before.points (suc k) p h.stands in
+      record {
+        stands = grows.nodes (suc k) p h.stands;
+        parent = IsPresent-grows before after grows f h.parent;
+        other = h.other;
+        nearest_other = h.nearest_other;
+        edge = subst (λ a. IsAllowedEdge setup a p) (sym (same_point f h.parent)) h.edge;
+        above_kept = omega (arith, h.above_kept, cost-grows before after grows f h.parent, same_edge p f h.parent);
+        below_first = omega (arith, h.below_first, same_through p f h.parent);
+        below_nearest = omega (arith, h.below_nearest, same_through p entry.nearest nearest);
+        bounded = omega (arith, h.bounded, bound_rises);
+        kept = omega (arith, h.kept, cost-grows before after grows (suc k) own);
+      }
+
+  -- ---- blocked marks
+
+  -- the segment stays blocked, and no earlier node comes to stand at p
+  pub IsBlockedLawfully-grows :
+      (p : Point) → IsPresent before.points entry.nearest → IsBlockedLawfully setup before entry p → IsBlockedLawfully setup after entry p
+  IsBlockedLawfully-grows p nearest h = record {
+    blocked = λ clear. h.blocked (subst (λ a. Clear setup.space a p) (same_point entry.nearest nearest) clear);
+    free = λ i early stands.
+        let was = was_earlier i early in
+        h.free i was (StandsAt-before before after grows i p (same.present i was) stands);
+  }
+
+  -- ---- the law
+
+  -- what an outcome says stays true
+  outcome_stays :
+      (k : ℕ) (p : Point) (outcome : Outcome) → IsPresent before.points entry.nearest
+      → HasLawfulOutcome setup before k entry p outcome → HasLawfulOutcome setup after k entry p outcome
+  outcome_stays k p Placed nearest h = record {
+    by_worker =
+        IsChosenLawfully-grows p (node_count before.points) (node_count after.points) (node_count-grows before after grows) nearest h.by_worker;
+    by_tree = HangsLawfully-grows k p nearest h.by_tree;
+  }
+  outcome_stays k p (Same j) nearest h = grows.nodes j p h
+  outcome_stays k p Blocked nearest h = IsBlockedLawfully-grows p nearest h
+
+  -- the nearest node stays nearest of the earlier nodes
+  nearest_stays :
+      (mark : Point) (i : ℕ) → IsPresent before.points entry.nearest → IsPresent before.points i
+      → IsNotAbove (distance_to mark before.points) entry.nearest i → IsNotAbove (distance_to mark after.points) entry.nearest i
+  nearest_stays mark i nearest here h =
+      let own = ap (λ a. squared_distance a mark) (same_point entry.nearest nearest) in
+      let other = ap (λ a. squared_distance a mark) (same_point i here) in
+      record { least = omega (arith, own, other, h.least); first = λ e. h.first (omega (arith, own, other, e)) }
+
+  -- A lawful record stays lawful.
+  pub IsLawfulRecord-grows : (k : ℕ) (mark : Point) → IsLawfulRecord setup before k mark entry → IsLawfulRecord setup after k mark entry
+  IsLawfulRecord-grows k mark h =
+      let point : Point → Point = λ a. steered a mark setup.step in
+      let here = outcome_stays k (point (point_of before.points entry.nearest)) entry.outcome h.present h.outcome in
+      record {
+        present = IsPresent-grows before after grows entry.nearest h.present;
+        nearest = λ i early.
+            let was = was_earlier i early in
+            nearest_stays mark i h.present (same.present i was) (h.nearest i was);
+        outcome =
+            subst (λ a. HasLawfulOutcome setup after k entry (point a) entry.outcome) (sym (same_point entry.nearest h.present)) here;
+      }
