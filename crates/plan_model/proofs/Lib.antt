@@ -46,3 +46,4 @@ pub mod AddedNodes
 pub mod EarlierNodes
 pub mod RecordLaws
 pub mod CountLaws
+pub mod TextbookStates

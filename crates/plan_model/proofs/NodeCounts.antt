@@ -1,7 +1,9 @@
 -- How many nodes are present: not fewer if each present node stays, and one more if one number more has a node.
 use Rattle.std.proofs.Common.{◌≡◌, ℕ, zero, suc, ◌+◌, ◌≤◌, Bool, true, false, cond, List, [], ◌∷◌, Option, arith, refl, sym, ap, ◌∙◌}
-use Rattle.std.specs.Prelude.{◌≢◌, is_some}
+use Rattle.std.specs.Prelude.{◌≢◌, is_some, count_by}
+use Rattle.std.specs.List.{range_with_len}
 use Rattle.std.proofs.lemmas.Bool.{false_from_ne_true}
+use Rattle.std.proofs.lemmas.List.Sums.{sum_by-cons}
 use Rattle.plan_model.specs.declared.geometry.Point.{Point}
 use Rattle.plan_model.specs.PointsByNumber.{point_at, IsPresent, node_count}
 use Rattle.plan_model.proofs.ChainLaws.{node_count-cons}
@@ -55,3 +57,22 @@ node_count-one_more one other (suc n) absent here same =
     (λ i apart. point_at-rest other i ∙ same (suc i) (λ e. apart (omega arith)) ∙ sym (point_at-rest one i)) in
     let first = ap (λ o. cond {A = ℕ} (is_some o) 1 0) (same 0 (λ e. omega arith)) in
     omega (arith, node_count-rest one, node_count-rest other, later, first)
+
+-- of some numbers in a row no more pass a test than there are nodes, if all that pass are present
+count_from-le :
+    (points : List (Option Point)) (test : ℕ → Bool) (a n : ℕ) → ((i : ℕ) → test (a + i) ≡ true → IsPresent points i)
+    → count_by test (range_with_len a n) ≤ node_count points
+count_from-le points test a zero h = omega arith
+count_from-le points test a (suc n) h =
+    let first : a + 0 ≡ a = omega arith in
+    let here = one_or_none (test a) (is_some (point_at points 0)) (λ passes. h 0 (ap test first ∙ passes)) in
+    let later =
+    count_from-le (rest points) test (a + 1) n
+    (λ i passes. let next : a + suc i ≡ (a + 1) + i = omega arith in ap is_some (point_at-rest points i) ∙ h (suc i) (ap test next ∙ passes)) in
+    omega (arith, sum_by-cons (λ k. cond {A = ℕ} (test k) 1 0) a (range_with_len (a + 1) n), node_count-rest points, here, later)
+
+pub count-le_node_count :
+    (points : List (Option Point)) (test : ℕ → Bool) (n : ℕ) → ((i : ℕ) → test i ≡ true → IsPresent points i)
+    → count_by test (range_with_len 0 n) ≤ node_count points
+count-le_node_count points test n h =
+    count_from-le points test 0 n (λ i passes. let e : 0 + i ≡ i = omega arith in h i (ap test (sym e) ∙ passes))

@@ -56,12 +56,13 @@ module _ (costs : ℕ → ℕ) (tree : List (Option Twig)) (i n fall : ℕ) (aft
   pub IsPresent-cheaper_parent : (k : ℕ) → IsPresent (points_of tree) k → IsPresent (points_of after) k
   IsPresent-cheaper_parent k h = subst (λ points. IsPresent points k) (sym points_of-cheaper_parent) h
 
-  parent_new : (k : ℕ) → k ≡ i → parent_of after k ≡ n
+  -- node i has the new parent, and every other node its own
+  pub parent_new : (k : ℕ) → k ≡ i → parent_of after k ≡ n
   parent_new k e =
       ap (parent_of after) e ∙ ap (λ nodes. parent_of nodes i) change.exchanged
       ∙ ap parent_or_zero (get_or-set_same tree i _ None (present_below tree i change.present))
 
-  parent_kept : (k : ℕ) → k ≢ i → parent_of after k ≡ parent_of tree k
+  pub parent_kept : (k : ℕ) → k ≢ i → parent_of after k ≡ parent_of tree k
   parent_kept k apart = ap (λ nodes. parent_of nodes k) change.exchanged ∙ ap parent_or_zero (get_or-set_other tree i k _ None apart)
 
   edge_from : (k m : ℕ) → parent_of after k ≡ m → edge_of after k ≡ cost_of (point_of (points_of tree) m) (point_of (points_of tree) k)

@@ -1,8 +1,10 @@
 -- A tree with its costs and records at some moment: of a finished run, or of a table in the middle of one.
-use Rattle.std.specs.Prelude.{◌≡◌, ◌<◌, ◌⊎◌, ℕ, zero, suc, Option, Some, None, List}
+use Rattle.std.specs.Prelude.{◌≡◌, ◌<◌, ◌⊎◌, ℕ, zero, suc, Option, Some, None, List, slice_get}
 use Rattle.plan_model.specs.declared.geometry.Point.{Point}
 use Rattle.plan_model.specs.declared.records.Record.{Record}
+use Rattle.plan_model.specs.declared.trees.Twig.{Twig}
 use Rattle.plan_model.specs.PointsByNumber.{StandsAt, IsPresent}
+use Rattle.plan_model.specs.Trees.{points_of, parent_of, sum_of}
 
 -- Where each node stands, and by its number its parent, its kept cost, and the cost that was written when it was placed; the
 -- records by mark. Of a number without a node nothing is said.
@@ -34,3 +36,14 @@ pub record GrowsInto (before after : TreeState) : Type 0 where
   pub first_costs : (n : ℕ) → IsPresent before.points n → first_cost_of after n ≡ first_cost_of before n
   pub trees : (n : ℕ) → IsPresent before.points n → KeepsOrFalls before after n
   pub records : (k : ℕ) (entry : Record) → before.record_of k ≡ Some entry → after.record_of k ≡ Some entry
+
+-- The state of a tree and the records of its marks, in which each node costs its sum.
+abbrev pub state_of : List (Option Twig) → List Record → TreeState
+state_of tree records =
+    record {
+      points = points_of tree;
+      parent = parent_of tree;
+      cost = sum_of tree;
+      written_cost = λ n. 0;
+      record_of = slice_get records;
+    }

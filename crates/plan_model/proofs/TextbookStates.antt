@@ -1,0 +1,200 @@
+-- The state of a tree and the records of its marks, as in a textbook run: its costs, the start alone, and one number more.
+use Rattle.std.proofs.Common.{◌≡◌, ℕ, zero, suc, ◌+◌, ◌<◌, ◌≤◌, eqb, cond, List, [], ◌∷◌, ◌++◌, length, Option, Some, None, arith, refl, sym, ap, ◌∙◌, subst}
+use Rattle.std.specs.Prelude.{◌≢◌, slice_get}
+use Rattle.std.proofs.lemmas.Bool.{cond-true, cond-false, eq-eqb, ne_eqb}
+use Rattle.std.proofs.lemmas.Option.{slice_get_past, slice_get_within}
+use Rattle.plan_model.specs.declared.geometry.Point.{Point}
+use Rattle.plan_model.specs.declared.records.Record.{Record}
+use Rattle.plan_model.specs.declared.trees.Twig.{Twig}
+use Rattle.plan_model.specs.Clearance.{ClearAt}
+use Rattle.plan_model.specs.Cost.{cost_of}
+use Rattle.plan_model.specs.PointsByNumber.{StandsAt, IsPresent, point_of, IsFree, node_count}
+use Rattle.plan_model.specs.Trees.{points_of, parent_or_zero, parent_of, sum_of, edge_of, CostsFall, AreTight}
+use Rattle.plan_model.specs.TreeStates.{recorded_or, first_cost_of, state_of}
+use Rattle.plan_model.specs.OrderLaw.{IsAllowedEdge, most_cost_of, KeepsOrder, KeepsFirstCosts}
+use Rattle.plan_model.specs.ClosedLaw.{IsClosed}
+use Rattle.plan_model.specs.Textbook.{Nodes, Setup, start_alone, cost_through}
+use Rattle.plan_model.proofs.ChainLaws.{sums-tight, AreTight-sums}
+use Rattle.plan_model.proofs.DistinctPoints.{AreDistinct-start}
+use Rattle.plan_model.proofs.KeptCosts.{CostsFall-start, IsPriced, AddsPriced, CostsFall-adds, AreTight-adds}
+use Rattle.plan_model.proofs.NewNodes.{
+  StandsAt-present,
+  point_at-same,
+  not_present,
+  present_below,
+  Adds,
+  Adds-push,
+  parent_of-kept,
+  StandsAt-new,
+  parent_of-new,
+}
+use Rattle.plan_model.proofs.TreeChanges.{node_at-past, node_at-absent, HaveSameNodes-absent, sum-same}
+use Rattle.plan_model.proofs.OrderLaws.{start-present, KeepsOrder-falls, cost-within_more}
+use Rattle.plan_model.proofs.LoweredCosts.{AddsRecord}
+use Rattle.plan_model.proofs.AddedNodes.{KeepsPresent, AddsNode}
+
+-- ---- the start alone
+
+no_other : (start : Point) (n : ℕ) → ¬ IsPresent (points_of (start_alone start)) (suc n)
+no_other start n h = not_present (start_alone start) (suc n) (node_at-past (start_alone start) (suc n) (omega arith)) h
+
+-- the start alone keeps the order law if it is clear
+pub KeepsOrder-start : (setup : Setup) (start : Point) → ClearAt setup.space start → KeepsOrder setup start (state_of (start_alone start) [])
+KeepsOrder-start setup start clear = record {
+  distinct = AreDistinct-start start;
+  start_stands = refl;
+  start_clear = clear;
+  start_parent = refl;
+  start_cost = refl;
+  hangs = λ n h. absurd (no_other start n h);
+  bounded = bounded;
+}
+  where
+    bounded : (n : ℕ) → IsPresent (points_of (start_alone start)) n → sum_of (start_alone start) n ≤ most_cost_of setup (node_count (points_of (start_alone start)))
+    bounded zero h = let free : sum_of (start_alone start) 0 ≡ 0 = refl in omega (arith, free)
+    bounded (suc n) h = absurd (no_other start n h)
+
+-- and no node costs more than it was placed at
+pub KeepsFirstCosts-start : (setup : Setup) (start : Point) → KeepsFirstCosts setup (state_of (start_alone start) [])
+KeepsFirstCosts-start setup start = record { kept = kept; bounded = bounded }
+  where
+    kept : (n : ℕ) → IsPresent (points_of (start_alone start)) n → sum_of (start_alone start) n ≤ first_cost_of (state_of (start_alone start) []) n
+    kept zero h = let free : sum_of (start_alone start) 0 ≡ 0 = refl in omega (arith, free)
+    kept (suc n) h = absurd (no_other start n h)
+
+    bounded : (n : ℕ) → IsPresent (points_of (start_alone start)) n
+        → first_cost_of (state_of (start_alone start) []) n ≤ most_cost_of setup (node_count (points_of (start_alone start)))
+    bounded zero h = omega arith
+    bounded (suc n) h = absurd (no_other start n h)
+
+-- The start alone is a closed run of no marks, if it is clear.
+pub IsClosed-start :
+    (setup : Setup) (start : Point) (marks : List Point) → ClearAt setup.space start → IsClosed setup start marks 0 (state_of (start_alone start) [])
+IsClosed-start setup start marks clear = record {
+  order = KeepsOrder-start setup start clear;
+  within = omega arith;
+  records = record { recorded = λ k below. absurd (omega arith); none_else = λ k above. refl };
+  workers = λ k entry h. cc;
+  turns = record { once = λ j k one other f g worker turn. cc; no_gap = λ k turn entry h e. cc };
+  lawful = λ k entry h. cc;
+  placed = λ k. ((λ h. absurd (no_other start k h)), (λ h. let e = h.1 in cc));
+}
+
+-- ---- costs
+
+-- the sums of a tree that keeps the order law fall along parents
+pub CostsFall-ordered :
+    (setup : Setup) (start : Point) (tree : Nodes) (records : List Record) → KeepsOrder setup start (state_of tree records) → CostsFall (sum_of tree) tree
+CostsFall-ordered setup start tree records order = record {
+  start = start-present setup start (state_of tree records) order;
+  parent = λ n h. (order.hangs n h).parent;
+  falls = KeepsOrder-falls setup start (state_of tree records) order;
+}
+
+-- and each is the parent's and the edge
+pub AreTight-ordered :
+    (setup : Setup) (start : Point) (tree : Nodes) (records : List Record) → KeepsOrder setup start (state_of tree records) → AreTight (sum_of tree) tree
+AreTight-ordered setup start tree records order = AreTight-sums (sum_of tree) tree (CostsFall-ordered setup start tree records order)
+
+-- ---- one record more
+
+slice_get-push_new : (records : List Record) (entry : Record) → slice_get (records ++ entry ∷ []) (length records) ≡ Some entry
+slice_get-push_new [] entry = refl
+slice_get-push_new (own ∷ records) entry = slice_get-push_new records entry
+
+slice_get-push_other :
+    (records : List Record) (entry : Record) (j : ℕ) → j ≢ length records → slice_get (records ++ entry ∷ []) j ≡ slice_get records j
+slice_get-push_other [] entry zero apart = absurd (apart refl)
+slice_get-push_other [] entry (suc j) apart = refl
+slice_get-push_other (own ∷ records) entry zero apart = refl
+slice_get-push_other (own ∷ records) entry (suc j) apart = slice_get-push_other records entry j (λ e. apart (ap suc e))
+
+-- The records are those of the marks up to mark k, which is recorded next.
+pub record RecordsNext (tree : Nodes) (records : List Record) (k : ℕ) : Type 0 where
+  pub nodes : length tree ≡ suc k
+  pub marks : length records ≡ k
+
+module _ (tree : Nodes) (records : List Record) (k : ℕ) (entry : Record) (next : RecordsNext tree records k) where
+  pub record_of-new : slice_get (records ++ entry ∷ []) k ≡ Some entry
+  record_of-new = ap (slice_get (records ++ entry ∷ [])) (sym next.marks) ∙ slice_get-push_new records entry
+
+  pub record_of-other : (j : ℕ) → j ≢ k → slice_get (records ++ entry ∷ []) j ≡ slice_get records j
+  record_of-other j apart = slice_get-push_other records entry j (λ e. apart (e ∙ next.marks))
+
+  pub record_of-absent : slice_get records k ≡ None
+  record_of-absent = slice_get_past records k (omega (arith, next.marks))
+
+  pub node-absent : ¬ IsPresent (points_of tree) (suc k)
+  node-absent h = omega (arith, present_below tree (suc k) h, next.nodes)
+
+  -- a mark without a node adds its record alone
+  pub AddsRecord-unplaced :
+      (after : Nodes) → after ≡ tree ++ None ∷ [] → AddsRecord (state_of tree records) (state_of after (records ++ entry ∷ [])) k entry
+  AddsRecord-unplaced after e =
+      subst (λ t. AddsRecord (state_of tree records) (state_of t (records ++ entry ∷ [])) k entry) (sym e) (record {
+        points = λ n. point_at-same (tree ++ None ∷ []) tree n (node_at-absent tree n);
+        parents = λ n h. ap parent_or_zero (node_at-absent tree n);
+        costs = λ n h. sum-same (tree ++ None ∷ []) tree n (HaveSameNodes-absent tree);
+        written_costs = λ n h. refl;
+        absent = record_of-absent;
+        recorded = record_of-new;
+        records = record_of-other;
+        written = λ h. absurd (node-absent h);
+      })
+
+-- ---- one node more
+
+-- Mark k is placed at p under node f, by a record with that first parent and its cost.
+pub record PlacesNode (setup : Setup) (tree : Nodes) (k f : ℕ) (p : Point) (entry : Record) : Type 0 where
+  pub free : IsFree (points_of tree) p
+  pub parent : IsPresent (points_of tree) f
+  pub edge : IsAllowedEdge setup (point_of (points_of tree) f) p
+  pub cost : entry.first_cost ≡ cost_through tree p f
+
+module _
+    (setup : Setup) (start : Point) (tree : Nodes) (records : List Record) (k f : ℕ) (p : Point) (entry : Record)
+    (next : RecordsNext tree records k) (order : KeepsOrder setup start (state_of tree records)) (places : PlacesNode setup tree k f p entry) where
+  node : Twig
+  node = record { point = p; parent = f }
+
+  longer : Nodes
+  longer = tree ++ Some node ∷ []
+
+  adds : Adds tree (suc k) node longer
+  unfolding longer
+  adds = subst (λ n. Adds tree n node (tree ++ Some node ∷ [])) next.nodes (Adds-push tree node)
+
+  -- the sums of the longer tree
+  later : ℕ → ℕ
+  later n = cond (eqb n (suc k)) (cost_through tree p f) (sum_of tree n)
+
+  present_apart : (n : ℕ) → IsPresent (points_of tree) n → n ≢ suc k
+  present_apart n h e = node-absent tree records k entry next (subst (IsPresent (points_of tree)) e h)
+
+  later_kept : (n : ℕ) → IsPresent (points_of tree) n → later n ≡ sum_of tree n
+  unfolding later
+  later_kept n h = cond-false (eqb n (suc k)) (cost_through tree p f) (sum_of tree n) (ne_eqb n (suc k) (present_apart n h))
+
+  later_new : later (suc k) ≡ cost_through tree p f
+  unfolding later
+  later_new = cond-true (eqb (suc k) (suc k)) (cost_through tree p f) (sum_of tree (suc k)) (eq-eqb (suc k) (suc k) refl)
+
+  adds_priced : AddsPriced (sum_of tree) later tree longer (suc k) node
+  unfolding node
+  adds_priced = record {
+    adds = adds;
+    keeps = later_kept;
+    priced = record {
+      parent = places.parent;
+      apart = λ e. places.free f (StandsAt-present (points_of tree) f places.parent ∙ ap Some e);
+      cost = later_new;
+    };
+  }
+
+  -- the sums are these
+  sum_later : (n : ℕ) → IsPresent (points_of longer) n → sum_of longer n ≡ later n
+  sum_later n h =
+      let falls = CostsFall-ordered setup start tree records order in
+      let tight = AreTight-ordered setup start tree records order in
+      sums-tight later longer (CostsFall-adds (sum_of tree) later tree longer (suc k) node adds_priced falls tight)
+      (AreTight-adds (sum_of tree) later tree longer (suc k) node adds_priced falls tight) n h
