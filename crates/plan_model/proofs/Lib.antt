@@ -47,3 +47,5 @@ pub mod EarlierNodes
 pub mod RecordLaws
 pub mod CountLaws
 pub mod TextbookStates
+pub mod NearNodes
+pub mod TextbookRewiring

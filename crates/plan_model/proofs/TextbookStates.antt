@@ -1,5 +1,5 @@
 -- The state of a tree and the records of its marks, as in a textbook run: its costs, the start alone, and one number more.
-use Rattle.std.proofs.Common.{◌≡◌, ℕ, zero, suc, ◌+◌, ◌<◌, ◌≤◌, eqb, cond, List, [], ◌∷◌, ◌++◌, length, Option, Some, None, arith, refl, sym, ap, ◌∙◌, subst}
+use Rattle.std.proofs.Common.{◌≡◌, ℕ, zero, suc, ◌≤◌, eqb, cond, List, [], ◌∷◌, ◌++◌, length, Some, None, arith, refl, sym, ap, ◌∙◌, subst}
 use Rattle.std.specs.Prelude.{◌≢◌, slice_get}
 use Rattle.std.proofs.lemmas.Bool.{cond-true, cond-false, eq-eqb, ne_eqb}
 use Rattle.std.proofs.lemmas.Option.{slice_get_past, slice_get_within}
@@ -7,16 +7,15 @@ use Rattle.plan_model.specs.declared.geometry.Point.{Point}
 use Rattle.plan_model.specs.declared.records.Record.{Record}
 use Rattle.plan_model.specs.declared.trees.Twig.{Twig}
 use Rattle.plan_model.specs.Clearance.{ClearAt}
-use Rattle.plan_model.specs.Cost.{cost_of}
 use Rattle.plan_model.specs.PointsByNumber.{StandsAt, IsPresent, point_of, IsFree, node_count}
-use Rattle.plan_model.specs.Trees.{points_of, parent_or_zero, parent_of, sum_of, edge_of, CostsFall, AreTight}
+use Rattle.plan_model.specs.Trees.{points_of, parent_or_zero, sum_of, CostsFall, AreTight}
 use Rattle.plan_model.specs.TreeStates.{recorded_or, first_cost_of, state_of}
 use Rattle.plan_model.specs.OrderLaw.{IsAllowedEdge, most_cost_of, KeepsOrder, KeepsFirstCosts}
 use Rattle.plan_model.specs.ClosedLaw.{IsClosed}
 use Rattle.plan_model.specs.Textbook.{Nodes, Setup, start_alone, cost_through}
 use Rattle.plan_model.proofs.ChainLaws.{sums-tight, AreTight-sums}
 use Rattle.plan_model.proofs.DistinctPoints.{AreDistinct-start}
-use Rattle.plan_model.proofs.KeptCosts.{CostsFall-start, IsPriced, AddsPriced, CostsFall-adds, AreTight-adds}
+use Rattle.plan_model.proofs.KeptCosts.{AddsPriced, CostsFall-adds, AreTight-adds}
 use Rattle.plan_model.proofs.NewNodes.{
   StandsAt-present,
   point_at-same,
@@ -24,6 +23,8 @@ use Rattle.plan_model.proofs.NewNodes.{
   present_below,
   Adds,
   Adds-push,
+  IsPresent-stands,
+  IsPresent-kept,
   parent_of-kept,
   StandsAt-new,
   parent_of-new,
@@ -31,7 +32,7 @@ use Rattle.plan_model.proofs.NewNodes.{
 use Rattle.plan_model.proofs.TreeChanges.{node_at-past, node_at-absent, HaveSameNodes-absent, sum-same}
 use Rattle.plan_model.proofs.OrderLaws.{start-present, KeepsOrder-falls, cost-within_more}
 use Rattle.plan_model.proofs.LoweredCosts.{AddsRecord}
-use Rattle.plan_model.proofs.AddedNodes.{KeepsPresent, AddsNode}
+use Rattle.plan_model.proofs.AddedNodes.{AddsNode}
 
 -- ---- the start alone
 
@@ -154,14 +155,13 @@ pub record PlacesNode (setup : Setup) (tree : Nodes) (k f : ℕ) (p : Point) (en
 module _
     (setup : Setup) (start : Point) (tree : Nodes) (records : List Record) (k f : ℕ) (p : Point) (entry : Record)
     (next : RecordsNext tree records k) (order : KeepsOrder setup start (state_of tree records)) (places : PlacesNode setup tree k f p entry) where
-  node : Twig
+  abbrev node : Twig
   node = record { point = p; parent = f }
 
-  longer : Nodes
-  longer = tree ++ Some node ∷ []
+  abbrev longer : Nodes
+  longer = tree ++ Some (record { point = p; parent = f }) ∷ []
 
   adds : Adds tree (suc k) node longer
-  unfolding longer
   adds = subst (λ n. Adds tree n node (tree ++ Some node ∷ [])) next.nodes (Adds-push tree node)
 
   -- the sums of the longer tree
@@ -180,7 +180,6 @@ module _
   later_new = cond-true (eqb (suc k) (suc k)) (cost_through tree p f) (sum_of tree (suc k)) (eq-eqb (suc k) (suc k) refl)
 
   adds_priced : AddsPriced (sum_of tree) later tree longer (suc k) node
-  unfolding node
   adds_priced = record {
     adds = adds;
     keeps = later_kept;
@@ -198,3 +197,40 @@ module _
       let tight = AreTight-ordered setup start tree records order in
       sums-tight later longer (CostsFall-adds (sum_of tree) later tree longer (suc k) node adds_priced falls tight)
       (AreTight-adds (sum_of tree) later tree longer (suc k) node adds_priced falls tight) n h
+
+  -- the new node stands at p, and costs what its parent costs and the edge
+  pub StandsAt-placed : StandsAt (points_of longer) (suc k) p
+  StandsAt-placed = StandsAt-new tree (suc k) node longer adds
+
+  pub sum-placed : sum_of longer (suc k) ≡ cost_through tree p f
+  sum-placed = sum_later (suc k) (IsPresent-stands (points_of longer) (suc k) p StandsAt-placed) ∙ later_new
+
+  kept_first_costs :
+      (n : ℕ) → IsPresent (points_of tree) n → first_cost_of (state_of longer (records ++ entry ∷ [])) n ≡ first_cost_of (state_of tree records) n
+  kept_first_costs zero h = refl
+  kept_first_costs (suc j) h = ap (recorded_or 0) (record_of-other tree records k entry next j (λ e. present_apart (suc j) h (ap suc e)))
+
+  kept_records : (j : ℕ) (own : Record) → slice_get records j ≡ Some own → slice_get (records ++ entry ∷ []) j ≡ Some own
+  kept_records j own h =
+      record_of-other tree records k entry next j (λ e. omega (arith, slice_get_within records j own h, e, next.marks)) ∙ h
+
+  -- The new node is added with its record.
+  pub AddsNode-placed : AddsNode setup (state_of tree records) (state_of longer (records ++ entry ∷ [])) (suc k) f p
+  AddsNode-placed = record {
+    kept = record {
+      parents = parent_of-kept tree (suc k) node longer adds;
+      costs = λ n h. sum_later n (IsPresent-kept tree (suc k) node longer adds n h) ∙ later_kept n h;
+      first_costs = kept_first_costs;
+      records = kept_records;
+    };
+    elsewhere = λ n apart. point_at-same longer tree n (adds.elsewhere n apart);
+    absent = node-absent tree records k entry next;
+    stands = StandsAt-placed;
+    free = places.free;
+    parent_present = places.parent;
+    edge = places.edge;
+    parent = parent_of-new tree (suc k) node longer adds;
+    above = omega (arith, sum-placed);
+    within = omega (arith, sum-placed, cost-within_more setup start (state_of tree records) order f p places.parent places.edge);
+    first_cost = ap (recorded_or 0) (record_of-new tree records k entry next) ∙ places.cost ∙ sym sum-placed;
+  }
