@@ -90,7 +90,7 @@ pub record AddsLaterRecord (before after : TreeState) (k : ℕ) (new entry : Rec
   pub later : (new.worker ≢ entry.worker) ⊎ (entry.turn ≤ new.turn)
 
 -- such a record is not that of an earlier mark
-not_earlier : (new entry : Record) → (new.worker ≢ entry.worker) ⊎ (entry.turn ≤ new.turn) → is_earlier_record entry (Some new) ≡ false
+pub not_earlier : (new entry : Record) → (new.worker ≢ entry.worker) ⊎ (entry.turn ≤ new.turn) → is_earlier_record entry (Some new) ≡ false
 not_earlier new entry (inl apart) =
     and_right (is_placed new.outcome) (eqb new.worker entry.worker && ltb new.turn entry.turn)
     (and_left (eqb new.worker entry.worker) (ltb new.turn entry.turn) (ne_eqb new.worker entry.worker apart))

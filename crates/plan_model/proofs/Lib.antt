@@ -49,3 +49,4 @@ pub mod CountLaws
 pub mod TextbookStates
 pub mod NearNodes
 pub mod TextbookRewiring
+pub mod TextbookMarks

@@ -28,6 +28,15 @@ use Rattle.plan_model.proofs.TreeStateLaws.{IsPresent-grows, point_at-grows, poi
 pub class_of-le : (m n : ℕ) → m ≤ n → class_of m ≤ class_of n
 class_of-le m n h = length-digits_of-le 2 (class_of n) m (omega arith) (omega (arith, below_digits n, h))
 
+-- what is nearer to a mark stays so
+pub IsNotAbove-grows :
+    (before after : TreeState) (grows : GrowsInto before after) (mark : Point) (m i : ℕ) → IsPresent before.points m → IsPresent before.points i
+    → IsNotAbove (distance_to mark before.points) m i → IsNotAbove (distance_to mark after.points) m i
+IsNotAbove-grows before after grows mark m i own here h =
+    let near = ap (λ a. squared_distance a mark) (point_of-grows before after grows m own) in
+    let other = ap (λ a. squared_distance a mark) (point_of-grows before after grows i here) in
+    record { least = omega (arith, near, other, h.least); first = λ e. h.first (omega (arith, near, other, e)) }
+
 module _ (setup : Setup) (before after : TreeState) (grows : GrowsInto before after) (entry : Record) (same : HaveSameEarlier before after entry) where
   was_earlier : (i : ℕ) → IsEarlier after entry i → IsEarlier before entry i
   was_earlier i h = sym (same.same i) ∙ h
@@ -123,15 +132,6 @@ module _ (setup : Setup) (before after : TreeState) (grows : GrowsInto before af
   outcome_stays k p (Same j) nearest h = grows.nodes j p h
   outcome_stays k p Blocked nearest h = IsBlockedLawfully-grows p nearest h
 
-  -- the nearest node stays nearest of the earlier nodes
-  nearest_stays :
-      (mark : Point) (i : ℕ) → IsPresent before.points entry.nearest → IsPresent before.points i
-      → IsNotAbove (distance_to mark before.points) entry.nearest i → IsNotAbove (distance_to mark after.points) entry.nearest i
-  nearest_stays mark i nearest here h =
-      let own = ap (λ a. squared_distance a mark) (same_point entry.nearest nearest) in
-      let other = ap (λ a. squared_distance a mark) (same_point i here) in
-      record { least = omega (arith, own, other, h.least); first = λ e. h.first (omega (arith, own, other, e)) }
-
   -- A lawful record stays lawful.
   pub IsLawfulRecord-grows : (k : ℕ) (mark : Point) → IsLawfulRecord setup before k mark entry → IsLawfulRecord setup after k mark entry
   IsLawfulRecord-grows k mark h =
@@ -141,7 +141,7 @@ module _ (setup : Setup) (before after : TreeState) (grows : GrowsInto before af
         present = IsPresent-grows before after grows entry.nearest h.present;
         nearest = λ i early.
             let was = was_earlier i early in
-            nearest_stays mark i h.present (same.present i was) (h.nearest i was);
+            IsNotAbove-grows before after grows mark entry.nearest i h.present (same.present i was) (h.nearest i was);
         outcome =
             subst (λ a. HasLawfulOutcome setup after k entry (point a) entry.outcome) (sym (same_point entry.nearest h.present)) here;
       }

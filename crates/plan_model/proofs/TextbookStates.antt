@@ -1,8 +1,8 @@
 -- The state of a tree and the records of its marks, as in a textbook run: its costs, the start alone, and one number more.
-use Rattle.std.proofs.Common.{◌≡◌, ℕ, zero, suc, ◌≤◌, eqb, cond, List, [], ◌∷◌, ◌++◌, length, Some, None, arith, refl, sym, ap, ◌∙◌, subst}
-use Rattle.std.specs.Prelude.{◌≢◌, slice_get}
-use Rattle.std.proofs.lemmas.Bool.{cond-true, cond-false, eq-eqb, ne_eqb}
-use Rattle.std.proofs.lemmas.Option.{slice_get_past, slice_get_within}
+use Rattle.std.proofs.Common.{◌≡◌, ℕ, zero, suc, ◌≤◌, eqb, cond, List, [], ◌∷◌, ◌++◌, length, Some, None, arith, refl, sym, ap, ◌∙◌, subst, inl, inr}
+use Rattle.std.specs.Prelude.{◌≢◌, ◌⊎◌, slice_get}
+use Rattle.std.proofs.lemmas.Bool.{cases_eq, cond-true, cond-false, eq-eqb, ne_eqb}
+use Rattle.std.proofs.lemmas.Option.{same_Some, slice_get_past, slice_get_within}
 use Rattle.plan_model.specs.declared.geometry.Point.{Point}
 use Rattle.plan_model.specs.declared.records.Record.{Record}
 use Rattle.plan_model.specs.declared.trees.Twig.{Twig}
@@ -121,6 +121,14 @@ module _ (tree : Nodes) (records : List Record) (k : ℕ) (entry : Record) (next
 
   pub record_of-other : (j : ℕ) → j ≢ k → slice_get (records ++ entry ∷ []) j ≡ slice_get records j
   record_of-other j apart = slice_get-push_other records entry j (λ e. apart (e ∙ next.marks))
+
+  -- a record is the new one, or was there
+  pub record_of-cases : (j : ℕ) (own : Record) → slice_get (records ++ entry ∷ []) j ≡ Some own → ((j ≡ k) × (own ≡ entry)) ⊎ (slice_get records j ≡ Some own)
+  record_of-cases j own h =
+      elim (cases_eq j k) [
+        | inl e ↦ inl (e, same_Some own entry (sym h ∙ ap (slice_get (records ++ entry ∷ [])) e ∙ record_of-new))
+        | inr apart ↦ inr (sym (record_of-other j apart) ∙ h)
+      ]
 
   pub record_of-absent : slice_get records k ≡ None
   record_of-absent = slice_get_past records k (omega (arith, next.marks))
