@@ -50,3 +50,4 @@ pub mod TextbookStates
 pub mod NearNodes
 pub mod TextbookRewiring
 pub mod TextbookMarks
+pub mod TextbookRuns

@@ -1,0 +1,56 @@
+-- A textbook run is closed at the number of its marks.
+use Rattle.std.proofs.Common.{◌≡◌, ℕ, suc, ◌+◌, ◌<◌, List, [], ◌∷◌, ◌++◌, length, arith, refl, sym, ap, ◌∙◌, subst, length-append, append_assoc}
+use Rattle.std.proofs.lemmas.List.{append-nil}
+use Rattle.std.proofs.Math.Seq.{get_or-append_seam}
+use Rattle.plan_model.specs.declared.geometry.Point.{Point}
+use Rattle.plan_model.specs.declared.records.Record.{Record}
+use Rattle.plan_model.specs.Clearance.{ClearAt}
+use Rattle.plan_model.specs.TreeStates.{state_of}
+use Rattle.plan_model.specs.ClosedLaw.{mark_at, IsClosed}
+use Rattle.plan_model.specs.Textbook.{Nodes, Setup, start_alone, HandlesAll, IsTextbookRun}
+use Rattle.plan_model.proofs.TextbookStates.{KeepsFirstCosts-start, IsClosed-start}
+use Rattle.plan_model.proofs.TextbookMarks.{IsTextbookSoFar, IsTextbookSoFar-ends}
+
+-- before its first mark a run is closed
+so_far_start : (setup : Setup) (start : Point) (marks : List Point) → ClearAt setup.space start → IsTextbookSoFar setup start marks 0 (start_alone start) []
+so_far_start setup start marks clear = record {
+  next = record { nodes = refl; marks = refl };
+  closed = IsClosed-start setup start marks clear;
+  firsts = KeepsFirstCosts-start setup start;
+  numbered = λ j own h. cc;
+}
+
+-- A run that has come past some marks comes past the others.
+so_far_all :
+    (setup : Setup) (start : Point) (done marks : List Point) (k : ℕ) (tree : Nodes) (records entries : List Record) (after : Nodes) → length done ≡ k
+    → IsTextbookSoFar setup start (done ++ marks) k tree records → HandlesAll setup k tree marks entries after
+    → IsTextbookSoFar setup start (done ++ marks) (length (done ++ marks)) after (records ++ entries)
+so_far_all setup start done [] k tree records [] after number so_far run =
+    let all : List Point = done ++ [] in
+    let end : k ≡ length all = sym number ∙ ap length (sym (append-nil done)) in
+    let now = subst (λ t. IsTextbookSoFar setup start all k t records) (sym run) so_far in
+    let here = subst (λ n. IsTextbookSoFar setup start all n after records) end now in
+    subst (λ rs. IsTextbookSoFar setup start all (length all) after rs) (sym (append-nil records)) here
+so_far_all setup start done [] k tree records (entry ∷ entries) after number so_far run = absurd run
+so_far_all setup start done (mark ∷ marks) k tree records [] after number so_far run = absurd run
+so_far_all setup start done (mark ∷ marks) k tree records (entry ∷ entries) after number so_far (mid, handled, later) =
+    let all : List Point = done ++ mark ∷ marks in
+    let below : k < length all = omega (arith, number, length-append done (mark ∷ marks)) in
+    let at : mark ≡ mark_at all k =
+    sym (ap (mark_at all) (sym number) ∙ get_or-append_seam done mark marks (record { x = 0; y = 0 })) in
+    let next = IsTextbookSoFar-ends setup start all k tree records entry mid so_far mark below at handled in
+    let same : all ≡ (done ++ mark ∷ []) ++ marks = sym (append_assoc done (mark ∷ []) marks) in
+    let more : length (done ++ mark ∷ []) ≡ suc k = omega (arith, length-append done (mark ∷ []), number) in
+    let one : k + 1 ≡ suc k = omega arith in
+    let rest = subst (λ n. HandlesAll setup n mid marks entries after) one later in
+    let next_same = subst (λ ms. IsTextbookSoFar setup start ms (suc k) mid (records ++ entry ∷ [])) same next in
+    let end = so_far_all setup start (done ++ mark ∷ []) marks (suc k) mid (records ++ entry ∷ []) entries after more next_same rest in
+    let end_same = subst (λ ms. IsTextbookSoFar setup start ms (length ms) after ((records ++ entry ∷ []) ++ entries)) (sym same) end in
+    subst (λ rs. IsTextbookSoFar setup start all (length all) after rs) (append_assoc records (entry ∷ []) entries) end_same
+
+-- A textbook run from a clear start is closed at the number of its marks, with each node at its sum.
+pub IsClosed-textbook :
+    (setup : Setup) (start : Point) (marks : List Point) (tree : Nodes) (records : List Record) → ClearAt setup.space start
+    → IsTextbookRun setup start marks tree records → IsClosed setup start marks (length marks) (state_of tree records)
+IsClosed-textbook setup start marks tree records clear run =
+    (so_far_all setup start [] marks 0 (start_alone start) [] records tree refl (so_far_start setup start marks clear) run).closed
