@@ -1,15 +1,19 @@
 -- In a closed run each mark below the limit was placed, ended on a node, or was blocked, so these add up to the limit.
-use Rattle.std.proofs.Common.{◌≡◌, ℕ, zero, suc, ◌+◌, ◌<◌, cond, List, Option, Some, None, arith, refl}
-use Rattle.std.specs.Prelude.{◌==◌, IsSome}
+use Rattle.std.proofs.Common.{◌≡◌, ℕ, zero, suc, ◌+◌, ◌<◌, Bool, true, false, cond, List, length, Option, Some, None, arith, refl, sym, ap, ◌∙◌, inl, inr}
+use Rattle.std.specs.Prelude.{◌==◌, IsSome, is_some}
+use Rattle.std.proofs.lemmas.Bool.{cases_lt, true≢false, false_from_ne_true}
 use Rattle.plan_model.specs.declared.geometry.Point.{Point}
 use Rattle.plan_model.specs.declared.records.Outcome.{Outcome}
 use Rattle.plan_model.specs.declared.records.Outcome.TheVariants.{Placed, Same, Blocked}
 use Rattle.plan_model.specs.declared.records.Record.{Record}
 use Rattle.plan_model.specs.Outcomes.{number_of_outcome}
+use Rattle.plan_model.specs.PointsByNumber.{point_at, IsPresent, node_count}
 use Rattle.plan_model.specs.TreeStates.{TreeState}
 use Rattle.plan_model.specs.ClosedLaw.{has_outcome, outcome_count, IsClosed}
 use Rattle.plan_model.specs.Textbook.{Setup}
-use Rattle.plan_model.proofs.CountsBelow.{count-more}
+use Rattle.plan_model.proofs.CountsBelow.{count-more, count-longer}
+use Rattle.plan_model.proofs.NodeCounts.{count-next}
+use Rattle.plan_model.proofs.OrderLaws.{start-present}
 
 one_outcome : (outcome : Outcome)
     → (cond (number_of_outcome outcome == 0) 1 0 + cond (number_of_outcome outcome == 1) 1 0) + cond (number_of_outcome outcome == 2) 1 0 ≡ 1
@@ -44,3 +48,50 @@ pub outcomes-closed :
     (setup : Setup) (start : Point) (marks : List Point) (limit : ℕ) (state : TreeState) → IsClosed setup start marks limit state
     → (outcome_count state.record_of limit 0 + outcome_count state.record_of limit 1) + outcome_count state.record_of limit 2 ≡ limit
 outcomes-closed setup start marks limit state closed = outcomes-add_up state.record_of limit closed.records.recorded
+
+-- ---- nodes
+
+placed_number : (outcome : Outcome) → (number_of_outcome outcome == 0) ≡ true → outcome ≡ Placed
+placed_number Placed h = refl
+placed_number (Same j) h = cc
+placed_number Blocked h = cc
+
+-- a mark that counts as placed has a record of that
+placed_record : (o : Option Record) → has_outcome 0 o ≡ true → (entry : Record) × (o ≡ Some entry) × (entry.outcome ≡ Placed)
+placed_record None h = cc
+placed_record (Some entry) h = (entry, refl, placed_number entry.outcome h)
+
+module _ (setup : Setup) (start : Point) (marks : List Point) (limit : ℕ) (state : TreeState) (closed : IsClosed setup start marks limit state) where
+  placed : ℕ → Bool
+  placed k = has_outcome 0 (state.record_of k)
+
+  -- a mark counts as placed exactly if its node is present
+  placed_present : (k : ℕ) → placed k ≡ is_some (point_at state.points (suc k))
+  unfolding placed
+  placed_present k = by_test (has_outcome 0 (state.record_of k)) refl
+    where
+      by_test : (b : Bool) → has_outcome 0 (state.record_of k) ≡ b → b ≡ is_some (point_at state.points (suc k))
+      by_test true e = sym ((closed.placed k).1 (placed_record (state.record_of k) e))
+      by_test false e = sym (false_from_ne_true (is_some (point_at state.points (suc k))) absent)
+        where
+          absent : ¬ IsPresent state.points (suc k)
+          absent h =
+              let own = (closed.placed k).0 h in
+              true≢false (sym (ap (has_outcome 0) own.1 ∙ ap (λ o. number_of_outcome o == 0) own.2) ∙ e)
+
+  placed_below : (k : ℕ) → placed k ≡ true → k < limit
+  unfolding placed
+  placed_below k h =
+      elim (cases_lt k limit) [
+        | inl below ↦ below
+        | inr past ↦ absurd (true≢false (sym h ∙ ap (has_outcome 0) (closed.records.none_else k past)))
+      ]
+
+  -- In a closed run there are as many nodes as placed marks, and the start.
+  pub node_count-closed : node_count state.points ≡ suc (outcome_count state.record_of limit 0)
+  unfolding placed
+  node_count-closed =
+      let n : ℕ = limit + length state.points in
+      let nodes =
+      count-next state.points placed n (start-present setup start state closed.order) (omega arith) placed_present in
+      omega (arith, nodes, count-longer placed limit n (omega arith) placed_below)

@@ -37,13 +37,14 @@ count-past test m (suc d) fail =
     omega (arith, longer, count-more test (m + d), none, count-past test m d fail)
 
 -- all that pass are below a limit
-abbrev ArePassedBelow : (ℕ → Bool) → ℕ → Type 0
+abbrev pub ArePassedBelow : (ℕ → Bool) → ℕ → Type 0
 ArePassedBelow test n = (i : ℕ) → test i ≡ true → i < n
 
 fails_past : (test : ℕ → Bool) (n : ℕ) → ArePassedBelow test n → (i : ℕ) → n ≤ i → test i ≡ false
 fails_past test n below i past = elim (cases_Bool (test i)) [ inl passes ↦ absurd (omega (arith, below i passes)) | inr fails ↦ fails ]
 
-count-longer : (test : ℕ → Bool) (m n : ℕ) → m ≤ n → ArePassedBelow test m → count_by test (range_with_len 0 n) ≡ count_by test (range_with_len 0 m)
+-- a higher limit adds nothing if all that pass are below
+pub count-longer : (test : ℕ → Bool) (m n : ℕ) → m ≤ n → ArePassedBelow test m → count_by test (range_with_len 0 n) ≡ count_by test (range_with_len 0 m)
 count-longer test m n order below =
     let parts : n ≡ m + (n - m) = omega arith in
     ap (λ k. count_by test (range_with_len 0 k)) parts ∙ count-past test m (n - m) (fails_past test m below)

@@ -46,6 +46,7 @@ pub mod AddedNodes
 pub mod EarlierNodes
 pub mod RecordLaws
 pub mod CountLaws
+pub mod ClosedLaws
 pub mod TextbookStates
 pub mod NearNodes
 pub mod TextbookRewiring

@@ -11,7 +11,7 @@ use Rattle.plan_model.specs.OrderLaw.{IsAllowedEdge, HangsBelow, most_cost_of, K
 use Rattle.plan_model.specs.Textbook.{Setup}
 use Rattle.plan_model.proofs.NewNodes.{StandsAt-present}
 use Rattle.plan_model.proofs.NodeCounts.{node_count-same}
-use Rattle.plan_model.proofs.OrderLaws.{HangsBelow-at, start-present}
+use Rattle.plan_model.proofs.OrderLaws.{HangsBelow-at, start-present, KeepsOrder-falls}
 
 -- all nodes stay where they are with their first costs, and all records stand
 pub record StandsStill (before after : TreeState) : Type 0 where
@@ -352,3 +352,76 @@ LowersCosts-adds_record setup start before after k entry order change = record {
               ap (recorded_or (after.written_cost (suc j))) (change.records j apart)
               ∙ ap (λ cost. recorded_or cost (before.record_of j)) (change.written_costs (suc j) h))
         ]
+
+-- ---- settled costs
+
+-- All nodes keep their parents, the start costs nothing, and every other node what its parent costs and the edge.
+pub record SettlesCosts (before after : TreeState) : Type 0 where
+  pub still : StandsStill before after
+  pub parents : (n : ℕ) → IsPresent before.points n → after.parent n ≡ before.parent n
+  pub start : after.cost 0 ≡ 0
+  pub edges : (n : ℕ) → IsPresent before.points (suc n)
+      → after.cost (suc n)
+      ≡ after.cost (before.parent (suc n)) + cost_of (point_of before.points (before.parent (suc n))) (point_of before.points (suc n))
+
+-- Settling lowers costs.
+pub LowersCosts-settles :
+    (setup : Setup) (start : Point) (before after : TreeState) → KeepsOrder setup start before → SettlesCosts before after → LowersCosts setup before after
+LowersCosts-settles setup start before after order change = record {
+  still = change.still;
+  start = change.parents 0 (start-present setup start before order);
+  none_rises = λ n h. none_rises (before.cost n) n h (omega arith);
+  nodes = λ n h.
+      elim (cases_lt (after.cost (suc n)) (before.cost (suc n))) [
+        | inl less ↦ inr (cheaper n h less)
+        | inr same ↦ (
+            let above = none_rises (before.cost (before.parent (suc n))) (before.parent (suc n)) (order.hangs n h).parent (omega arith) in
+            inl (record { parent = change.parents (suc n) h; falls = omega (arith, same, above) }))
+      ];
+}
+  where
+    none_rises : (most n : ℕ) → IsPresent before.points n → before.cost n ≤ most → after.cost n ≤ before.cost n
+    none_rises most zero h l = omega (arith, change.start)
+    none_rises zero (suc n) h l = absurd (omega (arith, KeepsOrder-falls setup start before order n h, l))
+    none_rises (suc most) (suc n) h l =
+        let old = order.hangs n h in
+        let above = none_rises most (before.parent (suc n)) old.parent (omega (arith, KeepsOrder-falls setup start before order n h, l)) in
+        omega (arith, above, change.edges n h, old.cost)
+
+    cheaper : (n : ℕ) → IsPresent before.points (suc n) → after.cost (suc n) < before.cost (suc n) → HangsCheaper setup before after (suc n)
+    cheaper n h less =
+        let m : ℕ = before.parent (suc n) in
+        let old = order.hangs n h in
+        record {
+          hangs =
+              HangsBelow-at setup after (suc n) m (point_of before.points m) (point_of before.points (suc n)) (record {
+                parent = change.parents (suc n) h;
+                above = change.still.points m ∙ StandsAt-present before.points m old.parent;
+                here = change.still.points (suc n) ∙ StandsAt-present before.points (suc n) h;
+                other = old.other;
+                edge = old.edge;
+                cost = omega (arith, change.edges n h);
+              });
+          cheaper = less;
+        }
+
+-- ---- the same tree
+
+-- all present nodes are the same at both moments
+pub record HaveSameTree (before after : TreeState) : Type 0 where
+  pub still : StandsStill before after
+  pub parents : (n : ℕ) → IsPresent before.points n → after.parent n ≡ before.parent n
+  pub costs : (n : ℕ) → IsPresent before.points n → after.cost n ≡ before.cost n
+
+-- the same tree is lowered by nothing
+pub LowersCosts-same :
+    (setup : Setup) (start : Point) (before after : TreeState) → KeepsOrder setup start before → HaveSameTree before after → LowersCosts setup before after
+LowersCosts-same setup start before after order same = record {
+  still = same.still;
+  start = same.parents 0 (start-present setup start before order);
+  none_rises = λ n h. omega (arith, same.costs n h);
+  nodes = λ n h. inl (record {
+    parent = same.parents (suc n) h;
+    falls = omega (arith, same.costs (suc n) h, same.costs (before.parent (suc n)) (order.hangs n h).parent);
+  });
+}

@@ -1,5 +1,5 @@
 -- How many nodes are present: not fewer if each present node stays, and one more if one number more has a node.
-use Rattle.std.proofs.Common.{◌≡◌, ℕ, zero, suc, ◌+◌, ◌≤◌, Bool, true, false, cond, List, [], ◌∷◌, Option, arith, refl, sym, ap, ◌∙◌}
+use Rattle.std.proofs.Common.{◌≡◌, ℕ, zero, suc, ◌+◌, ◌≤◌, Bool, true, false, cond, List, [], ◌∷◌, length, Option, arith, refl, sym, ap, ◌∙◌}
 use Rattle.std.specs.Prelude.{◌≢◌, is_some, count_by}
 use Rattle.std.specs.List.{range_with_len}
 use Rattle.std.proofs.lemmas.Bool.{false_from_ne_true}
@@ -20,6 +20,10 @@ node_count-rest (o ∷ points) = node_count-cons o points
 point_at-rest : (points : List (Option Point)) (i : ℕ) → point_at (rest points) i ≡ point_at points (suc i)
 point_at-rest [] i = refl
 point_at-rest (o ∷ points) i = refl
+
+length-rest : (points : List (Option Point)) (n : ℕ) → length points ≤ suc n → length (rest points) ≤ n
+length-rest [] n h = omega arith
+length-rest (o ∷ points) n h = omega (arith, h)
 
 one_or_none : (a b : Bool) → (a ≡ true → b ≡ true) → cond a 1 0 ≤ cond b 1 0
 one_or_none false b h = omega arith
@@ -76,3 +80,28 @@ pub count-le_node_count :
     → count_by test (range_with_len 0 n) ≤ node_count points
 count-le_node_count points test n h =
     count_from-le points test 0 n (λ i passes. let e : 0 + i ≡ i = omega arith in h i (ap test (sym e) ∙ passes))
+
+-- as many of some numbers in a row pass a test as there are nodes, if those pass that have a node
+count_from-same :
+    (points : List (Option Point)) (test : ℕ → Bool) (a n : ℕ) → length points ≤ n → ((i : ℕ) → test (a + i) ≡ is_some (point_at points i))
+    → count_by test (range_with_len a n) ≡ node_count points
+count_from-same [] test a zero l same = refl
+count_from-same (o ∷ points) test a zero l same = absurd (omega (arith, l))
+count_from-same points test a (suc n) l same =
+    let first : a + 0 ≡ a = omega arith in
+    let here = ap (λ t. cond {A = ℕ} t 1 0) (sym (ap test first) ∙ same 0) in
+    let later =
+    count_from-same (rest points) test (a + 1) n (length-rest points n l)
+    (λ i. let next : (a + 1) + i ≡ a + suc i = omega arith in ap test next ∙ same (suc i) ∙ ap is_some (sym (point_at-rest points i))) in
+    omega (arith, sum_by-cons (λ k. cond {A = ℕ} (test k) 1 0) a (range_with_len (a + 1) n), node_count-rest points, here, later)
+
+-- the nodes but node 0 are as many as the numbers that pass a test, if those pass whose next number has a node
+pub count-next :
+    (points : List (Option Point)) (test : ℕ → Bool) (n : ℕ) → IsPresent points 0 → length points ≤ suc n
+    → ((i : ℕ) → test i ≡ is_some (point_at points (suc i))) → node_count points ≡ suc (count_by test (range_with_len 0 n))
+count-next points test n start l same =
+    let others =
+    count_from-same (rest points) test 0 n (length-rest points n l)
+    (λ i. let e : 0 + i ≡ i = omega arith in ap test e ∙ same i ∙ ap is_some (sym (point_at-rest points i))) in
+    let first : ◌≡◌ {A = ℕ} (cond (is_some (point_at points 0)) 1 0) 1 = ap (λ t. cond {A = ℕ} t 1 0) start in
+    omega (arith, node_count-rest points, others, first)

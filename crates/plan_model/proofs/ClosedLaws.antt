@@ -1,0 +1,108 @@
+-- A closed run stays closed when costs are lowered, as in settling; and in it no node costs more than it was placed at.
+use Rattle.std.proofs.Common.{◌≡◌, ℕ, zero, suc, ◌≤◌, List, Some, arith, sym, ap, ◌∙◌, subst}
+use Rattle.std.specs.Prelude.{is_some}
+use Rattle.plan_model.specs.declared.geometry.Point.{Point}
+use Rattle.plan_model.specs.declared.records.Outcome.{Outcome}
+use Rattle.plan_model.specs.declared.records.Outcome.TheVariants.{Placed}
+use Rattle.plan_model.specs.declared.records.Record.{Record}
+use Rattle.plan_model.specs.PointsByNumber.{IsPresent, point_of, node_count}
+use Rattle.plan_model.specs.Steering.{steered}
+use Rattle.plan_model.specs.TreeStates.{TreeState, recorded_or, first_cost_of}
+use Rattle.plan_model.specs.OrderLaw.{most_cost_of, KeepsFirstCosts}
+use Rattle.plan_model.specs.RecordLaw.{HasLawfulOutcome, HangsLawfully}
+use Rattle.plan_model.specs.ClosedLaw.{mark_at, IsClosed}
+use Rattle.plan_model.specs.Textbook.{Setup}
+use Rattle.plan_model.proofs.TreeStateLaws.{IsPresent-grows}
+use Rattle.plan_model.proofs.OrderLaws.{start-present}
+use Rattle.plan_model.proofs.LoweredCosts.{
+  LowersCosts,
+  GrowsInto-lowered,
+  KeepsOrder-lowered,
+  SettlesCosts,
+  LowersCosts-settles,
+  HaveSameTree,
+  LowersCosts-same,
+}
+use Rattle.plan_model.proofs.EarlierNodes.{earlier-present, HaveSameEarlier, is_earlier-same_records}
+use Rattle.plan_model.proofs.RecordLaws.{IsLawfulRecord-grows}
+
+-- ---- lowered costs
+
+module _
+    (setup : Setup) (start : Point) (marks : List Point) (limit : ℕ) (before after : TreeState) (same : (k : ℕ) → after.record_of k ≡ before.record_of k)
+    (closed : IsClosed setup start marks limit before) where
+  same_earlier : (entry : Record) → HaveSameEarlier before after entry
+  same_earlier entry = record {
+    same = is_earlier-same_records before after entry same;
+    present = earlier-present before entry (start-present setup start before closed.order) closed.placed;
+  }
+
+  -- A closed run with lowered costs and the same records is closed.
+  pub IsClosed-lowered : LowersCosts setup before after → IsClosed setup start marks limit after
+  IsClosed-lowered lowers =
+      let grows = GrowsInto-lowered setup before after lowers in
+      record {
+        order = KeepsOrder-lowered setup before after lowers start closed.order;
+        within = closed.within;
+        records = record {
+          recorded = λ k below. ap is_some (same k) ∙ closed.records.recorded k below;
+          none_else = λ k past. same k ∙ closed.records.none_else k past;
+        };
+        workers = λ k entry h. closed.workers k entry (sym (same k) ∙ h);
+        turns = record {
+          once = λ j k one other f g. closed.turns.once j k one other (sym (same j) ∙ f) (sym (same k) ∙ g);
+          no_gap = λ k turn entry h e.
+              let found = closed.turns.no_gap k turn entry (sym (same k) ∙ h) e in
+              (found.0, found.1, same found.0 ∙ found.2, found.3, found.4);
+        };
+        lawful = λ k entry h.
+            IsLawfulRecord-grows setup before after grows entry (same_earlier entry) k (mark_at marks k) (closed.lawful k entry (sym (same k) ∙ h));
+        placed = λ k. (
+          (λ h.
+              let old = (closed.placed k).0 (ap is_some (sym (lowers.still.points (suc k))) ∙ h) in
+              (old.0, same k ∙ old.1, old.2)),
+          (λ own. IsPresent-grows before after grows (suc k) ((closed.placed k).1 (own.0, sym (same k) ∙ own.1, own.2))),
+        );
+      }
+
+  -- so is one whose costs are settled
+  pub IsClosed-settled : SettlesCosts before after → IsClosed setup start marks limit after
+  IsClosed-settled settles = IsClosed-lowered (LowersCosts-settles setup start before after closed.order settles)
+
+  -- and one with the same tree
+  pub IsClosed-same : HaveSameTree before after → IsClosed setup start marks limit after
+  IsClosed-same same_tree = IsClosed-lowered (LowersCosts-same setup start before after closed.order same_tree)
+
+-- ---- first costs
+
+module _ (setup : Setup) (start : Point) (marks : List Point) (limit : ℕ) (state : TreeState) (closed : IsClosed setup start marks limit state) where
+  -- what the tree knows of the node of a mark that was placed
+  hangs_of : (k : ℕ) (entry : Record) (p : Point) (outcome : Outcome) → outcome ≡ Placed → HasLawfulOutcome setup state k entry p outcome
+      → HangsLawfully setup state k entry p
+  hangs_of k entry p outcome e h =
+      let own = subst (λ o. HasLawfulOutcome setup state k entry p o) e h in
+      own.by_tree
+
+  pub HangsLawfully-closed : (k : ℕ) (entry : Record) → state.record_of k ≡ Some entry → entry.outcome ≡ Placed
+      → HangsLawfully setup state k entry (steered (point_of state.points entry.nearest) (mark_at marks k) setup.step)
+  HangsLawfully-closed k entry h placed =
+      hangs_of k entry (steered (point_of state.points entry.nearest) (mark_at marks k) setup.step) entry.outcome placed (closed.lawful k entry h).outcome
+
+  -- In a closed run no node costs more than it was placed at.
+  pub KeepsFirstCosts-closed : KeepsFirstCosts setup state
+  KeepsFirstCosts-closed = record { kept = kept; bounded = bounded }
+    where
+      first_cost_is : (k : ℕ) (entry : Record) → state.record_of k ≡ Some entry → first_cost_of state (suc k) ≡ entry.first_cost
+      first_cost_is k entry h = ap (recorded_or (state.written_cost (suc k))) h
+
+      kept : (n : ℕ) → IsPresent state.points n → state.cost n ≤ first_cost_of state n
+      kept zero h = omega (arith, closed.order.start_cost)
+      kept (suc k) h =
+          let own = (closed.placed k).0 h in
+          omega (arith, (HangsLawfully-closed k own.0 own.1 own.2).kept, first_cost_is k own.0 own.1)
+
+      bounded : (n : ℕ) → IsPresent state.points n → first_cost_of state n ≤ most_cost_of setup (node_count state.points)
+      bounded zero h = omega arith
+      bounded (suc k) h =
+          let own = (closed.placed k).0 h in
+          omega (arith, (HangsLawfully-closed k own.0 own.1 own.2).bounded, first_cost_is k own.0 own.1)
