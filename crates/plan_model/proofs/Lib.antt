@@ -47,6 +47,7 @@ pub mod EarlierNodes
 pub mod RecordLaws
 pub mod CountLaws
 pub mod ClosedLaws
+pub mod OrderedTrees
 pub mod TextbookStates
 pub mod NearNodes
 pub mod TextbookRewiring
