@@ -217,7 +217,10 @@ LowersCosts-lowers setup start before after i order change = record {
           | inr apart ↦ change.others.parents j apart h
         ]
 
-    below : (j : ℕ) → suc j ≡ i → before.cost (before.parent (suc j)) + cost_of (point_of before.points (before.parent (suc j))) (point_of before.points (suc j)) ≤ after.cost (suc j)
+    below :
+        (j : ℕ) → suc j ≡ i
+        → before.cost (before.parent (suc j)) + cost_of (point_of before.points (before.parent (suc j))) (point_of before.points (suc j))
+        ≤ after.cost (suc j)
     below j e =
         subst
         (λ m. before.cost (before.parent m) + cost_of (point_of before.points (before.parent m)) (point_of before.points m) ≤ after.cost m)

@@ -16,7 +16,8 @@ use Rattle.plan_model.specs.Radius.{class_of, radius_of_class}
 use Rattle.plan_model.specs.Steering.{steered}
 use Rattle.plan_model.specs.TreeStates.{TreeState, GrowsInto}
 use Rattle.plan_model.specs.OrderLaw.{IsAllowedEdge, most_cost_of}
-use Rattle.plan_model.specs.RecordLaw.{IsEarlier, IsNeighbour, first_cost_through, IsChosenLawfully, HangsLawfully, IsBlockedLawfully, HasLawfulOutcome, IsLawfulRecord}
+use Rattle.plan_model.specs.RecordLaw.{IsEarlier, IsNeighbour, first_cost_through, IsChosenLawfully, HangsLawfully, IsBlockedLawfully}
+use Rattle.plan_model.specs.RecordLaw.{HasLawfulOutcome, IsLawfulRecord}
 use Rattle.plan_model.specs.Textbook.{Setup}
 use Rattle.plan_model.proofs.ClassLaws.{below_digits}
 use Rattle.plan_model.proofs.EarlierNodes.{HaveSameEarlier, earlier_count-same}

@@ -1,5 +1,6 @@
 -- One mark of a textbook run: a run that was closed before the mark is closed with it.
-use Rattle.std.proofs.Common.{◌≡◌, ℕ, zero, suc, ◌+◌, ◌<◌, ◌≤◌, Bool, false, List, [], ◌∷◌, ◌++◌, length, get_or, Option, Some, None, arith, refl, sym, ap, ◌∙◌, subst, inl, inr, length-append}
+use Rattle.std.proofs.Common.{◌≡◌, ℕ, zero, suc, ◌+◌, ◌<◌, ◌≤◌, Bool, false, List, [], ◌∷◌, ◌++◌, length, get_or, Option, Some, None}
+use Rattle.std.proofs.Common.{arith, refl, sym, ap, ◌∙◌, subst, inl, inr, length-append}
 use Rattle.std.specs.Prelude.{◌≢◌, ◌↔◌, All, Contains, IsTrue, is_some, option_map, slice_get}
 use Rattle.std.specs.List.{range_with_len}
 use Rattle.std.proofs.lemmas.Bool.{cases_eq, true≢false}
@@ -50,7 +51,8 @@ use Rattle.plan_model.proofs.AddedNodes.{AddsNode, GrowsInto-adds, KeepsOrder-ad
 use Rattle.plan_model.proofs.EarlierNodes.{earlier-present, HaveSameEarlier, not_earlier, is_earlier-same}
 use Rattle.plan_model.proofs.RecordLaws.{class_of-le, IsNotAbove-grows, IsLawfulRecord-grows}
 use Rattle.plan_model.proofs.NearNodes.{squared_distance-swap, IsReachable, near_new-reachable, candidate-reachable, Contains-near, Contains-after}
-use Rattle.plan_model.proofs.TextbookStates.{RecordsNext, record_of-new, record_of-other, record_of-cases, record_of-absent, node-absent, AddsRecord-unplaced, PlacesNode, sum-placed, AddsNode-placed}
+use Rattle.plan_model.proofs.TextbookStates.{RecordsNext, record_of-new, record_of-other, record_of-cases, record_of-absent, node-absent}
+use Rattle.plan_model.proofs.TextbookStates.{AddsRecord-unplaced, PlacesNode, sum-placed, AddsNode-placed}
 use Rattle.plan_model.proofs.TextbookRewiring.{MayRewire, IsReached, Relaxes, Relaxes-all, AreReached-all}
 
 -- ---- runs so far

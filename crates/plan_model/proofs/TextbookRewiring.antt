@@ -185,8 +185,8 @@ Relaxes-none setup start tree after records e order =
     })
 
 Relaxes-trans :
-    (setup : Setup) (start : Point) (tree mid after : Nodes) (records : List Record) → Relaxes setup start tree mid records → Relaxes setup start mid after records
-    → Relaxes setup start tree after records
+    (setup : Setup) (start : Point) (tree mid after : Nodes) (records : List Record) → Relaxes setup start tree mid records
+    → Relaxes setup start mid after records → Relaxes setup start tree after records
 Relaxes-trans setup start tree mid after records f g = record {
   points = g.points ∙ f.points;
   order = g.order;

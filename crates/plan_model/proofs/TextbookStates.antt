@@ -30,8 +30,9 @@ use Rattle.plan_model.proofs.NewNodes.{
   parent_of-new,
 }
 use Rattle.plan_model.proofs.TreeChanges.{node_at-past, node_at-absent, HaveSameNodes-absent, sum-same}
-use Rattle.plan_model.proofs.OrderLaws.{start-present, KeepsOrder-falls, cost-within_more}
+use Rattle.plan_model.proofs.OrderLaws.{cost-within_more}
 use Rattle.plan_model.proofs.LoweredCosts.{AddsRecord}
+use Rattle.plan_model.proofs.OrderedTrees.{CostsFall-tree}
 use Rattle.plan_model.proofs.AddedNodes.{AddsNode}
 
 -- ---- the start alone
@@ -51,7 +52,9 @@ KeepsOrder-start setup start clear = record {
   bounded = bounded;
 }
   where
-    bounded : (n : ℕ) → IsPresent (points_of (start_alone start)) n → sum_of (start_alone start) n ≤ most_cost_of setup (node_count (points_of (start_alone start)))
+    bounded :
+        (n : ℕ) → IsPresent (points_of (start_alone start)) n
+        → sum_of (start_alone start) n ≤ most_cost_of setup (node_count (points_of (start_alone start)))
     bounded zero h = let free : sum_of (start_alone start) 0 ≡ 0 = refl in omega (arith, free)
     bounded (suc n) h = absurd (no_other start n h)
 
@@ -86,11 +89,8 @@ IsClosed-start setup start marks clear = record {
 -- the sums of a tree that keeps the order law fall along parents
 pub CostsFall-ordered :
     (setup : Setup) (start : Point) (tree : Nodes) (records : List Record) → KeepsOrder setup start (state_of tree records) → CostsFall (sum_of tree) tree
-CostsFall-ordered setup start tree records order = record {
-  start = start-present setup start (state_of tree records) order;
-  parent = λ n h. (order.hangs n h).parent;
-  falls = KeepsOrder-falls setup start (state_of tree records) order;
-}
+CostsFall-ordered setup start tree records order =
+    CostsFall-tree setup start (state_of tree records) tree order (record { points = refl; parents = λ n h. refl })
 
 -- and each is the parent's and the edge
 pub AreTight-ordered :

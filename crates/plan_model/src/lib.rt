@@ -3,6 +3,7 @@
 //! Planning, IJRR 2011.
 #![tactic(auto)]
 
+mod closed_laws;
 mod errors;
 mod geometry;
 mod laws;

@@ -1,0 +1,8 @@
+use Rattle.plan_model.proofs.CountLaws.{outcomes-closed, node_count-closed}
+use Rattle.plan_model.proofs.closed_laws.marks_of_closed_runs_add_up.Goals as goal
+
+pub returns-clause-outcomes : goal.returns-clause-outcomes
+returns-clause-outcomes c = outcomes-closed
+
+pub returns-clause-nodes : goal.returns-clause-nodes
+returns-clause-nodes c = node_count-closed

@@ -1,0 +1,40 @@
+//! Laws of closed runs, each the contract of a function that does nothing.
+
+ghost use Rattle.std.specs.Prelude.{◌≡◌, ℕ, suc, ◌+◌, ◌<◌, List, length};
+ghost use Rattle.plan_model.specs.Clearance.{ClearAt};
+ghost use Rattle.plan_model.specs.ClosedLaw.{IsClosed, outcome_count};
+ghost use Rattle.plan_model.specs.OrderLaw.{KeepsFirstCosts};
+ghost use Rattle.plan_model.specs.PointsByNumber.{IsPresent, node_count};
+ghost use Rattle.plan_model.specs.Textbook.{IsTextbookRun, Nodes, Setup};
+ghost use Rattle.plan_model.specs.TreeStates.{TreeState, state_of};
+ghost use Rattle.plan_model.specs.declared.geometry.Point.{Point};
+ghost use Rattle.plan_model.specs.declared.records.Record.{Record};
+
+/// A textbook run from a clear start is closed at the number of its marks.
+pub fn textbook_run_is_closed()
+    ensures { (setup : Setup) (start : Point) (marks : List Point) (tree : Nodes) (records : List Record)
+        → ClearAt setup.space start → IsTextbookRun setup start marks tree records
+        → IsClosed setup start marks (length marks) (state_of tree records) }
+{}
+
+/// In a closed run costs strictly fall along parents, so there is no cycle, and no node costs more than
+/// it was placed at.
+pub fn costs_of_closed_runs_fall()
+    ensures falls { (setup : Setup) (start : Point) (marks : List Point) (limit : ℕ) (state : TreeState)
+        → IsClosed setup start marks limit state
+        → (n : ℕ) → IsPresent state.points (suc n) → state.cost (state.parent (suc n)) < state.cost (suc n) }
+    ensures first_costs { (setup : Setup) (start : Point) (marks : List Point) (limit : ℕ) (state : TreeState)
+        → IsClosed setup start marks limit state → KeepsFirstCosts setup state }
+{}
+
+/// In a closed run the placed, the same and the blocked marks add up to the limit, and there is a node for
+/// each placed mark beside the start.
+pub fn marks_of_closed_runs_add_up()
+    ensures outcomes { (setup : Setup) (start : Point) (marks : List Point) (limit : ℕ) (state : TreeState)
+        → IsClosed setup start marks limit state
+        → (outcome_count state.record_of limit 0 + outcome_count state.record_of limit 1) + outcome_count state.record_of limit 2
+        ≡ limit }
+    ensures nodes { (setup : Setup) (start : Point) (marks : List Point) (limit : ℕ) (state : TreeState)
+        → IsClosed setup start marks limit state
+        → node_count state.points ≡ suc (outcome_count state.record_of limit 0) }
+{}
