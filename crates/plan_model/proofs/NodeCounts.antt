@@ -3,7 +3,7 @@ use Rattle.std.proofs.Common.{◌≡◌, ℕ, zero, suc, ◌+◌, ◌≤◌, Boo
 use Rattle.std.specs.Prelude.{◌≢◌, is_some, count_by}
 use Rattle.std.specs.List.{range_with_len}
 use Rattle.std.proofs.lemmas.Bool.{false_from_ne_true}
-use Rattle.std.proofs.lemmas.List.Sums.{sum_by-cons}
+use Rattle.std.proofs.lemmas.List.Sums.{sum_by-cons, count_by-le-length}
 use Rattle.plan_model.specs.declared.geometry.Point.{Point}
 use Rattle.plan_model.specs.PointsByNumber.{point_at, IsPresent, node_count}
 use Rattle.plan_model.proofs.ChainLaws.{node_count-cons}
@@ -105,3 +105,7 @@ count-next points test n start l same =
     (λ i. let e : 0 + i ≡ i = omega arith in ap test e ∙ same i ∙ ap is_some (sym (point_at-rest points i))) in
     let first : ◌≡◌ {A = ℕ} (cond (is_some (point_at points 0)) 1 0) 1 = ap (λ t. cond {A = ℕ} t 1 0) start in
     omega (arith, node_count-rest points, others, first)
+
+-- there are no more nodes than numbers
+pub node_count-length : (points : List (Option Point)) → node_count points ≤ length points
+node_count-length points = count_by-le-length is_some points

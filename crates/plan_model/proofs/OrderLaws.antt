@@ -1,5 +1,5 @@
 -- The order law: what an edge costs at most, and that costs strictly fall along parents.
-use Rattle.std.proofs.Common.{◌≡◌, ℕ, zero, suc, ◌+◌, ◌-◌, ◌*◌, ◌<◌, ◌≤◌, Some, arith, refl, sym, ap, ◌∙◌, subst}
+use Rattle.std.proofs.Common.{◌≡◌, ℕ, zero, suc, ◌+◌, ◌-◌, ◌*◌, ◌^◌, ◌<◌, ◌≤◌, Some, arith, refl, sym, ap, ◌∙◌, subst}
 use Rattle.std.specs.Prelude.{◌≢◌}
 use Rattle.std.proofs.lemmas.Nat.{mul-le}
 use Rattle.plan_model.specs.declared.geometry.Point.{Point}
@@ -113,3 +113,12 @@ module _ (setup : Setup) (start : Point) (state : TreeState) (order : KeepsOrder
   cost-within_more f p h edge =
       let short = cost_of-short (point_of state.points f) p setup.step edge.short in
       omega (arith, order.bounded f h, short, most_cost_of-more setup (node_count state.points) some_node)
+
+-- ---- costs of trees within the limits
+
+-- with at most 2 ^ 18 nodes and a step of at most 2 ^ 12 the bound is below 2 ^ 38
+pub most_cost_of-within : (setup : Setup) (nodes : ℕ) → setup.step ≤ 4096 → nodes ≤ 262144 → most_cost_of setup nodes < 2 ^ 38
+most_cost_of-within setup nodes step few =
+    let most : 256 * setup.step * (nodes - 1) ≤ 1048576 * 262143 =
+    mul-le (256 * setup.step) (nodes - 1) 1048576 262143 (omega (arith, step)) (omega (arith, few)) in
+    omega (arith, most)
