@@ -98,9 +98,6 @@ AreTurns-numbered records numbered = record {
 module _
     (setup : Setup) (start : Point) (marks : List Point) (k : ℕ) (tree : Nodes) (records : List Record) (entry : Record) (after : Nodes)
     (so_far : IsTextbookSoFar setup start marks k tree records) where
-  abbrev longer : List Record
-  longer = records ++ entry ∷ []
-
   abbrev before_mark : TreeState
   before_mark = state_of tree records
 
@@ -198,7 +195,7 @@ module _
 
   module _ (mark : Point) (turn : entry.turn ≡ k) (grows : GrowsInto before_mark after_mark) where
     -- what stood earlier by the records was present
-    early_present : (i : ℕ) → IsEarlier after_mark entry i → IsPresent (points_of tree) i
+    pub early_present : (i : ℕ) → IsEarlier after_mark entry i → IsPresent (points_of tree) i
     early_present zero h = start-present setup start before_mark so_far.closed.order
     early_present (suc j) h =
         elim (cases_eq j k) [
@@ -222,7 +219,7 @@ module _
         )
 
     -- The record is lawful if its outcome is.
-    lawful_by_outcome :
+    pub lawful_by_outcome :
         (p : Point) → SteersTo setup (points_of tree) mark entry.nearest p → HasLawfulOutcome setup after_mark k entry p entry.outcome
         → IsLawfulRecord setup after_mark k mark entry
     lawful_by_outcome p steers h =
@@ -253,7 +250,7 @@ module _
     grows_unplaced = GrowsInto-lowered setup before_mark after_mark lowers
 
     -- A mark that is not placed ends lawfully if its outcome is lawful.
-    EndsLawfully-unplaced :
+    pub EndsLawfully-unplaced :
         (outcome : Outcome) → entry.worker ≡ 0 → entry.turn ≡ k → entry.outcome ≡ outcome → is_placed outcome ≡ false
         → HasLawfulOutcome setup after_mark k entry p outcome → EndsLawfully setup start k tree records mark entry after
     EndsLawfully-unplaced outcome worker turn e unplaced h =
@@ -487,7 +484,7 @@ module _
         ∙ length-map with_node (option_map (λ (node : Twig). node.point))
 
     -- A placed mark ends lawfully.
-    EndsLawfully-placed : EndsLawfully setup start k tree records mark entry after
+    pub EndsLawfully-placed : EndsLawfully setup start k tree records mark entry after
     EndsLawfully-placed =
         let lawful : HasLawfulOutcome setup after_mark k entry p Placed = record { by_worker = chosen_lawfully; by_tree = hangs_lawfully } in
         let own = subst (λ o. HasLawfulOutcome setup after_mark k entry p o) (sym outcome_is) lawful in
@@ -508,7 +505,7 @@ module _
   -- ---- each mark
 
   -- Each mark ends lawfully.
-  EndsLawfully-textbook :
+  pub EndsLawfully-textbook :
       (mark : Point) (outcome : Outcome) → Ends setup tree k mark outcome entry after → EndsLawfully setup start k tree records mark entry after
   EndsLawfully-textbook mark Placed ends = EndsLawfully-placed mark ends
   EndsLawfully-textbook mark (Same j) ends =

@@ -104,7 +104,7 @@ module _
   new_edge_up e = omega (arith, ap (sum_of tree) e, change.cost, change.some)
 
   -- The exchange lowers costs, if the new edge is allowed.
-  LowersCosts-exchanged :
+  pub LowersCosts-exchanged :
       IsAllowedEdge setup (point_of (points_of tree) n) (point_of (points_of tree) i) → LowersCosts setup (state_of tree records) (state_of after records)
   LowersCosts-exchanged edge = record {
     still = record {
