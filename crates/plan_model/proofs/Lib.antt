@@ -53,3 +53,6 @@ pub mod NearNodes
 pub mod TextbookRewiring
 pub mod TextbookMarks
 pub mod TextbookRuns
+pub mod WayLaws
+pub mod WayLengths
+pub mod WayLinks

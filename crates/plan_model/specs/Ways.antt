@@ -1,5 +1,5 @@
 -- The way of a point through a kd-tree (Bentley, CACM 1975), whose children are given by number.
-use Rattle.std.specs.Prelude.{◌≡◌, ◌≢◌, ℕ, suc, ◌%◌, ◌==◌, nat_lt, not, Bool, Option, Some, None, List, if◌then◌else◌}
+use Rattle.std.specs.Prelude.{◌≡◌, ◌≢◌, ◌⊎◌, ◌↔◌, ℕ, suc, ◌%◌, ◌==◌, nat_lt, not, Bool, Option, Some, None, List, if◌then◌else◌}
 use Rattle.plan_model.specs.declared.geometry.Point.{Point}
 use Rattle.plan_model.specs.PointsByNumber.{StandsAt, IsPresent}
 
@@ -31,3 +31,19 @@ pub record FollowWays (child : Children) (points : List (Option Point)) : Type 0
   pub root : (a : ℕ) (side : Bool) → child a side ≢ Some 0
   pub present : (a n : ℕ) (side : Bool) → child a side ≡ Some n → IsPresent points n
   pub empty : (n : ℕ) (side : Bool) → ¬ IsPresent points n → child n side ≡ None
+
+-- Node m becomes the child of node n on this side, where n had none. No other place changes.
+pub record LinksAt (child after : Children) (n : ℕ) (side : Bool) (m : ℕ) : Type 0 where
+  pub was_empty : child n side ≡ None
+  pub linked : after n side ≡ Some m
+  pub elsewhere : (a : ℕ) (b : Bool) → ¬ ((a ≡ n) × (b ≡ side)) → after a b ≡ child a b
+
+-- Number m had no node, and has one at q now. All others are as before.
+pub record AddsPoint (points later : List (Option Point)) (m : ℕ) (q : Point) : Type 0 where
+  pub absent : ¬ IsPresent points m
+  pub stands : (k : ℕ) (r : Point) → StandsAt later k r ↔ (StandsAt points k r ⊎ ((k ≡ m) × (r ≡ q)))
+
+-- All children and all nodes stay. Only empty places may fill.
+pub record FillsPlaces (child after : Children) (points later : List (Option Point)) : Type 0 where
+  pub children : (n m : ℕ) (side : Bool) → child n side ≡ Some m → after n side ≡ Some m
+  pub nodes : (n : ℕ) (p : Point) → StandsAt points n p → StandsAt later n p

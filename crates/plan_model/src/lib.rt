@@ -21,6 +21,7 @@ mod text_terms;
 mod tree_laws;
 mod trees;
 mod vectors;
+mod way_laws;
 
 pub use errors::{Failed, Memory};
 pub use geometry::{Goal, Point, Vertex};

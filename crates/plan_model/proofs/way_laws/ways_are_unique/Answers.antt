@@ -1,0 +1,11 @@
+use Rattle.plan_model.proofs.WayLaws.{IsOnWay-unique, IsOnWay-depth, EndsBelow-unique}
+use Rattle.plan_model.proofs.way_laws.ways_are_unique.Goals as goal
+
+pub returns-clause-node : goal.returns-clause-node
+returns-clause-node c = IsOnWay-unique
+
+pub returns-clause-end : goal.returns-clause-end
+returns-clause-end c = EndsBelow-unique
+
+pub returns-clause-depth : goal.returns-clause-depth
+returns-clause-depth c = IsOnWay-depth
