@@ -3,7 +3,7 @@ use Rattle.std.proofs.Common.{◌≡◌, ℕ, zero, suc, ◌<◌, Bool, List, Op
 use Rattle.std.specs.Prelude.{◌≢◌, ◌⊎◌, unwrap_or}
 use Rattle.std.proofs.lemmas.Bool.{cases_order, cases_eq}
 use Rattle.plan_model.specs.declared.geometry.Point.{Point}
-use Rattle.plan_model.specs.PointsByNumber.{point_at, StandsAt, IsPresent, IsFree}
+use Rattle.plan_model.specs.PointsByNumber.{point_at, StandsAt, IsPresent, IsFree, AreDistinct}
 use Rattle.plan_model.specs.Ways.{goes_right, Children, IsOnWay, EndsBelow, FollowWays}
 use Rattle.plan_model.specs.Ways.IsOnWay.{begins, goes_on}
 use Rattle.plan_model.proofs.NewNodes.{IsPresent-stands, StandsAt-unique}
@@ -146,4 +146,15 @@ module _ (child : Children) (points : List (Option Point)) (follow : FollowWays 
             ends.other (StandsAt-unique points j p q (ap (point_at points) (sym same) ∙ ends.stands) h))
         | inr (inl before) ↦ way_ends child points q depth n p ends found.0 j before found.1
         | inr (inr after) ↦ way_stops child points q found.0 j found.1 h depth n (omega (arith, after)) ends.on_way
+      ]
+
+  -- No two nodes stand at the same point.
+  pub AreDistinct-ways : AreDistinct points
+  AreDistinct-ways i j q one other =
+      let a = follow.on_way i q one in
+      let b = follow.on_way j q other in
+      elim (cases_order a.0 b.0) [
+        | inl e ↦ IsOnWay-unique child points q b.0 i j (subst (λ d. IsOnWay child points q d i) e a.1) b.1
+        | inr (inl before) ↦ absurd (way_stops child points q a.0 i a.1 one b.0 j before b.1)
+        | inr (inr after) ↦ absurd (way_stops child points q b.0 j b.1 other a.0 i (omega (arith, after)) a.1)
       ]

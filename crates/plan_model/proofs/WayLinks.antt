@@ -1,6 +1,6 @@
 -- A node is linked at the end of the way of its point: each node still is where its way leads, and all ways go on as before.
-use Rattle.std.proofs.Common.{◌≡◌, ℕ, zero, suc, Bool, true, false, List, Option, Some, None, arith, refl, sym, ap, ◌∙◌, subst, inl, inr}
-use Rattle.std.specs.Prelude.{◌≢◌, ◌⊎◌, unwrap_or, is_some}
+use Rattle.std.proofs.Common.{◌≡◌, ℕ, zero, suc, Bool, true, false, List, Option, Some, None, refl, sym, ap, ◌∙◌, subst, inl, inr}
+use Rattle.std.specs.Prelude.{◌≢◌, ◌⊎◌}
 use Rattle.std.proofs.lemmas.Bool.{cases_eq}
 use Rattle.plan_model.specs.declared.geometry.Point.{Point}
 use Rattle.plan_model.specs.PointsByNumber.{point_of, StandsAt, IsPresent}
@@ -21,6 +21,19 @@ IsOnWay-fills child after points later fills q (suc depth) n way =
     let step = last_step child points q depth n way in
     goes_on depth step.node n step.point (IsOnWay-fills child after points later fills q depth step.node step.on_way)
     (fills.nodes step.node step.point step.stands) step.other (fills.children step.node n (goes_right depth step.point q) step.link)
+
+-- nothing fills by itself
+pub FillsPlaces-refl : (child : Children) (points : List (Option Point)) → FillsPlaces child child points points
+FillsPlaces-refl child points = record { children = λ n m side h. h; nodes = λ n p h. h }
+
+-- what stays until one moment and from there on stays all the while
+pub FillsPlaces-trans :
+    (child mid after : Children) (points then later : List (Option Point)) → FillsPlaces child mid points then → FillsPlaces mid after then later
+    → FillsPlaces child after points later
+FillsPlaces-trans child mid after points then later one two = record {
+  children = λ n m side h. two.children n m side (one.children n m side h);
+  nodes = λ n p h. two.nodes n p (one.nodes n p h);
+}
 
 -- ---- one link more
 
@@ -96,8 +109,9 @@ module _
                 let way = follow.on_way k r old in
                 (way.0, IsOnWay-fills child after points later fills r way.0 k way.1))
             | inr new ↦ (
-                suc depth,
-                subst (λ s. IsOnWay after later s (suc depth) k) (sym new.1) (subst (IsOnWay after later q (suc depth)) (sym new.0) IsOnWay-linked))
+              suc depth,
+              subst (λ s. IsOnWay after later s (suc depth) k) (sym new.1) (subst (IsOnWay after later q (suc depth)) (sym new.0) IsOnWay-linked),
+            )
           ]
 
       once : (k a b : ℕ) (left right : Bool) → after a left ≡ Some k → after b right ≡ Some k → (a ≡ b) × (left ≡ right)

@@ -1,11 +1,12 @@
 //! Laws of ways through a kd-tree, each the contract of a function that does nothing.
 
 ghost use Rattle.std.specs.Prelude.{◌≡◌, ℕ, suc, ◌<◌, ◌⊎◌, Bool, Option, Some, None, List};
-ghost use Rattle.plan_model.specs.PointsByNumber.{IsFree, IsPresent, StandsAt, node_count};
+ghost use Rattle.plan_model.specs.PointsByNumber.{AreDistinct, IsFree, IsPresent, StandsAt, node_count};
 ghost use Rattle.plan_model.specs.Ways.{AddsPoint, Children, EndsBelow, FillsPlaces, FollowWays, IsOnWay, LinksAt, goes_right};
 ghost use Rattle.plan_model.specs.declared.geometry.Point.{Point};
 
-/// The way of a point is one way: it has one node at each depth and one end, and a node is on ways at one depth only.
+/// The way of a point is one way: it has one node at each depth and one end. If each node is where its way leads, a
+/// node is on ways at one depth only, and no two nodes stand at the same point.
 pub fn ways_are_unique()
     ensures node { (child : Children) (points : List (Option Point)) (q : Point) (depth n m : ℕ)
         → IsOnWay child points q depth n → IsOnWay child points q depth m → n ≡ m }
@@ -13,6 +14,7 @@ pub fn ways_are_unique()
         → EndsBelow child points q depth n p → EndsBelow child points q other m r → (depth ≡ other) × (n ≡ m) × (p ≡ r) }
     ensures depth { (child : Children) (points : List (Option Point)) → FollowWays child points
         → (q r : Point) (depth other n : ℕ) → IsOnWay child points q depth n → IsOnWay child points r other n → depth ≡ other }
+    ensures distinct { (child : Children) (points : List (Option Point)) → FollowWays child points → AreDistinct points }
 {}
 
 /// A way passes present nodes, no more than there are. It comes to a node at its point, or to an end if and only
