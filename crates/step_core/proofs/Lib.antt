@@ -2,3 +2,4 @@ pub mod PackedFields
 pub mod ReadWords
 pub mod PackedWords
 pub mod PackedRecords
+pub mod GrownPoints

@@ -1,1 +1,5 @@
 pub mod Words
+pub mod WordPlaces
+pub mod GrownWords
+pub mod GrownRuns
+pub mod PlacesOfWords

@@ -5,12 +5,15 @@
 //! say what a word is as a number: a sum of products for what is packed, quotients and remainders for what is read.
 #![tactic(auto)]
 
+mod grown;
 mod laws;
 mod layout;
 mod point_words;
 mod record_words;
 mod tree_words;
+mod word_places;
 
+pub use grown::Grown;
 pub use point_words::{pack_point, read_point};
 pub use record_words::{pack_mark, read_mark};
 pub use tree_words::{pack_tree, read_tree};

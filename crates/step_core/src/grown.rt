@@ -1,0 +1,206 @@
+//! A finished run: a task, a limit, and the words of the tree and the records that its marks below the limit have led to.
+
+ghost use Rattle.std.specs.Prelude.{◌≡◌, ◌<◌, ◌≤◌, ℕ, Bool, length, IfOk, IsTrue, Some};
+ghost use Rattle.plan_model.specs.Clearance.{ClearAt};
+ghost use Rattle.plan_model.specs.ConfigurationSpace.{space_of};
+ghost use Rattle.plan_model.specs.PointsByNumber.{IsPresent, node_count, point_at};
+ghost use Rattle.step_core.specs.GrownWords.{HoldRun, has_node, sizes_of, words_of};
+ghost use Rattle.step_core.specs.WordPlaces.{word_count};
+
+use crate::point_words::{pack_point, read_point};
+use crate::record_words::read_mark;
+use crate::tree_words::{cost_in, pack_tree, parent_in};
+use crate::word_places::WordPlaces;
+use plan_model::{Memory, Outcome, Point, Record, Task};
+use std::alloc::Global;
+
+/// A run that has handled all marks below its limit, as a table of 64-bit words.
+///
+/// Its tree, its costs and its records keep the closed law: each mark below the limit has a record that the tree bears out.
+/// The present nodes are linked to a kd-tree by the order in which they were inserted; each node stands at the end of the
+/// way of its point, and a node is present if it is the start or its mark was placed.
+#[derive(Drop)]
+pub struct Grown {
+    task: Task,
+    limit: u32,
+    words: Vec<u64>,
+    ghost sized: { length words.items ≡ word_count (sizes_of task) },
+    ghost hold_run: { ∥ HoldRun task limit (words_of words.items) ∥₁ },
+}
+
+impl Grown {
+    ghost use Rattle.step_core.specs.GrownRuns.{CostsInstead, MayCost, children_of_grown, state_of_grown};
+
+    /// The run that has handled no mark: the start alone, at limit 0. O(n) for n marks.
+    ///
+    /// # Errors
+    ///
+    /// `Memory` if out of memory.
+    pub fn new(alloc: Global, task: Task) -> Result<Grown, Memory>
+        requires { ClearAt (space_of task.scene) task.scene.start }
+        ensures task { IfOk result (λ grown. grown.task ≡ task) }
+        ensures limit { IfOk result (λ grown. grown.limit ≡ 0) }
+    {
+        let places = WordPlaces::of(&task);
+        let mut words = vec![in alloc; 0; places.len()]?;
+        words[places.count()] = 1;
+        words[places.point(0)] = pack_point(task.scene.start);
+        words[places.tree(0)] = pack_tree(0, 0);
+        words[places.first(0)] = pack_tree(0, 0);
+        Ok(Grown {
+            task,
+            limit: 0,
+            words,
+        })
+    }
+
+    /// The task whose marks were handled.
+    pub fn task(&self) -> &Task
+        ensures { result.now ≡ self.now.task }
+    {
+        &self.task
+    }
+
+    /// How many marks were handled: those below this number.
+    pub fn limit(&self) -> u32
+        ensures { result ≡ self.now.limit }
+    {
+        self.limit
+    }
+
+    /// How many nodes are present, the start included.
+    pub fn count(&self) -> u32
+        ensures { result ≡ node_count (state_of_grown self.now).points }
+    {
+        self.words[WordPlaces::of(&self.task).count()] as u32
+    }
+
+    /// Where a node stands; `None` exactly if it is absent.
+    pub fn point(&self, node: u32) -> Option<Point>
+        ensures { result ≡ point_at (state_of_grown self.now).points node }
+    {
+        if !self.has_node(node) {
+            return None;
+        }
+        read_point(self.words[WordPlaces::of(&self.task).point(node as usize)])
+    }
+
+    /// The parent of a node that is present; the start is its own.
+    pub fn parent(&self, node: u32) -> u32
+        requires { IsPresent (state_of_grown self.now).points node }
+        ensures { result ≡ (state_of_grown self.now).parent node }
+    {
+        parent_in(self.words[WordPlaces::of(&self.task).tree(node as usize)])
+    }
+
+    /// The kept cost of a node that is present, in 256ths of a lattice step.
+    pub fn cost(&self, node: u32) -> u64
+        requires { IsPresent (state_of_grown self.now).points node }
+        ensures { result ≡ (state_of_grown self.now).cost node }
+    {
+        cost_in(self.words[WordPlaces::of(&self.task).tree(node as usize)])
+    }
+
+    /// The record of a mark that was handled.
+    pub fn record_of(&self, mark: u32) -> Record
+        requires { mark < self.now.limit }
+        ensures { (state_of_grown self.now).record_of mark ≡ Some result }
+    {
+        let places = WordPlaces::of(&self.task);
+        let mark = mark as usize;
+        read_mark(
+            self.words[places.record(mark)],
+            self.words[places.first(mark + 1)],
+        )
+        .unwrap()
+    }
+
+    /// Lowers the kept cost of a node, to no less than what its parent costs and the edge. All else stays.
+    pub fn lower(&mut self, node: u32, cost: u64)
+        requires present { IsPresent (state_of_grown self.old).points node }
+        requires not_above { cost ≤ (state_of_grown self.old).cost node }
+        requires above_parent { MayCost (state_of_grown self.old) node cost }
+        ensures task { self.new.task ≡ self.old.task }
+        ensures limit { self.new.limit ≡ self.old.limit }
+        ensures state { CostsInstead (state_of_grown self.old) (state_of_grown self.new) node cost }
+        ensures children { (n : ℕ) (right : Bool) → children_of_grown self.new n right ≡ children_of_grown self.old n right }
+    {
+        let place = WordPlaces::of(&self.task).tree(node as usize);
+        self.words[place] = pack_tree(parent_in(self.words[place]), cost);
+    }
+
+    /// Whether a node is present.
+    fn has_node(&self, node: u32) -> bool
+        ensures { result ≡ has_node (sizes_of self.now.task) (words_of self.now.words.items) node }
+    {
+        if node == 0 {
+            return true;
+        }
+        let places = WordPlaces::of(&self.task);
+        let mark = node as usize - 1;
+        if mark >= places.marks() {
+            return false;
+        }
+        let entry = read_mark(
+            self.words[places.record(mark)],
+            self.words[places.first(mark + 1)],
+        );
+        matches!(entry, Some(entry) if entry.outcome == Outcome::Placed)
+    }
+}
+
+#[cfg(test)]
+mod tests {
+    use super::*;
+    use plan_model::{Goal, Marks, Scene, Sequence, Vertex};
+    use std::test::Fail;
+
+    /// A task of two marks in a room of 100 by 100.
+    fn small_task(alloc: Global) -> Result<Task, Memory>
+        ensures { IfOk result (λ task. ClearAt (space_of task.scene) task.scene.start) }
+    {
+        let marks = [Point { x: 30, y: 40 }, Point { x: 60, y: 80 }];
+        let scene = Scene {
+            version: 1,
+            room: Point { x: 100, y: 100 },
+            body: Sequence::from_vec(vec![in alloc; Vertex { x: 0, y: 0 }]?),
+            obstacles: Sequence::from_vec(Vec::new(alloc)),
+            start: Point { x: 3, y: 4 },
+            goal: Goal {
+                low: Point { x: 90, y: 90 },
+                high: Point { x: 99, y: 99 },
+            },
+            step: 50,
+            gamma: 0,
+            seed: 0,
+            strips: 3,
+            plan: Marks::Listed(Sequence::from_vec(Vec::from_slice(alloc, &marks)?)),
+        };
+        Ok(Task {
+            scene,
+            marks: Sequence::from_vec(Vec::from_slice(alloc, &marks)?),
+        })
+    }
+
+    #[test]
+    fn begins_with_the_start_alone(rt: HostRuntime) -> Result<(), Fail> {
+        let grown = Grown::new(rt.alloc(), small_task(rt.alloc())?)?;
+        assert_eq!(rt; grown.limit(), 0);
+        assert_eq!(rt; grown.count(), 1);
+        assert_eq!(rt; grown.point(0), Some(Point { x: 3, y: 4 }));
+        assert_eq!(rt; grown.point(1), None);
+        assert_eq!(rt; grown.point(3), None);
+        assert_eq!(rt; grown.point(u32::MAX), None);
+        assert_eq!(rt; grown.task().marks.len(), 2);
+        assert_eq!(rt; (grown.parent(0), grown.cost(0)), (0, 0));
+        Ok(())
+    }
+
+    #[test]
+    fn lowers_to_the_same_cost(rt: HostRuntime) -> Result<(), Fail> {
+        let mut grown = Grown::new(rt.alloc(), small_task(rt.alloc())?)?;
+        grown.lower(0, 0);
+        assert_eq!(rt; (grown.parent(0), grown.cost(0)), (0, 0));
+        Ok(())
+    }
+}

@@ -1,0 +1,109 @@
+//! Where each word of a run stands. Nothing else knows the order:
+//!
+//! ```text
+//!     place   0         1 ..       then five for each node, from 0 on         then
+//!     word    count     counters   point  left  right  tree  first  ..        records
+//! ```
+
+ghost use Rattle.std.specs.Prelude.{◌≡◌, ◌≤◌, ◌<◌, length};
+ghost use Rattle.plan_model.specs.declared.limits.TheConstants.{MOST_MARKS, MOST_STRIPS};
+ghost use Rattle.step_core.specs.GrownWords.{sizes_of};
+ghost use Rattle.step_core.specs.WordPlaces.{child_place, counter_place, first_place, place_of_count, point_place, record_place, tree_place, word_count};
+
+use plan_model::Task;
+
+/// The places of the words of a run with so many strips and marks.
+#[derive(Clone, Copy)]
+pub(crate) struct WordPlaces {
+    strips: usize,
+    marks: usize,
+    ghost few_strips: { strips ≤ MOST_STRIPS },
+    ghost few_marks: { marks ≤ MOST_MARKS },
+}
+
+impl WordPlaces {
+    ghost use Rattle.step_core.specs.PlacesOfWords.{sizes_in};
+
+    /// The places of the words of a task's run.
+    pub(crate) fn of(task: &Task) -> WordPlaces
+        ensures { sizes_in result ≡ sizes_of task.now }
+    {
+        WordPlaces {
+            strips: task.scene.strips as usize,
+            marks: task.marks.len(),
+        }
+    }
+
+    /// How many marks there are; the last node has this number.
+    pub(crate) fn marks(self) -> usize
+        ensures { result ≡ (sizes_in self).marks }
+    {
+        self.marks
+    }
+
+    /// How many words there are.
+    pub(crate) fn len(self) -> usize
+        ensures { result ≡ word_count (sizes_in self) }
+    {
+        self.record(self.marks)
+    }
+
+    /// The count of nodes.
+    pub(crate) fn count(self) -> usize
+        ensures { result ≡ place_of_count }
+    {
+        0
+    }
+
+    /// The counter of a strip.
+    pub(crate) fn counter(self, strip: usize) -> usize
+        requires { strip < (sizes_in self).strips }
+        ensures { result ≡ counter_place strip }
+    {
+        strip + 1
+    }
+
+    /// The point of a node, and the first of its words.
+    pub(crate) fn point(self, node: usize) -> usize
+        requires { node ≤ (sizes_in self).marks }
+        ensures { result ≡ point_place (sizes_in self) node }
+    {
+        self.strips + 1 + 5 * node
+    }
+
+    /// The left or the right child of a node.
+    pub(crate) fn child(self, node: usize, right: bool) -> usize
+        requires { node ≤ (sizes_in self).marks }
+        ensures { result ≡ child_place (sizes_in self) node right }
+    {
+        if right {
+            self.point(node) + 2
+        } else {
+            self.point(node) + 1
+        }
+    }
+
+    /// The parent and the kept cost of a node.
+    pub(crate) fn tree(self, node: usize) -> usize
+        requires { node ≤ (sizes_in self).marks }
+        ensures { result ≡ tree_place (sizes_in self) node }
+    {
+        self.point(node) + 3
+    }
+
+    /// The first parent and the first cost of a node.
+    pub(crate) fn first(self, node: usize) -> usize
+        requires { node ≤ (sizes_in self).marks }
+        ensures { result ≡ first_place (sizes_in self) node }
+    {
+        self.point(node) + 4
+    }
+
+    /// The record of a mark.
+    pub(crate) fn record(self, mark: usize) -> usize
+        requires { mark ≤ (sizes_in self).marks }
+        ensures { result ≡ record_place (sizes_in self) mark }
+    {
+        self.point(self.marks) + 5 + mark
+    }
+}
