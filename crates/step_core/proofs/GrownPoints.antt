@@ -4,6 +4,7 @@ use Rattle.std.specs.Prelude.{is_some, if◌then◌else◌}
 use Rattle.std.specs.List.{range_with_len}
 use Rattle.std.proofs.lemmas.Bool.{cases_lt, cases_Bool, le-ltb, lt-ltb}
 use Rattle.std.proofs.lemmas.List.{get_or_past}
+use Rattle.std.proofs.lemmas.List.Sums.{count_by-le-length}
 use Rattle.std.proofs.lemmas.List.FromFn.{get_or-map-range_with_len, length-map-range_with_len}
 use Rattle.plan_model.specs.declared.geometry.Point.{Point}
 use Rattle.plan_model.specs.declared.records.Record.{Record}
@@ -63,10 +64,22 @@ module _ (sizes : Sizes) (words : Words) where
         | inr none ↦ (let gone = sym h ∙ ap is_some (point_at-words n ∙ node_point-absent n none) in cc)
       ]
 
-  -- a present node has a number up to that of the last mark's
-  pub present-within : (n : ℕ) → IsPresent (points_of_words sizes words) n → n ≤ sizes.marks
-  present-within n h =
+  -- has a number up to that of the last mark's
+  pub has_node-within : (n : ℕ) → has_node sizes words n ≡ true → n ≤ sizes.marks
+  has_node-within n here =
       elim (cases_lt sizes.marks n) [
         | inr within ↦ within
-        | inl past ↦ (let gone = sym (has_node-present n h) ∙ has_node-past n past in cc)
+        | inl past ↦ (let gone = sym here ∙ has_node-past n past in cc)
       ]
+
+  pub present-within : (n : ℕ) → IsPresent (points_of_words sizes words) n → n ≤ sizes.marks
+  present-within n h = has_node-within n (has_node-present n h)
+
+  -- so there are no more of them
+  pub node_count-words : node_count (points_of_words sizes words) ≤ sizes.marks + 1
+  node_count-words =
+      omega (
+        arith,
+        count_by-le-length is_some (points_of_words sizes words),
+        length-map-range_with_len (node_point sizes words) 0 (sizes.marks + 1),
+      )

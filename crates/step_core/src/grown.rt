@@ -4,8 +4,8 @@ ghost use Rattle.std.specs.Prelude.{◌≡◌, ◌<◌, ◌≤◌, ℕ, Bool, le
 ghost use Rattle.plan_model.specs.Clearance.{ClearAt};
 ghost use Rattle.plan_model.specs.ConfigurationSpace.{space_of};
 ghost use Rattle.plan_model.specs.PointsByNumber.{IsPresent, node_count, point_at};
-ghost use Rattle.step_core.specs.GrownWords.{HoldRun, has_node, sizes_of, words_of};
-ghost use Rattle.step_core.specs.WordPlaces.{word_count};
+ghost use Rattle.step_core.specs.GrownWords.{HoldRun, has_node, record_at, sizes_of, words_of};
+ghost use Rattle.step_core.specs.WordPlaces.{tree_place, word_count};
 
 use crate::point_words::{pack_point, read_point};
 use crate::record_words::read_mark;
@@ -90,7 +90,7 @@ impl Grown {
         requires { IsPresent (state_of_grown self.now).points node }
         ensures { result ≡ (state_of_grown self.now).parent node }
     {
-        parent_in(self.words[WordPlaces::of(&self.task).tree(node as usize)])
+        parent_in(self.tree_word(node))
     }
 
     /// The kept cost of a node that is present, in 256ths of a lattice step.
@@ -98,7 +98,7 @@ impl Grown {
         requires { IsPresent (state_of_grown self.now).points node }
         ensures { result ≡ (state_of_grown self.now).cost node }
     {
-        cost_in(self.words[WordPlaces::of(&self.task).tree(node as usize)])
+        cost_in(self.tree_word(node))
     }
 
     /// The record of a mark that was handled.
@@ -106,13 +106,7 @@ impl Grown {
         requires { mark < self.now.limit }
         ensures { (state_of_grown self.now).record_of mark ≡ Some result }
     {
-        let places = WordPlaces::of(&self.task);
-        let mark = mark as usize;
-        read_mark(
-            self.words[places.record(mark)],
-            self.words[places.first(mark + 1)],
-        )
-        .unwrap()
+        self.record_at(mark).unwrap()
     }
 
     /// Lowers the kept cost of a node, to no less than what its parent costs and the edge. All else stays.
@@ -125,8 +119,31 @@ impl Grown {
         ensures state { CostsInstead (state_of_grown self.old) (state_of_grown self.new) node cost }
         ensures children { (n : ℕ) (right : Bool) → children_of_grown self.new n right ≡ children_of_grown self.old n right }
     {
-        let place = WordPlaces::of(&self.task).tree(node as usize);
-        self.words[place] = pack_tree(parent_in(self.words[place]), cost);
+        let word = pack_tree(self.parent(node), cost);
+        self.words[WordPlaces::of(&self.task).tree(node as usize)] = word;
+    }
+
+    /// The word of a node's parent and kept cost.
+    fn tree_word(&self, node: u32) -> u64
+        requires { IsPresent (state_of_grown self.now).points node }
+        ensures { result ≡ words_of self.now.words.items (tree_place (sizes_of self.now.task) node) }
+    {
+        self.words[WordPlaces::of(&self.task).tree(node as usize)]
+    }
+
+    /// The record of a mark, if it was handled.
+    fn record_at(&self, mark: u32) -> Option<Record>
+        ensures { result ≡ record_at (sizes_of self.now.task) (words_of self.now.words.items) mark }
+    {
+        let places = WordPlaces::of(&self.task);
+        let mark = mark as usize;
+        if mark >= places.marks() {
+            return None;
+        }
+        read_mark(
+            self.words[places.record(mark)],
+            self.words[places.first(mark + 1)],
+        )
     }
 
     /// Whether a node is present.
@@ -136,15 +153,7 @@ impl Grown {
         if node == 0 {
             return true;
         }
-        let places = WordPlaces::of(&self.task);
-        let mark = node as usize - 1;
-        if mark >= places.marks() {
-            return false;
-        }
-        let entry = read_mark(
-            self.words[places.record(mark)],
-            self.words[places.first(mark + 1)],
-        );
+        let entry = self.record_at(node - 1);
         matches!(entry, Some(entry) if entry.outcome == Outcome::Placed)
     }
 }

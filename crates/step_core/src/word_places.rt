@@ -7,7 +7,6 @@
 
 ghost use Rattle.std.specs.Prelude.{◌≡◌, ◌≤◌, ◌<◌, length};
 ghost use Rattle.plan_model.specs.declared.limits.TheConstants.{MOST_MARKS, MOST_STRIPS};
-ghost use Rattle.step_core.specs.GrownWords.{sizes_of};
 ghost use Rattle.step_core.specs.WordPlaces.{child_place, counter_place, first_place, place_of_count, point_place, record_place, tree_place, word_count};
 
 use plan_model::Task;
@@ -26,7 +25,8 @@ impl WordPlaces {
 
     /// The places of the words of a task's run.
     pub(crate) fn of(task: &Task) -> WordPlaces
-        ensures { sizes_in result ≡ sizes_of task.now }
+        ensures strips { result.strips ≡ task.now.scene.strips }
+        ensures marks { result.marks ≡ length task.now.marks }
     {
         WordPlaces {
             strips: task.scene.strips as usize,
