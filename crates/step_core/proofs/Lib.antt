@@ -6,3 +6,4 @@ pub mod GrownPoints
 pub mod WordReads
 pub mod HeldRuns
 pub mod LoweredWords
+pub mod StartWords

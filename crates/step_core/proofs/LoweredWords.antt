@@ -1,15 +1,13 @@
 -- The words of a run in which one kept cost is lowered: one tree word changes, and what the others say stays.
-use Rattle.std.proofs.Common.{◌≡◌, ℕ, zero, suc, ◌+◌, ◌<◌, ◌≤◌, ◌^◌, Bool, true, false, Option, Some, None, List, map, arith, refl, sym, ap, ◌∙◌, subst, inl, inr}
-use Rattle.std.specs.Prelude.{◌≢◌, length, slice_set, nat_lt, nat_le, is_some, if◌then◌else◌}
+use Rattle.std.proofs.Common.{◌≡◌, ℕ, zero, suc, ◌+◌, ◌<◌, ◌≤◌, ◌^◌, Bool, true, false, None, List, map, arith, refl, sym, ap, ◌∙◌, subst, inl, inr}
+use Rattle.std.specs.Prelude.{◌≢◌, length, slice_set, nat_lt, nat_le, if◌then◌else◌}
 use Rattle.std.specs.List.{range_with_len}
 use Rattle.std.proofs.lemmas.Bool.{cases_eq}
-use Rattle.plan_model.specs.declared.geometry.Point.{Point}
-use Rattle.plan_model.specs.declared.records.Record.{Record}
 use Rattle.plan_model.specs.declared.tasks.Task.{Task}
 use Rattle.plan_model.specs.PointsByNumber.{point_at, IsPresent, node_count}
 use Rattle.plan_model.specs.Textbook.{setup_of}
 use Rattle.plan_model.specs.TreeStates.{recorded_or, first_cost_of}
-use Rattle.plan_model.specs.Ways.{Children, FollowWays}
+use Rattle.plan_model.specs.Ways.{FollowWays}
 use Rattle.plan_model.proofs.ClosedLaws.{IsClosed-lowered}
 use Rattle.plan_model.proofs.LoweredCosts.{StandsStill, LowersNode, LowersCosts-lowers}
 use Rattle.step_core.specs.WordPlaces.{Sizes, counter_place, point_place, child_place, tree_place, first_place, record_place, place_of_count, word_count}

@@ -6,10 +6,10 @@ use Rattle.step_core.specs.Words.{point_word, point_of_word, tree_word, tree_of_
 use Rattle.step_core.proofs.ReadWords.{if_written-set}
 
 -- the coordinates in a packed point
-x_in-point_word : (p : Point) → IsBounded p → point_word p % 2 ^ 20 ≡ p.x
+pub x_in-point_word : (p : Point) → IsBounded p → point_word p % 2 ^ 20 ≡ p.x
 x_in-point_word p h = omega (arith, h.right)
 
-y_in-point_word : (p : Point) → IsBounded p → point_word p / 2 ^ 20 % 2 ^ 20 ≡ p.y
+pub y_in-point_word : (p : Point) → IsBounded p → point_word p / 2 ^ 20 % 2 ^ 20 ≡ p.y
 y_in-point_word p h = omega (arith, h.right, h.top)
 
 -- a packed point is read again

@@ -1,11 +1,10 @@
-use Rattle.std.proofs.Common.{◌≡◌, ◌<◌, ◌≤◌, ◌^◌, length, arith, ap, ◌∙◌}
+use Rattle.std.proofs.Common.{arith, ap, ◌∙◌}
 use Rattle.std.proofs.Math.ListN.{length-set}
 use Rattle.std.proofs.Math.Logic.{∥∥₁_map}
 use Rattle.step_core.specs.GrownWords.{sizes_of, words_of}
-use Rattle.step_core.specs.Words.{cost_in, tree_word}
-use Rattle.step_core.specs.WordPlaces.{tree_place}
+use Rattle.step_core.specs.Words.{tree_word}
 use Rattle.step_core.proofs.GrownPoints.{present-within}
-use Rattle.step_core.proofs.LoweredWords.{ExchangesCost, ExchangesCost-set, CostsInstead-exchanged, HoldRun-lowered, children-kept}
+use Rattle.step_core.proofs.LoweredWords.{ExchangesCost-set, CostsInstead-exchanged, HoldRun-lowered}
 use Rattle.step_core.proofs.grown.Grown.lower.Goals as goal
 
 pub pack_tree-word-requires : goal.pack_tree-word-requires

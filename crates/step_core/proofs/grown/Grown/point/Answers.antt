@@ -1,4 +1,4 @@
-use Rattle.std.proofs.Common.{◌≡◌, ◌≤◌, true, length, arith, sym, ap, ◌∙◌}
+use Rattle.std.proofs.Common.{◌≡◌, true, arith, sym, ap, ◌∙◌}
 use Rattle.step_core.specs.GrownWords.{has_node, sizes_of, words_of}
 use Rattle.step_core.specs.WordPlaces.{point_place}
 use Rattle.step_core.specs.Words.{point_of_word}

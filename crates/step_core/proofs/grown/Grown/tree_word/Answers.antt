@@ -1,4 +1,4 @@
-use Rattle.std.proofs.Common.{◌≤◌, length, arith}
+use Rattle.std.proofs.Common.{arith}
 use Rattle.step_core.specs.GrownWords.{sizes_of, words_of}
 use Rattle.step_core.specs.WordPlaces.{tree_place}
 use Rattle.step_core.proofs.GrownPoints.{present-within}
