@@ -23,7 +23,8 @@ use Rattle.plan_model.proofs.TextbookStates.{IsClosed-start}
 use Rattle.plan_model.proofs.TreeChanges.{node_at-past}
 use Rattle.step_core.specs.WordPlaces.{Sizes, counter_place, point_place, child_place, tree_place, first_place, record_place, place_of_count, word_count}
 use Rattle.step_core.specs.Words.{parent_in, cost_in, tree_word, point_word, point_of_word, record_of_word}
-use Rattle.step_core.specs.GrownWords.{Words, words_of, record_at, has_placed, points_of_words, state_of_words, child_of_word, children_of_words, IsPointWord, IsTreeWord, IsWritten, sizes_of, HoldRun}
+use Rattle.step_core.specs.GrownWords.{Words, words_of, record_at, has_placed, points_of_words, state_of_words}
+use Rattle.step_core.specs.GrownWords.{child_of_word, children_of_words, IsPointWord, IsTreeWord, IsWritten, sizes_of, HoldRun}
 use Rattle.step_core.proofs.GrownPoints.{record_at-within, record_at-past, node_point-absent, point_at-words}
 use Rattle.step_core.proofs.PackedWords.{parent_in-tree_word, cost_in-tree_word, point_of_word-packed, x_in-point_word, y_in-point_word}
 use Rattle.step_core.proofs.WordReads.{word-set, word-other}

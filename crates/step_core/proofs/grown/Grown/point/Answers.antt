@@ -36,7 +36,8 @@ returns c =
     let sizes = sizes_of c.args.self.now.task in
     let items = c.args.self.now.words.items in
     let words = words_of items in
-    let here : has_node (sizes_of c.args.self.now.task) (words_of c.args.self.now.words.items) c.args.node ≡ true = sym c.has_node.ensures ∙ c.if-not-has_node.false in
+    let here : has_node (sizes_of c.args.self.now.task) (words_of c.args.self.now.words.items) c.args.node ≡ true =
+    sym c.has_node.ensures ∙ c.if-not-has_node.false in
     let within = has_node-within sizes words c.args.node here in
     let read =
     word-read items c.point.result (point_place (sizes_of c.args.self.now.task) c.args.node) c.index.result.now c.index.ensures
