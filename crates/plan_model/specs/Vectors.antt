@@ -17,3 +17,4 @@ pub mod Trees
 pub mod Rooms
 pub mod Streams
 pub mod Runs
+pub mod Ways

@@ -16,6 +16,7 @@ ghost use Rattle.plan_model.specs.Vectors.Streams.{StreamVectors};
 ghost use Rattle.plan_model.specs.Vectors.Strips.{StripVectors};
 ghost use Rattle.plan_model.specs.Vectors.Texts.{FieldSpellingVector, PolygonSpellingVector, RefusalVectors, SpellingVector};
 ghost use Rattle.plan_model.specs.Vectors.Trees.{TreeVectors};
+ghost use Rattle.plan_model.specs.Vectors.Ways.{WayVectors};
 ghost use Rattle.plan_model.specs.Vectors.Words.{LineVectors, NumberVectors};
 
 /// What edges cost.
@@ -106,6 +107,11 @@ pub fn ranges()
 /// Chains, sums and near nodes of small trees.
 pub fn trees()
     ensures { TreeVectors }
+{}
+
+/// Ways through a kd-tree of three nodes.
+pub fn ways()
+    ensures { WayVectors }
 {}
 
 /// A body at a wall, and points of a segment.
