@@ -1,13 +1,13 @@
 -- A node is linked at the end of the way of its point: each node still is where its way leads, and all ways go on as before.
 use Rattle.std.proofs.Common.{◌≡◌, ℕ, zero, suc, Bool, true, false, List, Option, Some, None, refl, sym, ap, ◌∙◌, subst, inl, inr}
-use Rattle.std.specs.Prelude.{◌≢◌, ◌⊎◌}
+use Rattle.std.specs.Prelude.{◌≢◌, ◌⊎◌, is_some}
 use Rattle.std.proofs.lemmas.Bool.{cases_eq}
 use Rattle.plan_model.specs.declared.geometry.Point.{Point}
-use Rattle.plan_model.specs.PointsByNumber.{point_of, StandsAt, IsPresent}
+use Rattle.plan_model.specs.PointsByNumber.{point_at, point_of, StandsAt, IsPresent}
 use Rattle.plan_model.specs.Ways.{goes_right, Children, IsOnWay, EndsBelow, FollowWays, LinksAt, AddsPoint, FillsPlaces}
 use Rattle.plan_model.specs.Ways.IsOnWay.{begins, goes_on}
-use Rattle.plan_model.proofs.NewNodes.{IsPresent-stands, StandsAt-present}
-use Rattle.plan_model.proofs.WayLaws.{way_start, last_step, same_child, not_empty, IsOnWay-began}
+use Rattle.plan_model.proofs.NewNodes.{IsPresent-stands, StandsAt-present, StandsAt-unique}
+use Rattle.plan_model.proofs.WayLaws.{way_start, last_step, same_child, not_empty, way_goes_on, IsOnWay-began}
 
 -- ---- ways in a tree that grows
 
@@ -22,6 +22,31 @@ IsOnWay-fills child after points later fills q (suc depth) n way =
     goes_on depth step.node n step.point (IsOnWay-fills child after points later fills q depth step.node step.on_way)
     (fills.nodes step.node step.point step.stands) step.other (fills.children step.node n (goes_right depth step.point q) step.link)
 
+-- The way of q that ended below a node still does, or goes on to what became its child.
+pub EndsBelow-fills :
+    (child after : Children) (points later : List (Option Point)) → FillsPlaces child after points later
+    → (q : Point) (depth n : ℕ) (p : Point) → EndsBelow child points q depth n p
+    → EndsBelow after later q depth n p ⊎ ((m : ℕ) × (after n (goes_right depth p q) ≡ Some m) × IsOnWay after later q (suc depth) m)
+EndsBelow-fills child after points later fills q depth n p ends =
+    way_goes_on after later q depth n p (IsOnWay-fills child after points later fills q depth n ends.on_way) (fills.nodes n p ends.stands) ends.other
+
+-- If all children and all nodes are the same, each node is where its way leads, as before.
+pub FollowWays-same :
+    (child after : Children) (points later : List (Option Point)) → ((n : ℕ) (side : Bool) → after n side ≡ child n side)
+    → ((n : ℕ) → point_at later n ≡ point_at points n) → FollowWays child points → FollowWays after later
+FollowWays-same child after points later same still follow =
+    let fills : FillsPlaces child after points later =
+    record { children = λ n m side h. same n side ∙ h; nodes = λ n p h. still n ∙ h } in
+    record {
+      on_way = λ n q h.
+          let way = follow.on_way n q (sym (still n) ∙ h) in
+          (way.0, IsOnWay-fills child after points later fills q way.0 n way.1);
+      once = λ n a b left right one other. follow.once n a b left right (sym (same a left) ∙ one) (sym (same b right) ∙ other);
+      root = λ a side h. follow.root a side (sym (same a side) ∙ h);
+      present = λ a n side h. ap is_some (still n) ∙ follow.present a n side (sym (same a side) ∙ h);
+      empty = λ n side absent. same n side ∙ follow.empty n side (λ h. absent (ap is_some (still n) ∙ h));
+    }
+
 -- nothing fills by itself
 pub FillsPlaces-refl : (child : Children) (points : List (Option Point)) → FillsPlaces child child points points
 FillsPlaces-refl child points = record { children = λ n m side h. h; nodes = λ n p h. h }
@@ -34,6 +59,26 @@ FillsPlaces-trans child mid after points then later one two = record {
   children = λ n m side h. two.children n m side (one.children n m side h);
   nodes = λ n p h. two.nodes n p (one.nodes n p h);
 }
+
+-- ---- one node more
+
+-- A number that had no node has one at q now, if it stands there and the others are as they were.
+pub AddsPoint-stands :
+    (points later : List (Option Point)) (m : ℕ) (q : Point) → ¬ IsPresent points m → StandsAt later m q
+    → ((i : ℕ) → i ≢ m → point_at later i ≡ point_at points i) → AddsPoint points later m q
+AddsPoint-stands points later m q absent here elsewhere = record { absent = absent; stands = λ k r. (new_or_old k r, is_there k r) }
+  where
+    new_or_old : (k : ℕ) (r : Point) → StandsAt later k r → StandsAt points k r ⊎ ((k ≡ m) × (r ≡ q))
+    new_or_old k r h =
+        elim (cases_eq k m) [
+          | inl e ↦ inr (e, StandsAt-unique later m r q (ap (point_at later) (sym e) ∙ h) here)
+          | inr apart ↦ inl (sym (elsewhere k apart) ∙ h)
+        ]
+
+    is_there : (k : ℕ) (r : Point) → StandsAt points k r ⊎ ((k ≡ m) × (r ≡ q)) → StandsAt later k r
+    is_there k r (inl old) =
+        elsewhere k (λ e. absent (subst (IsPresent points) e (IsPresent-stands points k r old))) ∙ old
+    is_there k r (inr new) = ap (point_at later) new.0 ∙ here ∙ ap Some (sym new.1)
 
 -- ---- one link more
 

@@ -32,7 +32,7 @@ pub fn ways_come_to_an_end()
 {}
 
 /// If a node is linked at the end of the way of its point, each node still is where its way leads, the new one
-/// a step after that end. Ways go on as before while children and nodes stay.
+/// a step after that end. While children and nodes stay, ways go on as before, and an end stays until its place fills.
 pub fn links_keep_ways()
     ensures ways { (child after : Children) (points later : List (Option Point)) (q : Point) (depth n m : ℕ) (p : Point)
         → FollowWays child points → EndsBelow child points q depth n p → AddsPoint points later m q
@@ -44,6 +44,9 @@ pub fn links_keep_ways()
         → LinksAt child after n side m → AddsPoint points later m q → FillsPlaces child after points later }
     ensures kept { (child after : Children) (points later : List (Option Point)) → FillsPlaces child after points later
         → (q : Point) (depth n : ℕ) → IsOnWay child points q depth n → IsOnWay after later q depth n }
+    ensures ends { (child after : Children) (points later : List (Option Point)) → FillsPlaces child after points later
+        → (q : Point) (depth n : ℕ) (p : Point) → EndsBelow child points q depth n p → EndsBelow after later q depth n p
+        ⊎ ((m : ℕ) × (after n (goes_right depth p q) ≡ Some m) × IsOnWay after later q (suc depth) m) }
 {}
 
 /// In a tree of node 0 alone, without children, each node is where its way leads.

@@ -1,4 +1,4 @@
-use Rattle.plan_model.proofs.WayLinks.{IsOnWay-fills, FillsPlaces-links, IsOnWay-linked, FollowWays-links}
+use Rattle.plan_model.proofs.WayLinks.{IsOnWay-fills, EndsBelow-fills, FillsPlaces-links, IsOnWay-linked, FollowWays-links}
 use Rattle.plan_model.proofs.way_laws.links_keep_ways.Goals as goal
 
 pub returns-clause-ways : goal.returns-clause-ways
@@ -12,3 +12,6 @@ returns-clause-fills c = λ child after points later q n m side links adds. Fill
 
 pub returns-clause-kept : goal.returns-clause-kept
 returns-clause-kept c = IsOnWay-fills
+
+pub returns-clause-ends : goal.returns-clause-ends
+returns-clause-ends c = EndsBelow-fills
