@@ -1,16 +1,16 @@
 -- The nodes of a way through a kd-tree are different, so it is no longer than nodes are present, and it comes to an end.
-use Rattle.std.proofs.Common.{◌≡◌, ℕ, zero, suc, ◌+◌, ◌<◌, ◌≤◌, List, set, Option, Some, None, arith, refl, sym, ap, ◌∙◌, subst, inl, inr}
+use Rattle.std.proofs.Common.{◌≡◌, ℕ, zero, suc, ◌+◌, ◌<◌, ◌≤◌, List, set, Option, Some, None, arith, sym, ap, ◌∙◌, subst, inl, inr}
 use Rattle.std.specs.Prelude.{◌≢◌, ◌⊎◌, is_some}
 use Rattle.std.proofs.lemmas.Bool.{cases_eq}
 use Rattle.std.proofs.lemmas.List.{get_or-set_same, get_or-set_other}
 use Rattle.plan_model.specs.declared.geometry.Point.{Point}
 use Rattle.plan_model.specs.PointsByNumber.{point_at, point_of, StandsAt, IsPresent, IsFree, node_count}
-use Rattle.plan_model.specs.Ways.{goes_right, Children, IsOnWay, EndsBelow, FollowWays}
+use Rattle.plan_model.specs.Ways.{Children, IsOnWay, EndsBelow, FollowWays}
 use Rattle.plan_model.specs.Ways.IsOnWay.{begins}
 use Rattle.plan_model.proofs.NewNodes.{StandsAt-present}
 use Rattle.plan_model.proofs.NodeCounts.{node_count-one_more}
 use Rattle.plan_model.proofs.DistinctPoints.{IsPresent-below}
-use Rattle.plan_model.proofs.WayLaws.{last_step, way_start, way_goes_on, IsOnWay-depth, IsOnWay-present}
+use Rattle.plan_model.proofs.WayLaws.{last_step, way_goes_on, IsOnWay-depth, IsOnWay-present}
 
 -- ---- points without one node
 

@@ -125,6 +125,14 @@ FillsPlaces-links child after points later q n side m links adds = record {
   nodes = λ k r h. (adds.stands k r).1 (inl h);
 }
 
+-- The way of the new node's point leads to it.
+pub IsOnWay-linked :
+    (child after : Children) (points later : List (Option Point)) (q : Point) (depth n m : ℕ) (p : Point) → EndsBelow child points q depth n p
+    → AddsPoint points later m q → LinksAt child after n (goes_right depth p q) m → IsOnWay after later q (suc depth) m
+IsOnWay-linked child after points later q depth n m p ends adds links =
+    let fills = FillsPlaces-links child after points later q n (goes_right depth p q) m links adds in
+    goes_on depth n m p (IsOnWay-fills child after points later fills q depth n ends.on_way) (fills.nodes n p ends.stands) ends.other links.linked
+
 module _
     (child after : Children) (points later : List (Option Point)) (q : Point) (depth n m : ℕ) (p : Point) (follow : FollowWays child points)
     (ends : EndsBelow child points q depth n p) (adds : AddsPoint points later m q) (links : LinksAt child after n (goes_right depth p q) m) where
@@ -134,10 +142,8 @@ module _
   still_present : (k : ℕ) → IsPresent points k → IsPresent later k
   still_present k h = IsPresent-stands later k (point_of points k) (fills.nodes k (point_of points k) (StandsAt-present points k h))
 
-  -- The way of the new node's point leads to it.
-  pub IsOnWay-linked : IsOnWay after later q (suc depth) m
-  IsOnWay-linked =
-      goes_on depth n m p (IsOnWay-fills child after points later fills q depth n ends.on_way) (fills.nodes n p ends.stands) ends.other links.linked
+  linked : IsOnWay after later q (suc depth) m
+  linked = IsOnWay-linked child after points later q depth n m p ends adds links
 
   -- the new node was nobody's child
   no_child : (a : ℕ) (b : Bool) → child a b ≢ Some m
@@ -155,7 +161,7 @@ module _
                 (way.0, IsOnWay-fills child after points later fills r way.0 k way.1))
             | inr new ↦ (
               suc depth,
-              subst (λ s. IsOnWay after later s (suc depth) k) (sym new.1) (subst (IsOnWay after later q (suc depth)) (sym new.0) IsOnWay-linked),
+              subst (λ s. IsOnWay after later s (suc depth) k) (sym new.1) (subst (IsOnWay after later q (suc depth)) (sym new.0) linked),
             )
           ]
 

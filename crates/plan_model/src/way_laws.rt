@@ -17,8 +17,8 @@ pub fn ways_are_unique()
     ensures distinct { (child : Children) (points : List (Option Point)) → FollowWays child points → AreDistinct points }
 {}
 
-/// A way passes present nodes, no more than there are. It comes to a node at its point, or to an end if and only
-/// if no node stands there.
+/// A way passes present nodes, no more than there are. It comes to a node at its point and stops there, or it comes
+/// to an end if and only if no node stands there.
 pub fn ways_come_to_an_end()
     ensures present { (child : Children) (points : List (Option Point)) → FollowWays child points → IsPresent points 0
         → (q : Point) (depth n : ℕ) → IsOnWay child points q depth n → IsPresent points n × (depth < node_count points) }
@@ -27,6 +27,9 @@ pub fn ways_come_to_an_end()
         ⊎ ((depth : ℕ) × (n : ℕ) × (p : Point) × EndsBelow child points q depth n p) }
     ensures ends { (child : Children) (points : List (Option Point)) → FollowWays child points → IsPresent points 0
         → (q : Point) → IsFree points q → (depth : ℕ) × (n : ℕ) × (p : Point) × EndsBelow child points q depth n p }
+    ensures stops { (child : Children) (points : List (Option Point)) (q : Point) (depth n : ℕ)
+        → IsOnWay child points q depth n → StandsAt points n q
+        → (later m : ℕ) → depth < later → ¬ IsOnWay child points q later m }
     ensures free { (child : Children) (points : List (Option Point)) → FollowWays child points
         → (q : Point) (depth n : ℕ) (p : Point) → EndsBelow child points q depth n p → IsFree points q }
 {}
@@ -38,7 +41,7 @@ pub fn links_keep_ways()
         → FollowWays child points → EndsBelow child points q depth n p → AddsPoint points later m q
         → LinksAt child after n (goes_right depth p q) m → FollowWays after later }
     ensures linked { (child after : Children) (points later : List (Option Point)) (q : Point) (depth n m : ℕ) (p : Point)
-        → FollowWays child points → EndsBelow child points q depth n p → AddsPoint points later m q
+        → EndsBelow child points q depth n p → AddsPoint points later m q
         → LinksAt child after n (goes_right depth p q) m → IsOnWay after later q (suc depth) m }
     ensures fills { (child after : Children) (points later : List (Option Point)) (q : Point) (n m : ℕ) (side : Bool)
         → LinksAt child after n side m → AddsPoint points later m q → FillsPlaces child after points later }
