@@ -204,12 +204,4 @@ mod tests {
         assert_eq!(rt; (grown.parent(0), grown.cost(0)), (0, 0));
         Ok(())
     }
-
-    #[test]
-    fn lowers_to_the_same_cost(rt: HostRuntime) -> Result<(), Fail> {
-        let mut grown = Grown::new(rt.alloc(), small_task(rt.alloc())?)?;
-        grown.lower(0, 0);
-        assert_eq!(rt; (grown.parent(0), grown.cost(0)), (0, 0));
-        Ok(())
-    }
 }
