@@ -1,4 +1,4 @@
--- Chains and sums of a tree with kept costs that strictly fall along parents, whichever numbers the parents have.
+-- Chains and sums of nodes with kept costs that strictly fall along parents, whichever numbers the parents have.
 use Rattle.std.proofs.Common.{◌≡◌, ℕ, zero, suc, ◌+◌, ◌<◌, ◌≤◌, Bool, true, false, cond, leb, List, [], ◌∷◌, map, get_or, Option, Some, None}
 use Rattle.std.proofs.Common.{arith, refl, sym, ap, ◌∙◌, add-zero}
 use Rattle.std.specs.Prelude.{IsSome, is_some, ◌&&◌, nat_le}
@@ -6,10 +6,9 @@ use Rattle.std.proofs.lemmas.Bool.Decides.{nat_tests}
 use Rattle.std.proofs.lemmas.List.Sums.{sum_by-cons}
 use Rattle.std.proofs.lemmas.Grind.{common_steps}
 use Rattle.plan_model.specs.declared.geometry.Point.{Point}
-use Rattle.plan_model.specs.declared.trees.Twig.{Twig}
 use Rattle.plan_model.specs.Cost.{cost_of}
 use Rattle.plan_model.specs.PointsByNumber.{point_at, point_of, IsPresent, node_count}
-use Rattle.plan_model.specs.Trees.{points_of, parent_of, chain_within, chain, length_of_path, sum_of, edge_of, CostsFall, AreTight}
+use Rattle.plan_model.specs.Trees.{chain_within, chain_by, length_of_path, sum_by, edge_by, FallAlong, AreTightAlong}
 
 -- ---- how many present nodes cost at most so much
 
@@ -93,51 +92,51 @@ present_point : (o : Option Point) → IsSome o → (p : Point) × (o ≡ Some p
 present_point None h = cc
 present_point (Some p) h = (p, refl)
 
-module _ (costs : ℕ → ℕ) (tree : List (Option Twig)) (fall : CostsFall costs tree) where
+module _ (costs : ℕ → ℕ) (points : List (Option Point)) (parents : ℕ → ℕ) (fall : FallAlong costs points parents) where
   -- how many present nodes cost at most what node n costs
   rank : ℕ → ℕ
-  rank n = rank_from costs (costs n) 0 (points_of tree)
+  rank n = rank_from costs (costs n) 0 points
 
-  rank-parent : (n : ℕ) → IsPresent (points_of tree) (suc n) → rank (parent_of tree (suc n)) < rank (suc n)
+  rank-parent : (n : ℕ) → IsPresent points (suc n) → rank (parents (suc n)) < rank (suc n)
   unfolding rank
   rank-parent n h =
-      let some = present_point (point_at (points_of tree) (suc n)) h in
-      rank-falls costs (costs (parent_of tree (suc n))) (costs (suc n)) 0 (points_of tree) (suc n) some.0 (fall.falls n h) some.1 (ap costs (omega arith))
+      let some = present_point (point_at points (suc n)) h in
+      rank-falls costs (costs (parents (suc n))) (costs (suc n)) 0 points (suc n) some.0 (fall.falls n h) some.1 (ap costs (omega arith))
 
-  rank-positive : (n : ℕ) → IsPresent (points_of tree) n → 0 < rank n
+  rank-positive : (n : ℕ) → IsPresent points n → 0 < rank n
   unfolding rank
   rank-positive n h =
-      let some = present_point (point_at (points_of tree) n) h in
-      rank-some costs (costs n) 0 (points_of tree) n some.0 some.1 (ap costs (omega arith))
+      let some = present_point (point_at points n) h in
+      rank-some costs (costs n) 0 points n some.0 some.1 (ap costs (omega arith))
 
-  rank-le : (n : ℕ) → rank n ≤ node_count (points_of tree)
+  rank-le : (n : ℕ) → rank n ≤ node_count points
   unfolding rank
-  rank-le n = rank-le-count costs (costs n) 0 (points_of tree)
+  rank-le n = rank-le-count costs (costs n) 0 points
 
   -- a chain with as many members to spare as the node's rank has no use for more
-  chain-enough : (most n : ℕ) → IsPresent (points_of tree) n → rank n ≤ most → chain_within (suc most) (parent_of tree) n ≡ chain_within most (parent_of tree) n
+  chain-enough : (most n : ℕ) → IsPresent points n → rank n ≤ most → chain_within (suc most) parents n ≡ chain_within most parents n
   chain-enough zero n h l = absurd (omega (arith, rank-positive n h))
   chain-enough (suc most) zero h l = refl
   chain-enough (suc most) (suc n) h l =
-      ap (λ ns. suc n ∷ ns) (chain-enough most (parent_of tree (suc n)) (fall.parent n h) (omega (arith, rank-parent n h)))
+      ap (λ ns. suc n ∷ ns) (chain-enough most (parents (suc n)) (fall.parent n h) (omega (arith, rank-parent n h)))
 
-  pub chain-start : chain tree 0 ≡ 0 ∷ []
-  chain-start = starts (node_count (points_of tree)) (omega (arith, rank-positive 0 fall.start, rank-le 0))
+  pub chain-start : chain_by points parents 0 ≡ 0 ∷ []
+  chain-start = starts (node_count points) (omega (arith, rank-positive 0 fall.start, rank-le 0))
     where
-      starts : (most : ℕ) → 0 < most → chain_within most (parent_of tree) 0 ≡ 0 ∷ []
+      starts : (most : ℕ) → 0 < most → chain_within most parents 0 ≡ 0 ∷ []
       starts zero h = absurd (omega arith)
       starts (suc most) h = refl
 
   -- the chain of a node is the node and its parent's chain
-  pub chain-parent : (n : ℕ) → IsPresent (points_of tree) (suc n) → chain tree (suc n) ≡ suc n ∷ chain tree (parent_of tree (suc n))
-  chain-parent n h = goes_on (node_count (points_of tree)) (rank-le (suc n))
+  pub chain-parent : (n : ℕ) → IsPresent points (suc n) → chain_by points parents (suc n) ≡ suc n ∷ chain_by points parents (parents (suc n))
+  chain-parent n h = goes_on (node_count points) (rank-le (suc n))
     where
       goes_on :
           (most : ℕ) → rank (suc n) ≤ most
-          → chain_within most (parent_of tree) (suc n) ≡ suc n ∷ chain_within most (parent_of tree) (parent_of tree (suc n))
+          → chain_within most parents (suc n) ≡ suc n ∷ chain_within most parents (parents (suc n))
       goes_on zero l = absurd (omega (arith, rank-positive (suc n) h))
       goes_on (suc most) l =
-          ap (λ ns. suc n ∷ ns) (sym (chain-enough most (parent_of tree (suc n)) (fall.parent n h) (omega (arith, rank-parent n h))))
+          ap (λ ns. suc n ∷ ns) (sym (chain-enough most (parents (suc n)) (fall.parent n h) (omega (arith, rank-parent n h))))
 
 -- ---- sums
 
@@ -149,35 +148,34 @@ path_of_chain :
 path_of_chain points most parents zero p = refl
 path_of_chain points most parents (suc n) p = refl
 
-module _ (costs : ℕ → ℕ) (tree : List (Option Twig)) (fall : CostsFall costs tree) where
-  pub sum-start : sum_of tree 0 ≡ 0
-  sum-start = ap (λ ns. length_of_path (map (point_of (points_of tree)) ns)) (chain-start costs tree fall)
+module _ (costs : ℕ → ℕ) (points : List (Option Point)) (parents : ℕ → ℕ) (fall : FallAlong costs points parents) where
+  pub sum-start : sum_by points parents 0 ≡ 0
+  sum-start = ap (λ ns. length_of_path (map (point_of points) ns)) (chain-start costs points parents fall)
 
   -- the sum of a node is its parent's and the edge
-  pub sum-parent : (n : ℕ) → IsPresent (points_of tree) (suc n) → sum_of tree (suc n) ≡ sum_of tree (parent_of tree (suc n)) + edge_of tree (suc n)
+  pub sum-parent : (n : ℕ) → IsPresent points (suc n) → sum_by points parents (suc n) ≡ sum_by points parents (parents (suc n)) + edge_by points parents (suc n)
   sum-parent n h =
-      let points : List (Option Point) = points_of tree in
-      let first = ap (λ ns. length_of_path (map (point_of points) ns)) (chain-parent costs tree fall n h) in
-      first ∙ some_chain (node_count points) (omega (arith, rank-positive costs tree fall (suc n) h, rank-le costs tree fall (suc n)))
+      let first = ap (λ ns. length_of_path (map (point_of points) ns)) (chain-parent costs points parents fall n h) in
+      first ∙ some_chain (node_count points) (omega (arith, rank-positive costs points parents fall (suc n) h, rank-le costs points parents fall (suc n)))
     where
       some_chain :
           (most : ℕ) → 0 < most
-          → length_of_path (point_of (points_of tree) (suc n) ∷ map (point_of (points_of tree)) (chain_within most (parent_of tree) (parent_of tree (suc n))))
-          ≡ length_of_path (map (point_of (points_of tree)) (chain_within most (parent_of tree) (parent_of tree (suc n)))) + edge_of tree (suc n)
+          → length_of_path (point_of points (suc n) ∷ map (point_of points) (chain_within most parents (parents (suc n))))
+          ≡ length_of_path (map (point_of points) (chain_within most parents (parents (suc n)))) + edge_by points parents (suc n)
       some_chain zero l = absurd (omega arith)
-      some_chain (suc most) l = path_of_chain (points_of tree) most (parent_of tree) (parent_of tree (suc n)) (point_of (points_of tree) (suc n)) ∙ omega arith
+      some_chain (suc most) l = path_of_chain points most parents (parents (suc n)) (point_of points (suc n)) ∙ omega arith
 
   -- kept costs that are each the parent's and the edge are the sums
-  pub sums-tight : AreTight costs tree → (n : ℕ) → IsPresent (points_of tree) n → sum_of tree n ≡ costs n
+  pub sums-tight : AreTightAlong costs points parents → (n : ℕ) → IsPresent points n → sum_by points parents n ≡ costs n
   sums-tight tight n h = below (costs n) n h (omega arith)
     where
-      below : (most n : ℕ) → IsPresent (points_of tree) n → costs n ≤ most → sum_of tree n ≡ costs n
+      below : (most n : ℕ) → IsPresent points n → costs n ≤ most → sum_by points parents n ≡ costs n
       below most zero h l = sum-start ∙ sym tight.start
       below zero (suc n) h l = absurd (omega (arith, fall.falls n h))
       below (suc most) (suc n) h l =
-          let parent = below most (parent_of tree (suc n)) (fall.parent n h) (omega (arith, fall.falls n h)) in
+          let parent = below most (parents (suc n)) (fall.parent n h) (omega (arith, fall.falls n h)) in
           omega (arith, sum-parent n h, parent, tight.edges n h)
 
   -- and sums are such costs
-  pub AreTight-sums : AreTight (sum_of tree) tree
+  pub AreTight-sums : AreTightAlong (sum_by points parents) points parents
   AreTight-sums = record { start = sum-start; edges = sum-parent }

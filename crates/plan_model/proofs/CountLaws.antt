@@ -1,10 +1,8 @@
 -- In a closed run each mark below the limit was placed, ended on a node, or was blocked, so these add up to the limit.
-use Rattle.std.proofs.Common.{◌≡◌, ℕ, zero, suc, ◌+◌, ◌<◌, Bool, true, false, cond, List, [], ◌∷◌, length, Option, Some, None}
+use Rattle.std.proofs.Common.{◌≡◌, ℕ, zero, suc, ◌+◌, ◌<◌, Bool, true, false, cond, List, length, Option, Some, None}
 use Rattle.std.proofs.Common.{arith, refl, sym, ap, ◌∙◌, inl, inr}
-use Rattle.std.specs.Prelude.{◌==◌, IsSome, is_some, count_by, slice_get}
-use Rattle.std.specs.List.{range_with_len}
+use Rattle.std.specs.Prelude.{◌==◌, IsSome, is_some}
 use Rattle.std.proofs.lemmas.Bool.{cases_lt, true≢false, false_from_ne_true}
-use Rattle.std.proofs.lemmas.List.Sums.{sum_by-cons}
 use Rattle.plan_model.specs.declared.geometry.Point.{Point}
 use Rattle.plan_model.specs.declared.records.Outcome.{Outcome}
 use Rattle.plan_model.specs.declared.records.Outcome.TheVariants.{Placed, Same, Blocked}
@@ -13,7 +11,6 @@ use Rattle.plan_model.specs.Outcomes.{number_of_outcome}
 use Rattle.plan_model.specs.PointsByNumber.{point_at, IsPresent, node_count}
 use Rattle.plan_model.specs.TreeStates.{TreeState}
 use Rattle.plan_model.specs.ClosedLaw.{has_outcome, outcome_count, IsClosed}
-use Rattle.plan_model.specs.ReportText.{count_of}
 use Rattle.plan_model.specs.Textbook.{Setup}
 use Rattle.plan_model.proofs.CountsBelow.{count-more, count-longer}
 use Rattle.plan_model.proofs.NodeCounts.{count-next}
@@ -46,30 +43,6 @@ outcomes-add_up record_of (suc limit) all =
       before,
       here,
     )
-
--- the marks with an outcome are as many as the records with it
-count_from_records :
-    (number : ℕ) (records : List Record) (test : ℕ → Bool) (a : ℕ) → ((i : ℕ) → test (a + i) ≡ has_outcome number (slice_get records i))
-    → count_by test (range_with_len a (length records)) ≡ count_of number records
-count_from_records number [] test a same = refl
-count_from_records number (entry ∷ records) test a same =
-    let first : a + 0 ≡ a = omega arith in
-    let here = ap (λ t. cond {A = ℕ} t 1 0) (sym (ap test first) ∙ same 0) in
-    let later =
-    count_from_records number records test (a + 1)
-    (λ i. let next : (a + 1) + i ≡ a + suc i = omega arith in ap test next ∙ same (suc i)) in
-    omega (
-      arith,
-      sum_by-cons (λ k. cond {A = ℕ} (test k) 1 0) a (range_with_len (a + 1) (length records)),
-      sum_by-cons (λ own. cond {A = ℕ} (number_of_outcome own.outcome == number) 1 0) entry records,
-      here,
-      later,
-    )
-
-pub outcome_count-records : (number : ℕ) (records : List Record) → outcome_count (slice_get records) (length records) number ≡ count_of number records
-outcome_count-records number records =
-    count_from_records number records (λ k. has_outcome number (slice_get records k)) 0
-    (λ i. let e : 0 + i ≡ i = omega arith in ap (λ k. has_outcome number (slice_get records k)) e)
 
 -- the outcomes add up to the limit in a closed run
 pub outcomes-closed :

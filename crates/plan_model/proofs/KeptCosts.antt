@@ -170,5 +170,5 @@ CostsFall-sums costs tree fall tight = record {
   start = fall.start;
   parent = fall.parent;
   falls = λ n h.
-      omega (arith, sums-tight costs tree fall tight (suc n) h, sums-tight costs tree fall tight (parent_of tree (suc n)) (fall.parent n h), fall.falls n h);
+      omega (arith, sums-tight costs (points_of tree) (parent_of tree) fall tight (suc n) h, sums-tight costs (points_of tree) (parent_of tree) fall tight (parent_of tree (suc n)) (fall.parent n h), fall.falls n h);
 }

@@ -48,6 +48,7 @@ pub mod RecordLaws
 pub mod CountLaws
 pub mod ClosedLaws
 pub mod OrderedTrees
+pub mod SameTrees
 pub mod TextbookStates
 pub mod NearNodes
 pub mod TextbookRewiring

@@ -42,7 +42,7 @@ module _
   falls_after = CostsFall-cheaper_parent (sum_of tree) tree i n fall after change falls
 
   tight_after : AreTight (sum_of after) after
-  tight_after = AreTight-sums (sum_of tree) after falls_after
+  tight_after = AreTight-sums (sum_of tree) (points_of after) (parent_of after) falls_after
 
   same_points : points_of after ≡ points_of tree
   same_points = points_of-cheaper_parent (sum_of tree) tree i n fall after change

@@ -8,7 +8,7 @@ use Rattle.plan_model.specs.declared.records.Record.{Record}
 use Rattle.plan_model.specs.declared.trees.Twig.{Twig}
 use Rattle.plan_model.specs.Clearance.{ClearAt}
 use Rattle.plan_model.specs.PointsByNumber.{StandsAt, IsPresent, point_of, IsFree, node_count}
-use Rattle.plan_model.specs.Trees.{points_of, parent_or_zero, sum_of, CostsFall, AreTight}
+use Rattle.plan_model.specs.Trees.{parent_of, points_of, parent_or_zero, sum_of, CostsFall, AreTight}
 use Rattle.plan_model.specs.TreeStates.{recorded_or, first_cost_of, state_of}
 use Rattle.plan_model.specs.OrderLaw.{IsAllowedEdge, most_cost_of, KeepsOrder, KeepsFirstCosts}
 use Rattle.plan_model.specs.ClosedLaw.{IsClosed}
@@ -32,7 +32,7 @@ use Rattle.plan_model.proofs.NewNodes.{
 use Rattle.plan_model.proofs.TreeChanges.{node_at-past, node_at-absent, HaveSameNodes-absent, sum-same}
 use Rattle.plan_model.proofs.OrderLaws.{cost-within_more}
 use Rattle.plan_model.proofs.LoweredCosts.{AddsRecord}
-use Rattle.plan_model.proofs.OrderedTrees.{CostsFall-tree}
+use Rattle.plan_model.proofs.OrderedTrees.{FallAlong-ordered}
 use Rattle.plan_model.proofs.AddedNodes.{AddsNode}
 
 -- ---- the start alone
@@ -90,12 +90,12 @@ IsClosed-start setup start marks clear = record {
 pub CostsFall-ordered :
     (setup : Setup) (start : Point) (tree : Nodes) (records : List Record) → KeepsOrder setup start (state_of tree records) → CostsFall (sum_of tree) tree
 CostsFall-ordered setup start tree records order =
-    CostsFall-tree setup start (state_of tree records) tree order (record { points = refl; parents = λ n h. refl })
+    FallAlong-ordered setup start (state_of tree records) order
 
 -- and each is the parent's and the edge
 pub AreTight-ordered :
     (setup : Setup) (start : Point) (tree : Nodes) (records : List Record) → KeepsOrder setup start (state_of tree records) → AreTight (sum_of tree) tree
-AreTight-ordered setup start tree records order = AreTight-sums (sum_of tree) tree (CostsFall-ordered setup start tree records order)
+AreTight-ordered setup start tree records order = AreTight-sums (sum_of tree) (points_of tree) (parent_of tree) (CostsFall-ordered setup start tree records order)
 
 -- ---- one record more
 
@@ -203,7 +203,7 @@ module _
   sum_later n h =
       let falls = CostsFall-ordered setup start tree records order in
       let tight = AreTight-ordered setup start tree records order in
-      sums-tight later longer (CostsFall-adds (sum_of tree) later tree longer (suc k) node adds_priced falls tight)
+      sums-tight later (points_of longer) (parent_of longer) (CostsFall-adds (sum_of tree) later tree longer (suc k) node adds_priced falls tight)
       (AreTight-adds (sum_of tree) later tree longer (suc k) node adds_priced falls tight) n h
 
   -- the new node stands at p, and costs what its parent costs and the edge

@@ -4,10 +4,9 @@ use Rattle.std.specs.List.{range_with_len}
 use Rattle.plan_model.specs.declared.geometry.Point.{Point}
 use Rattle.plan_model.specs.declared.geometry.Goal.{Goal}
 use Rattle.plan_model.specs.declared.scenes.Scene.{Scene}
-use Rattle.plan_model.specs.declared.trees.Twig.{Twig}
 use Rattle.plan_model.specs.PointsByNumber.{point_at}
 use Rattle.plan_model.specs.LeastPairs.{IsFirstLeast, first_least}
-use Rattle.plan_model.specs.Trees.{points_of, sum_of}
+use Rattle.plan_model.specs.TreeStates.{TreeState, sum_in}
 
 -- the point lies in the closed box
 abbrev pub is_in_goal : Goal → Point → Bool
@@ -23,13 +22,13 @@ abbrev pub IsGoalNode : Scene → List (Option Point) → ℕ → Type 0
 IsGoalNode scene points n = IsTrue (lies_in_goal scene (point_at points n))
 
 -- n is the goal node with the least pair of sum and number
-abbrev pub IsBestNode : Scene → List (Option Twig) → ℕ → Type 0
-IsBestNode scene tree n = IsFirstLeast (sum_of tree) (IsGoalNode scene (points_of tree)) n
+abbrev pub IsBestNode : Scene → TreeState → ℕ → Type 0
+IsBestNode scene state n = IsFirstLeast (sum_in state) (IsGoalNode scene state.points) n
 
 -- the nodes that lie in the goal, in rising number
 abbrev pub goal_nodes : Scene → List (Option Point) → List ℕ
 goal_nodes scene points = filter (λ n. lies_in_goal scene (point_at points n)) (range_with_len 0 (length points))
 
 -- the best node, if there is one
-abbrev pub best_node : Scene → List (Option Twig) → Option ℕ
-best_node scene tree = first_least (sum_of tree) (goal_nodes scene (points_of tree))
+abbrev pub best_node : Scene → TreeState → Option ℕ
+best_node scene state = first_least (sum_in state) (goal_nodes scene state.points)

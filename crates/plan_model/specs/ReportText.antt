@@ -1,15 +1,14 @@
--- The report of a tree, as text: lines of words and decimal numbers, each ended by a line feed.
-use Rattle.std.specs.Prelude.{ℕ, ◌+◌, ◌==◌, Option, Some, None, List, [], ◌∷◌, ◌++◌, length, map, reverse, count_by, flat_map, codes, decimal}
+-- The report of a run, as text: lines of words and decimal numbers, each ended by a line feed.
+use Rattle.std.specs.Prelude.{ℕ, Bool, true, false, Option, Some, None, List, [], ◌∷◌, ◌++◌, length, map, reverse, flat_map, codes, decimal}
 use Rattle.std.specs.List.{range_with_len, join_with_byte}
 use Rattle.plan_model.specs.declared.geometry.Point.{Point}
 use Rattle.plan_model.specs.declared.scenes.Scene.{Scene}
-use Rattle.plan_model.specs.declared.trees.Twig.{Twig}
 use Rattle.plan_model.specs.declared.records.Outcome.{Outcome}
 use Rattle.plan_model.specs.declared.records.Outcome.TheVariants.{Placed, Same, Blocked}
 use Rattle.plan_model.specs.declared.records.Record.{Record}
-use Rattle.plan_model.specs.Outcomes.{number_of_outcome}
-use Rattle.plan_model.specs.PointsByNumber.{point_of, node_count}
-use Rattle.plan_model.specs.Trees.{node_at, points_of, chain, sum_of}
+use Rattle.plan_model.specs.PointsByNumber.{point_at, point_of, node_count}
+use Rattle.plan_model.specs.TreeStates.{TreeState, chain_in, sum_in}
+use Rattle.plan_model.specs.ClosedLaw.{outcome_count}
 use Rattle.plan_model.specs.BestNode.{best_node}
 
 -- words with a space between two of them, and a line feed
@@ -33,53 +32,48 @@ abbrev pub point_lines : List Point → List ℕ
 point_lines path = flat_map point_line path
 
 -- the path from the start to a node
-abbrev pub path_to : List (Option Twig) → ℕ → List Point
-path_to tree n = map (point_of (points_of tree)) (reverse (chain tree n))
+abbrev pub path_to : TreeState → ℕ → List Point
+path_to state n = map (point_of state.points) (reverse (chain_in state n))
 
 -- the first line of a report, by its best node
-abbrev pub head_line : List (Option Twig) → Option ℕ → List ℕ
-head_line tree None = no_path_line
-head_line tree (Some n) = path_line (path_to tree n) (sum_of tree n)
+abbrev pub head_line : TreeState → Option ℕ → List ℕ
+head_line state None = no_path_line
+head_line state (Some n) = path_line (path_to state n) (sum_in state n)
 
 -- the points of the best path, if there is one
-abbrev pub best_path : List (Option Twig) → Option ℕ → List Point
-best_path tree None = []
-best_path tree (Some n) = path_to tree n
+abbrev pub best_path : TreeState → Option ℕ → List Point
+best_path state None = []
+best_path state (Some n) = path_to state n
 
 -- ---- the counts
 
--- how many records have the outcome of this number
-abbrev pub count_of : ℕ → List Record → ℕ
-count_of number records = count_by (λ entry. number_of_outcome entry.outcome == number) records
-
--- how many nodes are present, and how many marks were placed, on a node already, and blocked
-abbrev pub counts_line : ℕ → List Record → List ℕ
-counts_line nodes records =
+-- how many nodes are present, and how many of the marks below the limit were placed, on a node already, and blocked
+abbrev pub counts_line : ℕ → TreeState → List ℕ
+counts_line limit state =
     line (
-    codes "nodes" ∷ decimal nodes ∷ codes "placed" ∷ decimal (count_of 0 records)
-    ∷ codes "same" ∷ decimal (count_of 1 records) ∷ codes "blocked" ∷ decimal (count_of 2 records) ∷ []
+    codes "nodes" ∷ decimal (node_count state.points) ∷ codes "placed" ∷ decimal (outcome_count state.record_of limit 0)
+    ∷ codes "same" ∷ decimal (outcome_count state.record_of limit 1)
+    ∷ codes "blocked" ∷ decimal (outcome_count state.record_of limit 2) ∷ []
     )
 
--- ---- the reports
+-- ---- nodes and marks
 
--- The short report: the best path, or that there is none, and the counts.
-abbrev pub short_report : Scene → List (Option Twig) → List Record → List ℕ
-short_report scene tree records =
-    (head_line tree (best_node scene tree) ++ point_lines (best_path tree (best_node scene tree)))
-    ++ counts_line (node_count (points_of tree)) records
-
--- node n with its parent and its sum, if it is present
-abbrev pub node_line : List (Option Twig) → ℕ → Option Twig → List ℕ
-node_line tree n None = []
-node_line tree n (Some node) =
+-- node n at p with its parent and its sum
+abbrev pub node_line : TreeState → ℕ → Point → List ℕ
+node_line state n p =
     line (
-    codes "node" ∷ decimal n ∷ codes "at" ∷ decimal node.point.x ∷ decimal node.point.y
-    ∷ codes "parent" ∷ decimal node.parent ∷ codes "cost" ∷ decimal (sum_of tree n) ∷ []
+    codes "node" ∷ decimal n ∷ codes "at" ∷ decimal p.x ∷ decimal p.y
+    ∷ codes "parent" ∷ decimal (state.parent n) ∷ codes "cost" ∷ decimal (sum_in state n) ∷ []
     )
+
+-- the line of a node, if it is present
+abbrev pub node_line_if_present : TreeState → ℕ → Option Point → List ℕ
+node_line_if_present state n None = []
+node_line_if_present state n (Some p) = node_line state n p
 
 -- a line for each node that is present
-abbrev pub node_lines : List (Option Twig) → List ℕ
-node_lines tree = flat_map (λ n. node_line tree n (node_at tree n)) (range_with_len 0 (length tree))
+abbrev pub node_lines : TreeState → List ℕ
+node_lines state = flat_map (λ n. node_line_if_present state n (point_at state.points n)) (range_with_len 0 (length state.points))
 
 -- what became of a mark, in words
 abbrev pub outcome_words : Record → Outcome → List (List ℕ)
@@ -96,11 +90,31 @@ mark_line k entry =
     ∷ codes "nearest" ∷ decimal entry.nearest ∷ []) ++ outcome_words entry entry.outcome
     )
 
--- the records' lines, from mark k on
-abbrev pub mark_lines : ℕ → List Record → List ℕ
-mark_lines k [] = []
-mark_lines k (entry ∷ records) = mark_line k entry ++ mark_lines (k + 1) records
+-- the line of a mark, if it has a record
+abbrev pub mark_line_if_recorded : ℕ → Option Record → List ℕ
+mark_line_if_recorded k None = []
+mark_line_if_recorded k (Some entry) = mark_line k entry
+
+-- a line for each mark below the limit that has a record
+abbrev pub mark_lines : ℕ → TreeState → List ℕ
+mark_lines limit state = flat_map (λ k. mark_line_if_recorded k (state.record_of k)) (range_with_len 0 limit)
+
+-- ---- the reports
+
+-- The short report: the best path, or that there is none, and the counts.
+abbrev pub short_report : Scene → ℕ → TreeState → List ℕ
+short_report scene limit state =
+    (head_line state (best_node scene state) ++ point_lines (best_path state (best_node scene state))) ++ counts_line limit state
 
 -- The full report: the short one, and then a line for each node that is present and for each mark.
-abbrev pub full_report : Scene → List (Option Twig) → List Record → List ℕ
-full_report scene tree records = (short_report scene tree records ++ node_lines tree) ++ mark_lines 0 records
+abbrev pub full_report : Scene → ℕ → TreeState → List ℕ
+full_report scene limit state = (short_report scene limit state ++ node_lines state) ++ mark_lines limit state
+
+-- the report, short or full
+abbrev pub report_text : Bool → Scene → ℕ → TreeState → List ℕ
+report_text false scene limit state = short_report scene limit state
+report_text true scene limit state = full_report scene limit state
+
+-- the short report without the lines of its path's points
+abbrev pub summary : Scene → ℕ → TreeState → List ℕ
+summary scene limit state = head_line state (best_node scene state) ++ counts_line limit state

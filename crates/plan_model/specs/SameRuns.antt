@@ -1,9 +1,12 @@
--- Records with the same fields, and scenes whose textbook runs have the same inputs.
-use Rattle.std.specs.Prelude.{◌≡◌}
+-- Records with the same fields, scenes whose textbook runs have the same inputs, and trees that a textbook run ends with.
+use Rattle.std.specs.Prelude.{◌≡◌, List}
+use Rattle.plan_model.specs.declared.geometry.Point.{Point}
 use Rattle.plan_model.specs.declared.scenes.Scene.{Scene}
 use Rattle.plan_model.specs.declared.records.Record.{Record}
 use Rattle.plan_model.specs.ConfigurationSpace.{space_of}
 use Rattle.plan_model.specs.MarkPoints.{mark_points}
+use Rattle.plan_model.specs.Textbook.{Nodes, Setup, IsTextbookRun}
+use Rattle.plan_model.specs.TreeStates.{TreeState, state_of, AreSameRuns}
 
 -- two records say the same of a mark
 pub record HaveSameFields (one other : Record) : Type 0 where
@@ -22,3 +25,10 @@ pub record HaveSameInputs (one other : Scene) : Type 0 where
   pub step : one.step ≡ other.step
   pub gamma : one.gamma ≡ other.gamma
   pub marks : mark_points one ≡ mark_points other
+
+-- The tree and its records are those of the textbook run over these marks, each node kept at its sum.
+pub record IsOfTextbookRun (setup : Setup) (start : Point) (marks : List Point) (state : TreeState) : Type 0 where
+  pub nodes : Nodes
+  pub records : List Record
+  pub run : IsTextbookRun setup start marks nodes records
+  pub same : AreSameRuns (state_of nodes records) state

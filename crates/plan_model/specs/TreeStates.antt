@@ -3,8 +3,8 @@ use Rattle.std.specs.Prelude.{◌≡◌, ◌<◌, ◌⊎◌, ℕ, zero, suc, Opt
 use Rattle.plan_model.specs.declared.geometry.Point.{Point}
 use Rattle.plan_model.specs.declared.records.Record.{Record}
 use Rattle.plan_model.specs.declared.trees.Twig.{Twig}
-use Rattle.plan_model.specs.PointsByNumber.{StandsAt, IsPresent}
-use Rattle.plan_model.specs.Trees.{points_of, parent_of, sum_of}
+use Rattle.plan_model.specs.PointsByNumber.{point_at, StandsAt, IsPresent}
+use Rattle.plan_model.specs.Trees.{points_of, parent_of, sum_of, chain_by, sum_by}
 
 -- Where each node stands, and by its number its parent, its kept cost, and the cost that was written when it was placed; the
 -- records by mark. Of a number without a node nothing is said.
@@ -47,3 +47,33 @@ state_of tree records =
       written_cost = λ n. 0;
       record_of = slice_get records;
     }
+
+-- ---- chains and sums
+
+-- the chain of a node
+abbrev pub chain_in : TreeState → ℕ → List ℕ
+chain_in state n = chain_by state.points state.parent n
+
+-- the cost-to-come of a node, by its chain
+abbrev pub sum_in : TreeState → ℕ → ℕ
+sum_in state n = sum_by state.points state.parent n
+
+-- Each node is kept at its sum.
+abbrev pub IsSettled : TreeState → Type 0
+IsSettled state = (n : ℕ) → IsPresent state.points n → state.cost n ≡ sum_in state n
+
+-- ---- the same run
+
+-- Two trees have the same nodes, with the same parents and kept costs, and the same records.
+pub record AreSameRuns (one other : TreeState) : Type 0 where
+  pub points : (n : ℕ) → point_at other.points n ≡ point_at one.points n
+  pub parents : (n : ℕ) → IsPresent one.points n → other.parent n ≡ one.parent n
+  pub costs : (n : ℕ) → IsPresent one.points n → other.cost n ≡ one.cost n
+  pub records : (k : ℕ) → other.record_of k ≡ one.record_of k
+
+-- Costs alone may differ: the nodes are the same, with the same parents, and so are the records and what was written.
+pub record ChangesCosts (before after : TreeState) : Type 0 where
+  pub points : after.points ≡ before.points
+  pub parents : (n : ℕ) → after.parent n ≡ before.parent n
+  pub written_costs : (n : ℕ) → after.written_cost n ≡ before.written_cost n
+  pub records : (k : ℕ) → after.record_of k ≡ before.record_of k

@@ -1,5 +1,5 @@
 -- Trees: nodes by number, each absent or a point with a parent. Node 0 is the start, and node k + 1 belongs to mark k.
-use Rattle.std.specs.Prelude.{◌≡◌, ℕ, zero, suc, ◌+◌, ◌<◌, Option, Some, None, List, [], ◌∷◌, map, slice_get, slice_index_or, option_map}
+use Rattle.std.specs.Prelude.{◌≡◌, ℕ, zero, suc, ◌+◌, ◌<◌, Option, Some, None, List, [], ◌∷◌, map, slice_index_or, option_map}
 use Rattle.plan_model.specs.declared.geometry.Point.{Point}
 use Rattle.plan_model.specs.declared.trees.Twig.{Twig}
 use Rattle.plan_model.specs.declared.trees.Knot.{Knot}
@@ -29,8 +29,8 @@ chain_within (suc most) parents zero = 0 ∷ []
 chain_within (suc most) parents (suc n) = suc n ∷ chain_within most parents (parents (suc n))
 
 -- The chain of a node: it has at most as many members as nodes are present.
-abbrev pub chain : List (Option Twig) → ℕ → List ℕ
-chain tree n = chain_within (node_count (points_of tree)) (parent_of tree) n
+abbrev pub chain_by : List (Option Point) → (ℕ → ℕ) → ℕ → List ℕ
+chain_by points parents n = chain_within (node_count points) parents n
 
 -- the edge costs along a list of points, added up
 abbrev pub length_of_path : List Point → ℕ
@@ -39,31 +39,43 @@ length_of_path (p ∷ []) = 0
 length_of_path (p ∷ q ∷ path) = cost_of q p + length_of_path (q ∷ path)
 
 -- the cost-to-come of a node, by its chain
+abbrev pub sum_by : List (Option Point) → (ℕ → ℕ) → ℕ → ℕ
+sum_by points parents n = length_of_path (map (point_of points) (chain_by points parents n))
+
+-- the cost of the edge from a node's parent
+abbrev pub edge_by : List (Option Point) → (ℕ → ℕ) → ℕ → ℕ
+edge_by points parents n = cost_of (point_of points (parents n)) (point_of points n)
+
+-- the same for a tree that is a list
+abbrev pub chain : List (Option Twig) → ℕ → List ℕ
+chain tree n = chain_by (points_of tree) (parent_of tree) n
+
 abbrev pub sum_of : List (Option Twig) → ℕ → ℕ
-sum_of tree n = length_of_path (map (point_of (points_of tree)) (chain tree n))
+sum_of tree n = sum_by (points_of tree) (parent_of tree) n
+
+abbrev pub edge_of : List (Option Twig) → ℕ → ℕ
+edge_of tree n = edge_by (points_of tree) (parent_of tree) n
 
 -- ---- kept costs
 
 -- Each present node but the start has a present parent, which costs strictly less.
-pub record CostsFall (costs : ℕ → ℕ) (tree : List (Option Twig)) : Type 0 where
-  pub start : IsPresent (points_of tree) 0
-  pub parent : (n : ℕ) → IsPresent (points_of tree) (suc n) → IsPresent (points_of tree) (parent_of tree (suc n))
-  pub falls : (n : ℕ) → IsPresent (points_of tree) (suc n) → costs (parent_of tree (suc n)) < costs (suc n)
-
--- the cost of the edge from a node's parent
-abbrev pub edge_of : List (Option Twig) → ℕ → ℕ
-edge_of tree n = cost_of (point_of (points_of tree) (parent_of tree n)) (point_of (points_of tree) n)
+pub record FallAlong (costs : ℕ → ℕ) (points : List (Option Point)) (parents : ℕ → ℕ) : Type 0 where
+  pub start : IsPresent points 0
+  pub parent : (n : ℕ) → IsPresent points (suc n) → IsPresent points (parents (suc n))
+  pub falls : (n : ℕ) → IsPresent points (suc n) → costs (parents (suc n)) < costs (suc n)
 
 -- The start costs nothing, and every other present node its parent's cost and the edge.
-pub record AreTight (costs : ℕ → ℕ) (tree : List (Option Twig)) : Type 0 where
+pub record AreTightAlong (costs : ℕ → ℕ) (points : List (Option Point)) (parents : ℕ → ℕ) : Type 0 where
   pub start : costs 0 ≡ 0
-  pub edges : (n : ℕ) → IsPresent (points_of tree) (suc n) → costs (suc n) ≡ costs (parent_of tree (suc n)) + edge_of tree (suc n)
+  pub edges : (n : ℕ) → IsPresent points (suc n) → costs (suc n) ≡ costs (parents (suc n)) + edge_by points parents (suc n)
+
+-- the same for a tree that is a list
+abbrev pub CostsFall : (ℕ → ℕ) → List (Option Twig) → Type 0
+CostsFall costs tree = FallAlong costs (points_of tree) (parent_of tree)
+
+abbrev pub AreTight : (ℕ → ℕ) → List (Option Twig) → Type 0
+AreTight costs tree = AreTightAlong costs (points_of tree) (parent_of tree)
 
 -- the nodes without their kept costs
 abbrev pub without_costs : List (Option Knot) → List (Option Twig)
 without_costs knots = map (option_map (λ k. record { point = k.point; parent = k.parent })) knots
-
--- each kept cost is the node's sum
-abbrev pub IsSettled : List (Option Knot) → Type 0
-IsSettled knots =
-    (n : ℕ) (k : Knot) → slice_get knots n ≡ Some (Some k) → k.cost ≡ sum_of (without_costs knots) n

@@ -6,7 +6,8 @@ ghost use Rattle.plan_model.specs.ClosedLaw.{IsClosed, outcome_count};
 ghost use Rattle.plan_model.specs.OrderLaw.{KeepsFirstCosts};
 ghost use Rattle.plan_model.specs.PointsByNumber.{IsPresent, node_count};
 ghost use Rattle.plan_model.specs.Textbook.{IsTextbookRun, Nodes, Setup};
-ghost use Rattle.plan_model.specs.TreeStates.{TreeState, state_of};
+ghost use Rattle.plan_model.specs.SameRuns.{IsOfTextbookRun};
+ghost use Rattle.plan_model.specs.TreeStates.{IsSettled, TreeState, state_of};
 ghost use Rattle.plan_model.specs.declared.geometry.Point.{Point};
 ghost use Rattle.plan_model.specs.declared.records.Record.{Record};
 
@@ -15,6 +16,15 @@ pub fn textbook_run_is_closed()
     ensures { (setup : Setup) (start : Point) (marks : List Point) (tree : Nodes) (records : List Record)
         → ClearAt setup.space start → IsTextbookRun setup start marks tree records
         → IsClosed setup start marks (length marks) (state_of tree records) }
+{}
+
+/// The tree of a textbook run from a clear start, kept as any other list or table, is closed at the number of its marks
+/// and settled.
+pub fn trees_of_textbook_runs_are_closed()
+    ensures closed { (setup : Setup) (start : Point) (marks : List Point) (state : TreeState) → ClearAt setup.space start
+        → IsOfTextbookRun setup start marks state → IsClosed setup start marks (length marks) state }
+    ensures settled { (setup : Setup) (start : Point) (marks : List Point) (state : TreeState) → ClearAt setup.space start
+        → IsOfTextbookRun setup start marks state → IsSettled state }
 {}
 
 /// In a closed run costs strictly fall along parents, so there is no cycle, and no node costs more than

@@ -41,4 +41,4 @@ pub use sinks::Sink;
 pub use sources::Source;
 pub use tasks::Task;
 pub use text_terms::{Key, Kind};
-pub use trees::{Knot, Knots, Tree, Twig, Twigs};
+pub use trees::{Knot, Knots, Twig};

@@ -5,7 +5,9 @@ ghost use Rattle.std.specs.List.{range_with_len};
 ghost use Rattle.plan_model.specs.BestNode.{IsBestNode, IsGoalNode, best_node};
 ghost use Rattle.plan_model.specs.LeastPairs.{IsFirstLeast, IsNotAbove, first_least};
 ghost use Rattle.plan_model.specs.PointsByNumber.{IsPresent};
-ghost use Rattle.plan_model.specs.Trees.{AreTight, CostsFall, chain, edge_of, parent_of, points_of, sum_of};
+ghost use Rattle.plan_model.specs.TreeStates.{TreeState};
+ghost use Rattle.plan_model.specs.Trees.{AreTightAlong, FallAlong, chain, chain_by, edge_by, sum_by, sum_of};
+ghost use Rattle.plan_model.specs.declared.geometry.Point.{Point};
 ghost use Rattle.plan_model.specs.declared.scenes.Scene.{Scene};
 ghost use Rattle.plan_model.specs.declared.trees.Twig.{Twig};
 
@@ -39,33 +41,32 @@ pub fn first_least_is_least()
 /// The best node is the goal node with the least pair of sum and number; there is none exactly if no node lies in the
 /// goal.
 pub fn best_node_is_best()
-    ensures some { (scene : Scene) (tree : List (Option Twig)) (n : ℕ) → best_node scene tree ≡ Some n
-        → IsBestNode scene tree n }
-    ensures from_best { (scene : Scene) (tree : List (Option Twig)) (n : ℕ) → IsBestNode scene tree n
-        → best_node scene tree ≡ Some n }
-    ensures none { (scene : Scene) (tree : List (Option Twig)) → best_node scene tree ≡ None → (n : ℕ)
-        → ¬ IsGoalNode scene (points_of tree) n }
-    ensures from_none { (scene : Scene) (tree : List (Option Twig)) → ((n : ℕ) → ¬ IsGoalNode scene (points_of tree) n)
-        → best_node scene tree ≡ None }
+    ensures some { (scene : Scene) (state : TreeState) (n : ℕ) → best_node scene state ≡ Some n → IsBestNode scene state n }
+    ensures from_best { (scene : Scene) (state : TreeState) (n : ℕ) → IsBestNode scene state n → best_node scene state ≡ Some n }
+    ensures none { (scene : Scene) (state : TreeState) → best_node scene state ≡ None → (n : ℕ) → ¬ IsGoalNode scene state.points n }
+    ensures from_none { (scene : Scene) (state : TreeState) → ((n : ℕ) → ¬ IsGoalNode scene state.points n)
+        → best_node scene state ≡ None }
 {}
 
 /// With kept costs that fall along parents, the chain of a node is the node and the chain of its parent.
 pub fn chains_follow_parents()
-    ensures start { (costs : ℕ → ℕ) (tree : List (Option Twig)) → CostsFall costs tree → chain tree 0 ≡ 0 ∷ [] }
-    ensures parent { (costs : ℕ → ℕ) (tree : List (Option Twig)) → CostsFall costs tree → (n : ℕ)
-        → IsPresent (points_of tree) (suc n)
-        → chain tree (suc n) ≡ suc n ∷ chain tree (parent_of tree (suc n)) }
+    ensures start { (costs : ℕ → ℕ) (points : List (Option Point)) (parents : ℕ → ℕ) → FallAlong costs points parents
+        → chain_by points parents 0 ≡ 0 ∷ [] }
+    ensures parent { (costs : ℕ → ℕ) (points : List (Option Point)) (parents : ℕ → ℕ) → FallAlong costs points parents
+        → (n : ℕ) → IsPresent points (suc n)
+        → chain_by points parents (suc n) ≡ suc n ∷ chain_by points parents (parents (suc n)) }
 {}
 
 /// With kept costs that fall along parents, the sum of a node is its parent's and the edge, and kept costs that are
 /// tight are the sums.
 pub fn sums_add_edges()
-    ensures start { (costs : ℕ → ℕ) (tree : List (Option Twig)) → CostsFall costs tree → sum_of tree 0 ≡ 0 }
-    ensures parent { (costs : ℕ → ℕ) (tree : List (Option Twig)) → CostsFall costs tree → (n : ℕ)
-        → IsPresent (points_of tree) (suc n)
-        → sum_of tree (suc n) ≡ sum_of tree (parent_of tree (suc n)) + edge_of tree (suc n) }
-    ensures tight { (costs : ℕ → ℕ) (tree : List (Option Twig)) → CostsFall costs tree → AreTight costs tree → (n : ℕ)
-        → IsPresent (points_of tree) n → sum_of tree n ≡ costs n }
+    ensures start { (costs : ℕ → ℕ) (points : List (Option Point)) (parents : ℕ → ℕ) → FallAlong costs points parents
+        → sum_by points parents 0 ≡ 0 }
+    ensures parent { (costs : ℕ → ℕ) (points : List (Option Point)) (parents : ℕ → ℕ) → FallAlong costs points parents
+        → (n : ℕ) → IsPresent points (suc n)
+        → sum_by points parents (suc n) ≡ sum_by points parents (parents (suc n)) + edge_by points parents (suc n) }
+    ensures tight { (costs : ℕ → ℕ) (points : List (Option Point)) (parents : ℕ → ℕ) → FallAlong costs points parents
+        → AreTightAlong costs points parents → (n : ℕ) → IsPresent points n → sum_by points parents n ≡ costs n }
 {}
 
 /// Absent numbers at the end change no chain and no sum.

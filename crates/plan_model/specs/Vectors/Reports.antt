@@ -4,6 +4,7 @@ use Rattle.plan_model.specs.declared.geometry.Goal.{Goal}
 use Rattle.plan_model.specs.declared.scenes.Scene.{Scene}
 use Rattle.plan_model.specs.declared.trees.Twig.{Twig}
 use Rattle.plan_model.specs.declared.records.Record.{Record}
+use Rattle.plan_model.specs.TreeStates.{state_of}
 use Rattle.plan_model.specs.Textbook.{same_record, blocked_record, placed_record}
 use Rattle.plan_model.specs.BestNode.{is_in_goal, best_node}
 use Rattle.plan_model.specs.ReportText.{short_report, full_report}
@@ -41,9 +42,9 @@ abbrev pub goal_point : Goal
 goal_point = record { low = at 30 40; high = at 30 40 }
 
 pub record ReportVectors : Type 0 where
-  pub best : (scene : Scene) → scene.goal ≡ goal_point → best_node scene two_nodes ≡ Some 1
+  pub best : (scene : Scene) → scene.goal ≡ goal_point → best_node scene (state_of two_nodes one_placed) ≡ Some 1
   pub report :
-      (scene : Scene) → scene.goal ≡ goal_point → short_report scene two_nodes one_placed
+      (scene : Scene) → scene.goal ≡ goal_point → short_report scene 1 (state_of two_nodes one_placed)
       ≡ codes "path 2 cost 12800\n0 0\n30 40\nnodes 2 placed 1 same 0 blocked 0\n"
   -- the box is closed
   pub low_corner : is_in_goal (box 1 2 3 4) (at 1 2) ≡ true
@@ -51,17 +52,17 @@ pub record ReportVectors : Type 0 where
   pub left_of_it : is_in_goal (box 1 2 3 4) (at 0 2) ≡ false
   pub above_it : is_in_goal (box 1 2 3 4) (at 3 5) ≡ false
   -- of two nodes with the same sum, the one with the lesser number
-  pub tied : (scene : Scene) → scene.goal ≡ box 30 30 40 40 → best_node scene two_branches ≡ Some 1
-  pub none_reached : (scene : Scene) → scene.goal ≡ box 41 41 50 50 → best_node scene two_branches ≡ None
+  pub tied : (scene : Scene) → scene.goal ≡ box 30 30 40 40 → best_node scene (state_of two_branches []) ≡ Some 1
+  pub none_reached : (scene : Scene) → scene.goal ≡ box 41 41 50 50 → best_node scene (state_of two_branches []) ≡ None
   pub no_path :
-      (scene : Scene) → scene.goal ≡ box 41 41 50 50 → short_report scene two_nodes one_placed
+      (scene : Scene) → scene.goal ≡ box 41 41 50 50 → short_report scene 1 (state_of two_nodes one_placed)
       ≡ codes "no path\nnodes 2 placed 1 same 0 blocked 0\n"
   pub start_in_goal :
-      (scene : Scene) → scene.goal ≡ box 0 0 9 9 → short_report scene two_nodes []
+      (scene : Scene) → scene.goal ≡ box 0 0 9 9 → short_report scene 0 (state_of two_nodes [])
       ≡ codes "path 1 cost 0\n0 0\nnodes 2 placed 0 same 0 blocked 0\n"
   -- absent nodes have no line
   pub in_full :
-      (scene : Scene) → scene.goal ≡ box 41 41 50 50 → full_report scene one_of_three three_records
+      (scene : Scene) → scene.goal ≡ box 41 41 50 50 → full_report scene 3 (state_of one_of_three three_records)
       ≡ codes "no path\nnodes 2 placed 1 same 1 blocked 1\nnode 0 at 0 0 parent 0 cost 0\nnode 1 at 30 40 parent 0 cost 12800\n"
       ++ codes "mark 0 worker 0 turn 0 nearest 0 placed class 1 first 0 12800\n"
       ++ codes "mark 1 worker 0 turn 1 nearest 1 same 1\nmark 2 worker 0 turn 2 nearest 1 blocked\n"
