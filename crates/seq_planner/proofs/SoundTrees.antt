@@ -99,7 +99,7 @@ IsSound-absent tree costs placed after h are =
 pub kept_sum :
     (tree : Nodes) (costs : List ℕ) (placed : PlacedPoints) (n : ℕ) → IsSound tree costs placed → IsPresent (points_of tree) n
     → sum_of tree n ≡ get_or costs n 0
-kept_sum tree costs placed n h own = sums-tight (λ n. get_or costs n 0) tree h.falling h.tight n own
+kept_sum tree costs placed n h own = sums-tight (λ n. get_or costs n 0) (points_of tree) (parent_of tree) h.falling h.tight n own
 
 priced :
     (tree : Nodes) (costs : List ℕ) (placed : PlacedPoints) (node : Twig) (cost price : ℕ) → IsSound tree costs placed → Fits tree (Some node) cost

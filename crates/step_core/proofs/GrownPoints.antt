@@ -30,7 +30,7 @@ module _ (sizes : Sizes) (words : Words) where
 
   -- ---- nodes
 
-  has_node-past : (n : ℕ) → sizes.marks < n → has_node sizes words n ≡ false
+  pub has_node-past : (n : ℕ) → sizes.marks < n → has_node sizes words n ≡ false
   has_node-past zero past = absurd (omega (arith, past))
   has_node-past (suc k) past = ap has_placed (record_at-past k (omega (arith, past)))
 

@@ -1,3 +1,4 @@
+pub mod InsertedNodes
 pub mod PackedFields
 pub mod ReadWords
 pub mod PackedWords
@@ -7,3 +8,11 @@ pub mod WordReads
 pub mod HeldRuns
 pub mod LoweredWords
 pub mod StartWords
+pub mod KdWays
+pub mod LinkedWords
+pub mod PackedWritings
+pub mod LinkedNodes
+pub mod PackedStates
+pub mod PackedLists
+pub mod TurnCounts
+pub mod FittingRuns

@@ -95,7 +95,7 @@ module _ (sizes : Sizes) (before after : Words) (i : ℕ) (change : ChangesTreeW
 -- ---- to a lower cost
 
 -- a packed word is written as it is packed
-IsTreeWord-packed : (parent cost : ℕ) → parent < 2 ^ 18 → cost < 2 ^ 44 → IsTreeWord (tree_word parent cost)
+pub IsTreeWord-packed : (parent cost : ℕ) → parent < 2 ^ 18 → cost < 2 ^ 44 → IsTreeWord (tree_word parent cost)
 IsTreeWord-packed parent cost small low =
     λ t. tree_word (sym (parent_in-tree_word parent cost small) t) (sym (cost_in-tree_word parent cost small low) t)
 

@@ -1,6 +1,5 @@
 -- What the words of a run say of its tree, its records and its kd-tree.
-use Rattle.std.specs.Prelude.{◌≡◌, ℕ, zero, suc, ◌+◌, ◌<◌, ◌%◌, ◌/◌, ◌^◌, nat_lt, nat_le}
-use Rattle.std.specs.Prelude.{Bool, true, false, Option, Some, None, List, map, slice_index, length, if◌then◌else◌}
+use Rattle.std.specs.Prelude.{◌≡◌, ℕ, zero, suc, ◌+◌, ◌<◌, nat_lt, nat_le, Bool, true, false, Option, Some, None, List, map, slice_index, length, if◌then◌else◌}
 use Rattle.std.specs.List.{range_with_len}
 use Rattle.plan_model.specs.declared.geometry.Point.{Point}
 use Rattle.plan_model.specs.declared.records.Record.{Record}
@@ -13,7 +12,7 @@ use Rattle.plan_model.specs.Textbook.{setup_of}
 use Rattle.plan_model.specs.TreeStates.{TreeState}
 use Rattle.plan_model.specs.Ways.{Children, FollowWays}
 use Rattle.step_core.specs.WordPlaces.{Sizes, place_of_count, counter_place, point_place, child_place, tree_place, first_place, record_place}
-use Rattle.step_core.specs.Words.{point_of_word, point_word, parent_in, cost_in, tree_word, record_of_word}
+use Rattle.step_core.specs.Words.{point_of_word, point_in, point_word, parent_in, cost_in, tree_word, record_of_word}
 
 -- the word at each place
 abbrev pub Words : Type 0
@@ -76,7 +75,7 @@ children_of_words sizes words n side = if nat_le n sizes.marks then child_of_wor
 
 -- the word of a point, with no other bit set
 abbrev pub IsPointWord : ℕ → Type 0
-IsPointWord word = word ≡ point_word (record { x = word % 2 ^ 20; y = word / 2 ^ 20 % 2 ^ 20 })
+IsPointWord word = word ≡ point_word (point_in word)
 
 -- the word of a parent and a cost, with no other bit set
 abbrev pub IsTreeWord : ℕ → Type 0

@@ -3,3 +3,5 @@ pub mod WordPlaces
 pub mod GrownWords
 pub mod GrownRuns
 pub mod PlacesOfWords
+pub mod KdLinks
+pub mod PackedRuns

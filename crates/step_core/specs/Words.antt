@@ -18,9 +18,13 @@ if_written word value = if nat_lt word (2 ^ 63) then None else Some value
 abbrev pub point_word : Point → ℕ
 point_word p = 2 ^ 63 + p.y * 2 ^ 20 + p.x
 
+-- the point in a word: each coordinate by its 20 bits
+abbrev pub point_in : ℕ → Point
+point_in word = record { x = word % 2 ^ 20; y = word / 2 ^ 20 % 2 ^ 20 }
+
 -- the point that a word holds
 abbrev pub point_of_word : ℕ → Option Point
-point_of_word word = if_written word (record { x = word % 2 ^ 20; y = word / 2 ^ 20 % 2 ^ 20 })
+point_of_word word = if_written word (point_in word)
 
 -- ---- parents and costs
 

@@ -2,16 +2,21 @@
 
 ghost use Rattle.std.specs.Prelude.{◌≡◌, ◌<◌, ◌≤◌, ℕ, Bool, length, IfOk, IsTrue, Some};
 ghost use Rattle.plan_model.specs.Clearance.{ClearAt};
+ghost use Rattle.plan_model.specs.ClosedLaw.{IsClosed};
 ghost use Rattle.plan_model.specs.ConfigurationSpace.{space_of};
 ghost use Rattle.plan_model.specs.PointsByNumber.{IsPresent, node_count, point_at};
+ghost use Rattle.plan_model.specs.Textbook.{setup_of};
 ghost use Rattle.step_core.specs.GrownWords.{HoldRun, has_node, record_at, sizes_of, words_of};
+ghost use Rattle.plan_model.specs.TreeStates.{AreSameRuns};
+ghost use Rattle.step_core.specs.PackedRuns.{state_of_lists};
 ghost use Rattle.step_core.specs.WordPlaces.{tree_place, word_count};
 
+use crate::packed_runs::write_run;
 use crate::point_words::{pack_point, read_point};
 use crate::record_words::read_mark;
 use crate::tree_words::{cost_in, pack_tree, parent_in};
 use crate::word_places::WordPlaces;
-use plan_model::{Memory, Outcome, Point, Record, Task};
+use plan_model::{Knots, Memory, Outcome, Point, Record, Records, Task};
 use std::alloc::Global;
 
 /// A run that has handled all marks below its limit, as a table of 64-bit words.
@@ -50,6 +55,32 @@ impl Grown {
         Ok(Grown {
             task,
             limit: 0,
+            words,
+        })
+    }
+
+    /// The run with these nodes and these records, whose number is its limit. The nodes are linked in rising number. O(n * d)
+    /// for n nodes, d of them on the longest way through the kd-tree.
+    ///
+    /// # Errors
+    ///
+    /// `Memory` if out of memory.
+    pub fn pack(
+        alloc: Global,
+        task: Task,
+        knots: &Knots,
+        records: &Records,
+    ) -> Result<Grown, Memory>
+        requires { IsClosed (setup_of task.scene) task.scene.start task.marks (length records.now) (state_of_lists knots.now records.now) }
+        ensures task { IfOk result (λ grown. grown.task ≡ task) }
+        ensures limit { IfOk result (λ grown. grown.limit ≡ length records.now) }
+        ensures state { IfOk result (λ grown. AreSameRuns (state_of_lists knots.now records.now) (state_of_grown grown)) }
+    {
+        let mut words = vec![in alloc; 0; WordPlaces::of(&task).len()]?;
+        write_run(&mut words, &task, knots.as_slice(), records.as_slice());
+        Ok(Grown {
+            task,
+            limit: records.len() as u32,
             words,
         })
     }

@@ -3,11 +3,17 @@
 //! This is the one place where numbers are packed into one another. Every word that is written has bit 63 set, so that
 //! 0 is a word that is not written yet. `docs/words.md` has the layout, and `layout` has it as constants. The contracts
 //! say what a word is as a number: a sum of products for what is packed, quotients and remainders for what is read.
+//!
+//! [`Grown`] is a finished run: a task, and a table of such words with the count of nodes, a counter for each strip, the
+//! nodes, and a record for each mark. Its type keeps the closed law (`plan_model/specs/ClosedLaw`), and its nodes are linked
+//! to a kd-tree. `word_places` alone knows the order of the words; `specs/GrownWords` says what tree they stand for.
 #![tactic(auto)]
 
 mod grown;
+mod kd_links;
 mod laws;
 mod layout;
+mod packed_runs;
 mod point_words;
 mod record_words;
 mod tree_words;

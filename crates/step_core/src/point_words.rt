@@ -2,7 +2,7 @@
 
 ghost use Rattle.std.specs.Prelude.{◌≡◌};
 ghost use Rattle.plan_model.specs.Bounds.{IsBounded};
-ghost use Rattle.step_core.specs.Words.{point_of_word, point_word};
+ghost use Rattle.step_core.specs.Words.{point_in, point_of_word, point_word};
 
 use crate::layout::{COORDINATE_MASK, WRITTEN, Y_SHIFT};
 use plan_model::Point;
@@ -22,10 +22,17 @@ pub fn read_point(word: u64) -> Option<Point>
     if word < WRITTEN {
         return None;
     }
-    Some(Point {
+    Some(point_in(word))
+}
+
+/// The point in a word that is written.
+pub(crate) fn point_in(word: u64) -> Point
+    ensures { result ≡ point_in word }
+{
+    Point {
         x: (word & COORDINATE_MASK) as u32,
         y: (word >> Y_SHIFT & COORDINATE_MASK) as u32,
-    })
+    }
 }
 
 #[cfg(test)]

@@ -41,6 +41,13 @@ impl WordPlaces {
         self.marks
     }
 
+    /// How many strips there are.
+    pub(crate) fn strips(self) -> usize
+        ensures { result ≡ (sizes_in self).strips }
+    {
+        self.strips
+    }
+
     /// How many words there are.
     pub(crate) fn len(self) -> usize
         ensures { result ≡ word_count (sizes_in self) }

@@ -1,0 +1,154 @@
+-- The way of a point over linked nodes, step by step: where it stands, and where it ends.
+use Rattle.std.proofs.Common.{◌≡◌, ℕ, zero, suc, ◌+◌, ◌-◌, ◌<◌, ◌≤◌, ◌^◌, Bool, true, false, Option, Some, None, arith, refl, sym, ap, ◌∙◌, subst, inl, inr}
+use Rattle.std.specs.Prelude.{◌≢◌, nat_lt, is_some, if◌then◌else◌}
+use Rattle.std.proofs.lemmas.Bool.{cases_lt, cases_Bool, le-ltb, lt-ltb, le-leb}
+use Rattle.std.proofs.lemmas.List.{get_or_past}
+use Rattle.std.proofs.lemmas.List.FromFn.{get_or-map-range_with_len, length-map-range_with_len}
+use Rattle.std.proofs.lemmas.Option.{same_Some}
+use Rattle.plan_model.specs.declared.geometry.Point.{Point}
+use Rattle.plan_model.specs.PointsByNumber.{point_at, StandsAt, IsPresent, point_of}
+use Rattle.plan_model.specs.Ways.{goes_right, IsOnWay}
+use Rattle.plan_model.specs.Ways.IsOnWay.{begins, goes_on}
+use Rattle.plan_model.proofs.NewNodes.{IsPresent-stands, StandsAt-present}
+use Rattle.step_core.specs.WordPlaces.{Sizes, point_place, child_place, word_count}
+use Rattle.step_core.specs.Words.{if_written, point_in}
+use Rattle.step_core.specs.GrownWords.{Words, node_point, points_of_words, child_of_word, children_of_words}
+use Rattle.step_core.specs.KdLinks.{points_below, AreLinkedBelow, IsFreeBelow, EndsAt}
+use Rattle.step_core.proofs.GrownPoints.{node_point-absent, node_point-here, has_node-past, has_node-present, point_at-words, present-within}
+
+-- ---- words
+
+-- a word that holds a value holds this one
+if_written-is : {A : Type 0} → (word : ℕ) (value held : A) → if_written word value ≡ Some held → value ≡ held
+if_written-is word value held h =
+    elim (cases_Bool (nat_lt word (2 ^ 63))) [
+      | inl unset ↦ (let gone = sym h ∙ ap (λ b. if b then None else Some value) unset in cc)
+      | inr set ↦ same_Some value held (sym (ap (λ b. if b then None else Some value) set) ∙ h)
+    ]
+
+pub child_of_word-some : (c : ℕ) → c ≢ 0 → child_of_word c ≡ Some c
+child_of_word-some zero other = absurd (other refl)
+child_of_word-some (suc c) other = refl
+
+either_none : {A : Type 0} → (b : Bool) (o : Option A) → o ≡ None → (if b then o else None) ≡ None
+either_none true o h = h
+either_none false o h = refl
+
+module _ (sizes : Sizes) (words : Words) where
+  -- the point of a present node is in its word
+  pub point_in-stands : (n : ℕ) (p : Point) → StandsAt (points_of_words sizes words) n p → point_in (words (point_place sizes n)) ≡ p
+  point_in-stands n p h =
+      let here = has_node-present sizes words n (IsPresent-stands (points_of_words sizes words) n p h) in
+      if_written-is (words (point_place sizes n)) (point_in (words (point_place sizes n))) p
+      (sym (node_point-here sizes words n here) ∙ sym (point_at-words sizes words n) ∙ h)
+
+  -- a word of a node names its child
+  pub child-word : (n c : ℕ) (side : Bool) → n ≤ sizes.marks → c ≡ words (child_place sizes n side) → children_of_words sizes words n side ≡ child_of_word c
+  child-word n c side within e =
+      ap (λ b. if b then child_of_word (words (child_place sizes n side)) else None) (le-leb n sizes.marks within) ∙ ap child_of_word (sym e)
+
+-- a child word stands among the words
+pub child_place-within : (sizes : Sizes) (n : ℕ) (side : Bool) → n ≤ sizes.marks → child_place sizes n side < word_count sizes
+child_place-within sizes n false within = omega (arith, within)
+child_place-within sizes n true within = omega (arith, within)
+
+-- ---- nodes below a number
+
+module _ (sizes : Sizes) (words : Words) (m : ℕ) where
+  pub point_at-below : (n : ℕ) → point_at (points_below sizes words m) n ≡ (if nat_lt n m then node_point sizes words n else None)
+  point_at-below n =
+      elim (cases_lt n (sizes.marks + 1)) [
+        | inl below ↦ (
+            get_or-map-range_with_len (λ i. if nat_lt i m then node_point sizes words i else None) 0 (sizes.marks + 1) n n None below (omega arith))
+        | inr past ↦ (
+            let long = length-map-range_with_len (λ i. if nat_lt i m then node_point sizes words i else None) 0 (sizes.marks + 1) in
+            let none = node_point-absent sizes words n (has_node-past sizes words n (omega (arith, past))) in
+            get_or_past (points_below sizes words m) n None (omega (arith, past, long)) ∙ sym (either_none (nat_lt n m) (node_point sizes words n) none))
+      ]
+
+  -- a lesser number stands as it does
+  pub point_at-lesser : (n : ℕ) → n < m → point_at (points_below sizes words m) n ≡ point_at (points_of_words sizes words) n
+  point_at-lesser n less =
+      point_at-below n ∙ ap (λ b. if b then node_point sizes words n else None) (lt-ltb n m less) ∙ sym (point_at-words sizes words n)
+
+  -- a greater one is absent
+  pub point_at-greater : (n : ℕ) → m ≤ n → point_at (points_below sizes words m) n ≡ None
+  point_at-greater n past = point_at-below n ∙ ap (λ b. if b then node_point sizes words n else None) (le-ltb n m past)
+
+  pub present-lesser : (n : ℕ) → IsPresent (points_below sizes words m) n → n < m
+  present-lesser n h =
+      elim (cases_lt n m) [
+        | inl less ↦ less
+        | inr past ↦ (let gone = sym h ∙ ap is_some (point_at-greater n past) in cc)
+      ]
+
+  pub stands-lesser : (n : ℕ) (p : Point) → StandsAt (points_below sizes words m) n p → StandsAt (points_of_words sizes words) n p
+  stands-lesser n p h =
+      sym (point_at-lesser n (present-lesser n (IsPresent-stands (points_below sizes words m) n p h))) ∙ h
+
+  -- ---- a way
+
+  module _ (q : Point) (linked : AreLinkedBelow sizes words m) (free : IsFreeBelow sizes words m q) where
+    pub here_stands : (n : ℕ) → IsPresent (points_below sizes words m) n → StandsAt (points_below sizes words m) n (point_in (words (point_place sizes n)))
+    here_stands n h =
+        let p : Point = point_of (points_below sizes words m) n in
+        let stands = StandsAt-present (points_below sizes words m) n h in
+        stands ∙ ap Some (sym (point_in-stands sizes words n p (stands-lesser n p stands)))
+
+    pub here_within : (n : ℕ) → IsPresent (points_below sizes words m) n → n ≤ sizes.marks
+    here_within n h =
+        let p : Point = point_in (words (point_place sizes n)) in
+        present-within sizes words n (IsPresent-stands (points_of_words sizes words) n p (stands-lesser n p (here_stands n h)))
+
+-- Node n stands at this depth on the way of q, and not deeper than its number.
+pub record IsReached (sizes : Sizes) (words : Words) (m : ℕ) (q : Point) (depth n : ℕ) : Type 0 where
+  pub way : IsOnWay (children_of_words sizes words) (points_below sizes words m) q depth n
+  pub here : IsPresent (points_below sizes words m) n
+  pub shallow : depth ≤ n
+
+module _
+    (sizes : Sizes) (words : Words) (m : ℕ) (q : Point) (linked : AreLinkedBelow sizes words m) (free : IsFreeBelow sizes words m q) where
+  pub IsReached-start : IsReached sizes words m q 0 0
+  IsReached-start = record { way = begins; here = linked.start; shallow = omega arith }
+
+  module _ (depth n c : ℕ) (p : Point) (reached : IsReached sizes words m q depth n) (e : p ≡ point_in (words (point_place sizes n)))
+      (read : c ≡ words (child_place sizes n (goes_right depth p q))) where
+    stands : StandsAt (points_below sizes words m) n p
+    stands = here_stands sizes words m q linked free n reached.here ∙ ap Some (sym e)
+
+    apart : p ≢ q
+    apart same = free n (stands ∙ ap Some same)
+
+    child_is : children_of_words sizes words n (goes_right depth p q) ≡ child_of_word c
+    child_is = child-word sizes words n c (goes_right depth p q) (here_within sizes words m q linked free n reached.here) read
+
+    -- its child is reached next, and has a greater number
+    pub IsReached-child : c ≢ 0 → IsReached sizes words m q (depth + 1) c
+    IsReached-child other =
+        let step : children_of_words sizes words n (goes_right depth p q) ≡ Some c = child_is ∙ child_of_word-some c other in
+        let deeper : suc depth ≡ depth + 1 = omega arith in
+        record {
+          way = subst (λ d. IsOnWay (children_of_words sizes words) (points_below sizes words m) q d c) deeper (goes_on depth n c p reached.way stands apart step);
+          here = linked.ways.present n c (goes_right depth p q) step;
+          shallow = omega (arith, reached.shallow, linked.rises n c (goes_right depth p q) step);
+        }
+
+    -- so fewer numbers are left
+    pub fewer_left : c ≢ 0 → m - c < m - n
+    fewer_left other =
+        omega (
+          arith,
+          linked.rises n c (goes_right depth p q) (child_is ∙ child_of_word-some c other),
+          present-lesser sizes words m n reached.here,
+        )
+
+    -- if it has none, the way ends there
+    pub EndsAt-here : (place : ℕ) → place ≡ child_place sizes n (goes_right depth p q) → c ≡ 0 → EndsAt sizes words m q place
+    EndsAt-here place found none = record {
+      depth = depth;
+      above = n;
+      p = p;
+      ends = record { on_way = reached.way; stands = stands; other = apart; empty = child_is ∙ ap child_of_word none };
+      within = present-lesser sizes words m n reached.here;
+      found = found;
+    }

@@ -1,0 +1,219 @@
+-- The words that hold the lists of a closed run are those of a finished run, and have the same tree and records.
+use Rattle.std.proofs.Common.{◌≡◌, ℕ, zero, suc, true, false, List, Option, Some, None, length, arith, refl, sym, ap, ◌∙◌, subst, inl, inr}
+use Rattle.std.specs.Prelude.{is_some, option_map, slice_get, slice_index_or}
+use Rattle.std.proofs.lemmas.Bool.{cases_lt, cases_Bool, false_from_ne_true}
+use Rattle.std.proofs.lemmas.List.{get_or_past}
+use Rattle.std.proofs.lemmas.Option.{slice_get-get_or, slice_get_cases}
+use Rattle.std.proofs.Math.ListN.{get_or-map}
+use Rattle.plan_model.specs.declared.geometry.Point.{Point}
+use Rattle.plan_model.specs.declared.records.Outcome.{Outcome}
+use Rattle.plan_model.specs.declared.records.Outcome.TheVariants.{Placed, Same, Blocked}
+use Rattle.plan_model.specs.declared.records.Record.{Record}
+use Rattle.plan_model.specs.declared.tasks.Task.{Task}
+use Rattle.plan_model.specs.declared.trees.Knot.{Knot}
+use Rattle.plan_model.specs.declared.trees.Twig.{Twig}
+use Rattle.plan_model.specs.Bounds.{IsBounded}
+use Rattle.plan_model.specs.ClosedLaw.{IsClosed}
+use Rattle.plan_model.specs.PointsByNumber.{point_at, IsPresent}
+use Rattle.plan_model.specs.RecordLaw.{is_placed}
+use Rattle.plan_model.specs.Textbook.{setup_of}
+use Rattle.plan_model.specs.Trees.{points_of, parent_of, parent_or_zero, without_costs}
+use Rattle.plan_model.specs.TreeStates.{recorded_or, first_cost_of, AreSameRuns}
+use Rattle.plan_model.specs.Ways.{FollowWays}
+use Rattle.plan_model.proofs.ClosedLaws.{IsClosed-same}
+use Rattle.plan_model.proofs.LoweredCosts.{HaveSameTree}
+use Rattle.plan_model.proofs.NewNodes.{IsPresent-stands}
+use Rattle.plan_model.proofs.NodeCounts.{node_count-same}
+use Rattle.plan_model.proofs.TreeChanges.{point_at-points_of}
+use Rattle.step_core.specs.WordPlaces.{Sizes, tree_place, first_place}
+use Rattle.step_core.specs.Words.{parent_in, cost_in, point_word, point_of_word, record_of_word}
+use Rattle.step_core.specs.GrownWords.{Words, record_at, has_placed, has_node, points_of_words, state_of_words, children_of_words, IsPointWord, IsTreeWord, IsWritten, sizes_of, HoldRun}
+use Rattle.step_core.specs.PackedRuns.{kept_cost_of, state_of_lists, IsKnot, FitWords, HoldLists}
+use Rattle.step_core.proofs.GrownPoints.{record_at-within, record_at-past, node_point-absent, node_point-here, point_at-words}
+use Rattle.step_core.proofs.PackedRecords.{record_of_word-packed}
+use Rattle.step_core.proofs.PackedWords.{parent_in-tree_word, cost_in-tree_word, point_of_word-packed, x_in-point_word, y_in-point_word}
+use Rattle.step_core.proofs.LoweredWords.{IsTreeWord-packed}
+
+-- ---- lists
+
+-- a node without its kept cost
+abbrev twig_of : Knot → Twig
+twig_of k = record { point = k.point; parent = k.parent }
+
+pub point_at-lists : (knots : List (Option Knot)) (n : ℕ)
+    → point_at (points_of (without_costs knots)) n ≡ option_map (λ (knot : Knot). knot.point) (slice_index_or knots n None)
+point_at-lists knots n =
+    point_at-points_of (without_costs knots) n
+    ∙ ap (option_map (λ (node : Twig). node.point)) (get_or-map (option_map twig_of) knots n None)
+    ∙ by_knot (slice_index_or knots n None)
+  where
+    by_knot : (o : Option Knot)
+        → option_map (λ (node : Twig). node.point) (option_map twig_of o) ≡ option_map (λ (knot : Knot). knot.point) o
+    by_knot None = refl
+    by_knot (Some knot) = refl
+
+pub parent_of-lists : (knots : List (Option Knot)) (n : ℕ) (knot : Knot) → slice_index_or knots n None ≡ Some knot → parent_of (without_costs knots) n ≡ knot.parent
+parent_of-lists knots n knot e =
+    ap parent_or_zero
+    (get_or-map (option_map twig_of) knots n None
+    ∙ ap (option_map twig_of) e)
+
+pub IsKnot-at : (knots : List (Option Knot)) (n : ℕ) (knot : Knot) → slice_index_or knots n None ≡ Some knot → IsKnot knots n knot
+IsKnot-at knots n knot e =
+    elim (cases_lt n (length knots)) [
+      | inl below ↦ slice_get-get_or knots n None below ∙ ap Some e
+      | inr past ↦ (let gone = sym e ∙ get_or_past knots n None past in cc)
+    ]
+
+-- a present node is in the list
+record HasKnot (knots : List (Option Knot)) (n : ℕ) : Type 0 where
+  knot : Knot
+  at : slice_index_or knots n None ≡ Some knot
+
+HasKnot-present : (knots : List (Option Knot)) (n : ℕ) → IsPresent (points_of (without_costs knots)) n → HasKnot knots n
+HasKnot-present knots n h = by_knot (slice_index_or knots n None) refl
+  where
+    by_knot : (o : Option Knot) → slice_index_or knots n None ≡ o → HasKnot knots n
+    by_knot None e = let gone = sym h ∙ ap is_some (point_at-lists knots n ∙ ap (option_map (λ (knot : Knot). knot.point)) e) in cc
+    by_knot (Some knot) e = record { knot = knot; at = e }
+
+is_placed-true : (outcome : Outcome) → is_placed outcome ≡ true → outcome ≡ Placed
+is_placed-true Placed h = refl
+is_placed-true (Same j) h = cc
+is_placed-true Blocked h = cc
+
+-- a record of a placed mark
+placed_in : (o : Option Record) → has_placed o ≡ true → (entry : Record) × (o ≡ Some entry) × (entry.outcome ≡ Placed)
+placed_in None h = cc
+placed_in (Some entry) h = (entry, refl, is_placed-true entry.outcome h)
+
+module _
+    (task : Task) (knots : List (Option Knot)) (records : List Record) (words : Words)
+    (closed : IsClosed (setup_of task.scene) task.scene.start task.marks (length records) (state_of_lists knots records))
+    (fit : FitWords (sizes_of task) knots records) (held : HoldLists (sizes_of task) knots records words) where
+  abbrev sizes : Sizes
+  sizes = sizes_of task
+
+  -- ---- records
+
+  record_at-packed : (k : ℕ) → record_at (sizes_of task) words k ≡ slice_get records k
+  record_at-packed k =
+      elim (slice_get_cases records k).1 [
+        | inl some ↦ (
+            let entry = some.0 in
+            let is = some.2 in
+            let fits = fit.records_fit k some.0 some.2 in
+            let holds = held.entries k some.0 some.2 in
+            record_at-within sizes words k (omega (arith, some.1, fit.few))
+            ∙ ap (λ word. record_of_word word (words (first_place (sizes_of task) (suc k)))) holds.own
+            ∙ record_of_word-packed some.0 (words (first_place (sizes_of task) (suc k))) fits.word
+            (record { word = holds.first; parent = fits.parent; cost = fits.cost })
+            ∙ sym is)
+        | inr none ↦ elim (cases_lt k (length task.marks)) [
+          | inl below ↦ (
+              record_at-within sizes words k below
+              ∙ ap (λ word. record_of_word word (words (first_place (sizes_of task) (suc k)))) (held.none_else k none.0 below) ∙ sym none.1)
+          | inr past ↦ record_at-past sizes words k past ∙ sym none.1
+        ]
+      ]
+
+  -- ---- nodes
+
+  has_node-packed : (n : ℕ) → IsPresent (points_of (without_costs knots)) n → has_node (sizes_of task) words n ≡ true
+  has_node-packed zero h = refl
+  has_node-packed (suc k) h =
+      let own = (closed.placed k).0 h in
+      ap has_placed (record_at-packed k ∙ own.1) ∙ ap is_placed own.2
+
+  present_node : (n : ℕ) → has_node (sizes_of task) words n ≡ true → IsPresent (points_of (without_costs knots)) n
+  present_node zero h = IsPresent-stands (points_of (without_costs knots)) 0 task.scene.start closed.order.start_stands
+  present_node (suc k) h =
+      let own = placed_in (record_at (sizes_of task) words k) h in
+      (closed.placed k).1 (own.0, sym (record_at-packed k) ∙ own.1, own.2)
+
+  pub points-packed : (n : ℕ) → point_at (points_of_words (sizes_of task) words) n ≡ point_at (points_of (without_costs knots)) n
+  points-packed n =
+      elim (cases_Bool (is_some (point_at (points_of (without_costs knots)) n))) [
+        | inl here ↦ (
+            let own = HasKnot-present knots n here in
+            let is = IsKnot-at knots n own.knot own.at in
+            point_at-words sizes words n ∙ node_point-here sizes words n (has_node-packed n here) ∙ ap point_of_word (held.nodes n own.knot is).point
+            ∙ point_of_word-packed own.knot.point (fit.nodes n own.knot is).point
+            ∙ sym (point_at-lists knots n ∙ ap (option_map (λ (knot : Knot). knot.point)) own.at))
+        | inr none ↦ (
+            let absent = false_from_ne_true (has_node (sizes_of task) words n) (λ h. let gone = sym none ∙ present_node n h in cc) in
+            point_at-words sizes words n ∙ node_point-absent sizes words n absent
+            ∙ sym (none_some (point_at (points_of (without_costs knots)) n) none))
+      ]
+    where
+      none_some : (o : Option Point) → is_some o ≡ false → o ≡ None
+      none_some None h = refl
+      none_some (Some p) h = cc
+
+  parents : (n : ℕ) → IsPresent (points_of (without_costs knots)) n → parent_in (words (tree_place (sizes_of task) n)) ≡ parent_of (without_costs knots) n
+  parents n h =
+      let own = HasKnot-present knots n h in
+      let is = IsKnot-at knots n own.knot own.at in
+      ap parent_in (held.nodes n own.knot is).tree ∙ parent_in-tree_word own.knot.parent own.knot.cost (fit.nodes n own.knot is).parent
+      ∙ sym (parent_of-lists knots n own.knot own.at)
+
+  costs : (n : ℕ) → IsPresent (points_of (without_costs knots)) n
+      → cost_in (words (tree_place (sizes_of task) n)) ≡ kept_cost_of (slice_index_or knots n None)
+  costs n h =
+      let own = HasKnot-present knots n h in
+      let is = IsKnot-at knots n own.knot own.at in
+      ap cost_in (held.nodes n own.knot is).tree
+      ∙ cost_in-tree_word own.knot.parent own.knot.cost (fit.nodes n own.knot is).parent (fit.nodes n own.knot is).cost ∙ sym (ap kept_cost_of own.at)
+
+  pub AreSameRuns-packed : AreSameRuns (state_of_lists knots records) (state_of_words (sizes_of task) words)
+  AreSameRuns-packed = record { points = points-packed; parents = parents; costs = costs; records = record_at-packed }
+
+  same_tree : HaveSameTree (state_of_lists knots records) (state_of_words (sizes_of task) words)
+  same_tree = record {
+    still = record { points = points-packed; first_costs = first_costs; records = λ k entry h. record_at-packed k ∙ h };
+    parents = parents;
+    costs = costs;
+  }
+    where
+      first_costs : (n : ℕ) → IsPresent (points_of (without_costs knots)) n
+          → first_cost_of (state_of_words (sizes_of task) words) n ≡ first_cost_of (state_of_lists knots records) n
+      first_costs zero h = refl
+      first_costs (suc k) h =
+          let own = (closed.placed k).0 h in
+          ap (recorded_or (cost_in (words (first_place (sizes_of task) (suc k))))) (record_at-packed k ∙ own.1) ∙ sym (ap (recorded_or 0) own.1)
+
+  -- ---- words as they are packed
+
+  written : (n : ℕ) → IsPresent (points_of_words (sizes_of task) words) n → IsWritten (sizes_of task) words n
+  written n h =
+      let own = HasKnot-present knots n (ap is_some (sym (points-packed n)) ∙ h) in
+      let is = IsKnot-at knots n own.knot own.at in
+      let fits = fit.nodes n own.knot is in
+      let holds = held.nodes n own.knot is in
+      record {
+        point = subst IsPointWord (sym holds.point) (packed_point own.knot.point fits.point);
+        tree = subst IsTreeWord (sym holds.tree) (IsTreeWord-packed own.knot.parent own.knot.cost fits.parent fits.cost);
+        first = first_word n (ap is_some (sym (points-packed n)) ∙ h);
+      }
+    where
+      packed_point : (p : Point) → IsBounded p → IsPointWord (point_word p)
+      packed_point p bounded = λ t. point_word (record { x = sym (x_in-point_word p bounded) t; y = sym (y_in-point_word p bounded) t })
+
+      first_word : (n : ℕ) → IsPresent (points_of (without_costs knots)) n → IsTreeWord (words (first_place (sizes_of task) n))
+      first_word zero h = subst IsTreeWord (sym held.start) refl
+      first_word (suc k) h =
+          let own = (closed.placed k).0 h in
+          let fits = fit.records_fit k own.0 own.1 in
+          subst IsTreeWord (sym ((held.entries k own.0 own.1).first own.2)) (IsTreeWord-packed own.0.first_parent own.0.first_cost fits.parent fits.cost)
+
+  -- They are those of a finished run once their nodes are linked.
+  pub HoldRun-packed : FollowWays (children_of_words (sizes_of task) words) (points_of_words (sizes_of task) words) → HoldRun task (length records) words
+  HoldRun-packed ways = record {
+    closed =
+        IsClosed-same (setup_of task.scene) task.scene.start task.marks (length records) (state_of_lists knots records)
+        (state_of_words (sizes_of task) words) record_at-packed closed same_tree;
+    ways = ways;
+    counted = held.count ∙ sym (node_count-same (points_of (without_costs knots)) (points_of_words (sizes_of task) words) points-packed);
+    claimed = held.counters;
+    written = written;
+  }

@@ -1,0 +1,28 @@
+use Rattle.std.proofs.Common.{◌≡◌, length, arith, sym, ap, ◌∙◌, subst}
+use Rattle.std.proofs.lemmas.List.{with_items_is}
+use Rattle.step_core.specs.GrownWords.{HoldRun, sizes_of, state_of_words, words_of}
+use Rattle.plan_model.specs.TreeStates.{AreSameRuns}
+use Rattle.step_core.specs.PackedRuns.{state_of_lists}
+use Rattle.step_core.proofs.grown.Grown.pack.Goals as goal
+
+pub invariant_of-result : goal.invariant_of-result
+invariant_of-result c =
+    let long : length c.write_run.new.words ≡ c.in_ok-words.words.len = c.write_run.auto.words ∙ c.deref_mut.ensures.len in
+    let items = with_items_is c.in_ok-words.words c.write_run.new.words long in
+    let limit = ap length c.as_slice-2.ensures ∙ sym c.len-2.ensures in
+    record {
+      sized =
+          ap length items
+          ∙ omega (arith, long, c.in_ok-words.ensures.len, c.len.ensures, c.of.ensures.strips, c.of.ensures.marks);
+      hold_run =
+          ∣ subst (λ list. HoldRun c.args.task c.len-2.result (words_of list)) (sym items)
+          (subst (λ n. HoldRun c.args.task n (words_of c.write_run.new.words)) limit c.write_run.ensures.run) ∣₁;
+    }
+
+pub returns-clause-state : goal.returns-clause-state
+returns-clause-state c =
+    let long : length c.write_run.new.words ≡ c.in_ok-words.words.len = c.write_run.auto.words ∙ c.deref_mut.ensures.len in
+    let items = with_items_is c.in_ok-words.words c.write_run.new.words long in
+    subst (λ list. AreSameRuns (state_of_lists c.args.knots.now c.args.records.now) (state_of_words (sizes_of c.args.task) (words_of list))) (sym items)
+    (subst (λ state. AreSameRuns state (state_of_words (sizes_of c.args.task) (words_of c.write_run.new.words)))
+    (λ t. state_of_lists (c.as_slice.ensures t) (c.as_slice-2.ensures t)) c.write_run.ensures.state)

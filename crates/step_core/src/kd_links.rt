@@ -1,0 +1,72 @@
+//! The kd-tree (Bentley, CACM 1975) of a run's nodes, in their child words: a node is linked at the end of the way of its
+//! point, which goes to the left at even depth if its column is lesser, and at odd depth if its row is.
+
+ghost use Rattle.std.specs.Prelude.{◌≡◌, ◌≤◌, ◌+◌, None, is_some, length, slice_index_or};
+ghost use Rattle.plan_model.specs.Ways.{FollowWays, goes_right};
+ghost use Rattle.step_core.specs.GrownWords.{children_of_words, points_of_words, words_of};
+ghost use Rattle.step_core.specs.KdLinks.{AreLinkedBelow, AreUnlinked, ChangesChildren, EndsAt, IsFreeBelow, MayLink};
+ghost use Rattle.step_core.specs.PlacesOfWords.{sizes_in};
+ghost use Rattle.step_core.specs.WordPlaces.{point_place, word_count};
+ghost use Rattle.step_core.specs.Words.{point_in};
+
+use crate::point_words::point_in;
+use crate::word_places::WordPlaces;
+use plan_model::{Knot, Point};
+
+/// Links all nodes that are present, in rising number. O(n * d) for n nodes, d of them on the longest way.
+pub(crate) fn link_all(words: &mut [u64], places: WordPlaces, knots: &[Option<Knot>])
+    requires sized { length words.old ≡ word_count (sizes_in places) }
+    requires unlinked { AreUnlinked (sizes_in places) (words_of words.old) (λ n. is_some (slice_index_or knots.now n None)) }
+    ensures ways { FollowWays (children_of_words (sizes_in places) (words_of words.new)) (points_of_words (sizes_in places) (words_of words.new)) }
+    ensures others { ChangesChildren (sizes_in places) (words_of words.old) (words_of words.new) }
+{
+    for node in 1..knots.len() {
+        if knots[node].is_some() {
+            link(words, places, node);
+        }
+    }
+}
+
+/// Links a node that is present, after those of lesser numbers. O(n) for n nodes on its way.
+pub(crate) fn link(words: &mut [u64], places: WordPlaces, node: usize)
+    requires sized { length words.old ≡ word_count (sizes_in places) }
+    requires may_link { MayLink (sizes_in places) (words_of words.old) node }
+    ensures linked { AreLinkedBelow (sizes_in places) (words_of words.new) (node + 1) }
+    ensures others { ChangesChildren (sizes_in places) (words_of words.old) (words_of words.new) }
+{
+    let point = point_in(words[places.point(node)]);
+    let place = end_of_way(words, places, node, point);
+    words[place] = node as u64;
+}
+
+/// The place of the empty child word at which the way of a point ends.
+fn end_of_way(words: &[u64], places: WordPlaces, node: usize, point: Point) -> usize
+    requires sized { length words.now ≡ word_count (sizes_in places) }
+    requires linked { AreLinkedBelow (sizes_in places) (words_of words.now) node }
+    requires free { IsFreeBelow (sizes_in places) (words_of words.now) node point }
+    ensures { EndsAt (sizes_in places) (words_of words.now) node point result }
+{
+    let mut above = 0;
+    let mut depth = 0;
+    'way: loop {
+        let other = point_in(words[places.point(above)]);
+        let place = places.child(above, goes_right(depth, other, point));
+        let child = words[place];
+        if child == 0 {
+            return place;
+        }
+        above = child as usize;
+        depth += 1;
+    }
+}
+
+/// Whether a point goes to the right of a node at this depth.
+fn goes_right(depth: usize, node: Point, point: Point) -> bool
+    ensures { result ≡ goes_right depth node point }
+{
+    if depth % 2 == 0 {
+        node.x <= point.x
+    } else {
+        node.y <= point.y
+    }
+}

@@ -1,0 +1,118 @@
+//! The words of a run that is given by lists: nodes, records and counters are written one after another.
+
+ghost use Rattle.std.specs.Prelude.{◌≡◌, ◌≤◌, ◌<◌, ◌+◌, ℕ, Bool, Some, count_by, is_some, length, slice_get};
+ghost use Rattle.plan_model.specs.ClosedLaw.{IsClosed};
+ghost use Rattle.plan_model.specs.Textbook.{setup_of};
+ghost use Rattle.plan_model.specs.declared.trees.Knot.{Knot};
+ghost use Rattle.plan_model.specs.declared.records.Record.{Record};
+ghost use Rattle.step_core.specs.GrownWords.{HoldRun, sizes_of, state_of_words, words_of};
+ghost use Rattle.plan_model.specs.TreeStates.{AreSameRuns};
+ghost use Rattle.step_core.specs.PackedRuns.{ChangesNode, ChangesRecord, CountsMarks, FitWords, FitsNode, FitsRecord, HoldLists, HoldsNode, HoldsRecord, IsKnot, WritesNodes, WritesRecords, state_of_lists};
+ghost use Rattle.step_core.specs.PlacesOfWords.{sizes_in};
+ghost use Rattle.step_core.specs.WordPlaces.{child_place, word_count};
+
+use crate::kd_links::link_all;
+use crate::point_words::pack_point;
+use crate::record_words::pack_mark;
+use crate::tree_words::pack_tree;
+use crate::word_places::WordPlaces;
+use plan_model::{Knot, Outcome, Record, Task};
+
+/// Writes the words of a finished run with these nodes and records.
+pub(crate) fn write_run(words: &mut [u64], task: &Task, knots: &[Option<Knot>], records: &[Record])
+    requires sized { length words.old ≡ word_count (sizes_of task.now) }
+    requires zeros { (place : ℕ) → words_of words.old place ≡ 0 }
+    requires closed { IsClosed (setup_of task.now.scene) task.now.scene.start task.now.marks (length records.now) (state_of_lists knots.now records.now) }
+    ensures run { HoldRun task.now (length records.now) (words_of words.new) }
+    ensures state { AreSameRuns (state_of_lists knots.now records.now) (state_of_words (sizes_of task.now) (words_of words.new)) }
+{
+    let places = WordPlaces::of(task);
+    write_lists(words, places, knots, records);
+    link_all(words, places, knots);
+}
+
+/// Writes the words of a run with these nodes and records, but for the links of its kd-tree.
+fn write_lists(words: &mut [u64], places: WordPlaces, knots: &[Option<Knot>], records: &[Record])
+    requires sized { length words.old ≡ word_count (sizes_in places) }
+    requires strips { 0 < places.strips }
+    requires zeros { (place : ℕ) → words_of words.old place ≡ 0 }
+    requires fit { FitWords (sizes_in places) knots.now records.now }
+    ensures lists { HoldLists (sizes_in places) knots.now records.now (words_of words.new) }
+    ensures children { (n : ℕ) (side : Bool) → n ≤ places.marks → words_of words.new (child_place (sizes_in places) n side) ≡ 0 }
+{
+    count_marks(words, places, records.len());
+    words[places.count()] = count_nodes(knots) as u64;
+    words[places.first(0)] = pack_tree(0, 0);
+    write_nodes(words, places, knots);
+    write_records(words, places, records);
+}
+
+/// How many nodes are present.
+fn count_nodes(knots: &[Option<Knot>]) -> usize
+    ensures { result ≡ count_by is_some knots.now }
+{
+    knots.iter().filter(|knot| knot.is_some()).count()
+}
+
+/// Counts each mark below a limit in the counter of its strip.
+fn count_marks(words: &mut [u64], places: WordPlaces, limit: usize)
+    requires sized { length words.old ≡ word_count (sizes_in places) }
+    requires strips { 0 < places.strips }
+    requires zeros { (g : ℕ) → g < places.strips → words_of words.old (g + 1) ≡ 0 }
+    requires limit { limit ≤ places.marks }
+    ensures { CountsMarks (sizes_in places) limit (words_of words.old) (words_of words.new) }
+{
+    for mark in 0..limit {
+        words[places.counter(mark % places.strips())] += 1;
+    }
+}
+
+/// Writes the points, the parents and the kept costs of all nodes that are present.
+fn write_nodes(words: &mut [u64], places: WordPlaces, knots: &[Option<Knot>])
+    requires sized { length words.old ≡ word_count (sizes_in places) }
+    requires fit { (n : ℕ) (knot : Knot) → IsKnot knots.now n knot → FitsNode (sizes_in places) n knot }
+    ensures { WritesNodes (sizes_in places) knots.now (length knots.now) (words_of words.old) (words_of words.new) }
+{
+    for (node, knot) in knots.iter().enumerate() {
+        if let Some(knot) = knot {
+            write_node(words, places, node, *knot);
+        }
+    }
+}
+
+/// Writes the point, the parent and the kept cost of a node.
+fn write_node(words: &mut [u64], places: WordPlaces, node: usize, knot: Knot)
+    requires sized { length words.old ≡ word_count (sizes_in places) }
+    requires fits { FitsNode (sizes_in places) node knot }
+    ensures hold { HoldsNode (sizes_in places) (words_of words.new) node knot }
+    ensures others { ChangesNode (sizes_in places) node (words_of words.old) (words_of words.new) }
+{
+    words[places.point(node)] = pack_point(knot.point);
+    words[places.tree(node)] = pack_tree(knot.parent, knot.cost);
+}
+
+/// Writes the records of all marks, and the first words of the nodes that were placed.
+fn write_records(words: &mut [u64], places: WordPlaces, records: &[Record])
+    requires sized { length words.old ≡ word_count (sizes_in places) }
+    requires few { length records.now ≤ places.marks }
+    requires fit { (k : ℕ) (entry : Record) → slice_get records.now k ≡ Some entry → FitsRecord entry }
+    ensures { WritesRecords (sizes_in places) records.now (length records.now) (words_of words.old) (words_of words.new) }
+{
+    for (mark, entry) in records.iter().enumerate() {
+        write_record(words, places, mark, entry);
+    }
+}
+
+/// Writes the record of a mark, and the first word of its node if it was placed.
+fn write_record(words: &mut [u64], places: WordPlaces, mark: usize, entry: &Record)
+    requires sized { length words.old ≡ word_count (sizes_in places) }
+    requires within { mark < places.marks }
+    requires fits { FitsRecord entry.now }
+    ensures hold { HoldsRecord (sizes_in places) (words_of words.new) mark entry.now }
+    ensures others { ChangesRecord (sizes_in places) mark (words_of words.old) (words_of words.new) }
+{
+    words[places.record(mark)] = pack_mark(entry);
+    if entry.outcome == Outcome::Placed {
+        words[places.first(mark + 1)] = pack_tree(entry.first_parent, entry.first_cost);
+    }
+}
