@@ -13,8 +13,9 @@ use crate::extensions::Extension;
 use crate::linked_tree::LinkedTree;
 use crate::placed_points::PlacedPoints;
 use edge_cost::{Radii, class, steer};
-use plan_model::{Memory, Point, Record, Scene, Sequence, Tree};
+use plan_model::{Memory, Point, Record, Scene, Sequence, Task};
 use std::alloc::Global;
+use step_core::Grown;
 use swept_check::Clearing;
 
 /// The tree that RRT* grows, by a number for each mark, with the record of each mark so far.
@@ -105,15 +106,15 @@ impl SearchTree {
         Ok(())
     }
 
-    /// The nodes, with the record of every mark.
-    pub(crate) fn into_tree(self) -> Tree
-        ensures nodes { result.twigs ≡ self.nodes }
-        ensures records { result.records ≡ self.records.items }
+    /// The run of the marks that were handled, which are those of the task.
+    ///
+    /// # Errors
+    ///
+    /// `Memory` if out of memory for the nodes with their costs or for the run.
+    pub(crate) fn into_run(self, alloc: Global, task: Task) -> Result<Grown, Memory>
     {
-        Tree {
-            twigs: Sequence::from_vec(self.nodes.into_nodes()),
-            records: Sequence::from_vec(self.records),
-        }
+        let knots = Sequence::from_vec(self.knots(alloc)?);
+        Grown::pack(alloc, task, &knots, &Sequence::from_vec(self.records))
     }
 
     /// What the next mark adds, with the nodes near a new one: the nearest node steers towards the mark, and a node is

@@ -25,14 +25,13 @@ use swept_check::Clearing;
 /// # Errors
 ///
 /// `Memory` if out of memory for the nodes, the records or the lists of near nodes.
-pub fn textbook<C: Clearing>(alloc: Global, task: Task, hall: &C) -> Result<Tree, Memory>
+pub fn textbook<C: Clearing>(alloc: Global, task: Task, hall: &C) -> Result<Grown, Memory>
     requires hall { C.space hall.now ≡ space_of task.scene }
     requires start { ClearAt (space_of task.scene) task.scene.start }
-    ensures run { IfOk result (λ tree. IsTextbookRun (setup_of task.scene) task.scene.start task.marks tree.twigs tree.records) }
-    ensures nodes { IfOk result (λ tree. length tree.twigs ≡ length task.marks + 1) }
-    // every parent is present, and comes before its child by the cost from the start
-    ensures parents { IfOk result (λ tree. CostsFall (sum_of tree.twigs) tree.twigs) }
-    ensures in_room { IfOk result (λ tree. LiesIn task.scene.room (points_of tree.twigs)) }
+    ensures task { IfOk result (λ grown. grown.task ≡ task) }
+    ensures limit { IfOk result (λ grown. grown.limit ≡ length task.marks) }
+    ensures run { IfOk result (λ grown. IsOfTextbookRun (setup_of task.scene) task.scene.start task.marks (state_of_grown grown)) }
+    ensures settled { IfOk result (λ grown. IsSettled (state_of_grown grown)) }
 {
     let scene = &task.scene;
     let marks = task.marks.as_slice();
@@ -42,7 +41,7 @@ pub fn textbook<C: Clearing>(alloc: Global, task: Task, hall: &C) -> Result<Tree
     for &mark in marks {
         tree.handle(scene, &radii, hall, mark, &mut lists)?;
     }
-    Ok(tree.into_tree())
+    tree.into_run(alloc, task)
 }
 
 #[cfg(test)]

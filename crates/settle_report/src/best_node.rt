@@ -1,0 +1,44 @@
+//! The best node of a run: the cheapest of those that lie in the goal.
+
+ghost use Rattle.std.specs.Prelude.{◌≡◌, IfSome};
+ghost use Rattle.plan_model.specs.BestNode.{best_node};
+ghost use Rattle.plan_model.specs.PointsByNumber.{IsPresent};
+ghost use Rattle.plan_model.specs.TreeStates.{IsSettled};
+ghost use Rattle.step_core.specs.GrownRuns.{state_of_grown};
+
+use step_core::Grown;
+
+/// The goal node with the least cost-to-come, and of those with the same cost the one with the least number; `None` exactly
+/// if no node lies in the goal. O(n) for n marks.
+///
+/// The run is settled, so each kept cost is the cost-to-come.
+pub fn best(grown: &Grown) -> Option<u32>
+    requires { IsSettled (state_of_grown grown.now) }
+    ensures value { result ≡ best_node grown.now.task.scene (state_of_grown grown.now) }
+    ensures present { IfSome result (IsPresent (state_of_grown grown.now).points) }
+{
+    let mut best: Option<u32> = None;
+    // from the last number down, so that of equal costs the lesser number stays
+    for node in (0..=grown.task().marks.len() as u32).rev() {
+        if lies_in_goal(grown, node) {
+            best = Some(better_node(grown, node, best));
+        }
+    }
+    best
+}
+
+/// Whether a node with this number is present and lies in the goal.
+fn lies_in_goal(grown: &Grown, node: u32) -> bool {
+    match grown.point(node) {
+        Some(point) => grown.task().scene.goal.contains(point),
+        None => false,
+    }
+}
+
+/// Of a node and perhaps a later one, the one with the lesser cost, the first if both are equal.
+fn better_node(grown: &Grown, node: u32, later: Option<u32>) -> u32 {
+    match later {
+        Some(other) if grown.cost(other) < grown.cost(node) => other,
+        _ => node,
+    }
+}

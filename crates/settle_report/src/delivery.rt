@@ -1,0 +1,29 @@
+//! Writing a whole text to a sink.
+
+ghost use Rattle.std.specs.Prelude.{◌≡◌, ◌≤◌, IsTrue, OnOk, OnErr};
+ghost use Rattle.std.specs.Io.KnownBytes.{Appends};
+ghost use Rattle.plan_model.specs.Streams.{FaultsRose, counted};
+ghost use Rattle.settle_report.specs.Delivery.{AppendsPrefix};
+
+use plan_model::{Failed, Sink};
+
+/// Writes the text to the sink. Each write is handed all of the text that is left.
+///
+/// # Errors
+///
+/// `Failed` if a write failed, which raised the sink's count of faults. The sink then took a proper prefix of the text.
+pub fn deliver<K: Sink>(sink: &mut K, text: &[u8]) -> Result<(), Failed>
+    ensures whole { OnOk result (Appends (K.bytes_taken sink.old) (K.bytes_taken sink.new) text.now) }
+    ensures prefix { OnErr result (AppendsPrefix (K.bytes_taken sink.old) (K.bytes_taken sink.new) text.now) }
+    ensures failed { OnErr result (FaultsRose (K.fault_count sink.old) (K.fault_count sink.new)) }
+    ensures later { K.fault_count sink.old ≤ K.fault_count sink.new }
+    // if the sink counts failures alone, no write failed, or one did and was not tried again
+    ensures no_fault { IsTrue K.counts_failures_alone → OnOk result (K.fault_count sink.new ≡ K.fault_count sink.old) }
+    ensures one_fault { IsTrue K.counts_failures_alone → OnErr result (K.fault_count sink.new ≡ counted (K.fault_count sink.old)) }
+{
+    let mut written = 0;
+    while written < text.len() {
+        written += sink.write(&text[written..])?;
+    }
+    Ok(())
+}

@@ -1,0 +1,38 @@
+//! Paths of a run: from the start to a node, by the node's parents.
+
+ghost use Rattle.std.specs.Prelude.{◌≡◌, IfOk};
+ghost use Rattle.plan_model.specs.PointsByNumber.{IsPresent};
+ghost use Rattle.plan_model.specs.ReportText.{path_to};
+ghost use Rattle.step_core.specs.GrownRuns.{state_of_grown};
+
+use plan_model::{Memory, Point};
+use std::alloc::Global;
+use step_core::Grown;
+
+/// The points of the path from the start to a node. O(d) for a node at depth d.
+///
+/// # Errors
+///
+/// `Memory` if out of memory for the points.
+pub(crate) fn path_to(alloc: Global, grown: &Grown, node: u32) -> Result<Vec<Point>, Memory>
+    requires { IsPresent (state_of_grown grown.now).points node }
+    ensures { IfOk result (λ path. path.items ≡ path_to (state_of_grown grown.now) node) }
+{
+    let mut path = points_to_start(alloc, grown, node)?;
+    path.reverse();
+    Ok(path)
+}
+
+/// The points from a node up to the start.
+fn points_to_start(alloc: Global, grown: &Grown, node: u32) -> Result<Vec<Point>, Memory>
+    requires { IsPresent (state_of_grown grown.now).points node }
+{
+    let mut points = Vec::new(alloc);
+    let mut at = node;
+    while at != 0 {
+        points.push(grown.point(at).unwrap())?;
+        at = grown.parent(at);
+    }
+    points.push(grown.point(0).unwrap())?;
+    Ok(points)
+}
