@@ -1,5 +1,6 @@
 -- The nodes and the records of a closed run fit their words.
-use Rattle.std.proofs.Common.{◌≡◌, ℕ, zero, suc, ◌-◌, ◌*◌, ◌<◌, ◌≤◌, ◌^◌, true, eqb, List, Option, Some, None, length, arith, refl, sym, ap, ◌∙◌, subst}
+use Rattle.std.proofs.Common.{◌≡◌, ℕ, zero, suc, ◌-◌, ◌*◌, ◌<◌, ◌≤◌, ◌^◌, true, eqb}
+use Rattle.std.proofs.Common.{List, Option, Some, None, length, arith, refl, sym, ap, ◌∙◌, subst}
 use Rattle.std.specs.Prelude.{◌&&◌, option_map, slice_get}
 use Rattle.std.specs.List.{range_with_len}
 use Rattle.std.proofs.lemmas.Bool.{and_parts, eqb-true}
@@ -39,7 +40,8 @@ use Rattle.step_core.specs.PackedRuns.{kept_cost_of, state_of_lists, IsKnot, Fit
 use Rattle.step_core.proofs.PackedStates.{point_at-lists, parent_of-lists}
 use Rattle.step_core.proofs.TurnCounts.{turn-below}
 
-zero_unless_placed : (o : Outcome) (parent cost class : ℕ) → (o ≡ Placed → ⊥) → is_zero_unless_placed o parent cost class ≡ true → (parent ≡ 0) × (cost ≡ 0)
+zero_unless_placed :
+    (o : Outcome) (parent cost class : ℕ) → (o ≡ Placed → ⊥) → is_zero_unless_placed o parent cost class ≡ true → (parent ≡ 0) × (cost ≡ 0)
 zero_unless_placed Placed parent cost class apart h = absurd (apart refl)
 zero_unless_placed (Same j) parent cost class apart h =
     let parts = and_parts (eqb parent 0) (eqb cost 0 && eqb class 0) h in

@@ -1,5 +1,6 @@
 -- The way of a point over linked nodes, step by step: where it stands, and where it ends.
-use Rattle.std.proofs.Common.{◌≡◌, ℕ, zero, suc, ◌+◌, ◌-◌, ◌<◌, ◌≤◌, ◌^◌, Bool, true, false, Option, Some, None, arith, refl, sym, ap, ◌∙◌, subst, inl, inr}
+use Rattle.std.proofs.Common.{◌≡◌, ℕ, zero, suc, ◌+◌, ◌-◌, ◌<◌, ◌≤◌, ◌^◌, Bool, true}
+use Rattle.std.proofs.Common.{false, Option, Some, None, arith, refl, sym, ap, ◌∙◌, subst, inl, inr}
 use Rattle.std.specs.Prelude.{◌≢◌, nat_lt, is_some, if◌then◌else◌}
 use Rattle.std.proofs.lemmas.Bool.{cases_lt, cases_Bool, le-ltb, lt-ltb, le-leb}
 use Rattle.std.proofs.lemmas.List.{get_or_past}
@@ -43,7 +44,8 @@ module _ (sizes : Sizes) (words : Words) where
       (sym (node_point-here sizes words n here) ∙ sym (point_at-words sizes words n) ∙ h)
 
   -- a word of a node names its child
-  pub child-word : (n c : ℕ) (side : Bool) → n ≤ sizes.marks → c ≡ words (child_place sizes n side) → children_of_words sizes words n side ≡ child_of_word c
+  pub child-word :
+      (n c : ℕ) (side : Bool) → n ≤ sizes.marks → c ≡ words (child_place sizes n side) → children_of_words sizes words n side ≡ child_of_word c
   child-word n c side within e =
       ap (λ b. if b then child_of_word (words (child_place sizes n side)) else None) (le-leb n sizes.marks within) ∙ ap child_of_word (sym e)
 
@@ -89,7 +91,9 @@ module _ (sizes : Sizes) (words : Words) (m : ℕ) where
   -- ---- a way
 
   module _ (q : Point) (linked : AreLinkedBelow sizes words m) (free : IsFreeBelow sizes words m q) where
-    pub here_stands : (n : ℕ) → IsPresent (points_below sizes words m) n → StandsAt (points_below sizes words m) n (point_in (words (point_place sizes n)))
+    pub here_stands :
+        (n : ℕ) → IsPresent (points_below sizes words m) n
+        → StandsAt (points_below sizes words m) n (point_in (words (point_place sizes n)))
     here_stands n h =
         let p : Point = point_of (points_below sizes words m) n in
         let stands = StandsAt-present (points_below sizes words m) n h in
@@ -128,7 +132,9 @@ module _
         let step : children_of_words sizes words n (goes_right depth p q) ≡ Some c = child_is ∙ child_of_word-some c other in
         let deeper : suc depth ≡ depth + 1 = omega arith in
         record {
-          way = subst (λ d. IsOnWay (children_of_words sizes words) (points_below sizes words m) q d c) deeper (goes_on depth n c p reached.way stands apart step);
+          way =
+              subst (λ d. IsOnWay (children_of_words sizes words) (points_below sizes words m) q d c) deeper
+              (goes_on depth n c p reached.way stands apart step);
           here = linked.ways.present n c (goes_right depth p q) step;
           shallow = omega (arith, reached.shallow, linked.rises n c (goes_right depth p q) step);
         }

@@ -1,4 +1,3 @@
-pub mod InsertedNodes
 pub mod PackedFields
 pub mod ReadWords
 pub mod PackedWords

@@ -4,10 +4,9 @@ use Rattle.std.specs.Prelude.{is_some}
 use Rattle.std.proofs.lemmas.Bool.{cases_eq, cases_lt}
 use Rattle.plan_model.specs.declared.geometry.Point.{Point}
 use Rattle.plan_model.specs.PointsByNumber.{point_at, StandsAt}
-use Rattle.plan_model.specs.Ways.{IsOnWay, FollowWays}
-use Rattle.plan_model.specs.Ways.IsOnWay.{begins}
+use Rattle.plan_model.specs.Ways.{FollowWays}
 use Rattle.plan_model.proofs.NewNodes.{IsPresent-stands}
-use Rattle.step_core.proofs.InsertedNodes.{FollowWays-same}
+use Rattle.plan_model.proofs.WayLinks.{FollowWays-same, FollowWays-start}
 use Rattle.step_core.specs.WordPlaces.{Sizes}
 use Rattle.step_core.specs.GrownWords.{Words, points_of_words, children_of_words}
 use Rattle.step_core.specs.KdLinks.{points_below, AreLinkedBelow, AreUnlinked, ChangesChildren, MayLink}
@@ -28,24 +27,16 @@ module _ (sizes : Sizes) (has : ℕ → Bool) (before : Words) (unlinked : AreUn
   pub LinksSoFar-start : LinksSoFar sizes has before before 1
   LinksSoFar-start = record {
     linked = record {
-      ways = record {
-        on_way = on_way;
-        once = λ n a b left right one other. let gone = sym one ∙ unlinked.no_child a left in cc;
-        root = λ a side one. let gone = sym one ∙ unlinked.no_child a side in cc;
-        present = λ a n side one. let gone = sym one ∙ unlinked.no_child a side in cc;
-        empty = λ n side absent. unlinked.no_child n side;
-      };
+      ways = FollowWays-start (children_of_words sizes before) (points_below sizes before 1) unlinked.no_child alone;
       rises = λ n c side one. let gone = sym one ∙ unlinked.no_child n side in cc;
       start = ap is_some (point_at-lesser sizes before 1 0 (omega arith)) ∙ unlinked.start;
     };
     others = λ place apart. refl;
   }
     where
-      on_way : (n : ℕ) (q : Point) → StandsAt (points_below sizes before 1) n q
-          → (depth : ℕ) × IsOnWay (children_of_words sizes before) (points_below sizes before 1) q depth n
-      on_way zero q h = (0, begins)
-      on_way (suc k) q h =
-          let less = present-lesser sizes before 1 (suc k) (IsPresent-stands (points_below sizes before 1) (suc k) q h) in absurd (omega (arith, less))
+      alone : (n : ℕ) (q : Point) → StandsAt (points_below sizes before 1) n q → n ≡ 0
+      alone n q h =
+          let less = present-lesser sizes before 1 n (IsPresent-stands (points_below sizes before 1) n q h) in omega (arith, less)
 
   module _ (m : ℕ) (words : Words) (so_far : LinksSoFar sizes has before words m) where
     same_points : (n : ℕ) → point_at (points_of_words sizes words) n ≡ point_at (points_of_words sizes before) n
@@ -68,7 +59,8 @@ module _ (sizes : Sizes) (has : ℕ → Bool) (before : Words) (unlinked : AreUn
     LinksSoFar-absent none = record {
       linked = record {
         ways =
-            FollowWays-same (children_of_words sizes words) (points_below sizes words m) (points_below sizes words (m + 1)) same_below so_far.linked.ways;
+            FollowWays-same (children_of_words sizes words) (children_of_words sizes words) (points_below sizes words m)
+            (points_below sizes words (m + 1)) (λ n side. refl) same_below so_far.linked.ways;
         rises = so_far.linked.rises;
         start = ap is_some (same_below 0) ∙ so_far.linked.start;
       };
@@ -90,7 +82,8 @@ module _ (sizes : Sizes) (has : ℕ → Bool) (before : Words) (unlinked : AreUn
     -- after the last number all nodes are linked
     pub FollowWays-all : ((n : ℕ) → m ≤ n → has n ≡ false) → FollowWays (children_of_words sizes words) (points_of_words sizes words)
     FollowWays-all none_more =
-        FollowWays-same (children_of_words sizes words) (points_below sizes words m) (points_of_words sizes words) same_all so_far.linked.ways
+        FollowWays-same (children_of_words sizes words) (children_of_words sizes words) (points_below sizes words m) (points_of_words sizes words)
+        (λ n side. refl) same_all so_far.linked.ways
       where
         same_all : (n : ℕ) → point_at (points_of_words sizes words) n ≡ point_at (points_below sizes words m) n
         same_all n =
@@ -100,7 +93,8 @@ module _ (sizes : Sizes) (has : ℕ → Bool) (before : Words) (unlinked : AreUn
             ]
 
     -- a linked one is linked
-    pub LinksSoFar-more : (after : Words) → AreLinkedBelow sizes after (m + 1) → ChangesChildren sizes words after → LinksSoFar sizes has before after (m + 1)
+    pub LinksSoFar-more :
+        (after : Words) → AreLinkedBelow sizes after (m + 1) → ChangesChildren sizes words after → LinksSoFar sizes has before after (m + 1)
     LinksSoFar-more after linked change = record {
       linked = linked;
       others = λ place apart. change place apart ∙ so_far.others place apart;

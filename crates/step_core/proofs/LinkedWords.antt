@@ -1,25 +1,28 @@
 -- The words of a run in which a node is linked: one child word changes, and what the others say stays.
-use Rattle.std.proofs.Common.{◌≡◌, ℕ, zero, suc, ◌+◌, ◌≤◌, Bool, true, false, List, Some, None, map, length, arith, refl, sym, ap, ◌∙◌, inl, inr}
+use Rattle.std.proofs.Common.{◌≡◌, ℕ, zero, suc, ◌+◌, ◌≤◌, Bool, true, false, List, Some}
+use Rattle.std.proofs.Common.{None, map, length, arith, refl, sym, ap, ◌∙◌, inl, inr}
 use Rattle.std.specs.Prelude.{◌≢◌, nat_lt, nat_le, is_some, slice_set, if◌then◌else◌}
 use Rattle.std.specs.List.{range_with_len}
 use Rattle.std.proofs.lemmas.Bool.{cases_lt}
 use Rattle.plan_model.specs.declared.geometry.Point.{Point}
 use Rattle.plan_model.specs.PointsByNumber.{point_at, StandsAt, point_of}
-use Rattle.plan_model.specs.Ways.{goes_right}
+use Rattle.plan_model.specs.Ways.{goes_right, AddsPoint, LinksAt}
 use Rattle.plan_model.proofs.NewNodes.{IsPresent-stands, StandsAt-present}
-use Rattle.step_core.proofs.InsertedNodes.{LinksNode, child-cases, FollowWays-linked}
+use Rattle.plan_model.proofs.WayLinks.{AddsPoint-stands, FollowWays-links, new_or_old_child}
 use Rattle.step_core.specs.WordPlaces.{Sizes, point_place, child_place, tree_place, first_place, record_place, word_count}
 use Rattle.step_core.specs.Words.{point_in, point_of_word, record_of_word}
 use Rattle.step_core.specs.GrownWords.{Words, words_of, record_at, has_placed, has_node, node_point, points_of_words, child_of_word, children_of_words}
 use Rattle.step_core.specs.KdLinks.{points_below, AreLinkedBelow, IsFreeBelow, EndsAt, MayLink, ChangesChildren}
-use Rattle.step_core.proofs.KdWays.{child_of_word-some, child-word, child_place-within, point_in-stands, point_at-lesser, point_at-greater, present-lesser, stands-lesser}
+use Rattle.step_core.proofs.KdWays.{child_of_word-some, child-word, child_place-within, point_in-stands}
+use Rattle.step_core.proofs.KdWays.{point_at-lesser, point_at-greater, present-lesser, stands-lesser}
 use Rattle.step_core.proofs.GrownPoints.{present-within}
 use Rattle.step_core.proofs.WordReads.{word-set, word-other}
 
 -- ---- only child words change
 
 -- no two child words stand at one place
-pub child_place-once : (sizes : Sizes) (n a : ℕ) (side right : Bool) → child_place sizes n side ≡ child_place sizes a right → (n ≡ a) × (side ≡ right)
+pub child_place-once :
+    (sizes : Sizes) (n a : ℕ) (side right : Bool) → child_place sizes n side ≡ child_place sizes a right → (n ≡ a) × (side ≡ right)
 child_place-once sizes n a false false e = (omega (arith, e), refl)
 child_place-once sizes n a false true e = absurd (omega (arith, e))
 child_place-once sizes n a true false e = absurd (omega (arith, e))
@@ -77,7 +80,8 @@ ChangesChildren-written sizes before after a m side writes place apart = writes.
 
 -- it is written into the list
 pub WritesChild-set :
-    (sizes : Sizes) (items : List ℕ) (a m place : ℕ) (side : Bool) → a ≤ sizes.marks → length items ≡ word_count sizes → place ≡ child_place sizes a side
+    (sizes : Sizes) (items : List ℕ) (a m place : ℕ) (side : Bool) → a ≤ sizes.marks → length items ≡ word_count sizes
+    → place ≡ child_place sizes a side
     → WritesChild sizes (words_of items) (words_of (slice_set items place m)) a m side
 WritesChild-set sizes items a m place side within sized found = record {
   within = within;
@@ -127,7 +131,8 @@ module _
           | inr past ↦ point_at-greater sizes after (m + 1) n (omega (arith, past, apart)) ∙ sym (point_at-greater sizes before m n past)
         ]
 
-    other_child : (n : ℕ) (right : Bool) → ¬ ((n ≡ a) × (right ≡ side)) → children_of_words sizes after n right ≡ children_of_words sizes before n right
+    other_child :
+        (n : ℕ) (right : Bool) → ¬ ((n ≡ a) × (right ≡ side)) → children_of_words sizes after n right ≡ children_of_words sizes before n right
     other_child n right apart =
         let word = writes.others (child_place sizes n right) (λ e. apart (child_place-once sizes n ends.above right (goes_right ends.depth ends.p q) e)) in
         λ t. if nat_le n sizes.marks then child_of_word (word t) else None
@@ -135,28 +140,25 @@ module _
     new_child : children_of_words sizes after ends.above (goes_right ends.depth ends.p q) ≡ Some m
     new_child = child-word sizes after ends.above m (goes_right ends.depth ends.p q) writes.within (sym writes.here) ∙ child_of_word-some m not_start
 
-    links : LinksNode (children_of_words sizes before) (children_of_words sizes after) (points_below sizes before m) (points_below sizes after (m + 1))
-        ends.above m (goes_right ends.depth ends.p q) q
-    links = record {
-      here = new_child;
-      elsewhere = other_child;
-      free = ends.ends.empty;
-      other = not_start;
-      absent = λ h. let less = present-lesser sizes before m m h in omega (arith, less);
-      stands = point_at-lesser sizes after (m + 1) m (omega arith) ∙ same_points m ∙ stands_own;
-      kept = kept;
-    }
+    links : LinksAt (children_of_words sizes before) (children_of_words sizes after) ends.above (goes_right ends.depth ends.p q) m
+    links = record { was_empty = ends.ends.empty; linked = new_child; elsewhere = other_child }
+
+    adds : AddsPoint (points_below sizes before m) (points_below sizes after (m + 1)) m q
+    adds =
+        AddsPoint-stands (points_below sizes before m) (points_below sizes after (m + 1)) m q
+        (λ h. let less = present-lesser sizes before m m h in omega (arith, less))
+        (point_at-lesser sizes after (m + 1) m (omega arith) ∙ same_points m ∙ stands_own) kept
 
     -- The nodes up to this one are linked.
     pub AreLinkedBelow-more : AreLinkedBelow sizes after (m + 1)
     AreLinkedBelow-more = record {
       ways =
-          FollowWays-linked (children_of_words sizes before) (children_of_words sizes after) (points_below sizes before m) (points_below sizes after (m + 1))
-          ends.above m (goes_right ends.depth ends.p q) q links ends.depth ends.p ends.ends refl may.linked.ways;
+          FollowWays-links (children_of_words sizes before) (children_of_words sizes after) (points_below sizes before m)
+          (points_below sizes after (m + 1)) q ends.depth ends.above m ends.p may.linked.ways ends.ends adds links;
       rises = λ n c right h.
           elim
-          (child-cases (children_of_words sizes before) (children_of_words sizes after) (points_below sizes before m) (points_below sizes after (m + 1))
-          ends.above m (goes_right ends.depth ends.p q) q links n c right h) [
+          (new_or_old_child (children_of_words sizes before) (children_of_words sizes after) ends.above (goes_right ends.depth ends.p q) m links n c
+          right h) [
             | inl new ↦ omega (arith, new.0, new.2, ends.within)
             | inr old ↦ may.linked.rises n c right old
           ];

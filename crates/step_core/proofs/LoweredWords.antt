@@ -1,5 +1,6 @@
 -- The words of a run in which one kept cost is lowered: one tree word changes, and what the others say stays.
-use Rattle.std.proofs.Common.{◌≡◌, ℕ, zero, suc, ◌+◌, ◌<◌, ◌≤◌, ◌^◌, Bool, true, false, None, List, map, arith, refl, sym, ap, ◌∙◌, subst, inl, inr}
+use Rattle.std.proofs.Common.{◌≡◌, ℕ, zero, suc, ◌+◌, ◌<◌, ◌≤◌, ◌^◌, Bool, true, false}
+use Rattle.std.proofs.Common.{None, List, map, arith, refl, sym, ap, ◌∙◌, subst, inl, inr}
 use Rattle.std.specs.Prelude.{◌≢◌, length, slice_set, nat_lt, nat_le, if◌then◌else◌}
 use Rattle.std.specs.List.{range_with_len}
 use Rattle.std.proofs.lemmas.Bool.{cases_eq}
@@ -7,9 +8,9 @@ use Rattle.plan_model.specs.declared.tasks.Task.{Task}
 use Rattle.plan_model.specs.PointsByNumber.{point_at, IsPresent, node_count}
 use Rattle.plan_model.specs.Textbook.{setup_of}
 use Rattle.plan_model.specs.TreeStates.{recorded_or, first_cost_of}
-use Rattle.plan_model.specs.Ways.{FollowWays}
 use Rattle.plan_model.proofs.ClosedLaws.{IsClosed-lowered}
 use Rattle.plan_model.proofs.LoweredCosts.{StandsStill, LowersNode, LowersCosts-lowers}
+use Rattle.plan_model.proofs.WayLinks.{FollowWays-same}
 use Rattle.step_core.specs.WordPlaces.{Sizes, counter_place, point_place, child_place, tree_place, first_place, record_place, place_of_count, word_count}
 use Rattle.step_core.specs.Words.{parent_in, cost_in, tree_word, point_of_word, record_of_word}
 use Rattle.step_core.specs.GrownWords.{
@@ -75,8 +76,8 @@ module _ (sizes : Sizes) (before after : Words) (i : ℕ) (change : ChangesTreeW
   points-kept = λ t. map (λ n. node_point-kept n t) (range_with_len 0 (sizes.marks + 1))
 
   -- with the same children
-  pub children-kept : children_of_words sizes after ≡ children_of_words sizes before
-  children-kept = λ t n side. if nat_le n sizes.marks then child_of_word (child_word-kept n side t) else None
+  pub children-kept : (n : ℕ) (side : Bool) → children_of_words sizes after n side ≡ children_of_words sizes before n side
+  children-kept n side = λ t. if nat_le n sizes.marks then child_of_word (child_word-kept n side t) else None
 
   present-kept : (n : ℕ) → IsPresent (points_of_words sizes after) n → IsPresent (points_of_words sizes before) n
   present-kept n h = subst (λ points. IsPresent points n) points-kept h
@@ -194,8 +195,8 @@ module _
         (record_at-kept sizes before after i exchange.change) held.closed
         (LowersCosts-lowers (setup_of task.scene) task.scene.start (state_of_words sizes before) (state_of_words sizes after) i held.closed.order lowers);
     ways =
-        subst (λ children. FollowWays children (points_of_words sizes after)) (sym (children-kept sizes before after i exchange.change))
-        (subst (FollowWays (children_of_words sizes before)) (sym points) held.ways);
+        FollowWays-same (children_of_words sizes before) (children_of_words sizes after) (points_of_words sizes before) (points_of_words sizes after)
+        (children-kept sizes before after i exchange.change) (λ n. ap (λ list. point_at list n) points) held.ways;
     counted = exchange.change.others place_of_count (λ e. omega (arith, e)) ∙ held.counted ∙ ap node_count (sym points);
     claimed = λ g below. exchange.change.others (counter_place g) (λ e. omega (arith, e, below)) ∙ held.claimed g below;
     written = λ n h.

@@ -1,5 +1,6 @@
 -- The words of a run after its counters, its count, its nodes and its records were written, one after another.
-use Rattle.std.proofs.Common.{◌≡◌, ℕ, suc, ◌<◌, ◌≤◌, Bool, true, false, List, [], ◌∷◌, Option, Some, None, length, cond, arith, refl, sym, ap, ◌∙◌, subst, inl, inr}
+use Rattle.std.proofs.Common.{◌≡◌, ℕ, suc, ◌<◌, ◌≤◌, Bool, true, false, List, [], ◌∷◌, Option, Some, None}
+use Rattle.std.proofs.Common.{length, cond, arith, refl, sym, ap, ◌∙◌, subst, inl, inr}
 use Rattle.std.specs.Prelude.{◌≢◌, is_some, count_by, slice_set, slice_index_or, option_map, if◌then◌else◌}
 use Rattle.std.proofs.lemmas.Bool.{cases_lt, lt-leb}
 use Rattle.std.proofs.lemmas.List.Sums.{sum_by-cons}
@@ -100,7 +101,8 @@ module _
 
 -- a word is written into the list
 pub WritesWord-set :
-    (items : List ℕ) (at place value word : ℕ) → at < length items → at ≡ place → word ≡ value → WritesWord place value (words_of items) (words_of (slice_set items at word))
+    (items : List ℕ) (at place value word : ℕ) → at < length items → at ≡ place → word ≡ value
+    → WritesWord place value (words_of items) (words_of (slice_set items at word))
 WritesWord-set items at place value word within found is = record {
   here = word-set items at place word within found ∙ is;
   others = λ other apart. word-other items at other word (λ e. apart (e ∙ found));
@@ -177,7 +179,8 @@ module _
     (fit : FitWords (sizes_of task) knots records) (held : HoldLists sizes knots records before) where
   -- its nodes may be linked
   pub AreUnlinked-written :
-      ((n : ℕ) (side : Bool) → n ≤ sizes.marks → before (child_place sizes n side) ≡ 0) → AreUnlinked sizes before (λ n. is_some (slice_index_or knots n None))
+      ((n : ℕ) (side : Bool) → n ≤ sizes.marks → before (child_place sizes n side) ≡ 0)
+      → AreUnlinked sizes before (λ n. is_some (slice_index_or knots n None))
   AreUnlinked-written empty =
       subst (λ s. AreUnlinked s before (λ n. is_some (slice_index_or knots n None))) (sym same)
       (AreUnlinked-packed task knots records before closed fit (subst (λ s. HoldLists s knots records before) same held)

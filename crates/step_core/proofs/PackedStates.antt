@@ -27,7 +27,8 @@ use Rattle.plan_model.proofs.NodeCounts.{node_count-same}
 use Rattle.plan_model.proofs.TreeChanges.{point_at-points_of}
 use Rattle.step_core.specs.WordPlaces.{Sizes, tree_place, first_place}
 use Rattle.step_core.specs.Words.{parent_in, cost_in, point_word, point_of_word, record_of_word}
-use Rattle.step_core.specs.GrownWords.{Words, record_at, has_placed, has_node, points_of_words, state_of_words, children_of_words, IsPointWord, IsTreeWord, IsWritten, sizes_of, HoldRun}
+use Rattle.step_core.specs.GrownWords.{Words, record_at, has_placed, has_node, points_of_words, state_of_words}
+use Rattle.step_core.specs.GrownWords.{children_of_words, IsPointWord, IsTreeWord, IsWritten, sizes_of, HoldRun}
 use Rattle.step_core.specs.PackedRuns.{kept_cost_of, state_of_lists, IsKnot, FitWords, HoldLists}
 use Rattle.step_core.proofs.GrownPoints.{record_at-within, record_at-past, node_point-absent, node_point-here, point_at-words}
 use Rattle.step_core.proofs.PackedRecords.{record_of_word-packed}
@@ -52,7 +53,8 @@ point_at-lists knots n =
     by_knot None = refl
     by_knot (Some knot) = refl
 
-pub parent_of-lists : (knots : List (Option Knot)) (n : ℕ) (knot : Knot) → slice_index_or knots n None ≡ Some knot → parent_of (without_costs knots) n ≡ knot.parent
+pub parent_of-lists :
+    (knots : List (Option Knot)) (n : ℕ) (knot : Knot) → slice_index_or knots n None ≡ Some knot → parent_of (without_costs knots) n ≡ knot.parent
 parent_of-lists knots n knot e =
     ap parent_or_zero
     (get_or-map (option_map twig_of) knots n None
@@ -150,7 +152,9 @@ module _
       none_some None h = refl
       none_some (Some p) h = cc
 
-  parents : (n : ℕ) → IsPresent (points_of (without_costs knots)) n → parent_in (words (tree_place (sizes_of task) n)) ≡ parent_of (without_costs knots) n
+  parents :
+      (n : ℕ) → IsPresent (points_of (without_costs knots)) n
+      → parent_in (words (tree_place (sizes_of task) n)) ≡ parent_of (without_costs knots) n
   parents n h =
       let own = HasKnot-present knots n h in
       let is = IsKnot-at knots n own.knot own.at in

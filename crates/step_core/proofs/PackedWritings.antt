@@ -1,5 +1,6 @@
 -- Words of a run that are written one after another: nodes, records, and the counters of strips.
-use Rattle.std.proofs.Common.{◌≡◌, ℕ, suc, ◌+◌, ◌<◌, ◌≤◌, ◌%◌, List, Option, Some, None, length, cond, arith, refl, sym, ap, ◌∙◌, subst, inl, inr}
+use Rattle.std.proofs.Common.{◌≡◌, ℕ, suc, ◌+◌, ◌<◌, ◌≤◌, ◌%◌, List, Option, Some, None}
+use Rattle.std.proofs.Common.{length, cond, arith, refl, sym, ap, ◌∙◌, subst, inl, inr}
 use Rattle.std.specs.Prelude.{◌≢◌, ◌==◌, slice_get, slice_set}
 use Rattle.std.specs.List.{range_with_len}
 use Rattle.std.proofs.lemmas.Bool.{cases_eq, eq-eqb, ne_eqb}
@@ -63,7 +64,8 @@ WritesRecords-none sizes records words = record { hold = λ k entry below. absur
 
 module _
     (sizes : Sizes) (records : List Record) (m : ℕ) (before mid after : Words) (so_far : WritesRecords sizes records m before mid) (entry : Record)
-    (own : slice_get records m ≡ Some entry) (within : m < sizes.marks) (here : HoldsRecord sizes after m entry) (change : ChangesRecord sizes m mid after) where
+    (own : slice_get records m ≡ Some entry) (within : m < sizes.marks) (here : HoldsRecord sizes after m entry)
+    (change : ChangesRecord sizes m mid after) where
   kept_record : (k : ℕ) (other : Record) → k < m → HoldsRecord sizes mid k other → HoldsRecord sizes after k other
   kept_record k other less held = record {
     own = change (record_place sizes k) (λ e. omega (arith, e, less)) (λ e. omega (arith, e, less, within)) ∙ held.own;

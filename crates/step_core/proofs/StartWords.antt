@@ -13,14 +13,14 @@ use Rattle.plan_model.specs.PointsByNumber.{point_at, StandsAt, IsPresent}
 use Rattle.plan_model.specs.Textbook.{setup_of, start_alone}
 use Rattle.plan_model.specs.Trees.{points_of, parent_of, sum_of}
 use Rattle.plan_model.specs.TreeStates.{first_cost_of, state_of}
-use Rattle.plan_model.specs.Ways.{IsOnWay, FollowWays}
-use Rattle.plan_model.specs.Ways.IsOnWay.{begins}
+use Rattle.plan_model.specs.Ways.{FollowWays}
 use Rattle.plan_model.proofs.ClosedLaws.{IsClosed-same}
 use Rattle.plan_model.proofs.LoweredCosts.{HaveSameTree}
 use Rattle.plan_model.proofs.NewNodes.{IsPresent-stands, not_present, point_at-absent}
 use Rattle.plan_model.proofs.NodeCounts.{node_count-same}
 use Rattle.plan_model.proofs.TextbookStates.{IsClosed-start}
 use Rattle.plan_model.proofs.TreeChanges.{node_at-past}
+use Rattle.plan_model.proofs.WayLinks.{FollowWays-start}
 use Rattle.step_core.specs.WordPlaces.{Sizes, counter_place, point_place, child_place, tree_place, first_place, record_place, place_of_count, word_count}
 use Rattle.step_core.specs.Words.{parent_in, cost_in, tree_word, point_word, point_of_word, record_of_word}
 use Rattle.step_core.specs.GrownWords.{Words, words_of, record_at, has_placed, points_of_words, state_of_words}
@@ -113,19 +113,12 @@ module _ (sizes : Sizes) (start : Point) (words : Words) (bounded : IsBounded st
         | inr past ↦ ap (λ b. if b then child_of_word (words (child_place sizes n side)) else None) past
       ]
 
-  FollowWays-start : FollowWays (children_of_words sizes words) (points_of_words sizes words)
-  FollowWays-start = record {
-    on_way = on_way;
-    once = λ n a b left right one other. let gone = sym one ∙ no_child a left in cc;
-    root = λ a side one. let gone = sym one ∙ no_child a side in cc;
-    present = λ a n side one. let gone = sym one ∙ no_child a side in cc;
-    empty = λ n side absent. no_child n side;
-  }
+  start_ways : FollowWays (children_of_words sizes words) (points_of_words sizes words)
+  start_ways = FollowWays-start (children_of_words sizes words) (points_of_words sizes words) no_child alone
     where
-      on_way : (n : ℕ) (q : Point) → StandsAt (points_of_words sizes words) n q
-          → (depth : ℕ) × IsOnWay (children_of_words sizes words) (points_of_words sizes words) q depth n
-      on_way zero q h = (0, begins)
-      on_way (suc k) q h = absurd (no_other k (IsPresent-stands (points_of_words sizes words) (suc k) q h))
+      alone : (n : ℕ) (q : Point) → StandsAt (points_of_words sizes words) n q → n ≡ 0
+      alone zero q h = refl
+      alone (suc k) q h = absurd (no_other k (IsPresent-stands (points_of_words sizes words) (suc k) q h))
 
   -- ---- words as they are packed
 
@@ -149,7 +142,7 @@ HoldRun-start task words clear held = record {
       IsClosed-same (setup_of task.scene) task.scene.start task.marks 0 (state_of (start_alone task.scene.start) []) (state_of_words (sizes_of task) words)
       (record_at-none (sizes_of task) task.scene.start words bounded held) (IsClosed-start (setup_of task.scene) task.scene.start task.marks clear)
       (same_tree (sizes_of task) task.scene.start words bounded held);
-  ways = FollowWays-start (sizes_of task) task.scene.start words bounded held;
+  ways = start_ways (sizes_of task) task.scene.start words bounded held;
   counted =
       held.count
       ∙ sym (

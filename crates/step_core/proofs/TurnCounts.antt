@@ -1,5 +1,6 @@
 -- A worker's turns run from 0 without a gap, so each turn is below the number of records.
-use Rattle.std.proofs.Common.{◌≡◌, ℕ, zero, suc, ◌<◌, ◌≤◌, Bool, true, false, cond, eqb, ltb, List, Option, Some, None, length, arith, refl, sym, ap, ◌∙◌, inl, inr}
+use Rattle.std.proofs.Common.{◌≡◌, ℕ, zero, suc, ◌<◌, ◌≤◌, Bool, true, false, cond, eqb, ltb, List, Option}
+use Rattle.std.proofs.Common.{Some, None, length, arith, refl, sym, ap, ◌∙◌, inl, inr}
 use Rattle.std.specs.Prelude.{◌&&◌, count_by, slice_get}
 use Rattle.std.specs.List.{range_with_len}
 use Rattle.std.proofs.lemmas.Bool.{cases_eq, and_parts, and_from, and_right, eq-eqb, ltb-true, lt-ltb, le-ltb}
@@ -18,12 +19,15 @@ one_or_none true b h =
     let here : ◌≡◌ {A = ℕ} (cond b 1 0) 1 = ap (λ t. cond {A = ℕ} t 1 0) (h refl) in
     omega (arith, here)
 
-count-wider : (one other : ℕ → Bool) (n : ℕ) → ((i : ℕ) → one i ≡ true → other i ≡ true) → count_by one (range_with_len 0 n) ≤ count_by other (range_with_len 0 n)
+count-wider :
+    (one other : ℕ → Bool) (n : ℕ) → ((i : ℕ) → one i ≡ true → other i ≡ true)
+    → count_by one (range_with_len 0 n) ≤ count_by other (range_with_len 0 n)
 count-wider one other zero wider = omega arith
 count-wider one other (suc n) wider =
     omega (arith, count-more one n, count-more other n, count-wider one other n wider, one_or_none (one n) (other n) (wider n))
 
-count-one_more : (one other : ℕ → Bool) (n j : ℕ) → ((i : ℕ) → one i ≡ true → other i ≡ true) → j < n → one j ≡ false → other j ≡ true
+count-one_more :
+    (one other : ℕ → Bool) (n j : ℕ) → ((i : ℕ) → one i ≡ true → other i ≡ true) → j < n → one j ≡ false → other j ≡ true
     → suc (count_by one (range_with_len 0 n)) ≤ count_by other (range_with_len 0 n)
 count-one_more one other zero j wider below fails passes = absurd (omega (arith, below))
 count-one_more one other (suc n) j wider below fails passes =

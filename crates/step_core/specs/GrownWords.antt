@@ -1,5 +1,6 @@
 -- What the words of a run say of its tree, its records and its kd-tree.
-use Rattle.std.specs.Prelude.{◌≡◌, ℕ, zero, suc, ◌+◌, ◌<◌, nat_lt, nat_le, Bool, true, false, Option, Some, None, List, map, slice_index, length, if◌then◌else◌}
+use Rattle.std.specs.Prelude.{◌≡◌, ℕ, zero, suc, ◌+◌, ◌<◌, nat_lt, nat_le, Bool, true, false}
+use Rattle.std.specs.Prelude.{Option, Some, None, List, map, slice_index, length, if◌then◌else◌}
 use Rattle.std.specs.List.{range_with_len}
 use Rattle.plan_model.specs.declared.geometry.Point.{Point}
 use Rattle.plan_model.specs.declared.records.Record.{Record}

@@ -78,12 +78,14 @@ ChangesRecord sizes k before after = (place : ℕ) → place ≢ record_place si
 -- the nodes below number m are written, and nothing else changed
 pub record WritesNodes (sizes : Sizes) (knots : List (Option Knot)) (m : ℕ) (before after : Words) : Type 0 where
   pub hold : (n : ℕ) (knot : Knot) → n < m → IsKnot knots n knot → HoldsNode sizes after n knot
-  pub others : (place : ℕ) → ((n : ℕ) → n ≤ sizes.marks → (place ≢ point_place sizes n) × (place ≢ tree_place sizes n)) → after place ≡ before place
+  pub others :
+      (place : ℕ) → ((n : ℕ) → n ≤ sizes.marks → (place ≢ point_place sizes n) × (place ≢ tree_place sizes n)) → after place ≡ before place
 
 -- the records below mark m are written, and nothing else changed
 pub record WritesRecords (sizes : Sizes) (records : List Record) (m : ℕ) (before after : Words) : Type 0 where
   pub hold : (k : ℕ) (entry : Record) → k < m → slice_get records k ≡ Some entry → HoldsRecord sizes after k entry
-  pub others : (place : ℕ) → ((k : ℕ) → k < m → (place ≢ record_place sizes k) × (place ≢ first_place sizes (suc k))) → after place ≡ before place
+  pub others :
+      (place : ℕ) → ((k : ℕ) → k < m → (place ≢ record_place sizes k) × (place ≢ first_place sizes (suc k))) → after place ≡ before place
 
 -- the marks below m are counted in the counters of their strips, which were 0, and nothing else changed
 pub record CountsMarks (sizes : Sizes) (m : ℕ) (before after : Words) : Type 0 where

@@ -7,7 +7,8 @@ ghost use Rattle.plan_model.specs.declared.trees.Knot.{Knot};
 ghost use Rattle.plan_model.specs.declared.records.Record.{Record};
 ghost use Rattle.step_core.specs.GrownWords.{HoldRun, sizes_of, state_of_words, words_of};
 ghost use Rattle.plan_model.specs.TreeStates.{AreSameRuns};
-ghost use Rattle.step_core.specs.PackedRuns.{ChangesNode, ChangesRecord, CountsMarks, FitWords, FitsNode, FitsRecord, HoldLists, HoldsNode, HoldsRecord, IsKnot, WritesNodes, WritesRecords, state_of_lists};
+ghost use Rattle.step_core.specs.PackedRuns.{ChangesNode, ChangesRecord, CountsMarks, FitWords, FitsNode, FitsRecord, HoldLists};
+ghost use Rattle.step_core.specs.PackedRuns.{HoldsNode, HoldsRecord, IsKnot, WritesNodes, WritesRecords, state_of_lists};
 ghost use Rattle.step_core.specs.PlacesOfWords.{sizes_in};
 ghost use Rattle.step_core.specs.WordPlaces.{child_place, word_count};
 

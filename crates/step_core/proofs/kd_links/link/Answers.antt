@@ -30,14 +30,18 @@ pub offset_bounds-words-place : goal.offset_bounds-words-place
 offset_bounds-words-place c =
     let ends = c.end_of_way-place.ensures in
     let within = present-within (sizes_in c.args.places) (words_of c.args.words.now) c.args.node c.requires.may_link.present in
-    let below = child_place-within (sizes_in c.args.places) ends.above (goes_right ends.depth ends.p c.point_in-point.result) (omega (arith, within, ends.within)) in
+    let below =
+    child_place-within (sizes_in c.args.places) ends.above (goes_right ends.depth ends.p c.point_in-point.result)
+    (omega (arith, within, ends.within)) in
     omega (arith, below, ends.found, c.args.places.few_strips, c.args.places.few_marks)
 
 pub bounds-words-place : goal.bounds-words-place
 bounds-words-place c =
     let ends = c.end_of_way-place.ensures in
     let within = present-within (sizes_in c.args.places) (words_of c.args.words.now) c.args.node c.requires.may_link.present in
-    let below = child_place-within (sizes_in c.args.places) ends.above (goes_right ends.depth ends.p c.point_in-point.result) (omega (arith, within, ends.within)) in
+    let below =
+    child_place-within (sizes_in c.args.places) ends.above (goes_right ends.depth ends.p c.point_in-point.result)
+    (omega (arith, within, ends.within)) in
     omega (arith, below, ends.found, c.requires.sized)
 
 pub returns : goal.returns

@@ -8,13 +8,15 @@ use Rattle.step_core.proofs.packed_runs.write_records.Goals as goal
 
 pub write_record-requires-clause-fits : goal.write_record-requires-clause-fits
 write_record-requires-clause-fits c = c.requires.fit c.loop-mark.mark c.index-records-mark.result
-    (slice_get_read c.args.records.now (length c.args.records.now) c.loop-mark.mark c.index-records-mark.result refl c.loop-mark-test.true c.index-records-mark.is)
+    (slice_get_read c.args.records.now (length c.args.records.now) c.loop-mark.mark c.index-records-mark.result refl
+    c.loop-mark-test.true c.index-records-mark.is)
 
 pub loop-mark-preserved : goal.loop-mark-preserved
 loop-mark-preserved c =
     WritesRecords-more (sizes_in c.args.places) c.args.records.now c.loop-mark.mark (words_of c.args.words.now) (words_of c.loop-mark.words)
     (words_of c.write_record.new.words) c.loop-mark.invariant c.index-records-mark.result
-    (slice_get_read c.args.records.now (length c.args.records.now) c.loop-mark.mark c.index-records-mark.result refl c.loop-mark-test.true c.index-records-mark.is)
+    (slice_get_read c.args.records.now (length c.args.records.now) c.loop-mark.mark c.index-records-mark.result refl
+    c.loop-mark-test.true c.index-records-mark.is)
     (omega (arith, c.loop-mark-test.true, c.requires.few))
     c.write_record.ensures.hold c.write_record.ensures.others
 

@@ -17,7 +17,8 @@ link_all-requires-clause-unlinked c =
     let same : sizes_in c.of-places.result ≡ sizes_of c.args.task.now =
     λ t. record { strips = c.of-places.ensures.strips t; marks = c.of-places.ensures.marks t } in
     AreUnlinked-written c.args.task.now c.args.knots.now c.args.records.now (sizes_in c.of-places.result) same (words_of c.write_lists.new.words)
-    c.requires.closed (FitWords-closed c.args.task.now c.args.knots.now c.args.records.now c.requires.closed) c.write_lists.ensures.lists c.write_lists.ensures.children
+    c.requires.closed (FitWords-closed c.args.task.now c.args.knots.now c.args.records.now c.requires.closed) c.write_lists.ensures.lists
+    c.write_lists.ensures.children
 
 pub returns : goal.returns
 returns c =
@@ -26,8 +27,10 @@ returns c =
     record {
       run =
           HoldRun-linked c.args.task.now c.args.knots.now c.args.records.now (sizes_in c.of-places.result) same (words_of c.write_lists.new.words)
-          c.requires.closed (FitWords-closed c.args.task.now c.args.knots.now c.args.records.now c.requires.closed) c.write_lists.ensures.lists (words_of c.link_all.new.words) c.link_all.ensures.others c.link_all.ensures.ways;
+          c.requires.closed (FitWords-closed c.args.task.now c.args.knots.now c.args.records.now c.requires.closed) c.write_lists.ensures.lists
+          (words_of c.link_all.new.words) c.link_all.ensures.others c.link_all.ensures.ways;
       state =
           AreSameRuns-linked c.args.task.now c.args.knots.now c.args.records.now (sizes_in c.of-places.result) same (words_of c.write_lists.new.words)
-          c.requires.closed (FitWords-closed c.args.task.now c.args.knots.now c.args.records.now c.requires.closed) c.write_lists.ensures.lists (words_of c.link_all.new.words) c.link_all.ensures.others;
+          c.requires.closed (FitWords-closed c.args.task.now c.args.knots.now c.args.records.now c.requires.closed) c.write_lists.ensures.lists
+          (words_of c.link_all.new.words) c.link_all.ensures.others;
     }
