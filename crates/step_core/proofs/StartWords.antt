@@ -12,7 +12,7 @@ use Rattle.plan_model.specs.ConfigurationSpace.{space_of}
 use Rattle.plan_model.specs.PointsByNumber.{point_at, StandsAt, IsPresent}
 use Rattle.plan_model.specs.Textbook.{setup_of, start_alone}
 use Rattle.plan_model.specs.Trees.{points_of, parent_of, sum_of}
-use Rattle.plan_model.specs.TreeStates.{first_cost_of, state_of}
+use Rattle.plan_model.specs.TreeStates.{first_cost_of, state_of, AreSameRuns}
 use Rattle.plan_model.specs.Ways.{FollowWays}
 use Rattle.plan_model.proofs.ClosedLaws.{IsClosed-same}
 use Rattle.plan_model.proofs.LoweredCosts.{HaveSameTree}
@@ -96,6 +96,10 @@ module _ (sizes : Sizes) (start : Point) (words : Words) (bounded : IsBounded st
       costs zero h = start_cost
       costs (suc k) h = absurd (no_other_alone k h)
 
+  -- The words hold the run of the start alone.
+  pub AreSameRuns-start : AreSameRuns (state_of (start_alone start) []) (state_of_words sizes words)
+  AreSameRuns-start = record { points = same_points; parents = same_tree.parents; costs = same_tree.costs; records = record_at-none }
+
   -- ---- the kd-tree
 
   child_word-none : (n : ℕ) (side : Bool) → words (child_place sizes n side) ≡ 0
@@ -133,6 +137,10 @@ module _ (sizes : Sizes) (start : Point) (words : Words) (bounded : IsBounded st
       packed_point = λ t. point_word (record { x = sym (x_in-point_word start bounded) t; y = sym (y_in-point_word start bounded) t })
   IsWritten-start (suc k) h = absurd (no_other k h)
 
+-- the start of a task fits its word
+pub IsBounded-start : (task : Task) → IsBounded task.scene.start
+IsBounded-start task = record { right = omega (arith, task.scene.start_within.right); top = omega (arith, task.scene.start_within.top) }
+
 -- The start alone is a finished run at limit 0 if it is clear.
 pub HoldRun-start :
     (task : Task) (words : Words) → ClearAt (space_of task.scene) task.scene.start → HoldStart (sizes_of task) task.scene.start words
@@ -155,7 +163,7 @@ HoldRun-start task words clear held = record {
 }
   where
     bounded : IsBounded task.scene.start
-    bounded = record { right = omega (arith, task.scene.start_within.right); top = omega (arith, task.scene.start_within.top) }
+    bounded = IsBounded-start task
 
 -- ---- in a list
 

@@ -1,13 +1,13 @@
 //! A finished run: a task, a limit, and the words of the tree and the records that its marks below the limit have led to.
 
-ghost use Rattle.std.specs.Prelude.{◌≡◌, ◌<◌, ◌≤◌, ℕ, Bool, length, IfOk, IsTrue, Some};
+ghost use Rattle.std.specs.Prelude.{◌≡◌, ◌<◌, ◌≤◌, ℕ, Bool, [], length, IfOk, IsTrue, Some};
 ghost use Rattle.plan_model.specs.Clearance.{ClearAt};
 ghost use Rattle.plan_model.specs.ClosedLaw.{IsClosed};
 ghost use Rattle.plan_model.specs.ConfigurationSpace.{space_of};
 ghost use Rattle.plan_model.specs.PointsByNumber.{IsPresent, node_count, point_at};
-ghost use Rattle.plan_model.specs.Textbook.{setup_of};
+ghost use Rattle.plan_model.specs.Textbook.{setup_of, start_alone};
 ghost use Rattle.step_core.specs.GrownWords.{HoldRun, has_node, record_at, sizes_of, words_of};
-ghost use Rattle.plan_model.specs.TreeStates.{AreSameRuns};
+ghost use Rattle.plan_model.specs.TreeStates.{AreSameRuns, state_of};
 ghost use Rattle.step_core.specs.PackedRuns.{state_of_lists};
 ghost use Rattle.step_core.specs.WordPlaces.{tree_place, word_count};
 
@@ -45,6 +45,7 @@ impl Grown {
         requires { ClearAt (space_of task.scene) task.scene.start }
         ensures task { IfOk result (λ grown. grown.task ≡ task) }
         ensures limit { IfOk result (λ grown. grown.limit ≡ 0) }
+        ensures state { IfOk result (λ grown. AreSameRuns (state_of (start_alone task.scene.start) []) (state_of_grown grown)) }
     {
         let places = WordPlaces::of(&task);
         let mut words = vec![in alloc; 0; places.len()]?;

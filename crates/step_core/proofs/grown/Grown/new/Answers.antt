@@ -1,7 +1,7 @@
 use Rattle.std.proofs.Common.{refl, arith, ap, ◌∙◌}
 use Rattle.std.specs.Prelude.{replicate}
 use Rattle.step_core.specs.GrownWords.{sizes_of}
-use Rattle.step_core.proofs.StartWords.{HoldRun-start, HasStartPlaces, HoldStart-set, length-start_words}
+use Rattle.step_core.proofs.StartWords.{AreSameRuns-start, HoldRun-start, IsBounded-start, HasStartPlaces, HoldStart-set, length-start_words}
 use Rattle.step_core.proofs.grown.Grown.new.Goals as goal
 
 pub invariant_of-result : goal.invariant_of-result
@@ -25,3 +25,19 @@ invariant_of-result c =
           (HoldStart-set sizes c.in_ok-words.words.items c.count.result c.point.result c.tree.result c.first.result 1 c.pack_point.result
           c.pack_tree.result c.pack_tree-2.result places c.args.task.scene.start refl c.pack_point.ensures c.pack_tree.ensures c.pack_tree-2.ensures) ∣₁;
     }
+
+pub returns-clause-state : goal.returns-clause-state
+returns-clause-state c =
+    let sizes = sizes_of c.args.task in
+    let places : HasStartPlaces (sizes_of c.args.task) c.in_ok-words.words.items c.count.result c.point.result c.tree.result c.first.result = record {
+      zeros =
+          c.in_ok-words.ensures.items_if_clones_equal (λ y e. e)
+          ∙ ap (λ n. replicate n 0) (omega (arith, c.len.ensures, c.of-places.ensures.strips, c.of-places.ensures.marks));
+      at_count = c.count.ensures;
+      at_point = omega (arith, c.point.ensures, c.of-places.ensures.strips);
+      at_tree = omega (arith, c.tree.ensures, c.of-places.ensures.strips);
+      at_first = omega (arith, c.first.ensures, c.of-places.ensures.strips);
+    } in
+    AreSameRuns-start sizes c.args.task.scene.start _ (IsBounded-start c.args.task)
+    (HoldStart-set sizes c.in_ok-words.words.items c.count.result c.point.result c.tree.result c.first.result 1 c.pack_point.result
+    c.pack_tree.result c.pack_tree-2.result places c.args.task.scene.start refl c.pack_point.ensures c.pack_tree.ensures c.pack_tree-2.ensures)
