@@ -15,3 +15,4 @@ pub mod PackedStates
 pub mod PackedLists
 pub mod TurnCounts
 pub mod FittingRuns
+pub mod ListedRuns

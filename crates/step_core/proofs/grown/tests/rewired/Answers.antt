@@ -1,0 +1,59 @@
+-- The run is the textbook run in which node 2 gets a cheaper way through node 3.
+use Rattle.std.proofs.Common.{◌≡◌, ℕ, zero, suc, Option, Some, None, List, [], ◌∷◌, refl, sym, ◌∙◌, subst}
+use Rattle.std.specs.Prelude.{slice_index_or}
+use Rattle.plan_model.specs.declared.trees.Knot.{Knot}
+use Rattle.plan_model.specs.Clearance.{ClearAt}
+use Rattle.plan_model.specs.ClosedLaw.{IsClosed}
+use Rattle.plan_model.specs.ConfigurationSpace.{space_of}
+use Rattle.plan_model.specs.PointsByNumber.{IsPresent}
+use Rattle.plan_model.specs.Textbook.{setup_of}
+use Rattle.plan_model.specs.Trees.{points_of, sum_of}
+use Rattle.plan_model.specs.TreeStates.{AreSameRuns, state_of}
+use Rattle.plan_model.specs.Vectors.Runs.{marks_to_rewire, open_setup, rewired_records, rewired_tree}
+use Rattle.plan_model.specs.Vectors.Shapes.{at}
+use Rattle.plan_model.proofs.OpenRoomMarks.{cost_2500}
+use Rattle.plan_model.proofs.RewiredRun.{rewired_run, rewired_sum}
+use Rattle.plan_model.proofs.SameTrees.{IsClosed-of_textbook}
+use Rattle.step_core.specs.PackedRuns.{kept_cost_of, state_of_lists}
+use Rattle.step_core.proofs.ListedRuns.{IsClosed-same_lists}
+use Rattle.step_core.proofs.grown.tests.rewired.Goals as goal
+
+abbrev knot : ℕ → ℕ → ℕ → ℕ → Option Knot
+knot x y parent cost = Some (record { point = at x y; parent = parent; cost = cost })
+
+-- its nodes with their kept costs
+abbrev rewired_knots : List (Option Knot)
+rewired_knots = knot 0 0 0 0 ∷ knot 0 50 0 12800 ∷ knot 40 79 3 25344 ∷ knot 40 30 0 12800 ∷ []
+
+-- each node is kept at its sum
+kept_sums : (n : ℕ) → IsPresent (points_of rewired_tree) n → kept_cost_of (slice_index_or rewired_knots n None) ≡ sum_of rewired_tree n
+kept_sums zero h = refl
+kept_sums (suc zero) h = rw cost_2500 refl
+kept_sums (suc (suc zero)) h = sym rewired_sum
+kept_sums (suc (suc (suc zero))) h = rw cost_2500 refl
+kept_sums (suc (suc (suc (suc n)))) h = cc
+
+same_run : AreSameRuns (state_of rewired_tree rewired_records) (state_of_lists rewired_knots rewired_records)
+same_run = record { points = λ n. refl; parents = λ n h. refl; costs = kept_sums; records = λ k. refl }
+
+-- so the run is closed
+closed : ClearAt open_setup.space (at 0 0) → IsClosed open_setup (at 0 0) marks_to_rewire 3 (state_of_lists rewired_knots rewired_records)
+closed clear =
+    IsClosed-of_textbook open_setup (at 0 0) marks_to_rewire (state_of_lists rewired_knots rewired_records) clear
+    (record { nodes = rewired_tree; records = rewired_records; run = rewired_run; same = same_run })
+
+pub pack-requires : goal.pack-requires
+pack-requires c =
+    let task = c.in_ok-task.task in
+    let knots : c.from_vec-knots.result ≡ rewired_knots =
+    c.from_vec-knots.ensures ∙ c.in_ok-from_slice.ensures.items
+    ∙ (λ t. c.node.ensures t ∷ c.node-2.ensures t ∷ c.node-3.ensures t ∷ c.node-4.ensures t ∷ []) in
+    let records : c.from_vec-records.result ≡ rewired_records =
+    c.from_vec-records.ensures ∙ c.in_ok-from_slice-2.ensures.items
+    ∙ (λ t. c.placed.ensures t ∷ c.placed-2.ensures t ∷ c.placed-3.ensures t ∷ []) in
+    let clear =
+    subst (λ setup. ClearAt setup.space (at 0 0)) c.in_ok-task.ensures.setup
+    (subst (ClearAt (space_of task.scene)) c.in_ok-task.ensures.start c.in_ok-task.ensures.clear) in
+    IsClosed-same_lists (setup_of task.scene) open_setup task.scene.start (at 0 0) task.marks marks_to_rewire c.from_vec-knots.result rewired_knots
+    c.from_vec-records.result rewired_records c.in_ok-task.ensures.setup c.in_ok-task.ensures.start c.in_ok-task.ensures.marks knots records
+    (closed clear)

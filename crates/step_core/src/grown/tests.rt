@@ -1,0 +1,188 @@
+//! Runs that are packed and read back.
+
+ghost use Rattle.std.specs.Prelude.{◌≡◌, ◌∷◌, ◌≤◌, [], IfOk, IsTrue, Some, length};
+ghost use Rattle.plan_model.specs.Clearance.{ClearAt};
+ghost use Rattle.plan_model.specs.ConfigurationSpace.{space_of};
+ghost use Rattle.plan_model.specs.Limits.{is_plan};
+ghost use Rattle.plan_model.specs.EmptyRooms.{empty_room};
+ghost use Rattle.plan_model.specs.Textbook.{placed_record, setup_of};
+ghost use Rattle.plan_model.specs.Vectors.Shapes.{at};
+ghost use Rattle.plan_model.specs.declared.scenes.Marks.TheVariants.{Listed};
+
+use super::*;
+use plan_model::{Goal, Knot, MOST_MARKS, Marks, Points, Scene, Sequence, Vertex};
+use std::process::Abort;
+use std::test::Fail;
+
+/// The task of these marks for a point body in an empty room of this side, from this start by steps of 50.
+fn task_of(alloc: Global, side: u32, start: Point, marks: &[Point]) -> Result<Task, Memory>
+    requires low { 1 ≤ side }
+    requires high { side ≤ 65535 }
+    requires right { start.x ≤ side }
+    requires top { start.y ≤ side }
+    requires marks { IsTrue (is_plan (Listed marks.now)) }
+    ensures setup { IfOk result (λ task. setup_of task.scene ≡ record { space = empty_room (at side side); step = 50; gamma = 1000 }) }
+    ensures start { IfOk result (λ task. task.scene.start ≡ start) }
+    ensures marks { IfOk result (λ task. task.marks ≡ marks.now) }
+    ensures clear { IfOk result (λ task. ClearAt (space_of task.scene) task.scene.start) }
+{
+    let scene = Scene {
+        version: 1,
+        room: Point { x: side, y: side },
+        body: Sequence::from_vec(vec![in alloc; Vertex { x: 0, y: 0 }]?),
+        obstacles: Sequence::from_vec(Vec::new(alloc)),
+        start,
+        goal: Goal {
+            low: Point { x: 90, y: 90 },
+            high: Point { x: 99, y: 99 },
+        },
+        step: 50,
+        gamma: 1000,
+        seed: 0,
+        strips: 3,
+        plan: Marks::Listed(Sequence::from_vec(Vec::from_slice(alloc, marks)?)),
+    };
+    Ok(Task {
+        scene,
+        marks: Sequence::from_vec(Vec::from_slice(alloc, marks)?),
+    })
+}
+
+/// A node with its kept cost.
+fn node(x: u32, y: u32, parent: u32, cost: u64) -> Option<Knot>
+    ensures { result ≡ Some (record { point = at x y; parent = parent; cost = cost }) }
+{
+    Some(Knot {
+        point: Point { x, y },
+        parent,
+        cost,
+    })
+}
+
+/// The record of a mark that worker 0 placed.
+fn placed(turn: u32, nearest: u32, first_parent: u32, first_cost: u64, class: u32) -> Record
+    ensures { result ≡ placed_record turn nearest first_parent first_cost class }
+{
+    Record {
+        worker: 0,
+        turn,
+        nearest,
+        outcome: Outcome::Placed,
+        first_parent,
+        first_cost,
+        class,
+    }
+}
+
+/// The run of three marks in which the third node gives the second a cheaper way.
+fn rewired(alloc: Global) -> Result<Grown, Memory> {
+    let marks = [
+        Point { x: 0, y: 50 },
+        Point { x: 40, y: 79 },
+        Point { x: 40, y: 30 },
+    ];
+    let task = task_of(alloc, 100, Point { x: 0, y: 0 }, &marks)?;
+    let knots = [
+        node(0, 0, 0, 0),
+        node(0, 50, 0, 12_800),
+        node(40, 79, 3, 25_344),
+        node(40, 30, 0, 12_800),
+    ];
+    let records = [
+        placed(0, 0, 0, 12_800, 1),
+        placed(1, 1, 1, 25_449, 2),
+        placed(2, 1, 0, 12_800, 2),
+    ];
+    let knots = Sequence::from_vec(Vec::from_slice(alloc, &knots)?);
+    let records = Sequence::from_vec(Vec::from_slice(alloc, &records)?);
+    Grown::pack(alloc, task, &knots, &records)
+}
+
+/// The start of the task as the one node of a run.
+fn start_packed(alloc: Global, task: Task) -> Result<Grown, Memory>
+    requires { ClearAt (space_of task.scene) task.scene.start }
+    ensures limit { IfOk result (λ grown. grown.limit ≡ 0) }
+{
+    let start = Some(Knot {
+        point: task.scene.start,
+        parent: 0,
+        cost: 0,
+    });
+    let knots = Sequence::from_vec(vec![in alloc; start]?);
+    let records = Sequence::from_vec(Vec::new(alloc));
+    Grown::pack(alloc, task, &knots, &records)
+}
+
+/// As many marks as a task may have.
+fn most_marks(alloc: Global) -> Result<Vec<Point>, Memory>
+    ensures { IfOk result (λ marks. IsTrue (is_plan (Listed marks.items))) }
+{
+    Ok(vec![in alloc; Point { x: 7, y: 9 }; MOST_MARKS as usize]?)
+}
+
+/// A node of a run; `None` if it is absent.
+fn node_of(grown: &Grown, node: u32) -> Option<Knot> {
+    let point = grown.point(node)?;
+    Some(Knot {
+        point,
+        parent: grown.parent(node),
+        cost: grown.cost(node),
+    })
+}
+
+/// Asserts that the run has handled none of so many marks, and has no node but its start.
+fn assert_start_alone(rt: &impl Abort, grown: &Grown, start: Point, marks: usize) {
+    assert_eq!(rt; grown.task().marks.len(), marks);
+    assert_eq!(rt; (grown.limit(), grown.count()), (0, 1));
+    assert_eq!(rt; node_of(grown, 0), node(start.x, start.y, 0, 0));
+    for absent in [1, 2, 3, 262_142, 262_143, 262_144, u32::MAX] {
+        assert_eq!(rt; node_of(grown, absent), None, "node {absent}");
+    }
+}
+
+#[test]
+fn holds_the_start_alone(rt: HostRuntime) -> Result<(), Fail> {
+    let start = Point { x: 3, y: 4 };
+    let marks = [Point { x: 30, y: 40 }, Point { x: 60, y: 80 }];
+    let grown = Grown::new(rt.alloc(), task_of(rt.alloc(), 100, start, &marks)?)?;
+    assert_start_alone(&rt, &grown, start, 2);
+    let grown = start_packed(rt.alloc(), task_of(rt.alloc(), 100, start, &marks)?)?;
+    assert_start_alone(&rt, &grown, start, 2);
+    Ok(())
+}
+
+#[test]
+fn holds_the_start_of_the_longest_task(rt: HostRuntime) -> Result<(), Fail> {
+    let start = Point { x: 100, y: 0 };
+    let marks = most_marks(rt.alloc())?;
+    let grown = Grown::new(rt.alloc(), task_of(rt.alloc(), 100, start, &marks)?)?;
+    assert_start_alone(&rt, &grown, start, 262_143);
+    let grown = start_packed(rt.alloc(), task_of(rt.alloc(), 100, start, &marks)?)?;
+    assert_start_alone(&rt, &grown, start, 262_143);
+    Ok(())
+}
+
+#[test]
+fn packs_a_run_in_which_a_node_was_rewired(rt: HostRuntime) -> Result<(), Fail> {
+    let grown = rewired(rt.alloc())?;
+    assert_eq!(rt; grown.task().marks.len(), 3);
+    assert_eq!(rt; (grown.limit(), grown.count()), (3, 4));
+    for (number, want) in [
+        (0, node(0, 0, 0, 0)),
+        (1, node(0, 50, 0, 12_800)),
+        (2, node(40, 79, 3, 25_344)),
+        (3, node(40, 30, 0, 12_800)),
+        (4, None),
+    ] {
+        assert_eq!(rt; node_of(&grown, number), want, "node {number}");
+    }
+    for (mark, want) in [
+        (0, placed(0, 0, 0, 12_800, 1)),
+        (1, placed(1, 1, 1, 25_449, 2)),
+        (2, placed(2, 1, 0, 12_800, 2)),
+    ] {
+        assert!(rt; mark < grown.limit());
+        assert_eq!(rt; grown.record_of(mark), want, "mark {mark}");
+    }
+    Ok(())
+}
