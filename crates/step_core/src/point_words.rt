@@ -47,6 +47,11 @@ mod tests {
             (1 << 63) + 40 * (1 << 20) + 30
         );
         assert_eq!(rt; pack_point(Point { x: 0, y: 0 }), 1 << 63);
+        let greatest = Point {
+            x: MOST_COORDINATE,
+            y: MOST_COORDINATE,
+        };
+        assert_eq!(rt; pack_point(greatest), (1 << 63) + (1 << 40) - 1);
     }
 
     #[test]

@@ -51,6 +51,10 @@ mod tests {
     fn packs_the_cost_above_the_parent(rt: HostRuntime) {
         assert_eq!(rt; pack_tree(3, 25_344), (1 << 63) + 25_344 * (1 << 18) + 3);
         assert_eq!(rt; pack_tree(0, 0), 1 << 63);
+        assert_eq!(rt;
+            pack_tree(262_143, (1 << 44) - 1),
+            (1 << 63) + (1 << 62) - 1
+        );
     }
 
     #[test]

@@ -5,7 +5,7 @@ ghost use Rattle.plan_model.specs.Clearance.{ClearAt};
 ghost use Rattle.plan_model.specs.ConfigurationSpace.{space_of};
 ghost use Rattle.plan_model.specs.Limits.{is_plan};
 ghost use Rattle.plan_model.specs.EmptyRooms.{empty_room};
-ghost use Rattle.plan_model.specs.Textbook.{placed_record, setup_of};
+ghost use Rattle.plan_model.specs.Textbook.{blocked_record, placed_record, same_record, setup_of};
 ghost use Rattle.plan_model.specs.Vectors.Shapes.{at};
 ghost use Rattle.plan_model.specs.declared.scenes.Marks.TheVariants.{Listed};
 
@@ -98,6 +98,47 @@ fn rewired(alloc: Global) -> Result<Grown, Memory> {
     Grown::pack(alloc, task, &knots, &records)
 }
 
+/// The record of a mark that worker 0 ended at a node.
+fn same(turn: u32, nearest: u32, node: u32) -> Record
+    ensures { result ≡ same_record turn nearest node }
+{
+    Record {
+        worker: 0,
+        turn,
+        nearest,
+        outcome: Outcome::Same(node),
+        first_parent: 0,
+        first_cost: 0,
+        class: 0,
+    }
+}
+
+/// The record of a mark that worker 0 found blocked.
+fn blocked(turn: u32, nearest: u32) -> Record
+    ensures { result ≡ blocked_record turn nearest }
+{
+    Record {
+        worker: 0,
+        turn,
+        nearest,
+        outcome: Outcome::Blocked,
+        first_parent: 0,
+        first_cost: 0,
+        class: 0,
+    }
+}
+
+/// The run of a mark at the start and of one that leads out of the room.
+fn stopped(alloc: Global) -> Result<Grown, Memory> {
+    let marks = [Point { x: 0, y: 0 }, Point { x: 0, y: 50 }];
+    let task = task_of(alloc, 40, Point { x: 0, y: 0 }, &marks)?;
+    let knots = [node(0, 0, 0, 0), None, None];
+    let records = [same(0, 0, 0), blocked(1, 0)];
+    let knots = Sequence::from_vec(Vec::from_slice(alloc, &knots)?);
+    let records = Sequence::from_vec(Vec::from_slice(alloc, &records)?);
+    Grown::pack(alloc, task, &knots, &records)
+}
+
 /// The start of the task as the one node of a run.
 fn start_packed(alloc: Global, task: Task) -> Result<Grown, Memory>
     requires { ClearAt (space_of task.scene) task.scene.start }
@@ -181,6 +222,21 @@ fn packs_a_run_in_which_a_node_was_rewired(rt: HostRuntime) -> Result<(), Fail> 
         (1, placed(1, 1, 1, 25_449, 2)),
         (2, placed(2, 1, 0, 12_800, 2)),
     ] {
+        assert!(rt; mark < grown.limit());
+        assert_eq!(rt; grown.record_of(mark), want, "mark {mark}");
+    }
+    Ok(())
+}
+
+#[test]
+fn packs_a_run_in_which_no_mark_was_placed(rt: HostRuntime) -> Result<(), Fail> {
+    let grown = stopped(rt.alloc())?;
+    assert_eq!(rt; (grown.limit(), grown.count()), (2, 1));
+    assert_eq!(rt; node_of(&grown, 0), node(0, 0, 0, 0));
+    for absent in [1, 2, 3] {
+        assert_eq!(rt; node_of(&grown, absent), None, "node {absent}");
+    }
+    for (mark, want) in [(0, same(0, 0, 0)), (1, blocked(1, 0))] {
         assert!(rt; mark < grown.limit());
         assert_eq!(rt; grown.record_of(mark), want, "mark {mark}");
     }

@@ -1,0 +1,120 @@
+-- The run is the textbook run of two marks of which none is placed.
+use Rattle.std.proofs.Common.{◌≡◌, ℕ, zero, suc, Option, Some, None, List, [], ◌∷◌, arith, refl, ◌∙◌, subst}
+use Rattle.plan_model.specs.declared.geometry.Point.{Point}
+use Rattle.plan_model.specs.declared.records.Record.{Record}
+use Rattle.plan_model.specs.declared.trees.Knot.{Knot}
+use Rattle.plan_model.specs.Clearance.{Clear, ClearAt}
+use Rattle.plan_model.specs.ClosedLaw.{IsClosed}
+use Rattle.plan_model.specs.ConfigurationSpace.{space_of}
+use Rattle.plan_model.specs.EmptyRooms.{empty_room}
+use Rattle.plan_model.specs.LeastPairs.{IsNotAbove}
+use Rattle.plan_model.specs.Nearness.{distance_to, IsNearest}
+use Rattle.plan_model.specs.PointsByNumber.{IsFree, IsPresent}
+use Rattle.plan_model.specs.Textbook.{Nodes, Setup, IsTextbookRun, blocked_record, same_record, setup_of}
+use Rattle.plan_model.specs.Trees.{points_of}
+use Rattle.plan_model.specs.TreeStates.{AreSameRuns, state_of}
+use Rattle.plan_model.specs.Vectors.Runs.{node}
+use Rattle.plan_model.specs.Vectors.Shapes.{at}
+use Rattle.plan_model.proofs.EmptyRoomClearance.{AreInRoom-from_clear}
+use Rattle.plan_model.proofs.LeastPairLaws.{IsNotAbove-refl}
+use Rattle.plan_model.proofs.OpenRoomMarks.{same_y}
+use Rattle.plan_model.proofs.SameTrees.{IsClosed-of_textbook}
+use Rattle.step_core.specs.PackedRuns.{state_of_lists}
+use Rattle.step_core.proofs.ListedRuns.{IsClosed-same_lists}
+use Rattle.step_core.proofs.grown.tests.stopped.Goals as goal
+
+abbrev low_setup : Setup
+low_setup = record { space = empty_room (at 40 40); step = 50; gamma = 1000 }
+
+abbrev marks : List Point
+marks = at 0 0 ∷ at 0 50 ∷ []
+
+abbrev entries : List Record
+entries = same_record 0 0 0 ∷ blocked_record 1 0 ∷ []
+
+abbrev knots : List (Option Knot)
+knots = Some (record { point = at 0 0; parent = 0; cost = 0 }) ∷ None ∷ None ∷ []
+
+-- the trees before each mark and after the last
+abbrev one : Nodes
+one = node (at 0 0) 0 ∷ []
+
+abbrev two : Nodes
+two = node (at 0 0) 0 ∷ None ∷ []
+
+abbrev three : Nodes
+three = node (at 0 0) 0 ∷ None ∷ None ∷ []
+
+-- the start is nearest, as the one node
+start_of_one : (q : Point) → IsNearest (points_of one) q 0
+start_of_one q = record { member = refl; not_above = not_above }
+  where
+    not_above : (i : ℕ) → IsPresent (points_of one) i → IsNotAbove (distance_to q (points_of one)) 0 i
+    not_above zero h = IsNotAbove-refl (distance_to q (points_of one)) 0
+    not_above (suc i) h = cc
+
+start_of_two : (q : Point) → IsNearest (points_of two) q 0
+start_of_two q = record { member = refl; not_above = not_above }
+  where
+    not_above : (i : ℕ) → IsPresent (points_of two) i → IsNotAbove (distance_to q (points_of two)) 0 i
+    not_above zero h = IsNotAbove-refl (distance_to q (points_of two)) 0
+    not_above (suc zero) h = cc
+    not_above (suc (suc i)) h = cc
+
+second_is_free : IsFree (points_of two) (at 0 50)
+second_is_free zero h = absurd (omega (arith, same_y (at 0 0) (at 0 50) h))
+second_is_free (suc zero) h = cc
+second_is_free (suc (suc i)) h = cc
+
+-- the second mark lies above the room
+second_is_blocked : ¬ Clear low_setup.space (at 0 0) (at 0 50)
+second_is_blocked clear =
+    let in_room = AreInRoom-from_clear low_setup.space (at 0 0) (at 0 50) clear in
+    absurd (omega (arith, in_room.last.vertical))
+
+run : IsTextbookRun low_setup (at 0 0) marks three entries
+run = (
+  two,
+  record { point = at 0 0; steers = record { nearest = start_of_one (at 0 0); reached = refl }; stands = refl; recorded = refl; added = refl },
+  (
+    three,
+    record {
+      point = at 0 50;
+      steers = record { nearest = start_of_two (at 0 50); reached = refl };
+      free = second_is_free;
+      blocked = second_is_blocked;
+      recorded = refl;
+      added = refl;
+    },
+    refl,
+  ),
+)
+
+same_run : AreSameRuns (state_of three entries) (state_of_lists knots entries)
+same_run = record { points = λ n. refl; parents = λ n h. refl; costs = costs; records = λ k. refl }
+  where
+    costs : (n : ℕ) → IsPresent (points_of three) n → (state_of_lists knots entries).cost n ≡ (state_of three entries).cost n
+    costs zero h = refl
+    costs (suc zero) h = cc
+    costs (suc (suc zero)) h = cc
+    costs (suc (suc (suc n))) h = cc
+
+-- so the run is closed
+closed : ClearAt low_setup.space (at 0 0) → IsClosed low_setup (at 0 0) marks 2 (state_of_lists knots entries)
+closed clear =
+    IsClosed-of_textbook low_setup (at 0 0) marks (state_of_lists knots entries) clear
+    (record { nodes = three; records = entries; run = run; same = same_run })
+
+pub pack-requires : goal.pack-requires
+pack-requires c =
+    let task = c.in_ok-task.task in
+    let same_knots : c.from_vec-knots.result ≡ knots =
+    c.from_vec-knots.ensures ∙ c.in_ok-from_slice.ensures.items ∙ (λ t. c.node.ensures t ∷ None ∷ None ∷ []) in
+    let same_records : c.from_vec-records.result ≡ entries =
+    c.from_vec-records.ensures ∙ c.in_ok-from_slice-2.ensures.items ∙ (λ t. c.same.ensures t ∷ c.blocked.ensures t ∷ []) in
+    let clear =
+    subst (λ setup. ClearAt setup.space (at 0 0)) c.in_ok-task.ensures.setup
+    (subst (ClearAt (space_of task.scene)) c.in_ok-task.ensures.start c.in_ok-task.ensures.clear) in
+    IsClosed-same_lists (setup_of task.scene) low_setup task.scene.start (at 0 0) task.marks marks c.from_vec-knots.result knots
+    c.from_vec-records.result entries c.in_ok-task.ensures.setup c.in_ok-task.ensures.start c.in_ok-task.ensures.marks same_knots same_records
+    (closed clear)
