@@ -39,3 +39,4 @@ pub mod CanonicalText
 pub mod Streams
 pub mod EmptyRooms
 pub mod Vectors
+pub mod HandledMarks

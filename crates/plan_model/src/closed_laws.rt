@@ -2,13 +2,15 @@
 
 ghost use Rattle.std.specs.Prelude.{◌≡◌, ℕ, suc, ◌+◌, ◌<◌, List, length};
 ghost use Rattle.plan_model.specs.Clearance.{ClearAt};
-ghost use Rattle.plan_model.specs.ClosedLaw.{IsClosed, outcome_count};
+ghost use Rattle.plan_model.specs.ClosedLaw.{IsClosed, mark_at, outcome_count};
+ghost use Rattle.plan_model.specs.HandledMarks.{IsHandledWhole, with_mark};
 ghost use Rattle.plan_model.specs.OrderLaw.{KeepsFirstCosts};
 ghost use Rattle.plan_model.specs.PointsByNumber.{IsPresent, node_count};
 ghost use Rattle.plan_model.specs.Textbook.{IsTextbookRun, Nodes, Setup};
 ghost use Rattle.plan_model.specs.SameRuns.{IsOfTextbookRun};
-ghost use Rattle.plan_model.specs.TreeStates.{IsSettled, TreeState, state_of};
+ghost use Rattle.plan_model.specs.TreeStates.{GrowsInto, IsSettled, TreeState, state_of};
 ghost use Rattle.plan_model.specs.declared.geometry.Point.{Point};
+ghost use Rattle.plan_model.specs.declared.limits.TheConstants.{MOST_WORKERS};
 ghost use Rattle.plan_model.specs.declared.records.Record.{Record};
 
 /// A textbook run from a clear start is closed at the number of its marks.
@@ -47,4 +49,17 @@ pub fn marks_of_closed_runs_add_up()
     ensures nodes { (setup : Setup) (start : Point) (marks : List Point) (limit : ℕ) (state : TreeState)
         → IsClosed setup start marks limit state
         → node_count state.points ≡ suc (outcome_count state.record_of limit 0) }
+{}
+
+/// If the next mark is handled whole by all that a closed run holds, the run with it is closed, and has grown: its nodes and
+/// records stand, and no cost rose.
+pub fn handled_marks_close_runs()
+    ensures closed { (setup : Setup) (start : Point) (marks : List Point) (k : ℕ) (state : TreeState) (entry : Record) (p : Point) (moved : List ℕ)
+        → IsClosed setup start marks k state → k < length marks → suc k < length state.points → entry.worker < MOST_WORKERS
+        → IsHandledWhole setup state k (mark_at marks k) entry p moved
+        → IsClosed setup start marks (suc k) (with_mark state k entry p moved) }
+    ensures grows { (setup : Setup) (start : Point) (marks : List Point) (k : ℕ) (state : TreeState) (entry : Record) (p : Point) (moved : List ℕ)
+        → IsClosed setup start marks k state → k < length marks → suc k < length state.points → entry.worker < MOST_WORKERS
+        → IsHandledWhole setup state k (mark_at marks k) entry p moved
+        → GrowsInto state (with_mark state k entry p moved) }
 {}
