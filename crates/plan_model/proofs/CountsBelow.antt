@@ -1,8 +1,8 @@
 -- How many numbers below a limit pass a test.
 use Rattle.std.proofs.Common.{◌≡◌, ℕ, zero, suc, ◌+◌, ◌-◌, ◌<◌, ◌≤◌, Bool, true, false, cond, [], ◌∷◌, ◌++◌, arith, refl, sym, ap, ◌∙◌, inl, inr}
-use Rattle.std.specs.Prelude.{count_by}
+use Rattle.std.specs.Prelude.{◌≢◌, count_by}
 use Rattle.std.specs.List.{range_with_len, sum_by}
-use Rattle.std.proofs.lemmas.Bool.{cases_lt, cases_Bool}
+use Rattle.std.proofs.lemmas.Bool.{cases_eq, cases_lt, cases_Bool}
 use Rattle.std.proofs.lemmas.List.Sums.{sum_by_push}
 
 range-more : (a n : ℕ) → range_with_len a (suc n) ≡ range_with_len a n ++ (a + n) ∷ []
@@ -57,4 +57,65 @@ count-limits test m n one other =
     elim (cases_lt m n) [
       | inl less ↦ sym (count-longer test m n (omega arith) one)
       | inr more ↦ count-longer test n m more other
+    ]
+
+-- ---- two tests
+
+pub one_or_none : (a b : Bool) → (a ≡ true → b ≡ true) → cond a 1 0 ≤ cond b 1 0
+one_or_none false b h = omega arith
+one_or_none true b h =
+    let here : ◌≡◌ {A = ℕ} (cond b 1 0) 1 = ap (λ t. cond {A = ℕ} t 1 0) (h refl) in
+    omega (arith, here)
+
+-- no fewer pass a test that passes all that another does
+pub count-wider :
+    (one other : ℕ → Bool) (n : ℕ) → ((i : ℕ) → one i ≡ true → other i ≡ true)
+    → count_by one (range_with_len 0 n) ≤ count_by other (range_with_len 0 n)
+count-wider one other zero wider = omega arith
+count-wider one other (suc n) wider =
+    omega (arith, count-more one n, count-more other n, count-wider one other n wider, one_or_none (one n) (other n) (wider n))
+
+-- one more passes a test that passes one number more
+pub count-one_more :
+    (one other : ℕ → Bool) (n j : ℕ) → j < n → one j ≡ false → other j ≡ true → ((i : ℕ) → i ≢ j → other i ≡ one i)
+    → count_by other (range_with_len 0 n) ≡ suc (count_by one (range_with_len 0 n))
+count-one_more one other zero j below fails passes same = absurd (omega (arith, below))
+count-one_more one other (suc n) j below fails passes same =
+    elim (cases_eq j n) [
+      | inl e ↦ (
+          let none : ◌≡◌ {A = ℕ} (cond (one n) 1 0) 0 = ap (λ b. cond {A = ℕ} b 1 0) (ap one (sym e) ∙ fails) in
+          let some : ◌≡◌ {A = ℕ} (cond (other n) 1 0) 1 = ap (λ b. cond {A = ℕ} b 1 0) (ap other (sym e) ∙ passes) in
+          let before = count-same other one n (λ i low. same i (λ f. omega (arith, low, e, f))) in
+          omega (arith, count-more one n, count-more other n, before, none, some))
+      | inr apart ↦ (
+          let before = count-one_more one other n j (omega (arith, below, apart)) fails passes same in
+          let here = ap (λ b. cond {A = ℕ} b 1 0) (same n (λ f. apart (sym f))) in
+          omega (arith, count-more one n, count-more other n, before, here))
+    ]
+
+-- a number below the limit fails one test and passes the other
+pub record TellsApart (one other : ℕ → Bool) (n : ℕ) : Type 0 where
+  pub number : ℕ
+  pub below : number < n
+  pub fails : one number ≡ false
+  pub passes : other number ≡ true
+
+fails_and_passes : (a b : Bool) → cond {A = ℕ} a 1 0 < cond {A = ℕ} b 1 0 → (a ≡ false) × (b ≡ true)
+fails_and_passes false true h = (refl, refl)
+fails_and_passes false false h = absurd (omega (arith, h))
+fails_and_passes true false h = absurd (omega (arith, h))
+fails_and_passes true true h = absurd (omega (arith, h))
+
+-- there is one if fewer pass the one than the other
+pub count-less :
+    (one other : ℕ → Bool) (n : ℕ) → count_by one (range_with_len 0 n) < count_by other (range_with_len 0 n) → TellsApart one other n
+count-less one other zero less = absurd (omega (arith, less))
+count-less one other (suc n) less =
+    elim (cases_lt (count_by one (range_with_len 0 n)) (count_by other (range_with_len 0 n))) [
+      | inl before ↦ (
+          let found = count-less one other n before in
+          record { number = found.number; below = omega (arith, found.below); fails = found.fails; passes = found.passes })
+      | inr no_fewer ↦ (
+          let here = fails_and_passes (one n) (other n) (omega (arith, count-more one n, count-more other n, less, no_fewer)) in
+          record { number = n; below = omega arith; fails = here.0; passes = here.1 })
     ]

@@ -42,11 +42,14 @@ pub mod NodeCounts
 pub mod TreeStateLaws
 pub mod OrderLaws
 pub mod LoweredCosts
+pub mod MovedNodes
 pub mod AddedNodes
 pub mod EarlierNodes
 pub mod RecordLaws
 pub mod CountLaws
 pub mod ClosedLaws
+pub mod NextRecords
+pub mod WorkerTurns
 pub mod OrderedTrees
 pub mod SameTrees
 pub mod TextbookStates

@@ -7,6 +7,7 @@ use Rattle.std.proofs.lemmas.List.Sums.{sum_by-cons, count_by-le-length}
 use Rattle.plan_model.specs.declared.geometry.Point.{Point}
 use Rattle.plan_model.specs.PointsByNumber.{point_at, IsPresent, node_count}
 use Rattle.plan_model.proofs.ChainLaws.{node_count-cons}
+use Rattle.plan_model.proofs.CountsBelow.{one_or_none}
 
 -- the points from number 1 on
 abbrev rest : List (Option Point) → List (Option Point)
@@ -24,12 +25,6 @@ point_at-rest (o ∷ points) i = refl
 length-rest : (points : List (Option Point)) (n : ℕ) → length points ≤ suc n → length (rest points) ≤ n
 length-rest [] n h = omega arith
 length-rest (o ∷ points) n h = omega (arith, h)
-
-one_or_none : (a b : Bool) → (a ≡ true → b ≡ true) → cond a 1 0 ≤ cond b 1 0
-one_or_none false b h = omega arith
-one_or_none true b h =
-    let here : ◌≡◌ {A = ℕ} (cond b 1 0) 1 = ap (λ t. cond {A = ℕ} t 1 0) (h refl) in
-    omega (arith, here)
 
 -- if each node of the one list is present in the other, the other has as many at least
 pub node_count-le : (one other : List (Option Point)) → ((i : ℕ) → IsPresent one i → IsPresent other i) → node_count one ≤ node_count other
