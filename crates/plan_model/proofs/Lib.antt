@@ -50,10 +50,13 @@ pub mod CountLaws
 pub mod ClosedLaws
 pub mod NextRecords
 pub mod WorkerTurns
+pub mod NextMarks
 pub mod OrderedTrees
 pub mod SameTrees
 pub mod TextbookStates
 pub mod NearNodes
+pub mod PlacedMarks
+pub mod HandledMarks
 pub mod TextbookRewiring
 pub mod TextbookMarks
 pub mod TextbookRuns

@@ -1,0 +1,225 @@
+-- The next mark of a closed run: if the tree has grown in the order law and the new record is lawful, the run with it is closed.
+use Rattle.std.proofs.Common.{◌≡◌, ℕ, zero, suc, ◌<◌, ◌≤◌, Bool, false, List, length, Some, None, arith, sym, ap, ◌∙◌, subst, inl, inr}
+use Rattle.std.specs.Prelude.{◌≢◌, ◌↔◌, ◌⊎◌, is_some}
+use Rattle.std.specs.List.{range_with_len}
+use Rattle.std.proofs.lemmas.Bool.{cases_eq, cases_lt, true≢false}
+use Rattle.std.proofs.lemmas.List.Sums.{length-filter}
+use Rattle.plan_model.specs.declared.geometry.Point.{Point}
+use Rattle.plan_model.specs.declared.limits.TheConstants.{MOST_WORKERS}
+use Rattle.plan_model.specs.declared.records.Outcome.{Outcome}
+use Rattle.plan_model.specs.declared.records.Outcome.TheVariants.{Placed, Same, Blocked}
+use Rattle.plan_model.specs.declared.records.Record.{Record}
+use Rattle.plan_model.specs.Clearance.{Clear}
+use Rattle.plan_model.specs.PointsByNumber.{StandsAt, IsPresent, IsFree, point_of, node_count}
+use Rattle.plan_model.specs.Steering.{steered}
+use Rattle.plan_model.specs.TreeStates.{TreeState, GrowsInto}
+use Rattle.plan_model.specs.OrderLaw.{KeepsOrder}
+use Rattle.plan_model.specs.RecordLaw.{is_placed, is_earlier_record, is_earlier, IsEarlier, earlier_count, IsBlockedLawfully, HasLawfulOutcome, IsLawfulRecord}
+use Rattle.plan_model.specs.ClosedLaw.{mark_at, IsClosed}
+use Rattle.plan_model.specs.HandledMarks.{IsBlockedWhole, EndsBy, turns_of}
+use Rattle.plan_model.specs.Textbook.{Setup, SteersTo}
+use Rattle.plan_model.proofs.NodeCounts.{count-le_node_count}
+use Rattle.plan_model.proofs.TreeStateLaws.{IsPresent-grows, point_of-grows, StandsAt-before}
+use Rattle.plan_model.proofs.OrderLaws.{start-present}
+use Rattle.plan_model.proofs.LoweredCosts.{AddsRecord, LowersCosts, LowersCosts-adds_record, GrowsInto-lowered, KeepsOrder-lowered}
+use Rattle.plan_model.proofs.EarlierNodes.{earlier-present, HaveSameEarlier, not_earlier, is_earlier-same}
+use Rattle.plan_model.proofs.RecordLaws.{IsNotAbove-grows, IsLawfulRecord-grows}
+use Rattle.plan_model.proofs.NextRecords.{RecordsMark, new_or_recorded, recorded_apart, AreRecordedBelow-next}
+use Rattle.plan_model.proofs.WorkerTurns.{turn-new, AreTurns-next}
+
+-- What the end of mark k leaves: the tree has grown in the order law, and the new record is lawful. If it was placed its node is
+-- there, and no other node is new.
+pub record EndsLawfully (setup : Setup) (start : Point) (before after : TreeState) (k : ℕ) (mark : Point) (entry : Record) : Type 0 where
+  pub records : RecordsMark before.record_of after.record_of k entry
+  pub order : KeepsOrder setup start after
+  pub grows : GrowsInto before after
+  pub lawful : IsLawfulRecord setup after k mark entry
+  pub others : (j : ℕ) → j ≢ k → IsPresent after.points (suc j) → IsPresent before.points (suc j)
+  pub own : IsPresent after.points (suc k) ↔ (entry.outcome ≡ Placed)
+
+module _ (setup : Setup) (start : Point) (marks : List Point) (k : ℕ) (before : TreeState) (closed : IsClosed setup start marks k before) where
+  -- a mark with a record is below the limit
+  pub recorded_below : (j : ℕ) (own : Record) → before.record_of j ≡ Some own → j < k
+  recorded_below j own h =
+      elim (cases_lt j k) [
+        | inl below ↦ below
+        | inr past ↦ (let none = sym (closed.records.none_else j past) ∙ h in cc)
+      ]
+
+  -- the next mark has no record, and no node
+  pub record-absent : before.record_of k ≡ None
+  record-absent = closed.records.none_else k (omega arith)
+
+  pub node-absent : ¬ IsPresent before.points (suc k)
+  node-absent h =
+      let own = (closed.placed k).0 h in
+      let none = sym record-absent ∙ own.1 in
+      cc
+
+  module _ (after : TreeState) (entry : Record) where
+    -- ---- closing
+
+    module _ (ends : EndsLawfully setup start before after k (mark_at marks k) entry) (turn : entry.turn ≡ turns_of before.record_of k entry.worker) where
+      -- the earlier nodes of the other records stay the same
+      same_earlier : (j : ℕ) (own : Record) → before.record_of j ≡ Some own → HaveSameEarlier before after own
+      same_earlier j own h = record {
+        same =
+            is_earlier-same before after k entry own (record {
+              absent = ends.records.absent;
+              recorded = ends.records.recorded;
+              others = ends.records.others;
+              later = later;
+            });
+        present = earlier-present before own (start-present setup start before closed.order) closed.placed;
+      }
+        where
+          later : (entry.worker ≢ own.worker) ⊎ (own.turn ≤ entry.turn)
+          later =
+              elim (cases_eq entry.worker own.worker) [
+                | inl e ↦ (
+                    let less = turn-new before.record_of after.record_of k entry ends.records closed.turns recorded_below turn j own h (sym e) in
+                    inr (omega (arith, less)))
+                | inr apart ↦ inl apart
+              ]
+
+      lawful_next : (j : ℕ) (own : Record) → after.record_of j ≡ Some own → IsLawfulRecord setup after j (mark_at marks j) own
+      lawful_next j own h =
+          elim (new_or_recorded before.record_of after.record_of k entry ends.records j own h) [
+            | inl new ↦ (
+                let of_own : IsLawfulRecord setup after k (mark_at marks k) own =
+                subst (λ r. IsLawfulRecord setup after k (mark_at marks k) r) (sym new.1) ends.lawful in
+                subst (λ n. IsLawfulRecord setup after n (mark_at marks n) own) (sym new.0) of_own)
+            | inr old ↦
+                IsLawfulRecord-grows setup before after ends.grows own (same_earlier j own old) j (mark_at marks j) (closed.lawful j own old)
+          ]
+
+      worker_next : entry.worker < MOST_WORKERS → (j : ℕ) (own : Record) → after.record_of j ≡ Some own → own.worker < MOST_WORKERS
+      worker_next few j own h =
+          elim (new_or_recorded before.record_of after.record_of k entry ends.records j own h) [
+            | inl new ↦ subst (λ r. r.worker < MOST_WORKERS) (sym new.1) few
+            | inr old ↦ closed.workers j own old
+          ]
+
+      placed_to : (j : ℕ) → IsPresent after.points (suc j) → (own : Record) × (after.record_of j ≡ Some own) × (own.outcome ≡ Placed)
+      placed_to j h =
+          elim (cases_eq j k) [
+            | inl e ↦ (
+              entry,
+              ap after.record_of e ∙ ends.records.recorded,
+              ends.own.0 (subst (λ n. IsPresent after.points (suc n)) e h),
+            )
+            | inr apart ↦ (
+                let old = (closed.placed j).0 (ends.others j apart h) in
+                (old.0, ends.records.others j apart ∙ old.1, old.2))
+          ]
+
+      placed_from : (j : ℕ) → (own : Record) × (after.record_of j ≡ Some own) × (own.outcome ≡ Placed) → IsPresent after.points (suc j)
+      placed_from j (own, h, placed) =
+          elim (new_or_recorded before.record_of after.record_of k entry ends.records j own h) [
+            | inl new ↦ (
+                let present = ends.own.1 (sym (ap (λ r. r.outcome) new.1) ∙ placed) in
+                subst (λ n. IsPresent after.points (suc n)) (sym new.0) present)
+            | inr old ↦ IsPresent-grows before after ends.grows (suc j) ((closed.placed j).1 (own, old, placed))
+          ]
+
+      -- A closed run whose next mark ends lawfully is closed at the next limit.
+      pub IsClosed-next : k < length marks → entry.worker < MOST_WORKERS → IsClosed setup start marks (suc k) after
+      IsClosed-next below few = record {
+        order = ends.order;
+        within = below;
+        records = AreRecordedBelow-next before.record_of after.record_of k entry ends.records closed.records;
+        workers = worker_next few;
+        turns = AreTurns-next before.record_of after.record_of k entry ends.records closed.turns recorded_below turn;
+        lawful = lawful_next;
+        placed = λ j. (placed_to j, placed_from j);
+      }
+
+    -- ---- the new record
+
+    module _ (records : RecordsMark before.record_of after.record_of k entry) (grows : GrowsInto before after) where
+      -- what stood earlier by the records was present
+      pub early-present : (i : ℕ) → IsEarlier after entry i → IsPresent before.points i
+      early-present zero h = start-present setup start before closed.order
+      early-present (suc j) h =
+          elim (cases_eq j k) [
+            | inl e ↦ (
+                let here = ap after.record_of e ∙ records.recorded in
+                let not_before : is_earlier_record entry (after.record_of j) ≡ false =
+                ap (is_earlier_record entry) here ∙ not_earlier entry entry (inr (omega arith)) in
+                absurd (true≢false (sym h ∙ not_before)))
+            | inr apart ↦
+                earlier-present before entry (start-present setup start before closed.order) closed.placed (suc j)
+                (sym (ap (is_earlier_record entry) (records.others j apart)) ∙ h)
+          ]
+
+      pub earlier_count-le : earlier_count after entry ≤ node_count before.points
+      earlier_count-le =
+          let early : ℕ → Bool = is_earlier after entry in
+          omega (
+            arith,
+            length-filter early (range_with_len 0 (length after.points)),
+            count-le_node_count before.points early (length after.points) early-present,
+          )
+
+      -- The record is lawful if its outcome is.
+      pub IsLawfulRecord-outcome :
+          (mark p : Point) → SteersTo setup before.points mark entry.nearest p → HasLawfulOutcome setup after k entry p entry.outcome
+          → IsLawfulRecord setup after k mark entry
+      IsLawfulRecord-outcome mark p steers h =
+          let m : ℕ = entry.nearest in
+          let same = point_of-grows before after grows m steers.nearest.member in
+          let point : p ≡ steered (point_of after.points m) mark setup.step =
+          steers.reached ∙ ap (λ a. steered a mark setup.step) (sym same) in
+          record {
+            present = IsPresent-grows before after grows m steers.nearest.member;
+            nearest = λ i early.
+                let here = early-present i early in
+                IsNotAbove-grows before after grows mark m i steers.nearest.member here (steers.nearest.not_above i here);
+            outcome = subst (λ q. HasLawfulOutcome setup after k entry q entry.outcome) point h;
+          }
+
+    -- ---- marks that are not placed
+
+    module _ (mark p : Point) (steers : SteersTo setup before.points mark entry.nearest p) (adds : AddsRecord before after k entry) where
+      lowers : LowersCosts setup before after
+      lowers = LowersCosts-adds_record setup start before after k entry closed.order adds
+
+      grows_unplaced : GrowsInto before after
+      grows_unplaced = GrowsInto-lowered setup before after lowers
+
+      records_unplaced : RecordsMark before.record_of after.record_of k entry
+      records_unplaced = record { absent = adds.absent; recorded = adds.recorded; others = adds.records }
+
+      -- what is blocked is so lawfully
+      blocked_lawfully : IsBlockedWhole setup before entry p → IsBlockedLawfully setup after entry p
+      blocked_lawfully h = record {
+        blocked = λ clear.
+            let same = point_of-grows before after grows_unplaced entry.nearest steers.nearest.member in
+            h.blocked (subst (λ a. Clear setup.space a p) same clear);
+        free = λ i early stands.
+            let here = early-present records_unplaced grows_unplaced i early in
+            h.free i (StandsAt-before before after grows_unplaced i p here stands);
+      }
+
+      outcome_unplaced : (moved : List ℕ) (outcome : Outcome) → is_placed outcome ≡ false → EndsBy setup before entry p moved outcome
+          → HasLawfulOutcome setup after k entry p outcome
+      outcome_unplaced moved Placed unplaced h = cc
+      outcome_unplaced moved (Same j) unplaced h = grows_unplaced.nodes j p h
+      outcome_unplaced moved Blocked unplaced h = blocked_lawfully h
+
+      -- A mark that is not placed ends lawfully if its outcome is what it says.
+      pub EndsLawfully-unplaced :
+          (moved : List ℕ) → is_placed entry.outcome ≡ false → EndsBy setup before entry p moved entry.outcome
+          → EndsLawfully setup start before after k mark entry
+      EndsLawfully-unplaced moved unplaced h = record {
+        records = records_unplaced;
+        order = KeepsOrder-lowered setup before after lowers start closed.order;
+        grows = grows_unplaced;
+        lawful =
+            IsLawfulRecord-outcome records_unplaced grows_unplaced mark p steers (outcome_unplaced moved entry.outcome unplaced h);
+        others = λ j apart present. ap is_some (sym (lowers.still.points (suc j))) ∙ present;
+        own = (
+          (λ present. absurd (node-absent (ap is_some (sym (lowers.still.points (suc k))) ∙ present))),
+          (λ placed. absurd (true≢false (sym (ap is_placed placed) ∙ unplaced))),
+        );
+      }

@@ -1,0 +1,165 @@
+-- A mark that is placed by all that a closed run holds, and its record, which is lawful in the tree with the new node.
+use Rattle.std.proofs.Common.{◌≡◌, ℕ, suc, ◌+◌, ◌≤◌, List, Option, Some, None, arith, refl, sym, ap, ◌∙◌, subst}
+use Rattle.std.specs.Prelude.{◌≢◌, Contains, IsTrue, is_some}
+use Rattle.plan_model.specs.declared.geometry.Point.{Point}
+use Rattle.plan_model.specs.declared.records.Outcome.{Outcome}
+use Rattle.plan_model.specs.declared.records.Outcome.TheVariants.{Placed}
+use Rattle.plan_model.specs.declared.records.Record.{Record}
+use Rattle.plan_model.specs.Clearance.{Clear}
+use Rattle.plan_model.specs.Cost.{cost_of}
+use Rattle.plan_model.specs.LeastPairs.{IsFirstLeast}
+use Rattle.plan_model.specs.Nearness.{is_within}
+use Rattle.plan_model.specs.PointsByNumber.{point_at, StandsAt, IsPresent, point_of, node_count}
+use Rattle.plan_model.specs.Radius.{class_of, radius_of, radius_of_class}
+use Rattle.plan_model.specs.TreeStates.{TreeState, recorded_or, first_cost_of, GrowsInto}
+use Rattle.plan_model.specs.OrderLaw.{IsAllowedEdge, KeepsOrder, KeepsFirstCosts}
+use Rattle.plan_model.specs.RecordLaw.{earlier_count, IsNeighbour, first_cost_through, IsChosenLawfully, HangsLawfully, HasLawfulOutcome}
+use Rattle.plan_model.specs.ClosedLaw.{IsClosed}
+use Rattle.plan_model.specs.HandledMarks.{kept_cost_through}
+use Rattle.plan_model.specs.Textbook.{Setup, near_new, IsCandidate, SteersTo}
+use Rattle.plan_model.proofs.NewNodes.{IsPresent-stands}
+use Rattle.plan_model.proofs.TreeStateLaws.{IsPresent-grows, point_at-grows, point_of-grows, cost-grows, node_count-grows}
+use Rattle.plan_model.proofs.ClosedLaws.{KeepsFirstCosts-closed}
+use Rattle.plan_model.proofs.RecordLaws.{class_of-le}
+use Rattle.plan_model.proofs.NearNodes.{IsReachable, candidate-reachable, Contains-near, Contains-after}
+use Rattle.plan_model.proofs.NextRecords.{RecordsMark}
+use Rattle.plan_model.proofs.NextMarks.{EndsLawfully, node-absent, early-present, earlier_count-le, IsLawfulRecord-outcome}
+
+-- A parent for a new node at p is chosen by kept costs: the candidate with the least pair of cost through it and number.
+pub record ChoosesParent (setup : Setup) (before : TreeState) (mark : Point) (entry : Record) (p : Point) : Type 0 where
+  pub steers : SteersTo setup before.points mark entry.nearest p
+  pub clear : Clear setup.space (point_of before.points entry.nearest) p
+  pub parent : IsFirstLeast (kept_cost_through before p) (IsCandidate setup before.points entry.nearest p) entry.first_parent
+  pub cost : entry.first_cost ≡ kept_cost_through before p entry.first_parent
+  pub of_class : entry.class ≡ class_of (node_count before.points)
+
+-- What the placing of mark k leaves: the tree has grown by its node alone in the order law, and no near node with a clear edge is
+-- dearer than by way of it.
+pub record LeavesPlaced (setup : Setup) (start : Point) (before after : TreeState) (k : ℕ) (entry : Record) (p : Point) : Type 0 where
+  pub records : RecordsMark before.record_of after.record_of k entry
+  pub order : KeepsOrder setup start after
+  pub grows : GrowsInto before after
+  pub firsts : KeepsFirstCosts setup after
+  pub stands : StandsAt after.points (suc k) p
+  pub elsewhere : (i : ℕ) → i ≢ suc k → point_at after.points i ≡ point_at before.points i
+  pub reached : (i : ℕ) → Contains (near_new setup before.points p) i → Clear setup.space (point_of before.points i) p
+      → after.cost i ≤ entry.first_cost + cost_of (point_of before.points i) p
+
+module _
+    (setup : Setup) (start : Point) (marks : List Point) (k : ℕ) (before after : TreeState) (mark : Point) (entry : Record) (p : Point)
+    (closed : IsClosed setup start marks k before) (chooses : ChoosesParent setup before mark entry p) where
+  abbrev f : ℕ
+  f = entry.first_parent
+
+  -- the first parent is present, and its edge is allowed
+  pub parent-reachable : IsReachable before.points p setup.step f
+  parent-reachable = candidate-reachable setup before.points mark entry.nearest p f chooses.steers chooses.parent.member
+
+  pub parent-allowed : IsAllowedEdge setup (point_of before.points f) p
+  parent-allowed = record { clear = chooses.parent.member.clear; short = parent-reachable.short }
+
+  module _ (leaves : LeavesPlaced setup start before after k entry p) where
+    early : (i : ℕ) → IsNeighbour setup after entry p i → IsPresent before.points i
+    early i h = early-present setup start marks k before closed after entry leaves.records leaves.grows i h.earlier
+
+    same_point : (i : ℕ) → IsPresent before.points i → point_of after.points i ≡ point_of before.points i
+    same_point i h = point_of-grows before after leaves.grows i h
+
+    same_edge : (i : ℕ) → IsPresent before.points i → cost_of (point_of after.points i) p ≡ cost_of (point_of before.points i) p
+    same_edge i h = ap (λ a. cost_of a p) (same_point i h)
+
+    -- ---- what the worker knows
+
+    -- no candidate was a cheaper parent
+    below_candidate : (i : ℕ) → IsPresent before.points i → IsCandidate setup before.points entry.nearest p i
+        → entry.first_cost ≤ first_cost_through after p i
+    below_candidate i h candidate =
+        let kept = (KeepsFirstCosts-closed setup start marks k before closed).kept i h in
+        omega (arith, chooses.cost, (chooses.parent.not_above i candidate).least, kept, leaves.grows.first_costs i h, same_edge i h)
+
+    neighbour_near : (i : ℕ) → IsNeighbour setup after entry p i → IsPresent before.points i → Contains (near_new setup before.points p) i
+    neighbour_near i h here =
+        let within : ℕ → Option Point → Type 0 = λ c o. IsTrue (is_within p (radius_of_class setup.step setup.gamma c) o) in
+        let of_class : within (class_of (node_count before.points)) (point_at after.points i) =
+        subst (λ c. within c (point_at after.points i)) chooses.of_class h.near in
+        let was : within (class_of (node_count before.points)) (point_at before.points i) =
+        subst (within (class_of (node_count before.points))) (point_at-grows before after leaves.grows i here) of_class in
+        Contains-near before.points p (radius_of setup.step setup.gamma (node_count before.points)) i was
+
+    neighbour_clear : (i : ℕ) → IsNeighbour setup after entry p i → IsPresent before.points i → Clear setup.space (point_of before.points i) p
+    neighbour_clear i h here = subst (λ a. Clear setup.space a p) (same_point i here) h.clear
+
+    chosen_lawfully : IsChosenLawfully setup after entry p (node_count after.points)
+    chosen_lawfully = record {
+      clear = subst (λ a. Clear setup.space a p) (sym (same_point entry.nearest chooses.steers.nearest.member)) chooses.clear;
+      of_class = record {
+        low =
+            omega (
+              arith,
+              chooses.of_class,
+              class_of-le (earlier_count after entry) (node_count before.points)
+                  (earlier_count-le setup start marks k before closed after entry leaves.records leaves.grows),
+            );
+        high =
+            omega (
+              arith,
+              chooses.of_class,
+              class_of-le (node_count before.points) (node_count after.points) (node_count-grows before after leaves.grows),
+            );
+      };
+      chosen = λ i h.
+          let here = early i h in
+          below_candidate i here (record {
+            among = Contains-after entry.nearest (near_new setup before.points p) i (neighbour_near i h here);
+            clear = neighbour_clear i h here;
+          });
+      rewired = λ i h.
+          let here = early i h in
+          omega (arith, leaves.reached i (neighbour_near i h here) (neighbour_clear i h here), same_edge i here);
+    }
+
+    -- ---- what the tree knows
+
+    own_first_cost : first_cost_of after (suc k) ≡ entry.first_cost
+    own_first_cost = ap (recorded_or (after.written_cost (suc k))) leaves.records.recorded
+
+    not_new : (i : ℕ) → IsPresent before.points i → i ≢ suc k
+    not_new i h e = node-absent setup start marks k before closed (subst (IsPresent before.points) e h)
+
+    hangs_lawfully : HangsLawfully setup after k entry p
+    hangs_lawfully =
+        let m : ℕ = entry.nearest in
+        let m_here : IsPresent before.points m = chooses.steers.nearest.member in
+        let f_here : IsPresent before.points f = parent-reachable.present in
+        let own = IsPresent-stands after.points (suc k) p leaves.stands in
+        record {
+          stands = leaves.stands;
+          parent = IsPresent-grows before after leaves.grows f f_here;
+          other = not_new f f_here;
+          nearest_other = not_new m m_here;
+          edge = subst (λ a. IsAllowedEdge setup a p) (sym (same_point f f_here)) parent-allowed;
+          above_kept = omega (arith, cost-grows before after leaves.grows f f_here, same_edge f f_here, chooses.cost);
+          below_first = below_candidate f f_here chooses.parent.member;
+          below_nearest = below_candidate m m_here (record { among = (0, omega arith, refl); clear = chooses.clear });
+          bounded = omega (arith, own_first_cost, leaves.firsts.bounded (suc k) own);
+          kept = omega (arith, own_first_cost, leaves.firsts.kept (suc k) own);
+        }
+
+    -- ---- the mark
+
+    outcome_lawful : (outcome : Outcome) → outcome ≡ Placed → HasLawfulOutcome setup after k entry p outcome
+    outcome_lawful outcome placed =
+        subst (λ o. HasLawfulOutcome setup after k entry p o) (sym placed) (record { by_worker = chosen_lawfully; by_tree = hangs_lawfully })
+
+    -- A placed mark ends lawfully.
+    pub EndsLawfully-placed : entry.outcome ≡ Placed → EndsLawfully setup start before after k mark entry
+    EndsLawfully-placed placed = record {
+      records = leaves.records;
+      order = leaves.order;
+      grows = leaves.grows;
+      lawful =
+          IsLawfulRecord-outcome setup start marks k before closed after entry leaves.records leaves.grows mark p chooses.steers
+          (outcome_lawful entry.outcome placed);
+      others = λ j apart h. ap is_some (sym (leaves.elsewhere (suc j) (λ e. apart (omega (arith, e))))) ∙ h;
+      own = ((λ h. placed), (λ e. IsPresent-stands after.points (suc k) p leaves.stands));
+    }
