@@ -18,6 +18,13 @@ count-more test n =
     let number : 0 + n ≡ n = omega arith in
     ap (sum_by own) (range-more 0 n ∙ ap (λ k. range_with_len 0 n ++ k ∷ []) number) ∙ sum_by_push own (range_with_len 0 n) n
 
+-- as many as the limit if all below pass
+pub count-all : (test : ℕ → Bool) (n : ℕ) → ((i : ℕ) → i < n → test i ≡ true) → count_by test (range_with_len 0 n) ≡ n
+count-all test zero all = refl
+count-all test (suc n) all =
+    let here : ◌≡◌ {A = ℕ} (cond (test n) 1 0) 1 = ap (λ b. cond {A = ℕ} b 1 0) (all n (omega arith)) in
+    omega (arith, count-more test n, count-all test n (λ i below. all i (omega arith)), here)
+
 -- as many pass two tests that agree below the limit
 pub count-same :
     (one other : ℕ → Bool) (n : ℕ) → ((i : ℕ) → i < n → one i ≡ other i) → count_by one (range_with_len 0 n) ≡ count_by other (range_with_len 0 n)

@@ -8,7 +8,7 @@ use Rattle.plan_model.specs.Clearance.{ClearAt}
 use Rattle.plan_model.specs.TreeStates.{state_of}
 use Rattle.plan_model.specs.ClosedLaw.{mark_at, IsClosed}
 use Rattle.plan_model.specs.Textbook.{Nodes, Setup, start_alone, HandlesAll, IsTextbookRun}
-use Rattle.plan_model.proofs.TextbookStates.{KeepsFirstCosts-start, IsClosed-start}
+use Rattle.plan_model.proofs.TextbookStates.{IsClosed-start}
 use Rattle.plan_model.proofs.TextbookMarks.{IsTextbookSoFar, IsTextbookSoFar-ends}
 
 -- before its first mark a run is closed
@@ -16,7 +16,6 @@ so_far_start : (setup : Setup) (start : Point) (marks : List Point) → ClearAt 
 so_far_start setup start marks clear = record {
   next = record { nodes = refl; marks = refl };
   closed = IsClosed-start setup start marks clear;
-  firsts = KeepsFirstCosts-start setup start;
   numbered = λ j own h. cc;
 }
 
