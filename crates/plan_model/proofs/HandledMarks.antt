@@ -1,7 +1,7 @@
 -- The next mark of a closed run is handled whole by all that the run holds: the run with it is closed, and has grown.
-use Rattle.std.proofs.Common.{◌≡◌, ℕ, zero, suc, ◌+◌, ◌<◌, ◌≤◌, ◌||◌, Bool, true, false, eqb, cond, List, [], ◌∷◌, length, Some, None, arith, refl, sym, ap, ◌∙◌, subst, inl, inr}
+use Rattle.std.proofs.Common.{◌≡◌, ℕ, zero, suc, ◌+◌, ◌<◌, ◌≤◌, ◌||◌, true, false, eqb, List, [], ◌∷◌, length, Some, None}
+use Rattle.std.proofs.Common.{arith, refl, sym, ap, ◌∙◌, subst, inl, inr}
 use Rattle.std.specs.Prelude.{◌≢◌, Contains}
-use Rattle.std.specs.List.{list_any}
 use Rattle.std.proofs.lemmas.Bool.{cases_Bool, cases_lt, cond-true, cond-false, eq-eqb, eqb-true, ne_eqb, or_left, or_right, true≢false}
 use Rattle.std.proofs.lemmas.List.{get_or-set_same, get_or-set_other}
 use Rattle.std.proofs.lemmas.List.Elements.{All-contains}
@@ -12,26 +12,12 @@ use Rattle.plan_model.specs.declared.records.Outcome.TheVariants.{Placed, Same, 
 use Rattle.plan_model.specs.declared.records.Record.{Record}
 use Rattle.plan_model.specs.Clearance.{Clear}
 use Rattle.plan_model.specs.Cost.{cost_of}
-use Rattle.plan_model.specs.Geometry.{squared_distance}
-use Rattle.plan_model.specs.PointsByNumber.{StandsAt, IsPresent, point_of}
+use Rattle.plan_model.specs.PointsByNumber.{IsPresent, point_of}
 use Rattle.plan_model.specs.TreeStates.{TreeState, recorded_or, first_cost_of, GrowsInto}
-use Rattle.plan_model.specs.OrderLaw.{IsAllowedEdge, KeepsFirstCosts}
+use Rattle.plan_model.specs.OrderLaw.{IsAllowedEdge}
 use Rattle.plan_model.specs.RecordLaw.{is_placed}
 use Rattle.plan_model.specs.ClosedLaw.{mark_at, IsClosed}
-use Rattle.plan_model.specs.HandledMarks.{
-  with_record,
-  with_node,
-  is_among,
-  with_moved,
-  with_outcome,
-  with_mark,
-  kept_cost_through,
-  IsCheaperBy,
-  IsPlacedWhole,
-  EndsBy,
-  turns_of,
-  IsHandledWhole,
-}
+use Rattle.plan_model.specs.HandledMarks.{with_record, with_node, is_among, with_moved, with_outcome, with_mark, IsCheaperBy, IsPlacedWhole, EndsBy, turns_of, IsHandledWhole}
 use Rattle.plan_model.specs.Textbook.{Setup, near_new, SteersTo}
 use Rattle.plan_model.proofs.CostLaws.{cost_of-swap}
 use Rattle.plan_model.proofs.SegmentLaws.{Clear-back}

@@ -10,7 +10,7 @@ use Rattle.plan_model.specs.declared.records.Outcome.{Outcome}
 use Rattle.plan_model.specs.declared.records.Outcome.TheVariants.{Placed, Same, Blocked}
 use Rattle.plan_model.specs.declared.records.Record.{Record}
 use Rattle.plan_model.specs.Clearance.{Clear}
-use Rattle.plan_model.specs.PointsByNumber.{StandsAt, IsPresent, IsFree, point_of, node_count}
+use Rattle.plan_model.specs.PointsByNumber.{IsPresent, point_of, node_count}
 use Rattle.plan_model.specs.Steering.{steered}
 use Rattle.plan_model.specs.TreeStates.{TreeState, GrowsInto}
 use Rattle.plan_model.specs.OrderLaw.{KeepsOrder}
@@ -24,7 +24,7 @@ use Rattle.plan_model.proofs.OrderLaws.{start-present}
 use Rattle.plan_model.proofs.LoweredCosts.{AddsRecord, LowersCosts, LowersCosts-adds_record, GrowsInto-lowered, KeepsOrder-lowered}
 use Rattle.plan_model.proofs.EarlierNodes.{earlier-present, HaveSameEarlier, not_earlier, is_earlier-same}
 use Rattle.plan_model.proofs.RecordLaws.{IsNotAbove-grows, IsLawfulRecord-grows}
-use Rattle.plan_model.proofs.NextRecords.{RecordsMark, new_or_recorded, recorded_apart, AreRecordedBelow-next}
+use Rattle.plan_model.proofs.NextRecords.{RecordsMark, new_or_recorded, AreRecordedBelow-next}
 use Rattle.plan_model.proofs.WorkerTurns.{turn-new, AreTurns-next}
 
 -- What the end of mark k leaves: the tree has grown in the order law, and the new record is lawful. If it was placed its node is

@@ -1,5 +1,5 @@
 -- One mark of a textbook run: a run that was closed before the mark is closed with it.
-use Rattle.std.proofs.Common.{◌≡◌, ℕ, zero, suc, ◌+◌, ◌<◌, ◌≤◌, Bool, true, false, List, [], ◌∷◌, ◌++◌, length, get_or, Some, None}
+use Rattle.std.proofs.Common.{◌≡◌, ℕ, suc, ◌+◌, ◌<◌, ◌≤◌, true, false, List, [], ◌∷◌, ◌++◌, length, get_or, Some, None}
 use Rattle.std.proofs.Common.{arith, refl, sym, ap, ◌∙◌, subst, inl, inr, length-append}
 use Rattle.std.specs.Prelude.{All, Contains, option_map, slice_get}
 use Rattle.std.proofs.lemmas.Bool.{eq-eqb}
@@ -31,10 +31,10 @@ use Rattle.plan_model.proofs.TreeStateLaws.{IsPresent-grows, point_of-grows, Gro
 use Rattle.plan_model.proofs.AddedNodes.{AddsNode, GrowsInto-adds, KeepsOrder-adds, KeepsFirstCosts-adds}
 use Rattle.plan_model.proofs.ClosedLaws.{KeepsFirstCosts-closed}
 use Rattle.plan_model.proofs.NearNodes.{squared_distance-swap, IsReachable, near_new-reachable}
+use Rattle.plan_model.proofs.NextRecords.{new_or_recorded}
 use Rattle.plan_model.proofs.NextMarks.{EndsLawfully, IsClosed-next, EndsLawfully-unplaced}
 use Rattle.plan_model.proofs.PlacedMarks.{ChoosesParent, LeavesPlaced, parent-reachable, parent-allowed, EndsLawfully-placed}
-use Rattle.plan_model.proofs.TextbookStates.{RecordsNext, record_of-new, record_of-other, record_of-cases, record_of-absent}
-use Rattle.plan_model.proofs.TextbookStates.{AddsRecord-unplaced, PlacesNode, sum-placed, AddsNode-placed}
+use Rattle.plan_model.proofs.TextbookStates.{RecordsNext, RecordsMark-push, AddsRecord-unplaced, PlacesNode, sum-placed, AddsNode-placed}
 use Rattle.plan_model.proofs.TextbookRewiring.{MayRewire, IsReached, Relaxes, Relaxes-all, AreReached-all}
 
 -- ---- runs so far
@@ -91,7 +91,7 @@ module _
             IsClosed-next setup start marks k before_mark so_far.closed after_mark entry lawfully (next_turn ends.worker ends.turn) below
             (omega (arith, most, ends.worker));
         numbered = λ j own h.
-            elim (record_of-cases tree records k entry so_far.next j own h) [
+            elim (new_or_recorded (slice_get records) (slice_get (records ++ entry ∷ [])) k entry ends.lawfully.records j own h) [
               | inl new ↦ (ap (λ r. r.worker) new.1 ∙ ends.worker, ap (λ r. r.turn) new.1 ∙ ends.turn ∙ sym new.0)
               | inr old ↦ so_far.numbered j own old
             ];
@@ -211,11 +211,7 @@ module _
 
     leaves : LeavesPlaced setup start before_mark after_mark k entry p
     leaves = record {
-      records = record {
-        absent = record_of-absent tree records k entry so_far.next;
-        recorded = record_of-new tree records k entry so_far.next;
-        others = record_of-other tree records k entry so_far.next;
-      };
+      records = RecordsMark-push tree records k entry so_far.next;
       order = relaxes.order;
       grows = GrowsInto-trans before_mark with_state after_mark grows_with relaxes.grows;
       firsts =

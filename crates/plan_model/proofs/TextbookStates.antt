@@ -1,8 +1,8 @@
 -- The state of a tree and the records of its marks, as in a textbook run: its costs, the start alone, and one number more.
-use Rattle.std.proofs.Common.{◌≡◌, ℕ, zero, suc, ◌≤◌, eqb, cond, List, [], ◌∷◌, ◌++◌, length, Some, None, arith, refl, sym, ap, ◌∙◌, subst, inl, inr}
-use Rattle.std.specs.Prelude.{◌≢◌, ◌⊎◌, slice_get}
-use Rattle.std.proofs.lemmas.Bool.{cases_eq, cond-true, cond-false, eq-eqb, ne_eqb}
-use Rattle.std.proofs.lemmas.Option.{same_Some, slice_get_past, slice_get_within}
+use Rattle.std.proofs.Common.{◌≡◌, ℕ, zero, suc, ◌≤◌, eqb, cond, List, [], ◌∷◌, ◌++◌, length, Some, None, arith, refl, sym, ap, ◌∙◌, subst}
+use Rattle.std.specs.Prelude.{◌≢◌, slice_get}
+use Rattle.std.proofs.lemmas.Bool.{cond-true, cond-false, eq-eqb, ne_eqb}
+use Rattle.std.proofs.lemmas.Option.{slice_get_past}
 use Rattle.plan_model.specs.declared.geometry.Point.{Point}
 use Rattle.plan_model.specs.declared.records.Record.{Record}
 use Rattle.plan_model.specs.declared.trees.Twig.{Twig}
@@ -10,7 +10,7 @@ use Rattle.plan_model.specs.Clearance.{ClearAt}
 use Rattle.plan_model.specs.PointsByNumber.{StandsAt, IsPresent, point_of, IsFree, node_count}
 use Rattle.plan_model.specs.Trees.{parent_of, points_of, parent_or_zero, sum_of, CostsFall, AreTight}
 use Rattle.plan_model.specs.TreeStates.{recorded_or, first_cost_of, state_of}
-use Rattle.plan_model.specs.OrderLaw.{IsAllowedEdge, most_cost_of, KeepsOrder, KeepsFirstCosts}
+use Rattle.plan_model.specs.OrderLaw.{IsAllowedEdge, most_cost_of, KeepsOrder}
 use Rattle.plan_model.specs.ClosedLaw.{IsClosed}
 use Rattle.plan_model.specs.Textbook.{Nodes, Setup, start_alone, cost_through}
 use Rattle.plan_model.proofs.ChainLaws.{sums-tight, AreTight-sums}
@@ -34,6 +34,7 @@ use Rattle.plan_model.proofs.OrderLaws.{cost-within_more}
 use Rattle.plan_model.proofs.LoweredCosts.{AddsRecord}
 use Rattle.plan_model.proofs.OrderedTrees.{FallAlong-ordered}
 use Rattle.plan_model.proofs.AddedNodes.{AddsNode}
+use Rattle.plan_model.proofs.NextRecords.{RecordsMark, still_recorded}
 
 -- ---- the start alone
 
@@ -56,19 +57,6 @@ KeepsOrder-start setup start clear = record {
         (n : ℕ) → IsPresent (points_of (start_alone start)) n
         → sum_of (start_alone start) n ≤ most_cost_of setup (node_count (points_of (start_alone start)))
     bounded zero h = let free : sum_of (start_alone start) 0 ≡ 0 = refl in omega (arith, free)
-    bounded (suc n) h = absurd (no_other start n h)
-
--- and no node costs more than it was placed at
-pub KeepsFirstCosts-start : (setup : Setup) (start : Point) → KeepsFirstCosts setup (state_of (start_alone start) [])
-KeepsFirstCosts-start setup start = record { kept = kept; bounded = bounded }
-  where
-    kept : (n : ℕ) → IsPresent (points_of (start_alone start)) n → sum_of (start_alone start) n ≤ first_cost_of (state_of (start_alone start) []) n
-    kept zero h = let free : sum_of (start_alone start) 0 ≡ 0 = refl in omega (arith, free)
-    kept (suc n) h = absurd (no_other start n h)
-
-    bounded : (n : ℕ) → IsPresent (points_of (start_alone start)) n
-        → first_cost_of (state_of (start_alone start) []) n ≤ most_cost_of setup (node_count (points_of (start_alone start)))
-    bounded zero h = omega arith
     bounded (suc n) h = absurd (no_other start n h)
 
 -- The start alone is a closed run of no marks, if it is clear.
@@ -116,22 +104,13 @@ pub record RecordsNext (tree : Nodes) (records : List Record) (k : ℕ) : Type 0
   pub marks : length records ≡ k
 
 module _ (tree : Nodes) (records : List Record) (k : ℕ) (entry : Record) (next : RecordsNext tree records k) where
-  pub record_of-new : slice_get (records ++ entry ∷ []) k ≡ Some entry
-  record_of-new = ap (slice_get (records ++ entry ∷ [])) (sym next.marks) ∙ slice_get-push_new records entry
-
-  pub record_of-other : (j : ℕ) → j ≢ k → slice_get (records ++ entry ∷ []) j ≡ slice_get records j
-  record_of-other j apart = slice_get-push_other records entry j (λ e. apart (e ∙ next.marks))
-
-  -- a record is the new one, or was there
-  pub record_of-cases : (j : ℕ) (own : Record) → slice_get (records ++ entry ∷ []) j ≡ Some own → ((j ≡ k) × (own ≡ entry)) ⊎ (slice_get records j ≡ Some own)
-  record_of-cases j own h =
-      elim (cases_eq j k) [
-        | inl e ↦ inl (e, same_Some own entry (sym h ∙ ap (slice_get (records ++ entry ∷ [])) e ∙ record_of-new))
-        | inr apart ↦ inr (sym (record_of-other j apart) ∙ h)
-      ]
-
-  pub record_of-absent : slice_get records k ≡ None
-  record_of-absent = slice_get_past records k (omega (arith, next.marks))
+  -- the next mark is recorded
+  pub RecordsMark-push : RecordsMark (slice_get records) (slice_get (records ++ entry ∷ [])) k entry
+  RecordsMark-push = record {
+    absent = slice_get_past records k (omega (arith, next.marks));
+    recorded = ap (slice_get (records ++ entry ∷ [])) (sym next.marks) ∙ slice_get-push_new records entry;
+    others = λ j apart. slice_get-push_other records entry j (λ e. apart (e ∙ next.marks));
+  }
 
   pub node-absent : ¬ IsPresent (points_of tree) (suc k)
   node-absent h = omega (arith, present_below tree (suc k) h, next.nodes)
@@ -145,9 +124,9 @@ module _ (tree : Nodes) (records : List Record) (k : ℕ) (entry : Record) (next
         parents = λ n h. ap parent_or_zero (node_at-absent tree n);
         costs = λ n h. sum-same (tree ++ None ∷ []) tree n (HaveSameNodes-absent tree);
         written_costs = λ n h. refl;
-        absent = record_of-absent;
-        recorded = record_of-new;
-        records = record_of-other;
+        absent = RecordsMark-push.absent;
+        recorded = RecordsMark-push.recorded;
+        records = RecordsMark-push.others;
         written = λ h. absurd (node-absent h);
       })
 
@@ -213,14 +192,13 @@ module _
   pub sum-placed : sum_of longer (suc k) ≡ cost_through tree p f
   sum-placed = sum_later (suc k) (IsPresent-stands (points_of longer) (suc k) p StandsAt-placed) ∙ later_new
 
+  recorded_next : RecordsMark (slice_get records) (slice_get (records ++ entry ∷ [])) k entry
+  recorded_next = RecordsMark-push tree records k entry next
+
   kept_first_costs :
       (n : ℕ) → IsPresent (points_of tree) n → first_cost_of (state_of longer (records ++ entry ∷ [])) n ≡ first_cost_of (state_of tree records) n
   kept_first_costs zero h = refl
-  kept_first_costs (suc j) h = ap (recorded_or 0) (record_of-other tree records k entry next j (λ e. present_apart (suc j) h (ap suc e)))
-
-  kept_records : (j : ℕ) (own : Record) → slice_get records j ≡ Some own → slice_get (records ++ entry ∷ []) j ≡ Some own
-  kept_records j own h =
-      record_of-other tree records k entry next j (λ e. omega (arith, slice_get_within records j own h, e, next.marks)) ∙ h
+  kept_first_costs (suc j) h = ap (recorded_or 0) (recorded_next.others j (λ e. present_apart (suc j) h (ap suc e)))
 
   -- The new node is added with its record.
   pub AddsNode-placed : AddsNode setup (state_of tree records) (state_of longer (records ++ entry ∷ [])) (suc k) f p
@@ -229,7 +207,7 @@ module _
       parents = parent_of-kept tree (suc k) node longer adds;
       costs = λ n h. sum_later n (IsPresent-kept tree (suc k) node longer adds n h) ∙ later_kept n h;
       first_costs = kept_first_costs;
-      records = kept_records;
+      records = still_recorded (slice_get records) (slice_get (records ++ entry ∷ [])) k entry recorded_next;
     };
     elsewhere = λ n apart. point_at-same longer tree n (adds.elsewhere n apart);
     absent = node-absent tree records k entry next;
@@ -240,5 +218,5 @@ module _
     parent = parent_of-new tree (suc k) node longer adds;
     above = omega (arith, sum-placed);
     within = omega (arith, sum-placed, cost-within_more setup start (state_of tree records) order f p places.parent places.edge);
-    first_cost = ap (recorded_or 0) (record_of-new tree records k entry next) ∙ places.cost ∙ sym sum-placed;
+    first_cost = ap (recorded_or 0) recorded_next.recorded ∙ places.cost ∙ sym sum-placed;
   }

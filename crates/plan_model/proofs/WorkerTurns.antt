@@ -1,10 +1,13 @@
 -- The turns of a worker are exactly the numbers below the number of its records, so that number is its next turn.
-use Rattle.std.proofs.Common.{◌≡◌, ℕ, zero, suc, ◌+◌, ◌<◌, ◌≤◌, Bool, true, false, cond, eqb, ltb, Option, Some, None, arith, refl, sym, ap, ◌∙◌, subst, inl, inr}
+use Rattle.std.proofs.Common.{◌≡◌, ℕ, zero, suc, ◌<◌, ◌≤◌, Bool, true, false, cond, eqb, ltb, Option, Some, None}
+use Rattle.std.proofs.Common.{arith, refl, sym, ap, ◌∙◌, subst, inl, inr}
 use Rattle.std.specs.Prelude.{◌≢◌, ◌&&◌, count_by}
 use Rattle.std.specs.List.{range_with_len}
 use Rattle.std.proofs.lemmas.Bool.{cases_eq, cases_lt, and_parts, and_from, and_left, and_right, eq-eqb, eqb-true, ne_eqb, ltb-true, lt-ltb, le-ltb, true≢false}
+use Rattle.std.proofs.lemmas.List.FromFn.{length-range_with_len}
+use Rattle.std.proofs.lemmas.List.Sums.{count_by-le-length}
 use Rattle.plan_model.specs.declared.records.Record.{Record}
-use Rattle.plan_model.specs.ClosedLaw.{AreTurns, AreRecordedBelow}
+use Rattle.plan_model.specs.ClosedLaw.{AreTurns}
 use Rattle.plan_model.specs.HandledMarks.{is_of_worker, turns_of}
 use Rattle.plan_model.proofs.CountsBelow.{count-more, count-same, count-longer, count-wider, count-one_more, count-less}
 use Rattle.plan_model.proofs.NextRecords.{RecordsMark, new_or_recorded, still_recorded}
@@ -100,6 +103,16 @@ module _ (record_of : ℕ → Option Record) (turns : AreTurns record_of) where
         count-wider (test (suc entry.turn)) (λ j. is_of_worker worker (record_of j)) limit
         (λ i h. turn_of_worker worker (suc entry.turn) (record_of i) h) in
         omega (arith, counted (suc entry.turn) all, some)
+
+    -- so it is below the limit
+    pub turn-below_limit : (k : ℕ) (entry : Record) → record_of k ≡ Some entry → entry.worker ≡ worker → entry.turn < limit
+    turn-below_limit k entry is own =
+        omega (
+          arith,
+          turn-below k entry is own,
+          count_by-le-length (λ j. is_of_worker worker (record_of j)) (range_with_len 0 limit),
+          length-range_with_len 0 limit,
+        )
 
     -- a record of the worker that has no turn below a number shows that this turn is there
     by_later : (t j : ℕ) (o : Option Record) → record_of j ≡ o → is_turn_below worker t o ≡ false → is_of_worker worker o ≡ true
