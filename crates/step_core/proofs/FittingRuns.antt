@@ -34,11 +34,11 @@ use Rattle.plan_model.proofs.NewNodes.{IsPresent-stands, point_of-stands}
 use Rattle.plan_model.proofs.OrderLaws.{parent-present}
 use Rattle.plan_model.proofs.RecordLaws.{class_of-le}
 use Rattle.plan_model.proofs.SegmentLaws.{Clear-last}
+use Rattle.plan_model.proofs.WorkerTurns.{turn-below_limit}
 use Rattle.step_core.specs.Words.{last_field}
 use Rattle.step_core.specs.GrownWords.{sizes_of}
 use Rattle.step_core.specs.PackedRuns.{kept_cost_of, state_of_lists, IsKnot, FitsNode, FitsRecord, FitWords}
 use Rattle.step_core.proofs.PackedStates.{point_at-lists, parent_of-lists}
-use Rattle.step_core.proofs.TurnCounts.{turn-below}
 
 zero_unless_placed :
     (o : Outcome) (parent cost class : ℕ) → (o ≡ Placed → ⊥) → is_zero_unless_placed o parent cost class ≡ true → (parent ≡ 0) × (cost ≡ 0)
@@ -123,11 +123,15 @@ module _
 
   -- ---- records
 
+  turn_below : (k : ℕ) (entry : Record) → slice_get records k ≡ Some entry → entry.turn < length records
+  turn_below k entry is =
+      turn-below_limit (slice_get records) closed.turns (length records) (λ j own h. slice_get_within records j own h) entry.worker k entry is refl
+
   fits_record : (k : ℕ) (entry : Record) → slice_get records k ≡ Some entry → FitsRecord entry
   fits_record k entry is = record {
     word = record {
       worker = closed.workers k entry is;
-      turn = omega (arith, turn-below records closed.turns k entry is, closed.within, length-marks task);
+      turn = omega (arith, turn_below k entry is, closed.within, length-marks task);
       nearest = small_number entry.nearest (closed.lawful k entry is).present;
       last = last entry.outcome refl (closed.lawful k entry is).outcome;
     };

@@ -13,6 +13,5 @@ pub mod PackedWritings
 pub mod LinkedNodes
 pub mod PackedStates
 pub mod PackedLists
-pub mod TurnCounts
 pub mod FittingRuns
 pub mod ListedRuns
