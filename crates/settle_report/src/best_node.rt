@@ -1,9 +1,10 @@
 //! The best node of a run: the cheapest of those that lie in the goal.
 
-ghost use Rattle.std.specs.Prelude.{◌≡◌, IfSome};
-ghost use Rattle.plan_model.specs.BestNode.{best_node};
-ghost use Rattle.plan_model.specs.PointsByNumber.{IsPresent};
-ghost use Rattle.plan_model.specs.TreeStates.{IsSettled};
+ghost use Rattle.std.specs.Prelude.{◌≡◌, IfSome, IsTrue};
+ghost use Rattle.plan_model.specs.BestNode.{best_node, lies_in_goal};
+ghost use Rattle.plan_model.specs.LeastPairs.{lesser};
+ghost use Rattle.plan_model.specs.PointsByNumber.{IsPresent, point_at};
+ghost use Rattle.plan_model.specs.TreeStates.{IsSettled, sum_in};
 ghost use Rattle.step_core.specs.GrownRuns.{state_of_grown};
 
 use step_core::Grown;
@@ -17,9 +18,10 @@ pub fn best(grown: &Grown) -> Option<u32>
     ensures value { result ≡ best_node grown.now.task.scene (state_of_grown grown.now) }
     ensures present { IfSome result (IsPresent (state_of_grown grown.now).points) }
 {
+    let numbers = grown.task().marks.len() as u32 + 1;
     let mut best: Option<u32> = None;
     // from the last number down, so that of equal costs the lesser number stays
-    for node in (0..=grown.task().marks.len() as u32).rev() {
+    for node in (0..numbers).rev() {
         if lies_in_goal(grown, node) {
             best = Some(better_node(grown, node, best));
         }
@@ -28,15 +30,24 @@ pub fn best(grown: &Grown) -> Option<u32>
 }
 
 /// Whether a node with this number is present and lies in the goal.
-fn lies_in_goal(grown: &Grown, node: u32) -> bool {
+fn lies_in_goal(grown: &Grown, node: u32) -> bool
+    ensures value { result ≡ lies_in_goal grown.now.task.scene (point_at (state_of_grown grown.now).points node) }
+    ensures present { IsTrue result → IsPresent (state_of_grown grown.now).points node }
+{
     match grown.point(node) {
         Some(point) => grown.task().scene.goal.contains(point),
         None => false,
     }
 }
 
-/// Of a node and perhaps a later one, the one with the lesser cost, the first if both are equal.
-fn better_node(grown: &Grown, node: u32, later: Option<u32>) -> u32 {
+/// Of a node and perhaps a later one, the one with the lesser cost-to-come, the first if both are equal.
+fn better_node(grown: &Grown, node: u32, later: Option<u32>) -> u32
+    requires settled { IsSettled (state_of_grown grown.now) }
+    requires present { IsPresent (state_of_grown grown.now).points node }
+    requires later { IfSome later (IsPresent (state_of_grown grown.now).points) }
+    ensures value { result ≡ lesser (sum_in (state_of_grown grown.now)) node later }
+    ensures present { IsPresent (state_of_grown grown.now).points result }
+{
     match later {
         Some(other) if grown.cost(other) < grown.cost(node) => other,
         _ => node,

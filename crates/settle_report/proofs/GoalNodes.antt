@@ -1,0 +1,27 @@
+-- The best of the nodes from some number on, one number after another.
+use Rattle.std.proofs.Common.{◌≡◌, ℕ, suc, ◌+◌, true, false, length, filter, Option, Some, refl}
+use Rattle.std.specs.List.{range_with_len}
+use Rattle.plan_model.specs.declared.scenes.Scene.{Scene}
+use Rattle.plan_model.specs.BestNode.{best_node, lies_in_goal}
+use Rattle.plan_model.specs.LeastPairs.{first_least, lesser}
+use Rattle.plan_model.specs.PointsByNumber.{point_at}
+use Rattle.plan_model.specs.TreeStates.{TreeState, sum_in}
+
+module _ (scene : Scene) (state : TreeState) where
+  -- the best of so many nodes from number k on
+  abbrev pub best_of : ℕ → ℕ → Option ℕ
+  best_of k count = first_least (sum_in state) (filter (λ n. lies_in_goal scene (point_at state.points n)) (range_with_len k count))
+
+  -- a goal node is compared with the best after it
+  pub best_of-goal_node : (k next count rest : ℕ) → next ≡ k + 1 → count ≡ suc rest → lies_in_goal scene (point_at state.points k) ≡ true
+      → best_of k count ≡ Some (lesser (sum_in state) k (best_of next rest))
+  best_of-goal_node k next count rest after one_more h = rw (after, one_more, h) refl
+
+  -- any other number is passed over
+  pub best_of-other : (k next count rest : ℕ) → next ≡ k + 1 → count ≡ suc rest → lies_in_goal scene (point_at state.points k) ≡ false
+      → best_of k count ≡ best_of next rest
+  best_of-other k next count rest after one_more h = rw (after, one_more, h) refl
+
+  -- the best of all numbers is the best node
+  pub best_of-all : (k count : ℕ) → k ≡ 0 → count ≡ length state.points → best_of k count ≡ best_node scene state
+  best_of-all k count first all = rw (first, all) refl

@@ -1,0 +1,58 @@
+use Rattle.std.proofs.Common.{◌≡◌, ℕ, ◌+◌, ◌-◌, length, Some, arith, sym, ap, ◌∙◌}
+use Rattle.std.proofs.lemmas.List.FromFn.{length-map-range_with_len}
+use Rattle.plan_model.specs.LeastPairs.{lesser}
+use Rattle.plan_model.specs.TreeStates.{sum_in}
+use Rattle.plan_model.proofs.MarkBounds.{length-marks}
+use Rattle.step_core.specs.GrownRuns.{state_of_grown}
+use Rattle.step_core.specs.GrownWords.{node_point, sizes_of, words_of}
+use Rattle.settle_report.proofs.GoalNodes.{best_of, best_of-goal_node, best_of-other, best_of-all}
+use Rattle.settle_report.proofs.best_node.best.Goals as goal
+
+pub overflow_cast-numbers : goal.overflow_cast-numbers
+overflow_cast-numbers c = omega (arith, length-marks c.task.result.now, c.len.ensures)
+
+pub overflow_add-numbers : goal.overflow_add-numbers
+overflow_add-numbers c = omega (arith, length-marks c.task.result.now, c.len.ensures)
+
+pub loop-node-init : goal.loop-node-init
+loop-node-init c =
+    let grown = c.args.grown.now in
+    let none : length grown.task.marks + 1 - (c.len.result + 1) ≡ 0 = omega (arith, ap (λ task. length task.marks) c.task.ensures, c.len.ensures) in
+    record { least = sym (ap (best_of grown.task.scene (state_of_grown grown) (c.len.result + 1)) none); present = tt }
+
+pub loop-node-preserved-then-lies_in_goal : goal.loop-node-preserved-then-lies_in_goal
+loop-node-preserved-then-lies_in_goal c =
+    let grown = c.args.grown.now in
+    let state = state_of_grown grown in
+    let next = c.loop-node.node in
+    let all : ℕ = length grown.task.marks + 1 in
+    let same = ap (λ task. length task.marks) c.task.ensures in
+    let here =
+    best_of-goal_node grown.task.scene state (next - 1) next (all - (next - 1)) (all - next) (omega arith)
+    (omega (arith, same, c.len.ensures)) (sym c.lies_in_goal.ensures.value ∙ c.if-lies_in_goal.true) in
+    record {
+      least = ap Some (c.better_node.ensures.value ∙ ap (lesser (sum_in state) (next - 1)) c.loop-node.invariant.least) ∙ sym here;
+      present = c.better_node.ensures.present;
+    }
+
+pub loop-node-preserved : goal.loop-node-preserved
+loop-node-preserved c =
+    let grown = c.args.grown.now in
+    let next = c.loop-node.node in
+    let all : ℕ = length grown.task.marks + 1 in
+    let same = ap (λ task. length task.marks) c.task.ensures in
+    record {
+      least =
+          c.loop-node.invariant.least
+          ∙ sym (best_of-other grown.task.scene (state_of_grown grown) (next - 1) next (all - (next - 1)) (all - next) (omega arith)
+          (omega (arith, same, c.len.ensures)) (sym c.lies_in_goal.ensures.value ∙ c.if-lies_in_goal.false));
+      present = c.loop-node.invariant.present;
+    }
+
+pub returns-clause-value : goal.returns-clause-value
+returns-clause-value c =
+    let grown = c.args.grown.now in
+    let numbers = length-map-range_with_len (node_point (sizes_of grown.task) (words_of grown.words.items)) 0 (length grown.task.marks + 1) in
+    c.loop-node.invariant.least
+    ∙ best_of-all grown.task.scene (state_of_grown grown) c.loop-node.node (length grown.task.marks + 1 - c.loop-node.node) (omega arith)
+    (omega (arith, numbers))
