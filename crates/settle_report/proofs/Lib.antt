@@ -1,1 +1,3 @@
 pub mod GoalNodes
+pub mod HeldOrders
+pub mod SettlingSteps

@@ -1,1 +1,2 @@
+pub mod CostOrders
 pub mod Delivery

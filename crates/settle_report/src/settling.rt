@@ -1,8 +1,11 @@
 //! Settling: each kept cost becomes the node's cost-to-come along its parents.
 
-ghost use Rattle.std.specs.Prelude.{◌≡◌, ℕ, Bool, OnErr, OnOk};
+ghost use Rattle.std.specs.Prelude.{◌≡◌, ◌<◌, ◌+◌, ℕ, Bool, IfOk, OnErr, OnOk};
+ghost use Rattle.plan_model.specs.Cost.{cost_of};
+ghost use Rattle.plan_model.specs.PointsByNumber.{IsPresent, point_of};
 ghost use Rattle.plan_model.specs.TreeStates.{ChangesCosts, GrowsInto, IsSettled};
-ghost use Rattle.step_core.specs.GrownRuns.{children_of_grown, state_of_grown};
+ghost use Rattle.settle_report.specs.CostOrders.{AreKeptCosts, IsCostOrder};
+ghost use Rattle.step_core.specs.GrownRuns.{CostsInstead, children_of_grown, state_of_grown};
 
 use edge_cost::cost;
 use plan_model::Memory;
@@ -27,28 +30,57 @@ pub fn settle(alloc: Global, grown: &mut Grown) -> Result<(), Memory>
     ensures unchanged { OnErr result (grown.new ≡ grown.old) }
 {
     let order = by_rising_cost(alloc, grown)?;
-    for (_, node) in order {
-        settle_node(grown, node);
-    }
+    settle_in_order(grown, &order);
     Ok(())
 }
 
-/// The nodes but the start with their kept costs, by rising cost.
-fn by_rising_cost(alloc: Global, grown: &Grown) -> Result<Vec<(u64, u32)>, Memory> {
-    let mut order = Vec::with_capacity(alloc, grown.count() as usize)?;
-    for node in 1..=grown.limit() {
-        if grown.point(node).is_some() {
-            order.push((grown.cost(node), node))?;
-        }
+/// Settles the nodes one after another, each after its parent.
+fn settle_in_order(grown: &mut Grown, order: &[(u64, u32)])
+    requires { IsCostOrder (state_of_grown grown.old) order.now }
+    ensures task { grown.new.task ≡ grown.old.task }
+    ensures limit { grown.new.limit ≡ grown.old.limit }
+    ensures settled { IsSettled (state_of_grown grown.new) }
+    ensures costs_alone { ChangesCosts (state_of_grown grown.old) (state_of_grown grown.new) }
+    ensures children { (n : ℕ) (right : Bool) → children_of_grown grown.new n right ≡ children_of_grown grown.old n right }
+{
+    for &(_, node) in order {
+        settle_node(grown, node);
     }
-    order.sort_unstable();
-    Ok(order)
 }
 
 /// Lowers the kept cost of a node to what its parent costs and the edge.
-fn settle_node(grown: &mut Grown, node: u32) {
+fn settle_node(grown: &mut Grown, node: u32)
+    requires present { IsPresent (state_of_grown grown.old).points node }
+    requires other { 0 < node }
+    ensures task { grown.new.task ≡ grown.old.task }
+    ensures limit { grown.new.limit ≡ grown.old.limit }
+    ensures state { let before = state_of_grown grown.old in let parent = before.parent node in CostsInstead before (state_of_grown grown.new) node (before.cost parent + cost_of (point_of before.points parent) (point_of before.points node)) }
+    ensures children { (n : ℕ) (right : Bool) → children_of_grown grown.new n right ≡ children_of_grown grown.old n right }
+{
     let parent = grown.parent(node);
     let above = grown.point(parent).unwrap();
     let here = grown.point(node).unwrap();
     grown.lower(node, grown.cost(parent) + cost(above, here));
+}
+
+/// The nodes but the start with their kept costs, by rising cost.
+fn by_rising_cost(alloc: Global, grown: &Grown) -> Result<Vec<(u64, u32)>, Memory>
+    ensures { IfOk result (λ order. IsCostOrder (state_of_grown grown.now) order.items) }
+{
+    let mut order = kept_costs(alloc, grown)?;
+    order.sort_unstable();
+    Ok(order)
+}
+
+/// The nodes but the start with their kept costs, by number.
+fn kept_costs(alloc: Global, grown: &Grown) -> Result<Vec<(u64, u32)>, Memory>
+    ensures { IfOk result (λ costs. AreKeptCosts (state_of_grown grown.now) costs.items) }
+{
+    let mut costs = Vec::with_capacity(alloc, grown.count() as usize)?;
+    for node in 1..grown.limit() + 1 {
+        if grown.point(node).is_some() {
+            costs.push((grown.cost(node), node))?;
+        }
+    }
+    Ok(costs)
 }

@@ -1,0 +1,21 @@
+-- The order in which the nodes of a tree are settled.
+use Rattle.std.specs.Prelude.{◌≡◌, ℕ, suc, ◌<◌, List, All, Contains}
+use Rattle.std.specs.List.Sorted.{IsNonDecreasingBy}
+use Rattle.plan_model.specs.PointsByNumber.{IsPresent}
+use Rattle.plan_model.specs.TreeStates.{TreeState}
+
+-- a kept cost with its node, which is present and not the start
+pub record IsKeptCost (state : TreeState) (pair : ℕ × ℕ) : Type 0 where
+  pub present : IsPresent state.points pair.1
+  pub other : 0 < pair.1
+  pub cost : pair.0 ≡ state.cost pair.1
+
+-- The pairs are the nodes but the start, each with its kept cost.
+pub record AreKeptCosts (state : TreeState) (pairs : List (ℕ × ℕ)) : Type 0 where
+  pub kept : All (IsKeptCost state) pairs
+  pub whole : (n : ℕ) → IsPresent state.points (suc n) → Contains pairs (state.cost (suc n), suc n)
+
+-- And they stand by rising cost.
+pub record IsCostOrder (state : TreeState) (pairs : List (ℕ × ℕ)) : Type 0 where
+  pub costs : AreKeptCosts state pairs
+  pub rises : IsNonDecreasingBy (λ pair. pair.0) pairs
