@@ -1,3 +1,4 @@
 pub mod GoalNodes
 pub mod HeldOrders
 pub mod SettlingSteps
+pub mod CostOrderLaws
