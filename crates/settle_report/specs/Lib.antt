@@ -1,2 +1,3 @@
 pub mod CostOrders
 pub mod Delivery
+pub mod MarkWords

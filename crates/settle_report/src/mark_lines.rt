@@ -1,25 +1,52 @@
 //! The lines of a full report on the marks of a run.
 
+ghost use Rattle.std.specs.Prelude.{◌≡◌, ◌++◌, OnOk, string_bytes};
+ghost use Rattle.plan_model.specs.ReportText.{line, mark_line, mark_lines, outcome_words};
+ghost use Rattle.step_core.specs.GrownRuns.{state_of_grown};
+ghost use Rattle.settle_report.specs.MarkWords.{words_before_outcome};
+
 use plan_model::{Outcome, Record};
 use std::alloc::AllocError;
 use step_core::Grown;
 
 /// A line for each mark that was handled, in rising number: its worker and turn, the nearest node, and what became of it.
 /// O(n) for n marks.
-pub(crate) fn push_mark_lines(text: &mut String, grown: &Grown) -> Result<(), AllocError> {
+///
+/// # Errors
+///
+/// `AllocError` if out of memory for the text.
+pub(crate) fn push_mark_lines(text: &mut String, grown: &Grown) -> Result<(), AllocError>
+    ensures { OnOk result (string_bytes text.new ≡ string_bytes text.old ++ mark_lines grown.now.limit (state_of_grown grown.now)) }
+{
     for mark in 0..grown.limit() {
-        push_mark_line(text, mark, &grown.record_of(mark))?;
+        push_mark_line(text, mark, grown.record_of(mark))?;
     }
     Ok(())
 }
 
 /// The line of a mark.
-fn push_mark_line(text: &mut String, mark: u32, entry: &Record) -> Result<(), AllocError> {
+fn push_mark_line(text: &mut String, mark: u32, entry: Record) -> Result<(), AllocError>
+    ensures { OnOk result (string_bytes text.new ≡ string_bytes text.old ++ mark_line mark entry) }
+{
+    push_handling(text, mark, entry)?;
+    push_outcome(text, entry)
+}
+
+/// The words of a mark's line before its outcome, each with a space after it.
+fn push_handling(text: &mut String, mark: u32, entry: Record) -> Result<(), AllocError>
+    ensures { OnOk result (string_bytes text.new ≡ string_bytes text.old ++ words_before_outcome mark entry) }
+{
     write!(
         text,
         "mark {mark} worker {} turn {} nearest {} ",
         entry.worker, entry.turn, entry.nearest
-    )?;
+    )
+}
+
+/// The rest of a mark's line: what became of it.
+fn push_outcome(text: &mut String, entry: Record) -> Result<(), AllocError>
+    ensures { OnOk result (string_bytes text.new ≡ string_bytes text.old ++ line (outcome_words entry entry.outcome)) }
+{
     match entry.outcome {
         Outcome::Placed => write!(
             text,

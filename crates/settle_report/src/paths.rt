@@ -1,8 +1,9 @@
 //! Paths of a run: from the start to a node, by the node's parents.
 
-ghost use Rattle.std.specs.Prelude.{◌≡◌, IfOk};
-ghost use Rattle.plan_model.specs.PointsByNumber.{IsPresent};
+ghost use Rattle.std.specs.Prelude.{◌≡◌, IfOk, map};
+ghost use Rattle.plan_model.specs.PointsByNumber.{IsPresent, point_of};
 ghost use Rattle.plan_model.specs.ReportText.{path_to};
+ghost use Rattle.plan_model.specs.TreeStates.{chain_in};
 ghost use Rattle.step_core.specs.GrownRuns.{state_of_grown};
 
 use plan_model::{Memory, Point};
@@ -26,6 +27,7 @@ pub(crate) fn path_to(alloc: Global, grown: &Grown, node: u32) -> Result<Vec<Poi
 /// The points from a node up to the start.
 fn points_to_start(alloc: Global, grown: &Grown, node: u32) -> Result<Vec<Point>, Memory>
     requires { IsPresent (state_of_grown grown.now).points node }
+    ensures { IfOk result (λ points. points.items ≡ map (point_of (state_of_grown grown.now).points) (chain_in (state_of_grown grown.now) node)) }
 {
     let mut points = Vec::new(alloc);
     let mut at = node;

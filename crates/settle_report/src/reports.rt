@@ -1,6 +1,9 @@
 //! The reports of a settled run, as text: its cheapest path into the goal, the counts, and in full its nodes and marks.
 
-ghost use Rattle.std.specs.Prelude.{◌≡◌, IfOk};
+ghost use Rattle.std.specs.Prelude.{◌≡◌, ◌++◌, IfOk, IfSome, OnOk, string_bytes};
+ghost use Rattle.plan_model.specs.ClosedLaw.{outcome_count};
+ghost use Rattle.plan_model.specs.PointsByNumber.{IsPresent};
+ghost use Rattle.plan_model.specs.ReportText as spec;
 ghost use Rattle.plan_model.specs.ReportText.{report_text, summary};
 ghost use Rattle.plan_model.specs.TreeStates.{IsSettled};
 ghost use Rattle.step_core.specs.GrownRuns.{state_of_grown};
@@ -54,7 +57,10 @@ pub fn summary(alloc: Global, grown: &Grown) -> Result<Vec<u8>, Memory>
 }
 
 /// The path to the best node; no point if there is none.
-fn best_path(alloc: Global, grown: &Grown, best: Option<u32>) -> Result<Vec<Point>, Memory> {
+fn best_path(alloc: Global, grown: &Grown, best: Option<u32>) -> Result<Vec<Point>, Memory>
+    requires { IfSome best (IsPresent (state_of_grown grown.now).points) }
+    ensures { IfOk result (λ path. path.items ≡ spec.best_path (state_of_grown grown.now) best) }
+{
     match best {
         Some(node) => path_to(alloc, grown, node),
         None => Ok(Vec::new(alloc)),
@@ -67,19 +73,40 @@ fn push_head_line(
     grown: &Grown,
     best: Option<u32>,
     path: &[Point],
-) -> Result<(), AllocError> {
+) -> Result<(), AllocError>
+    requires settled { IsSettled (state_of_grown grown.now) }
+    requires present { IfSome best (IsPresent (state_of_grown grown.now).points) }
+    requires path { path.now ≡ spec.best_path (state_of_grown grown.now) best }
+    ensures { OnOk result (string_bytes text.new ≡ string_bytes text.old ++ spec.head_line (state_of_grown grown.now) best) }
+{
     match best {
-        Some(node) => write!(text, "path {} cost {}\n", path.len(), grown.cost(node)),
+        Some(node) => push_path_line(text, path, grown.cost(node)),
         None => text.push_str("no path\n"),
     }
 }
 
+/// The line of a path: of how many points, and its cost in 256ths of a lattice step.
+fn push_path_line(text: &mut String, points: &[Point], cost: u64) -> Result<(), AllocError>
+    ensures { OnOk result (string_bytes text.new ≡ string_bytes text.old ++ spec.path_line points.now cost) }
+{
+    write!(text, "path {} cost {cost}\n", points.len())
+}
+
 /// A line for each point.
-fn push_point_lines(text: &mut String, points: &[Point]) -> Result<(), AllocError> {
+fn push_point_lines(text: &mut String, points: &[Point]) -> Result<(), AllocError>
+    ensures { OnOk result (string_bytes text.new ≡ string_bytes text.old ++ spec.point_lines points.now) }
+{
     for point in points {
-        write!(text, "{} {}\n", point.x, point.y)?;
+        push_point_line(text, *point)?;
     }
     Ok(())
+}
+
+/// The line of a point.
+fn push_point_line(text: &mut String, point: Point) -> Result<(), AllocError>
+    ensures { OnOk result (string_bytes text.new ≡ string_bytes text.old ++ spec.point_line point) }
+{
+    write!(text, "{} {}\n", point.x, point.y)
 }
 
 /// How many marks had each outcome.
@@ -91,7 +118,11 @@ struct Counts {
 }
 
 /// The outcomes of the marks below the limit, counted.
-fn counts_of(grown: &Grown) -> Counts {
+fn counts_of(grown: &Grown) -> Counts
+    ensures placed { result.placed ≡ outcome_count (state_of_grown grown.now).record_of grown.now.limit 0 }
+    ensures same { result.same ≡ outcome_count (state_of_grown grown.now).record_of grown.now.limit 1 }
+    ensures blocked { result.blocked ≡ outcome_count (state_of_grown grown.now).record_of grown.now.limit 2 }
+{
     let mut counts = Counts {
         placed: 0,
         same: 0,
@@ -108,7 +139,9 @@ fn counts_of(grown: &Grown) -> Counts {
 }
 
 /// The line of the counts of nodes and of marks by their outcomes.
-fn push_counts_line(text: &mut String, grown: &Grown) -> Result<(), AllocError> {
+fn push_counts_line(text: &mut String, grown: &Grown) -> Result<(), AllocError>
+    ensures { OnOk result (string_bytes text.new ≡ string_bytes text.old ++ spec.counts_line grown.now.limit (state_of_grown grown.now)) }
+{
     let counts = counts_of(grown);
     write!(
         text,

@@ -1,0 +1,73 @@
+-- Steps up a path of a finished run, from a node to its parent, until the start: kept costs fall, so the walk ends.
+use Rattle.std.proofs.Common.{◌≡◌, ◌≢◌, ℕ, zero, suc, ◌<◌, List, [], ◌∷◌, map, reverse, refl, sym, ap, ◌∙◌, subst}
+use mathlib.Core.List.{reverse_aux}
+use Rattle.std.proofs.Math.Logic.{∥∥₁_elim}
+use Rattle.std.proofs.Math.Bool.{Bool-set}
+use Rattle.std.proofs.Math.Bridge.{le_prop}
+use Rattle.plan_model.specs.declared.geometry.Point.{Point}
+use Rattle.plan_model.specs.PointsByNumber.{point_of, IsPresent, StandsAt}
+use Rattle.plan_model.specs.ReportText.{path_to}
+use Rattle.plan_model.specs.Textbook.{setup_of}
+use Rattle.plan_model.specs.Trees.{FallAlong}
+use Rattle.plan_model.specs.TreeStates.{TreeState, chain_in}
+use Rattle.plan_model.proofs.ChainLaws.{chain-start, chain-parent}
+use Rattle.plan_model.proofs.OrderedTrees.{FallAlong-ordered}
+use Rattle.step_core.specs.declared.grown.Grown.{Grown}
+use Rattle.step_core.specs.GrownRuns.{state_of_grown}
+use Rattle.step_core.specs.GrownWords.{HoldRun, sizes_of, words_of}
+
+-- kept costs fall along the parents of a finished run
+pub FallAlong-grown : (grown : Grown) → FallAlong (state_of_grown grown).cost (state_of_grown grown).points (state_of_grown grown).parent
+FallAlong-grown grown = record {
+  start = ∥∥₁_elim grown.hold_run (Bool-set _ _) (λ h. (fall h).start);
+  parent = λ n here. ∥∥₁_elim grown.hold_run (Bool-set _ _) (λ h. (fall h).parent n here);
+  falls = λ n here. ∥∥₁_elim grown.hold_run le_prop (λ h. (fall h).falls n here);
+}
+  where
+    fall :
+        HoldRun grown.task grown.limit (words_of grown.words.items)
+        → FallAlong (state_of_grown grown).cost (state_of_grown grown).points (state_of_grown grown).parent
+    fall h = FallAlong-ordered (setup_of grown.task.scene) grown.task.scene.start (state_of_grown grown) h.closed.order
+
+-- the points of a node's chain: from the node up to the start
+abbrev pub points_up : TreeState → ℕ → List Point
+points_up state n = map (point_of state.points) (chain_in state n)
+
+-- The parent m is present and costs less; the points up from the node are one point more than the parent's.
+pub record StepsUp (state : TreeState) (n m : ℕ) (p : Point) : Type 0 where
+  pub present : IsPresent state.points m
+  pub falls : state.cost m < state.cost n
+  pub points : points_up state n ≡ p ∷ points_up state m
+
+module _ (state : TreeState) (fall : FallAlong state.cost state.points state.parent) where
+  steps_to_parent : (n : ℕ) (p : Point) → n ≢ 0 → StandsAt state.points n p → StepsUp state n (state.parent n) p
+  steps_to_parent zero p other stands = absurd (other refl)
+  steps_to_parent (suc n) p other stands =
+      let here : IsPresent state.points (suc n) = rw stands refl in
+      let at : point_of state.points (suc n) ≡ p = rw stands refl in
+      record {
+        present = fall.parent n here;
+        falls = fall.falls n here;
+        points =
+            ap (map (point_of state.points)) (chain-parent state.cost state.points state.parent fall n here)
+            ∙ ap (λ (q : Point). q ∷ points_up state (state.parent (suc n))) at;
+      }
+
+  pub steps_up : (n m : ℕ) (p : Point) → n ≢ 0 → StandsAt state.points n p → m ≡ state.parent n → StepsUp state n m p
+  steps_up n m p other stands parent = subst (λ k. StepsUp state n k p) (sym parent) (steps_to_parent n p other stands)
+
+  -- the points up from node 0 are the start's
+  pub points_up-start : (n : ℕ) (start : Point) → n ≡ 0 → StandsAt state.points 0 start → points_up state n ≡ start ∷ []
+  points_up-start n start first at =
+      let stands : point_of state.points 0 ≡ start = rw at refl in
+      ap (points_up state) first
+      ∙ ap (map (point_of state.points)) (chain-start state.cost state.points state.parent fall)
+      ∙ ap (λ (p : Point). p ∷ []) stands
+
+map-reverse_onto : (f : ℕ → Point) (ns ms : List ℕ) → map f (reverse_aux ns ms) ≡ reverse_aux (map f ns) (map f ms)
+map-reverse_onto f [] ms = refl
+map-reverse_onto f (n ∷ ns) ms = map-reverse_onto f ns (n ∷ ms)
+
+-- the path to a node is the points up, in reverse
+pub path_to-reverse : (state : TreeState) (n : ℕ) → path_to state n ≡ reverse (points_up state n)
+path_to-reverse state n = map-reverse_onto (point_of state.points) (chain_in state n) []

@@ -1,0 +1,21 @@
+use Rattle.std.proofs.Common.{◌≡◌, ◌+◌, ◌-◌, ◌++◌, ◌≤◌, length, take, drop, sym, ap, ◌∙◌, arith}
+use Rattle.std.proofs.Math.Seq.{take-add}
+use Rattle.std.proofs.lemmas.List.{take_rest, length-drop}
+use Rattle.std.proofs.KnownBytes.{Appends-trans}
+use Rattle.settle_report.proofs.delivery.deliver.Goals as goal
+
+pub loop-written-preserved : goal.loop-written-preserved
+loop-written-preserved g c =
+    let text = c.args.text.now in
+    let m = c.loop-written.written in
+    let n = c.in_ok-written.field-0 in
+    let rest = take_rest text m in
+    let prefixes : take (m + n) text ≡ take m text ++ take n (take (length text - m) (drop m text)) =
+    (take-add m n text ∙ ap (λ ys. take m text ++ take n ys) (sym rest)) in
+    record {
+      within = (let bound : n ≤ length (drop m text) = (rw rest at c.in_ok-written.ensures.bound) in omega (arith, length-drop m text));
+      prefix = rw prefixes (Appends-trans (g.K.Sink.bytes_taken c.args.sink.now) (g.K.Sink.bytes_taken c.loop-written.sink)
+          (g.K.Sink.bytes_taken c.write.new.self) _ _ c.loop-written.invariant.prefix c.in_ok-written.ensures.bytes);
+      later = omega arith;
+      no_fault = λ alone. c.in_ok-written.ensures.no_fault alone ∙ c.loop-written.invariant.no_fault alone;
+    }

@@ -1,0 +1,15 @@
+use Rattle.std.proofs.Common.{◌≡◌, ◌++◌}
+use Rattle.plan_model.specs.PointsByNumber.{IsPresent}
+use Rattle.step_core.specs.GrownRuns.{state_of_grown}
+use Rattle.settle_report.proofs.GrownPaths.{points_up}
+use Rattle.settle_report.proofs.paths.points_to_start.Given as goal
+
+-- the points so far and those from here on are the chain's
+abbrev pub invariant-loop-at : goal.invariant-loop-at
+invariant-loop-at l = record {
+  present : IsPresent (state_of_grown l.grown).points l.at;
+  whole : l.points.items ++ points_up (state_of_grown l.grown) l.at ≡ points_up (state_of_grown l.grown) l.node;
+}
+
+abbrev pub decreases-loop-at : goal.decreases-loop-at
+decreases-loop-at l = (state_of_grown l.grown).cost l.at

@@ -1,0 +1,23 @@
+use Rattle.std.proofs.Common.{refl, arith, ap, ◌∙◌}
+use Rattle.plan_model.specs.declared.records.Outcome.TheVariants.{Placed, Same, Blocked}
+use Rattle.step_core.specs.GrownRuns.{state_of_grown}
+use Rattle.settle_report.proofs.CountedMarks.{counted-here, counted-elsewhere}
+use Rattle.settle_report.proofs.reports.counts_of.Goals as goal
+use Rattle.settle_report.proofs.reports.counts_of.Goals.{in-Placed, in-Same, in-Blocked}
+
+pub loop-mark-preserved : goal.loop-mark-preserved
+loop-mark-preserved c =
+    let records = (state_of_grown c.args.grown.now).record_of in
+    let mark = c.loop-mark.mark in
+    let entry = c.record_of.result in
+    let before = c.loop-mark.invariant in
+    elim c.match-record_of.branch [
+      | in-Placed w ↦ record {
+          placed = ap (λ k. k.placed) w.counts-is ∙ counted-here records mark entry Placed c.record_of.ensures w.in-Placed 0 _ refl before.placed;
+          same = ap (λ k. k.same) w.counts-is ∙ counted-elsewhere records mark entry Placed c.record_of.ensures w.in-Placed 1 _ refl before.same;
+          blocked = ap (λ k. k.blocked) w.counts-is ∙ counted-elsewhere records mark entry Placed c.record_of.ensures w.in-Placed 2 _ refl before.blocked;
+          all = rw w.counts-is (omega (arith, before.all));
+        }
+      | in-Same w ↦ ?
+      | in-Blocked w ↦ ?
+    ]
