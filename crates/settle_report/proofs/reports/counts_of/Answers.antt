@@ -13,11 +13,21 @@ loop-mark-preserved c =
     let before = c.loop-mark.invariant in
     elim c.match-record_of.branch [
       | in-Placed w ↦ record {
-          placed = ap (λ k. k.placed) w.counts-is ∙ counted-here records mark entry Placed c.record_of.ensures w.in-Placed 0 _ refl before.placed;
-          same = ap (λ k. k.same) w.counts-is ∙ counted-elsewhere records mark entry Placed c.record_of.ensures w.in-Placed 1 _ refl before.same;
-          blocked = ap (λ k. k.blocked) w.counts-is ∙ counted-elsewhere records mark entry Placed c.record_of.ensures w.in-Placed 2 _ refl before.blocked;
-          all = rw w.counts-is (omega (arith, before.all));
-        }
-      | in-Same w ↦ ?
-      | in-Blocked w ↦ ?
+        placed = ap (λ k. k.placed) w.counts-is ∙ counted-here records mark entry Placed c.record_of.ensures w.in-Placed.is 0 _ refl before.placed;
+        same = ap (λ k. k.same) w.counts-is ∙ counted-elsewhere records mark entry Placed c.record_of.ensures w.in-Placed.is 1 _ refl before.same;
+        blocked = ap (λ k. k.blocked) w.counts-is ∙ counted-elsewhere records mark entry Placed c.record_of.ensures w.in-Placed.is 2 _ refl before.blocked;
+        all = omega (arith, before.all, ap (λ k. k.placed) w.counts-is, ap (λ k. k.same) w.counts-is, ap (λ k. k.blocked) w.counts-is);
+      }
+      | in-Same w ↦ record {
+        placed = ap (λ k. k.placed) w.counts-is ∙ counted-elsewhere records mark entry (Same _) c.record_of.ensures w.in-Same.is 0 _ refl before.placed;
+        same = ap (λ k. k.same) w.counts-is ∙ counted-here records mark entry (Same _) c.record_of.ensures w.in-Same.is 1 _ refl before.same;
+        blocked = ap (λ k. k.blocked) w.counts-is ∙ counted-elsewhere records mark entry (Same _) c.record_of.ensures w.in-Same.is 2 _ refl before.blocked;
+        all = omega (arith, before.all, ap (λ k. k.placed) w.counts-is, ap (λ k. k.same) w.counts-is, ap (λ k. k.blocked) w.counts-is);
+      }
+      | in-Blocked w ↦ record {
+        placed = ap (λ k. k.placed) w.counts-is ∙ counted-elsewhere records mark entry Blocked c.record_of.ensures w.in-Blocked.is 0 _ refl before.placed;
+        same = ap (λ k. k.same) w.counts-is ∙ counted-elsewhere records mark entry Blocked c.record_of.ensures w.in-Blocked.is 1 _ refl before.same;
+        blocked = ap (λ k. k.blocked) w.counts-is ∙ counted-here records mark entry Blocked c.record_of.ensures w.in-Blocked.is 2 _ refl before.blocked;
+        all = omega (arith, before.all, ap (λ k. k.placed) w.counts-is, ap (λ k. k.same) w.counts-is, ap (λ k. k.blocked) w.counts-is);
+      }
     ]
