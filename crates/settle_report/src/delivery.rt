@@ -27,3 +27,43 @@ pub fn deliver<K: Sink>(sink: &mut K, text: &[u8]) -> Result<(), Failed>
     }
     Ok(())
 }
+
+#[cfg(test)]
+mod tests {
+    use super::*;
+    use plan_model::MemSink;
+    use std::test::Fail;
+
+    #[test]
+    fn delivers_in_pieces(rt: HostRuntime) -> Result<(), Fail> {
+        let mut sink = MemSink::new(rt.alloc(), 20, 3, &[])?;
+        assert_eq!(rt; deliver(&mut sink, b"no path\n"), Ok(()));
+        assert_eq!(rt; deliver(&mut sink, b""), Ok(()));
+        assert_eq!(rt; deliver(&mut sink, b"nodes 1\n"), Ok(()));
+        assert_eq!(rt; sink.bytes(), b"no path\nnodes 1\n".as_slice());
+        assert_eq!(rt; sink.faults(), 0);
+        Ok(())
+    }
+
+    #[test]
+    fn ends_with_the_first_failed_write(rt: HostRuntime) -> Result<(), Fail> {
+        let mut sink = MemSink::new(rt.alloc(), 20, 3, &[2])?;
+        assert_eq!(rt; deliver(&mut sink, b"no path\n"), Err(Failed));
+        assert_eq!(rt; sink.bytes(), b"no ".as_slice());
+        assert_eq!(rt; sink.faults(), 1);
+        Ok(())
+    }
+
+    #[test]
+    fn fails_if_the_sink_is_full(rt: HostRuntime) -> Result<(), Fail> {
+        let mut sink = MemSink::new(rt.alloc(), 5, 3, &[])?;
+        assert_eq!(rt; deliver(&mut sink, b"no path\n"), Err(Failed));
+        assert_eq!(rt; sink.bytes(), b"no pa".as_slice());
+        assert_eq!(rt; sink.faults(), 1);
+        // all of a text that fits the room is taken
+        let mut sink = MemSink::new(rt.alloc(), 8, 8, &[])?;
+        assert_eq!(rt; deliver(&mut sink, b"no path\n"), Ok(()));
+        assert_eq!(rt; sink.bytes(), b"no path\n".as_slice());
+        Ok(())
+    }
+}

@@ -57,3 +57,6 @@ fn push_outcome(text: &mut String, entry: Record) -> Result<(), AllocError>
         Outcome::Blocked => text.push_str("blocked\n"),
     }
 }
+
+#[cfg(test)]
+mod tests;
