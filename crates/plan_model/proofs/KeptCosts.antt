@@ -8,10 +8,9 @@ use Rattle.plan_model.specs.declared.trees.Twig.{Twig}
 use Rattle.plan_model.specs.Geometry.{squared_distance}
 use Rattle.plan_model.specs.Cost.{cost_of}
 use Rattle.plan_model.specs.PointsByNumber.{point_at, IsPresent, point_of}
-use Rattle.plan_model.specs.Trees.{node_at, points_of, parent_or_zero, parent_of, sum_of, edge_of, CostsFall, AreTight}
+use Rattle.plan_model.specs.Trees.{node_at, points_of, parent_or_zero, parent_of, edge_of, CostsFall, AreTight}
 use Rattle.plan_model.proofs.RootLaws.{root_ceiling-is}
 use Rattle.plan_model.proofs.FreePoints.{same-from_distance}
-use Rattle.plan_model.proofs.ChainLaws.{sums-tight}
 use Rattle.plan_model.specs.Textbook.{start_alone}
 use Rattle.plan_model.proofs.TreeChanges.{node_at-past}
 use Rattle.plan_model.proofs.NewNodes.{Adds, not_present, point_at-same, IsPresent-kept, point_of-kept, parent_of-kept}
@@ -161,14 +160,3 @@ module _ (costs later : ℕ → ℕ) (tree after : List (Option Twig)) (number :
     start = more.keeps 0 fall.start ∙ tight.start;
     edges = λ n h. (link fall tight n h).cost;
   }
-
--- ---- sums
-
--- sums fall along parents if kept costs do that are tight
-pub CostsFall-sums : (costs : ℕ → ℕ) (tree : List (Option Twig)) → CostsFall costs tree → AreTight costs tree → CostsFall (sum_of tree) tree
-CostsFall-sums costs tree fall tight = record {
-  start = fall.start;
-  parent = fall.parent;
-  falls = λ n h.
-      omega (arith, sums-tight costs (points_of tree) (parent_of tree) fall tight (suc n) h, sums-tight costs (points_of tree) (parent_of tree) fall tight (parent_of tree (suc n)) (fall.parent n h), fall.falls n h);
-}

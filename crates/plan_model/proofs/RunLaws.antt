@@ -1,9 +1,20 @@
--- A textbook run goes on by one mark at its end.
-use Rattle.std.proofs.Common.{◌≡◌, ℕ, ◌+◌, List, [], ◌∷◌, ◌++◌, length, arith, refl, subst}
+-- A textbook run has a record for each mark, and goes on by one mark at its end.
+use Rattle.std.proofs.Common.{◌≡◌, ℕ, suc, ◌+◌, List, [], ◌∷◌, ◌++◌, length, arith, refl, ap, subst}
 use Rattle.plan_model.specs.declared.geometry.Point.{Point}
 use Rattle.plan_model.specs.declared.records.Record.{Record}
 use Rattle.plan_model.specs.Textbook.{Nodes, Setup, Handles, HandlesAll}
 
+-- there are as many records as marks
+pub HandlesAll-length :
+    (setup : Setup) (k : ℕ) (tree : Nodes) (marks : List Point) (entries : List Record) (after : Nodes) → HandlesAll setup k tree marks entries after
+    → length entries ≡ length marks
+HandlesAll-length setup k tree [] [] after run = refl
+HandlesAll-length setup k tree (m ∷ marks) (e ∷ entries) after run =
+    ap suc (HandlesAll-length setup (k + 1) run.0 marks entries after run.2)
+HandlesAll-length setup k tree [] (e ∷ entries) after run = absurd run
+HandlesAll-length setup k tree (m ∷ marks) [] after run = absurd run
+
+-- one more mark is handled after the others
 pub HandlesAll-push :
     (setup : Setup) (k : ℕ) (tree : Nodes) (marks : List Point) (entries : List Record) (mid : Nodes) (mark : Point) (entry : Record) (after : Nodes)
     → HandlesAll setup k tree marks entries mid

@@ -15,6 +15,17 @@ use Rattle.plan_model.proofs.LoweredCosts.{HaveSameTree}
 use Rattle.plan_model.proofs.ClosedLaws.{IsClosed-same}
 use Rattle.plan_model.proofs.TextbookRuns.{IsClosed-textbook}
 
+-- If one run is the same as another, and that is the same as a last one, the first is the same as the last.
+pub AreSameRuns-trans : (one other last : TreeState) → AreSameRuns one other → AreSameRuns other last → AreSameRuns one last
+AreSameRuns-trans one other last same again =
+    let here : (n : ℕ) → IsPresent one.points n → IsPresent other.points n = λ n h. ap is_some (same.points n) ∙ h in
+    record {
+      points = λ n. again.points n ∙ same.points n;
+      parents = λ n h. again.parents n (here n h) ∙ same.parents n h;
+      costs = λ n h. again.costs n (here n h) ∙ same.costs n h;
+      records = λ k. again.records k ∙ same.records k;
+    }
+
 -- functions with the same values give the same list
 map-same : {A : Type 0} (f g : ℕ → A) → ((n : ℕ) → f n ≡ g n) → (ns : List ℕ) → map f ns ≡ map g ns
 map-same f g same [] = refl

@@ -1,8 +1,7 @@
--- Rooms with a point body and no obstacle, and trees that lie in a room.
-use Rattle.std.specs.Prelude.{ℕ, ◌≤◌, pos, Option, List, [], ◌∷◌}
+-- Rooms with a point body and no obstacle, and points that lie in a room.
+use Rattle.std.specs.Prelude.{◌≤◌, pos, [], ◌∷◌}
 use Rattle.plan_model.specs.declared.geometry.Point.{Point}
 use Rattle.plan_model.specs.ConfigurationSpace.{ConfigurationSpace}
-use Rattle.plan_model.specs.PointsByNumber.{StandsAt}
 
 -- the configuration space of a body that is a point, in a room without obstacles
 abbrev pub empty_room : Point → ConfigurationSpace
@@ -12,7 +11,3 @@ empty_room room = record { room = room; body = record { x = pos 0; y = pos 0 } �
 pub record IsInRoom (room p : Point) : Type 0 where
   pub horizontal : p.x ≤ room.x
   pub vertical : p.y ≤ room.y
-
--- every node that is present stands in the room
-abbrev pub LiesIn : Point → List (Option Point) → Type 0
-LiesIn room points = (n : ℕ) (p : Point) → StandsAt points n p → IsInRoom room p

@@ -1,17 +1,15 @@
 -- A mark is handled: its node is put at the end, and near nodes are rewired.
-use Rattle.std.proofs.Common.{◌≡◌, ℕ, ◌+◌, List, [], ◌∷◌, ◌++◌, length, Option, Some, None, true, false, refl, sym, ap, ◌∙◌, subst, inl, inr}
+use Rattle.std.proofs.Common.{◌≡◌, ℕ, ◌+◌, List, [], ◌∷◌, ◌++◌, length, Option, Some, None, true, false, refl, sym, ap, ◌∙◌, subst}
 use Rattle.std.specs.Prelude.{All, is_some, option_map}
 use Rattle.std.proofs.lemmas.List.Elements.{All-weaker}
 use Rattle.plan_model.specs.declared.geometry.Point.{Point}
 use Rattle.plan_model.specs.declared.trees.Twig.{Twig}
 use Rattle.plan_model.specs.declared.scenes.Scene.{Scene}
 use Rattle.plan_model.specs.ConfigurationSpace.{space_of}
-use Rattle.plan_model.specs.EmptyRooms.{IsInRoom, LiesIn}
-use Rattle.plan_model.specs.PointsByNumber.{IsPresent, point_at}
+use Rattle.plan_model.specs.PointsByNumber.{IsPresent}
 use Rattle.plan_model.specs.Trees.{points_of, CostsFall}
 use Rattle.plan_model.specs.Textbook.{Nodes, Rewires}
-use Rattle.plan_model.proofs.TreeChanges.{points_of-push, node_at-absent}
-use Rattle.plan_model.proofs.NewNodes.{Adds-push, new_or_kept, point_at-same}
+use Rattle.plan_model.proofs.TreeChanges.{points_of-push}
 use Rattle.plan_model.proofs.DistinctPoints.{IsPresent-push}
 use Rattle.seq_planner.specs.declared.extensions.Extension.{Extension}
 use Rattle.seq_planner.specs.declared.search_tree.SearchTree.{SearchTree}
@@ -28,19 +26,6 @@ present-put tree after node ns e h =
     ap points_of e ∙ points_of-push tree node in
     All-weaker (IsPresent (points_of tree)) (IsPresent (points_of after))
     (λ i present. subst (λ ps. IsPresent ps i) (sym points) (IsPresent-push (points_of tree) _ i present)) ns h
-
--- all nodes are in the room beside one that is
-pub LiesIn-put :
-    (room : Point) (tree after : Nodes) (node : Option Twig) → after ≡ tree ++ node ∷ [] → LiesIn room (points_of tree)
-    → ((new : Twig) → node ≡ Some new → IsInRoom room new.point) → LiesIn room (points_of after)
-LiesIn-put room tree after None e h new = λ n p own.
-    h n p (sym (point_at-same (tree ++ None ∷ []) tree n (node_at-absent tree n)) ∙ ap (λ t. point_at (points_of t) n) (sym e) ∙ own)
-LiesIn-put room tree after (Some node) e h new = λ n p own.
-    elim (new_or_kept tree (length tree) node (tree ++ Some node ∷ []) (Adds-push tree node) n p
-    (ap (λ t. point_at (points_of t) n) (sym e) ∙ own)) [
-      | inl here ↦ subst (IsInRoom room) (sym here.1) (new node refl)
-      | inr before ↦ h n p before
-    ]
 
 -- a node that was put at the end has no children
 pub no_child-put :

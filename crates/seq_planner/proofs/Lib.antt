@@ -20,3 +20,4 @@ pub mod RewiredNodes
 pub mod RewiredLists
 pub mod HandledMarks
 pub mod RunsSoFar
+pub mod KeptNodes

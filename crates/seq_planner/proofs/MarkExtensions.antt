@@ -60,7 +60,7 @@ module _ (scene : Scene) (tree : SearchTree) (mark : Point) (k nearest : ℕ) (f
       apart (reached ∙ steered-is_nearest (points_of tree.nodes) mark scene.step nearest j h.is_nearest stands ∙ sym h.begins)
 
   -- a clear segment ends in the room
-  pub IsInRoom-reached : Clear (space_of scene) from point → IsInRoom scene.room point
+  IsInRoom-reached : Clear (space_of scene) from point → IsInRoom scene.room point
   IsInRoom-reached clear = (AreInRoom-from_clear (space_of scene) from point clear).last
 
 -- ---- marks that are not placed
@@ -90,7 +90,6 @@ unplaced scene tree mark extension entry ns none handles h =
           subst (λ (r : Record). E r after) (sym h.recorded) (subst (E entry) (sym same) handles);
       present = subst (All (IsPresent (points_of tree.nodes))) (sym none) (All-nil (IsPresent (points_of tree.nodes)));
       rising = subst IsStrictlyIncreasing (sym none) (λ i l. absurd (omega arith));
-      in_room = λ node e. (let never : None ≡ Some node = sym h.node ∙ e in cc);
       none_near = λ e. none;
     }
 
@@ -214,13 +213,5 @@ module _ (scene : Scene) (tree : SearchTree) (mark : Point) (k nearest : ℕ) (f
             subst (λ (n : ℕ). handled n after) h.turn (handles_placed after with_number);
         present = subst (All (IsPresent points)) (sym own.are_near) (near-present points point (radius_of scene.step scene.gamma (node_count points)));
         rising = subst IsStrictlyIncreasing (sym own.are_near) (near-rising points point (radius_of scene.step scene.gamma (node_count points)));
-        in_room = λ node e.
-            let is : Some new_node ≡ Some node = sym own.node ∙ e in
-            in_room_of node is;
         none_near = λ e. (let never : Some new_node ≡ None = sym own.node ∙ e in cc);
       }
-    where
-      in_room_of : (node : Twig) → Some new_node ≡ Some node → IsInRoom scene.room node.point
-      in_room_of node e =
-          let same : new_node ≡ node = cc in
-          subst (λ (n : Twig). IsInRoom scene.room n.point) same (IsInRoom-reached scene tree mark k nearest from point h clear)

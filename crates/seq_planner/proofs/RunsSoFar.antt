@@ -4,9 +4,7 @@ use Rattle.std.proofs.lemmas.List.{take_more}
 use Rattle.plan_model.specs.declared.geometry.Point.{Point}
 use Rattle.plan_model.specs.declared.scenes.Scene.{Scene}
 use Rattle.plan_model.specs.declared.records.Record.{Record}
-use Rattle.plan_model.specs.EmptyRooms.{LiesIn}
 use Rattle.plan_model.specs.Textbook.{setup_of, start_alone, Handles, HandlesAll}
-use Rattle.plan_model.specs.Trees.{points_of}
 use Rattle.plan_model.proofs.RunLaws.{HandlesAll-push}
 use Rattle.seq_planner.specs.declared.search_tree.SearchTree.{SearchTree}
 use Rattle.seq_planner.specs.SearchTrees.{IsSoundTree, HandlesNext}
@@ -15,20 +13,18 @@ use Rattle.seq_planner.specs.SearchTrees.{IsSoundTree, HandlesNext}
 pub record IsRunSoFar (scene : Scene) (marks : List Point) (tree : SearchTree) : Type 0 where
   pub run : HandlesAll (setup_of scene) 0 (start_alone scene.start) marks tree.records.items tree.nodes
   pub sound : IsSoundTree tree
-  pub in_room : LiesIn scene.room (points_of tree.nodes)
   pub nodes : length tree.nodes ≡ length marks + 1
   pub records : length tree.records.items ≡ length marks
 
 -- before the first mark
 pub IsRunSoFar-none :
     (scene : Scene) (marks : List Point) (tree : SearchTree) → tree.nodes ≡ start_alone scene.start → tree.records.items ≡ []
-    → IsSoundTree tree → LiesIn scene.room (points_of (start_alone scene.start)) → IsRunSoFar scene (take 0 marks) tree
-IsRunSoFar-none scene marks tree nodes records sound in_room =
+    → IsSoundTree tree → IsRunSoFar scene (take 0 marks) tree
+IsRunSoFar-none scene marks tree nodes records sound =
     let P : List Record → Type 0 = λ entries. HandlesAll (setup_of scene) 0 (start_alone scene.start) [] entries tree.nodes in
     record {
       run = subst P (sym records) nodes;
       sound = sound;
-      in_room = subst (λ t. LiesIn scene.room (points_of t)) (sym nodes) in_room;
       nodes = ap length nodes;
       records = ap length records;
     }
@@ -37,8 +33,8 @@ IsRunSoFar-none scene marks tree nodes records sound in_room =
 pub IsRunSoFar-more :
     (scene : Scene) (marks : List Point) (tree after : SearchTree) (i : ℕ) (mark : Point) → IsRunSoFar scene (take i marks) tree
     → i < length marks → mark ≡ get_or marks i mark → HandlesNext scene tree mark after → IsSoundTree after
-    → LiesIn scene.room (points_of after.nodes) → IsRunSoFar scene (take (i + 1) marks) after
-IsRunSoFar-more scene marks tree after i mark h l e next sound in_room =
+    → IsRunSoFar scene (take (i + 1) marks) after
+IsRunSoFar-more scene marks tree after i mark h l e next sound =
     let done : List Point = take i marks in
     let K : ℕ → Type 0 = λ k. Handles (setup_of scene) tree.nodes k mark next.entry after.nodes in
     let handled : K (0 + length done) = subst K (omega (arith, h.records)) next.handled in
@@ -50,7 +46,6 @@ IsRunSoFar-more scene marks tree after i mark h l e next sound in_room =
     record {
       run = subst Q (sym more) (subst P (sym next.recorded) run);
       sound = sound;
-      in_room = in_room;
       nodes = omega (arith, ap length more, length-append done (mark ∷ []), next.one_more, h.nodes);
       records =
           omega (arith, ap length more, length-append done (mark ∷ []), ap length next.recorded, length-append tree.records.items (next.entry ∷ []), h.records);

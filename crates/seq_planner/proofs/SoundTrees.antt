@@ -12,13 +12,13 @@ use Rattle.plan_model.specs.declared.scenes.Scene.{Scene}
 use Rattle.plan_model.specs.Bounds.{IsBounded}
 use Rattle.plan_model.specs.EmptyRooms.{IsInRoom}
 use Rattle.plan_model.specs.PointsByNumber.{StandsAt, IsPresent, point_of, node_count}
-use Rattle.plan_model.specs.Trees.{points_of, sum_of, CostsFall}
+use Rattle.plan_model.specs.Trees.{points_of, parent_of, sum_of}
 use Rattle.plan_model.specs.Textbook.{Nodes, start_alone}
 use Rattle.plan_model.proofs.TreeChanges.{node_at-past, points_of-push, node_count-push, node_at-absent}
 use Rattle.plan_model.proofs.NewNodes.{Adds, Adds-push, AreDistinct-adds, IsPresent-stands, StandsAt-present, StandsAt-unique}
 use Rattle.plan_model.proofs.NewNodes.{node_count-some, new_or_kept, point_at-same, present_below, not_present}
 use Rattle.plan_model.proofs.KeptCosts.{CostsFall-start, AreTight-start, CostsFall-same, AreTight-same, CostsFall-adds}
-use Rattle.plan_model.proofs.KeptCosts.{AreTight-adds, CostsFall-sums, KeepsCosts, IsPriced, AddsPriced}
+use Rattle.plan_model.proofs.KeptCosts.{AreTight-adds, KeepsCosts, IsPriced, AddsPriced}
 use Rattle.plan_model.proofs.ChainLaws.{sums-tight}
 use Rattle.seq_planner.specs.declared.placed_points.PlacedPoints.{PlacedPoints}
 use Rattle.seq_planner.specs.PlacedLists.{ArePlaced}
@@ -188,7 +188,3 @@ pub IsBounded-present :
     → IsPresent (points_of tree) n → p ≡ point_of (points_of tree) n → IsBounded p
 IsBounded-present tree costs placed n p h own e =
     h.bounded n p (StandsAt-present (points_of tree) n own ∙ ap Some (sym e))
-
--- sums fall along the parents of a sound tree
-pub CostsFall-sound : (tree : Nodes) (costs : List ℕ) (placed : PlacedPoints) → IsSound tree costs placed → CostsFall (sum_of tree) tree
-CostsFall-sound tree costs placed h = CostsFall-sums (λ n. get_or costs n 0) tree h.falling h.tight

@@ -1,14 +1,15 @@
 -- The search tree: it grows by one number for each mark, and costs are kept beside its nodes.
-use Rattle.std.specs.Prelude.{◌≡◌, ℕ, ◌+◌, ◌-◌, ◌*◌, ◌^◌, ◌≤◌, All, Contains, Option, Some, None, List, [], ◌∷◌, ◌++◌, length, slice_index}
+use Rattle.std.specs.Prelude.{◌≡◌, ℕ, ◌+◌, ◌-◌, ◌*◌, ◌^◌, ◌≤◌, All, Contains, Option, Some, None, List, [], ◌∷◌, ◌++◌, length, map, option_map, slice_index}
+use Rattle.std.specs.List.{zip}
 use Rattle.std.specs.List.Sorted.{IsStrictlyIncreasing}
 use Rattle.plan_model.specs.declared.geometry.Point.{Point}
 use Rattle.plan_model.specs.declared.trees.Twig.{Twig}
+use Rattle.plan_model.specs.declared.trees.Knot.{Knot}
 use Rattle.plan_model.specs.declared.scenes.Scene.{Scene}
 use Rattle.plan_model.specs.declared.records.Record.{Record}
 use Rattle.plan_model.specs.Bounds.{IsBounded}
 use Rattle.plan_model.specs.Clearance.{Clear}
 use Rattle.plan_model.specs.ConfigurationSpace.{ConfigurationSpace, space_of}
-use Rattle.plan_model.specs.EmptyRooms.{IsInRoom}
 use Rattle.plan_model.specs.PointsByNumber.{StandsAt, IsPresent, IsFree, AreDistinct, point_of, node_count}
 use Rattle.plan_model.specs.Trees.{points_of, CostsFall, AreTight}
 use Rattle.plan_model.specs.Textbook.{Nodes, setup_of, cost_through, Rewires, Handles}
@@ -47,6 +48,14 @@ pub record IsParentOf (nodes : Nodes) (p : Point) (parent : Parent) : Type 0 whe
   pub cost : parent.cost ≡ cost_through nodes p parent.number
   pub cost_bound : parent.cost ≤ node_count (points_of nodes) * 2 ^ 29
 
+-- a node, if it is present, with its kept cost
+abbrev pub with_cost : Option Twig → ℕ → Option Knot
+with_cost node cost = option_map (λ n. record { point = n.point; parent = n.parent; cost = cost }) node
+
+-- the nodes with their kept costs
+abbrev pub with_costs : Nodes → List ℕ → List (Option Knot)
+with_costs nodes costs = map (λ kept. with_cost kept.0 kept.1) (zip nodes costs)
+
 -- one of some nodes with a clear edge to p
 pub record IsOpenTo (space : ConfigurationSpace) (points : List (Option Point)) (p : Point) (among : List ℕ) (i : ℕ) : Type 0 where
   pub one_of : Contains among i
@@ -71,7 +80,6 @@ pub record IsExtensionOf (scene : Scene) (tree : SearchTree) (mark : Point) (ext
       → Handles (setup_of scene) tree.nodes (length tree.records.items) mark extension.entry after
   pub present : All (IsPresent (points_of tree.nodes)) near
   pub rising : IsStrictlyIncreasing near
-  pub in_room : (node : Twig) → extension.node ≡ Some node → IsInRoom scene.room node.point
   pub none_near : extension.node ≡ None → near ≡ []
 
 -- The next mark is handled, and its record is the last.

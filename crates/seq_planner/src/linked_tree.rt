@@ -108,10 +108,10 @@ impl LinkedTree {
     }
 
     /// The nodes by number.
-    pub(crate) fn into_nodes(self) -> Vec<Option<Twig>>
-        ensures { result.items ≡ self }
+    pub(crate) fn as_slice(&self) -> &[Option<Twig>]
+        ensures { result.now ≡ self.now }
     {
-        self.nodes
+        self.nodes.as_slice()
     }
 }
 
@@ -144,7 +144,7 @@ mod tests {
         tree.push_children(4, &mut list)?;
         assert_eq!(rt; list.as_slice(), [3, 1, 4].as_slice());
         assert_eq!(rt; tree.point(4), Point { x: 1, y: 2 });
-        assert_eq!(rt; tree.into_nodes().len(), 5);
+        assert_eq!(rt; tree.as_slice().len(), 5);
         Ok(())
     }
 

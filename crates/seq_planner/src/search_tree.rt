@@ -3,17 +3,19 @@
 ghost use Rattle.std.specs.Prelude.{◌≡◌, ◌+◌, ◌≤◌, [], ◌∷◌, ◌++◌, length, IfOk, OnOk};
 ghost use Rattle.plan_model.specs.Bounds.{IsBounded};
 ghost use Rattle.plan_model.specs.ConfigurationSpace.{space_of};
-ghost use Rattle.plan_model.specs.EmptyRooms.{LiesIn};
-ghost use Rattle.plan_model.specs.Textbook.{start_alone};
-ghost use Rattle.plan_model.specs.Trees.{points_of};
+ghost use Rattle.plan_model.specs.Clearance.{ClearAt};
+ghost use Rattle.plan_model.specs.SameRuns.{IsOfTextbookRun};
+ghost use Rattle.plan_model.specs.Textbook.{IsTextbookRun, setup_of, start_alone};
+ghost use Rattle.plan_model.specs.TreeStates.{IsSettled};
 ghost use Rattle.plan_model.specs.declared.limits.TheConstants.{MOST_MARKS};
-ghost use Rattle.seq_planner.specs.SearchTrees.{Fits, HandlesNext, IsExtensionOf, IsSoundTree};
+ghost use Rattle.seq_planner.specs.SearchTrees.{Fits, HandlesNext, IsExtensionOf, IsSoundTree, with_cost, with_costs};
+ghost use Rattle.step_core.specs.GrownRuns.{state_of_grown};
 
 use crate::extensions::Extension;
 use crate::linked_tree::LinkedTree;
 use crate::placed_points::PlacedPoints;
 use edge_cost::{Radii, class, steer};
-use plan_model::{Memory, Point, Record, Scene, Sequence, Task};
+use plan_model::{Knot, Memory, Point, Record, Scene, Sequence, Task, Twig};
 use std::alloc::Global;
 use step_core::Grown;
 use swept_check::Clearing;
@@ -90,13 +92,11 @@ impl SearchTree {
         requires gamma { radii.now.gamma ≡ scene.now.gamma }
         requires hall { C.space hall.now ≡ space_of scene.now }
         requires sound { IsSoundTree self.old }
-        requires in_room { LiesIn scene.now.room (points_of self.old.nodes) }
         requires few { length self.old.nodes ≤ MOST_MARKS }
         requires turn { length self.old.records.items + 1 ≡ length self.old.nodes }
         requires bounded { IsBounded mark }
         ensures handles { OnOk result (HandlesNext scene.now self.old mark self.new) }
         ensures sound { OnOk result (IsSoundTree self.new) }
-        ensures in_room { OnOk result (LiesIn scene.now.room (points_of self.new.nodes)) }
     {
         let extension = self.extension(scene, radii, hall, mark, &mut lists.near)?;
         let number = self.push(extension)?;
@@ -106,15 +106,35 @@ impl SearchTree {
         Ok(())
     }
 
-    /// The run of the marks that were handled, which are those of the task.
+    /// The run of the marks that were handled, which are those of the task, with each node kept at its sum. O(n * d) for
+    /// n nodes, d of them on the longest way through the kd-tree.
     ///
     /// # Errors
     ///
     /// `Memory` if out of memory for the nodes with their costs or for the run.
     pub(crate) fn into_run(self, alloc: Global, task: Task) -> Result<Grown, Memory>
+        requires sound { IsSoundTree self }
+        requires start { ClearAt (space_of task.scene) task.scene.start }
+        requires run { IsTextbookRun (setup_of task.scene) task.scene.start task.marks self.nodes self.records.items }
+        ensures task { IfOk result (λ grown. grown.task ≡ task) }
+        ensures limit { IfOk result (λ grown. grown.limit ≡ length task.marks) }
+        ensures run { IfOk result (λ grown. IsOfTextbookRun (setup_of task.scene) task.scene.start task.marks (state_of_grown grown)) }
+        ensures settled { IfOk result (λ grown. IsSettled (state_of_grown grown)) }
     {
         let knots = Sequence::from_vec(self.knots(alloc)?);
         Grown::pack(alloc, task, &knots, &Sequence::from_vec(self.records))
+    }
+
+    /// The nodes with their kept costs, by number. O(n) for n nodes.
+    ///
+    /// # Errors
+    ///
+    /// `Memory` if out of memory.
+    fn knots(&self, alloc: Global) -> Result<Vec<Option<Knot>>, Memory>
+        ensures { IfOk result (λ knots. knots.items ≡ with_costs self.now.nodes self.now.costs.items) }
+    {
+        let kept = self.nodes.as_slice().iter().zip(self.costs.as_slice());
+        Ok(kept.map(|(node, cost)| knot(*node, *cost)).collect(alloc)?)
     }
 
     /// What the next mark adds, with the nodes near a new one: the nearest node steers towards the mark, and a node is
@@ -173,4 +193,16 @@ impl SearchTree {
         }
         Ok(number)
     }
+}
+
+/// A node, if it is present, with its kept cost.
+fn knot(node: Option<Twig>, cost: u64) -> Option<Knot>
+    ensures { result ≡ with_cost node cost }
+{
+    let Twig { point, parent } = node?;
+    Some(Knot {
+        point,
+        parent,
+        cost,
+    })
 }

@@ -1,18 +1,20 @@
 //! The textbook planner over the marks of a task.
 
-ghost use Rattle.std.specs.Prelude.{◌≡◌, ◌+◌, ◌≤◌, length, IfOk, IsTrue};
+ghost use Rattle.std.specs.Prelude.{◌≡◌, ◌≤◌, length, IfOk, IsTrue};
 ghost use Rattle.plan_model.specs.declared.limits.TheConstants.{MOST_GAMMA};
 ghost use Rattle.plan_model.specs.Clearance.{ClearAt};
 ghost use Rattle.plan_model.specs.ConfigurationSpace.{space_of};
-ghost use Rattle.plan_model.specs.EmptyRooms.{LiesIn};
 ghost use Rattle.plan_model.specs.Limits.{is_plan};
-ghost use Rattle.plan_model.specs.Textbook.{IsTextbookRun, setup_of};
-ghost use Rattle.plan_model.specs.Trees.{CostsFall, points_of, sum_of};
+ghost use Rattle.plan_model.specs.SameRuns.{IsOfTextbookRun};
+ghost use Rattle.plan_model.specs.Textbook.{setup_of};
+ghost use Rattle.plan_model.specs.TreeStates.{IsSettled};
+ghost use Rattle.step_core.specs.GrownRuns.{state_of_grown};
 
 use crate::search_tree::{Lists, SearchTree};
 use edge_cost::Radii;
-use plan_model::{Memory, Task, Tree};
+use plan_model::{Memory, Task};
 use std::alloc::Global;
+use step_core::Grown;
 use swept_check::Clearing;
 
 /// RRT* over the marks (the samples) of a task in rising number, from its start.
@@ -47,7 +49,7 @@ pub fn textbook<C: Clearing>(alloc: Global, task: Task, hall: &C) -> Result<Grow
 #[cfg(test)]
 mod tests {
     use super::*;
-    use plan_model::{Goal, Marks, Outcome, Point, Record, Scene, Sequence, Twig, Vertex};
+    use plan_model::{Goal, Knot, Marks, Outcome, Point, Record, Scene, Sequence, Vertex};
     use swept_check::Hall;
 
     /// The task of these marks in a room of 100 by 100, from its lower left corner by steps of 50.
@@ -102,20 +104,49 @@ mod tests {
         }
     }
 
-    fn node(x: u32, y: u32, parent: u32) -> Option<Twig> {
-        Some(Twig {
+    fn node(x: u32, y: u32, parent: u32, cost: u64) -> Option<Knot> {
+        Some(Knot {
             point: Point { x, y },
             parent,
+            cost,
         })
+    }
+
+    /// A node of a run with its kept cost, as the readers of the run give it.
+    fn knot_of(grown: &Grown, number: u32) -> Option<Knot> {
+        let point = grown.point(number)?;
+        Some(Knot {
+            point,
+            parent: grown.parent(number),
+            cost: grown.cost(number),
+        })
+    }
+
+    /// All nodes of a run, up to that of its last mark.
+    fn knots_of(alloc: Global, grown: &Grown) -> Result<Vec<Option<Knot>>, Memory> {
+        let mut knots = Vec::new(alloc);
+        for number in 0..=grown.limit() {
+            knots.push(knot_of(grown, number))?;
+        }
+        Ok(knots)
+    }
+
+    /// The records of all marks of a run.
+    fn records_of(alloc: Global, grown: &Grown) -> Result<Vec<Record>, Memory> {
+        let mut records = Vec::new(alloc);
+        for mark in 0..grown.limit() {
+            records.push(grown.record_of(mark))?;
+        }
+        Ok(records)
     }
 
     #[test]
     fn leaves_the_start_alone_without_marks(rt: HostRuntime) -> Result<(), Memory> {
         let task = small_task(rt.alloc(), 0, &[])?;
         let hall = Hall::new(rt.alloc(), &task.scene)?;
-        let tree = textbook(rt.alloc(), task, &hall)?;
-        assert!(rt; tree.twigs.as_slice() == [node(0, 0, 0)].as_slice());
-        assert!(rt; tree.records.is_empty());
+        let grown = textbook(rt.alloc(), task, &hall)?;
+        assert!(rt; knots_of(rt.alloc(), &grown)?.as_slice() == [node(0, 0, 0, 0)].as_slice());
+        assert!(rt; records_of(rt.alloc(), &grown)?.is_empty());
         Ok(())
     }
 
@@ -131,12 +162,12 @@ mod tests {
         ];
         let task = small_task(rt.alloc(), 0, &marks)?;
         let hall = Hall::new(rt.alloc(), &task.scene)?;
-        let tree = textbook(rt.alloc(), task, &hall)?;
+        let grown = textbook(rt.alloc(), task, &hall)?;
         let nodes = [
-            node(0, 0, 0),
-            node(30, 40, 0),
-            node(70, 70, 1),
-            node(60, 80, 2),
+            node(0, 0, 0, 0),
+            node(30, 40, 0, 12_800),
+            node(70, 70, 1, 25_600),
+            node(60, 80, 2, 29_221),
             None,
             None,
         ];
@@ -147,8 +178,8 @@ mod tests {
             unplaced(3, 3, Outcome::Same(3)),
             unplaced(4, 2, Outcome::Blocked),
         ];
-        assert!(rt; tree.twigs.as_slice() == nodes.as_slice());
-        assert!(rt; tree.records.as_slice() == records.as_slice());
+        assert!(rt; knots_of(rt.alloc(), &grown)?.as_slice() == nodes.as_slice());
+        assert!(rt; records_of(rt.alloc(), &grown)?.as_slice() == records.as_slice());
         Ok(())
     }
 
@@ -164,14 +195,14 @@ mod tests {
         ];
         let task = small_task(rt.alloc(), 1000, &marks)?;
         let hall = Hall::new(rt.alloc(), &task.scene)?;
-        let tree = textbook(rt.alloc(), task, &hall)?;
+        let grown = textbook(rt.alloc(), task, &hall)?;
         let nodes = [
-            node(0, 0, 0),
-            node(0, 50, 0),
-            node(40, 79, 4),
-            node(60, 79, 2),
-            node(40, 30, 0),
-            node(100, 79, 3),
+            node(0, 0, 0, 0),
+            node(0, 50, 0, 12_800),
+            node(40, 79, 4, 25_344),
+            node(60, 79, 2, 30_464),
+            node(40, 30, 0, 12_800),
+            node(100, 79, 3, 40_704),
         ];
         let records = [
             placed(0, 0, 0, 12_800, 1),
@@ -180,8 +211,8 @@ mod tests {
             placed(3, 1, 0, 12_800, 3),
             placed(4, 3, 3, 40_704, 3),
         ];
-        assert!(rt; tree.twigs.as_slice() == nodes.as_slice());
-        assert!(rt; tree.records.as_slice() == records.as_slice());
+        assert!(rt; knots_of(rt.alloc(), &grown)?.as_slice() == nodes.as_slice());
+        assert!(rt; records_of(rt.alloc(), &grown)?.as_slice() == records.as_slice());
         Ok(())
     }
 }

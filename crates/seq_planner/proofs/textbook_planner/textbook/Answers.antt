@@ -1,12 +1,8 @@
-use Rattle.std.proofs.Common.{◌≡◌, sym, ap, arith, length, subst}
+use Rattle.std.proofs.Common.{◌≡◌, ap, arith, length}
 use Rattle.std.proofs.lemmas.List.{length-take, get_or_default}
 use Rattle.plan_model.specs.declared.geometry.Point.{Point}
-use Rattle.plan_model.specs.EmptyRooms.{LiesIn}
-use Rattle.plan_model.specs.Trees.{CostsFall, points_of, sum_of}
-use Rattle.plan_model.specs.Textbook.{Nodes}
 use Rattle.plan_model.proofs.MarkBounds.{length-marks, All-task_marks_within}
 use Rattle.seq_planner.proofs.RunsSoFar.{IsRunSoFar-more}
-use Rattle.seq_planner.proofs.SoundTrees.{CostsFall-sound}
 use Rattle.seq_planner.proofs.textbook_planner.textbook.Goals as goal
 
 pub handle-requires-clause-few : goal.handle-requires-clause-few
@@ -25,15 +21,4 @@ pub loop-mark-preserved : goal.loop-mark-preserved
 loop-mark-preserved g c =
     IsRunSoFar-more c.args.task.scene c.as_slice-marks.result.now c.loop-mark.tree c.handle.new.self c.loop-mark.mark-index _ c.loop-mark.invariant
     c.loop-mark-test.true (get_or_default c.as_slice-marks.result.now c.loop-mark.mark-index _ _ c.loop-mark-test.true)
-    c.in_ok-handle.ensures.handles c.in_ok-handle.ensures.sound c.in_ok-handle.ensures.in_room
-
-pub returns-clause-parents : goal.returns-clause-parents
-returns-clause-parents g c =
-    let P : Nodes → Type 0 = λ nodes. CostsFall (sum_of nodes) nodes in
-    let tree = c.loop-mark.tree in
-    subst P (sym c.into_tree.ensures.nodes) (CostsFall-sound tree.nodes tree.costs.items tree.placed c.loop-mark.invariant.sound)
-
-pub returns-clause-in_room : goal.returns-clause-in_room
-returns-clause-in_room g c =
-    let P : Nodes → Type 0 = λ nodes. LiesIn c.args.task.scene.room (points_of nodes) in
-    subst P (sym c.into_tree.ensures.nodes) c.loop-mark.invariant.in_room
+    c.in_ok-handle.ensures.handles c.in_ok-handle.ensures.sound

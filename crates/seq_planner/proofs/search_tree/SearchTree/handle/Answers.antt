@@ -1,11 +1,10 @@
 use Rattle.std.proofs.Common.{◌≡◌, ℕ, List, [], ◌∷◌, ◌++◌, length, length-append, get_or, arith, sym, ap, ◌∙◌, subst}
 use Rattle.std.specs.Prelude.{All}
 use Rattle.plan_model.specs.ConfigurationSpace.{ConfigurationSpace, space_of}
-use Rattle.plan_model.specs.EmptyRooms.{LiesIn}
 use Rattle.plan_model.specs.PointsByNumber.{IsPresent}
 use Rattle.plan_model.specs.Trees.{points_of}
 use Rattle.plan_model.specs.Textbook.{Nodes, Rewires}
-use Rattle.seq_planner.proofs.HandledMarks.{present-put, LiesIn-put, no_child-put, none-put, HandlesNext-put}
+use Rattle.seq_planner.proofs.HandledMarks.{present-put, no_child-put, none-put, HandlesNext-put}
 use Rattle.seq_planner.proofs.search_tree.SearchTree.handle.Goals as goal
 
 pub rewire-requires-clause-near : goal.rewire-requires-clause-near
@@ -44,14 +43,6 @@ returns-in_ok-rewire-clause-handles g c =
     (c.in_ok-rewire.ensures.records ∙ c.in_ok-number.ensures.records) rewired
     (omega (arith, c.in_ok-rewire.ensures.count, ap length c.in_ok-number.ensures.nodes, length-append tree.nodes (extension.node ∷ [])))
 
-pub returns-in_ok-rewire-clause-in_room : goal.returns-in_ok-rewire-clause-in_room
-returns-in_ok-rewire-clause-in_room g c =
-    let tree = c.args.self.now in
-    let extension = c.in_ok-extension.extension in
-    subst (LiesIn c.args.scene.now.room) (sym c.in_ok-rewire.ensures.points)
-    (LiesIn-put c.args.scene.now.room tree.nodes c.push.new.self.nodes extension.node c.in_ok-number.ensures.nodes c.requires.in_room
-    c.in_ok-extension.ensures.in_room)
-
 pub returns-else-is_some-clause-handles : goal.returns-else-is_some-clause-handles
 returns-else-is_some-clause-handles g c =
     let tree = c.args.self.now in
@@ -63,10 +54,3 @@ returns-else-is_some-clause-handles g c =
     HandlesNext-put c.args.scene.now tree c.push.new.self c.args.mark extension near c.in_ok-extension.ensures
     c.in_ok-number.ensures.records (subst R (sym none) c.in_ok-number.ensures.nodes)
     (omega (arith, ap length c.in_ok-number.ensures.nodes, length-append tree.nodes (extension.node ∷ [])))
-
-pub returns-else-is_some-clause-in_room : goal.returns-else-is_some-clause-in_room
-returns-else-is_some-clause-in_room g c =
-    let tree = c.args.self.now in
-    let extension = c.in_ok-extension.extension in
-    LiesIn-put c.args.scene.now.room tree.nodes c.push.new.self.nodes extension.node c.in_ok-number.ensures.nodes c.requires.in_room
-    c.in_ok-extension.ensures.in_room

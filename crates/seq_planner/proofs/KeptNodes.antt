@@ -1,0 +1,67 @@
+-- The nodes of a sound tree with their kept costs: they are the same run as the nodes alone, each at its sum.
+use Rattle.std.proofs.Common.{◌≡◌, ℕ, zero, suc, List, [], ◌∷◌, length, get_or, Some, None, arith, refl, sym, ap, ◌∙◌, subst}
+use Rattle.plan_model.specs.declared.geometry.Point.{Point}
+use Rattle.plan_model.specs.declared.records.Record.{Record}
+use Rattle.plan_model.specs.Clearance.{ClearAt}
+use Rattle.plan_model.specs.ClosedLaw.{IsClosed}
+use Rattle.plan_model.specs.PointsByNumber.{IsPresent, point_at}
+use Rattle.plan_model.specs.SameRuns.{IsOfTextbookRun}
+use Rattle.plan_model.specs.Textbook.{Nodes, Setup, IsTextbookRun}
+use Rattle.plan_model.specs.Trees.{points_of, parent_of, without_costs}
+use Rattle.plan_model.specs.TreeStates.{TreeState, AreSameRuns, state_of}
+use Rattle.plan_model.proofs.RunLaws.{HandlesAll-length}
+use Rattle.plan_model.proofs.SameTrees.{AreSameRuns-trans, IsClosed-same_run}
+use Rattle.plan_model.proofs.TextbookRuns.{IsClosed-textbook}
+use Rattle.step_core.specs.PackedRuns.{kept_cost_of, state_of_lists}
+use Rattle.seq_planner.specs.declared.placed_points.PlacedPoints.{PlacedPoints}
+use Rattle.seq_planner.specs.SearchTrees.{IsSound, with_costs}
+use Rattle.seq_planner.proofs.SoundTrees.{kept_sum}
+
+-- without the kept costs they are the nodes again
+without_costs-with_costs : (nodes : Nodes) (costs : List ℕ) → length costs ≡ length nodes → without_costs (with_costs nodes costs) ≡ nodes
+without_costs-with_costs [] costs e = refl
+without_costs-with_costs (twig ∷ nodes) [] e = cc
+without_costs-with_costs (None ∷ nodes) (cost ∷ costs) e = ap (λ rest. None ∷ rest) (without_costs-with_costs nodes costs (omega (arith, e)))
+without_costs-with_costs (Some node ∷ nodes) (cost ∷ costs) e = ap (λ rest. Some node ∷ rest) (without_costs-with_costs nodes costs (omega (arith, e)))
+
+-- and each present node has its own
+kept_cost_of-with_costs :
+    (nodes : Nodes) (costs : List ℕ) (n : ℕ) → length costs ≡ length nodes → IsPresent (points_of nodes) n
+    → kept_cost_of (get_or (with_costs nodes costs) n None) ≡ get_or costs n 0
+kept_cost_of-with_costs [] costs n e h = cc
+kept_cost_of-with_costs (twig ∷ nodes) [] n e h = cc
+kept_cost_of-with_costs (None ∷ nodes) (cost ∷ costs) zero e h = cc
+kept_cost_of-with_costs (Some node ∷ nodes) (cost ∷ costs) zero e h = refl
+kept_cost_of-with_costs (twig ∷ nodes) (cost ∷ costs) (suc n) e h = kept_cost_of-with_costs nodes costs n (omega (arith, e)) h
+
+module _ (nodes : Nodes) (costs : List ℕ) (placed : PlacedPoints) (records : List Record) (sound : IsSound nodes costs placed) where
+  AreSameRuns-with_costs : AreSameRuns (state_of nodes records) (state_of_lists (with_costs nodes costs) records)
+  AreSameRuns-with_costs =
+      let same = without_costs-with_costs nodes costs sound.cost_count in
+      record {
+        points = λ n. ap (λ (t : Nodes). point_at (points_of t) n) same;
+        parents = λ n h. ap (λ (t : Nodes). parent_of t n) same;
+        costs = λ n h. kept_cost_of-with_costs nodes costs n sound.cost_count h ∙ sym (kept_sum nodes costs placed n sound h);
+        records = λ k. refl;
+      }
+
+  module _ (setup : Setup) (start : Point) (marks : List Point) (run : IsTextbookRun setup start marks nodes records) where
+    -- so if the nodes are those of a textbook run from a clear start, they are closed
+    pub IsClosed-with_costs :
+        ClearAt setup.space start → IsClosed setup start marks (length records) (state_of_lists (with_costs nodes costs) records)
+    IsClosed-with_costs clear =
+        let closed = IsClosed-textbook setup start marks nodes records clear run in
+        let here = IsClosed-same_run setup start marks (length marks) (state_of nodes records) (state_of_lists (with_costs nodes costs) records) closed
+        AreSameRuns-with_costs in
+        let P : ℕ → Type 0 = λ limit. IsClosed setup start marks limit (state_of_lists (with_costs nodes costs) records) in
+        subst P (sym (HandlesAll-length setup 0 _ marks records nodes run)) here
+
+    -- and whatever is the same run as they are is of the textbook run
+    pub IsOfTextbookRun-with_costs :
+        (state : TreeState) → AreSameRuns (state_of_lists (with_costs nodes costs) records) state → IsOfTextbookRun setup start marks state
+    IsOfTextbookRun-with_costs state same = record {
+      nodes = nodes;
+      records = records;
+      run = run;
+      same = AreSameRuns-trans (state_of nodes records) (state_of_lists (with_costs nodes costs) records) state AreSameRuns-with_costs same;
+    }
