@@ -12,6 +12,7 @@ pub mod UniqueRuns
 pub mod OpenRoomMarks
 pub mod RewiredRun
 pub mod KeptRun
+pub mod HandledThird
 pub mod RunLaws
 pub mod MarkBounds
 pub mod FreePoints

@@ -17,4 +17,5 @@ pub mod Trees
 pub mod Rooms
 pub mod Streams
 pub mod Runs
+pub mod Handled
 pub mod Ways

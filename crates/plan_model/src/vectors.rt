@@ -1,5 +1,6 @@
 //! Worked examples of the definitions, each the contract of a function that does nothing.
 
+ghost use Rattle.plan_model.specs.Vectors.Handled.{HandledMarkVectors};
 ghost use Rattle.plan_model.specs.Vectors.Clearances.{ClearanceVectors};
 ghost use Rattle.plan_model.specs.Vectors.Costs.{CostVectors};
 ghost use Rattle.plan_model.specs.Vectors.Drawn.{DrawnVectors};
@@ -128,4 +129,9 @@ pub fn streams()
 /// is equal.
 pub fn runs()
     ensures { RunVectors }
+{}
+
+/// The third mark of the first of these runs, handled whole by one of two workers, and a mark that ends on a node.
+pub fn handled_marks()
+    ensures { HandledMarkVectors }
 {}
