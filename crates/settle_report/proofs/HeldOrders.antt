@@ -1,6 +1,6 @@
 -- What the order law of a finished run says of its kept costs and its sums.
 use Rattle.std.proofs.Common.{◌≡◌, ℕ, zero, suc, ◌+◌, ◌<◌, ◌≤◌, ◌^◌, Bool, true, false, Some, None, arith, sym, ap, ◌∙◌, inl, inr}
-use Rattle.std.specs.Prelude.{Option, if◌then◌else◌, nat_lt, unwrap_or}
+use Rattle.std.specs.Prelude.{if◌then◌else◌, nat_lt, unwrap_or}
 use Rattle.std.proofs.Math.Bool.{Bool-set}
 use Rattle.std.proofs.Math.Bridge.{le_prop}
 use Rattle.std.proofs.Math.Logic.{∥∥₁_elim}
@@ -14,8 +14,8 @@ use Rattle.plan_model.specs.Textbook.{setup_of}
 use Rattle.plan_model.specs.Trees.{edge_by}
 use Rattle.plan_model.specs.TreeStates.{sum_in}
 use Rattle.plan_model.proofs.NewNodes.{IsPresent-stands}
-use Rattle.plan_model.proofs.OrderLaws.{parent-present, KeepsOrder-falls}
-use Rattle.plan_model.proofs.OrderedTrees.{sum_in-start, sum_in-parent, sum_in-le_cost}
+use Rattle.plan_model.proofs.OrderLaws.{parent-present}
+use Rattle.plan_model.proofs.OrderedTrees.{sum_in-start, sum_in-le_cost}
 use Rattle.step_core.specs.GrownWords.{HoldRun, Words, points_of_words, sizes_of, state_of_words}
 use Rattle.step_core.specs.WordPlaces.{Sizes, point_place}
 use Rattle.step_core.specs.Words.{point_in, point_of_word}

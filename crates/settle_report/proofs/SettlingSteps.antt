@@ -8,7 +8,7 @@ use Rattle.plan_model.specs.PointsByNumber.{IsPresent, StandsAt}
 use Rattle.plan_model.specs.OrderLaw.{KeepsOrder}
 use Rattle.plan_model.specs.Textbook.{Setup}
 use Rattle.plan_model.specs.Trees.{edge_by, sum_by}
-use Rattle.plan_model.specs.TreeStates.{TreeState, ChangesCosts, IsSettled, GrowsInto, KeepsOrFalls, first_cost_of, recorded_or, sum_in}
+use Rattle.plan_model.specs.TreeStates.{TreeState, ChangesCosts, GrowsInto, first_cost_of, recorded_or, sum_in}
 use Rattle.plan_model.proofs.OrderLaws.{KeepsOrder-falls, parent-present}
 use Rattle.plan_model.proofs.OrderedTrees.{sum_in-parent, sum_in-start}
 use Rattle.step_core.specs.GrownRuns.{CostsInstead}
@@ -92,14 +92,14 @@ module _
           elim (cases_lt k i) [
             | inl early ↦ early
             | inr late ↦ absurd (omega (
-                arith,
-                order.rises i k (before.cost (suc m), suc m) late within,
-                ap (λ pair. pair.0) same,
-                ap (λ pair. pair.0) (get_or_default pairs i d (before.cost (suc m), suc m) below),
-                (order.costs.kept i d below).cost,
-                less,
-                ap before.cost e,
-              ))
+              arith,
+              order.rises i k (before.cost (suc m), suc m) late within,
+              ap (λ pair. pair.0) same,
+              ap (λ pair. pair.0) (get_or_default pairs i d (before.cost (suc m), suc m) below),
+              (order.costs.kept i d below).cost,
+              less,
+              ap before.cost e,
+            ))
           ])
 
   -- after the pass all nodes are kept at their sums

@@ -1,4 +1,3 @@
-use Rattle.std.proofs.Common.{◌≡◌}
 use Rattle.step_core.specs.GrownRuns.{state_of_grown}
 use Rattle.settle_report.proofs.CostOrderLaws.{IsCostOrder-sorted}
 use Rattle.settle_report.proofs.settling.by_rising_cost.Goals as goal
