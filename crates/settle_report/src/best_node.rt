@@ -9,10 +9,11 @@ ghost use Rattle.step_core.specs.GrownRuns.{state_of_grown};
 
 use step_core::Grown;
 
-/// The goal node with the least cost-to-come, and of those with the same cost the one with the least number; `None` exactly
-/// if no node lies in the goal. O(n) for n marks.
+/// The number of the goal node (a node whose point lies in the closed goal box) with the least cost-to-come, and of those with
+/// the same cost the least number; `None` exactly if no node lies in the goal. O(n) for n marks.
 ///
-/// The run is settled, so each kept cost is the cost-to-come.
+/// The run is settled, so each kept cost is the cost-to-come, and no path is walked. In a run that is not settled the node
+/// with the least kept cost need not be the best one.
 pub fn best(grown: &Grown) -> Option<u32>
     requires { IsSettled (state_of_grown grown.now) }
     ensures value { result ≡ best_node grown.now.task.scene (state_of_grown grown.now) }

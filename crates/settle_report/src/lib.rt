@@ -1,6 +1,9 @@
 //! What is said of a finished run: its costs settled, its best node, and its report as text.
 //!
-//! [`settle`] makes each kept cost the node's cost-to-come along its parents, which is what the other calls ask for.
+//! The cost-to-come of a node is what the edges from the start to it cost together. A run keeps a cost for each node, which
+//! is at least that: if a node gets a cheaper parent, its own kept cost falls at once, but those of its descendants may stay
+//! behind. [`settle`] makes each kept cost the cost-to-come, and the other calls take a run that is settled.
+//!
 //! [`best`] is the cheapest node in the goal. [`report`] is the text, short or full, and [`deliver`] writes a text to a sink.
 //! Each takes a number of steps that is linear in the run and its text, but for the sort of the nodes by their costs.
 #![tactic(auto)]

@@ -1,4 +1,12 @@
-//! Settling: each kept cost becomes the node's cost-to-come along its parents.
+//! Settling: each kept cost becomes the node's cost-to-come, the sum of the edges from the start to it along the parents.
+//!
+//! A kept cost may be too high, since a node that is rewired costs less at once and its descendants are lowered later, or
+//! not at all. It is never too low: each node but the start is kept at no less than what its parent is kept at and the edge.
+//! As no two nodes stand at one point, each edge costs something, so a parent is kept at strictly less than its children.
+//!
+//! So one pass by rising kept cost suffices. A node's parent comes before it in that order, by the costs at the start of the
+//! pass, and is at its cost-to-come when the node's turn is; with the edge that gives the node's own, which no later turn
+//! changes. A walk down the tree from the start would serve too, but the words of a run have no lists of tree children.
 
 ghost use Rattle.std.specs.Prelude.{◌≡◌, ◌<◌, ◌+◌, ℕ, Bool, IfOk, OnErr, OnOk};
 ghost use Rattle.plan_model.specs.Cost.{cost_of};
@@ -12,10 +20,10 @@ use plan_model::Memory;
 use std::alloc::Global;
 use step_core::Grown;
 
-/// Makes each kept cost the node's cost-to-come: the costs of the edges from the start to it. All else stays, and no cost
-/// rises. O(n log n) for n nodes.
+/// Makes each kept cost the node's cost-to-come, in 256ths of a lattice step: the costs of the edges from the start to it. All
+/// else stays (nodes, parents, records and the kd-tree), and no cost rises. O(n log n) for n nodes, for the sort.
 ///
-/// A parent is kept at strictly less than its children, so one pass by rising kept cost settles each node after its parent.
+/// Settling a second time changes nothing.
 ///
 /// # Errors
 ///
@@ -34,7 +42,7 @@ pub fn settle(alloc: Global, grown: &mut Grown) -> Result<(), Memory>
     Ok(())
 }
 
-/// Settles the nodes one after another, each after its parent.
+/// Settles the nodes of the order one after another, each after its parent.
 fn settle_in_order(grown: &mut Grown, order: &[(u64, u32)])
     requires { IsCostOrder (state_of_grown grown.old) order.now }
     ensures task { grown.new.task ≡ grown.old.task }
