@@ -5,3 +5,4 @@ pub mod CostOrderLaws
 pub mod GrownPaths
 pub mod NumberedLines
 pub mod CountedMarks
+pub mod UnsettledRun

@@ -54,3 +54,46 @@ fn better_node(grown: &Grown, node: u32, later: Option<u32>) -> u32
         _ => node,
     }
 }
+
+#[cfg(test)]
+mod tests {
+    use super::*;
+    use crate::settling::settle;
+    use crate::test_runs::{start_alone, unsettled_run};
+    use plan_model::{Goal, Point};
+    use std::test::Fail;
+
+    #[test]
+    fn takes_the_cheapest_and_of_equal_ones_the_first(rt: HostRuntime) -> Result<(), Fail> {
+        for (low, high, want) in [
+            ((90, 90), (99, 99), None),
+            ((0, 0), (100, 100), Some(0)),
+            ((40, 30), (40, 79), Some(3)),
+            ((0, 30), (40, 50), Some(1)),
+            ((40, 79), (40, 79), Some(2)),
+            ((41, 30), (100, 79), None),
+        ] {
+            let low = Point { x: low.0, y: low.1 };
+            let high = Point {
+                x: high.0,
+                y: high.1,
+            };
+            let mut grown = unsettled_run(rt.alloc(), Goal { low, high })?;
+            settle(rt.alloc(), &mut grown)?;
+            assert_eq!(rt; best(&grown), want, "from {low:?} to {high:?}");
+        }
+        Ok(())
+    }
+
+    #[test]
+    fn takes_the_start_alone_if_it_lies_in_the_goal(rt: HostRuntime) -> Result<(), Fail> {
+        for (low, high, want) in [(0, 0, Some(0)), (0, 9, Some(0)), (1, 9, None)] {
+            let low = Point { x: low, y: low };
+            let high = Point { x: high, y: high };
+            let mut grown = start_alone(rt.alloc(), Goal { low, high })?;
+            settle(rt.alloc(), &mut grown)?;
+            assert_eq!(rt; best(&grown), want, "from {low:?} to {high:?}");
+        }
+        Ok(())
+    }
+}

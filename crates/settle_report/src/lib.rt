@@ -15,6 +15,8 @@ mod node_lines;
 mod paths;
 mod reports;
 mod settling;
+#[cfg(test)]
+mod test_runs;
 
 pub use best_node::best;
 pub use delivery::deliver;

@@ -92,3 +92,56 @@ fn kept_costs(alloc: Global, grown: &Grown) -> Result<Vec<(u64, u32)>, Memory>
     }
     Ok(costs)
 }
+
+#[cfg(test)]
+mod tests {
+    use super::*;
+    use crate::test_runs::{start_alone, unsettled_run};
+    use plan_model::{Goal, Point};
+    use std::test::Fail;
+
+    const GOAL: Goal = Goal {
+        low: Point { x: 90, y: 90 },
+        high: Point { x: 99, y: 99 },
+    };
+
+    /// The parent and the kept cost of a node; `None` if it is absent.
+    fn kept(grown: &Grown, node: u32) -> Option<(u32, u64)> {
+        grown.point(node)?;
+        Some((grown.parent(node), grown.cost(node)))
+    }
+
+    #[test]
+    fn lowers_each_node_after_its_parent(rt: HostRuntime) -> Result<(), Fail> {
+        let mut grown = unsettled_run(rt.alloc(), GOAL)?;
+        assert_eq!(rt; kept(&grown, 2), Some((3, 25_449)));
+        assert_eq!(rt; kept(&grown, 3), Some((0, 12_900)));
+        for pass in ["first", "second"] {
+            settle(rt.alloc(), &mut grown)?;
+            for (node, want) in [
+                (0, Some((0, 0))),
+                (1, Some((0, 12_800))),
+                (2, Some((3, 25_344))),
+                (3, Some((0, 12_800))),
+                (4, None),
+            ] {
+                assert_eq!(rt;
+                    kept(&grown, node),
+                    want,
+                    "node {node} after the {pass} pass"
+                );
+            }
+        }
+        assert_eq!(rt; (grown.limit(), grown.count()), (3, 4));
+        Ok(())
+    }
+
+    #[test]
+    fn leaves_the_start_alone(rt: HostRuntime) -> Result<(), Fail> {
+        let mut grown = start_alone(rt.alloc(), GOAL)?;
+        settle(rt.alloc(), &mut grown)?;
+        assert_eq!(rt; kept(&grown, 0), Some((0, 0)));
+        assert_eq!(rt; kept(&grown, 1), None);
+        Ok(())
+    }
+}

@@ -1,0 +1,305 @@
+-- A run that is closed and not settled: node 3 was rewired to the start and node 2 to node 3, and both are kept at more than their
+-- costs-to-come. With gamma 0 no node is a neighbour, so no record says that they were lowered.
+use Rattle.std.proofs.Common.{◌≡◌, ℕ, zero, suc, ◌+◌, ◌*◌, ◌<◌, ◌≤◌, length, Option, Some, None, List, [], ◌∷◌, arith, refl, sym, ap, ◌∙◌, subst}
+use Rattle.std.specs.Prelude.{IsSome, slice_get, unwrap_or}
+use Rattle.plan_model.specs.declared.geometry.Point.{Point}
+use Rattle.plan_model.specs.declared.limits.TheConstants.{MOST_WORKERS}
+use Rattle.plan_model.specs.declared.records.Record.{Record}
+use Rattle.plan_model.specs.declared.trees.Knot.{Knot}
+use Rattle.plan_model.specs.Clearance.{ClearAt}
+use Rattle.plan_model.specs.ClosedLaw.{ArePlacedMarks, AreTurns, AreRecordedBelow, IsClosed, mark_at}
+use Rattle.plan_model.specs.Cost.{cost_of}
+use Rattle.plan_model.specs.EmptyRooms.{empty_room}
+use Rattle.plan_model.specs.Geometry.{squared_distance}
+use Rattle.plan_model.specs.LeastPairs.{IsNotAbove}
+use Rattle.plan_model.specs.Nearness.{distance_to}
+use Rattle.plan_model.specs.OrderLaw.{HangsBelow, IsAllowedEdge, KeepsOrder, most_cost_of}
+use Rattle.plan_model.specs.PointsByNumber.{IsPresent, node_count}
+use Rattle.plan_model.specs.RecordLaw.{HangsLawfully, IsChosenLawfully, IsEarlier, IsLawfulRecord, IsNeighbour, IsPlacedLawfully}
+use Rattle.plan_model.specs.Textbook.{Setup, placed_record}
+use Rattle.plan_model.specs.TreeStates.{TreeState, state_of}
+use Rattle.plan_model.specs.Vectors.Runs.{marks_to_rewire, open_setup, rewired_records, rewired_tree}
+use Rattle.plan_model.specs.Vectors.Shapes.{at}
+use Rattle.plan_model.proofs.EmptyRoomClearance.{Clear-empty_room}
+use Rattle.plan_model.proofs.LeastPairLaws.{IsNotAbove-lesser, IsNotAbove-refl}
+use Rattle.plan_model.proofs.OpenRoomMarks.{cost_2000, cost_2401, cost_2441, cost_2500}
+use Rattle.plan_model.proofs.RewiredRun.{rewired_run}
+use Rattle.plan_model.proofs.TextbookRuns.{IsClosed-textbook}
+use Rattle.step_core.specs.PackedRuns.{state_of_lists}
+
+abbrev pub rrt_setup : Setup
+rrt_setup = record { space = empty_room (at 100 100); step = 50; gamma = 0 }
+
+abbrev knot : ℕ → ℕ → ℕ → ℕ → Option Knot
+knot x y parent cost = Some (record { point = at x y; parent = parent; cost = cost })
+
+abbrev pub unsettled_knots : List (Option Knot)
+unsettled_knots = knot 0 0 0 0 ∷ knot 0 50 0 12800 ∷ knot 40 79 3 25449 ∷ knot 40 30 0 12900 ∷ []
+
+abbrev first : Record
+first = placed_record 0 0 0 12800 1
+
+abbrev second : Record
+second = placed_record 1 1 1 25449 2
+
+abbrev third : Record
+third = placed_record 2 1 1 24249 2
+
+abbrev pub unsettled_records : List Record
+unsettled_records = first ∷ second ∷ third ∷ []
+
+abbrev pub unsettled : TreeState
+unsettled = state_of_lists unsettled_knots unsettled_records
+
+-- ---- edges
+
+from_start : cost_of (at 0 0) (at 0 50) ≡ 12800
+from_start = cost_2500
+
+to_third : cost_of (at 0 0) (at 40 30) ≡ 12800
+to_third = cost_2500
+
+to_second : cost_of (at 0 50) (at 40 79) ≡ 12649
+to_second = cost_2441
+
+between : cost_of (at 0 50) (at 40 30) ≡ 11449
+between = cost_2000
+
+upwards : cost_of (at 40 30) (at 40 79) ≡ 12544
+upwards = cost_2401
+
+-- a short edge in the room is allowed
+allowed : (a b : Point) → a.x ≤ 100 → a.y ≤ 100 → b.x ≤ 100 → b.y ≤ 100 → squared_distance a b ≤ 2500 → IsAllowedEdge rrt_setup a b
+allowed a b ax ay bx by_y short = record {
+  clear = Clear-empty_room (at 100 100) a b (record { horizontal = ax; vertical = ay }) (record { horizontal = bx; vertical = by_y });
+  short = omega (arith, short);
+}
+
+start_first : IsAllowedEdge rrt_setup (at 0 0) (at 0 50)
+start_first = allowed (at 0 0) (at 0 50) (omega arith) (omega arith) (omega arith) (omega arith) (omega arith)
+
+start_third : IsAllowedEdge rrt_setup (at 0 0) (at 40 30)
+start_third = allowed (at 0 0) (at 40 30) (omega arith) (omega arith) (omega arith) (omega arith) (omega arith)
+
+first_second : IsAllowedEdge rrt_setup (at 0 50) (at 40 79)
+first_second = allowed (at 0 50) (at 40 79) (omega arith) (omega arith) (omega arith) (omega arith) (omega arith)
+
+first_third : IsAllowedEdge rrt_setup (at 0 50) (at 40 30)
+first_third = allowed (at 0 50) (at 40 30) (omega arith) (omega arith) (omega arith) (omega arith) (omega arith)
+
+third_second : IsAllowedEdge rrt_setup (at 40 30) (at 40 79)
+third_second = allowed (at 40 30) (at 40 79) (omega arith) (omega arith) (omega arith) (omega arith) (omega arith)
+
+-- ---- the order law
+
+hangs : (n : ℕ) → IsPresent unsettled.points (suc n) → HangsBelow rrt_setup unsettled (suc n)
+hangs zero h = record { parent = refl; other = λ e. absurd (omega (arith, e)); edge = start_first; cost = omega (arith, from_start) }
+hangs (suc zero) h = record { parent = refl; other = λ e. absurd (omega (arith, e)); edge = third_second; cost = omega (arith, upwards) }
+hangs (suc (suc zero)) h = record { parent = refl; other = λ e. absurd (omega (arith, e)); edge = start_third; cost = omega (arith, to_third) }
+hangs (suc (suc (suc n))) h = cc
+
+bounded : (n : ℕ) → IsPresent unsettled.points n → unsettled.cost n ≤ most_cost_of rrt_setup (node_count unsettled.points)
+bounded zero h = omega arith
+bounded (suc zero) h = omega arith
+bounded (suc (suc zero)) h = omega arith
+bounded (suc (suc (suc zero))) h = omega arith
+bounded (suc (suc (suc (suc n)))) h = cc
+
+-- ---- records
+
+recorded : (k : ℕ) → k < 3 → IsSome (unsettled.record_of k)
+recorded zero h = refl
+recorded (suc zero) h = refl
+recorded (suc (suc zero)) h = refl
+recorded (suc (suc (suc k))) h = absurd (omega (arith, h))
+
+none_else : (k : ℕ) → 3 ≤ k → unsettled.record_of k ≡ None
+none_else zero h = absurd (omega (arith, h))
+none_else (suc zero) h = absurd (omega (arith, h))
+none_else (suc (suc zero)) h = absurd (omega (arith, h))
+none_else (suc (suc (suc k))) h = refl
+
+worker_is : (k : ℕ) (entry : Record) → unsettled.record_of k ≡ Some entry → entry.worker ≡ 0
+worker_is zero entry h = sym (ap (λ o. (unwrap_or {T = Record} o first).worker) h)
+worker_is (suc zero) entry h = sym (ap (λ o. (unwrap_or {T = Record} o first).worker) h)
+worker_is (suc (suc zero)) entry h = sym (ap (λ o. (unwrap_or {T = Record} o first).worker) h)
+worker_is (suc (suc (suc k))) entry h = cc
+
+turn_is : (k : ℕ) (entry : Record) → unsettled.record_of k ≡ Some entry → entry.turn ≡ k
+turn_is zero entry h = sym (ap (λ o. (unwrap_or {T = Record} o first).turn) h)
+turn_is (suc zero) entry h = sym (ap (λ o. (unwrap_or {T = Record} o first).turn) h)
+turn_is (suc (suc zero)) entry h = sym (ap (λ o. (unwrap_or {T = Record} o first).turn) h)
+turn_is (suc (suc (suc k))) entry h = cc
+
+no_gap : (k turn : ℕ) (entry : Record) → unsettled.record_of k ≡ Some entry → entry.turn ≡ suc turn
+    → (j : ℕ) × (before : Record) × (unsettled.record_of j ≡ Some before) × (before.worker ≡ entry.worker) × (before.turn ≡ turn)
+no_gap zero turn entry h e = absurd (omega (arith, turn_is 0 entry h, e))
+no_gap (suc zero) turn entry h e = (0, first, refl, sym (worker_is 1 entry h), omega (arith, turn_is 1 entry h, e))
+no_gap (suc (suc zero)) turn entry h e = (1, second, refl, sym (worker_is 2 entry h), omega (arith, turn_is 2 entry h, e))
+no_gap (suc (suc (suc k))) turn entry h e = cc
+
+placed : ArePlacedMarks unsettled
+placed zero = ((λ h. (first, refl, refl)), λ h. refl)
+placed (suc zero) = ((λ h. (second, refl, refl)), λ h. refl)
+placed (suc (suc zero)) = ((λ h. (third, refl, refl)), λ h. refl)
+placed (suc (suc (suc k))) = ((λ h. cc), λ h. (let e = h.1 in cc))
+
+-- ---- no node is a neighbour
+
+alone_1 : (i : ℕ) → ¬ IsNeighbour rrt_setup unsettled first (at 0 50) i
+alone_1 zero h = let e = h.near in cc
+alone_1 (suc zero) h = let e = h.earlier in cc
+alone_1 (suc (suc zero)) h = let e = h.earlier in cc
+alone_1 (suc (suc (suc zero))) h = let e = h.earlier in cc
+alone_1 (suc (suc (suc (suc i)))) h = let e = h.earlier in cc
+
+alone_2 : (i : ℕ) → ¬ IsNeighbour rrt_setup unsettled second (at 40 79) i
+alone_2 zero h = let e = h.near in cc
+alone_2 (suc zero) h = let e = h.near in cc
+alone_2 (suc (suc zero)) h = let e = h.earlier in cc
+alone_2 (suc (suc (suc zero))) h = let e = h.earlier in cc
+alone_2 (suc (suc (suc (suc i)))) h = let e = h.earlier in cc
+
+alone_3 : (i : ℕ) → ¬ IsNeighbour rrt_setup unsettled third (at 40 30) i
+alone_3 zero h = let e = h.near in cc
+alone_3 (suc zero) h = let e = h.near in cc
+alone_3 (suc (suc zero)) h = let e = h.near in cc
+alone_3 (suc (suc (suc zero))) h = let e = h.earlier in cc
+alone_3 (suc (suc (suc (suc i)))) h = let e = h.earlier in cc
+
+-- ---- the nearest nodes
+
+nearest_1 : (i : ℕ) → IsEarlier unsettled first i → IsNotAbove (distance_to (at 0 50) unsettled.points) 0 i
+nearest_1 zero h = IsNotAbove-refl (distance_to (at 0 50) unsettled.points) 0
+nearest_1 (suc zero) h = cc
+nearest_1 (suc (suc zero)) h = cc
+nearest_1 (suc (suc (suc zero))) h = cc
+nearest_1 (suc (suc (suc (suc i)))) h = cc
+
+nearest_2 : (i : ℕ) → IsEarlier unsettled second i → IsNotAbove (distance_to (at 40 79) unsettled.points) 1 i
+nearest_2 zero h = IsNotAbove-lesser (distance_to (at 40 79) unsettled.points) 1 0 (omega arith)
+nearest_2 (suc zero) h = IsNotAbove-refl (distance_to (at 40 79) unsettled.points) 1
+nearest_2 (suc (suc zero)) h = cc
+nearest_2 (suc (suc (suc zero))) h = cc
+nearest_2 (suc (suc (suc (suc i)))) h = cc
+
+nearest_3 : (i : ℕ) → IsEarlier unsettled third i → IsNotAbove (distance_to (at 40 30) unsettled.points) 1 i
+nearest_3 zero h = IsNotAbove-lesser (distance_to (at 40 30) unsettled.points) 1 0 (omega arith)
+nearest_3 (suc zero) h = IsNotAbove-refl (distance_to (at 40 30) unsettled.points) 1
+nearest_3 (suc (suc zero)) h = IsNotAbove-lesser (distance_to (at 40 30) unsettled.points) 1 2 (omega arith)
+nearest_3 (suc (suc (suc zero))) h = cc
+nearest_3 (suc (suc (suc (suc i)))) h = cc
+
+-- ---- the record law
+
+law_1 : IsLawfulRecord rrt_setup unsettled 0 (at 0 50) first
+law_1 = record {
+  present = refl;
+  nearest = nearest_1;
+  outcome = record {
+    by_worker = record {
+      clear = start_first.clear;
+      of_class = record { low = omega arith; high = omega arith };
+      chosen = λ i h. absurd (alone_1 i h);
+      rewired = λ i h. absurd (alone_1 i h);
+    };
+    by_tree = record {
+      stands = refl;
+      parent = refl;
+      other = λ e. absurd (omega (arith, e));
+      nearest_other = λ e. absurd (omega (arith, e));
+      edge = start_first;
+      above_kept = omega (arith, from_start);
+      below_first = omega (arith, from_start);
+      below_nearest = omega (arith, from_start);
+      bounded = omega arith;
+      kept = omega arith;
+    };
+  };
+}
+
+law_2 : IsLawfulRecord rrt_setup unsettled 1 (at 40 79) second
+law_2 = record {
+  present = refl;
+  nearest = nearest_2;
+  outcome = record {
+    by_worker = record {
+      clear = first_second.clear;
+      of_class = record { low = omega arith; high = omega arith };
+      chosen = λ i h. absurd (alone_2 i h);
+      rewired = λ i h. absurd (alone_2 i h);
+    };
+    by_tree = record {
+      stands = refl;
+      parent = refl;
+      other = λ e. absurd (omega (arith, e));
+      nearest_other = λ e. absurd (omega (arith, e));
+      edge = first_second;
+      above_kept = omega (arith, to_second);
+      below_first = omega (arith, to_second);
+      below_nearest = omega (arith, to_second);
+      bounded = omega arith;
+      kept = omega arith;
+    };
+  };
+}
+
+law_3 : IsLawfulRecord rrt_setup unsettled 2 (at 40 30) third
+law_3 = record {
+  present = refl;
+  nearest = nearest_3;
+  outcome = record {
+    by_worker = record {
+      clear = first_third.clear;
+      of_class = record { low = omega arith; high = omega arith };
+      chosen = λ i h. absurd (alone_3 i h);
+      rewired = λ i h. absurd (alone_3 i h);
+    };
+    by_tree = record {
+      stands = refl;
+      parent = refl;
+      other = λ e. absurd (omega (arith, e));
+      nearest_other = λ e. absurd (omega (arith, e));
+      edge = first_third;
+      above_kept = omega (arith, between);
+      below_first = omega (arith, between);
+      below_nearest = omega (arith, between);
+      bounded = omega arith;
+      kept = omega arith;
+    };
+  };
+}
+
+lawful : (k : ℕ) (entry : Record) → unsettled.record_of k ≡ Some entry → IsLawfulRecord rrt_setup unsettled k (mark_at marks_to_rewire k) entry
+lawful zero entry h = subst (IsLawfulRecord rrt_setup unsettled 0 (at 0 50)) (ap (λ o. unwrap_or {T = Record} o first) h) law_1
+lawful (suc zero) entry h = subst (IsLawfulRecord rrt_setup unsettled 1 (at 40 79)) (ap (λ o. unwrap_or {T = Record} o first) h) law_2
+lawful (suc (suc zero)) entry h = subst (IsLawfulRecord rrt_setup unsettled 2 (at 40 30)) (ap (λ o. unwrap_or {T = Record} o first) h) law_3
+lawful (suc (suc (suc k))) entry h = cc
+
+-- ---- the closed law
+
+pub IsClosed-unsettled : ClearAt rrt_setup.space (at 0 0) → IsClosed rrt_setup (at 0 0) marks_to_rewire 3 unsettled
+IsClosed-unsettled clear =
+    let textbook = IsClosed-textbook open_setup (at 0 0) marks_to_rewire rewired_tree rewired_records clear rewired_run in
+    record {
+      order =
+          record {
+            distinct = textbook.order.distinct;
+            start_stands = refl;
+            start_clear = clear;
+            start_parent = refl;
+            start_cost = refl;
+            hangs = hangs;
+            bounded = bounded;
+          };
+      within = omega arith;
+      records = record { recorded = recorded; none_else = none_else };
+      workers = λ k entry h. omega (arith, worker_is k entry h);
+      turns =
+          record {
+            once = λ j k one other p q worker turn. sym (turn_is j one p) ∙ turn ∙ turn_is k other q;
+            no_gap = no_gap;
+          };
+      lawful = lawful;
+      placed = placed;
+    }

@@ -1,0 +1,33 @@
+-- The run is closed.
+use Rattle.std.proofs.Common.{◌≡◌, [], ◌∷◌, length, List, sym, ap, ◌∙◌, subst}
+use Rattle.plan_model.specs.Clearance.{ClearAt}
+use Rattle.plan_model.specs.ClosedLaw.{IsClosed}
+use Rattle.plan_model.specs.ConfigurationSpace.{space_of}
+use Rattle.plan_model.specs.Textbook.{setup_of}
+use Rattle.plan_model.specs.Vectors.Runs.{marks_to_rewire}
+use Rattle.plan_model.specs.Vectors.Shapes.{at}
+use Rattle.step_core.specs.PackedRuns.{state_of_lists}
+use Rattle.settle_report.proofs.UnsettledRun.{IsClosed-unsettled, rrt_setup, unsettled_knots, unsettled_records}
+use Rattle.settle_report.proofs.test_runs.unsettled_run.Goals as goal
+
+pub pack-requires : goal.pack-requires
+pack-requires c =
+    let task = c.in_ok-task.task in
+    let knots : c.from_vec-knots.result ≡ unsettled_knots =
+    c.from_vec-knots.ensures ∙ c.in_ok-from_slice.ensures.items
+    ∙ (λ t. c.node.ensures t ∷ c.node-2.ensures t ∷ c.node-3.ensures t ∷ c.node-4.ensures t ∷ []) in
+    let records : c.from_vec-records.result ≡ unsettled_records =
+    c.from_vec-records.ensures ∙ c.in_ok-from_slice-2.ensures.items
+    ∙ (λ t. c.placed.ensures t ∷ c.placed-2.ensures t ∷ c.placed-3.ensures t ∷ []) in
+    let clear =
+    subst (λ setup. ClearAt setup.space (at 0 0)) c.in_ok-task.ensures.setup
+    (subst (ClearAt (space_of task.scene)) c.in_ok-task.ensures.start c.in_ok-task.ensures.clear) in
+    let law = IsClosed-unsettled clear in
+    subst (λ setup. IsClosed setup task.scene.start task.marks (length c.from_vec-records.result) (state_of_lists c.from_vec-knots.result c.from_vec-records.result))
+    (sym c.in_ok-task.ensures.setup)
+    (subst (λ start. IsClosed rrt_setup start task.marks (length c.from_vec-records.result) (state_of_lists c.from_vec-knots.result c.from_vec-records.result))
+    (sym c.in_ok-task.ensures.start)
+    (subst (λ marks. IsClosed rrt_setup (at 0 0) marks (length c.from_vec-records.result) (state_of_lists c.from_vec-knots.result c.from_vec-records.result))
+    (sym c.in_ok-task.ensures.marks)
+    (subst (λ entries. IsClosed rrt_setup (at 0 0) marks_to_rewire (length entries) (state_of_lists c.from_vec-knots.result entries)) (sym records)
+    (subst (λ nodes. IsClosed rrt_setup (at 0 0) marks_to_rewire 3 (state_of_lists nodes unsettled_records)) (sym knots) law))))
