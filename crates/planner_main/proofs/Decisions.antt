@@ -73,13 +73,13 @@ low_report false = omega arith
 -- a command that succeeds ends with one of its statuses of success
 pub Succeeds-low : (command : Command) (bytes : List ℕ) (done : Done) (text : List ℕ) → Succeeds command bytes done text →
     done.status ≤ greatest_success command
-Succeeds-low commands.Plain bytes done text r = rw r.report.best (low_report _)
+Succeeds-low (commands.Plain full) bytes done text r = rw r.report.reported.best (low_report _)
 Succeeds-low commands.Show bytes done text s = omega (arith, s.shown)
 Succeeds-low (commands.Gen number) bytes done text w = omega (arith, w.status)
-Succeeds-low (commands.Trial number) bytes done text t = rw t.report.best (low_report _)
+Succeeds-low (commands.Trial number) bytes done text t = rw t.report.reported.best (low_report _)
 
 greatest_success-low : (command : Command) → greatest_success command ≤ NO_PATH
-greatest_success-low commands.Plain = omega arith
+greatest_success-low (commands.Plain full) = omega arith
 greatest_success-low commands.Show = omega arith
 greatest_success-low (commands.Gen number) = omega arith
 greatest_success-low (commands.Trial number) = omega arith
@@ -91,7 +91,7 @@ IsSuccess-low asked reading done text s =
 
 -- a command that tests the start reads a scene
 tests-reads : (command : Command) → IsTrue (tests_start command) → IsTrue (reads_scene command)
-tests-reads commands.Plain tests = refl
+tests-reads (commands.Plain full) tests = refl
 tests-reads commands.Show tests = refl
 tests-reads (commands.Gen number) tests = absurd (false≢true tests)
 tests-reads (commands.Trial number) tests = absurd (false≢true tests)
@@ -99,8 +99,9 @@ tests-reads (commands.Trial number) tests = absurd (false≢true tests)
 -- a command that reads a scene succeeds as its bytes decide
 by_meaning : (bytes : List ℕ) (command : Command) (done : Done) (text : List ℕ) → Succeeds command bytes done text →
     IsTrue (reads_scene command) → IsDecidedBy bytes command done.status
-by_meaning bytes commands.Plain done text r reads =
-    by_success bytes commands.Plain done.status r.scene r.spelled (λ tests. r.start) (Succeeds-low commands.Plain bytes done text r)
+by_meaning bytes (commands.Plain full) done text r reads =
+    by_success bytes (commands.Plain full) done.status r.scene r.spelled (λ tests. r.start)
+    (Succeeds-low (commands.Plain full) bytes done text r)
 by_meaning bytes commands.Show done text s reads =
     by_success bytes commands.Show done.status s.scene s.spelled (λ tests. absurd (false≢true tests))
     (Succeeds-low commands.Show bytes done text s)

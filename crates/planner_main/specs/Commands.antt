@@ -10,7 +10,7 @@ use Rattle.planner_main.specs.declared.statuses.TheConstants.{DONE, NO_PATH}
 -- the command that one word asks for, if it asks for one
 abbrev pub command_of_word : List ℕ → Option Command
 command_of_word word =
-    if bytes_eq word (codes "plain") then Some commands.Plain else (if bytes_eq word (codes "show") then Some commands.Show else None)
+    if bytes_eq word (codes "plain") then Some (commands.Plain false) else (if bytes_eq word (codes "show") then Some commands.Show else None)
 
 -- The number of a generated scene that a word stands for, if it is one: spelled as the numbers of a scene text are.
 abbrev pub number_of : List ℕ → Option ℕ
@@ -23,9 +23,11 @@ abbrev pub command_about : List ℕ → ℕ → Option Command
 command_about word number =
     if bytes_eq word (codes "gen") then Some (commands.Gen number) else (if bytes_eq word (codes "trial") then Some (commands.Trial number) else None)
 
--- the command that a word and the number of a generated scene ask for, if they ask for one
+-- The command that two words ask for, if they ask for one: `plain full`, or a word and the number of a generated scene.
 abbrev pub command_of_two : List ℕ → List ℕ → Option Command
-command_of_two word number = option_and_then (command_about word) (number_of number)
+command_of_two word second =
+    if bytes_eq word (codes "plain") && bytes_eq second (codes "full") then Some (commands.Plain true)
+    else option_and_then (command_about word) (number_of second)
 
 -- the command that the words ask for, if they ask for one
 abbrev pub command_of : List (List ℕ) → Option Command
@@ -36,28 +38,28 @@ command_of (word ∷ second ∷ third ∷ words) = None
 
 -- if the command is about a generated scene, there is one of its number
 abbrev pub IsNumbered : Command → Type 0
-IsNumbered commands.Plain = Unit {0}
+IsNumbered (commands.Plain full) = Unit {0}
 IsNumbered commands.Show = Unit {0}
 IsNumbered (commands.Gen number) = number ≤ MOST_GENERATED
 IsNumbered (commands.Trial number) = number ≤ MOST_GENERATED
 
 -- whether a command reads the text of a scene; one that does not reads nothing
 abbrev pub reads_scene : Command → Bool
-reads_scene commands.Plain = true
+reads_scene (commands.Plain full) = true
 reads_scene commands.Show = true
 reads_scene (commands.Gen number) = false
 reads_scene (commands.Trial number) = false
 
 -- whether a command is refused if the start of its scene is not clear
 abbrev pub tests_start : Command → Bool
-tests_start commands.Plain = true
+tests_start (commands.Plain full) = true
 tests_start commands.Show = false
 tests_start (commands.Gen number) = false
 tests_start (commands.Trial number) = false
 
 -- the greatest status that a command may succeed with
 abbrev pub greatest_success : Command → ℕ
-greatest_success commands.Plain = NO_PATH
+greatest_success (commands.Plain full) = NO_PATH
 greatest_success commands.Show = DONE
 greatest_success (commands.Gen number) = DONE
 greatest_success (commands.Trial number) = NO_PATH

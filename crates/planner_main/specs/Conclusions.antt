@@ -2,18 +2,21 @@
 use Rattle.std.specs.Prelude.{◌≡◌, ℕ, ◌≤◌, ◌⊎◌, Bool, true, false, IsTrue, MatchBool, List, length}
 use Rattle.std.specs.Prelude.{Option, Some, None, is_some, IsSome, IsSomeAnd}
 use Rattle.plan_model.specs.declared.limits.TheConstants.{MOST_TEXT_BYTES}
-use Rattle.plan_model.specs.declared.trees.Twig.{Twig}
-use Rattle.plan_model.specs.declared.records.Record.{Record}
 use Rattle.plan_model.specs.declared.scenes.Scene.{Scene}
 use Rattle.plan_model.specs.declared.text_terms.Kind.{Kind}
 use Rattle.plan_model.specs.ConfigurationSpace.{space_of}
 use Rattle.plan_model.specs.Clearance.{ClearAt}
 use Rattle.plan_model.specs.MarkPoints.{mark_points}
-use Rattle.plan_model.specs.Textbook.{IsTextbookRun, setup_of}
+use Rattle.plan_model.specs.ClosedLaw.{IsClosed}
+use Rattle.plan_model.specs.SameRuns.{IsOfTextbookRun}
+use Rattle.plan_model.specs.Textbook.{setup_of}
+use Rattle.plan_model.specs.TreeStates.{TreeState, IsSettled}
 use Rattle.plan_model.specs.BestNode.{best_node}
-use Rattle.plan_model.specs.ReportText.{short_report}
+use Rattle.plan_model.specs.ReportText.{report_text, summary}
 use Rattle.plan_model.specs.CanonicalText.{canonical_text}
 use Rattle.plan_model.specs.SceneGrammar.{Spells, Refused, supported}
+use Rattle.step_core.specs.declared.grown.Grown.{Grown}
+use Rattle.step_core.specs.GrownRuns.{state_of_grown}
 use Rattle.planner_main.specs.declared.commands.Command.{Command}
 use Rattle.planner_main.specs.declared.commands.Command.TheVariants as commands
 use Rattle.planner_main.specs.declared.refusals.Refusal.{Refusal}
@@ -22,7 +25,6 @@ use Rattle.planner_main.specs.declared.statuses.TheConstants.{DONE, NO_PATH}
 use Rattle.planner_main.specs.declared.top_call.Done.{Done}
 use Rattle.planner_main.specs.Commands.{reads_scene, tests_start}
 use Rattle.planner_main.specs.GeneratedScenes.{IsGenerated}
-use Rattle.planner_main.specs.Summaries.{summary}
 use Rattle.planner_main.specs.Exchanges.{Reading, IsReadWhole, IsUnread, IsReadFault, IsTooLong, NoReadFailed}
 use Rattle.planner_main.specs.Refusals.{status_of, line_of}
 
@@ -41,25 +43,33 @@ abbrev pub status_of_report : Bool → ℕ
 status_of_report true = DONE
 status_of_report false = NO_PATH
 
--- how the run of a scene becomes a text
+-- how the tree and the records of a scene's run, over so many marks, become a text
 abbrev pub Report : Type 0
-Report = Scene → List (Option Twig) → List Record → List ℕ
+Report = Scene → ℕ → TreeState → List ℕ
 
--- The text is such a report of the textbook run of the scene, and the status says whether some node of that run lies in
--- the goal.
+-- The run is of the scene, and of all its marks: it is closed at their number and settled. It is in what is done, the status
+-- says whether some node of it lies in the goal, and the text is such a report of it.
+pub record ReportsGrown (report : Report) (scene : Scene) (grown : Grown) (done : Done) (text : List ℕ) : Type 0 where
+  pub given : done.run ≡ Some grown
+  pub of_scene : grown.task.scene ≡ scene
+  pub whole : grown.limit ≡ length (mark_points scene)
+  pub closed : ∥ IsClosed (setup_of scene) scene.start (mark_points scene) (length (mark_points scene)) (state_of_grown grown) ∥₁
+  pub settled : IsSettled (state_of_grown grown)
+  pub best : done.status ≡ status_of_report (is_some (best_node scene (state_of_grown grown)))
+  pub written : text ≡ report scene grown.limit (state_of_grown grown)
+
+-- There is a run that is such a one and the textbook run of the scene.
 pub record ReportsScene (report : Report) (scene : Scene) (done : Done) (text : List ℕ) : Type 0 where
-  pub nodes : List (Option Twig)
-  pub records : List Record
-  pub run : IsTextbookRun (setup_of scene) scene.start (mark_points scene) nodes records
-  pub best : done.status ≡ status_of_report (is_some (best_node scene nodes))
-  pub written : text ≡ report scene nodes records
+  pub grown : Grown
+  pub reported : ReportsGrown report scene grown done text
+  pub textbook : IsOfTextbookRun (setup_of scene) scene.start (mark_points scene) (state_of_grown grown)
 
--- the text reports the textbook run of the scene that the bytes spell, whose start is clear
-pub record ReportsRun (bytes : List ℕ) (done : Done) (text : List ℕ) : Type 0 where
+-- the text reports the textbook run of the scene that the bytes spell, whose start is clear: in full or in short
+pub record ReportsRun (full : Bool) (bytes : List ℕ) (done : Done) (text : List ℕ) : Type 0 where
   pub scene : Scene
   pub spelled : IsTextOf scene bytes
   pub start : ClearAt (space_of scene) scene.start
-  pub report : ReportsScene short_report scene done text
+  pub report : ReportsScene (report_text full) scene done text
 
 -- the text is the canonical text of the scene that the bytes spell
 pub record ShowsScene (bytes : List ℕ) (done : Done) (text : List ℕ) : Type 0 where
@@ -67,6 +77,7 @@ pub record ShowsScene (bytes : List ℕ) (done : Done) (text : List ℕ) : Type 
   pub spelled : IsTextOf scene bytes
   pub written : text ≡ canonical_text scene
   pub shown : done.status ≡ DONE
+  pub no_run : done.run ≡ None
 
 -- the text is the canonical text of the generated scene of a number
 pub record WritesGenerated (number : ℕ) (done : Done) (text : List ℕ) : Type 0 where
@@ -74,6 +85,7 @@ pub record WritesGenerated (number : ℕ) (done : Done) (text : List ℕ) : Type
   pub generated : IsGenerated number scene
   pub written : text ≡ canonical_text scene
   pub status : done.status ≡ DONE
+  pub no_run : done.run ≡ None
 
 -- the text is the summary of the textbook run of the generated scene of a number, whose start is clear
 pub record TriesGenerated (number : ℕ) (done : Done) (text : List ℕ) : Type 0 where
@@ -84,7 +96,7 @@ pub record TriesGenerated (number : ℕ) (done : Done) (text : List ℕ) : Type 
 
 -- what the success of a command means: of the bytes that it read, of what was done, and of the text
 abbrev pub Succeeds : Command → List ℕ → Done → List ℕ → Type 0
-Succeeds commands.Plain bytes done text = ReportsRun bytes done text
+Succeeds (commands.Plain full) bytes done text = ReportsRun full bytes done text
 Succeeds commands.Show bytes done text = ShowsScene bytes done text
 Succeeds (commands.Gen number) bytes done text = WritesGenerated number done text
 Succeeds (commands.Trial number) bytes done text = TriesGenerated number done text
@@ -134,11 +146,12 @@ pub record HasScene (reading : Reading) (scene : Scene) : Type 0 where
   pub read : IsReadWhole reading bytes
   pub spelled : IsTextOf scene bytes
 
--- a refusal with its cause, its status and its line
+-- a refusal with its cause, its status and its line; there is no run
 pub record IsRefusal (asked : Option Command) (reading : Reading) (done : Done) (text : List ℕ) : Type 0 where
   pub refusal : Refusal
   pub cause : IsCaused asked reading refusal
   pub status : done.status ≡ status_of refusal
+  pub no_run : done.run ≡ None
   pub written : text ≡ line_of refusal
 
 -- The answer of the program, before it is written: what it does for the words, what it has read, what is done, and the

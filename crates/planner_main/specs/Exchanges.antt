@@ -4,7 +4,7 @@ use Rattle.std.specs.Io.KnownBytes.{Appends, Consumes, IsAtEnd, Keeps}
 use Rattle.plan_model.specs.declared.limits.TheConstants.{MOST_TEXT_BYTES}
 use Rattle.plan_model.specs.Streams.{FaultsRose, counted}
 use Rattle.scene_text.specs.Fetching.{CameTooLong, IsAllOf}
-use Rattle.planner_main.specs.Delivery.{AppendsPrefix}
+use Rattle.settle_report.specs.Delivery.{AppendsPrefix}
 
 -- What a call did with its source: the bytes that were left before it and after it, if they are known, whether the source
 -- has given its end after it, its count of faults before it and after it, and whether failed reads alone raise that count.

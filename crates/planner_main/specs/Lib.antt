@@ -1,6 +1,4 @@
-pub mod Paths
 pub mod Refusals
-pub mod Delivery
 pub mod Exchanges
 pub mod Conclusions
 pub mod Decisions
@@ -8,4 +6,3 @@ pub mod Faults
 pub mod Commands
 pub mod CommandLines
 pub mod GeneratedScenes
-pub mod Summaries

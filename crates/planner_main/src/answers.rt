@@ -1,30 +1,33 @@
 //! What is to be written for the words of the command line. Each command has a function that reads what it needs from
 //! the source and makes the text of the answer.
 
-ghost use Rattle.std.specs.Prelude.{◌≡◌, ◌≤◌, ◌⊎◌, true, false, length, map, string_bytes, IfOk, IfErr, Some};
+ghost use Rattle.std.specs.Prelude.{◌≡◌, ◌≤◌, ◌⊎◌, true, false, length, map, is_some, string_bytes, IfOk, IfErr, None, Some};
 ghost use Rattle.plan_model.specs.ConfigurationSpace.{space_of};
 ghost use Rattle.plan_model.specs.Clearance.{ClearAt};
+ghost use Rattle.plan_model.specs.BestNode.{best_node};
 ghost use Rattle.plan_model.specs.MarkPoints.{mark_points};
-ghost use Rattle.plan_model.specs.ReportText.{short_report};
-ghost use Rattle.plan_model.specs.Textbook.{IsTextbookRun, setup_of};
+ghost use Rattle.plan_model.specs.ReportText.{report_text, summary};
+ghost use Rattle.plan_model.specs.SameRuns.{IsOfTextbookRun};
+ghost use Rattle.plan_model.specs.Textbook.{setup_of};
+ghost use Rattle.plan_model.specs.TreeStates.{IsSettled};
 ghost use Rattle.scene_text.specs.Fetching.{ReadsWithin};
 ghost use Rattle.planner_main.specs.Commands.{command_of, reads_scene, IsNumbered};
 ghost use Rattle.planner_main.specs.Conclusions.{IsSuccess, IsCaused, HasScene, ReportsScene, WritesGenerated, TriesGenerated, Asks, status_of_report};
 ghost use Rattle.planner_main.specs.Exchanges.{reading_of, IsUnread};
-ghost use Rattle.planner_main.specs.Paths.{HasPaths};
 ghost use Rattle.planner_main.specs.declared.generated_scenes.TheConstants.{MOST_GENERATED};
-ghost use Rattle.planner_main.specs.Summaries.{summary};
+ghost use Rattle.step_core.specs.GrownRuns.{state_of_grown};
 
 use crate::commands::{Command, command_of};
 use crate::generated_scenes::gen_scene;
 use crate::refusals::Refusal;
-use crate::reports::{Report, short_report, summary};
 use crate::statuses::{DONE, NO_PATH};
 use crate::top_call::Done;
-use plan_model::{Memory, Scene, Source, Task, Tree};
+use plan_model::{Memory, Scene, Source, Task};
 use scene_text::{fetch, read_scene, write_scene};
 use seq_planner::textbook;
+use settle_report::{best, report, summary};
 use std::alloc::Global;
+use step_core::Grown;
 use strip_sampler::marks;
 use swept_check::Hall;
 
@@ -76,25 +79,25 @@ fn perform<S: Source>(alloc: Global, command: Command, source: &mut S) -> Result
     ensures within { ReadsWithin (S.bytes_left source.old) (S.bytes_left source.new) }
 {
     match command {
-        Command::Plain => plan(alloc, source),
+        Command::Plain { full } => plan(alloc, full, source),
         Command::Show => show(alloc, source),
         Command::Gen(number) => Ok(generate(alloc, number)?),
         Command::Trial(number) => Ok(trial(alloc, number)?),
     }
 }
 
-// Plans the scene that is read.
-fn plan<S: Source>(alloc: Global, source: &mut S) -> Result<Answer, Refusal>
+// Plans the scene that is read, and reports it in full or in short.
+fn plan<S: Source>(alloc: Global, full: bool, source: &mut S) -> Result<Answer, Refusal>
     requires { S.has_ended source.old ≡ false }
-    ensures success { IfOk result (λ answer. IsSuccess (Some Command.Plain)
+    ensures success { IfOk result (λ answer. IsSuccess (Some (Command.Plain full))
         (reading_of S.counts_failures_alone S.bytes_left S.has_ended S.fault_count source.old source.new) answer.done answer.text.items) }
-    ensures refusal { IfErr result (IsCaused (Some Command.Plain)
+    ensures refusal { IfErr result (IsCaused (Some (Command.Plain full))
         (reading_of S.counts_failures_alone S.bytes_left S.has_ended S.fault_count source.old source.new)) }
     ensures within { ReadsWithin (S.bytes_left source.old) (S.bytes_left source.new) }
 {
-    let scene = scene_for(alloc, Command::Plain, source)?;
+    let scene = scene_for(alloc, Command::Plain { full }, source)?;
     let hall = hall_for(alloc, &scene)?;
-    Ok(report_of(alloc, scene, &hall)?)
+    Ok(report_of(alloc, full, scene, &hall)?)
 }
 
 // Shows the scene that is read.
@@ -108,7 +111,10 @@ fn show<S: Source>(alloc: Global, source: &mut S) -> Result<Answer, Refusal>
 {
     let scene = scene_for(alloc, Command::Show, source)?;
     Ok(Answer {
-        done: Done { status: DONE },
+        done: Done {
+            status: DONE,
+            run: None,
+        },
         text: write_scene(alloc, &scene)?,
     })
 }
@@ -142,15 +148,15 @@ fn hall_for(alloc: Global, scene: &Scene) -> Result<Hall, Refusal>
     Ok(hall)
 }
 
-// The short report of the textbook run of a scene.
-fn report_of(alloc: Global, scene: Scene, hall: &Hall) -> Result<Answer, Memory>
+// The report of the textbook run of a scene, in full or in short.
+fn report_of(alloc: Global, full: bool, scene: Scene, hall: &Hall) -> Result<Answer, Memory>
     requires hall { hall.now ≡ space_of scene }
     requires start { ClearAt (space_of scene) scene.start }
-    ensures { IfOk result (λ answer. ReportsScene short_report scene answer.done answer.text.items) }
+    ensures { IfOk result (λ answer. ReportsScene (report_text full) scene answer.done answer.text.items) }
 {
-    let goal = scene.goal;
-    let tree = tree_of(alloc, scene, hall)?;
-    Ok(answer_of(short_report(alloc, goal, &tree)?))
+    let grown = textbook_run(alloc, scene, hall)?;
+    let text = report(alloc, &grown, full)?;
+    Ok(answer_of(grown, text))
 }
 
 // The summary of the textbook run of a scene.
@@ -159,33 +165,39 @@ fn summary_of(alloc: Global, scene: Scene, hall: &Hall) -> Result<Answer, Memory
     requires start { ClearAt (space_of scene) scene.start }
     ensures { IfOk result (λ answer. ReportsScene summary scene answer.done answer.text.items) }
 {
-    let goal = scene.goal;
-    let tree = tree_of(alloc, scene, hall)?;
-    Ok(answer_of(summary(alloc, goal, &tree)?))
+    let grown = textbook_run(alloc, scene, hall)?;
+    let text = summary(alloc, &grown)?;
+    Ok(answer_of(grown, text))
 }
 
-// The tree of the textbook run of a scene, with its records.
-fn tree_of(alloc: Global, scene: Scene, hall: &Hall) -> Result<Tree, Memory>
+// The textbook run of a scene, over all its marks.
+fn textbook_run(alloc: Global, scene: Scene, hall: &Hall) -> Result<Grown, Memory>
     requires hall { hall.now ≡ space_of scene }
     requires start { ClearAt (space_of scene) scene.start }
-    ensures run { IfOk result (λ tree. IsTextbookRun (setup_of scene) scene.start (mark_points scene) tree.twigs tree.records) }
-    ensures paths { IfOk result (λ tree. HasPaths tree.twigs) }
+    ensures scene { IfOk result (λ grown. grown.task.scene ≡ scene) }
+    ensures whole { IfOk result (λ grown. grown.limit ≡ length (mark_points scene)) }
+    ensures run { IfOk result (λ grown. IsOfTextbookRun (setup_of scene) scene.start (mark_points scene) (state_of_grown grown)) }
+    ensures settled { IfOk result (λ grown. IsSettled (state_of_grown grown)) }
 {
     // the start is clear, so there is room to draw marks in
     let marks = marks(alloc, &scene)?;
-    let tree = textbook(alloc, Task { scene, marks }, hall)?;
-    Ok(tree)
+    textbook(alloc, Task { scene, marks }, hall)
 }
 
-// The answer that a report of a run is.
-fn answer_of(report: Report) -> Answer
-    ensures status { result.done.status ≡ status_of_report report.found }
-    ensures text { result.text.items ≡ report.text.items }
+// The answer that a report of a settled run is.
+fn answer_of(grown: Grown, text: Vec<u8>) -> Answer
+    requires { IsSettled (state_of_grown grown) }
+    ensures status { result.done.status ≡ status_of_report (is_some (best_node grown.task.scene (state_of_grown grown))) }
+    ensures run { result.done.run ≡ Some grown }
+    ensures text { result.text ≡ text }
 {
-    let status = if report.found { DONE } else { NO_PATH };
+    let found = best(&grown).is_some();
     Answer {
-        done: Done { status },
-        text: report.text,
+        done: Done {
+            status: if found { DONE } else { NO_PATH },
+            run: Some(grown),
+        },
+        text,
     }
 }
 
@@ -196,7 +208,10 @@ fn generate(alloc: Global, number: u32) -> Result<Answer, Memory>
 {
     let scene = gen_scene(alloc, number)?;
     Ok(Answer {
-        done: Done { status: DONE },
+        done: Done {
+            status: DONE,
+            run: None,
+        },
         text: write_scene(alloc, &scene)?,
     })
 }

@@ -1,7 +1,8 @@
 //! The exit code of the program, from the words of its command line.
 
-ghost use Rattle.std.specs.Prelude.{◌≡◌, ◌≢◌, ℕ, ◌⊎◌, false, List, IfOk, IfSome, IsErr};
+ghost use Rattle.std.specs.Prelude.{◌≡◌, ◌≢◌, ℕ, ◌⊎◌, false, List, Option, IfOk, IfSome, IsErr};
 ghost use Rattle.std.specs.Process.{exit_status};
+ghost use Rattle.step_core.specs.declared.grown.Grown.{Grown};
 ghost use Rattle.planner_main.specs.CommandLines.{given, words_after_name, IsOutOfMemory};
 ghost use Rattle.scene_text.specs.Fetching.{ReadsWithin};
 ghost use Rattle.planner_main.specs.Commands.{command_of, reads_scene};
@@ -32,13 +33,15 @@ pub fn exit_code<S: Source, K: Sink>(
     ensures done { let reading = reading_of S.counts_failures_alone S.bytes_left S.has_ended S.fault_count source.old source.new in
         let writing = writing_of K.counts_failures_alone K.bytes_taken K.fault_count sink.old sink.new in
         exit_status result ≢ WRITE_FAULT → ((exit_status result ≡ NO_MEMORY) × IsUnread reading × IsUnwritten writing)
-        ⊎ ((text : List ℕ) × IsAnswer (command_of (words_after_name args)) reading (record { status = exit_status result }) text
+        ⊎ ((run : Option Grown) × (text : List ℕ)
+        × IsAnswer (command_of (words_after_name args)) reading (record { status = exit_status result; run = run }) text
         × IsWritten writing text) }
     // the sink failed, and took a proper prefix of the text of such an answer
     ensures cut { let reading = reading_of S.counts_failures_alone S.bytes_left S.has_ended S.fault_count source.old source.new in
         let writing = writing_of K.counts_failures_alone K.bytes_taken K.fault_count sink.old sink.new in
-        exit_status result ≡ WRITE_FAULT → (status : ℕ) × (text : List ℕ)
-        × IsAnswer (command_of (words_after_name args)) reading (record { status = status }) text × IsCutShort writing text }
+        exit_status result ≡ WRITE_FAULT → (status : ℕ) × (run : Option Grown) × (text : List ℕ)
+        × IsAnswer (command_of (words_after_name args)) reading (record { status = status; run = run }) text
+        × IsCutShort writing text }
     // if no count of faults rose, the bytes decide the code, or the program is out of memory
     ensures decided { let reading = reading_of S.counts_failures_alone S.bytes_left S.has_ended S.fault_count source.old source.new in
         let writing = writing_of K.counts_failures_alone K.bytes_taken K.fault_count sink.old sink.new in
@@ -96,7 +99,7 @@ mod tests {
                 "no path\nnodes 1 placed 0 same 0 blocked 0\n",
             ),
             (&["plain"], 2, "words refused\n"),
-            (&["prrt", "plain", "full"], 2, "words refused\n"),
+            (&["prrt", "plain", "all"], 2, "words refused\n"),
             (&["plain", "show", "show"], 2, "words refused\n"),
             (&[], 2, "words refused\n"),
         ];

@@ -1,7 +1,7 @@
 //! The commands that the words of the command line may ask for.
 
 ghost use Rattle.std.specs.Prelude.{◌≡◌, ◌≤◌, map, string_bytes, IfSome};
-ghost use Rattle.planner_main.specs.Commands.{command_of, command_of_word, command_of_two, number_of, IsNumbered};
+ghost use Rattle.planner_main.specs.Commands.{command_of, command_of_word, command_of_two, command_about, number_of, IsNumbered};
 
 use crate::generated_scenes::MOST_GENERATED;
 use scene_text::{is_number, natural};
@@ -9,8 +9,11 @@ use scene_text::{is_number, natural};
 /// What the words of the command line ask for.
 #[derive(Clone, Copy, Debug, PartialEq, Eq)]
 pub enum Command {
-    /// `plain`: the short report of the textbook run of the scene that is read.
-    Plain,
+    /// `plain` and `plain full`: the report of the textbook run of the scene that is read.
+    Plain {
+        /// Whether it is the full report, with a line for each node and each mark; otherwise it is the short one.
+        full: bool,
+    },
     /// `show`: the canonical text of the scene that is read.
     Show,
     /// `gen N`: the canonical text of the generated scene of this number.
@@ -26,7 +29,7 @@ pub fn command_of(words: &[String]) -> Option<Command>
 {
     match words {
         [word] => command_of_word(word.as_str()),
-        [word, number] => command_of_two(word.as_str(), number.as_bytes()),
+        [word, second] => command_of_two(word.as_str(), second.as_str()),
         _ => None,
     }
 }
@@ -36,17 +39,28 @@ fn command_of_word(word: &str) -> Option<Command>
     ensures scene { IfSome result IsNumbered }
 {
     match word {
-        "plain" => Some(Command::Plain),
+        "plain" => Some(Command::Plain { full: false }),
         "show" => Some(Command::Show),
         _ => None,
     }
 }
 
-fn command_of_two(word: &str, number: &[u8]) -> Option<Command>
-    ensures value { result ≡ command_of_two word.now number.now }
+fn command_of_two(word: &str, second: &str) -> Option<Command>
+    ensures value { result ≡ command_of_two word.now second.now }
     ensures scene { IfSome result IsNumbered }
 {
-    let number = number_of(number)?;
+    match (word, second) {
+        ("plain", "full") => Some(Command::Plain { full: true }),
+        _ => command_about(word, number_of(second.as_bytes())?),
+    }
+}
+
+// The command of a word about the generated scene of a number.
+fn command_about(word: &str, number: u32) -> Option<Command>
+    requires { number ≤ MOST_GENERATED }
+    ensures value { result ≡ command_about word.now number }
+    ensures scene { IfSome result IsNumbered }
+{
     match word {
         "gen" => Some(Command::Gen(number)),
         "trial" => Some(Command::Trial(number)),

@@ -3,20 +3,17 @@
 //! text of its answer to standard output.
 //!
 //! Everything is done by `run`, over any source and any sink. Its contract says what each status means: with 0 and 1 the
-//! text is the report of the textbook run of the scene that the bytes read spell (or, for `show`, that scene's canonical
-//! text), or of a generated scene, each refusal has its cause, and which status comes is decided by the bytes if no read or
-//! write fails and memory lasts. The exit code is that of `exit_code`.
+//! text is the report, short or full, of the textbook run of the scene that the bytes read spell (or, for `show`, that
+//! scene's canonical text), or of a generated scene, and the run itself is handed out with the status; each refusal has its
+//! cause, and which status comes is decided by the bytes if no read or write fails and memory lasts. The exit code is that
+//! of `exit_code`.
 #![tactic(auto)]
 
 mod answers;
-mod best_node;
 mod command_line;
 mod commands;
-mod delivery;
 mod generated_scenes;
-mod paths;
 mod refusals;
-mod reports;
 mod standard_streams;
 mod statuses;
 mod top_call;

@@ -107,8 +107,8 @@ impl<W: Write> Sink for StdSink<W> {
 #[cfg(test)]
 mod tests {
     use super::*;
-    use crate::delivery::deliver;
     use scene_text::{FetchFault, fetch};
+    use settle_report::deliver;
     use std::io;
     use std::test::Fail;
 

@@ -7,26 +7,31 @@ ghost use Rattle.planner_main.specs.Conclusions.{IsAnswer, Asks};
 ghost use Rattle.planner_main.specs.Decisions.{IsDecided};
 ghost use Rattle.planner_main.specs.Exchanges.{reading_of, writing_of, ReadFailed, WriteFailed, IsUnread, IsWritten, IsCutShort};
 
-use crate::answers::answer_to;
-use crate::delivery::deliver;
+use crate::answers::{Answer, answer_to};
 use crate::statuses::{NO_MEMORY, WORDS_REFUSED, WRITE_FAULT};
 use plan_model::{Sink, Source};
+use settle_report::deliver;
 use std::alloc::Global;
+use step_core::Grown;
 
 /// What the program has done.
-#[derive(Clone, Copy, Debug, PartialEq, Eq)]
+#[derive(Drop)]
 pub struct Done {
     /// The status that it ends with: one of `statuses`.
     pub status: u8,
+    /// The run that was reported: of the scene that was read or generated, over all its marks. `None` if no run was, so for
+    /// commands that plan nothing and for refusals.
+    pub run: Option<Grown>,
 }
 
 /// Does as the words say: for `plain`, reads a scene from the source, plans it by textbook RRT* (Karaman and Frazzoli,
-/// IJRR 2011), and writes the short report to the sink; for `show`, reads a scene and writes its canonical text. For `gen`
-/// and `trial` it reads nothing: it writes the text of a generated scene, or plans that scene and writes the report without
-/// the points of its path.
+/// IJRR 2011), and writes the short report to the sink, or for `plain full` the full one; for `show`, reads a scene and
+/// writes its canonical text. For `gen` and `trial` it reads nothing: it writes the text of a generated scene, or plans that
+/// scene and writes the report without the points of its path.
 ///
 /// The text is made whole before anything is written. Each status but `WRITE_FAULT` has one text, which the sink takes
-/// whole; with `WRITE_FAULT` the sink failed, and took a proper prefix of the text.
+/// whole; with `WRITE_FAULT` the sink failed, and took a proper prefix of the text. The run that was reported is handed out
+/// even so.
 pub fn run<S: Source, K: Sink>(
     alloc: Global,
     words: &[String],
@@ -58,10 +63,11 @@ pub fn run<S: Source, K: Sink>(
     ensures within { ReadsWithin (S.bytes_left source.old) (S.bytes_left source.new) }
 {
     match answer_to(alloc, words, source) {
-        Ok(answer) => conclude(sink, &answer.text, answer.done),
+        Ok(Answer { done, text }) => conclude(sink, &text, done),
         Err(refusal) => {
             let done = Done {
                 status: refusal.status(),
+                run: None,
             };
             conclude(sink, refusal.line().as_bytes(), done)
         }

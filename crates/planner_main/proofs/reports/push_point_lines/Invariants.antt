@@ -1,7 +1,0 @@
-use Rattle.std.proofs.Common.{◌≡◌, ◌++◌, take, string_bytes}
-use Rattle.plan_model.specs.ReportText.{point_lines}
-use Rattle.planner_main.proofs.reports.push_point_lines.Given as goal
-
-abbrev pub invariant-loop-point : goal.invariant-loop-point
-invariant-loop-point l =
-    string_bytes l.text ≡ string_bytes l.initial.text ++ point_lines (take l.point-index l.points)
