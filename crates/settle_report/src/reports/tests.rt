@@ -1,6 +1,6 @@
 //! Reports of a run that has handled no mark: the start alone, in the goal and outside it.
 
-ghost use Rattle.std.specs.Prelude.{◌≤◌};
+ghost use Rattle.std.specs.Prelude.{◌≤◌, IfOk};
 ghost use Rattle.plan_model.specs.Clearance.{ClearAt};
 ghost use Rattle.plan_model.specs.ConfigurationSpace.{space_of};
 
