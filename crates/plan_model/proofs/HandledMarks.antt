@@ -17,7 +17,8 @@ use Rattle.plan_model.specs.TreeStates.{TreeState, recorded_or, first_cost_of, G
 use Rattle.plan_model.specs.OrderLaw.{IsAllowedEdge}
 use Rattle.plan_model.specs.RecordLaw.{is_placed}
 use Rattle.plan_model.specs.ClosedLaw.{mark_at, IsClosed}
-use Rattle.plan_model.specs.HandledMarks.{with_record, with_node, is_among, with_moved, with_outcome, with_mark, IsCheaperBy, IsPlacedWhole, EndsBy, turns_of, IsHandledWhole}
+use Rattle.plan_model.specs.HandledMarks.{with_record, with_node, is_among, with_moved, with_outcome, with_mark}
+use Rattle.plan_model.specs.HandledMarks.{IsCheaperBy, IsPlacedWhole, EndsBy, turns_of, IsHandledWhole}
 use Rattle.plan_model.specs.Textbook.{Setup, near_new, SteersTo}
 use Rattle.plan_model.proofs.CostLaws.{cost_of-swap}
 use Rattle.plan_model.proofs.SegmentLaws.{Clear-back}

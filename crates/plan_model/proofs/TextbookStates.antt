@@ -83,7 +83,8 @@ CostsFall-ordered setup start tree records order =
 -- and each is the parent's and the edge
 pub AreTight-ordered :
     (setup : Setup) (start : Point) (tree : Nodes) (records : List Record) → KeepsOrder setup start (state_of tree records) → AreTight (sum_of tree) tree
-AreTight-ordered setup start tree records order = AreTight-sums (sum_of tree) (points_of tree) (parent_of tree) (CostsFall-ordered setup start tree records order)
+AreTight-ordered setup start tree records order =
+    AreTight-sums (sum_of tree) (points_of tree) (parent_of tree) (CostsFall-ordered setup start tree records order)
 
 -- ---- one record more
 

@@ -62,7 +62,9 @@ fn settle_node(grown: &mut Grown, node: u32)
     requires other { 0 < node }
     ensures task { grown.new.task ≡ grown.old.task }
     ensures limit { grown.new.limit ≡ grown.old.limit }
-    ensures state { let before = state_of_grown grown.old in let parent = before.parent node in CostsInstead before (state_of_grown grown.new) node (before.cost parent + cost_of (point_of before.points parent) (point_of before.points node)) }
+    ensures state { let before = state_of_grown grown.old in let parent = before.parent node in
+        CostsInstead before (state_of_grown grown.new) node
+        (before.cost parent + cost_of (point_of before.points parent) (point_of before.points node)) }
     ensures children { (n : ℕ) (right : Bool) → children_of_grown grown.new n right ≡ children_of_grown grown.old n right }
 {
     let parent = grown.parent(node);

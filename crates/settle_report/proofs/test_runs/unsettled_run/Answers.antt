@@ -23,11 +23,11 @@ pack-requires c =
     subst (λ setup. ClearAt setup.space (at 0 0)) c.in_ok-task.ensures.setup
     (subst (ClearAt (space_of task.scene)) c.in_ok-task.ensures.start c.in_ok-task.ensures.clear) in
     let law = IsClosed-unsettled clear in
-    subst (λ setup. IsClosed setup task.scene.start task.marks (length c.from_vec-records.result) (state_of_lists c.from_vec-knots.result c.from_vec-records.result))
-    (sym c.in_ok-task.ensures.setup)
-    (subst (λ start. IsClosed rrt_setup start task.marks (length c.from_vec-records.result) (state_of_lists c.from_vec-knots.result c.from_vec-records.result))
-    (sym c.in_ok-task.ensures.start)
-    (subst (λ marks. IsClosed rrt_setup (at 0 0) marks (length c.from_vec-records.result) (state_of_lists c.from_vec-knots.result c.from_vec-records.result))
-    (sym c.in_ok-task.ensures.marks)
-    (subst (λ entries. IsClosed rrt_setup (at 0 0) marks_to_rewire (length entries) (state_of_lists c.from_vec-knots.result entries)) (sym records)
-    (subst (λ nodes. IsClosed rrt_setup (at 0 0) marks_to_rewire 3 (state_of_lists nodes unsettled_records)) (sym knots) law))))
+    let by_records =
+    subst (λ entries. IsClosed rrt_setup (at 0 0) marks_to_rewire (length entries) (state_of_lists c.from_vec-knots.result entries)) (sym records)
+    (subst (λ nodes. IsClosed rrt_setup (at 0 0) marks_to_rewire 3 (state_of_lists nodes unsettled_records)) (sym knots) law) in
+    let limit = length c.from_vec-records.result in
+    let state = state_of_lists c.from_vec-knots.result c.from_vec-records.result in
+    subst (λ setup. IsClosed setup task.scene.start task.marks limit state) (sym c.in_ok-task.ensures.setup)
+    (subst (λ start. IsClosed rrt_setup start task.marks limit state) (sym c.in_ok-task.ensures.start)
+    (subst (λ marks. IsClosed rrt_setup (at 0 0) marks limit state) (sym c.in_ok-task.ensures.marks) by_records))
