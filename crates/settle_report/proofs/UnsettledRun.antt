@@ -1,23 +1,22 @@
 -- A run that is closed and not settled: node 3 was rewired to the start and node 2 to node 3, and both are kept at more than their
 -- costs-to-come. With gamma 0 no node is a neighbour, so no record says that they were lowered.
-use Rattle.std.proofs.Common.{◌≡◌, ℕ, zero, suc, ◌+◌, ◌*◌, ◌<◌, ◌≤◌, length, Option, Some, None, List, [], ◌∷◌, arith, refl, sym, ap, ◌∙◌, subst}
-use Rattle.std.specs.Prelude.{IsSome, slice_get, unwrap_or}
+use Rattle.std.proofs.Common.{◌≡◌, ℕ, zero, suc, ◌<◌, ◌≤◌, Option, Some, None, List, [], ◌∷◌, arith, refl, sym, ap, ◌∙◌, subst}
+use Rattle.std.specs.Prelude.{IsSome, unwrap_or}
 use Rattle.plan_model.specs.declared.geometry.Point.{Point}
-use Rattle.plan_model.specs.declared.limits.TheConstants.{MOST_WORKERS}
 use Rattle.plan_model.specs.declared.records.Record.{Record}
 use Rattle.plan_model.specs.declared.trees.Knot.{Knot}
 use Rattle.plan_model.specs.Clearance.{ClearAt}
-use Rattle.plan_model.specs.ClosedLaw.{ArePlacedMarks, AreTurns, AreRecordedBelow, IsClosed, mark_at}
+use Rattle.plan_model.specs.ClosedLaw.{ArePlacedMarks, IsClosed, mark_at}
 use Rattle.plan_model.specs.Cost.{cost_of}
 use Rattle.plan_model.specs.EmptyRooms.{empty_room}
 use Rattle.plan_model.specs.Geometry.{squared_distance}
 use Rattle.plan_model.specs.LeastPairs.{IsNotAbove}
 use Rattle.plan_model.specs.Nearness.{distance_to}
-use Rattle.plan_model.specs.OrderLaw.{HangsBelow, IsAllowedEdge, KeepsOrder, most_cost_of}
+use Rattle.plan_model.specs.OrderLaw.{HangsBelow, IsAllowedEdge, most_cost_of}
 use Rattle.plan_model.specs.PointsByNumber.{IsPresent, node_count}
-use Rattle.plan_model.specs.RecordLaw.{HangsLawfully, IsChosenLawfully, IsEarlier, IsLawfulRecord, IsNeighbour, IsPlacedLawfully}
+use Rattle.plan_model.specs.RecordLaw.{IsEarlier, IsLawfulRecord, IsNeighbour}
 use Rattle.plan_model.specs.Textbook.{Setup, placed_record}
-use Rattle.plan_model.specs.TreeStates.{TreeState, state_of}
+use Rattle.plan_model.specs.TreeStates.{TreeState}
 use Rattle.plan_model.specs.Vectors.Runs.{marks_to_rewire, open_setup, rewired_records, rewired_tree}
 use Rattle.plan_model.specs.Vectors.Shapes.{at}
 use Rattle.plan_model.proofs.EmptyRoomClearance.{Clear-empty_room}

@@ -8,12 +8,11 @@
 //! pass, and is at its cost-to-come when the node's turn is; with the edge that gives the node's own, which no later turn
 //! changes. A walk down the tree from the start would serve too, but the words of a run have no lists of tree children.
 
-ghost use Rattle.std.specs.Prelude.{◌≡◌, ◌<◌, ◌+◌, ℕ, Bool, IfOk, OnErr, OnOk};
-ghost use Rattle.plan_model.specs.Cost.{cost_of};
-ghost use Rattle.plan_model.specs.PointsByNumber.{IsPresent, point_of};
+ghost use Rattle.std.specs.Prelude.{◌≡◌, ◌<◌, ℕ, Bool, IfOk, OnErr, OnOk};
+ghost use Rattle.plan_model.specs.PointsByNumber.{IsPresent};
 ghost use Rattle.plan_model.specs.TreeStates.{ChangesCosts, GrowsInto, IsSettled};
-ghost use Rattle.settle_report.specs.CostOrders.{AreKeptCosts, IsCostOrder};
-ghost use Rattle.step_core.specs.GrownRuns.{CostsInstead, children_of_grown, state_of_grown};
+ghost use Rattle.settle_report.specs.CostOrders.{AreKeptCosts, IsCostOrder, SettlesNode};
+ghost use Rattle.step_core.specs.GrownRuns.{children_of_grown, state_of_grown};
 
 use edge_cost::cost;
 use plan_model::Memory;
@@ -62,9 +61,7 @@ fn settle_node(grown: &mut Grown, node: u32)
     requires other { 0 < node }
     ensures task { grown.new.task ≡ grown.old.task }
     ensures limit { grown.new.limit ≡ grown.old.limit }
-    ensures state { let before = state_of_grown grown.old in let parent = before.parent node in
-        CostsInstead before (state_of_grown grown.new) node
-        (before.cost parent + cost_of (point_of before.points parent) (point_of before.points node)) }
+    ensures state { SettlesNode (state_of_grown grown.old) (state_of_grown grown.new) node }
     ensures children { (n : ℕ) (right : Bool) → children_of_grown grown.new n right ≡ children_of_grown grown.old n right }
 {
     let parent = grown.parent(node);

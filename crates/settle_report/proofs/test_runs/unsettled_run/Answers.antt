@@ -1,9 +1,8 @@
 -- The run is closed.
-use Rattle.std.proofs.Common.{◌≡◌, [], ◌∷◌, length, List, sym, ap, ◌∙◌, subst}
+use Rattle.std.proofs.Common.{◌≡◌, [], ◌∷◌, length, sym, ◌∙◌, subst}
 use Rattle.plan_model.specs.Clearance.{ClearAt}
 use Rattle.plan_model.specs.ClosedLaw.{IsClosed}
 use Rattle.plan_model.specs.ConfigurationSpace.{space_of}
-use Rattle.plan_model.specs.Textbook.{setup_of}
 use Rattle.plan_model.specs.Vectors.Runs.{marks_to_rewire}
 use Rattle.plan_model.specs.Vectors.Shapes.{at}
 use Rattle.step_core.specs.PackedRuns.{state_of_lists}
@@ -22,12 +21,11 @@ pack-requires c =
     let clear =
     subst (λ setup. ClearAt setup.space (at 0 0)) c.in_ok-task.ensures.setup
     (subst (ClearAt (space_of task.scene)) c.in_ok-task.ensures.start c.in_ok-task.ensures.clear) in
-    let law = IsClosed-unsettled clear in
-    let by_records =
-    subst (λ entries. IsClosed rrt_setup (at 0 0) marks_to_rewire (length entries) (state_of_lists c.from_vec-knots.result entries)) (sym records)
-    (subst (λ nodes. IsClosed rrt_setup (at 0 0) marks_to_rewire 3 (state_of_lists nodes unsettled_records)) (sym knots) law) in
-    let limit = length c.from_vec-records.result in
-    let state = state_of_lists c.from_vec-knots.result c.from_vec-records.result in
-    subst (λ setup. IsClosed setup task.scene.start task.marks limit state) (sym c.in_ok-task.ensures.setup)
-    (subst (λ start. IsClosed rrt_setup start task.marks limit state) (sym c.in_ok-task.ensures.start)
-    (subst (λ marks. IsClosed rrt_setup (at 0 0) marks limit state) (sym c.in_ok-task.ensures.marks) by_records))
+    let nodes = c.from_vec-knots.result in
+    let entries = c.from_vec-records.result in
+    subst (λ setup. IsClosed setup task.scene.start task.marks (length entries) (state_of_lists nodes entries)) (sym c.in_ok-task.ensures.setup)
+    (subst (λ start. IsClosed rrt_setup start task.marks (length entries) (state_of_lists nodes entries)) (sym c.in_ok-task.ensures.start)
+    (subst (λ marks. IsClosed rrt_setup (at 0 0) marks (length entries) (state_of_lists nodes entries)) (sym c.in_ok-task.ensures.marks)
+    (subst (λ list. IsClosed rrt_setup (at 0 0) marks_to_rewire (length list) (state_of_lists nodes list)) (sym records)
+    (subst (λ list. IsClosed rrt_setup (at 0 0) marks_to_rewire 3 (state_of_lists list unsettled_records)) (sym knots)
+    (IsClosed-unsettled clear)))))
