@@ -14,7 +14,7 @@ use Rattle.plan_model.proofs.ChainLaws.{chain-start, chain-parent}
 use Rattle.plan_model.proofs.OrderedTrees.{FallAlong-ordered}
 use Rattle.step_core.specs.declared.grown.Grown.{Grown}
 use Rattle.step_core.specs.GrownRuns.{state_of_grown}
-use Rattle.step_core.specs.GrownWords.{HoldRun, sizes_of, words_of}
+use Rattle.step_core.specs.GrownWords.{HoldRun, words_of}
 
 -- kept costs fall along the parents of a finished run
 pub FallAlong-grown : (grown : Grown) → FallAlong (state_of_grown grown).cost (state_of_grown grown).points (state_of_grown grown).parent

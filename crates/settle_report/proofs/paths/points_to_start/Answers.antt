@@ -1,4 +1,4 @@
-use Rattle.std.proofs.Common.{◌≡◌, ◌++◌, Some, arith, sym, ap, ◌∙◌, append_assoc}
+use Rattle.std.proofs.Common.{◌++◌, arith, sym, ap, ◌∙◌, append_assoc}
 use Rattle.plan_model.specs.PointsByNumber.{StandsAt}
 use Rattle.step_core.specs.GrownRuns.{state_of_grown}
 use Rattle.settle_report.proofs.GrownPaths.{FallAlong-grown, steps_up, points_up-start}
