@@ -92,14 +92,19 @@ mod tests {
     #[test]
     fn ends_by_all_words_after_the_name(rt: HostRuntime) -> Result<(), Fail> {
         let alloc = rt.alloc();
-        let cases: [(&[&str], u8, &str); 5] = [
+        let cases: [(&[&str], u8, &str); 6] = [
             (
                 &["prrt", "plain"],
                 1,
                 "no path\nnodes 1 placed 0 same 0 blocked 0\n",
             ),
+            (
+                &["prrt", "plain", "full"],
+                1,
+                "no path\nnodes 1 placed 0 same 0 blocked 0\nnode 0 at 5 5 parent 0 cost 0\n",
+            ),
             (&["plain"], 2, "words refused\n"),
-            (&["prrt", "plain", "all"], 2, "words refused\n"),
+            (&["prrt", "plain", "full", "full"], 2, "words refused\n"),
             (&["plain", "show", "show"], 2, "words refused\n"),
             (&[], 2, "words refused\n"),
         ];

@@ -6,7 +6,25 @@ use super::*;
 use plan_model::{MemSink, MemSource, SureSource};
 use std::test::Fail;
 
-// The status of the call for these words over this source, and what it writes.
+// What the call for these words over this source has done, and what it writes.
+fn call_over<S: Source>(
+    alloc: Global,
+    words: &[&str],
+    source: &mut S,
+) -> Result<(Done, String), Fail>
+    requires { S.has_ended source.old ≡ false }
+{
+    let mut given = Vec::new(alloc);
+    for word in words {
+        given.push(String::from_str(alloc, word)?)?;
+    }
+    let mut sink = MemSink::new(alloc, 1 << 24, 1 << 24, &[])?;
+    let done = run(alloc, &given, source, &mut sink);
+    let written = String::from_utf8(Vec::from_slice(alloc, sink.bytes())?)?;
+    Ok((done, written))
+}
+
+// The status of that call, and what it writes.
 fn answer_over<S: Source>(
     alloc: Global,
     words: &[&str],
@@ -14,14 +32,16 @@ fn answer_over<S: Source>(
 ) -> Result<(u8, String), Fail>
     requires { S.has_ended source.old ≡ false }
 {
-    let mut given = Vec::new(alloc);
-    for word in words {
-        given.push(String::from_str(alloc, word)?)?;
-    }
-    let mut sink = MemSink::new(alloc, 1 << 23, 1 << 23, &[])?;
-    let done = run(alloc, &given, source, &mut sink);
-    let written = String::from_utf8(Vec::from_slice(alloc, sink.bytes())?)?;
+    let (done, written) = call_over(alloc, words, source)?;
     Ok((done.status, written))
+}
+
+// How many nodes the run that was handed out has and how many marks it has handled, if there is one.
+fn counts_of(done: &Done) -> Option<(u32, u32)> {
+    match &done.run {
+        Some(grown) => Some((grown.count(), grown.limit())),
+        None => None,
+    }
 }
 
 // The same over a source of this text.
@@ -395,10 +415,18 @@ fn plans_among_as_many_obstacles_as_there_may_be(rt: HostRuntime) -> Result<(), 
 #[test]
 fn refuses_with_the_cause(rt: HostRuntime) -> Result<(), Fail> {
     let scene = "prrt 1\nroom 10 10\nstart 5 5\ngoal 0 0 9 9\nstep 4\n";
-    let words: [&[&str]; 14] = [
+    let words: [&[&str]; 22] = [
         &[],
         &["plan", "4"],
-        &["plain", "full"],
+        &["plain full"],
+        &["plain  full"],
+        &["plain", "full", "full"],
+        &["plain", "Full"],
+        &["full"],
+        &["full", "plain"],
+        &["show", "full"],
+        &["gen", "0", "full"],
+        &["trial", "3", "full"],
         &["plan"],
         &["show", "show"],
         &["Show"],
@@ -415,6 +443,10 @@ fn refuses_with_the_cause(rt: HostRuntime) -> Result<(), Fail> {
         let (status, written) = answer_to_text(rt.alloc(), form, scene)?;
         assert_eq!(rt; written.as_str(), "words refused\n", "{form:?}");
         assert_eq!(rt; status, 2);
+        let (status, written, faults) = answer_over_failing(rt.alloc(), form)?;
+        assert_eq!(rt; written.as_str(), "words refused\n", "{form:?}");
+        assert_eq!(rt; status, 2);
+        assert_eq!(rt; faults, 0, "{form:?} is read");
     }
     let blocked = "prrt 1\nroom 10 10\nstart 11 5\ngoal 0 0 9 9\nstep 4\n";
     let (status, written) = answer_to_text(rt.alloc(), &["plain"], blocked)?;
@@ -644,60 +676,6 @@ fn reads_as_many_bytes_as_there_may_be(rt: HostRuntime) -> Result<(), Fail> {
     Ok(())
 }
 
-#[test]
-fn refuses_a_source_that_fails_early(rt: HostRuntime) -> Result<(), Fail> {
-    let alloc = rt.alloc();
-    let text = b"prrt 1\nroom 100 100\nstart 0 0\ngoal 30 40 30 40\nstep 100\nmark 30 40\n";
-    for fails in [1, 2, 8] {
-        let mut failing = MemSource::new(alloc, text, 10, &[fails])?;
-        let (status, written) = answer_over(alloc, &["plain"], &mut failing)?;
-        assert_eq!(rt; written.as_str(), "read fault\n");
-        assert_eq!(rt; status, 5);
-        assert_eq!(rt; failing.faults(), 1);
-    }
-    Ok(())
-}
-
-// The last bytes come at call 170, and call 171 gives the end.
-#[test]
-fn refuses_a_source_that_fails_late(rt: HostRuntime) -> Result<(), Fail> {
-    let alloc = rt.alloc();
-    let text = corridor(alloc, 1500)?;
-    assert_eq!(rt; text.len(), 16_949);
-    for words in ["plain", "show"] {
-        for fails in [100, 169, 170, 171] {
-            let mut failing = MemSource::new(alloc, text.as_bytes(), 100, &[fails])?;
-            let (status, written) = answer_over(alloc, &[words], &mut failing)?;
-            assert_eq!(rt; written.as_str(), "read fault\n", "call {fails}");
-            assert_eq!(rt; status, 5, "call {fails}");
-            assert_eq!(rt; failing.faults(), 1);
-        }
-        let mut sound = MemSource::new(alloc, text.as_bytes(), 100, &[172])?;
-        let (status, _) = answer_over(alloc, &[words], &mut sound)?;
-        assert_eq!(rt; status, 0);
-        assert_eq!(rt; sound.faults(), 0);
-    }
-    Ok(())
-}
-
-#[test]
-fn keeps_a_prefix_if_the_sink_fails(rt: HostRuntime) -> Result<(), Fail> {
-    let alloc = rt.alloc();
-    let text = b"prrt 1\nroom 100 100\nstart 0 0\ngoal 30 40 30 40\nstep 100\nmark 30 40\n";
-    for (word, fails, bytes) in [
-        ("plain", 2, "path 2 cos"),
-        ("plain", 1, ""),
-        ("show", 3, "prrt 1\nroom 100 100\n"),
-        ("words", 2, "words refu"),
-    ] {
-        let mut words = Vec::new(alloc);
-        words.push(String::from_str(alloc, word)?)?;
-        let mut source = SureSource::new(alloc, text)?;
-        let mut sink = MemSink::new(alloc, 1000, 10, &[fails])?;
-        let done = run(alloc, &words, &mut source, &mut sink);
-        assert_eq!(rt; sink.bytes(), bytes.as_bytes());
-        assert_eq!(rt; done.status, 6);
-        assert_eq!(rt; sink.faults(), 1);
-    }
-    Ok(())
-}
+mod faults;
+mod full_reports;
+mod runs;
