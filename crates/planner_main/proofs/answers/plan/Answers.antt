@@ -12,7 +12,8 @@ returns-in_err-hall-clause-refusal g c =
     let reading = reading_of source.counts_failures_alone source.bytes_left source.has_ended source.fault_count
     c.args.source.now c.scene_for.new.source in
     IfErr-only c.from_residual-in_err-hall.result _ (IsCaused _ reading) c.from_residual-in_err-hall.ensures.1
-    (hall-caused (commands.Plain c.args.full) reading c.in_ok-scene.scene c.in_err-hall.field-0.0 refl c.in_ok-scene.ensures.scene c.in_err-hall.ensures.refusal)
+    (hall-caused (commands.Plain c.args.full) reading c.in_ok-scene.scene c.in_err-hall.field-0.0 refl c.in_ok-scene.ensures.scene
+    c.in_err-hall.ensures.refusal)
 
 pub returns-clause-success : goal.returns-clause-success
 returns-clause-success g c =
