@@ -1,0 +1,19 @@
+//! The planner by several workers: each handles the next mark of one shared run, until none is left.
+//!
+//! [`extend_whole`] handles a mark (a sample) as RRT* does (Karaman and Frazzoli, Sampling-based Algorithms for Optimal Motion
+//! Planning, IJRR 2011), on the words of a run: nearest node, steering, the test of the segment, the cheapest parent among
+//! the near nodes, and rewiring. The lowered cost of a rewired node does not reach its descendants here: their kept costs
+//! stay too high until the run is settled.
+//!
+//! [`grow`] runs the workers in threads of their own round one lock ([`held`] is the lock's part). A [`Gate`] is told when a
+//! worker comes to a mark and when it is done with it, so that a test can order the workers.
+#![tactic(auto)]
+
+mod choice;
+mod extending;
+mod near_nodes;
+mod nearest_node;
+mod rewiring;
+mod turns;
+
+pub use extending::extend_whole;
