@@ -1,16 +1,22 @@
 //! The handling of one mark on the words of a run.
 
-ghost use Rattle.std.specs.Prelude.{◌≡◌, ◌+◌, ◌<◌, ◌≤◌, Some, length};
+ghost use Rattle.std.specs.Prelude.{◌≡◌, ◌↔◌, ◌+◌, ◌<◌, ◌≤◌, ℕ, All, Contains, Some, length};
 ghost use Rattle.std.specs.Vec.{vec_capacity};
+ghost use Rattle.plan_model.specs.Bounds.{IsBounded};
+ghost use Rattle.plan_model.specs.Clearance.{Clear};
+ghost use Rattle.plan_model.specs.ClosedLaw.{IsClosed, mark_at};
 ghost use Rattle.plan_model.specs.ConfigurationSpace.{space_of};
-ghost use Rattle.plan_model.specs.HandledMarks.{turns_of};
-ghost use Rattle.plan_model.specs.TreeStates.{GrowsInto};
+ghost use Rattle.plan_model.specs.HandledMarks.{IsCheaperBy, IsHandledWhole, kept_cost_through, turns_of, with_mark};
+ghost use Rattle.plan_model.specs.LeastPairs.{IsFirstLeast};
+ghost use Rattle.plan_model.specs.PointsByNumber.{IsFree, IsPresent, StandsAt, point_of};
+ghost use Rattle.plan_model.specs.Textbook.{IsCandidate, SteersTo, setup_of};
+ghost use Rattle.plan_model.specs.TreeStates.{AreSameRuns, GrowsInto};
 ghost use Rattle.plan_model.specs.declared.limits.TheConstants.{MOST_WORKERS};
 ghost use Rattle.plan_work.specs.Extensions.{HandlesNext};
 ghost use Rattle.step_core.specs.GrownRuns.{state_of_grown};
 
-use crate::choice::choose;
-use crate::near_nodes::near;
+use crate::choice::{Parent, choose};
+use crate::near_nodes::fill_near;
 use crate::nearest_node::nearest;
 use crate::rewiring::keep_cheaper;
 use crate::turns::turns_of;
@@ -45,17 +51,143 @@ pub fn extend_whole<C: Clearing>(
     ensures turn { result.turn ≡ turns_of (state_of_grown grown.old).record_of grown.old.limit worker }
     ensures spare { vec_capacity list.new ≡ vec_capacity list.old }
 {
-    list.clear();
+    let steering = steer_next(grown);
+    let entry = entry_of(grown, hall, steering, worker, list);
+    put(grown, &entry, steering.point, list);
+    entry
+}
+
+/// The node that steers towards a mark, and where to.
+#[derive(Clone, Copy)]
+struct Steering {
+    /// The nearest node's number.
+    nearest: u32,
+    /// Where it stands.
+    from: Point,
+    /// The point that it steers to.
+    point: Point,
+}
+
+/// The steering towards the next mark. O(n) for n marks.
+fn steer_next(grown: &Grown) -> Steering
+    requires { grown.now.limit < length grown.now.task.marks }
+    ensures steers { SteersTo (setup_of grown.now.task.scene) (state_of_grown grown.now).points
+        (mark_at grown.now.task.marks grown.now.limit) result.nearest result.point }
+    ensures from { StandsAt (state_of_grown grown.now).points result.nearest result.from }
+    ensures bounded { IsBounded result.point }
+{
     let mark = grown.task().marks.as_slice()[grown.limit() as usize];
     let nearest = nearest(grown, mark);
     let from = grown.point(nearest).unwrap();
     let point = steer(from, mark, grown.task().scene.step);
-    let entry = Record {
-        worker,
-        turn: turns_of(grown, worker),
+    Steering {
         nearest,
-        ..outcome_at(grown, hall, from, point, nearest, list)
-    };
-    grown.put(&entry, point, list);
-    entry
+        from,
+        point,
+    }
+}
+
+/// The record of the next mark, with the near nodes in the list that are cheaper by way of a new one. O(n) for n marks.
+fn entry_of<C: Clearing>(
+    grown: &Grown,
+    hall: &C,
+    steering: Steering,
+    worker: u32,
+    list: &mut Vec<u32>,
+) -> Record
+    requires steers { SteersTo (setup_of grown.now.task.scene) (state_of_grown grown.now).points
+        (mark_at grown.now.task.marks grown.now.limit) steering.nearest steering.point }
+    requires from { StandsAt (state_of_grown grown.now).points steering.nearest steering.from }
+    requires bounded { IsBounded steering.point }
+    requires hall { C.space hall.now ≡ space_of grown.now.task.scene }
+    requires spare { grown.now.limit + 1 ≤ vec_capacity list.old }
+    ensures handled { IsHandledWhole (setup_of grown.now.task.scene) (state_of_grown grown.now) grown.now.limit
+        (mark_at grown.now.task.marks grown.now.limit) result steering.point list.new.items }
+    ensures worker { result.worker ≡ worker }
+    ensures nodes { All (IsPresent (state_of_grown grown.now).points) list.new.items }
+    ensures spare { vec_capacity list.new ≡ vec_capacity list.old }
+{
+    list.clear();
+    let turn = turns_of(grown, worker);
+    let Steering {
+        nearest,
+        from,
+        point,
+    } = steering;
+    // no other node stands there: the point is nearer to the mark than the nearest node
+    if point == from {
+        return unplaced(worker, turn, nearest, Outcome::Same(nearest));
+    }
+    if !hall.clear(from, point) {
+        return unplaced(worker, turn, nearest, Outcome::Blocked);
+    }
+    let parent = place(grown, hall, nearest, point, list);
+    Record {
+        worker,
+        turn,
+        nearest,
+        outcome: Outcome::Placed,
+        first_parent: parent.number,
+        first_cost: parent.cost,
+        class: class(u64::from(grown.count())),
+    }
+}
+
+/// The record of a mark for which no node is placed.
+fn unplaced(worker: u32, turn: u32, nearest: u32, outcome: Outcome) -> Record
+    ensures worker { result.worker ≡ worker }
+    ensures turn { result.turn ≡ turn }
+    ensures nearest { result.nearest ≡ nearest }
+    ensures outcome { result.outcome ≡ outcome }
+{
+    Record {
+        worker,
+        turn,
+        nearest,
+        outcome,
+        first_parent: 0,
+        first_cost: 0,
+        class: 0,
+    }
+}
+
+/// The parent of a new node, with the near nodes in the list that are cheaper by way of it. O(n) for n marks.
+fn place<C: Clearing>(
+    grown: &Grown,
+    hall: &C,
+    nearest: u32,
+    point: Point,
+    list: &mut Vec<u32>,
+) -> Parent
+    requires bounded { IsBounded point }
+    requires free { IsFree (state_of_grown grown.now).points point }
+    requires nearest { IsPresent (state_of_grown grown.now).points nearest }
+    requires clear { Clear (C.space hall.now) (point_of (state_of_grown grown.now).points nearest) point }
+    requires hall { C.space hall.now ≡ space_of grown.now.task.scene }
+    requires spare { grown.now.limit + 1 ≤ vec_capacity list.old }
+    ensures parent { IsFirstLeast (kept_cost_through (state_of_grown grown.now) point)
+        (IsCandidate (setup_of grown.now.task.scene) (state_of_grown grown.now).points nearest point) result.number }
+    ensures cost { result.cost ≡ kept_cost_through (state_of_grown grown.now) point result.number }
+    ensures moves { (i : ℕ) → Contains list.new.items i
+        ↔ IsCheaperBy (setup_of grown.now.task.scene) (state_of_grown grown.now) point result.cost i }
+    ensures spare { vec_capacity list.new ≡ vec_capacity list.old }
+{
+    let scene = &grown.task().scene;
+    let radii = Radii::new(scene.step, scene.gamma);
+    fill_near(grown, point, radii.at(u64::from(grown.count())), list);
+    let parent = choose(grown, hall, point, nearest, list);
+    keep_cheaper(grown, hall, point, parent.cost, list);
+    parent
+}
+
+// STUB
+fn put(grown: &mut Grown, entry: &Record, p: Point, moved: &[u32])
+    requires left { grown.old.limit < length grown.old.task.marks }
+    requires nodes { All (IsPresent (state_of_grown grown.old).points) moved.now }
+    requires closed { ∥ IsClosed (setup_of grown.old.task.scene) grown.old.task.scene.start grown.old.task.marks (grown.old.limit + 1)
+        (with_mark (state_of_grown grown.old) grown.old.limit entry.now p moved.now) ∥₁ }
+    ensures task { grown.new.task ≡ grown.old.task }
+    ensures limit { grown.new.limit ≡ grown.old.limit + 1 }
+    ensures state { AreSameRuns (with_mark (state_of_grown grown.old) grown.old.limit entry.now p moved.now) (state_of_grown grown.new) }
+{
 }

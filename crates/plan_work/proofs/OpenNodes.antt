@@ -1,0 +1,102 @@
+-- The choice of a parent: the least pair of cost and number among the nodes that were looked at.
+use Rattle.std.proofs.Common.{◌≡◌, ℕ, ◌+◌, ◌<◌, ◌≤◌, List, [], ◌∷◌, ◌++◌, Option}
+use Rattle.std.proofs.Common.{arith, refl, sym, ap, ◌∙◌, subst, inl, inr, ◌⊎◌}
+use Rattle.std.specs.Prelude.{Contains}
+use Rattle.std.proofs.lemmas.List.Elements.{Contains-append_left, Contains-push, Contains-push_cases}
+use Rattle.std.proofs.lemmas.Bool.{cases_lt}
+use Rattle.plan_model.specs.declared.geometry.Point.{Point}
+use Rattle.plan_model.specs.Clearance.{Clear}
+use Rattle.plan_model.specs.ConfigurationSpace.{ConfigurationSpace}
+use Rattle.plan_model.specs.Cost.{cost_of}
+use Rattle.plan_model.specs.HandledMarks.{kept_cost_through}
+use Rattle.plan_model.specs.LeastPairs.{IsNotAbove, IsFirstLeast}
+use Rattle.plan_model.specs.PointsByNumber.{StandsAt, point_of}
+use Rattle.plan_model.specs.TreeStates.{TreeState}
+use Rattle.plan_model.proofs.LeastPairLaws.{IsNotAbove-refl, IsNotAbove-lesser, IsNotAbove-trans}
+use Rattle.plan_model.proofs.NewNodes.{point_of-stands}
+use Rattle.plan_work.specs.NewNodes.{IsOpenTo}
+
+-- ---- costs that are read
+
+-- the cost through a node whose kept cost and point were read
+pub through-read :
+    (state : TreeState) (n kept : ℕ) (from p : Point) → kept ≡ state.cost n → StandsAt state.points n from
+    → kept_cost_through state p n ≡ kept + cost_of from p
+through-read state n kept from p e h = omega (arith, e, ap (λ a. cost_of a p) (point_of-stands state.points n from h))
+
+-- ---- who wins
+
+-- what the key of n must be below to win against the best: at equal keys the lesser number wins
+pub record IsLimit (best_key n best limit : ℕ) : Type 0 where
+  pub lesser : n < best → limit ≡ best_key + 1
+  pub other : best ≤ n → limit ≡ best_key
+
+-- a key below the limit wins
+pub IsNotAbove-wins : (key : ℕ → ℕ) (n best limit : ℕ) → IsLimit (key best) n best limit → key n < limit → IsNotAbove key n best
+IsNotAbove-wins key n best limit h below = elim (cases_lt n best) [
+  | inl less ↦ record { least = omega (arith, below, h.lesser less); first = λ e. omega (arith, less) }
+  | inr other ↦ IsNotAbove-lesser key n best (omega (arith, below, h.other other))
+]
+
+-- and any other loses
+pub IsNotAbove-loses : (key : ℕ → ℕ) (n best limit : ℕ) → IsLimit (key best) n best limit → limit ≤ key n → IsNotAbove key best n
+IsNotAbove-loses key n best limit h above = elim (cases_lt n best) [
+  | inl less ↦ IsNotAbove-lesser key best n (omega (arith, above, h.lesser less))
+  | inr other ↦ record { least = omega (arith, above, h.other other); first = λ e. other }
+]
+
+-- ---- the best of the nodes that are open
+
+module _ (space : ConfigurationSpace) (points : List (Option Point)) (p : Point) where
+  -- an open node of one number more was open before, or has that number
+  open_cases :
+      (among more : List ℕ) (n i : ℕ) → more ≡ among ++ n ∷ [] → IsOpenTo space points p more i → IsOpenTo space points p among i ⊎ (n ≡ i)
+  open_cases among more n i e h = elim (Contains-push_cases among n i (subst (λ ns. Contains ns i) e h.one_of)) [
+    | inl before ↦ inl (record { one_of = before; clear = h.clear })
+    | inr last ↦ inr last
+  ]
+
+  -- what was open before is so still
+  still_open : (among more : List ℕ) (n i : ℕ) → more ≡ among ++ n ∷ [] → IsOpenTo space points p among i → IsOpenTo space points p more i
+  still_open among more n i e h = record {
+    one_of = subst (λ ns. Contains ns i) (sym e) (Contains-append_left among (n ∷ []) i h.one_of);
+    clear = h.clear;
+  }
+
+  -- the last number is open if its edge is clear
+  last_open : (among more : List ℕ) (n : ℕ) → more ≡ among ++ n ∷ [] → Clear space (point_of points n) p → IsOpenTo space points p more n
+  last_open among more n e h = record { one_of = subst (λ ns. Contains ns n) (sym e) (Contains-push among n); clear = h }
+
+  -- one node alone is the best
+  pub IsFirstLeast-alone : (key : ℕ → ℕ) (n : ℕ) → Clear space (point_of points n) p → IsFirstLeast key (IsOpenTo space points p (n ∷ [])) n
+  IsFirstLeast-alone key n h = record {
+    member = last_open [] (n ∷ []) n refl h;
+    not_above = λ i own. elim (open_cases [] (n ∷ []) n i refl own) [
+      | inl none ↦ absurd (omega (arith, none.one_of.1))
+      | inr last ↦ subst (IsNotAbove key n) last (IsNotAbove-refl key n)
+    ];
+  }
+
+  -- one node more, which is open and not above the best
+  pub IsFirstLeast-takes :
+      (key : ℕ → ℕ) (among more : List ℕ) (n best : ℕ) → more ≡ among ++ n ∷ [] → Clear space (point_of points n) p → IsNotAbove key n best
+      → IsFirstLeast key (IsOpenTo space points p among) best → IsFirstLeast key (IsOpenTo space points p more) n
+  IsFirstLeast-takes key among more n best e clear wins h = record {
+    member = last_open among more n e clear;
+    not_above = λ i own. elim (open_cases among more n i e own) [
+      | inl before ↦ IsNotAbove-trans key n best i wins (h.not_above i before)
+      | inr last ↦ subst (IsNotAbove key n) last (IsNotAbove-refl key n)
+    ];
+  }
+
+  -- one node more, which is not open or loses against the best
+  pub IsFirstLeast-keeps :
+      (key : ℕ → ℕ) (among more : List ℕ) (n best : ℕ) → more ≡ among ++ n ∷ [] → (Clear space (point_of points n) p → IsNotAbove key best n)
+      → IsFirstLeast key (IsOpenTo space points p among) best → IsFirstLeast key (IsOpenTo space points p more) best
+  IsFirstLeast-keeps key among more n best e loses h = record {
+    member = still_open among more n best e h.member;
+    not_above = λ i own. elim (open_cases among more n i e own) [
+      | inl before ↦ h.not_above i before
+      | inr last ↦ subst (IsNotAbove key best) last (loses (subst (λ j. Clear space (point_of points j) p) (sym last) own.clear))
+    ];
+  }

@@ -1,0 +1,33 @@
+-- Whether two points are the same.
+use Rattle.std.proofs.Common.{◌≡◌, ℕ, Bool, true, false, eqb, refl, ap, ◌∙◌, eq-eqb}
+use Rattle.std.specs.Prelude.{nat_eq, ◌&&◌, ◌≢◌}
+use Rattle.std.specs.Cmp.Derive.{both_true}
+use Rattle.std.proofs.lemmas.Bool.{eqb-true}
+use Rattle.plan_model.specs.declared.geometry.Point.{Point}
+
+-- whether two points are the same, by coordinates
+abbrev pub same_point : Point → Point → Bool
+same_point a b = nat_eq a.x b.x && nat_eq a.y b.y
+
+point_is : (a b : Point) → a.x ≡ b.x → a.y ≡ b.y → a ≡ b
+point_is a b x y =
+    let horizontal : ℕ → Point = λ u. record { x = u; y = a.y } in
+    let vertical : ℕ → Point = λ v. record { x = b.x; y = v } in
+    ap horizontal x ∙ ap vertical y
+
+both_parts : (a b c d : ℕ) (s t : Bool) → eqb a b ≡ s → eqb c d ≡ t → (s && t) ≡ true → (a ≡ b) × (c ≡ d)
+both_parts a b c d true true x y h = (eqb-true a b x, eqb-true c d y)
+both_parts a b c d true false x y h = cc
+both_parts a b c d false t x y h = cc
+
+-- points that pass the test are the same
+pub same_point-true : (a b : Point) → same_point a b ≡ true → a ≡ b
+same_point-true a b h =
+    let parts = both_parts a.x b.x a.y b.y (eqb a.x b.x) (eqb a.y b.y) refl refl h in
+    point_is a b parts.0 parts.1
+
+-- points that fail it differ
+pub same_point-false : (a b : Point) → same_point a b ≡ false → a ≢ b
+same_point-false a b h e =
+    let yes : same_point a b ≡ true = ap (λ p. same_point p b) e ∙ both_true (eq-eqb b.x b.x refl) (eq-eqb b.y b.y refl) in
+    cc

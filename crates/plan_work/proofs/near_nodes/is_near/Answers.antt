@@ -1,0 +1,9 @@
+use Rattle.std.proofs.Common.{sym, ◌∙◌}
+use Rattle.step_core.specs.GrownWords.{sizes_of, words_of}
+use Rattle.plan_work.proofs.HeldNodes.{IsBounded-stands}
+use Rattle.plan_work.proofs.near_nodes.is_near.Goals as goal
+
+pub squared_distance-requires-clause-from : goal.squared_distance-requires-clause-from
+squared_distance-requires-clause-from c =
+    let grown = c.args.grown.now in
+    IsBounded-stands (sizes_of grown.task) (words_of grown.words.items) c.args.node c.in-Some.other (sym c.point.ensures ∙ c.in-Some.is)
