@@ -1,10 +1,10 @@
--- Scans over the numbers below a limit for those that pass a test, and lists that were retained.
-use Rattle.std.proofs.Common.{◌≡◌, ℕ, zero, suc, ◌+◌, ◌-◌, ◌<◌, ◌≤◌, Bool, true, false, cond, List, [], ◌∷◌, ◌++◌, length, arith, refl, sym, ap, ◌∙◌, subst}
-use Rattle.std.specs.Prelude.{◌↔◌, Contains, filter, IsTrue}
-use Rattle.std.specs.List.{range_with_len, items_where_true}
-use Rattle.std.specs.List.Retain.{IsFiltered, ReturnsInTurn}
-use Rattle.std.proofs.lemmas.List.{append-nil}
-use Rattle.std.proofs.lemmas.List.Elements.{filter-append}
+-- Scans over the numbers below a limit for those that pass a test, and a scan that filters a list in place.
+use Rattle.std.proofs.Common.{◌≡◌, ℕ, zero, suc, ◌+◌, ◌-◌, ◌<◌, ◌≤◌, Bool, false, cond, List, [], ◌∷◌, ◌++◌, length, get_or, set, take, drop}
+use Rattle.std.proofs.Common.{arith, refl, sym, ap, ◌∙◌, subst, inl, inr}
+use Rattle.std.specs.Prelude.{◌↔◌, Contains, filter}
+use Rattle.std.specs.List.{range_with_len}
+use Rattle.std.proofs.lemmas.List.{append-nil, length-set, get_or-set_same, take_all, take_more, take-set-le, drop_more, drop-set-lt}
+use Rattle.std.proofs.lemmas.List.Elements.{filter-append, Contains-append_left, Contains-push, Contains-push_cases}
 
 -- ---- numbers below a limit
 
@@ -42,53 +42,82 @@ filter-longer test m n le fail =
     let parts : n ≡ m + (n - m) = omega (arith, le) in
     ap (λ k. filter test (range_with_len 0 k)) parts ∙ filter-past test m (n - m) fail
 
--- ---- retained lists
+-- ---- lists that are filtered in place
 
-contains_first : (x : ℕ) (xs : List ℕ) (i : ℕ) → x ≡ i → Contains (x ∷ xs) i
-contains_first x xs i e = (0, omega arith, e)
+-- ys began as xs. What has P among the first i of xs stands in the first k places of ys, and from i on ys is as it was.
+pub record KeepsInPlace (P : ℕ → Type 0) (xs ys : List ℕ) (k i : ℕ) : Type 0 where
+  pub front : (n : ℕ) → Contains (take k ys) n ↔ (Contains (take i xs) n × P n)
+  pub rest : drop i ys ≡ drop i xs
+  pub behind : k ≤ i
+  pub within : i ≤ length xs
+  pub long : length ys ≡ length xs
 
-contains_later : (x : ℕ) (xs : List ℕ) (i : ℕ) → Contains xs i → Contains (x ∷ xs) i
-contains_later x xs i (k, l, is) = (suc k, omega (arith, l), is)
+module _ (P : ℕ → Type 0) (xs : List ℕ) where
+  -- before the first
+  pub KeepsInPlace-none : KeepsInPlace P xs xs 0 0
+  KeepsInPlace-none = record {
+    front = λ n. ((λ h. absurd (omega (arith, h.1))), (λ h. absurd (omega (arith, h.0.1))));
+    rest = refl;
+    behind = omega arith;
+    within = omega arith;
+    long = refl;
+  }
 
-module _ {F : Type 0} (R : F → ℕ → Bool → F → Type 0) (P : ℕ → Type 0) (f : F)
-    (answers : (x : ℕ) (b : Bool) (g : F) → R f x b g → (IsTrue b ↔ P x) × (g ≡ f)) where
-  kept_before : (bs : List Bool) (xs : List ℕ) (last : F) (i : ℕ) → ReturnsInTurn R f bs xs last → Contains (items_where_true bs xs) i
-      → Contains xs i × P i
-  kept_before [] xs last i told (k, l, is) = absurd (omega (arith, l))
-  kept_before (b ∷ bs) [] last i told h = absurd told
-  kept_before (true ∷ bs) (x ∷ xs) last i told (zero, l, is) =
-      let one = answers x true told.0 told.1 in
-      (contains_first x xs i is, subst P is (one.0.0 refl))
-  kept_before (true ∷ bs) (x ∷ xs) last i told (suc k, l, is) =
-      let one = answers x true told.0 told.1 in
-      let rest = kept_before bs xs last i (subst (λ g. ReturnsInTurn R g bs xs last) one.1 told.2) (k, omega (arith, l), is) in
-      (contains_later x xs i rest.0, rest.1)
-  kept_before (false ∷ bs) (x ∷ xs) last i told h =
-      let one = answers x false told.0 told.1 in
-      let rest = kept_before bs xs last i (subst (λ g. ReturnsInTurn R g bs xs last) one.1 told.2) h in
-      (contains_later x xs i rest.0, rest.1)
+  module _ (ys : List ℕ) (k i x : ℕ) (h : KeepsInPlace P xs ys k i) (below : i < length ys) (read : x ≡ get_or ys i x) where
+    both : x ∷ drop (i + 1) ys ≡ get_or xs i x ∷ drop (i + 1) xs
+    both = ap (λ y. y ∷ drop (i + 1) ys) read ∙ sym (drop_more ys i x below) ∙ h.rest ∙ drop_more xs i x (omega (arith, below, h.long))
 
-  kept_after : (bs : List Bool) (xs : List ℕ) (last : F) (i : ℕ) → length bs ≡ length xs → ReturnsInTurn R f bs xs last → Contains xs i → P i
-      → Contains (items_where_true bs xs) i
-  kept_after [] [] last i e told h own = h
-  kept_after [] (x ∷ xs) last i e told h own = absurd (omega arith)
-  kept_after (b ∷ bs) [] last i e told h own = absurd told
-  kept_after (true ∷ bs) (x ∷ xs) last i e told (zero, l, is) own = contains_first x (items_where_true bs xs) i is
-  kept_after (true ∷ bs) (x ∷ xs) last i e told (suc k, l, is) own =
-      let one = answers x true told.0 told.1 in
-      contains_later x (items_where_true bs xs) i
-      (kept_after bs xs last i (omega (arith, e)) (subst (λ g. ReturnsInTurn R g bs xs last) one.1 told.2) (k, omega (arith, l), is) own)
-  kept_after (false ∷ bs) (x ∷ xs) last i e told (zero, l, is) own =
-      let one = answers x false told.0 told.1 in
-      let never : ◌≡◌ {A = Bool} false true = one.0.1 (subst P (sym is) own) in
-      cc
-  kept_after (false ∷ bs) (x ∷ xs) last i e told (suc k, l, is) own =
-      let one = answers x false told.0 told.1 in
-      kept_after bs xs last i (omega (arith, e)) (subst (λ g. ReturnsInTurn R g bs xs last) one.1 told.2) (k, omega (arith, l), is) own
+    longer : take (i + 1) xs ≡ take i xs ++ x ∷ []
+    longer =
+        take_more xs i x (omega (arith, below, h.long)) ∙ ap (λ y. take i xs ++ y ∷ []) (sym (ap (λ ns. get_or ns 0 x) both))
 
-  -- what is retained is what was there and passes
-  pub Contains-retained : (xs ys : List ℕ) (i : ℕ) → IsFiltered R f xs ys → Contains ys i ↔ (Contains xs i × P i)
-  Contains-retained xs ys i (bs, last, e, told, kept) = (
-    (λ h. kept_before bs xs last i told (subst (λ zs. Contains zs i) kept h)),
-    (λ h. subst (λ zs. Contains zs i) (sym kept) (kept_after bs xs last i e told h.0 h.1)),
-  )
+    -- one that has not P
+    pub KeepsInPlace-leaves : ¬ P x → KeepsInPlace P xs ys k (i + 1)
+    KeepsInPlace-leaves fails = record {
+      front = λ n. (
+        (λ own.
+            let before = (h.front n).0 own in
+            (subst (λ ns. Contains ns n) (sym longer) (Contains-append_left (take i xs) (x ∷ []) n before.0), before.1)),
+        (λ own. elim (Contains-push_cases (take i xs) x n (subst (λ ns. Contains ns n) longer own.0)) [
+          | inl before ↦ (h.front n).1 (before, own.1)
+          | inr last ↦ absurd (fails (subst P (sym last) own.1))
+        ]),
+      );
+      rest = ap (drop 1) both;
+      behind = omega (arith, h.behind);
+      within = omega (arith, below, h.long);
+      long = h.long;
+    }
+
+    -- one that has P is written behind those so far
+    pub KeepsInPlace-keeps : P x → KeepsInPlace P xs (set ys k x) (k + 1) (i + 1)
+    KeepsInPlace-keeps passes =
+        let room : k < length (set ys k x) = omega (arith, h.behind, below, length-set ys k x) in
+        let kept : take (k + 1) (set ys k x) ≡ take k ys ++ x ∷ [] =
+        take_more (set ys k x) k x room
+        ∙ (λ t. take-set-le k ys k x (omega arith) t ++ get_or-set_same ys k x x (omega (arith, h.behind, below)) t ∷ []) in
+        record {
+          front = λ n. (
+            (λ own. elim (Contains-push_cases (take k ys) x n (subst (λ ns. Contains ns n) kept own)) [
+              | inl before ↦ (
+                  let old = (h.front n).0 before in
+                  (subst (λ ns. Contains ns n) (sym longer) (Contains-append_left (take i xs) (x ∷ []) n old.0), old.1))
+              | inr last ↦ (
+                  subst (λ ns. Contains ns n) (sym longer) (subst (λ m. Contains (take i xs ++ x ∷ []) m) last (Contains-push (take i xs) x)),
+                  subst P last passes)
+            ]),
+            (λ own. subst (λ ns. Contains ns n) (sym kept)
+            (elim (Contains-push_cases (take i xs) x n (subst (λ ns. Contains ns n) longer own.0)) [
+              | inl before ↦ Contains-append_left (take k ys) (x ∷ []) n ((h.front n).1 (before, own.1))
+              | inr last ↦ subst (λ m. Contains (take k ys ++ x ∷ []) m) last (Contains-push (take k ys) x)
+            ])),
+          );
+          rest = drop-set-lt (i + 1) ys k x (omega (arith, h.behind)) ∙ ap (drop 1) both;
+          behind = omega (arith, h.behind);
+          within = omega (arith, below, h.long);
+          long = length-set ys k x ∙ h.long;
+        }
+
+  -- after the last
+  pub KeepsInPlace-all : (ys : List ℕ) (k i n : ℕ) → KeepsInPlace P xs ys k i → length xs ≤ i → Contains (take k ys) n ↔ (Contains xs n × P n)
+  KeepsInPlace-all ys k i n h all = subst (λ ns. Contains (take k ys) n ↔ (Contains ns n × P n)) (take_all i xs all) (h.front n)

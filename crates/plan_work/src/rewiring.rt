@@ -30,11 +30,15 @@ pub(crate) fn keep_cheaper<C: Clearing>(
         ↔ IsCheaperBy (setup_of grown.now.task.scene) (state_of_grown grown.now) point cost i }
     ensures spare { vec_capacity near.new ≡ vec_capacity near.old }
 {
-    near.retain(
-        |&node|
-            requires { IsBounded point }
-        { is_cheaper(grown, hall, point, cost, node) },
-    );
+    let mut kept = 0;
+    for place in 0..near.len() {
+        let node = near[place];
+        if is_cheaper(grown, hall, point, cost, node) {
+            near[kept] = node;
+            kept += 1;
+        }
+    }
+    near.truncate(kept);
 }
 
 /// Whether a node is present and strictly cheaper by way of a new one, over a clear edge.
