@@ -78,9 +78,9 @@ module _
             | inl fell ↦ inr fell
             | inr stays ↦ inl (
               ∥∥₁_elim closed (ℕ_set _ _)
-              (λ h. elim ((grows h).trees n here) [ inl kept ↦ kept.0 | inr less ↦ absurd (omega (arith, less, stays)) ]),
+                  (λ h. elim ((grows h).trees n here) [ inl kept ↦ kept.0 | inr less ↦ absurd (omega (arith, less, stays)) ]),
               ∥∥₁_elim closed (ℕ_set _ _)
-              (λ h. elim ((grows h).trees n here) [ inl kept ↦ kept.1 | inr less ↦ absurd (omega (arith, less, stays)) ]),
+                  (λ h. elim ((grows h).trees n here) [ inl kept ↦ kept.1 | inr less ↦ absurd (omega (arith, less, stays)) ]),
             )
           ];
       records = λ j own h. same.records j ∙ records-kept entry.outcome j (other j own h) ∙ h;

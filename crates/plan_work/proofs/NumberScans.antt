@@ -103,14 +103,15 @@ module _ (P : ℕ → Type 0) (xs : List ℕ) where
                   let old = (h.front n).0 before in
                   (subst (λ ns. Contains ns n) (sym longer) (Contains-append_left (take i xs) (x ∷ []) n old.0), old.1))
               | inr last ↦ (
-                  subst (λ ns. Contains ns n) (sym longer) (subst (λ m. Contains (take i xs ++ x ∷ []) m) last (Contains-push (take i xs) x)),
-                  subst P last passes)
+                subst (λ ns. Contains ns n) (sym longer) (subst (λ m. Contains (take i xs ++ x ∷ []) m) last (Contains-push (take i xs) x)),
+                subst P last passes,
+              )
             ]),
             (λ own. subst (λ ns. Contains ns n) (sym kept)
-            (elim (Contains-push_cases (take i xs) x n (subst (λ ns. Contains ns n) longer own.0)) [
-              | inl before ↦ Contains-append_left (take k ys) (x ∷ []) n ((h.front n).1 (before, own.1))
-              | inr last ↦ subst (λ m. Contains (take k ys ++ x ∷ []) m) last (Contains-push (take k ys) x)
-            ])),
+                (elim (Contains-push_cases (take i xs) x n (subst (λ ns. Contains ns n) longer own.0)) [
+                  | inl before ↦ Contains-append_left (take k ys) (x ∷ []) n ((h.front n).1 (before, own.1))
+                  | inr last ↦ subst (λ m. Contains (take k ys ++ x ∷ []) m) last (Contains-push (take k ys) x)
+                ])),
           );
           rest = drop-set-lt (i + 1) ys k x (omega (arith, h.behind)) ∙ ap (drop 1) both;
           behind = omega (arith, h.behind);

@@ -180,6 +180,9 @@ fn place<C: Clearing>(
     parent
 }
 
+#[cfg(test)]
+mod tests;
+
 // STUB
 fn put(grown: &mut Grown, entry: &Record, p: Point, moved: &[u32])
     requires left { grown.old.limit < length grown.old.task.marks }
@@ -189,5 +192,4 @@ fn put(grown: &mut Grown, entry: &Record, p: Point, moved: &[u32])
     ensures task { grown.new.task ≡ grown.old.task }
     ensures limit { grown.new.limit ≡ grown.old.limit + 1 }
     ensures state { AreSameRuns (with_mark (state_of_grown grown.old) grown.old.limit entry.now p moved.now) (state_of_grown grown.new) }
-{
-}
+{}

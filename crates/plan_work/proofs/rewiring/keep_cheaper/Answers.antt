@@ -29,13 +29,13 @@ loop-place-preserved g c =
       | then-is_cheaper w ↦ (
           rw (w.near-is, w.kept-is) (record {
             kept = KeepsInPlace-keeps P xs l.near.items l.kept l.place c.index-node.result.now h below c.index-node.ensures
-            (c.is_cheaper.ensures.0 w.if-is_cheaper.true);
+                (c.is_cheaper.ensures.0 w.if-is_cheaper.true);
             spare = l.invariant.spare;
           }))
       | else-is_cheaper w ↦ (
           rw (w.near-is, w.kept-is) (record {
             kept = KeepsInPlace-leaves P xs l.near.items l.kept l.place c.index-node.result.now h below c.index-node.ensures
-            (λ own. (let passes = c.is_cheaper.ensures.1 own in absurd (cc)));
+                (λ own. (let passes = c.is_cheaper.ensures.1 own in absurd (cc)));
             spare = l.invariant.spare;
           }))
     ]
