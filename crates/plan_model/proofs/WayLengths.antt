@@ -31,7 +31,7 @@ record LeavesOut (child : Children) (points : List (Option Point)) (q : Point) (
 
 -- ---- a point is another, or the same
 
-same_or_other : (p q : Point) → (p ≡ q) ⊎ (p ≢ q)
+pub same_or_other : (p q : Point) → (p ≡ q) ⊎ (p ≢ q)
 same_or_other p q =
     let horizontal : ℕ → Point = λ u. record { x = u; y = p.y } in
     let vertical : ℕ → Point = λ v. record { x = q.x; y = v } in

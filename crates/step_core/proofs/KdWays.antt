@@ -4,6 +4,7 @@ use Rattle.std.proofs.Common.{false, Option, Some, None, arith, refl, sym, ap, �
 use Rattle.std.specs.Prelude.{◌≢◌, nat_lt, is_some, if◌then◌else◌}
 use Rattle.std.proofs.lemmas.Bool.{cases_lt, cases_Bool, le-ltb, lt-ltb, le-leb}
 use Rattle.std.proofs.lemmas.List.{get_or_past}
+use Rattle.std.proofs.lemmas.List.Sums.{count_by-le-length}
 use Rattle.std.proofs.lemmas.List.FromFn.{get_or-map-range_with_len, length-map-range_with_len}
 use Rattle.std.proofs.lemmas.Option.{same_Some}
 use Rattle.plan_model.specs.declared.geometry.Point.{Point}
@@ -11,6 +12,7 @@ use Rattle.plan_model.specs.PointsByNumber.{point_at, StandsAt, IsPresent, point
 use Rattle.plan_model.specs.Ways.{goes_right, IsOnWay}
 use Rattle.plan_model.specs.Ways.IsOnWay.{begins, goes_on}
 use Rattle.plan_model.proofs.NewNodes.{IsPresent-stands, StandsAt-present}
+use Rattle.plan_model.proofs.WayLengths.{depth_below}
 use Rattle.step_core.specs.WordPlaces.{Sizes, point_place, child_place, word_count}
 use Rattle.step_core.specs.Words.{if_written, point_in}
 use Rattle.step_core.specs.GrownWords.{Words, node_point, points_of_words, child_of_word, children_of_words}
@@ -104,11 +106,11 @@ module _ (sizes : Sizes) (words : Words) (m : ℕ) where
         let p : Point = point_in (words (point_place sizes n)) in
         present-within sizes words n (IsPresent-stands (points_of_words sizes words) n p (stands-lesser n p (here_stands n h)))
 
--- Node n stands at this depth on the way of q, and not deeper than its number.
+-- Node n stands at this depth on the way of q, and not deeper than there are marks.
 pub record IsReached (sizes : Sizes) (words : Words) (m : ℕ) (q : Point) (depth n : ℕ) : Type 0 where
   pub way : IsOnWay (children_of_words sizes words) (points_below sizes words m) q depth n
   pub here : IsPresent (points_below sizes words m) n
-  pub shallow : depth ≤ n
+  pub shallow : depth ≤ sizes.marks
 
 module _
     (sizes : Sizes) (words : Words) (m : ℕ) (q : Point) (linked : AreLinkedBelow sizes words m) (free : IsFreeBelow sizes words m q) where
@@ -126,27 +128,35 @@ module _
     child_is : children_of_words sizes words n (goes_right depth p q) ≡ child_of_word c
     child_is = child-word sizes words n c (goes_right depth p q) (here_within sizes words m q linked free n reached.here) read
 
-    -- its child is reached next, and has a greater number
+    child_way : c ≢ 0 → IsOnWay (children_of_words sizes words) (points_below sizes words m) q (suc depth) c
+    child_way other = goes_on depth n c p reached.way stands apart (child_is ∙ child_of_word-some c other)
+
+    -- no way is longer than there are nodes
+    pub shallow_child : c ≢ 0 → depth + 1 ≤ sizes.marks
+    shallow_child other =
+        let below =
+        depth_below (children_of_words sizes words) (points_below sizes words m) linked.ways linked.start q (suc depth) c (child_way other) in
+        omega (
+          arith,
+          below,
+          count_by-le-length is_some (points_below sizes words m),
+          length-map-range_with_len (λ i. if nat_lt i m then node_point sizes words i else None) 0 (sizes.marks + 1),
+        )
+
+    -- its child is reached next
     pub IsReached-child : c ≢ 0 → IsReached sizes words m q (depth + 1) c
     IsReached-child other =
         let step : children_of_words sizes words n (goes_right depth p q) ≡ Some c = child_is ∙ child_of_word-some c other in
         let deeper : suc depth ≡ depth + 1 = omega arith in
         record {
-          way =
-              subst (λ d. IsOnWay (children_of_words sizes words) (points_below sizes words m) q d c) deeper
-              (goes_on depth n c p reached.way stands apart step);
+          way = subst (λ d. IsOnWay (children_of_words sizes words) (points_below sizes words m) q d c) deeper (child_way other);
           here = linked.ways.present n c (goes_right depth p q) step;
-          shallow = omega (arith, reached.shallow, linked.rises n c (goes_right depth p q) step);
+          shallow = shallow_child other;
         }
 
-    -- so fewer numbers are left
-    pub fewer_left : c ≢ 0 → m - c < m - n
-    fewer_left other =
-        omega (
-          arith,
-          linked.rises n c (goes_right depth p q) (child_is ∙ child_of_word-some c other),
-          present-lesser sizes words m n reached.here,
-        )
+    -- so less of the greatest depth is left
+    pub less_left : c ≢ 0 → sizes.marks - (depth + 1) < sizes.marks - depth
+    less_left other = omega (arith, shallow_child other)
 
     -- if it has none, the way ends there
     pub EndsAt-here : (place : ℕ) → place ≡ child_place sizes n (goes_right depth p q) → c ≡ 0 → EndsAt sizes words m q place

@@ -15,3 +15,12 @@ pub mod PackedStates
 pub mod PackedLists
 pub mod FittingRuns
 pub mod ListedRuns
+pub mod MovedWords
+pub mod FittingStates
+pub mod KnownWays
+pub mod RecordedMarks
+pub mod UnplacedMarks
+pub mod MarkStates
+pub mod PlacedMarks
+pub mod LinkedMarks
+pub mod NextMarks

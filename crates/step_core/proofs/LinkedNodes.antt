@@ -28,7 +28,6 @@ module _ (sizes : Sizes) (has : ℕ → Bool) (before : Words) (unlinked : AreUn
   LinksSoFar-start = record {
     linked = record {
       ways = FollowWays-start (children_of_words sizes before) (points_below sizes before 1) unlinked.no_child alone;
-      rises = λ n c side one. let gone = sym one ∙ unlinked.no_child n side in cc;
       start = ap is_some (point_at-lesser sizes before 1 0 (omega arith)) ∙ unlinked.start;
     };
     others = λ place apart. refl;
@@ -61,7 +60,6 @@ module _ (sizes : Sizes) (has : ℕ → Bool) (before : Words) (unlinked : AreUn
         ways =
             FollowWays-same (children_of_words sizes words) (children_of_words sizes words) (points_below sizes words m)
             (points_below sizes words (m + 1)) (λ n side. refl) same_below so_far.linked.ways;
-        rises = so_far.linked.rises;
         start = ap is_some (same_below 0) ∙ so_far.linked.start;
       };
       others = so_far.others;

@@ -1,5 +1,5 @@
 -- The words of a run in which a node is linked: one child word changes, and what the others say stays.
-use Rattle.std.proofs.Common.{◌≡◌, ℕ, zero, suc, ◌+◌, ◌≤◌, Bool, true, false, List, Some}
+use Rattle.std.proofs.Common.{◌≡◌, ℕ, zero, suc, ◌+◌, ◌<◌, ◌≤◌, Bool, true, false, List, Some}
 use Rattle.std.proofs.Common.{None, map, length, arith, refl, sym, ap, ◌∙◌, inl, inr}
 use Rattle.std.specs.Prelude.{◌≢◌, nat_lt, nat_le, is_some, slice_set, if◌then◌else◌}
 use Rattle.std.specs.List.{range_with_len}
@@ -8,8 +8,8 @@ use Rattle.plan_model.specs.declared.geometry.Point.{Point}
 use Rattle.plan_model.specs.PointsByNumber.{point_at, StandsAt, point_of}
 use Rattle.plan_model.specs.Ways.{goes_right, AddsPoint, LinksAt}
 use Rattle.plan_model.proofs.NewNodes.{IsPresent-stands, StandsAt-present}
-use Rattle.plan_model.proofs.WayLinks.{AddsPoint-stands, FollowWays-links, new_or_old_child}
-use Rattle.step_core.specs.WordPlaces.{Sizes, point_place, child_place, tree_place, first_place, record_place, word_count}
+use Rattle.plan_model.proofs.WayLinks.{AddsPoint-stands, FollowWays-links}
+use Rattle.step_core.specs.WordPlaces.{Sizes, place_of_count, counter_place, point_place, child_place, tree_place, first_place, record_place, word_count}
 use Rattle.step_core.specs.Words.{point_in, point_of_word, record_of_word}
 use Rattle.step_core.specs.GrownWords.{Words, words_of, record_at, has_placed, has_node, node_point, points_of_words, child_of_word, children_of_words}
 use Rattle.step_core.specs.KdLinks.{points_below, AreLinkedBelow, IsFreeBelow, EndsAt, MayLink, ChangesChildren}
@@ -43,6 +43,14 @@ not_first sizes n a true e = omega (arith, e)
 pub not_record : (sizes : Sizes) (k a : ℕ) (side : Bool) → a ≤ sizes.marks → record_place sizes k ≢ child_place sizes a side
 not_record sizes k a false within e = omega (arith, e, within)
 not_record sizes k a true within e = omega (arith, e, within)
+
+pub not_count : (sizes : Sizes) (a : ℕ) (side : Bool) → place_of_count ≢ child_place sizes a side
+not_count sizes a false e = omega (arith, e)
+not_count sizes a true e = omega (arith, e)
+
+pub not_counter : (sizes : Sizes) (g a : ℕ) (side : Bool) → g < sizes.strips → counter_place g ≢ child_place sizes a side
+not_counter sizes g a false below e = omega (arith, e, below)
+not_counter sizes g a true below e = omega (arith, e, below)
 
 module _ (sizes : Sizes) (before after : Words) (change : ChangesChildren sizes before after) where
   -- the records stay
@@ -155,12 +163,5 @@ module _
       ways =
           FollowWays-links (children_of_words sizes before) (children_of_words sizes after) (points_below sizes before m)
           (points_below sizes after (m + 1)) q ends.depth ends.above m ends.p may.linked.ways ends.ends adds links;
-      rises = λ n c right h.
-          elim
-          (new_or_old_child (children_of_words sizes before) (children_of_words sizes after) ends.above (goes_right ends.depth ends.p q) m links n c
-          right h) [
-            | inl new ↦ omega (arith, new.0, new.2, ends.within)
-            | inr old ↦ may.linked.rises n c right old
-          ];
       start = ap is_some (kept 0 (λ e. not_start (sym e))) ∙ may.linked.start;
     }

@@ -21,7 +21,7 @@ use Rattle.step_core.specs.KdLinks.{AreUnlinked, ChangesChildren}
 use Rattle.plan_model.specs.TreeStates.{AreSameRuns}
 use Rattle.step_core.specs.PackedRuns.{state_of_lists, FitWords, HoldsNode, HoldsRecord, WritesNodes, WritesRecords, CountsMarks, HoldLists}
 use Rattle.step_core.proofs.KdWays.{child-word}
-use Rattle.step_core.proofs.LinkedWords.{not_point, not_tree, not_first, not_record}
+use Rattle.step_core.proofs.LinkedWords.{not_point, not_tree, not_first, not_record, not_count, not_counter}
 use Rattle.step_core.proofs.PackedStates.{point_at-lists, points-packed, AreSameRuns-packed, HoldRun-packed}
 use Rattle.step_core.proofs.WordReads.{word-set, word-other}
 
@@ -134,14 +134,6 @@ module _ (sizes : Sizes) (knots : List (Option Knot)) (records : List Record) (b
     entries = λ k entry is. same_entry k entry (held.entries k entry is);
     none_else = λ k past below. change (record_place sizes k) (λ a side within. not_record sizes k a side within) ∙ held.none_else k past below;
   }
-    where
-      not_count : (sizes : Sizes) (a : ℕ) (side : Bool) → place_of_count ≢ child_place sizes a side
-      not_count sizes a false e = omega (arith, e)
-      not_count sizes a true e = omega (arith, e)
-
-      not_counter : (sizes : Sizes) (g a : ℕ) (side : Bool) → g < sizes.strips → counter_place g ≢ child_place sizes a side
-      not_counter sizes g a false below e = omega (arith, e, below)
-      not_counter sizes g a true below e = omega (arith, e, below)
 
 -- The nodes of the lists of a closed run may be linked.
 pub AreUnlinked-packed :

@@ -1,5 +1,5 @@
 -- The links of a kd-tree while nodes are linked in rising number.
-use Rattle.std.specs.Prelude.{◌≡◌, ◌≢◌, ℕ, ◌+◌, ◌<◌, ◌≤◌, nat_lt, is_some, Bool, Option, Some, None, List, map, if◌then◌else◌}
+use Rattle.std.specs.Prelude.{◌≡◌, ◌≢◌, ℕ, ◌+◌, ◌<◌, ◌≤◌, nat_lt, is_some, Bool, Option, None, List, map, if◌then◌else◌}
 use Rattle.std.specs.List.{range_with_len}
 use Rattle.plan_model.specs.declared.geometry.Point.{Point}
 use Rattle.plan_model.specs.PointsByNumber.{point_at, StandsAt, IsPresent, AreDistinct}
@@ -11,10 +11,9 @@ use Rattle.step_core.specs.GrownWords.{Words, node_point, points_of_words, child
 abbrev pub points_below : Sizes → Words → ℕ → List (Option Point)
 points_below sizes words m = map (λ n. if nat_lt n m then node_point sizes words n else None) (range_with_len 0 (sizes.marks + 1))
 
--- The nodes below number m are linked by the ways of their points, each below a node of a lesser number; the start is among them.
+-- The nodes below number m are linked by the ways of their points; the start is among them.
 pub record AreLinkedBelow (sizes : Sizes) (words : Words) (m : ℕ) : Type 0 where
   pub ways : FollowWays (children_of_words sizes words) (points_below sizes words m)
-  pub rises : (n c : ℕ) (side : Bool) → children_of_words sizes words n side ≡ Some c → n < c
   pub start : IsPresent (points_below sizes words m) 0
 
 -- No node below number m stands at q.

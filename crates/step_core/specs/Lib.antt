@@ -5,3 +5,4 @@ pub mod GrownRuns
 pub mod PlacesOfWords
 pub mod KdLinks
 pub mod PackedRuns
+pub mod MarkWrites

@@ -13,6 +13,7 @@ mod grown;
 mod kd_links;
 mod laws;
 mod layout;
+mod mark_writes;
 mod packed_runs;
 mod point_words;
 mod record_words;

@@ -82,7 +82,7 @@ fn write_nodes(words: &mut [u64], places: WordPlaces, knots: &[Option<Knot>])
 }
 
 /// Writes the point, the parent and the kept cost of a node.
-fn write_node(words: &mut [u64], places: WordPlaces, node: usize, knot: Knot)
+pub(crate) fn write_node(words: &mut [u64], places: WordPlaces, node: usize, knot: Knot)
     requires sized { length words.old ≡ word_count (sizes_in places) }
     requires fits { FitsNode (sizes_in places) node knot }
     ensures hold { HoldsNode (sizes_in places) (words_of words.new) node knot }
@@ -105,7 +105,7 @@ fn write_records(words: &mut [u64], places: WordPlaces, records: &[Record])
 }
 
 /// Writes the record of a mark, and the first word of its node if it was placed.
-fn write_record(words: &mut [u64], places: WordPlaces, mark: usize, entry: &Record)
+pub(crate) fn write_record(words: &mut [u64], places: WordPlaces, mark: usize, entry: &Record)
     requires sized { length words.old ≡ word_count (sizes_in places) }
     requires within { mark < places.marks }
     requires fits { FitsRecord entry.now }

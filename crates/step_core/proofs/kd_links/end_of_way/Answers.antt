@@ -3,7 +3,7 @@ use Rattle.step_core.specs.GrownWords.{words_of}
 use Rattle.step_core.specs.PlacesOfWords.{sizes_in}
 use Rattle.step_core.specs.WordPlaces.{child_place}
 use Rattle.step_core.specs.Words.{point_in}
-use Rattle.step_core.proofs.KdWays.{here_within, child_place-within, IsReached-start, IsReached-child, fewer_left, EndsAt-here}
+use Rattle.step_core.proofs.KdWays.{here_within, child_place-within, IsReached-start, IsReached-child, less_left, EndsAt-here}
 use Rattle.step_core.proofs.kd_links.end_of_way.Goals as goal
 
 pub way-init : goal.way-init
@@ -63,7 +63,7 @@ way-smaller c =
     let sizes = sizes_in c.args.places in
     let words = words_of c.args.words.now in
     let place = c.child-place.ensures ∙ ap (child_place (sizes_in c.args.places) c.way.above) c.goes_right.ensures in
-    fewer_left sizes words c.args.node c.args.point c.requires.linked c.requires.free c.way.depth c.way.above _ c.point_in-other.result c.way.invariant
+    less_left sizes words c.args.node c.args.point c.requires.linked c.requires.free c.way.depth c.way.above _ c.point_in-other.result c.way.invariant
     (c.point_in-other.ensures ∙ ap (λ i. point_in (words_of c.args.words.now i)) c.point.ensures) (ap words place) c.if-child-eq0.false
 
 pub way-preserved : goal.way-preserved

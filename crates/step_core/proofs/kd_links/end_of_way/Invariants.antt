@@ -9,4 +9,4 @@ abbrev pub invariant-way : goal.invariant-way
 invariant-way l = IsReached (sizes_in l.places) (words_of l.words) l.node l.point l.depth l.above
 
 abbrev pub decreases-way : goal.decreases-way
-decreases-way l = l.node - l.above
+decreases-way l = l.places.marks - l.depth

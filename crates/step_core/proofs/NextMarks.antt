@@ -1,0 +1,192 @@
+-- The next mark of a finished run, from what is known of the run: that its fields fit their words, that its node may be linked, and
+-- that the run with it is finished.
+use Rattle.std.proofs.Common.{◌≡◌, ℕ, suc, ◌+◌, ◌<◌, ◌≤◌, ◌^◌, ◌%◌, true, false, List, length, get_or, refl, arith, sym, ap, subst}
+use Rattle.std.specs.Prelude.{All, ◌==◌}
+use Rattle.std.proofs.Math.Logic.{∥∥₁_map₂}
+use Rattle.std.proofs.lemmas.Bool.{eq-eqb, eqb-true}
+use Rattle.std.proofs.lemmas.List.Elements.{All-contains, All-from_get_or}
+use Rattle.std.proofs.lemmas.List.Folds.{list_any_at}
+use Rattle.std.proofs.lemmas.Map.Views.{Contains-from_any}
+use Rattle.plan_model.specs.declared.geometry.Point.{Point}
+use Rattle.plan_model.specs.declared.records.Outcome.TheVariants.{Placed}
+use Rattle.plan_model.specs.declared.records.Record.{Record}
+use Rattle.plan_model.specs.declared.tasks.Task.{Task}
+use Rattle.plan_model.specs.Bounds.{IsBounded}
+use Rattle.plan_model.specs.ClosedLaw.{IsClosed}
+use Rattle.plan_model.specs.Cost.{cost_of}
+use Rattle.plan_model.specs.HandledMarks.{is_among, with_outcome, with_mark}
+use Rattle.plan_model.specs.PointsByNumber.{IsPresent}
+use Rattle.plan_model.specs.RecordLaw.{is_placed}
+use Rattle.plan_model.specs.Textbook.{setup_of}
+use Rattle.plan_model.specs.TreeStates.{TreeState, AreSameRuns}
+use Rattle.step_core.specs.WordPlaces.{Sizes, place_of_count, counter_place}
+use Rattle.step_core.specs.Words.{point_in}
+use Rattle.step_core.specs.GrownWords.{Words, has_node, points_of_words, state_of_words, sizes_of, HoldRun}
+use Rattle.step_core.specs.KdLinks.{AreLinkedBelow, ChangesChildren, MayLink}
+use Rattle.step_core.specs.MarkWrites.{MayMove, WritesNewNode}
+use Rattle.step_core.specs.PackedRuns.{FitsNode, FitsRecord}
+use Rattle.step_core.proofs.GrownPoints.{node_count-words, present-within}
+use Rattle.step_core.proofs.HeldRuns.{counted-held, none_past-held, claimed-held, ways-held}
+use Rattle.step_core.proofs.LinkedMarks.{start_was, MayLink-placed, AreSameRuns-marked, HoldRun-placed}
+use Rattle.step_core.proofs.MarkStates.{knot_of, with_placed, other-present, FitsRecord-marked, IsBounded-placed, cost_below-low}
+use Rattle.step_core.proofs.PackedWritings.{quota_of-le}
+use Rattle.step_core.proofs.PlacedMarks.{PlacesMark, noded-point}
+use Rattle.step_core.proofs.RecordedMarks.{RecordsMark, word-unrecorded}
+use Rattle.step_core.proofs.UnplacedMarks.{AreSameRuns-unplaced, HoldRun-unplaced}
+
+next_number : (k : ℕ) → k + 1 ≡ suc k
+next_number k = omega arith
+
+module _
+    (task : Task) (k : ℕ) (entry : Record) (p : Point) (moved : List ℕ) (sizes : Sizes) (same : sizes ≡ sizes_of task) (before : Words)
+    (run : ∥ HoldRun task k before ∥₁) (left : k < length task.marks)
+    (nodes : All (IsPresent (points_of_words (sizes_of task) before)) moved)
+    (closed :
+    ∥ IsClosed (setup_of task.scene) task.scene.start task.marks (k + 1) (with_mark (state_of_words (sizes_of task) before) k entry p moved) ∥₁) where
+  closed_next : ∥ IsClosed (setup_of task.scene) task.scene.start task.marks (suc k) (with_mark (state_of_words (sizes_of task) before) k entry p moved) ∥₁
+  closed_next =
+      subst
+      (λ n. ∥ IsClosed (setup_of task.scene) task.scene.start task.marks n (with_mark (state_of_words (sizes_of task) before) k entry p moved) ∥₁)
+      (next_number k) closed
+
+  strip : k % task.scene.strips < task.scene.strips
+  strip = omega (arith, task.scene.strips_low)
+
+  pub FitsRecord-next : FitsRecord entry
+  FitsRecord-next = FitsRecord-marked task (state_of_words (sizes_of task) before) k entry p moved closed_next
+
+  -- no counter stands above the number of marks
+  pub counter-next : before (counter_place (k % sizes.strips)) ≤ k
+  counter-next =
+      subst (λ (s : Sizes). before (counter_place (k % s.strips)) ≤ k) (sym same)
+      (omega (
+        arith,
+        claimed-held task k before run (k % task.scene.strips) strip,
+        quota_of-le task.scene.strips (k % task.scene.strips) k,
+      ))
+
+  present_among : (i : ℕ) → is_among moved i ≡ true → IsPresent (points_of_words (sizes_of task) before) i
+  present_among i among =
+      All-contains (IsPresent (points_of_words (sizes_of task) before)) moved i nodes
+      (Contains-from_any {eq = λ x y. y == x} (λ x y h. sym (eqb-true y x h)) i moved among)
+
+  module _ (recorded : Words) (records : RecordsMark sizes k entry before recorded) where
+    records_of_task : RecordsMark (sizes_of task) k entry before recorded
+    records_of_task = subst (λ s. RecordsMark s k entry before recorded) same records
+
+    -- there are no more nodes than numbers
+    pub count-next : recorded place_of_count ≤ sizes.marks + 1
+    count-next =
+        subst (λ (s : Sizes). recorded place_of_count ≤ s.marks + 1) (sym same)
+        (omega (
+          arith,
+          word-unrecorded (sizes_of task) k entry before recorded records_of_task strip left place_of_count (λ e. omega (arith, e)) (λ e. omega (arith, e))
+              (λ e. omega (arith, e)),
+          counted-held task k before run,
+          node_count-words (sizes_of task) before,
+        ))
+
+    -- ---- a mark that was not placed
+
+    module _ (unplaced : is_placed entry.outcome ≡ false) where
+      pub AreSameRuns-next_unplaced : AreSameRuns (with_mark (state_of_words (sizes_of task) before) k entry p moved) (state_of_words (sizes_of task) recorded)
+      AreSameRuns-next_unplaced =
+          AreSameRuns-unplaced (sizes_of task) k entry before recorded records_of_task strip left FitsRecord-next
+          (none_past-held task k before run (suc k) (omega arith)) unplaced p moved
+
+      pub HoldRun-next_unplaced : ∥ HoldRun task (k + 1) recorded ∥₁
+      HoldRun-next_unplaced =
+          subst (λ n. ∥ HoldRun task n recorded ∥₁) (sym (next_number k))
+          (∥∥₁_map₂ closed_next run
+          (HoldRun-unplaced task k entry p moved before recorded records_of_task strip left FitsRecord-next
+          (none_past-held task k before run (suc k) (omega arith)) unplaced))
+
+  -- ---- a placed mark
+
+  module _ (is : entry.outcome ≡ Placed) where
+    abbrev tree : TreeState
+    tree = with_placed (state_of_words (sizes_of task) before) k entry p moved
+
+    tree_is : with_mark (state_of_words (sizes_of task) before) k entry p moved ≡ tree
+    tree_is = ap (with_outcome (state_of_words (sizes_of task) before) k entry p moved) is
+
+    closed_tree : ∥ IsClosed (setup_of task.scene) task.scene.start task.marks (suc k) tree ∥₁
+    closed_tree = subst (λ state. ∥ IsClosed (setup_of task.scene) task.scene.start task.marks (suc k) state ∥₁) tree_is closed_next
+
+    absent : has_node (sizes_of task) before (suc k) ≡ false
+    absent = none_past-held task k before run (suc k) (omega arith)
+
+    pub IsBounded-next : IsBounded p
+    IsBounded-next = IsBounded-placed task before k entry p moved left absent present_among closed_tree
+
+    pub FitsNode-next : FitsNode sizes (k + 1) (knot_of entry p)
+    FitsNode-next =
+        subst (λ s. FitsNode s (k + 1) (knot_of entry p)) (sym same)
+        (record {
+          within = omega (arith, left);
+          point = IsBounded-next;
+          parent = FitsRecord-next.parent;
+          cost = FitsRecord-next.cost;
+        })
+
+    module _
+        (recorded noded : Words) (records : RecordsMark sizes k entry before recorded)
+        (node : WritesNewNode sizes (k + 1) (knot_of entry p) recorded noded) where
+      may_move : (i : ℕ) → is_among moved i ≡ true → MayMove (sizes_of task) noded (knot_of entry p) i
+      may_move i among =
+          let here = present_among i among in
+          let within = present-within (sizes_of task) before i here in
+          let other = other-present (sizes_of task) before k entry p moved left absent present_among i here in
+          let point =
+          noded-point (sizes_of task) k entry p before recorded noded (subst (λ s. RecordsMark s k entry before recorded) same records)
+          (subst (λ n. WritesNewNode (sizes_of task) n (knot_of entry p) recorded noded) (next_number k)
+          (subst (λ s. WritesNewNode s (k + 1) (knot_of entry p) recorded noded) same node))
+          strip left i other within in
+          record {
+            within = within;
+            cost =
+                subst (λ word. entry.first_cost + cost_of p (point_in word) < 2 ^ 44) (sym point)
+                (cost_below-low task before k entry p moved left absent present_among closed_tree i among);
+          }
+
+      -- each moved node may be moved
+      pub MayMove-next : All (MayMove sizes noded (knot_of entry p)) moved
+      MayMove-next =
+          All-from_get_or (MayMove sizes noded (knot_of entry p)) moved 0
+          (λ i below.
+          subst (λ s. MayMove s noded (knot_of entry p) (get_or moved i 0)) (sym same)
+          (may_move (get_or moved i 0) (list_any_at (λ j. j == get_or moved i 0) moved i 0 below (eq-eqb (get_or moved i 0) (get_or moved i 0) refl))))
+
+    module _ (full : Words) (writes : PlacesMark sizes k (k + 1) entry p moved before full) where
+      writes_of_task : PlacesMark (sizes_of task) k (suc k) entry p moved before full
+      writes_of_task =
+          subst (λ n. PlacesMark (sizes_of task) k n entry p moved before full) (next_number k)
+          (subst (λ s. PlacesMark s k (k + 1) entry p moved before full) same writes)
+
+      none_past : (n : ℕ) → k < n → has_node (sizes_of task) before n ≡ false
+      none_past = none_past-held task k before run
+
+      -- The new node may be linked.
+      pub MayLink-next : MayLink sizes full (k + 1)
+      MayLink-next =
+          let start = start_was task k entry p moved before full writes_of_task strip left none_past present_among is closed_tree in
+          subst (λ s. MayLink s full (k + 1)) (sym same)
+          (subst (MayLink (sizes_of task) full) (sym (next_number k))
+          (MayLink-placed task k entry p moved before full writes_of_task strip left none_past present_among is closed_tree
+          (ways-held task k before run start)))
+
+      module _ (after : Words) (change : ChangesChildren sizes full after) (linked : AreLinkedBelow sizes after (k + 1 + 1)) where
+        change_of_task : ChangesChildren (sizes_of task) full after
+        change_of_task = subst (λ s. ChangesChildren s full after) same change
+
+        pub AreSameRuns-next_placed : AreSameRuns (with_mark (state_of_words (sizes_of task) before) k entry p moved) (state_of_words (sizes_of task) after)
+        AreSameRuns-next_placed =
+            subst (λ state. AreSameRuns state (state_of_words (sizes_of task) after)) (sym tree_is)
+            (AreSameRuns-marked task k entry p moved before full writes_of_task strip left none_past present_among is closed_tree after change_of_task)
+
+        pub HoldRun-next_placed : ∥ HoldRun task (k + 1) after ∥₁
+        HoldRun-next_placed =
+            subst (λ n. ∥ HoldRun task n after ∥₁) (sym (next_number k))
+            (∥∥₁_map₂ closed_tree run
+            (HoldRun-placed task k entry p moved before full writes_of_task strip left none_past present_among is closed_tree after change_of_task
+            (k + 1 + 1) (omega arith) (subst (λ s. AreLinkedBelow s after (k + 1 + 1)) same linked)))

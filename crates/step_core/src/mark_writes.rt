@@ -1,0 +1,96 @@
+//! The words of a finished run in which its next mark is recorded: its record, the counter of its strip, and if it was placed
+//! its node, which is linked to the kd-tree, and the nodes that are moved below it.
+
+ghost use Rattle.std.specs.Prelude.{◌≡◌, ◌<◌, ◌≤◌, ◌+◌, ◌%◌, All, length};
+ghost use Rattle.plan_model.specs.Bounds.{IsBounded};
+ghost use Rattle.plan_model.specs.ClosedLaw.{IsClosed};
+ghost use Rattle.plan_model.specs.HandledMarks.{with_mark};
+ghost use Rattle.plan_model.specs.PointsByNumber.{IsPresent};
+ghost use Rattle.plan_model.specs.Textbook.{setup_of};
+ghost use Rattle.plan_model.specs.TreeStates.{AreSameRuns};
+ghost use Rattle.step_core.specs.GrownWords.{HoldRun, points_of_words, sizes_of, state_of_words, words_of};
+ghost use Rattle.step_core.specs.MarkWrites.{CountsMark, MayMove, MovesNodes, WritesNewNode};
+ghost use Rattle.step_core.specs.PackedRuns.{FitsNode};
+ghost use Rattle.step_core.specs.PlacesOfWords.{sizes_in};
+ghost use Rattle.step_core.specs.WordPlaces.{counter_place, place_of_count, word_count};
+
+use crate::kd_links::link;
+use crate::packed_runs::{write_node, write_record};
+use crate::point_words::point_in;
+use crate::tree_words::pack_tree;
+use crate::word_places::WordPlaces;
+use edge_cost::cost;
+use plan_model::{Knot, Outcome, Point, Record, Task};
+
+/// Records the next mark of a run. If it was placed, its node stands at `p`, and the nodes of `moved` hang below it.
+/// O(d + m) for d nodes on the way of the point and m moved nodes.
+pub(crate) fn write_mark(
+    words: &mut [u64],
+    task: &Task,
+    mark: usize,
+    entry: &Record,
+    p: Point,
+    moved: &[u32],
+)
+    requires sized { length words.old ≡ word_count (sizes_of task.now) }
+    requires run { ∥ HoldRun task.now mark (words_of words.old) ∥₁ }
+    requires left { mark < length task.now.marks }
+    requires nodes { All (IsPresent (points_of_words (sizes_of task.now) (words_of words.old))) moved.now }
+    requires closed { ∥ IsClosed (setup_of task.now.scene) task.now.scene.start task.now.marks (mark + 1)
+        (with_mark (state_of_words (sizes_of task.now) (words_of words.old)) mark entry.now p moved.now) ∥₁ }
+    ensures run { ∥ HoldRun task.now (mark + 1) (words_of words.new) ∥₁ }
+    ensures state { AreSameRuns (with_mark (state_of_words (sizes_of task.now) (words_of words.old)) mark entry.now p moved.now)
+        (state_of_words (sizes_of task.now) (words_of words.new)) }
+{
+    let places = WordPlaces::of(task);
+    count_mark(words, places, mark);
+    write_record(words, places, mark, entry);
+    if let Outcome::Placed = entry.outcome {
+        let node = mark + 1;
+        let knot = Knot {
+            point: p,
+            parent: entry.first_parent,
+            cost: entry.first_cost,
+        };
+        write_new_node(words, places, node, knot);
+        move_nodes(words, places, node, knot, moved);
+        link(words, places, node);
+    }
+}
+
+/// Counts the next mark in the counter of its strip.
+fn count_mark(words: &mut [u64], places: WordPlaces, mark: usize)
+    requires sized { length words.old ≡ word_count (sizes_in places) }
+    requires strips { 0 < places.strips }
+    requires within { mark < places.marks }
+    requires low { words_of words.old (counter_place (mark % places.strips)) ≤ mark }
+    ensures { CountsMark (sizes_in places) mark (words_of words.old) (words_of words.new) }
+{
+    words[places.counter(mark % places.strips())] += 1;
+}
+
+/// Counts a new node, and writes its point, its parent and its cost.
+fn write_new_node(words: &mut [u64], places: WordPlaces, node: usize, knot: Knot)
+    requires sized { length words.old ≡ word_count (sizes_in places) }
+    requires few { words_of words.old place_of_count ≤ places.marks + 1 }
+    requires fits { FitsNode (sizes_in places) node knot }
+    ensures { WritesNewNode (sizes_in places) node knot (words_of words.old) (words_of words.new) }
+{
+    words[places.count()] += 1;
+    write_node(words, places, node, knot);
+}
+
+/// Hangs nodes below a node that stands and costs as `knot` says, each at its cost and the edge. O(m) for m nodes.
+fn move_nodes(words: &mut [u64], places: WordPlaces, node: usize, knot: Knot, moved: &[u32])
+    requires sized { length words.old ≡ word_count (sizes_in places) }
+    requires within { node ≤ places.marks }
+    requires bounded { IsBounded knot.point }
+    requires fit { All (MayMove (sizes_in places) (words_of words.old) knot) moved.now }
+    ensures { MovesNodes (sizes_in places) node knot moved.now (words_of words.old) (words_of words.new) }
+{
+    for &other in moved {
+        let other = other as usize;
+        let edge = cost(knot.point, point_in(words[places.point(other)]));
+        words[places.tree(other)] = pack_tree(node as u32, knot.cost + edge);
+    }
+}
