@@ -1,6 +1,6 @@
 -- The nodes of a finished run: they stand where distances can be taken, the start is one, and none is past the limit.
-use Rattle.std.proofs.Common.{◌≡◌, ℕ, zero, suc, ◌+◌, ◌<◌, ◌≤◌, ◌^◌, Bool, true, false, Some, None, arith, sym, ap, ◌∙◌, inl, inr}
-use Rattle.std.specs.Prelude.{Option, if◌then◌else◌, nat_lt, unwrap_or}
+use Rattle.std.proofs.Common.{◌≡◌, ℕ, zero, suc, ◌≤◌, ◌^◌, Bool, true, false, Some, None, arith, sym, ap, ◌∙◌, inl, inr}
+use Rattle.std.specs.Prelude.{if◌then◌else◌, nat_lt, unwrap_or}
 use Rattle.std.proofs.Math.Bool.{Bool-set}
 use Rattle.std.proofs.Math.Bridge.{le_prop}
 use Rattle.std.proofs.Math.Logic.{∥∥₁_elim}
@@ -13,7 +13,7 @@ use Rattle.plan_model.specs.Geometry.{squared_distance}
 use Rattle.plan_model.specs.Nearness.{distance_to}
 use Rattle.plan_model.specs.PointsByNumber.{StandsAt, IsPresent, node_count}
 use Rattle.plan_model.proofs.NewNodes.{IsPresent-stands, point_of-stands, node_count-some}
-use Rattle.step_core.specs.GrownWords.{HoldRun, Words, points_of_words, sizes_of, state_of_words}
+use Rattle.step_core.specs.GrownWords.{HoldRun, Words, points_of_words, sizes_of}
 use Rattle.step_core.specs.WordPlaces.{Sizes, point_place}
 use Rattle.step_core.specs.Words.{point_in, point_of_word}
 use Rattle.step_core.proofs.GrownPoints.{has_node-present, node_point-here, point_at-words}

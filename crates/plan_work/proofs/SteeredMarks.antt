@@ -1,11 +1,9 @@
 -- A mark that a nearest node steers towards: no other node stands where it leads to, and what a record of it says.
-use Rattle.std.proofs.Common.{◌≡◌, ℕ, List, Option, Some, refl, sym, ap, ◌∙◌, subst}
-use Rattle.std.specs.Prelude.{◌≢◌, ◌↔◌, Contains}
+use Rattle.std.proofs.Common.{◌≡◌, ℕ, List, Option, Some, sym, ap, ◌∙◌, subst}
+use Rattle.std.specs.Prelude.{◌≢◌}
 use Rattle.plan_model.specs.declared.geometry.Point.{Point}
 use Rattle.plan_model.specs.declared.records.Outcome.{Outcome}
-use Rattle.plan_model.specs.declared.records.Outcome.TheVariants.{Placed}
 use Rattle.plan_model.specs.declared.records.Record.{Record}
-use Rattle.plan_model.specs.Clearance.{Clear}
 use Rattle.plan_model.specs.HandledMarks.{EndsBy, IsHandledWhole, turns_of}
 use Rattle.plan_model.specs.PointsByNumber.{StandsAt, IsFree}
 use Rattle.plan_model.specs.Textbook.{Setup, SteersTo}

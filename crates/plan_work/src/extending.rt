@@ -4,13 +4,13 @@ ghost use Rattle.std.specs.Prelude.{◌≡◌, ◌↔◌, ◌+◌, ◌<◌, ◌�
 ghost use Rattle.std.specs.Vec.{vec_capacity};
 ghost use Rattle.plan_model.specs.Bounds.{IsBounded};
 ghost use Rattle.plan_model.specs.Clearance.{Clear};
-ghost use Rattle.plan_model.specs.ClosedLaw.{IsClosed, mark_at};
+ghost use Rattle.plan_model.specs.ClosedLaw.{mark_at};
 ghost use Rattle.plan_model.specs.ConfigurationSpace.{space_of};
-ghost use Rattle.plan_model.specs.HandledMarks.{IsCheaperBy, IsHandledWhole, kept_cost_through, turns_of, with_mark};
+ghost use Rattle.plan_model.specs.HandledMarks.{IsCheaperBy, IsHandledWhole, kept_cost_through, turns_of};
 ghost use Rattle.plan_model.specs.LeastPairs.{IsFirstLeast};
 ghost use Rattle.plan_model.specs.PointsByNumber.{IsFree, IsPresent, StandsAt, point_of};
 ghost use Rattle.plan_model.specs.Textbook.{IsCandidate, SteersTo, setup_of};
-ghost use Rattle.plan_model.specs.TreeStates.{AreSameRuns, GrowsInto};
+ghost use Rattle.plan_model.specs.TreeStates.{GrowsInto};
 ghost use Rattle.plan_model.specs.declared.limits.TheConstants.{MOST_WORKERS};
 ghost use Rattle.plan_work.specs.Extensions.{HandlesNext};
 ghost use Rattle.step_core.specs.GrownRuns.{state_of_grown};
@@ -53,7 +53,7 @@ pub fn extend_whole<C: Clearing>(
 {
     let steering = steer_next(grown);
     let entry = entry_of(grown, hall, steering, worker, list);
-    put(grown, &entry, steering.point, list);
+    grown.put(&entry, steering.point, list);
     entry
 }
 
@@ -182,14 +182,3 @@ fn place<C: Clearing>(
 
 #[cfg(test)]
 mod tests;
-
-// STUB
-fn put(grown: &mut Grown, entry: &Record, p: Point, moved: &[u32])
-    requires left { grown.old.limit < length grown.old.task.marks }
-    requires nodes { All (IsPresent (state_of_grown grown.old).points) moved.now }
-    requires closed { ∥ IsClosed (setup_of grown.old.task.scene) grown.old.task.scene.start grown.old.task.marks (grown.old.limit + 1)
-        (with_mark (state_of_grown grown.old) grown.old.limit entry.now p moved.now) ∥₁ }
-    ensures task { grown.new.task ≡ grown.old.task }
-    ensures limit { grown.new.limit ≡ grown.old.limit + 1 }
-    ensures state { AreSameRuns (with_mark (state_of_grown grown.old) grown.old.limit entry.now p moved.now) (state_of_grown grown.new) }
-{}

@@ -1,22 +1,22 @@
-use Rattle.std.proofs.Common.{◌≡◌, ◌≤◌, true, List, length, get_or, arith, refl, sym, ap, ◌∙◌, subst}
+use Rattle.std.proofs.Common.{◌≡◌, true, get_or, arith, sym, ap, ◌∙◌, subst}
 use Rattle.std.specs.Prelude.{Contains}
 use Rattle.std.proofs.lemmas.List.{get_or_default}
 use Rattle.std.proofs.lemmas.List.Elements.{All-contains}
 use Rattle.plan_model.specs.declared.geometry.Point.{Point}
-use Rattle.plan_model.specs.declared.records.Outcome.TheVariants.{Blocked, Placed, Same}
+use Rattle.plan_model.specs.declared.records.Outcome.TheVariants.{Blocked}
 use Rattle.plan_model.specs.Clearance.{Clear}
 use Rattle.plan_model.specs.ClosedLaw.{mark_at}
 use Rattle.plan_model.specs.ConfigurationSpace.{ConfigurationSpace, space_of}
-use Rattle.plan_model.specs.HandledMarks.{IsBlockedWhole, IsCheaperBy}
+use Rattle.plan_model.specs.HandledMarks.{IsBlockedWhole}
 use Rattle.plan_model.specs.PointsByNumber.{IsFree, IsPresent, point_of}
 use Rattle.plan_model.specs.Radius.{class_of}
 use Rattle.plan_model.specs.Textbook.{near_new, setup_of}
 use Rattle.plan_model.proofs.DistinctPoints.{near-present}
 use Rattle.plan_model.proofs.NewNodes.{point_of-stands}
 use Rattle.step_core.specs.GrownRuns.{state_of_grown}
-use Rattle.step_core.specs.GrownWords.{sizes_of, words_of}
+use Rattle.step_core.specs.GrownWords.{words_of}
 use Rattle.plan_work.proofs.HeldNodes.{some-held}
-use Rattle.plan_work.proofs.SamePoints.{same_point-false, same_point-true}
+use Rattle.plan_work.proofs.SamePoints.{same_point-false}
 use Rattle.plan_work.proofs.SteeredMarks.{IsFree-steered, IsHandledWhole-by}
 use Rattle.plan_work.proofs.extending.entry_of.Goals as goal
 

@@ -1,9 +1,9 @@
-use Rattle.std.proofs.Common.{◌≡◌, ℕ, suc, ◌+◌, ◌<◌, List, length, arith, sym, ap, ◌∙◌, subst}
+use Rattle.std.proofs.Common.{ℕ, suc, ◌+◌, ◌<◌, List, length, arith, sym, subst}
 use Rattle.std.proofs.Math.Logic.{∥∥₁_map}
 use Rattle.std.proofs.lemmas.List.FromFn.{length-map-range_with_len}
 use Rattle.plan_model.specs.declared.limits.TheConstants.{MOST_WORKERS}
-use Rattle.plan_model.specs.ClosedLaw.{IsClosed, mark_at}
-use Rattle.plan_model.specs.HandledMarks.{IsHandledWhole, with_mark}
+use Rattle.plan_model.specs.ClosedLaw.{IsClosed}
+use Rattle.plan_model.specs.HandledMarks.{with_mark}
 use Rattle.plan_model.specs.Textbook.{setup_of}
 use Rattle.plan_model.specs.TreeStates.{AreSameRuns}
 use Rattle.step_core.specs.GrownRuns.{state_of_grown}
@@ -36,10 +36,10 @@ returns-clause-grows g c =
     let room : suc grown.limit < length state.points =
     omega (arith, c.requires.left, length-map-range_with_len (node_point (sizes_of grown.task) (words_of grown.words.items)) 0 (length grown.task.marks + 1)) in
     let few : entry.worker < MOST_WORKERS = omega (arith, c.requires.worker, c.entry_of-entry.ensures.worker) in
-    let run = subst (λ (moved : List ℕ). AreSameRuns (with_mark state grown.limit entry p moved) (state_of_grown c.put.new.grown)) c.deref.ensures.value
+    let run = subst (λ (moved : List ℕ). AreSameRuns (with_mark state grown.limit entry p moved) (state_of_grown c.put.new.self)) c.deref.ensures.value
     c.put.ensures.state in
     GrowsInto-put setup grown.task.scene.start grown.task.marks grown.limit state entry p c.entry_of-entry.new.list.items
-    (∥∥₁_map grown.hold_run (λ h. h.closed)) room c.requires.left few c.entry_of-entry.ensures.handled (state_of_grown c.put.new.grown) run
+    (∥∥₁_map grown.hold_run (λ h. h.closed)) room c.requires.left few c.entry_of-entry.ensures.handled (state_of_grown c.put.new.self) run
 
 pub returns-clause-handled : goal.returns-clause-handled
 returns-clause-handled g c =
@@ -52,6 +52,6 @@ returns-clause-handled g c =
       moved = c.entry_of-entry.new.list.items;
       handled = c.entry_of-entry.ensures.handled;
       run =
-          subst (λ (moved : List ℕ). AreSameRuns (with_mark state grown.limit entry p moved) (state_of_grown c.put.new.grown)) c.deref.ensures.value
+          subst (λ (moved : List ℕ). AreSameRuns (with_mark state grown.limit entry p moved) (state_of_grown c.put.new.self)) c.deref.ensures.value
           c.put.ensures.state;
     }

@@ -1,9 +1,9 @@
-use Rattle.std.proofs.Common.{◌≡◌, ◌+◌, ◌<◌, None, arith, refl, sym, ap, ◌∙◌}
+use Rattle.std.proofs.Common.{arith, sym, ap, ◌∙◌}
 use Rattle.std.specs.Prelude.{is_some}
 use Rattle.plan_model.specs.declared.tasks.Task.{Task}
 use Rattle.plan_model.specs.Geometry.{squared_distance}
 use Rattle.plan_model.specs.Nearness.{distance_to}
-use Rattle.plan_model.specs.PointsByNumber.{IsPresent, point_at}
+use Rattle.plan_model.specs.PointsByNumber.{IsPresent}
 use Rattle.plan_model.proofs.LeastScans.{IsFirstLeastBelow-first, IsFirstLeastBelow-keeps, IsFirstLeastBelow-skips, IsFirstLeastBelow-takes, IsFirstLeast-scanned}
 use Rattle.plan_model.proofs.MarkBounds.{length-marks}
 use Rattle.plan_model.proofs.NewNodes.{IsPresent-stands, point_of-stands}

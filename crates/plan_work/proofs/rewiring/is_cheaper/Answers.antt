@@ -1,13 +1,11 @@
-use Rattle.std.proofs.Common.{◌≡◌, ◌+◌, ◌<◌, Bool, true, false, IsTrue, arith, sym, ap, ◌∙◌, subst}
+use Rattle.std.proofs.Common.{◌≡◌, Bool, true, false, IsTrue, arith, sym, ap, ◌∙◌, subst}
 use Rattle.std.proofs.lemmas.Bool.{ltb-true}
 use Rattle.plan_model.specs.Clearance.{Clear}
 use Rattle.plan_model.specs.Cost.{cost_of}
-use Rattle.plan_model.specs.PointsByNumber.{point_of}
 use Rattle.plan_model.specs.declared.geometry.Point.{Point}
 use Rattle.plan_model.proofs.NewNodes.{IsPresent-stands, point_of-stands}
 use Rattle.step_core.specs.GrownRuns.{state_of_grown}
 use Rattle.step_core.specs.GrownWords.{sizes_of, words_of}
-use Rattle.plan_work.specs.NewNodes.{CostsLessBy}
 use Rattle.plan_work.proofs.HeldNodes.{IsBounded-stands}
 use Rattle.plan_work.proofs.rewiring.is_cheaper.Goals as goal
 use Rattle.plan_work.proofs.rewiring.is_cheaper.Goals.{then-through-kept, else-through-kept}

@@ -1,5 +1,5 @@
-use Rattle.std.proofs.Common.{◌≡◌, ℕ, ◌<◌, ◌≤◌, true, List, length, take, arith, refl, sym, ap, ◌∙◌, subst}
-use Rattle.std.specs.Prelude.{◌↔◌, Contains}
+use Rattle.std.proofs.Common.{ℕ, ◌<◌, ◌≤◌, length, arith, refl, sym, subst}
+use Rattle.std.specs.Prelude.{Contains}
 use Rattle.std.proofs.lemmas.List.Elements.{All-contains}
 use Rattle.plan_model.specs.Clearance.{Clear}
 use Rattle.plan_model.specs.ConfigurationSpace.{ConfigurationSpace}
@@ -8,7 +8,7 @@ use Rattle.plan_model.specs.Textbook.{near_new, setup_of}
 use Rattle.plan_model.proofs.DistinctPoints.{near-present}
 use Rattle.step_core.specs.GrownRuns.{state_of_grown}
 use Rattle.plan_work.specs.NewNodes.{CostsLessBy}
-use Rattle.plan_work.proofs.NumberScans.{KeepsInPlace, KeepsInPlace-all, KeepsInPlace-keeps, KeepsInPlace-leaves, KeepsInPlace-none}
+use Rattle.plan_work.proofs.NumberScans.{KeepsInPlace-all, KeepsInPlace-keeps, KeepsInPlace-leaves, KeepsInPlace-none}
 use Rattle.plan_work.proofs.rewiring.keep_cheaper.Goals as goal
 use Rattle.plan_work.proofs.rewiring.keep_cheaper.Goals.{then-is_cheaper, else-is_cheaper}
 
