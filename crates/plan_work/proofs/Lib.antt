@@ -1,6 +1,8 @@
+pub mod FirstRuns
+pub mod GrownMarks
+pub mod HandledWorkers
 pub mod HeldNodes
 pub mod NumberScans
 pub mod OpenNodes
 pub mod SamePoints
 pub mod SteeredMarks
-pub mod GrownMarks

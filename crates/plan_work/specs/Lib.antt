@@ -1,2 +1,3 @@
 pub mod Extensions
+pub mod Jobs
 pub mod NewNodes

@@ -11,9 +11,15 @@
 
 mod choice;
 mod extending;
+mod gates;
+mod growing;
+mod held;
 mod near_nodes;
 mod nearest_node;
 mod rewiring;
 mod turns;
+mod workers;
 
 pub use extending::extend_whole;
+pub use gates::{Gate, NoGate};
+pub use growing::grow;
