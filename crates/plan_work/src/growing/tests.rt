@@ -1,7 +1,10 @@
 //! Runs by one worker and by several, and what their gates are told.
 
-ghost use Rattle.std.specs.Prelude.{IfSome};
+ghost use Rattle.std.specs.Prelude.{◌≡◌, ◌≤◌, IfOk, IsTrue};
 ghost use Rattle.plan_model.specs.Clearance.{ClearAt};
+ghost use Rattle.plan_model.specs.ConfigurationSpace.{space_of};
+ghost use Rattle.plan_model.specs.Limits.{is_plan};
+ghost use Rattle.plan_model.specs.declared.limits.TheConstants.{MOST_WORKERS};
 
 use super::*;
 use crate::gates::NoGate;
@@ -15,22 +18,11 @@ use swept_check::Hall;
 
 // ---- runs
 
-/// The three marks, of which the node of the third gives that of the second a cheaper way.
-fn marks(alloc: Global) -> Result<Sequence<Point>, Memory>
-    ensures { IfOk result (λ marks. length marks ≡ 3) }
-{
-    let marks = [
-        Point { x: 0, y: 50 },
-        Point { x: 40, y: 79 },
-        Point { x: 40, y: 30 },
-    ];
-    Ok(Sequence::from_vec(Vec::from_slice(alloc, &marks)?))
-}
-
-/// The task of three marks for a point body in an empty room of 100 by 100, from its lower left corner by steps of 50.
-fn small_task(alloc: Global) -> Result<Task, Memory>
+/// The task of these marks for a point body in an empty room of 100 by 100, from its lower left corner by steps of 50.
+fn small_task(alloc: Global, marks: &[Point]) -> Result<Task, Memory>
+    requires { IsTrue (is_plan (Marks.Listed marks.now)) }
     ensures clear { IfOk result (λ task. ClearAt (space_of task.scene) task.scene.start) }
-    ensures marks { IfOk result (λ task. length task.marks ≡ 3) }
+    ensures marks { IfOk result (λ task. task.marks ≡ marks.now) }
 {
     let scene = Scene {
         version: 1,
@@ -46,15 +38,15 @@ fn small_task(alloc: Global) -> Result<Task, Memory>
         gamma: 1000,
         seed: 0,
         strips: 1,
-        plan: Marks::Listed(marks(alloc)?),
+        plan: Marks::Listed(Sequence::from_vec(Vec::from_slice(alloc, marks)?)),
     };
     Ok(Task {
         scene,
-        marks: marks(alloc)?,
+        marks: Sequence::from_vec(Vec::from_slice(alloc, marks)?),
     })
 }
 
-/// The run of the small task by so many workers, up to a limit.
+/// The run of three marks by so many workers, up to a limit. The node of the third mark gives that of the second a cheaper way.
 fn small_run<R: Threads + Sync + Wait, G: Gate>(
     rt: &R,
     alloc: Global,
@@ -67,7 +59,12 @@ fn small_run<R: Threads + Sync + Wait, G: Gate>(
     requires within { limit ≤ 3 }
     ensures { IfOk result (λ grown. grown.limit ≡ limit) }
 {
-    let grown = Grown::new(alloc, small_task(alloc)?)?;
+    let marks = [
+        Point { x: 0, y: 50 },
+        Point { x: 40, y: 79 },
+        Point { x: 40, y: 30 },
+    ];
+    let grown = Grown::new(alloc, small_task(alloc, &marks)?)?;
     let hall = Hall::new(alloc, &grown.task().scene)?;
     grow(rt, alloc, grown, &hall, workers, limit, gate)
 }
@@ -109,7 +106,7 @@ fn has_turns(grown: &Grown) -> bool {
 
 /// How many marks were placed, ended at a node, and were blocked.
 fn outcomes(grown: &Grown) -> [u32; 3] {
-    let [mut placed, mut same, mut blocked] = [0; 3];
+    let (mut placed, mut same, mut blocked) = (0, 0, 0);
     for mark in 0..grown.limit() {
         match grown.record_of(mark).outcome {
             Outcome::Placed => placed += 1,
