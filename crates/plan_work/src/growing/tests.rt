@@ -11,9 +11,9 @@ use crate::gates::NoGate;
 use plan_model::{
     Goal, Knot, MOST_WORKERS, Marks, Outcome, Point, Record, Scene, Sequence, Task, Vertex,
 };
-use std::hint;
 use std::sync::atomic::{AtomicBool, AtomicU32, Ordering};
 use std::test::Fail;
+use std::thread;
 use swept_check::Hall;
 
 // ---- runs
@@ -265,13 +265,13 @@ struct OtherFirst {
 }
 
 impl OtherFirst {
-    /// Waits for a flag, and notes if it did not come.
+    /// Waits for a flag, and notes if it did not come in time.
     fn wait_for(&self, flag: &AtomicBool) {
-        for _ in 0..100_000_000u32 {
+        for _ in 0..10_000_000u32 {
             if flag.load(Ordering::SeqCst) {
                 return;
             }
-            hint::spin_loop();
+            thread::yield_now();
         }
         self.in_time.store(false, Ordering::SeqCst);
     }
