@@ -1,7 +1,8 @@
 //! Marks that are handled whole, one after another.
 
-ghost use Rattle.std.specs.Prelude.{IfOk, IsTrue};
+ghost use Rattle.std.specs.Prelude.{◌≡◌, IfOk, IsTrue};
 ghost use Rattle.plan_model.specs.Clearance.{ClearAt};
+ghost use Rattle.plan_model.specs.ConfigurationSpace.{space_of};
 ghost use Rattle.plan_model.specs.Limits.{is_plan};
 ghost use Rattle.plan_model.specs.declared.scenes.Marks.TheVariants.{Listed};
 
