@@ -100,6 +100,21 @@ fn assert_handled(
     assert_eq!(rt; list.capacity(), room);
 }
 
+/// Asserts that handling the next marks gives these records.
+fn assert_all_handled(
+    rt: &impl Abort,
+    grown: &mut Grown,
+    hall: &Hall,
+    list: &mut Vec<u32>,
+    wants: &[Record],
+)
+    requires { hall.now ≡ space_of grown.old.task.scene }
+{
+    for want in wants {
+        assert_handled(rt, grown, hall, list, *want);
+    }
+}
+
 /// The marks of which the third gives the node of the second a cheaper way.
 fn marks_to_rewire() -> [Point; 3]
     ensures { IsTrue (is_plan (Listed result)) }
@@ -123,9 +138,7 @@ fn rewires_the_node_that_is_cheaper_through_a_new_one(rt: HostRuntime) -> Result
         placed((0, 1), 1, 1, 25_449, 2),
         placed((0, 2), 1, 0, 12_800, 2),
     ];
-    for want in records {
-        assert_handled(&rt, &mut grown, &hall, &mut list, want);
-    }
+    assert_all_handled(&rt, &mut grown, &hall, &mut list, &records);
     assert_eq!(rt; grown.count(), 4);
     for (number, want) in [
         (0, node(0, 0, 0, 0)),
@@ -149,9 +162,7 @@ fn counts_the_turns_of_each_worker(rt: HostRuntime) -> Result<(), Fail> {
         placed((1, 0), 1, 1, 25_449, 2),
         placed((0, 1), 1, 0, 12_800, 2),
     ];
-    for want in records {
-        assert_handled(&rt, &mut grown, &hall, &mut list, want);
-    }
+    assert_all_handled(&rt, &mut grown, &hall, &mut list, &records);
     Ok(())
 }
 
@@ -174,9 +185,7 @@ fn places_no_node_on_another_or_behind_a_wall(rt: HostRuntime) -> Result<(), Fai
         unplaced(7, 2, 0, Outcome::Same(0)),
         unplaced(63, 0, 2, Outcome::Blocked),
     ];
-    for want in records {
-        assert_handled(&rt, &mut grown, &hall, &mut list, want);
-    }
+    assert_all_handled(&rt, &mut grown, &hall, &mut list, &records);
     assert_eq!(rt; grown.count(), 3);
     for (number, want) in [
         (0, node(0, 0, 0, 0)),
