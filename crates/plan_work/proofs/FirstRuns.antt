@@ -38,9 +38,9 @@ module _ (grown : Grown) where
   StandsAt-start =
       let points = (state_of_grown grown).points in
       let right : (point_of points 0).x ≡ grown.task.scene.start.x =
-          ∥∥₁_elim grown.hold_run (ℕ_set _ _) (λ h. ap x_of h.closed.order.start_stands) in
+      ∥∥₁_elim grown.hold_run (ℕ_set _ _) (λ h. ap x_of h.closed.order.start_stands) in
       let top : (point_of points 0).y ≡ grown.task.scene.start.y =
-          ∥∥₁_elim grown.hold_run (ℕ_set _ _) (λ h. ap y_of h.closed.order.start_stands) in
+      ∥∥₁_elim grown.hold_run (ℕ_set _ _) (λ h. ap y_of h.closed.order.start_stands) in
       StandsAt-present points 0 start_present-grown ∙ ap Some (same_points (point_of points 0) grown.task.scene.start right top)
 
   -- it is its own parent
