@@ -32,7 +32,8 @@ returns-then-not-clear-clause-handled g c =
     let free : IsFree state.points s.point =
     IsFree-steered (setup_of scene) state.points mark s.nearest s.from s.point c.requires.steers c.requires.from
     (same_point-false s.point s.from (sym c.eq.ensures ∙ c.if-eq.false)) in
-    let at : point_of state.points entry.nearest ≡ s.from = ap (point_of state.points) e.nearest ∙ point_of-stands state.points s.nearest s.from c.requires.from in
+    let at : point_of state.points entry.nearest ≡ s.from =
+    ap (point_of state.points) e.nearest ∙ point_of-stands state.points s.nearest s.from c.requires.from in
     let blocked : ¬ Clear (space_of scene) (point_of state.points entry.nearest) s.point =
     λ clear. (
     let passes : c.clear-2.result ≡ true =

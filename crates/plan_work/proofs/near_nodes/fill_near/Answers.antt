@@ -22,7 +22,8 @@ returns-then-radius-eq0-clause-near c =
     let points = (state_of_grown c.args.grown.now).points in
     let p = c.args.point in
     let none : near points p 0 ≡ [] =
-    filter-none (λ i. is_within p 0 (point_at points i)) (range_with_len 0 (length points)) (λ i. is_near_free points p i c.requires.free (point_at points i) refl) in
+    filter-none (λ i. is_within p 0 (point_at points i)) (range_with_len 0 (length points))
+    (λ i. is_near_free points p i c.requires.free (point_at points i) refl) in
     c.clear.ensures.items ∙ sym none ∙ ap (near points p) (sym c.if-radius-eq0.true)
 
 pub overflow_add-numbers : goal.overflow_add-numbers
@@ -61,7 +62,8 @@ returns-clause-near c =
     let points = (state_of_grown grown).points in
     let test : ℕ → Bool = λ i. is_within c.args.point c.args.radius (point_at points i) in
     let node = c.loop-node.node in
-    let long : length points ≡ length grown.task.marks + 1 = length-map-range_with_len (node_point (sizes_of grown.task) words) 0 (length grown.task.marks + 1) in
+    let long : length points ≡ length grown.task.marks + 1 =
+    length-map-range_with_len (node_point (sizes_of grown.task) words) 0 (length grown.task.marks + 1) in
     let within = limit-held grown.task grown.limit words grown.hold_run in
     let fail : (i : ℕ) → node ≤ i → test i ≡ false =
     λ i past. elim (cases_Bool (test i)) [

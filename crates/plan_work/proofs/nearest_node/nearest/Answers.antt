@@ -4,7 +4,8 @@ use Rattle.plan_model.specs.declared.tasks.Task.{Task}
 use Rattle.plan_model.specs.Geometry.{squared_distance}
 use Rattle.plan_model.specs.Nearness.{distance_to}
 use Rattle.plan_model.specs.PointsByNumber.{IsPresent}
-use Rattle.plan_model.proofs.LeastScans.{IsFirstLeastBelow-first, IsFirstLeastBelow-keeps, IsFirstLeastBelow-skips, IsFirstLeastBelow-takes, IsFirstLeast-scanned}
+use Rattle.plan_model.proofs.LeastScans.{IsFirstLeastBelow-first, IsFirstLeastBelow-keeps, IsFirstLeastBelow-skips}
+use Rattle.plan_model.proofs.LeastScans.{IsFirstLeastBelow-takes, IsFirstLeast-scanned}
 use Rattle.plan_model.proofs.MarkBounds.{length-marks}
 use Rattle.plan_model.proofs.NewNodes.{IsPresent-stands, point_of-stands}
 use Rattle.step_core.specs.GrownRuns.{state_of_grown}
@@ -50,7 +51,9 @@ loop-node-preserved c =
     elim c.match-point.branch [
       | in-Some+then-distance-least w ↦ (
           let stands = sym c.point.ensures ∙ w.in-Some.is in
-          let distance = w.squared_distance-distance.ensures.value ∙ sym (ap (λ p. squared_distance p mark) (point_of-stands points l.node w.in-Some.point stands)) in
+          let distance =
+          w.squared_distance-distance.ensures.value
+          ∙ sym (ap (λ p. squared_distance p mark) (point_of-stands points l.node w.in-Some.point stands)) in
           rw (w.best-is, w.least-is) (record {
             scanned =
                 IsFirstLeastBelow-takes key among l.node l.best l.invariant.scanned (IsPresent-stands points l.node w.in-Some.point stands)
@@ -59,7 +62,9 @@ loop-node-preserved c =
           }))
       | in-Some+else-distance-least w ↦ (
           let stands = sym c.point.ensures ∙ w.in-Some.is in
-          let distance = w.squared_distance-distance.ensures.value ∙ sym (ap (λ p. squared_distance p mark) (point_of-stands points l.node w.in-Some.point stands)) in
+          let distance =
+          w.squared_distance-distance.ensures.value
+          ∙ sym (ap (λ p. squared_distance p mark) (point_of-stands points l.node w.in-Some.point stands)) in
           rw (w.best-is, w.least-is) (record {
             scanned =
                 IsFirstLeastBelow-keeps key among l.node l.best l.invariant.scanned
