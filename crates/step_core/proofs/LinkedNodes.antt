@@ -9,7 +9,7 @@ use Rattle.plan_model.proofs.NewNodes.{IsPresent-stands}
 use Rattle.plan_model.proofs.WayLinks.{FollowWays-same, FollowWays-start}
 use Rattle.step_core.specs.WordPlaces.{Sizes}
 use Rattle.step_core.specs.GrownWords.{Words, points_of_words, children_of_words}
-use Rattle.step_core.specs.KdLinks.{points_below, AreLinkedBelow, AreUnlinked, ChangesChildren, MayLink}
+use Rattle.step_core.specs.KdLinks.{points_below, AreLinkedBelow, AreUnlinked, ChangesChildren, LinksRise, MayLink}
 use Rattle.step_core.proofs.KdWays.{point_at-lesser, point_at-greater, present-lesser}
 use Rattle.step_core.proofs.LinkedWords.{points-children}
 
@@ -17,9 +17,10 @@ none_some : (o : Option Point) → is_some o ≡ false → o ≡ None
 none_some None h = refl
 none_some (Some p) h = cc
 
--- The nodes below number m are linked, and only child words changed so far.
+-- The nodes below number m are linked, each below one of a lesser number, and only child words changed so far.
 pub record LinksSoFar (sizes : Sizes) (has : ℕ → Bool) (before words : Words) (m : ℕ) : Type 0 where
   pub linked : AreLinkedBelow sizes words m
+  pub rise : LinksRise (children_of_words sizes words)
   pub others : ChangesChildren sizes before words
 
 module _ (sizes : Sizes) (has : ℕ → Bool) (before : Words) (unlinked : AreUnlinked sizes before has) where
@@ -30,6 +31,7 @@ module _ (sizes : Sizes) (has : ℕ → Bool) (before : Words) (unlinked : AreUn
       ways = FollowWays-start (children_of_words sizes before) (points_below sizes before 1) unlinked.no_child alone;
       start = ap is_some (point_at-lesser sizes before 1 0 (omega arith)) ∙ unlinked.start;
     };
+    rise = λ n c side one. let gone = sym one ∙ unlinked.no_child n side in cc;
     others = λ place apart. refl;
   }
     where
@@ -62,6 +64,7 @@ module _ (sizes : Sizes) (has : ℕ → Bool) (before : Words) (unlinked : AreUn
             (points_below sizes words (m + 1)) (λ n side. refl) same_below so_far.linked.ways;
         start = ap is_some (same_below 0) ∙ so_far.linked.start;
       };
+      rise = so_far.rise;
       others = so_far.others;
     }
       where
@@ -92,8 +95,10 @@ module _ (sizes : Sizes) (has : ℕ → Bool) (before : Words) (unlinked : AreUn
 
     -- a linked one is linked
     pub LinksSoFar-more :
-        (after : Words) → AreLinkedBelow sizes after (m + 1) → ChangesChildren sizes words after → LinksSoFar sizes has before after (m + 1)
-    LinksSoFar-more after linked change = record {
+        (after : Words) → AreLinkedBelow sizes after (m + 1) → LinksRise (children_of_words sizes after) → ChangesChildren sizes words after
+        → LinksSoFar sizes has before after (m + 1)
+    LinksSoFar-more after linked rise change = record {
       linked = linked;
+      rise = rise;
       others = λ place apart. change place apart ∙ so_far.others place apart;
     }

@@ -1,9 +1,9 @@
 -- The links of a kd-tree while nodes are linked in rising number.
-use Rattle.std.specs.Prelude.{◌≡◌, ◌≢◌, ℕ, ◌+◌, ◌<◌, ◌≤◌, nat_lt, is_some, Bool, Option, None, List, map, if◌then◌else◌}
+use Rattle.std.specs.Prelude.{◌≡◌, ◌≢◌, ℕ, ◌+◌, ◌<◌, ◌≤◌, nat_lt, is_some, Bool, Option, Some, None, List, map, if◌then◌else◌}
 use Rattle.std.specs.List.{range_with_len}
 use Rattle.plan_model.specs.declared.geometry.Point.{Point}
 use Rattle.plan_model.specs.PointsByNumber.{point_at, StandsAt, IsPresent, AreDistinct}
-use Rattle.plan_model.specs.Ways.{goes_right, EndsBelow, FollowWays}
+use Rattle.plan_model.specs.Ways.{goes_right, Children, EndsBelow, FollowWays}
 use Rattle.step_core.specs.WordPlaces.{Sizes, child_place}
 use Rattle.step_core.specs.GrownWords.{Words, node_point, points_of_words, children_of_words}
 
@@ -15,6 +15,10 @@ points_below sizes words m = map (λ n. if nat_lt n m then node_point sizes word
 pub record AreLinkedBelow (sizes : Sizes) (words : Words) (m : ℕ) : Type 0 where
   pub ways : FollowWays (children_of_words sizes words) (points_below sizes words m)
   pub start : IsPresent (points_below sizes words m) 0
+
+-- Each child has a greater number than the node above it, as nodes that are linked in rising number do.
+abbrev pub LinksRise : Children → Type 0
+LinksRise child = (n c : ℕ) (side : Bool) → child n side ≡ Some c → n < c
 
 -- No node below number m stands at q.
 abbrev pub IsFreeBelow : Sizes → Words → ℕ → Point → Type 0

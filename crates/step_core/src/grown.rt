@@ -9,6 +9,7 @@ ghost use Rattle.plan_model.specs.PointsByNumber.{IsPresent, node_count, point_a
 ghost use Rattle.plan_model.specs.Textbook.{setup_of, start_alone};
 ghost use Rattle.step_core.specs.GrownWords.{HoldRun, has_node, record_at, sizes_of, words_of};
 ghost use Rattle.plan_model.specs.TreeStates.{AreSameRuns, state_of};
+ghost use Rattle.step_core.specs.KdLinks.{LinksRise};
 ghost use Rattle.step_core.specs.PackedRuns.{state_of_lists};
 ghost use Rattle.step_core.specs.WordPlaces.{tree_place, word_count};
 
@@ -24,8 +25,8 @@ use std::alloc::Global;
 /// A run that has handled all marks below its limit, as a table of 64-bit words.
 ///
 /// Its tree, its costs and its records keep the closed law: each mark below the limit has a record that the tree bears out.
-/// The present nodes are linked to a kd-tree by the order in which they were inserted; each node stands at the end of the
-/// way of its point, and a node is present if it is the start or its mark was placed.
+/// The present nodes are linked to a kd-tree, each at the end of the way of its point. A node is present if it is the start
+/// or its mark was placed.
 #[derive(Drop)]
 pub struct Grown {
     task: Task,
@@ -62,8 +63,8 @@ impl Grown {
         })
     }
 
-    /// The run with these nodes and these records, whose number is its limit. The nodes are linked in rising number. O(n * d)
-    /// for n nodes, d of them on the longest way through the kd-tree.
+    /// The run with these nodes and these records, whose number is its limit. The nodes are linked in rising number, so each
+    /// but the start stands below one of a lesser number. O(n * d) for n nodes, d of them on the longest way.
     ///
     /// # Errors
     ///
@@ -78,6 +79,7 @@ impl Grown {
         ensures task { IfOk result (λ grown. grown.task ≡ task) }
         ensures limit { IfOk result (λ grown. grown.limit ≡ length records.now) }
         ensures state { IfOk result (λ grown. AreSameRuns (state_of_lists knots.now records.now) (state_of_grown grown)) }
+        ensures links { IfOk result (λ grown. LinksRise (children_of_grown grown)) }
     {
         let mut words = vec![in alloc; 0; WordPlaces::of(&task).len()]?;
         write_run(&mut words, &task, knots.as_slice(), records.as_slice());

@@ -4,7 +4,7 @@
 ghost use Rattle.std.specs.Prelude.{◌≡◌, ◌≤◌, ◌+◌, None, is_some, length, slice_index_or};
 ghost use Rattle.plan_model.specs.Ways.{FollowWays, goes_right};
 ghost use Rattle.step_core.specs.GrownWords.{children_of_words, points_of_words, words_of};
-ghost use Rattle.step_core.specs.KdLinks.{AreLinkedBelow, AreUnlinked, ChangesChildren, EndsAt, IsFreeBelow, MayLink};
+ghost use Rattle.step_core.specs.KdLinks.{AreLinkedBelow, AreUnlinked, ChangesChildren, EndsAt, IsFreeBelow, LinksRise, MayLink};
 ghost use Rattle.step_core.specs.PlacesOfWords.{sizes_in};
 ghost use Rattle.step_core.specs.WordPlaces.{point_place, word_count};
 ghost use Rattle.step_core.specs.Words.{point_in};
@@ -18,6 +18,7 @@ pub(crate) fn link_all(words: &mut [u64], places: WordPlaces, knots: &[Option<Kn
     requires sized { length words.old ≡ word_count (sizes_in places) }
     requires unlinked { AreUnlinked (sizes_in places) (words_of words.old) (λ n. is_some (slice_index_or knots.now n None)) }
     ensures ways { FollowWays (children_of_words (sizes_in places) (words_of words.new)) (points_of_words (sizes_in places) (words_of words.new)) }
+    ensures links { LinksRise (children_of_words (sizes_in places) (words_of words.new)) }
     ensures others { ChangesChildren (sizes_in places) (words_of words.old) (words_of words.new) }
 {
     for node in 1..knots.len() {
@@ -32,6 +33,7 @@ pub(crate) fn link(words: &mut [u64], places: WordPlaces, node: usize)
     requires sized { length words.old ≡ word_count (sizes_in places) }
     requires may_link { MayLink (sizes_in places) (words_of words.old) node }
     ensures linked { AreLinkedBelow (sizes_in places) (words_of words.new) (node + 1) }
+    ensures rise { LinksRise (children_of_words (sizes_in places) (words_of words.old)) → LinksRise (children_of_words (sizes_in places) (words_of words.new)) }
     ensures others { ChangesChildren (sizes_in places) (words_of words.old) (words_of words.new) }
 {
     let point = point_in(words[places.point(node)]);

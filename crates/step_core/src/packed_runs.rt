@@ -5,7 +5,8 @@ ghost use Rattle.plan_model.specs.ClosedLaw.{IsClosed};
 ghost use Rattle.plan_model.specs.Textbook.{setup_of};
 ghost use Rattle.plan_model.specs.declared.trees.Knot.{Knot};
 ghost use Rattle.plan_model.specs.declared.records.Record.{Record};
-ghost use Rattle.step_core.specs.GrownWords.{HoldRun, sizes_of, state_of_words, words_of};
+ghost use Rattle.step_core.specs.GrownWords.{HoldRun, children_of_words, sizes_of, state_of_words, words_of};
+ghost use Rattle.step_core.specs.KdLinks.{LinksRise};
 ghost use Rattle.plan_model.specs.TreeStates.{AreSameRuns};
 ghost use Rattle.step_core.specs.PackedRuns.{ChangesNode, ChangesRecord, CountsMarks, FitWords, FitsNode, FitsRecord, HoldLists};
 ghost use Rattle.step_core.specs.PackedRuns.{HoldsNode, HoldsRecord, IsKnot, WritesNodes, WritesRecords, state_of_lists};
@@ -26,6 +27,7 @@ pub(crate) fn write_run(words: &mut [u64], task: &Task, knots: &[Option<Knot>], 
     requires closed { IsClosed (setup_of task.now.scene) task.now.scene.start task.now.marks (length records.now) (state_of_lists knots.now records.now) }
     ensures run { HoldRun task.now (length records.now) (words_of words.new) }
     ensures state { AreSameRuns (state_of_lists knots.now records.now) (state_of_words (sizes_of task.now) (words_of words.new)) }
+    ensures links { LinksRise (children_of_words (sizes_of task.now) (words_of words.new)) }
 {
     let places = WordPlaces::of(task);
     write_lists(words, places, knots, records);

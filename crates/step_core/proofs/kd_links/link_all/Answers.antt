@@ -24,7 +24,8 @@ loop-node-preserved c =
       | then-is_some w ↦ (
           let more =
           LinksSoFar-more (sizes_in c.args.places) (λ n. is_some (slice_index_or c.args.knots.now n None)) (words_of c.args.words.now) c.requires.unlinked
-          c.loop-node.node (words_of c.loop-node.words) c.loop-node.invariant (words_of w.link.new.words) w.link.ensures.linked w.link.ensures.others in
+          c.loop-node.node (words_of c.loop-node.words) c.loop-node.invariant (words_of w.link.new.words) w.link.ensures.linked
+          (w.link.ensures.rise c.loop-node.invariant.rise) w.link.ensures.others in
           subst
           (λ words.
           LinksSoFar (sizes_in c.args.places) (λ n. is_some (slice_index_or c.args.knots.now n None)) (words_of c.args.words.now) (words_of words)
@@ -46,3 +47,6 @@ returns-clause-ways c =
     FollowWays-all (sizes_in c.args.places) (λ n. is_some (slice_index_or c.args.knots.now n None)) (words_of c.args.words.now) c.requires.unlinked
     c.loop-node.node (words_of c.loop-node.words) c.loop-node.invariant
     (λ n past. ap is_some (get_or_past c.args.knots.now n None (omega (arith, past, c.loop-node-test.false))))
+
+pub returns-clause-links : goal.returns-clause-links
+returns-clause-links c = c.loop-node.invariant.rise

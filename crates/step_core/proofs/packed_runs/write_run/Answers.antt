@@ -1,5 +1,6 @@
 use Rattle.std.proofs.Common.{◌≡◌, sym, subst}
-use Rattle.step_core.specs.GrownWords.{words_of, sizes_of}
+use Rattle.step_core.specs.GrownWords.{words_of, sizes_of, children_of_words}
+use Rattle.step_core.specs.KdLinks.{LinksRise}
 use Rattle.step_core.specs.PackedRuns.{FitWords}
 use Rattle.step_core.specs.PlacesOfWords.{sizes_in}
 use Rattle.step_core.proofs.FittingRuns.{FitWords-closed}
@@ -33,4 +34,5 @@ returns c =
           AreSameRuns-linked c.args.task.now c.args.knots.now c.args.records.now (sizes_in c.of-places.result) same (words_of c.write_lists.new.words)
           c.requires.closed (FitWords-closed c.args.task.now c.args.knots.now c.args.records.now c.requires.closed) c.write_lists.ensures.lists
           (words_of c.link_all.new.words) c.link_all.ensures.others;
+      links = subst (λ s. LinksRise (children_of_words s (words_of c.link_all.new.words))) same c.link_all.ensures.links;
     }

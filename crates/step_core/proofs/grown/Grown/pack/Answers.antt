@@ -1,6 +1,7 @@
 use Rattle.std.proofs.Common.{◌≡◌, length, arith, sym, ap, ◌∙◌, subst}
 use Rattle.std.proofs.lemmas.List.{with_items_is}
-use Rattle.step_core.specs.GrownWords.{HoldRun, sizes_of, state_of_words, words_of}
+use Rattle.step_core.specs.GrownWords.{HoldRun, children_of_words, sizes_of, state_of_words, words_of}
+use Rattle.step_core.specs.KdLinks.{LinksRise}
 use Rattle.plan_model.specs.TreeStates.{AreSameRuns}
 use Rattle.step_core.specs.PackedRuns.{state_of_lists}
 use Rattle.step_core.proofs.grown.Grown.pack.Goals as goal
@@ -26,3 +27,9 @@ returns-clause-state c =
     subst (λ list. AreSameRuns (state_of_lists c.args.knots.now c.args.records.now) (state_of_words (sizes_of c.args.task) (words_of list))) (sym items)
     (subst (λ state. AreSameRuns state (state_of_words (sizes_of c.args.task) (words_of c.write_run.new.words)))
     (λ t. state_of_lists (c.as_slice.ensures t) (c.as_slice-2.ensures t)) c.write_run.ensures.state)
+
+pub returns-clause-links : goal.returns-clause-links
+returns-clause-links c =
+    let long : length c.write_run.new.words ≡ c.in_ok-words.words.len = c.write_run.auto.words ∙ c.deref_mut.ensures.len in
+    subst (λ list. LinksRise (children_of_words (sizes_of c.args.task) (words_of list))) (sym (with_items_is c.in_ok-words.words c.write_run.new.words long))
+    c.write_run.ensures.links
