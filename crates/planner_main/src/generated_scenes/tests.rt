@@ -1,4 +1,4 @@
-//! Generated scenes, against fields and corners that a separate program computed.
+//! Generated scenes, against fields and corners that were worked out apart from the planner.
 
 ghost use Rattle.std.specs.Prelude.{◌≤◌};
 

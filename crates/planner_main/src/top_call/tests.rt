@@ -478,7 +478,7 @@ fn writes_a_generated_scene(rt: HostRuntime) -> Result<(), Fail> {
     Ok(())
 }
 
-// A trial is the plan of the generated scene without the lines of the points. A separate program computed it.
+// A trial is the plan of the generated scene without the lines of the points. It was worked out apart from the planner.
 #[test]
 fn tries_a_generated_scene(rt: HostRuntime) -> Result<(), Fail> {
     let alloc = rt.alloc();

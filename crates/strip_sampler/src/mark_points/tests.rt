@@ -1,4 +1,4 @@
-//! Marks that are listed, and marks that are drawn. What is drawn was computed by a separate program.
+//! Marks that are listed, and marks that are drawn. What is drawn was worked out apart from the planner.
 
 ghost use Rattle.std.specs.Prelude.{◌≡◌, ◌≤◌, IfOk, IsTrue};
 ghost use Rattle.plan_model.specs.Limits.{IsBetween, is_body, is_plan};

@@ -106,7 +106,7 @@ node 0 at 5 5 parent 0 cost 0\n",
     Ok(())
 }
 
-// All marks lie on one of the four points of the room. A separate program drew them.
+// All marks lie on one of the four points of the room. They were drawn apart from the planner.
 #[test]
 fn writes_as_many_marks_as_there_may_be(rt: HostRuntime) -> Result<(), Fail> {
     let text =
