@@ -19,7 +19,7 @@ use Rattle.plan_model.proofs.MarkBounds.{length-marks}
 use Rattle.plan_model.proofs.NodeCounts.{node_count-one_more}
 use Rattle.plan_model.proofs.SameTrees.{IsClosed-same_run}
 use Rattle.plan_model.proofs.WayLinks.{FollowWays-same}
-use Rattle.step_core.specs.WordPlaces.{Sizes, place_of_count, counter_place, point_place, tree_place, first_place}
+use Rattle.step_core.specs.WordPlaces.{Sizes, place_of_count, counter_place, point_place, tree_place, first_place, record_place}
 use Rattle.step_core.specs.Words.{parent_in, cost_in}
 use Rattle.step_core.specs.GrownWords.{Words, has_node, points_of_words, state_of_words, children_of_words}
 use Rattle.step_core.specs.GrownWords.{IsPointWord, IsTreeWord, IsWritten, sizes_of, HoldRun}
@@ -29,11 +29,12 @@ use Rattle.step_core.specs.PackedRuns.{FitsRecord}
 use Rattle.step_core.proofs.FittingStates.{FitsRecord-closed}
 use Rattle.step_core.proofs.GrownPoints.{node_point-absent, point_at-words, present-within}
 use Rattle.step_core.proofs.KdWays.{point_at-lesser, point_at-greater}
-use Rattle.step_core.proofs.LinkedWords.{not_point, not_tree, not_first, not_count, not_counter, record_at-children, points-children}
+use Rattle.step_core.proofs.LinkedWords.{not_point, not_tree, not_first, not_record, not_count, not_counter, record_at-children, points-children}
 use Rattle.step_core.proofs.MarkStates.{knot_of, with_placed, point_at-others, FitsRecord-known, IsBounded-placed, cost_below-low}
 use Rattle.step_core.proofs.PlacedMarks.{PlacesMark, HoldsMark-placed, count-placed, child-placed, point_at-own, point_at-other}
 use Rattle.step_core.proofs.PlacedMarks.{AreSameRuns-placed, written-own, written-other}
-use Rattle.step_core.proofs.RecordedMarks.{children-kept, quota-marked}
+use Rattle.step_core.proofs.RecordedMarks.{HoldsMark, HoldsMark-later, children-kept, quota-marked}
+use Rattle.step_core.proofs.RecordedMarks.{recorded-marked, unrecorded-marked, start_first-marked}
 
 -- links change nothing of what is written of a node
 IsWritten-linked : (sizes : Sizes) (before after : Words) (n : ℕ) → ChangesChildren sizes before after → IsWritten sizes before n → IsWritten sizes after n
@@ -172,6 +173,15 @@ module _
               (was n here)))
         ]
 
+    -- links change nothing of the record
+    marked : HoldsMark (sizes_of task) k entry before after
+    marked =
+        HoldsMark-later sizes k entry before full after within
+        (HoldsMark-placed sizes k entry p moved before full writes strip within absent nodes)
+        (λ j. change (record_place sizes j) (λ a side low_number. not_record sizes j a side low_number))
+        (λ n low_number. change (first_place sizes n) (λ a side low_side. not_first sizes n a side))
+        (λ g below. change (counter_place g) (λ a side low_number. not_counter sizes g a side below))
+
     -- A finished run in which such a mark is recorded is one.
     pub HoldRun-placed : (m : ℕ) → suc k < m → AreLinkedBelow (sizes_of task) after m
         → IsClosed (setup_of task.scene) task.scene.start task.marks (suc k) (with_placed (state_of_words (sizes_of task) before) k entry p moved)
@@ -191,4 +201,7 @@ module _
           ∙ quota-marked sizes k entry before full (HoldsMark-placed sizes k entry p moved before full writes strip within absent nodes) within fits g below
           (run.claimed g below);
       written = written run.written;
+      recorded = recorded-marked sizes k entry before after marked within fits run.recorded;
+      unrecorded = unrecorded-marked sizes k entry before after marked within fits run.unrecorded;
+      start_first = start_first-marked sizes k entry before after marked within fits ∙ run.start_first;
     }

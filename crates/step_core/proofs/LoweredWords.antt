@@ -201,4 +201,9 @@ module _
     claimed = λ g below. exchange.change.others (counter_place g) (λ e. omega (arith, e, below)) ∙ held.claimed g below;
     written = λ n h.
         written-exchanged sizes before after i cost exchange n (held.written n (present-kept sizes before after i exchange.change n h));
+    recorded = λ k entry h.
+        record_word-kept sizes before after i exchange.change k
+        ∙ held.recorded k entry (sym (record_at-kept sizes before after i exchange.change k) ∙ h);
+    unrecorded = λ k past below. record_word-kept sizes before after i exchange.change k ∙ held.unrecorded k past below;
+    start_first = first_word-kept sizes before after i exchange.change 0 ∙ held.start_first;
   }

@@ -220,4 +220,7 @@ module _
     counted = held.count ∙ sym (node_count-same (points_of (without_costs knots)) (points_of_words (sizes_of task) words) points-packed);
     claimed = held.counters;
     written = written;
+    recorded = λ k entry h. (held.entries k entry (sym (record_at-packed k) ∙ h)).own;
+    unrecorded = held.none_else;
+    start_first = held.start;
   }

@@ -2,12 +2,13 @@
 use Rattle.std.proofs.Common.{◌≡◌, ℕ, zero, suc, ◌+◌, ◌<◌, ◌≤◌, ◌%◌, Bool, Some, None, cond, arith, refl, sym, ap, ◌∙◌, subst, inl, inr}
 use Rattle.std.specs.Prelude.{◌≢◌, ◌==◌, if◌then◌else◌}
 use Rattle.std.proofs.lemmas.Bool.{cases_eq, cases_lt, eq-eqb, ne_eqb, lt-leb}
+use Rattle.std.proofs.lemmas.Option.{same_Some}
 use Rattle.plan_model.specs.declared.records.Record.{Record}
 use Rattle.plan_model.specs.MarkPoints.{quota_of}
 use Rattle.plan_model.specs.RecordLaw.{is_placed}
 use Rattle.plan_model.proofs.CountsBelow.{count-more}
 use Rattle.step_core.specs.WordPlaces.{Sizes, counter_place, child_place, first_place, record_place}
-use Rattle.step_core.specs.Words.{record_of_word}
+use Rattle.step_core.specs.Words.{record_of_word, record_word}
 use Rattle.step_core.specs.GrownWords.{Words, record_at, has_placed, has_node, child_of_word, children_of_words}
 use Rattle.step_core.specs.MarkWrites.{CountsMark}
 use Rattle.step_core.specs.PackedRuns.{FitsRecord, HoldsRecord, ChangesRecord}
@@ -140,3 +141,25 @@ module _
       let step : quota_of sizes.strips g (suc k) ≡ quota_of sizes.strips g k + cond (k % sizes.strips == g) 1 0 =
       count-more (λ i. i % sizes.strips == g) k in
       omega (arith, held.counters g below, was, step)
+
+  -- all records are written as they are packed, if those from before were
+  pub recorded-marked :
+      ((j : ℕ) (other : Record) → record_at sizes before j ≡ Some other → before (record_place sizes j) ≡ record_word other)
+      → (j : ℕ) (other : Record) → record_at sizes after j ≡ Some other → after (record_place sizes j) ≡ record_word other
+  recorded-marked was j other h =
+      elim (cases_eq j k) [
+        | inl e ↦ (
+            let same : Some entry ≡ Some other = sym record_at-own ∙ ap (record_at sizes after) (sym e) ∙ h in
+            ap (λ i. after (record_place sizes i)) e ∙ held.own.own ∙ ap record_word (same_Some entry other same))
+        | inr apart ↦ held.records j apart ∙ was j other (sym (record_at-other j apart) ∙ h)
+      ]
+
+  -- from the next mark on none is written, if none was from this one on
+  pub unrecorded-marked :
+      ((j : ℕ) → k ≤ j → j < sizes.marks → before (record_place sizes j) ≡ 0)
+      → (j : ℕ) → suc k ≤ j → j < sizes.marks → after (record_place sizes j) ≡ 0
+  unrecorded-marked was j past below = held.records j (λ e. omega (arith, e, past)) ∙ was j (omega (arith, past)) below
+
+  -- the first word of node 0 stays
+  pub start_first-marked : after (first_place sizes 0) ≡ before (first_place sizes 0)
+  start_first-marked = held.firsts 0 (λ e. omega (arith, e)) (omega arith)

@@ -160,6 +160,9 @@ HoldRun-start task words clear held = record {
   claimed = λ g below.
       held.others (counter_place g) (λ e. omega (arith, e)) (λ e. omega (arith, e, below)) (λ e. omega (arith, e, below)) (λ e. omega (arith, e, below));
   written = IsWritten-start (sizes_of task) task.scene.start words bounded held;
+  recorded = λ k entry h. let gone = sym h ∙ record_at-none (sizes_of task) task.scene.start words bounded held k in cc;
+  unrecorded = λ k past below. record_word-none (sizes_of task) task.scene.start words bounded held k;
+  start_first = held.first;
 }
   where
     bounded : IsBounded task.scene.start

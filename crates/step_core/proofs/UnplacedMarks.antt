@@ -24,6 +24,7 @@ use Rattle.step_core.specs.PackedRuns.{FitsRecord}
 use Rattle.step_core.proofs.GrownPoints.{has_node-past, has_node-present, node_point-absent, point_at-words, present-within}
 use Rattle.step_core.proofs.RecordedMarks.{RecordsMark, HoldsMark, children-kept, word-unrecorded, HoldsMark-recorded}
 use Rattle.step_core.proofs.RecordedMarks.{record_at-marked, has_node-own, has_node-other, quota-marked}
+use Rattle.step_core.proofs.RecordedMarks.{recorded-marked, unrecorded-marked, start_first-marked}
 
 module _
     (sizes : Sizes) (k : ℕ) (entry : Record) (before after : Words) (writes : RecordsMark sizes k entry before after)
@@ -135,4 +136,7 @@ module _
     written = λ n h.
         let was = ap is_some (sym (same_points n)) ∙ h in
         written-same sizes k entry before after writes strip within fits absent unplaced n was (run.written n was);
+    recorded = recorded-marked sizes k entry before after marked within fits run.recorded;
+    unrecorded = unrecorded-marked sizes k entry before after marked within fits run.unrecorded;
+    start_first = start_first-marked sizes k entry before after marked within fits ∙ run.start_first;
   }

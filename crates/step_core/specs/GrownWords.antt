@@ -1,5 +1,5 @@
 -- What the words of a run say of its tree, its records and its kd-tree.
-use Rattle.std.specs.Prelude.{◌≡◌, ℕ, zero, suc, ◌+◌, ◌<◌, nat_lt, nat_le, Bool, true, false}
+use Rattle.std.specs.Prelude.{◌≡◌, ℕ, zero, suc, ◌+◌, ◌<◌, ◌≤◌, nat_lt, nat_le, Bool, true, false}
 use Rattle.std.specs.Prelude.{Option, Some, None, List, map, slice_index, length, if◌then◌else◌}
 use Rattle.std.specs.List.{range_with_len}
 use Rattle.plan_model.specs.declared.geometry.Point.{Point}
@@ -13,7 +13,7 @@ use Rattle.plan_model.specs.Textbook.{setup_of}
 use Rattle.plan_model.specs.TreeStates.{TreeState}
 use Rattle.plan_model.specs.Ways.{Children, FollowWays}
 use Rattle.step_core.specs.WordPlaces.{Sizes, place_of_count, counter_place, point_place, child_place, tree_place, first_place, record_place}
-use Rattle.step_core.specs.Words.{point_of_word, point_in, point_word, parent_in, cost_in, tree_word, record_of_word}
+use Rattle.step_core.specs.Words.{point_of_word, point_in, point_word, parent_in, cost_in, tree_word, record_of_word, record_word}
 
 -- the word at each place
 abbrev pub Words : Type 0
@@ -93,10 +93,14 @@ abbrev pub sizes_of : Task → Sizes
 sizes_of task = record { strips = task.scene.strips; marks = length task.marks }
 
 -- The words of a finished run: it is closed at its limit, its nodes are linked by the ways of their points, the count is that of its
--- nodes, and the counter of each strip stands at the strip's quota.
+-- nodes, and the counter of each strip stands at the strip's quota. The words of its nodes and of its records are written as they are
+-- packed, and no record from the limit on is written. The first word of node 0 is that of parent 0 and cost 0.
 pub record HoldRun (task : Task) (limit : ℕ) (words : Words) : Type 0 where
   pub closed : IsClosed (setup_of task.scene) task.scene.start task.marks limit (state_of_words (sizes_of task) words)
   pub ways : FollowWays (children_of_words (sizes_of task) words) (points_of_words (sizes_of task) words)
   pub counted : words place_of_count ≡ node_count (points_of_words (sizes_of task) words)
   pub claimed : (g : ℕ) → g < task.scene.strips → words (counter_place g) ≡ quota_of task.scene.strips g limit
   pub written : (n : ℕ) → IsPresent (points_of_words (sizes_of task) words) n → IsWritten (sizes_of task) words n
+  pub recorded : (k : ℕ) (entry : Record) → record_at (sizes_of task) words k ≡ Some entry → words (record_place (sizes_of task) k) ≡ record_word entry
+  pub unrecorded : (k : ℕ) → limit ≤ k → k < length task.marks → words (record_place (sizes_of task) k) ≡ 0
+  pub start_first : words (first_place (sizes_of task) 0) ≡ tree_word 0 0
