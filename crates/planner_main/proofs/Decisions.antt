@@ -74,12 +74,14 @@ low_report false = omega arith
 pub Succeeds-low : (command : Command) (bytes : List ℕ) (done : Done) (text : List ℕ) → Succeeds command bytes done text →
     done.status ≤ greatest_success command
 Succeeds-low (commands.Plain full) bytes done text r = rw r.report.reported.best (low_report _)
+Succeeds-low (commands.Plan workers full) bytes done text r = rw r.reported.best (low_report _)
 Succeeds-low commands.Show bytes done text s = omega (arith, s.shown)
 Succeeds-low (commands.Gen number) bytes done text w = omega (arith, w.status)
 Succeeds-low (commands.Trial number) bytes done text t = rw t.report.reported.best (low_report _)
 
 greatest_success-low : (command : Command) → greatest_success command ≤ NO_PATH
 greatest_success-low (commands.Plain full) = omega arith
+greatest_success-low (commands.Plan workers full) = omega arith
 greatest_success-low commands.Show = omega arith
 greatest_success-low (commands.Gen number) = omega arith
 greatest_success-low (commands.Trial number) = omega arith
@@ -92,6 +94,7 @@ IsSuccess-low asked reading done text s =
 -- a command that tests the start reads a scene
 tests-reads : (command : Command) → IsTrue (tests_start command) → IsTrue (reads_scene command)
 tests-reads (commands.Plain full) tests = refl
+tests-reads (commands.Plan workers full) tests = refl
 tests-reads commands.Show tests = refl
 tests-reads (commands.Gen number) tests = absurd (false≢true tests)
 tests-reads (commands.Trial number) tests = absurd (false≢true tests)
@@ -102,6 +105,9 @@ by_meaning : (bytes : List ℕ) (command : Command) (done : Done) (text : List �
 by_meaning bytes (commands.Plain full) done text r reads =
     by_success bytes (commands.Plain full) done.status r.scene r.spelled (λ tests. r.start)
     (Succeeds-low (commands.Plain full) bytes done text r)
+by_meaning bytes (commands.Plan workers full) done text r reads =
+    by_success bytes (commands.Plan workers full) done.status r.scene r.spelled (λ tests. r.start)
+    (Succeeds-low (commands.Plan workers full) bytes done text r)
 by_meaning bytes commands.Show done text s reads =
     by_success bytes commands.Show done.status s.scene s.spelled (λ tests. absurd (false≢true tests))
     (Succeeds-low commands.Show bytes done text s)

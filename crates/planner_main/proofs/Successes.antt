@@ -1,55 +1,94 @@
 -- What a command succeeds with, from the scene that it has read or made and from the run of it.
-use Rattle.std.proofs.Common.{◌≡◌, ℕ, Bool, List, [], length, Some, None, refl, ap, ◌∙◌}
+use Rattle.std.proofs.Common.{◌≡◌, ℕ, ◌<◌, Bool, List, [], length, Some, None, refl, subst}
+use Rattle.std.proofs.Math.Logic.{∥∥₁_map}
 use Rattle.std.specs.Prelude.{is_some}
+use Rattle.plan_model.specs.declared.geometry.Point.{Point}
+use Rattle.plan_model.specs.declared.records.Record.{Record}
 use Rattle.plan_model.specs.declared.scenes.Scene.{Scene}
 use Rattle.plan_model.specs.BestNode.{best_node}
 use Rattle.plan_model.specs.CanonicalText.{canonical_text}
 use Rattle.plan_model.specs.ConfigurationSpace.{space_of}
 use Rattle.plan_model.specs.Clearance.{ClearAt}
+use Rattle.plan_model.specs.ClosedLaw.{IsClosed}
 use Rattle.plan_model.specs.MarkPoints.{mark_points}
 use Rattle.plan_model.specs.ReportText.{report_text}
 use Rattle.plan_model.specs.SameRuns.{IsOfTextbookRun}
 use Rattle.plan_model.specs.Textbook.{setup_of}
 use Rattle.plan_model.specs.TreeStates.{IsSettled}
-use Rattle.plan_model.proofs.SameTrees.{IsClosed-of_textbook}
 use Rattle.step_core.specs.declared.grown.Grown.{Grown}
 use Rattle.step_core.specs.GrownRuns.{state_of_grown}
 use Rattle.planner_main.specs.declared.commands.Command.TheVariants as commands
 use Rattle.planner_main.specs.declared.statuses.TheConstants.{DONE}
 use Rattle.planner_main.specs.declared.top_call.Done.{Done}
-use Rattle.planner_main.specs.Conclusions.{HasScene, IsSuccess, Report, ReportsScene, WritesGenerated, TriesGenerated, status_of_report}
+use Rattle.planner_main.specs.Conclusions.{HasScene, IsSuccess, Report, ReportsGrown, ReportsScene, WritesGenerated, TriesGenerated, status_of_report}
 use Rattle.planner_main.specs.Exchanges.{Reading, IsUnread}
 
--- an answer by a textbook run of the scene from a clear start, with a report of it, reports the scene
-pub ReportsScene-answer :
-    (report : Report) (scene : Scene) (grown : Grown) (done : Done) (text : List ℕ) → ClearAt (space_of scene) scene.start
-    → grown.task.scene ≡ scene → grown.limit ≡ length (mark_points scene)
-    → IsOfTextbookRun (setup_of scene) scene.start (mark_points scene) (state_of_grown grown) → IsSettled (state_of_grown grown)
-    → done.run ≡ Some grown → done.status ≡ status_of_report (is_some (best_node grown.task.scene (state_of_grown grown)))
-    → text ≡ report grown.task.scene grown.limit (state_of_grown grown) → ReportsScene report scene done text
-ReportsScene-answer report scene grown done text start of_scene whole run settled given status written = record {
-  grown = grown;
-  reported = record {
-    given = given;
-    of_scene = of_scene;
-    whole = whole;
-    closed = ∣ IsClosed-of_textbook (setup_of scene) scene.start (mark_points scene) (state_of_grown grown) start run ∣₁;
-    settled = settled;
-    best = status ∙ ap (λ (s : Scene). status_of_report (is_some (best_node s (state_of_grown grown)))) of_scene;
-    written = written ∙ ap (λ (s : Scene). report s grown.limit (state_of_grown grown)) of_scene;
-  };
-  textbook = run;
+-- a settled run over all marks of its scene is reported by its status and such a text; that it is closed, its type says
+pub ReportsGrown-answer :
+    (report : Report) (grown : Grown) (done : Done) (text : List ℕ) → grown.limit ≡ length (mark_points grown.task.scene)
+    → IsSettled (state_of_grown grown) → done.run ≡ Some grown
+    → done.status ≡ status_of_report (is_some (best_node grown.task.scene (state_of_grown grown)))
+    → text ≡ report grown.task.scene grown.limit (state_of_grown grown) → ReportsGrown report grown.task.scene grown done text
+ReportsGrown-answer report grown done text whole settled given status written = record {
+  given = given;
+  of_scene = refl;
+  whole = whole;
+  closed = ∥∥₁_map grown.hold_run (λ h.
+      subst (λ (marks : List Point). IsClosed (setup_of scene) scene.start marks (length (mark_points scene)) (state_of_grown grown))
+      grown.task.of_scene
+      (subst (λ (limit : ℕ). IsClosed (setup_of scene) scene.start grown.task.marks limit (state_of_grown grown)) whole h.closed));
+  settled = settled;
+  best = status;
+  written = written;
 }
+  where
+    scene : Scene
+    scene = grown.task.scene
+
+-- a report of a run is one of the scene that the run is of
+pub ReportsGrown-of_scene :
+    (report : Report) (scene : Scene) (grown : Grown) (done : Done) (text : List ℕ) → grown.task.scene ≡ scene
+    → ReportsGrown report grown.task.scene grown done text → ReportsGrown report scene grown done text
+ReportsGrown-of_scene report scene grown done text of_scene reported =
+    subst (λ (s : Scene). ReportsGrown report s grown done text) of_scene reported
+
+-- and with a textbook run of the scene it is one of the scene
+pub ReportsScene-textbook :
+    (report : Report) (scene : Scene) (grown : Grown) (done : Done) (text : List ℕ) → grown.task.scene ≡ scene
+    → ReportsGrown report grown.task.scene grown done text
+    → IsOfTextbookRun (setup_of scene) scene.start (mark_points scene) (state_of_grown grown) → ReportsScene report scene done text
+ReportsScene-textbook report scene grown done text of_scene reported run =
+    record { grown = grown; reported = ReportsGrown-of_scene report scene grown done text of_scene reported; textbook = run }
 
 module _ (reading : Reading) (scene : Scene) (done : Done) (text : List ℕ) where
-  pub IsSuccess-planned : (full : Bool) → HasScene reading scene → ClearAt (space_of scene) scene.start →
+  pub IsSuccess-plain : (full : Bool) → HasScene reading scene → ClearAt (space_of scene) scene.start →
       ReportsScene (report_text full) scene done text → IsSuccess (Some (commands.Plain full)) reading done text
-  IsSuccess-planned full h start report = record {
+  IsSuccess-plain full h start report = record {
     command = commands.Plain full;
     known = refl;
     bytes = h.bytes;
     read = h.read;
     meaning = record { scene = scene; spelled = h.spelled; start = start; report = report };
+  }
+
+  pub IsSuccess-planned :
+      (workers : ℕ) (full : Bool) → HasScene reading scene → ClearAt (space_of scene) scene.start → (grown : Grown)
+      → ReportsGrown (report_text full) scene grown done text
+      → ((k : ℕ) (entry : Record) → (state_of_grown grown).record_of k ≡ Some entry → entry.worker < workers)
+      → IsSuccess (Some (commands.Plan workers full)) reading done text
+  IsSuccess-planned workers full h start grown reported by_workers = record {
+    command = commands.Plan workers full;
+    known = refl;
+    bytes = h.bytes;
+    read = h.read;
+    meaning = record {
+      scene = scene;
+      spelled = h.spelled;
+      start = start;
+      grown = grown;
+      reported = reported;
+      by_workers = by_workers;
+    };
   }
 
   pub IsSuccess-shown : HasScene reading scene → done.status ≡ DONE → done.run ≡ None → text ≡ canonical_text scene →

@@ -1,6 +1,7 @@
 -- The commands of the program, and the tables of what they read, what they test, and how they succeed.
 use Rattle.std.specs.Prelude.{ℕ, ◌≤◌, ◌&&◌, Bool, true, false, Option, Some, None, option_and_then, List, [], ◌∷◌, codes, bytes_eq, if◌then◌else◌}
 use Rattle.std.specs.Prelude.{pos, int_le, unsigned_abs}
+use Rattle.plan_model.specs.declared.limits.TheConstants.{MOST_WORKERS}
 use Rattle.plan_model.specs.TextNumbers.{is_number, value_of}
 use Rattle.planner_main.specs.declared.commands.Command.{Command}
 use Rattle.planner_main.specs.declared.commands.Command.TheVariants as commands
@@ -12,33 +13,45 @@ abbrev pub command_of_word : List ℕ → Option Command
 command_of_word word =
     if bytes_eq word (codes "plain") then Some (commands.Plain false) else (if bytes_eq word (codes "show") then Some commands.Show else None)
 
--- The number of a generated scene that a word stands for, if it is one: spelled as the numbers of a scene text are.
-abbrev pub number_of : List ℕ → Option ℕ
-number_of word =
-    if is_number word && (int_le (pos 0) (value_of word) && int_le (value_of word) (pos MOST_GENERATED))
+-- The number that a word stands for, if it is one from `least` to `most`: spelled as the numbers of a scene text are.
+abbrev pub number_in : ℕ → ℕ → List ℕ → Option ℕ
+number_in least most word =
+    if is_number word && (int_le (pos least) (value_of word) && int_le (value_of word) (pos most))
     then Some (unsigned_abs (value_of word)) else None
+
+-- the command to plan by so many workers, which a word says, with a full report or a short one
+abbrev pub plan_by : Bool → List ℕ → Option Command
+plan_by full word = option_and_then (λ workers. Some (commands.Plan workers full)) (number_in 1 MOST_WORKERS word)
 
 -- the command of a word about the generated scene of a number
 abbrev pub command_about : List ℕ → ℕ → Option Command
 command_about word number =
     if bytes_eq word (codes "gen") then Some (commands.Gen number) else (if bytes_eq word (codes "trial") then Some (commands.Trial number) else None)
 
--- The command that two words ask for, if they ask for one: `plain full`, or a word and the number of a generated scene.
+-- The command that two words ask for, if they ask for one: `plain full`, `plan` and a number of workers, or a word and the
+-- number of a generated scene.
 abbrev pub command_of_two : List ℕ → List ℕ → Option Command
 command_of_two word second =
     if bytes_eq word (codes "plain") && bytes_eq second (codes "full") then Some (commands.Plain true)
-    else option_and_then (command_about word) (number_of second)
+    else (if bytes_eq word (codes "plan") then plan_by false second else option_and_then (command_about word) (number_in 0 MOST_GENERATED second))
+
+-- the command that three words ask for, if they ask for one: `plan`, a number of workers, and `full`
+abbrev pub command_of_three : List ℕ → List ℕ → List ℕ → Option Command
+command_of_three word second third =
+    if bytes_eq word (codes "plan") && bytes_eq third (codes "full") then plan_by true second else None
 
 -- the command that the words ask for, if they ask for one
 abbrev pub command_of : List (List ℕ) → Option Command
 command_of [] = None
 command_of (word ∷ []) = command_of_word word
 command_of (word ∷ second ∷ []) = command_of_two word second
-command_of (word ∷ second ∷ third ∷ words) = None
+command_of (word ∷ second ∷ third ∷ []) = command_of_three word second third
+command_of (word ∷ second ∷ third ∷ fourth ∷ words) = None
 
--- if the command is about a generated scene, there is one of its number
+-- if the command is about a generated scene, there is one of its number; a run is grown by at least one worker, and not too many
 abbrev pub IsNumbered : Command → Type 0
 IsNumbered (commands.Plain full) = Unit {0}
+IsNumbered (commands.Plan workers full) = (1 ≤ workers) × (workers ≤ MOST_WORKERS)
 IsNumbered commands.Show = Unit {0}
 IsNumbered (commands.Gen number) = number ≤ MOST_GENERATED
 IsNumbered (commands.Trial number) = number ≤ MOST_GENERATED
@@ -46,6 +59,7 @@ IsNumbered (commands.Trial number) = number ≤ MOST_GENERATED
 -- whether a command reads the text of a scene; one that does not reads nothing
 abbrev pub reads_scene : Command → Bool
 reads_scene (commands.Plain full) = true
+reads_scene (commands.Plan workers full) = true
 reads_scene commands.Show = true
 reads_scene (commands.Gen number) = false
 reads_scene (commands.Trial number) = false
@@ -53,6 +67,7 @@ reads_scene (commands.Trial number) = false
 -- whether a command is refused if the start of its scene is not clear
 abbrev pub tests_start : Command → Bool
 tests_start (commands.Plain full) = true
+tests_start (commands.Plan workers full) = true
 tests_start commands.Show = false
 tests_start (commands.Gen number) = false
 tests_start (commands.Trial number) = false
@@ -60,6 +75,7 @@ tests_start (commands.Trial number) = false
 -- the greatest status that a command may succeed with
 abbrev pub greatest_success : Command → ℕ
 greatest_success (commands.Plain full) = NO_PATH
+greatest_success (commands.Plan workers full) = NO_PATH
 greatest_success commands.Show = DONE
 greatest_success (commands.Gen number) = DONE
 greatest_success (commands.Trial number) = NO_PATH

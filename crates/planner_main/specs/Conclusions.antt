@@ -1,7 +1,8 @@
 -- What the program may answer: a success with its text, or a refusal with its cause and its line.
-use Rattle.std.specs.Prelude.{◌≡◌, ℕ, ◌≤◌, ◌⊎◌, Bool, true, false, IsTrue, MatchBool, List, length}
+use Rattle.std.specs.Prelude.{◌≡◌, ℕ, ◌≤◌, ◌<◌, ◌⊎◌, Bool, true, false, IsTrue, MatchBool, List, length}
 use Rattle.std.specs.Prelude.{Option, Some, None, is_some, IsSome, IsSomeAnd}
 use Rattle.plan_model.specs.declared.limits.TheConstants.{MOST_TEXT_BYTES}
+use Rattle.plan_model.specs.declared.records.Record.{Record}
 use Rattle.plan_model.specs.declared.scenes.Scene.{Scene}
 use Rattle.plan_model.specs.declared.text_terms.Kind.{Kind}
 use Rattle.plan_model.specs.ConfigurationSpace.{space_of}
@@ -71,6 +72,16 @@ pub record ReportsRun (full : Bool) (bytes : List ℕ) (done : Done) (text : Lis
   pub start : ClearAt (space_of scene) scene.start
   pub report : ReportsScene (report_text full) scene done text
 
+-- The text reports a run of the scene that the bytes spell, whose start is clear: in full or in short. Its marks were handled by
+-- so many workers at most, numbered from 0.
+pub record ReportsPlan (workers : ℕ) (full : Bool) (bytes : List ℕ) (done : Done) (text : List ℕ) : Type 0 where
+  pub scene : Scene
+  pub spelled : IsTextOf scene bytes
+  pub start : ClearAt (space_of scene) scene.start
+  pub grown : Grown
+  pub reported : ReportsGrown (report_text full) scene grown done text
+  pub by_workers : (k : ℕ) (entry : Record) → (state_of_grown grown).record_of k ≡ Some entry → entry.worker < workers
+
 -- the text is the canonical text of the scene that the bytes spell
 pub record ShowsScene (bytes : List ℕ) (done : Done) (text : List ℕ) : Type 0 where
   pub scene : Scene
@@ -97,6 +108,7 @@ pub record TriesGenerated (number : ℕ) (done : Done) (text : List ℕ) : Type 
 -- what the success of a command means: of the bytes that it read, of what was done, and of the text
 abbrev pub Succeeds : Command → List ℕ → Done → List ℕ → Type 0
 Succeeds (commands.Plain full) bytes done text = ReportsRun full bytes done text
+Succeeds (commands.Plan workers full) bytes done text = ReportsPlan workers full bytes done text
 Succeeds commands.Show bytes done text = ShowsScene bytes done text
 Succeeds (commands.Gen number) bytes done text = WritesGenerated number done text
 Succeeds (commands.Trial number) bytes done text = TriesGenerated number done text

@@ -1,10 +1,12 @@
 //! What is to be written for the words of the command line. Each command has a function that reads what it needs from
 //! the source and makes the text of the answer.
 
-ghost use Rattle.std.specs.Prelude.{◌≡◌, ◌≤◌, ◌⊎◌, true, false, length, map, is_some, string_bytes, IfOk, IfErr, None, Some};
+ghost use Rattle.std.specs.Prelude.{◌≡◌, ◌≤◌, ◌<◌, ◌⊎◌, ℕ, true, false, length, map, is_some, string_bytes, IfOk, IfErr, None, Some};
 ghost use Rattle.plan_model.specs.ConfigurationSpace.{space_of};
 ghost use Rattle.plan_model.specs.Clearance.{ClearAt};
 ghost use Rattle.plan_model.specs.BestNode.{best_node};
+ghost use Rattle.plan_model.specs.declared.limits.TheConstants.{MOST_WORKERS};
+ghost use Rattle.plan_model.specs.declared.records.Record.{Record};
 ghost use Rattle.plan_model.specs.MarkPoints.{mark_points};
 ghost use Rattle.plan_model.specs.ReportText.{report_text, summary};
 ghost use Rattle.plan_model.specs.SameRuns.{IsOfTextbookRun};
@@ -12,7 +14,7 @@ ghost use Rattle.plan_model.specs.Textbook.{setup_of};
 ghost use Rattle.plan_model.specs.TreeStates.{IsSettled};
 ghost use Rattle.scene_text.specs.Fetching.{ReadsWithin};
 ghost use Rattle.planner_main.specs.Commands.{command_of, reads_scene, IsNumbered};
-ghost use Rattle.planner_main.specs.Conclusions.{IsSuccess, IsCaused, HasScene, ReportsScene, WritesGenerated, TriesGenerated, Asks, status_of_report};
+ghost use Rattle.planner_main.specs.Conclusions.{IsSuccess, IsCaused, HasScene, ReportsGrown, WritesGenerated, TriesGenerated, Asks, status_of_report};
 ghost use Rattle.planner_main.specs.Exchanges.{reading_of, IsUnread};
 ghost use Rattle.planner_main.specs.declared.generated_scenes.TheConstants.{MOST_GENERATED};
 ghost use Rattle.step_core.specs.GrownRuns.{state_of_grown};
@@ -23,10 +25,13 @@ use crate::refusals::Refusal;
 use crate::statuses::{DONE, NO_PATH};
 use crate::top_call::Done;
 use plan_model::{Memory, Scene, Source, Task};
+use plan_work::{Gate, grow};
 use scene_text::{fetch, read_scene, write_scene};
 use seq_planner::textbook;
-use settle_report::{best, report, summary};
+use settle_report::{best, report, settle, summary};
 use std::alloc::Global;
+use std::sync::Wait;
+use std::thread::Threads;
 use step_core::Grown;
 use strip_sampler::marks;
 use swept_check::Hall;
@@ -40,16 +45,19 @@ pub struct Answer {
     pub text: Vec<u8>,
 }
 
-/// What is to be written for the words, which the command that they ask for reads from the source.
+/// What is to be written for the words, which the command that they ask for reads from the source. The gate is told of the
+/// turns of the workers, if several are to plan.
 ///
 /// # Errors
 ///
 /// The refusal with its cause: `Words` if the words ask for no command, and nothing is read then; otherwise that of the
 /// command.
-pub fn answer_to<S: Source>(
+pub fn answer_to<R: Threads + Sync + Wait, S: Source, G: Gate>(
+    rt: &R,
     alloc: Global,
     words: &[String],
     source: &mut S,
+    gate: &G,
 ) -> Result<Answer, Refusal>
     requires { S.has_ended source.old ≡ false }
     ensures success { IfOk result (λ answer. IsSuccess (command_of (map string_bytes words.now))
@@ -61,13 +69,19 @@ pub fn answer_to<S: Source>(
     ensures within { ReadsWithin (S.bytes_left source.old) (S.bytes_left source.new) }
 {
     match command_of(words) {
-        Some(command) => perform(alloc, command, source),
+        Some(command) => perform(rt, alloc, command, source, gate),
         None => Err(Refusal::Words),
     }
 }
 
 // Does what the command says.
-fn perform<S: Source>(alloc: Global, command: Command, source: &mut S) -> Result<Answer, Refusal>
+fn perform<R: Threads + Sync + Wait, S: Source, G: Gate>(
+    rt: &R,
+    alloc: Global,
+    command: Command,
+    source: &mut S,
+    gate: &G,
+) -> Result<Answer, Refusal>
     requires number { IsNumbered command }
     requires unended { S.has_ended source.old ≡ false }
     ensures success { IfOk result (λ answer. IsSuccess (Some command)
@@ -79,15 +93,16 @@ fn perform<S: Source>(alloc: Global, command: Command, source: &mut S) -> Result
     ensures within { ReadsWithin (S.bytes_left source.old) (S.bytes_left source.new) }
 {
     match command {
-        Command::Plain { full } => plan(alloc, full, source),
+        Command::Plain { full } => plain(alloc, full, source),
+        Command::Plan { workers, full } => plan(rt, alloc, workers, full, source, gate),
         Command::Show => show(alloc, source),
         Command::Gen(number) => Ok(generate(alloc, number)?),
         Command::Trial(number) => Ok(trial(alloc, number)?),
     }
 }
 
-// Plans the scene that is read, and reports it in full or in short.
-fn plan<S: Source>(alloc: Global, full: bool, source: &mut S) -> Result<Answer, Refusal>
+// Plans the scene that is read as the textbook does, and reports it in full or in short.
+fn plain<S: Source>(alloc: Global, full: bool, source: &mut S) -> Result<Answer, Refusal>
     requires { S.has_ended source.old ≡ false }
     ensures success { IfOk result (λ answer. IsSuccess (Some (Command.Plain full))
         (reading_of S.counts_failures_alone S.bytes_left S.has_ended S.fault_count source.old source.new) answer.done answer.text.items) }
@@ -97,7 +112,32 @@ fn plan<S: Source>(alloc: Global, full: bool, source: &mut S) -> Result<Answer, 
 {
     let scene = scene_for(alloc, Command::Plain { full }, source)?;
     let hall = hall_for(alloc, &scene)?;
-    Ok(report_of(alloc, full, scene, &hall)?)
+    let grown = textbook_run(alloc, scene, &hall)?;
+    Ok(report_of(alloc, full, grown)?)
+}
+
+// Plans the scene that is read by several workers, and reports it in full or in short.
+fn plan<R: Threads + Sync + Wait, S: Source, G: Gate>(
+    rt: &R,
+    alloc: Global,
+    workers: u32,
+    full: bool,
+    source: &mut S,
+    gate: &G,
+) -> Result<Answer, Refusal>
+    requires some { 1 ≤ workers }
+    requires few { workers ≤ MOST_WORKERS }
+    requires unended { S.has_ended source.old ≡ false }
+    ensures success { IfOk result (λ answer. IsSuccess (Some (Command.Plan workers full))
+        (reading_of S.counts_failures_alone S.bytes_left S.has_ended S.fault_count source.old source.new) answer.done answer.text.items) }
+    ensures refusal { IfErr result (IsCaused (Some (Command.Plan workers full))
+        (reading_of S.counts_failures_alone S.bytes_left S.has_ended S.fault_count source.old source.new)) }
+    ensures within { ReadsWithin (S.bytes_left source.old) (S.bytes_left source.new) }
+{
+    let scene = scene_for(alloc, Command::Plan { workers, full }, source)?;
+    let hall = hall_for(alloc, &scene)?;
+    let grown = run_by_workers(rt, alloc, workers, scene, &hall, gate)?;
+    Ok(report_of(alloc, full, grown)?)
 }
 
 // Shows the scene that is read.
@@ -148,28 +188,6 @@ fn hall_for(alloc: Global, scene: &Scene) -> Result<Hall, Refusal>
     Ok(hall)
 }
 
-// The report of the textbook run of a scene, in full or in short.
-fn report_of(alloc: Global, full: bool, scene: Scene, hall: &Hall) -> Result<Answer, Memory>
-    requires hall { hall.now ≡ space_of scene }
-    requires start { ClearAt (space_of scene) scene.start }
-    ensures { IfOk result (λ answer. ReportsScene (report_text full) scene answer.done answer.text.items) }
-{
-    let grown = textbook_run(alloc, scene, hall)?;
-    let text = report(alloc, &grown, full)?;
-    Ok(answer_of(grown, text))
-}
-
-// The summary of the textbook run of a scene.
-fn summary_of(alloc: Global, scene: Scene, hall: &Hall) -> Result<Answer, Memory>
-    requires hall { hall.now ≡ space_of scene }
-    requires start { ClearAt (space_of scene) scene.start }
-    ensures { IfOk result (λ answer. ReportsScene summary scene answer.done answer.text.items) }
-{
-    let grown = textbook_run(alloc, scene, hall)?;
-    let text = summary(alloc, &grown)?;
-    Ok(answer_of(grown, text))
-}
-
 // The textbook run of a scene, over all its marks.
 fn textbook_run(alloc: Global, scene: Scene, hall: &Hall) -> Result<Grown, Memory>
     requires hall { hall.now ≡ space_of scene }
@@ -182,6 +200,54 @@ fn textbook_run(alloc: Global, scene: Scene, hall: &Hall) -> Result<Grown, Memor
     // the start is clear, so there is room to draw marks in
     let marks = marks(alloc, &scene)?;
     textbook(alloc, Task { scene, marks }, hall)
+}
+
+// A run of a scene by several workers, over all its marks, settled.
+fn run_by_workers<R: Threads + Sync + Wait, G: Gate>(
+    rt: &R,
+    alloc: Global,
+    workers: u32,
+    scene: Scene,
+    hall: &Hall,
+    gate: &G,
+) -> Result<Grown, Memory>
+    requires some { 1 ≤ workers }
+    requires few { workers ≤ MOST_WORKERS }
+    requires hall { hall.now ≡ space_of scene }
+    requires start { ClearAt (space_of scene) scene.start }
+    ensures scene { IfOk result (λ grown. grown.task.scene ≡ scene) }
+    ensures whole { IfOk result (λ grown. grown.limit ≡ length (mark_points scene)) }
+    ensures settled { IfOk result (λ grown. IsSettled (state_of_grown grown)) }
+    ensures workers { IfOk result (λ grown. (k : ℕ) (entry : Record)
+        → (state_of_grown grown).record_of k ≡ Some entry → entry.worker < workers) }
+{
+    // the start is clear, so there is room to draw marks in
+    let marks = marks(alloc, &scene)?;
+    let limit = marks.len() as u32;
+    let fresh = Grown::new(alloc, Task { scene, marks })?;
+    let mut grown = grow(rt, alloc, fresh, hall, workers, limit, gate)?;
+    settle(alloc, &mut grown)?;
+    Ok(grown)
+}
+
+// The report of a settled run over all marks of its scene, in full or in short.
+fn report_of(alloc: Global, full: bool, grown: Grown) -> Result<Answer, Memory>
+    requires whole { grown.limit ≡ length (mark_points grown.task.scene) }
+    requires settled { IsSettled (state_of_grown grown) }
+    ensures { IfOk result (λ answer. ReportsGrown (report_text full) grown.task.scene grown answer.done answer.text.items) }
+{
+    let text = report(alloc, &grown, full)?;
+    Ok(answer_of(grown, text))
+}
+
+// The summary of a settled run over all marks of its scene.
+fn summary_of(alloc: Global, grown: Grown) -> Result<Answer, Memory>
+    requires whole { grown.limit ≡ length (mark_points grown.task.scene) }
+    requires settled { IsSettled (state_of_grown grown) }
+    ensures { IfOk result (λ answer. ReportsGrown summary grown.task.scene grown answer.done answer.text.items) }
+{
+    let text = summary(alloc, &grown)?;
+    Ok(answer_of(grown, text))
 }
 
 // The answer that a report of a settled run is.
@@ -223,5 +289,6 @@ fn trial(alloc: Global, number: u32) -> Result<Answer, Memory>
 {
     let scene = gen_scene(alloc, number)?;
     let hall = Hall::new(alloc, &scene)?;
-    Ok(summary_of(alloc, scene, &hall)?)
+    let grown = textbook_run(alloc, scene, &hall)?;
+    Ok(summary_of(alloc, grown)?)
 }

@@ -13,16 +13,20 @@ ghost use Rattle.planner_main.specs.Exchanges.{reading_of, writing_of, ReadFaile
 use crate::statuses::{NO_MEMORY, WRITE_FAULT};
 use crate::top_call::run;
 use plan_model::{Memory, Sink, Source};
+use plan_work::NoGate;
 use std::alloc::Global;
 use std::env::Args;
 use std::io;
 use std::process::ExitCode;
+use std::sync::Wait;
+use std::thread::Threads;
 
 /// Runs the program on the arguments that `env::args` gives, and returns the code that it ends with: the status of `run`.
 ///
 /// Arguments that are no text ask for no command. If the program is out of memory for the words, the code is
 /// `NO_MEMORY`, and nothing is read or written.
-pub fn exit_code<S: Source, K: Sink>(
+pub fn exit_code<R: Threads + Sync + Wait, S: Source, K: Sink>(
+    rt: &R,
     alloc: Global,
     args: io::Result<Args>,
     source: &mut S,
@@ -55,7 +59,7 @@ pub fn exit_code<S: Source, K: Sink>(
     ensures no_words { IsOutOfMemory args → exit_status result ≡ NO_MEMORY }
 {
     match words_of(alloc, args) {
-        Ok(words) => ExitCode::from(run(alloc, &words, source, sink).status),
+        Ok(words) => ExitCode::from(run(rt, alloc, &words, source, sink, &NoGate).status),
         Err(_) => ExitCode::from(NO_MEMORY),
     }
 }
@@ -81,10 +85,14 @@ mod tests {
     const SCENE: &[u8] = b"prrt 1\nroom 10 10\nstart 5 5\ngoal 0 0 1 1\nstep 4\n";
 
     // The code that the program ends with on these arguments, and what it writes.
-    fn ends(alloc: Global, args: io::Result<Args>) -> Result<(ExitCode, String), Fail> {
+    fn ends<R: Threads + Sync + Wait>(
+        rt: &R,
+        alloc: Global,
+        args: io::Result<Args>,
+    ) -> Result<(ExitCode, String), Fail> {
         let mut source = SureSource::new(alloc, SCENE)?;
         let mut sink = MemSink::new(alloc, 1000, 1000, &[])?;
-        let code = exit_code(alloc, args, &mut source, &mut sink);
+        let code = exit_code(rt, alloc, args, &mut source, &mut sink);
         let written = String::from_utf8(Vec::from_slice(alloc, sink.bytes())?)?;
         Ok((code, written))
     }
@@ -113,7 +121,7 @@ mod tests {
             for word in words {
                 args.push(String::from_str(alloc, word)?)?;
             }
-            let (ended, written) = ends(alloc, Ok(args.into_iter()))?;
+            let (ended, written) = ends(&rt, alloc, Ok(args.into_iter()))?;
             assert_eq!(rt; written.as_str(), text);
             assert_eq!(rt; ended, ExitCode::from(code));
         }
@@ -127,7 +135,7 @@ mod tests {
             (io::ErrorKind::OutOfMemory, 7, ""),
             (io::ErrorKind::InvalidData, 2, "words refused\n"),
         ] {
-            let (ended, written) = ends(alloc, Err(io::Error::from(kind)))?;
+            let (ended, written) = ends(&rt, alloc, Err(io::Error::from(kind)))?;
             assert_eq!(rt; written.as_str(), text);
             assert_eq!(rt; ended, ExitCode::from(code));
         }

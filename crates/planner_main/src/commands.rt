@@ -1,9 +1,11 @@
 //! The commands that the words of the command line may ask for.
 
 ghost use Rattle.std.specs.Prelude.{◌≡◌, ◌≤◌, map, string_bytes, IfSome};
-ghost use Rattle.planner_main.specs.Commands.{command_of, command_of_word, command_of_two, command_about, number_of, IsNumbered};
+ghost use Rattle.planner_main.specs.Commands.{command_of, command_of_word, command_of_two, command_of_three, command_about};
+ghost use Rattle.planner_main.specs.Commands.{plan_by, number_in, IsNumbered};
 
 use crate::generated_scenes::MOST_GENERATED;
+use plan_model::MOST_WORKERS;
 use scene_text::{is_number, natural};
 
 /// What the words of the command line ask for.
@@ -12,6 +14,13 @@ pub enum Command {
     /// `plain` and `plain full`: the report of the textbook run of the scene that is read.
     Plain {
         /// Whether it is the full report, with a line for each node and each mark; otherwise it is the short one.
+        full: bool,
+    },
+    /// `plan W` and `plan W full`: the report of a run of the scene that is read, grown by several workers.
+    Plan {
+        /// How many workers grow it: 1 to `MOST_WORKERS`.
+        workers: u32,
+        /// Whether it is the full report; otherwise it is the short one.
         full: bool,
     },
     /// `show`: the canonical text of the scene that is read.
@@ -30,6 +39,7 @@ pub fn command_of(words: &[String]) -> Option<Command>
     match words {
         [word] => command_of_word(word.as_str()),
         [word, second] => command_of_two(word.as_str(), second.as_str()),
+        [word, second, third] => command_of_three(word.as_str(), second.as_str(), third.as_str()),
         _ => None,
     }
 }
@@ -51,8 +61,28 @@ fn command_of_two(word: &str, second: &str) -> Option<Command>
 {
     match (word, second) {
         ("plain", "full") => Some(Command::Plain { full: true }),
-        _ => command_about(word, number_of(second.as_bytes())?),
+        ("plan", _) => plan_by(second, false),
+        _ => command_about(word, number_in(second.as_bytes(), 0, MOST_GENERATED)?),
     }
+}
+
+fn command_of_three(word: &str, second: &str, third: &str) -> Option<Command>
+    ensures value { result ≡ command_of_three word.now second.now third.now }
+    ensures scene { IfSome result IsNumbered }
+{
+    match (word, third) {
+        ("plan", "full") => plan_by(second, true),
+        _ => None,
+    }
+}
+
+// The command to plan by so many workers, which a word says.
+fn plan_by(word: &str, full: bool) -> Option<Command>
+    ensures value { result ≡ plan_by full word.now }
+    ensures scene { IfSome result IsNumbered }
+{
+    let workers = number_in(word.as_bytes(), 1, MOST_WORKERS)?;
+    Some(Command::Plan { workers, full })
 }
 
 // The command of a word about the generated scene of a number.
@@ -68,14 +98,15 @@ fn command_about(word: &str, number: u32) -> Option<Command>
     }
 }
 
-// The number of a generated scene that a word stands for, if it is one.
-fn number_of(word: &[u8]) -> Option<u32>
-    ensures value { result ≡ number_of word.now }
-    ensures small { IfSome result (λ number. number ≤ MOST_GENERATED) }
+// The number that a word stands for, if it is one from `least` to `most`.
+fn number_in(word: &[u8], least: u32, most: u32) -> Option<u32>
+    ensures value { result ≡ number_in least most word.now }
+    ensures least { IfSome result (λ number. least ≤ number) }
+    ensures most { IfSome result (λ number. number ≤ most) }
 {
     if !is_number(word) {
         return None;
     }
-    let number = natural(word, 0, u64::from(MOST_GENERATED))?;
+    let number = natural(word, u64::from(least), u64::from(most))?;
     Some(number as u32)
 }

@@ -10,8 +10,11 @@ ghost use Rattle.planner_main.specs.Exchanges.{reading_of, writing_of, ReadFaile
 use crate::answers::{Answer, answer_to};
 use crate::statuses::{NO_MEMORY, WORDS_REFUSED, WRITE_FAULT};
 use plan_model::{Sink, Source};
+use plan_work::Gate;
 use settle_report::deliver;
 use std::alloc::Global;
+use std::sync::Wait;
+use std::thread::Threads;
 use step_core::Grown;
 
 /// What the program has done.
@@ -25,18 +28,21 @@ pub struct Done {
 }
 
 /// Does as the words say: for `plain`, reads a scene from the source, plans it by textbook RRT* (Karaman and Frazzoli,
-/// IJRR 2011), and writes the short report to the sink, or for `plain full` the full one; for `show`, reads a scene and
-/// writes its canonical text. For `gen` and `trial` it reads nothing: it writes the text of a generated scene, or plans that
-/// scene and writes the report without the points of its path.
+/// IJRR 2011), and writes the short report to the sink, or for `plain full` the full one; for `plan W` and `plan W full` the
+/// same, but `W` workers grow the run, each in a thread of its own, and the gate is told of their turns; for `show`, reads a
+/// scene and writes its canonical text. For `gen` and `trial` it reads nothing: it writes the text of a generated scene, or
+/// plans that scene and writes the report without the points of its path.
 ///
 /// The text is made whole before anything is written. Each status but `WRITE_FAULT` has one text, which the sink takes
 /// whole; with `WRITE_FAULT` the sink failed, and took a proper prefix of the text. The run that was reported is handed out
 /// even so.
-pub fn run<S: Source, K: Sink>(
+pub fn run<R: Threads + Sync + Wait, S: Source, K: Sink, G: Gate>(
+    rt: &R,
     alloc: Global,
     words: &[String],
     source: &mut S,
     sink: &mut K,
+    gate: &G,
 ) -> Done
     requires { S.has_ended source.old ≡ false }
     // a success by the command, or a refusal by its cause; the whole text is written
@@ -62,7 +68,7 @@ pub fn run<S: Source, K: Sink>(
     // never more than one byte past the limit of a text is read
     ensures within { ReadsWithin (S.bytes_left source.old) (S.bytes_left source.new) }
 {
-    match answer_to(alloc, words, source) {
+    match answer_to(rt, alloc, words, source, gate) {
         Ok(Answer { done, text }) => conclude(sink, &text, done),
         Err(refusal) => {
             let done = Done {

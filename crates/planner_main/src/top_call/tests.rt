@@ -4,13 +4,16 @@ ghost use Rattle.std.specs.Prelude.{◌≡◌, false};
 
 use super::*;
 use plan_model::{MemSink, MemSource, SureSource};
+use plan_work::NoGate;
 use std::test::Fail;
 
-// What the call for these words over this source has done, and what it writes.
-fn call_over<S: Source>(
+// What the call for these words over this source has done, and what it writes. The gate is told of the turns of workers.
+fn call_with_gate<R: Threads + Sync + Wait, S: Source, G: Gate>(
+    rt: &R,
     alloc: Global,
     words: &[&str],
     source: &mut S,
+    gate: &G,
 ) -> Result<(Done, String), Fail>
     requires { S.has_ended source.old ≡ false }
 {
@@ -19,20 +22,33 @@ fn call_over<S: Source>(
         given.push(String::from_str(alloc, word)?)?;
     }
     let mut sink = MemSink::new(alloc, 1 << 24, 1 << 24, &[])?;
-    let done = run(alloc, &given, source, &mut sink);
+    let done = run(rt, alloc, &given, source, &mut sink, gate);
     let written = String::from_utf8(Vec::from_slice(alloc, sink.bytes())?)?;
     Ok((done, written))
 }
 
+// The same through the gate that does nothing.
+fn call_over<R: Threads + Sync + Wait, S: Source>(
+    rt: &R,
+    alloc: Global,
+    words: &[&str],
+    source: &mut S,
+) -> Result<(Done, String), Fail>
+    requires { S.has_ended source.old ≡ false }
+{
+    call_with_gate(rt, alloc, words, source, &NoGate)
+}
+
 // The status of that call, and what it writes.
-fn answer_over<S: Source>(
+fn answer_over<R: Threads + Sync + Wait, S: Source>(
+    rt: &R,
     alloc: Global,
     words: &[&str],
     source: &mut S,
 ) -> Result<(u8, String), Fail>
     requires { S.has_ended source.old ≡ false }
 {
-    let (done, written) = call_over(alloc, words, source)?;
+    let (done, written) = call_over(rt, alloc, words, source)?;
     Ok((done.status, written))
 }
 
@@ -45,9 +61,14 @@ fn counts_of(done: &Done) -> Option<(u32, u32)> {
 }
 
 // The same over a source of this text.
-fn answer_to_text(alloc: Global, words: &[&str], text: &str) -> Result<(u8, String), Fail> {
+fn answer_to_text<R: Threads + Sync + Wait>(
+    rt: &R,
+    alloc: Global,
+    words: &[&str],
+    text: &str,
+) -> Result<(u8, String), Fail> {
     let mut source = MemSource::new(alloc, text.as_bytes(), 1 << 16, &[])?;
-    answer_over(alloc, words, &mut source)
+    answer_over(rt, alloc, words, &mut source)
 }
 
 // A scene of a corridor with a mark at each lattice step, so that the path has a point at each.
@@ -117,12 +138,12 @@ fn plans_scenes(rt: HostRuntime) -> Result<(), Fail> {
     ] {
         for most in [1, 2, 7, 1 << 16] {
             let mut pieces = MemSource::new(rt.alloc(), text.as_bytes(), most, &[])?;
-            let (ended, written) = answer_over(rt.alloc(), &["plain"], &mut pieces)?;
+            let (ended, written) = answer_over(&rt, rt.alloc(), &["plain"], &mut pieces)?;
             assert_eq!(rt; written.as_str(), report, "{shows}, {most} bytes a piece");
             assert_eq!(rt; ended, status, "{shows}, {most} bytes a piece");
         }
         let mut whole = SureSource::new(rt.alloc(), text.as_bytes())?;
-        let (ended, written) = answer_over(rt.alloc(), &["plain"], &mut whole)?;
+        let (ended, written) = answer_over(&rt, rt.alloc(), &["plain"], &mut whole)?;
         assert_eq!(rt; written.as_str(), report, "{shows}");
         assert_eq!(rt; ended, status, "{shows}");
     }
@@ -170,7 +191,7 @@ fn plans_with_rewiring(rt: HostRuntime) -> Result<(), Fail> {
             "path 4 cost 47633\n20 20\n75 65\n115 65\n175 20\nnodes 4 placed 3 same 0 blocked 1\n",
         ),
     ] {
-        let (status, written) = answer_to_text(rt.alloc(), &["plain"], text)?;
+        let (status, written) = answer_to_text(&rt, rt.alloc(), &["plain"], text)?;
         assert_eq!(rt; written.as_str(), report, "{shows}");
         assert_eq!(rt; status, 0, "{shows}");
     }
@@ -191,7 +212,7 @@ fn plans_over_drawn_marks(rt: HostRuntime) -> Result<(), Fail> {
             "path 1 cost 0\n0 0\nnodes 1 placed 0 same 0 blocked 0\n",
         ),
     ] {
-        let (status, written) = answer_to_text(rt.alloc(), &["plain"], text)?;
+        let (status, written) = answer_to_text(&rt, rt.alloc(), &["plain"], text)?;
         assert_eq!(rt; written.as_str(), report, "{shows}");
         assert_eq!(rt; status, 0, "{shows}");
     }
@@ -202,7 +223,7 @@ fn plans_over_drawn_marks(rt: HostRuntime) -> Result<(), Fail> {
 fn plans_one_branch_of_a_thousand_nodes(rt: HostRuntime) -> Result<(), Fail> {
     let alloc = rt.alloc();
     let text = corridor(alloc, 1000)?;
-    let (status, written) = answer_to_text(alloc, &["plain"], &text)?;
+    let (status, written) = answer_to_text(&rt, alloc, &["plain"], &text)?;
     assert_eq!(rt; written.lines().next(), Some("path 1001 cost 256000"));
     assert_eq!(rt;
         written.lines().last(),
@@ -216,7 +237,7 @@ fn plans_one_branch_of_a_thousand_nodes(rt: HostRuntime) -> Result<(), Fail> {
 fn plans_one_branch_of_four_thousand_nodes(rt: HostRuntime) -> Result<(), Fail> {
     let alloc = rt.alloc();
     let text = corridor(alloc, 4000)?;
-    let (status, written) = answer_to_text(alloc, &["plain"], &text)?;
+    let (status, written) = answer_to_text(&rt, alloc, &["plain"], &text)?;
     assert_eq!(rt; written.lines().next(), Some("path 4001 cost 1024000"));
     assert_eq!(rt; written.lines().nth(1), Some("0 0"));
     assert_eq!(rt; written.lines().nth(2346), Some("2345 0"));
@@ -302,7 +323,7 @@ fn plans_past_an_obstacle(rt: HostRuntime) -> Result<(), Fail> {
         let mut more = String::new(rt.alloc());
         write!(more, "step 100\nmark {mark}\n")?;
         let text = scene_with_obstacle(rt.alloc(), "", start, goal, &more)?;
-        let (ended, written) = answer_to_text(rt.alloc(), &["plain"], &text)?;
+        let (ended, written) = answer_to_text(&rt, rt.alloc(), &["plain"], &text)?;
         assert_eq!(rt; written.as_str(), report, "{shows}");
         assert_eq!(rt; ended, status, "{shows}");
     }
@@ -335,7 +356,7 @@ fn plans_for_a_body(rt: HostRuntime) -> Result<(), Fail> {
     ] {
         let body = "body 0 0 4 0 4 4 0 4\n";
         let text = scene_with_obstacle(rt.alloc(), body, start, "35 0 36 0", "step 4\n")?;
-        let (ended, written) = answer_to_text(rt.alloc(), &["plain"], &text)?;
+        let (ended, written) = answer_to_text(&rt, rt.alloc(), &["plain"], &text)?;
         assert_eq!(rt; written.as_str(), report, "{shows}");
         assert_eq!(rt; ended, status, "{shows}");
     }
@@ -367,7 +388,7 @@ fn refuses_what_is_not_convex(rt: HostRuntime) -> Result<(), Fail> {
         ),
     ] {
         for words in ["plain", "show"] {
-            let (status, written) = answer_to_text(rt.alloc(), &[words], text)?;
+            let (status, written) = answer_to_text(&rt, rt.alloc(), &[words], text)?;
             assert_eq!(rt; written.as_str(), line, "{shows}");
             assert_eq!(rt; status, 3, "{shows}");
         }
@@ -379,7 +400,7 @@ fn refuses_what_is_not_convex(rt: HostRuntime) -> Result<(), Fail> {
 fn shows_a_body_and_obstacles(rt: HostRuntime) -> Result<(), Fail> {
     let text =
         "prrt 1\nstep 4\ngoal 1 1 2 2\nobstacle 5 5 6 5 6 6\nstart 0 0\nroom 9 9\nobstacle -1 -1 0 -1 -1 0\nbody -1 0 1 0 0 1\n";
-    let (status, written) = answer_to_text(rt.alloc(), &["show"], text)?;
+    let (status, written) = answer_to_text(&rt, rt.alloc(), &["show"], text)?;
     assert_eq!(rt;
         written.as_str(),
         "prrt 1\nroom 9 9\nbody -1 0 1 0 0 1\nobstacle 5 5 6 5 6 6\nobstacle -1 -1 0 -1 -1 0\nstart 0 0\ngoal 1 1 2 2\nstep 4\ngamma 0\nseed 0\nstrips 1\n"
@@ -398,7 +419,7 @@ fn plans_among_as_many_obstacles_as_there_may_be(rt: HostRuntime) -> Result<(), 
     let rest = "start 0 0\ngoal 0 0 0 0\nstep 4\n";
     let mut most = text.clone()?;
     most.push_str(rest)?;
-    let (status, written) = answer_to_text(alloc, &["plain"], &most)?;
+    let (status, written) = answer_to_text(&rt, alloc, &["plain"], &most)?;
     assert_eq!(rt;
         written.as_str(),
         "path 1 cost 0\n0 0\nnodes 1 placed 0 same 0 blocked 0\n"
@@ -406,7 +427,7 @@ fn plans_among_as_many_obstacles_as_there_may_be(rt: HostRuntime) -> Result<(), 
     assert_eq!(rt; status, 0);
     text.push_str("obstacle 40 0 60 0 60 60\n")?;
     text.push_str(rest)?;
-    let (status, written) = answer_to_text(alloc, &["plain"], &text)?;
+    let (status, written) = answer_to_text(&rt, alloc, &["plain"], &text)?;
     assert_eq!(rt; written.as_str(), "line 1027 kind 8 Many\n");
     assert_eq!(rt; status, 3);
     Ok(())
@@ -415,9 +436,8 @@ fn plans_among_as_many_obstacles_as_there_may_be(rt: HostRuntime) -> Result<(), 
 #[test]
 fn refuses_with_the_cause(rt: HostRuntime) -> Result<(), Fail> {
     let scene = "prrt 1\nroom 10 10\nstart 5 5\ngoal 0 0 9 9\nstep 4\n";
-    let words: [&[&str]; 22] = [
+    let words: [&[&str]; 20] = [
         &[],
-        &["plan", "4"],
         &["plain full"],
         &["plain  full"],
         &["plain", "full", "full"],
@@ -427,7 +447,6 @@ fn refuses_with_the_cause(rt: HostRuntime) -> Result<(), Fail> {
         &["show", "full"],
         &["gen", "0", "full"],
         &["trial", "3", "full"],
-        &["plan"],
         &["show", "show"],
         &["Show"],
         &["gen"],
@@ -440,25 +459,29 @@ fn refuses_with_the_cause(rt: HostRuntime) -> Result<(), Fail> {
         &["trial", "x"],
     ];
     for form in words {
-        let (status, written) = answer_to_text(rt.alloc(), form, scene)?;
+        let (status, written) = answer_to_text(&rt, rt.alloc(), form, scene)?;
         assert_eq!(rt; written.as_str(), "words refused\n", "{form:?}");
         assert_eq!(rt; status, 2);
-        let (status, written, faults) = answer_over_failing(rt.alloc(), form)?;
+        let (status, written, faults) = answer_over_failing(&rt, rt.alloc(), form)?;
         assert_eq!(rt; written.as_str(), "words refused\n", "{form:?}");
         assert_eq!(rt; status, 2);
         assert_eq!(rt; faults, 0, "{form:?} is read");
     }
     let blocked = "prrt 1\nroom 10 10\nstart 11 5\ngoal 0 0 9 9\nstep 4\n";
-    let (status, written) = answer_to_text(rt.alloc(), &["plain"], blocked)?;
+    let (status, written) = answer_to_text(&rt, rt.alloc(), &["plain"], blocked)?;
     assert_eq!(rt; written.as_str(), "start blocked\n");
     assert_eq!(rt; status, 4);
     Ok(())
 }
 
 // The same over a source whose first read fails; and how many of its reads failed.
-fn answer_over_failing(alloc: Global, words: &[&str]) -> Result<(u8, String, u64), Fail> {
+fn answer_over_failing<R: Threads + Sync + Wait>(
+    rt: &R,
+    alloc: Global,
+    words: &[&str],
+) -> Result<(u8, String, u64), Fail> {
     let mut failing = MemSource::new(alloc, b"prrt 1\n", 10, &[1])?;
-    let (status, written) = answer_over(alloc, words, &mut failing)?;
+    let (status, written) = answer_over(rt, alloc, words, &mut failing)?;
     Ok((status, written, failing.faults()))
 }
 
@@ -466,12 +489,12 @@ fn answer_over_failing(alloc: Global, words: &[&str]) -> Result<(u8, String, u64
 fn writes_a_generated_scene(rt: HostRuntime) -> Result<(), Fail> {
     let begin =
         "prrt 1\nroom 9999 9999\nbody 0 0 20 0 20 20 0 20\nobstacle 631 700 961 700 961 1030 631 1030\n";
-    let (status, written, faults) = answer_over_failing(rt.alloc(), &["gen", "0"])?;
+    let (status, written, faults) = answer_over_failing(&rt, rt.alloc(), &["gen", "0"])?;
     assert!(rt; written.as_str().starts_with(begin));
     assert_eq!(rt; written.lines().last(), Some("marks 2000"));
     assert_eq!(rt; status, 0);
     assert_eq!(rt; faults, 0);
-    let (status, written, faults) = answer_over_failing(rt.alloc(), &["gen", "9999"])?;
+    let (status, written, faults) = answer_over_failing(&rt, rt.alloc(), &["gen", "9999"])?;
     assert_eq!(rt; written.lines().last(), Some("marks 20000"));
     assert_eq!(rt; status, 0);
     assert_eq!(rt; faults, 0);
@@ -482,15 +505,15 @@ fn writes_a_generated_scene(rt: HostRuntime) -> Result<(), Fail> {
 #[test]
 fn tries_a_generated_scene(rt: HostRuntime) -> Result<(), Fail> {
     let alloc = rt.alloc();
-    let (status, summary, faults) = answer_over_failing(alloc, &["trial", "3"])?;
+    let (status, summary, faults) = answer_over_failing(&rt, alloc, &["trial", "3"])?;
     assert_eq!(rt;
         summary.as_str(),
         "path 48 cost 3522991\nnodes 7605 placed 7604 same 0 blocked 396\n"
     );
     assert_eq!(rt; status, 0);
     assert_eq!(rt; faults, 0);
-    let (_, text, _) = answer_over_failing(alloc, &["gen", "3"])?;
-    let (planned, report) = answer_to_text(alloc, &["plain"], &text)?;
+    let (_, text, _) = answer_over_failing(&rt, alloc, &["gen", "3"])?;
+    let (planned, report) = answer_to_text(&rt, alloc, &["plain"], &text)?;
     assert_eq!(rt; report.lines().next(), summary.lines().next());
     assert_eq!(rt; report.lines().last(), summary.lines().last());
     assert_eq!(rt; planned, status);
@@ -574,7 +597,7 @@ fn refuses_texts_with_line_and_kind(rt: HostRuntime) -> Result<(), Fail> {
         ),
     ] {
         for words in ["plain", "show"] {
-            let (status, written) = answer_to_text(rt.alloc(), &[words], text)?;
+            let (status, written) = answer_to_text(&rt, rt.alloc(), &[words], text)?;
             assert_eq!(rt; written.as_str(), line, "{shows}");
             assert_eq!(rt; status, 3, "{shows}");
         }
@@ -585,7 +608,7 @@ fn refuses_texts_with_line_and_kind(rt: HostRuntime) -> Result<(), Fail> {
 #[test]
 fn shows_a_scattered_scene(rt: HostRuntime) -> Result<(), Fail> {
     let text = "# a note\nprrt  1\nstep 4\ngoal 1 1 2 2\nstart 0 0\nroom 9 9";
-    let (status, written) = answer_to_text(rt.alloc(), &["show"], text)?;
+    let (status, written) = answer_to_text(&rt, rt.alloc(), &["show"], text)?;
     assert_eq!(rt;
         written.as_str(),
         "prrt 1\nroom 9 9\nbody 0 0\nstart 0 0\ngoal 1 1 2 2\nstep 4\ngamma 0\nseed 0\nstrips 1\n"
@@ -593,13 +616,13 @@ fn shows_a_scattered_scene(rt: HostRuntime) -> Result<(), Fail> {
     assert_eq!(rt; status, 0);
     let text =
         "prrt 1\nseed 7\nmark 3 4\nstrips 5\ngamma 6\nroom 9 9\nstart 0 0\ngoal 1 1 2 2\nstep 4\nmark 1 2\n";
-    let (_, written) = answer_to_text(rt.alloc(), &["show"], text)?;
+    let (_, written) = answer_to_text(&rt, rt.alloc(), &["show"], text)?;
     assert_eq!(rt;
         written.as_str(),
         "prrt 1\nroom 9 9\nbody 0 0\nstart 0 0\ngoal 1 1 2 2\nstep 4\ngamma 6\nseed 7\nstrips 5\nmark 3 4\nmark 1 2\n"
     );
     let text = "prrt 1\nmarks 5\nroom 9 9\nstart 0 0\ngoal 1 1 2 2\nstep 4\n";
-    let (_, written) = answer_to_text(rt.alloc(), &["show"], text)?;
+    let (_, written) = answer_to_text(&rt, rt.alloc(), &["show"], text)?;
     assert_eq!(rt;
         written.as_str(),
         "prrt 1\nroom 9 9\nbody 0 0\nstart 0 0\ngoal 1 1 2 2\nstep 4\ngamma 0\nseed 0\nstrips 1\nmarks 5\n"
@@ -614,11 +637,11 @@ fn shows_as_many_marks_as_there_may_be(rt: HostRuntime) -> Result<(), Fail> {
     for _ in 0..262_143 {
         text.push_str("mark 0 0\n")?;
     }
-    let (status, written) = answer_to_text(alloc, &["show"], &text)?;
+    let (status, written) = answer_to_text(&rt, alloc, &["show"], &text)?;
     assert_eq!(rt; status, 0);
     assert_eq!(rt; written.lines().count(), 262_152);
     text.push_str("mark 0 0\n")?;
-    let (status, written) = answer_to_text(alloc, &["show"], &text)?;
+    let (status, written) = answer_to_text(&rt, alloc, &["show"], &text)?;
     assert_eq!(rt; written.as_str(), "line 262149 kind 8 Many\n");
     assert_eq!(rt; status, 3);
     Ok(())
@@ -635,7 +658,7 @@ fn plans_over_as_many_marks_as_there_may_be(rt: HostRuntime) -> Result<(), Fail>
     for _ in 0..262_143 {
         text.push_str("mark 0 0\n")?;
     }
-    let (status, written) = answer_to_text(alloc, &["plain"], &text)?;
+    let (status, written) = answer_to_text(&rt, alloc, &["plain"], &text)?;
     assert_eq!(rt;
         written.as_str(),
         "no path\nnodes 1 placed 0 same 262143 blocked 0\n"
@@ -643,7 +666,7 @@ fn plans_over_as_many_marks_as_there_may_be(rt: HostRuntime) -> Result<(), Fail>
     assert_eq!(rt; status, 1);
     let text =
         "prrt 1\nroom 1 1\nstart 0 0\ngoal 1 1 1 1\nstep 4\ngamma 9\nstrips 2\nmarks 262143\n";
-    let (status, written) = answer_to_text(alloc, &["plain"], text)?;
+    let (status, written) = answer_to_text(&rt, alloc, &["plain"], text)?;
     assert_eq!(rt;
         written.as_str(),
         "path 2 cost 363\n0 0\n1 1\nnodes 4 placed 3 same 262140 blocked 0\n"
@@ -665,11 +688,11 @@ fn reads_as_many_bytes_as_there_may_be(rt: HostRuntime) -> Result<(), Fail> {
             text.push(b'#')?;
         }
         let mut whole = SureSource::new(alloc, &text)?;
-        let (status, written) = answer_over(alloc, &["show"], &mut whole)?;
+        let (status, written) = answer_over(&rt, alloc, &["show"], &mut whole)?;
         assert_eq!(rt; written.as_str(), line);
         assert_eq!(rt; status, 3);
         let mut pieces = MemSource::new(alloc, &text, 5000, &[])?;
-        let (status, written) = answer_over(alloc, &["show"], &mut pieces)?;
+        let (status, written) = answer_over(&rt, alloc, &["show"], &mut pieces)?;
         assert_eq!(rt; written.as_str(), line);
         assert_eq!(rt; status, 3);
     }
@@ -678,4 +701,5 @@ fn reads_as_many_bytes_as_there_may_be(rt: HostRuntime) -> Result<(), Fail> {
 
 mod faults;
 mod full_reports;
+mod plans;
 mod runs;

@@ -3,7 +3,7 @@ use Rattle.planner_main.specs.Conclusions.{IsCaused}
 use Rattle.planner_main.specs.Exchanges.{reading_of}
 use Rattle.planner_main.specs.declared.commands.Command.TheVariants as commands
 use Rattle.planner_main.proofs.Causes.{hall-caused, IfErr-only}
-use Rattle.planner_main.proofs.Successes.{IsSuccess-planned}
+use Rattle.planner_main.proofs.Successes.{IsSuccess-planned, ReportsGrown-of_scene}
 use Rattle.planner_main.proofs.answers.plan.Goals as goal
 
 pub returns-in_err-hall-clause-refusal : goal.returns-in_err-hall-clause-refusal
@@ -12,9 +12,11 @@ returns-in_err-hall-clause-refusal g c =
     let reading = reading_of source.counts_failures_alone source.bytes_left source.has_ended source.fault_count
     c.args.source.now c.scene_for.new.source in
     IfErr-only c.from_residual-in_err-hall.result _ (IsCaused _ reading) c.from_residual-in_err-hall.ensures.1
-    (hall-caused (commands.Plain c.args.full) reading c.in_ok-scene.scene c.in_err-hall.field-0.0 refl c.in_ok-scene.ensures.scene
+    (hall-caused (commands.Plan c.args.workers c.args.full) reading c.in_ok-scene.scene c.in_err-hall.field-0.0 refl c.in_ok-scene.ensures.scene
     c.in_err-hall.ensures.refusal)
 
 pub returns-clause-success : goal.returns-clause-success
 returns-clause-success g c =
-    IsSuccess-planned _ c.in_ok-scene.scene _ _ c.args.full c.in_ok-scene.ensures.scene c.in_ok-hall.ensures.start c.in_ok-report_of.ensures
+    let run = c.in_ok-grown.ensures in
+    IsSuccess-planned _ c.in_ok-scene.scene _ _ c.args.workers c.args.full c.in_ok-scene.ensures.scene c.in_ok-hall.ensures.start
+    c.in_ok-grown.grown (ReportsGrown-of_scene _ _ _ _ _ run.scene c.in_ok-report_of.ensures) run.workers

@@ -1,10 +1,12 @@
+use Rattle.planner_main.proofs.Successes.{ReportsScene-textbook}
 use Rattle.planner_main.proofs.answers.trial.Goals as goal
 
 pub returns : goal.returns
 returns c =
+    let run = c.in_ok-grown.ensures in
     record {
       scene = c.in_ok-scene.scene;
       generated = c.in_ok-scene.ensures.scene;
       start = c.in_ok-scene.ensures.start;
-      report = c.in_ok-summary_of.ensures;
+      report = ReportsScene-textbook _ _ c.in_ok-grown.grown _ _ run.scene c.in_ok-summary_of.ensures run.run;
     }

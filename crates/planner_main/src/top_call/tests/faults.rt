@@ -13,7 +13,7 @@ fn refuses_a_source_that_fails_early(rt: HostRuntime) -> Result<(), Fail> {
     for form in forms {
         for fails in [1, 2, 8] {
             let mut failing = MemSource::new(alloc, ONE_MARK, 10, &[fails])?;
-            let (done, written) = call_over(alloc, form, &mut failing)?;
+            let (done, written) = call_over(&rt, alloc, form, &mut failing)?;
             assert_eq!(rt; written.as_str(), "read fault\n");
             assert_eq!(rt; done.status, 5);
             assert_eq!(rt; counts_of(&done), None);
@@ -32,13 +32,13 @@ fn refuses_a_source_that_fails_late(rt: HostRuntime) -> Result<(), Fail> {
     for words in ["plain", "show"] {
         for fails in [100, 169, 170, 171] {
             let mut failing = MemSource::new(alloc, text.as_bytes(), 100, &[fails])?;
-            let (status, written) = answer_over(alloc, &[words], &mut failing)?;
+            let (status, written) = answer_over(&rt, alloc, &[words], &mut failing)?;
             assert_eq!(rt; written.as_str(), "read fault\n", "call {fails}");
             assert_eq!(rt; status, 5, "call {fails}");
             assert_eq!(rt; failing.faults(), 1);
         }
         let mut sound = MemSource::new(alloc, text.as_bytes(), 100, &[172])?;
-        let (status, _) = answer_over(alloc, &[words], &mut sound)?;
+        let (status, _) = answer_over(&rt, alloc, &[words], &mut sound)?;
         assert_eq!(rt; status, 0);
         assert_eq!(rt; sound.faults(), 0);
     }
@@ -68,7 +68,7 @@ fn keeps_a_prefix_if_the_sink_fails(rt: HostRuntime) -> Result<(), Fail> {
         }
         let mut source = SureSource::new(alloc, ONE_MARK)?;
         let mut sink = MemSink::new(alloc, 1000, 10, &[fails])?;
-        let done = run(alloc, &words, &mut source, &mut sink);
+        let done = run(&rt, alloc, &words, &mut source, &mut sink, &NoGate);
         assert_eq!(rt; sink.bytes(), bytes.as_bytes());
         assert_eq!(rt; done.status, 6);
         assert_eq!(rt; counts_of(&done), counts);

@@ -98,7 +98,7 @@ node 0 at 5 5 parent 0 cost 0\n",
     ] {
         for most in [1, 1 << 16] {
             let mut pieces = MemSource::new(rt.alloc(), text.as_bytes(), most, &[])?;
-            let (ended, written) = answer_over(rt.alloc(), &["plain", "full"], &mut pieces)?;
+            let (ended, written) = answer_over(&rt, rt.alloc(), &["plain", "full"], &mut pieces)?;
             assert_eq!(rt; written.as_str(), report, "{shows}, {most} bytes a piece");
             assert_eq!(rt; ended, status, "{shows}, {most} bytes a piece");
         }
@@ -111,7 +111,7 @@ node 0 at 5 5 parent 0 cost 0\n",
 fn writes_as_many_marks_as_there_may_be(rt: HostRuntime) -> Result<(), Fail> {
     let text =
         "prrt 1\nroom 1 1\nstart 0 0\ngoal 1 1 1 1\nstep 4\ngamma 9\nstrips 2\nmarks 262143\n";
-    let (status, written) = answer_to_text(rt.alloc(), &["plain", "full"], text)?;
+    let (status, written) = answer_to_text(&rt, rt.alloc(), &["plain", "full"], text)?;
     let begin = "path 2 cost 363\n\
 0 0\n\
 1 1\n\

@@ -39,7 +39,7 @@ fn hands_out_the_run_of_a_plan(rt: HostRuntime) -> Result<(), Fail> {
     ] {
         for form in forms {
             let mut source = SureSource::new(alloc, text.as_bytes())?;
-            let (done, _) = call_over(alloc, form, &mut source)?;
+            let (done, _) = call_over(&rt, alloc, form, &mut source)?;
             assert_eq!(rt; done.status, status, "{shows}");
             assert_eq!(rt; counts_of(&done), Some(counts), "{shows}");
         }
@@ -51,7 +51,7 @@ fn hands_out_the_run_of_a_plan(rt: HostRuntime) -> Result<(), Fail> {
 fn hands_out_the_run_of_a_trial(rt: HostRuntime) -> Result<(), Fail> {
     let alloc = rt.alloc();
     let mut source = SureSource::new(alloc, b"")?;
-    let (done, summary) = call_over(alloc, &["trial", "0"], &mut source)?;
+    let (done, summary) = call_over(&rt, alloc, &["trial", "0"], &mut source)?;
     assert!(rt; done.status <= 1);
     let counts = counts_of(&done);
     assert_eq!(rt; counts, counts_in(&summary));
@@ -76,13 +76,13 @@ fn hands_out_no_run_if_none_is_reported(rt: HostRuntime) -> Result<(), Fail> {
     ];
     for (form, text, status) in cases {
         let mut source = SureSource::new(alloc, text.as_bytes())?;
-        let (done, _) = call_over(alloc, form, &mut source)?;
+        let (done, _) = call_over(&rt, alloc, form, &mut source)?;
         assert_eq!(rt; done.status, status, "{form:?}");
         assert_eq!(rt; counts_of(&done), None, "{form:?}");
     }
     let long = vec![in alloc; b'#'; 16_777_217]?;
     let mut source = SureSource::new(alloc, &long)?;
-    let (done, _) = call_over(alloc, &["plain", "full"], &mut source)?;
+    let (done, _) = call_over(&rt, alloc, &["plain", "full"], &mut source)?;
     assert_eq!(rt; done.status, 3);
     assert_eq!(rt; counts_of(&done), None);
     Ok(())

@@ -1,0 +1,19 @@
+use Rattle.std.proofs.Common.{length, ap, sym, ◌∙◌, arith}
+use Rattle.plan_model.proofs.MarkBounds.{length-points_of}
+use Rattle.plan_model.proofs.SpanLaws.{BodyFits-from_in_room}
+use Rattle.plan_model.specs.ConfigurationSpace.{space_of}
+use Rattle.planner_main.proofs.answers.run_by_workers.Goals as goal
+
+-- the start is in the room of configurations, so the room has a place for the body
+pub marks-requires : goal.marks-requires
+marks-requires g c = record { fits = λ n drawn. BodyFits-from_in_room (space_of c.args.scene) c.args.scene.start c.requires.start.in_room }
+
+pub overflow_cast-limit : goal.overflow_cast-limit
+overflow_cast-limit g c =
+    let few = length-points_of c.args.scene c.args.scene.plan c.args.scene.plan_within in
+    omega (arith, few, ap length c.in_ok-marks.ensures.value, c.len-limit.ensures)
+
+-- settling keeps the records
+pub returns-clause-workers : goal.returns-clause-workers
+returns-clause-workers g c = λ k entry is.
+    c.in_ok-grown.ensures.workers k entry (sym (c.in_ok-settle.ensures.costs_alone.records k) ∙ is) (omega (arith, c.in_ok-fresh.ensures.limit))

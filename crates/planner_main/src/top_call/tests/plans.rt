@@ -1,0 +1,367 @@
+//! Runs by several workers: what `plan W` and `plan W full` write, and which run they hand out.
+
+use super::*;
+use plan_model::Outcome;
+use std::hint;
+use std::sync::atomic::{AtomicBool, Ordering};
+
+// A scene whose only mark is the goal.
+const ONE_MARK: &str = "prrt 1\nroom 100 100\nstart 0 0\ngoal 30 40 30 40\nstep 100\nmark 30 40\n";
+
+// A scene of three marks, of which the node of the third gives that of the second a cheaper way.
+const THREE_MARKS: &str = "\
+prrt 1
+room 100 100
+start 0 0
+goal 40 79 40 79
+step 50
+gamma 1000
+strips 2
+mark 0 50
+mark 40 79
+mark 40 30
+";
+
+// How many marks of a run were placed, ended at a node, and were blocked, each at most 65535.
+fn outcomes(grown: &Grown) -> [u16; 3] {
+    let [mut placed, mut same, mut blocked] = [0_u16; 3];
+    for mark in 0..grown.limit() {
+        match grown.record_of(mark).outcome {
+            Outcome::Placed => placed = placed.saturating_add(1),
+            Outcome::Same(_) => same = same.saturating_add(1),
+            Outcome::Blocked => blocked = blocked.saturating_add(1),
+        }
+    }
+    [placed, same, blocked]
+}
+
+// The greatest number of a worker that has handled a mark of the run.
+fn greatest_worker(grown: &Grown) -> u32 {
+    let mut greatest = 0;
+    for mark in 0..grown.limit() {
+        let worker = grown.record_of(mark).worker;
+        if worker > greatest {
+            greatest = worker;
+        }
+    }
+    greatest
+}
+
+// The line of a report that counts the nodes and the marks of each outcome.
+fn counts_line(report: &str) -> Option<&str> {
+    report.lines().find(|line| line.starts_with("nodes "))
+}
+
+#[test]
+fn plans_by_any_number_of_workers(rt: HostRuntime) -> Result<(), Fail> {
+    let in_goal = "prrt 1\nroom 10 10\nstart 5 5\ngoal 0 0 9 9\nstep 4\n";
+    let far = "prrt 1\nroom 100 100\nstart 0 0\ngoal 90 90 99 99\nstep 50\nmark 60 80\n";
+    let cases: [(&str, &str, u8, (u32, u32), &str); 6] = [
+        (
+            "4",
+            ONE_MARK,
+            0,
+            (2, 1),
+            "path 2 cost 12800\n0 0\n30 40\nnodes 2 placed 1 same 0 blocked 0\n",
+        ),
+        (
+            "1",
+            ONE_MARK,
+            0,
+            (2, 1),
+            "path 2 cost 12800\n0 0\n30 40\nnodes 2 placed 1 same 0 blocked 0\n",
+        ),
+        (
+            "64",
+            in_goal,
+            0,
+            (1, 0),
+            "path 1 cost 0\n5 5\nnodes 1 placed 0 same 0 blocked 0\n",
+        ),
+        (
+            "1",
+            in_goal,
+            0,
+            (1, 0),
+            "path 1 cost 0\n5 5\nnodes 1 placed 0 same 0 blocked 0\n",
+        ),
+        (
+            "1",
+            far,
+            1,
+            (2, 1),
+            "no path\nnodes 2 placed 1 same 0 blocked 0\n",
+        ),
+        (
+            "64",
+            far,
+            1,
+            (2, 1),
+            "no path\nnodes 2 placed 1 same 0 blocked 0\n",
+        ),
+    ];
+    for (workers, text, status, counts, report) in cases {
+        let mut source = SureSource::new(rt.alloc(), text.as_bytes())?;
+        let (done, written) = call_over(&rt, rt.alloc(), &["plan", workers], &mut source)?;
+        assert_eq!(rt; written.as_str(), report, "by {workers}");
+        assert_eq!(rt; done.status, status, "by {workers}");
+        assert_eq!(rt; counts_of(&done), Some(counts), "by {workers}");
+    }
+    Ok(())
+}
+
+// The one worker handles the marks in their order.
+#[test]
+fn reports_each_node_and_each_mark_of_one_worker(rt: HostRuntime) -> Result<(), Fail> {
+    for (shows, text, report) in [
+        (
+            "a node that is moved",
+            THREE_MARKS,
+            "path 3 cost 25344\n\
+0 0\n\
+40 30\n\
+40 79\n\
+nodes 4 placed 3 same 0 blocked 0\n\
+node 0 at 0 0 parent 0 cost 0\n\
+node 1 at 0 50 parent 0 cost 12800\n\
+node 2 at 40 79 parent 3 cost 25344\n\
+node 3 at 40 30 parent 0 cost 12800\n\
+mark 0 worker 0 turn 0 nearest 0 placed class 1 first 0 12800\n\
+mark 1 worker 0 turn 1 nearest 1 placed class 2 first 1 25449\n\
+mark 2 worker 0 turn 2 nearest 1 placed class 2 first 0 12800\n",
+        ),
+        (
+            "a child of a node that is moved, which costs the sum of its edges",
+            "prrt 1\nroom 100 100\nstart 0 0\ngoal 60 79 60 79\nstep 50\ngamma 1000\n\
+mark 0 50\nmark 40 79\nmark 60 79\nmark 40 30\n",
+            "path 4 cost 30464\n\
+0 0\n\
+40 30\n\
+40 79\n\
+60 79\n\
+nodes 5 placed 4 same 0 blocked 0\n\
+node 0 at 0 0 parent 0 cost 0\n\
+node 1 at 0 50 parent 0 cost 12800\n\
+node 2 at 40 79 parent 4 cost 25344\n\
+node 3 at 60 79 parent 2 cost 30464\n\
+node 4 at 40 30 parent 0 cost 12800\n\
+mark 0 worker 0 turn 0 nearest 0 placed class 1 first 0 12800\n\
+mark 1 worker 0 turn 1 nearest 1 placed class 2 first 1 25449\n\
+mark 2 worker 0 turn 2 nearest 2 placed class 2 first 2 30569\n\
+mark 3 worker 0 turn 3 nearest 1 placed class 3 first 0 12800\n",
+        ),
+        (
+            "a blocked mark after one on a node",
+            "prrt 1\nroom 100 100\nobstacle 40 0 60 0 60 60 40 60\nstart 10 10\ngoal 30 10 30 10\nstep 100\n\
+mark 30 10\nmark 30 10\nmark 70 10\n",
+            "path 2 cost 5120\n\
+10 10\n\
+30 10\n\
+nodes 2 placed 1 same 1 blocked 1\n\
+node 0 at 10 10 parent 0 cost 0\n\
+node 1 at 30 10 parent 0 cost 5120\n\
+mark 0 worker 0 turn 0 nearest 0 placed class 1 first 0 5120\n\
+mark 1 worker 0 turn 1 nearest 1 same 1\n\
+mark 2 worker 0 turn 2 nearest 1 blocked\n",
+        ),
+    ] {
+        let (status, written) = answer_to_text(&rt, rt.alloc(), &["plan", "1", "full"], text)?;
+        assert_eq!(rt; written.as_str(), report, "{shows}");
+        assert_eq!(rt; status, 0, "{shows}");
+    }
+    Ok(())
+}
+
+// Each mark has a line, by one of the workers.
+#[test]
+fn plans_hundreds_of_marks_by_three_workers(rt: HostRuntime) -> Result<(), Fail> {
+    let alloc = rt.alloc();
+    let text = "prrt 1\nroom 200 100\nbody 0 0 10 0 10 10 0 10\nobstacle 90 0 110 0 110 60 90 60\n\
+obstacle 40 50 60 50 50 70\nstart 20 20\ngoal 150 10 189 60\nstep 30\ngamma 500\nseed 3\nstrips 3\nmarks 400\n";
+    let mut source = SureSource::new(alloc, text.as_bytes())?;
+    let (done, written) = call_over(&rt, alloc, &["plan", "3", "full"], &mut source)?;
+    let Some(grown) = &done.run else {
+        panic!(rt; "no run");
+    };
+    let [placed, same, blocked] = outcomes(grown);
+    assert_eq!(rt;
+        u32::from(placed) + u32::from(same) + u32::from(blocked),
+        400
+    );
+    assert_eq!(rt; grown.limit(), 400);
+    assert_eq!(rt; grown.count(), u32::from(placed) + 1);
+    assert!(rt; greatest_worker(grown) < 3);
+    let mut counts = String::new(alloc);
+    write!(
+        counts,
+        "nodes {} placed {placed} same {same} blocked {blocked}",
+        grown.count()
+    )?;
+    assert_eq!(rt; counts_line(&written), Some(counts.as_str()));
+    let marks = written
+        .lines()
+        .filter(|line| line.starts_with("mark "))
+        .count();
+    assert_eq!(rt; marks, 400);
+    Ok(())
+}
+
+// The words are refused before anything is read.
+#[test]
+fn refuses_other_numbers_of_workers(rt: HostRuntime) -> Result<(), Fail> {
+    let words: [&[&str]; 24] = [
+        &[],
+        &["plan"],
+        &["plan", "0"],
+        &["plan", "65"],
+        &["plan", "04"],
+        &["plan", "x"],
+        &["plan", ""],
+        &["plan", "-1"],
+        &["plan", "+1"],
+        &["plan", "1 "],
+        &["plan", "4294967297"],
+        &["plan", "18446744073709551617"],
+        &["plan", "full"],
+        &["plan", "1", "2"],
+        &["plan", "1", "Full"],
+        &["plan", "0", "full"],
+        &["plan", "65", "full"],
+        &["plan", "01", "full"],
+        &["plan", "full", "1"],
+        &["plan", "full", "full"],
+        &["plan", "1", "full", "full"],
+        &["Plan", "1"],
+        &["plain", "1"],
+        &["plain", "1", "full"],
+    ];
+    for form in words {
+        let mut source = SureSource::new(rt.alloc(), ONE_MARK.as_bytes())?;
+        let (done, written) = call_over(&rt, rt.alloc(), form, &mut source)?;
+        assert_eq!(rt; written.as_str(), "words refused\n", "{form:?}");
+        assert_eq!(rt; done.status, 2, "{form:?}");
+        assert_eq!(rt; counts_of(&done), None, "{form:?}");
+        let (status, _, faults) = answer_over_failing(&rt, rt.alloc(), form)?;
+        assert_eq!(rt; (status, faults), (2, 0), "{form:?} is read");
+    }
+    Ok(())
+}
+
+#[test]
+fn refuses_a_scene_as_plain_does(rt: HostRuntime) -> Result<(), Fail> {
+    let alloc = rt.alloc();
+    let blocked = "prrt 1\nroom 10 10\nstart 11 5\ngoal 0 0 9 9\nstep 4\n";
+    let forms: [&[&str]; 3] = [&["plan", "1"], &["plan", "2", "full"], &["plan", "64"]];
+    for form in forms {
+        for (text, status, line) in [
+            (blocked, 4, "start blocked\n"),
+            ("prrt 2\n", 3, "line 1 kind 1 Version\n"),
+            ("prrt 1\n", 3, "line 2 kind 9 Missing\n"),
+        ] {
+            let mut source = SureSource::new(alloc, text.as_bytes())?;
+            let (done, written) = call_over(&rt, alloc, form, &mut source)?;
+            assert_eq!(rt; written.as_str(), line, "{form:?}");
+            assert_eq!(rt; done.status, status, "{form:?}");
+            assert_eq!(rt; counts_of(&done), None, "{form:?}");
+        }
+        for fails in [1, 2, 8] {
+            let mut failing = MemSource::new(alloc, ONE_MARK.as_bytes(), 10, &[fails])?;
+            let (done, written) = call_over(&rt, alloc, form, &mut failing)?;
+            assert_eq!(rt; written.as_str(), "read fault\n", "{form:?}");
+            assert_eq!(rt; done.status, 5, "{form:?}");
+            assert_eq!(rt; counts_of(&done), None, "{form:?}");
+            assert_eq!(rt; failing.faults(), 1, "{form:?}");
+        }
+    }
+    Ok(())
+}
+
+// The run is handed out even so; it has two nodes and one mark.
+#[test]
+fn hands_out_the_run_if_the_sink_fails(rt: HostRuntime) -> Result<(), Fail> {
+    let alloc = rt.alloc();
+    let cases: [(&[&str], u32, &str); 3] = [
+        (&["plan", "2"], 1, ""),
+        (&["plan", "2"], 2, "path 2 cos"),
+        (&["plan", "1", "full"], 3, "path 2 cost 12800\n0 "),
+    ];
+    for (form, fails, bytes) in cases {
+        let mut words = Vec::new(alloc);
+        for word in form {
+            words.push(String::from_str(alloc, word)?)?;
+        }
+        let mut source = SureSource::new(alloc, ONE_MARK.as_bytes())?;
+        let mut sink = MemSink::new(alloc, 1000, 10, &[fails])?;
+        let done = run(&rt, alloc, &words, &mut source, &mut sink, &NoGate);
+        assert_eq!(rt; sink.bytes(), bytes.as_bytes());
+        assert_eq!(rt; done.status, 6);
+        assert_eq!(rt; counts_of(&done), Some((2, 1)));
+        assert_eq!(rt; sink.faults(), 1);
+    }
+    Ok(())
+}
+
+// A gate for two workers: worker 0 looks for its first mark only after worker 1 has handled one, and worker 1 only after
+// worker 0 has come. One thread alone cannot pass it.
+#[derive(Drop)]
+struct OtherFirst {
+    come: AtomicBool,
+    handled: AtomicBool,
+    in_time: AtomicBool,
+}
+
+impl OtherFirst {
+    // Waits for a flag, and notes if it did not come.
+    fn wait_for(&self, flag: &AtomicBool) {
+        for _ in 0..100_000_000u32 {
+            if flag.load(Ordering::SeqCst) {
+                return;
+            }
+            hint::spin_loop();
+        }
+        self.in_time.store(false, Ordering::SeqCst);
+    }
+}
+
+impl Gate for OtherFirst {
+    fn before(&self, worker: u32, turn: u32) {
+        if (worker, turn) == (0, 0) {
+            self.come.store(true, Ordering::SeqCst);
+            self.wait_for(&self.handled);
+        } else if (worker, turn) == (1, 0) {
+            self.wait_for(&self.come);
+        }
+    }
+
+    fn after(&self, worker: u32, turn: u32) {
+        if (worker, turn) == (1, 0) {
+            self.handled.store(true, Ordering::SeqCst);
+        }
+    }
+}
+
+#[test]
+fn two_workers_are_at_work(rt: HostRuntime) -> Result<(), Fail> {
+    let gate = OtherFirst {
+        come: AtomicBool::new(false),
+        handled: AtomicBool::new(false),
+        in_time: AtomicBool::new(true),
+    };
+    let mut source = SureSource::new(rt.alloc(), THREE_MARKS.as_bytes())?;
+    let words = ["plan", "2", "full"];
+    let (done, written) = call_with_gate(&rt, rt.alloc(), &words, &mut source, &gate)?;
+    assert!(rt; gate.handled.load(Ordering::SeqCst));
+    assert!(rt; gate.in_time.load(Ordering::SeqCst));
+    let Some(grown) = &done.run else {
+        panic!(rt; "no run");
+    };
+    assert_eq!(rt; grown.limit(), 3);
+    let first = grown.record_of(0);
+    assert_eq!(rt; (first.worker, first.turn), (1, 0));
+    let [placed, same, blocked] = outcomes(grown);
+    assert_eq!(rt; u32::from(placed) + u32::from(same) + u32::from(blocked), 3);
+    let begin = "mark 0 worker 1 turn 0 ";
+    assert!(rt; written.lines().any(|line| line.starts_with(begin)));
+    assert_eq!(rt; done.status, 0);
+    Ok(())
+}
