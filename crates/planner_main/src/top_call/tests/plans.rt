@@ -2,8 +2,8 @@
 
 use super::*;
 use plan_model::Outcome;
-use std::hint;
 use std::sync::atomic::{AtomicBool, Ordering};
+use std::thread;
 
 // A scene whose only mark is the goal.
 const ONE_MARK: &str = "prrt 1\nroom 100 100\nstart 0 0\ngoal 30 40 30 40\nstep 100\nmark 30 40\n";
@@ -317,7 +317,7 @@ impl OtherFirst {
             if flag.load(Ordering::SeqCst) {
                 return;
             }
-            hint::spin_loop();
+            thread::yield_now();
         }
         self.in_time.store(false, Ordering::SeqCst);
     }
