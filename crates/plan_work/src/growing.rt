@@ -22,9 +22,9 @@ use swept_check::Clearing;
 /// RRT* by several workers over the marks (the samples) of a task below a limit, from a run that has handled none: each
 /// worker handles the next mark of the one run, until none is left. The gate is told of each worker's turns.
 ///
-/// Which worker handles which mark is left to the threads, and with it which of the lawful trees comes. One worker at a time
-/// handles a mark, whole, so that more of them give no more speed: O(n) for each mark, for n marks of the task. Where no thread
-/// can be made the workers run one after another. `hall` is the collision checker of the scene.
+/// Which worker handles which mark is left to the threads, and the contract leaves open which of the lawful trees comes. One
+/// worker at a time handles a mark, whole, so that more of them give no more speed: O(n) for each mark, for n marks of the
+/// task. Where no thread can be made the workers run one after another. `hall` is the collision checker of the scene.
 ///
 /// # Errors
 ///

@@ -4,7 +4,7 @@
 //!
 //! Everything is done by `run`, over any source and any sink. Its contract says what each status means: with 0 and 1 the
 //! text is the report, short or full, of the textbook run of the scene that the bytes read spell, or of a lawful run that
-//! several workers have grown (or, for `show`, that scene's canonical text), or of a generated scene, and the run itself is
+//! one or more workers have grown (or, for `show`, that scene's canonical text), or of a generated scene, and the run itself is
 //! handed out with the status; each refusal has its cause, and which status comes is decided by the bytes if no read or
 //! write fails and memory lasts. The exit code is that of `exit_code`.
 #![tactic(auto)]

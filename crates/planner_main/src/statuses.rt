@@ -1,9 +1,9 @@
 //! The statuses that the program ends with, each said once.
 
-/// The command is done; for `plain`, `plan W` and `trial`, in short or in full, a path was found.
+/// The command is done; for `plain` and `plan W`, in short or in full, and for `trial`, a path was found.
 pub const DONE: u8 = 0;
 
-/// `plain`, `plan W` and `trial`, in short or in full: no node of the tree lies in the goal.
+/// `plain` and `plan W`, in short or in full, and `trial`: no node of the tree lies in the goal.
 pub const NO_PATH: u8 = 1;
 
 /// The words of the command line ask for no command.

@@ -29,7 +29,7 @@ pub struct Done {
 
 /// Does as the words say: for `plain`, reads a scene from the source, plans it by textbook RRT* (Karaman and Frazzoli,
 /// IJRR 2011), and writes the short report to the sink, or for `plain full` the full one; for `plan W` and `plan W full` the
-/// same, but `W` workers grow the run, each in a thread of its own, and the gate is told of their turns; for `show`, reads a
+/// same, but `W` workers grow the run, each in a thread of its own if one can be made, and the gate is told of their turns; for `show`, reads a
 /// scene and writes its canonical text. For `gen` and `trial` it reads nothing: it writes the text of a generated scene, or
 /// plans that scene and writes the report without the points of its path.
 ///
