@@ -29,9 +29,9 @@ pub struct Done {
 
 /// Does as the words say: for `plain`, reads a scene from the source, plans it by textbook RRT* (Karaman and Frazzoli,
 /// IJRR 2011), and writes the short report to the sink, or for `plain full` the full one; for `plan W` and `plan W full` the
-/// same, but `W` workers grow the run, each in a thread of its own if one can be made, and the gate is told of their turns; for `show`, reads a
-/// scene and writes its canonical text. For `gen` and `trial` it reads nothing: it writes the text of a generated scene, or
-/// plans that scene and writes the report without the points of its path.
+/// same, but `W` workers grow the run, each in a thread of its own if one can be made, and the gate is told of their turns;
+/// for `show`, reads a scene and writes its canonical text. For `gen` and `trial` it reads nothing: it writes the text of a
+/// generated scene, or plans that scene and writes the report without the points of its path.
 ///
 /// The text is made whole before anything is written. Each status but `WRITE_FAULT` has one text, which the sink takes
 /// whole; with `WRITE_FAULT` the sink failed, and took a proper prefix of the text. The run that was reported is handed out
