@@ -8,11 +8,11 @@ use Rattle.plan_model.specs.declared.geometry.Point.{Point}
 use Rattle.plan_model.specs.PointsByNumber.{point_at, StandsAt, point_of}
 use Rattle.plan_model.specs.Ways.{goes_right, AddsPoint, LinksAt}
 use Rattle.plan_model.proofs.NewNodes.{IsPresent-stands, StandsAt-present}
-use Rattle.plan_model.proofs.WayLinks.{AddsPoint-stands, FollowWays-links, new_or_old_child}
+use Rattle.plan_model.proofs.WayLinks.{AddsPoint-stands, FillsPlaces-links, FollowWays-links, new_or_old_child}
 use Rattle.step_core.specs.WordPlaces.{Sizes, place_of_count, counter_place, point_place, child_place, tree_place, first_place, record_place, word_count}
 use Rattle.step_core.specs.Words.{point_in, point_of_word, record_of_word}
 use Rattle.step_core.specs.GrownWords.{Words, words_of, record_at, has_placed, has_node, node_point, points_of_words, child_of_word, children_of_words}
-use Rattle.step_core.specs.KdLinks.{points_below, AreLinkedBelow, LinksRise, IsFreeBelow, EndsAt, MayLink, ChangesChildren}
+use Rattle.step_core.specs.KdLinks.{points_below, AreLinkedBelow, KeepsChildren, LinksRise, IsFreeBelow, EndsAt, MayLink, ChangesChildren}
 use Rattle.step_core.proofs.KdWays.{child_of_word-some, child-word, child_place-within, point_in-stands}
 use Rattle.step_core.proofs.KdWays.{point_at-lesser, point_at-greater, present-lesser, stands-lesser}
 use Rattle.step_core.proofs.GrownPoints.{present-within}
@@ -165,6 +165,14 @@ module _
           (points_below sizes after (m + 1)) q ends.depth ends.above m ends.p may.linked.ways ends.ends adds links;
       start = ap is_some (kept 0 (λ e. not_start (sym e))) ∙ may.linked.start;
     }
+
+    -- Its place was empty, so each child stays where it was.
+    pub KeepsChildren-more : KeepsChildren (children_of_words sizes before) (children_of_words sizes after)
+    KeepsChildren-more =
+        let fills =
+        FillsPlaces-links (children_of_words sizes before) (children_of_words sizes after) (points_below sizes before m)
+        (points_below sizes after (m + 1)) q ends.above (goes_right ends.depth ends.p q) m links adds in
+        fills.children
 
     -- It stands below a node of a lesser number, so if all others did, all do.
     pub LinksRise-more : LinksRise (children_of_words sizes before) → LinksRise (children_of_words sizes after)

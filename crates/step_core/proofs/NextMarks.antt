@@ -1,6 +1,6 @@
 -- The next mark of a finished run, from what is known of the run: that its fields fit their words, that its node may be linked, and
 -- that the run with it is finished.
-use Rattle.std.proofs.Common.{◌≡◌, ℕ, suc, ◌+◌, ◌<◌, ◌≤◌, ◌^◌, ◌%◌, true, false, List, length, get_or, refl, arith, sym, ap, subst}
+use Rattle.std.proofs.Common.{◌≡◌, ℕ, suc, ◌+◌, ◌<◌, ◌≤◌, ◌^◌, ◌%◌, true, false, List, length, get_or, refl, arith, sym, ap, ◌∙◌, subst}
 use Rattle.std.specs.Prelude.{All, ◌==◌}
 use Rattle.std.proofs.Math.Logic.{∥∥₁_map₂}
 use Rattle.std.proofs.lemmas.Bool.{eq-eqb, eqb-true}
@@ -21,8 +21,8 @@ use Rattle.plan_model.specs.Textbook.{setup_of}
 use Rattle.plan_model.specs.TreeStates.{TreeState, AreSameRuns}
 use Rattle.step_core.specs.WordPlaces.{Sizes, place_of_count, counter_place}
 use Rattle.step_core.specs.Words.{point_in}
-use Rattle.step_core.specs.GrownWords.{Words, has_node, points_of_words, state_of_words, sizes_of, HoldRun}
-use Rattle.step_core.specs.KdLinks.{AreLinkedBelow, ChangesChildren, MayLink}
+use Rattle.step_core.specs.GrownWords.{Words, has_node, points_of_words, state_of_words, children_of_words, sizes_of, HoldRun}
+use Rattle.step_core.specs.KdLinks.{AreLinkedBelow, ChangesChildren, KeepsChildren, MayLink}
 use Rattle.step_core.specs.MarkWrites.{MayMove, WritesNewNode}
 use Rattle.step_core.specs.PackedRuns.{FitsNode, FitsRecord}
 use Rattle.step_core.proofs.GrownPoints.{node_count-words, present-within}
@@ -30,9 +30,9 @@ use Rattle.step_core.proofs.HeldRuns.{counted-held, none_past-held, claimed-held
 use Rattle.step_core.proofs.LinkedMarks.{start_was, MayLink-placed, AreSameRuns-marked, HoldRun-placed}
 use Rattle.step_core.proofs.MarkStates.{knot_of, with_placed, other-present, FitsRecord-marked, IsBounded-placed, cost_below-low}
 use Rattle.step_core.proofs.PackedWritings.{quota_of-le}
-use Rattle.step_core.proofs.PlacedMarks.{PlacesMark, noded-point}
-use Rattle.step_core.proofs.RecordedMarks.{RecordsMark, word-unrecorded}
-use Rattle.step_core.proofs.UnplacedMarks.{AreSameRuns-unplaced, HoldRun-unplaced}
+use Rattle.step_core.proofs.PlacedMarks.{PlacesMark, noded-point, child-placed}
+use Rattle.step_core.proofs.RecordedMarks.{RecordsMark, children-kept, word-unrecorded}
+use Rattle.step_core.proofs.UnplacedMarks.{AreSameRuns-unplaced, children-same, HoldRun-unplaced}
 
 next_number : (k : ℕ) → k + 1 ≡ suc k
 next_number k = omega arith
@@ -100,6 +100,13 @@ module _
           (∥∥₁_map₂ closed_next run
           (HoldRun-unplaced task k entry p moved before recorded records_of_task strip left FitsRecord-next
           (none_past-held task k before run (suc k) (omega arith)) unplaced))
+
+      -- the kd-tree stays
+      pub KeepsChildren-next_unplaced : KeepsChildren (children_of_words (sizes_of task) before) (children_of_words (sizes_of task) recorded)
+      KeepsChildren-next_unplaced n c side h =
+          children-same (sizes_of task) k entry before recorded records_of_task strip left FitsRecord-next
+          (none_past-held task k before run (suc k) (omega arith)) unplaced n side
+          ∙ h
 
   -- ---- a placed mark
 
@@ -190,3 +197,13 @@ module _
             (∥∥₁_map₂ closed_tree run
             (HoldRun-placed task k entry p moved before full writes_of_task strip left none_past present_among is closed_tree after change_of_task
             (k + 1 + 1) (omega arith) (subst (λ s. AreLinkedBelow s after (k + 1 + 1)) same linked)))
+
+        -- If the link keeps each child, it is where it was before the mark.
+        pub KeepsChildren-next_placed :
+            KeepsChildren (children_of_words sizes full) (children_of_words sizes after)
+            → KeepsChildren (children_of_words (sizes_of task) before) (children_of_words (sizes_of task) after)
+        KeepsChildren-next_placed keeps n c side h =
+            let still =
+            children-kept (sizes_of task) before full
+            (child-placed (sizes_of task) k entry p moved before full writes_of_task strip left absent present_among) n side in
+            subst (λ s. KeepsChildren (children_of_words s full) (children_of_words s after)) same keeps n c side (still ∙ h)

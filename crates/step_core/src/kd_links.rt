@@ -4,7 +4,7 @@
 ghost use Rattle.std.specs.Prelude.{◌≡◌, ◌≤◌, ◌+◌, None, is_some, length, slice_index_or};
 ghost use Rattle.plan_model.specs.Ways.{FollowWays, goes_right};
 ghost use Rattle.step_core.specs.GrownWords.{children_of_words, points_of_words, words_of};
-ghost use Rattle.step_core.specs.KdLinks.{AreLinkedBelow, AreUnlinked, ChangesChildren, EndsAt, IsFreeBelow, LinksRise, MayLink};
+ghost use Rattle.step_core.specs.KdLinks.{AreLinkedBelow, AreUnlinked, ChangesChildren, EndsAt, IsFreeBelow, KeepsChildren, LinksRise, MayLink};
 ghost use Rattle.step_core.specs.PlacesOfWords.{sizes_in};
 ghost use Rattle.step_core.specs.WordPlaces.{point_place, word_count};
 ghost use Rattle.step_core.specs.Words.{point_in};
@@ -33,6 +33,7 @@ pub(crate) fn link(words: &mut [u64], places: WordPlaces, node: usize)
     requires sized { length words.old ≡ word_count (sizes_in places) }
     requires may_link { MayLink (sizes_in places) (words_of words.old) node }
     ensures linked { AreLinkedBelow (sizes_in places) (words_of words.new) (node + 1) }
+    ensures children { KeepsChildren (children_of_words (sizes_in places) (words_of words.old)) (children_of_words (sizes_in places) (words_of words.new)) }
     ensures rise { LinksRise (children_of_words (sizes_in places) (words_of words.old)) → LinksRise (children_of_words (sizes_in places) (words_of words.new)) }
     ensures others { ChangesChildren (sizes_in places) (words_of words.old) (words_of words.new) }
 {

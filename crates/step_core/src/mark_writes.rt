@@ -8,7 +8,8 @@ ghost use Rattle.plan_model.specs.HandledMarks.{with_mark};
 ghost use Rattle.plan_model.specs.PointsByNumber.{IsPresent};
 ghost use Rattle.plan_model.specs.Textbook.{setup_of};
 ghost use Rattle.plan_model.specs.TreeStates.{AreSameRuns};
-ghost use Rattle.step_core.specs.GrownWords.{HoldRun, points_of_words, sizes_of, state_of_words, words_of};
+ghost use Rattle.step_core.specs.GrownWords.{HoldRun, children_of_words, points_of_words, sizes_of, state_of_words, words_of};
+ghost use Rattle.step_core.specs.KdLinks.{KeepsChildren};
 ghost use Rattle.step_core.specs.MarkWrites.{CountsMark, MayMove, MovesNodes, WritesNewNode};
 ghost use Rattle.step_core.specs.PackedRuns.{FitsNode};
 ghost use Rattle.step_core.specs.PlacesOfWords.{sizes_in};
@@ -41,6 +42,7 @@ pub(crate) fn write_mark(
     ensures run { ∥ HoldRun task.now (mark + 1) (words_of words.new) ∥₁ }
     ensures state { AreSameRuns (with_mark (state_of_words (sizes_of task.now) (words_of words.old)) mark entry.now p moved.now)
         (state_of_words (sizes_of task.now) (words_of words.new)) }
+    ensures children { KeepsChildren (children_of_words (sizes_of task.now) (words_of words.old)) (children_of_words (sizes_of task.now) (words_of words.new)) }
 {
     let places = WordPlaces::of(task);
     count_mark(words, places, mark);

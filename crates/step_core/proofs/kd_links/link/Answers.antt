@@ -5,7 +5,7 @@ use Rattle.step_core.specs.PlacesOfWords.{sizes_in}
 use Rattle.step_core.specs.Words.{point_in}
 use Rattle.step_core.proofs.GrownPoints.{present-within}
 use Rattle.step_core.proofs.KdWays.{child_place-within}
-use Rattle.step_core.proofs.LinkedWords.{IsFreeBelow-own, WritesChild-set, ChangesChildren-written, AreLinkedBelow-more, LinksRise-more}
+use Rattle.step_core.proofs.LinkedWords.{IsFreeBelow-own, WritesChild-set, ChangesChildren-written, AreLinkedBelow-more, KeepsChildren-more, LinksRise-more}
 use Rattle.step_core.proofs.kd_links.link.Goals as goal
 
 pub point-requires : goal.point-requires
@@ -55,6 +55,9 @@ returns c =
     record {
       linked =
           AreLinkedBelow-more sizes (words_of c.args.words.now) c.args.node c.requires.may_link c.point_in-point.result
+          (c.point_in-point.ensures ∙ ap (λ i. point_in (words_of c.args.words.now i)) c.point.ensures) _ c.end_of_way-place.result ends writes;
+      children =
+          KeepsChildren-more sizes (words_of c.args.words.now) c.args.node c.requires.may_link c.point_in-point.result
           (c.point_in-point.ensures ∙ ap (λ i. point_in (words_of c.args.words.now i)) c.point.ensures) _ c.end_of_way-place.result ends writes;
       rise =
           LinksRise-more sizes (words_of c.args.words.now) c.args.node c.requires.may_link c.point_in-point.result

@@ -6,6 +6,7 @@ use Rattle.step_core.proofs.MarkStates.{unplaced-other}
 use Rattle.step_core.proofs.PlacedMarks.{PlacesMark}
 use Rattle.step_core.proofs.RecordedMarks.{RecordsMark}
 use Rattle.step_core.proofs.NextMarks.{FitsRecord-next, counter-next, count-next, AreSameRuns-next_unplaced, HoldRun-next_unplaced}
+use Rattle.step_core.proofs.NextMarks.{KeepsChildren-next_placed, KeepsChildren-next_unplaced}
 use Rattle.step_core.proofs.NextMarks.{IsBounded-next, FitsNode-next, MayMove-next, MayLink-next, AreSameRuns-next_placed, HoldRun-next_placed}
 use Rattle.step_core.proofs.mark_writes.write_mark.Goals as goal
 
@@ -111,6 +112,10 @@ returns-in-Placed c =
           AreSameRuns-next_placed c.args.task.now c.args.mark c.args.entry.now c.args.p c.args.moved.now (sizes_in c.of-places.result) same
           (words_of c.args.words.now) c.requires.run c.requires.left c.requires.nodes c.requires.closed c.in-Placed.is (words_of c.move_nodes.new.words)
           writes (words_of c.link.new.words) c.link.ensures.others c.link.ensures.linked;
+      children =
+          KeepsChildren-next_placed c.args.task.now c.args.mark c.args.entry.now c.args.p c.args.moved.now (sizes_in c.of-places.result) same
+          (words_of c.args.words.now) c.requires.run c.requires.left c.requires.nodes c.requires.closed c.in-Placed.is (words_of c.move_nodes.new.words)
+          writes (words_of c.link.new.words) c.link.ensures.others c.link.ensures.linked c.link.ensures.children;
     }
 
 pub returns-in_default : goal.returns-in_default
@@ -132,6 +137,10 @@ returns-in_default c =
           unplaced;
       state =
           AreSameRuns-next_unplaced c.args.task.now c.args.mark c.args.entry.now c.args.p c.args.moved.now (sizes_in c.of-places.result) same
+          (words_of c.args.words.now) c.requires.run c.requires.left c.requires.nodes c.requires.closed (words_of c.write_record.new.words) records
+          unplaced;
+      children =
+          KeepsChildren-next_unplaced c.args.task.now c.args.mark c.args.entry.now c.args.p c.args.moved.now (sizes_in c.of-places.result) same
           (words_of c.args.words.now) c.requires.run c.requires.left c.requires.nodes c.requires.closed (words_of c.write_record.new.words) records
           unplaced;
     }

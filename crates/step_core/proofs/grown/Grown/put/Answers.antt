@@ -7,7 +7,8 @@ use Rattle.plan_model.specs.PointsByNumber.{IsPresent}
 use Rattle.plan_model.specs.Textbook.{setup_of}
 use Rattle.plan_model.specs.TreeStates.{AreSameRuns}
 use Rattle.plan_model.proofs.MarkBounds.{length-marks}
-use Rattle.step_core.specs.GrownWords.{points_of_words, sizes_of, state_of_words, words_of}
+use Rattle.step_core.specs.GrownWords.{children_of_words, points_of_words, sizes_of, state_of_words, words_of}
+use Rattle.step_core.specs.KdLinks.{KeepsChildren}
 use Rattle.step_core.proofs.grown.Grown.put.Goals as goal
 
 pub write_mark-requires-clause-nodes : goal.write_mark-requires-clause-nodes
@@ -44,3 +45,13 @@ returns-clause-state c =
     AreSameRuns (with_mark (state_of_words sizes (words_of list)) old.limit c.args.entry.now c.args.p c.args.moved.now)
     (state_of_words sizes (words_of c.write_mark.new.words)))
     c.deref_mut.ensures.value c.write_mark.ensures.state)
+
+pub returns-clause-children : goal.returns-clause-children
+returns-clause-children c =
+    let old = c.args.self.now in
+    let sizes = sizes_of c.args.self.now.task in
+    let long : length c.write_mark.new.words ≡ old.words.len = c.write_mark.auto.words ∙ c.deref_mut.ensures.len in
+    subst (λ list. KeepsChildren (children_of_words sizes (words_of old.words.items)) (children_of_words sizes (words_of list)))
+    (sym (with_items_is old.words c.write_mark.new.words long))
+    (subst (λ list. KeepsChildren (children_of_words sizes (words_of list)) (children_of_words sizes (words_of c.write_mark.new.words)))
+    c.deref_mut.ensures.value c.write_mark.ensures.children)
