@@ -160,8 +160,8 @@ impl Grown {
     }
 
     /// Records the next mark: its record, and its strip's count of marks. If it was placed, node `limit + 1` stands at `p` under
-    /// the first parent at the first cost, and each node of `moved` hangs below it at the first cost and the edge. All else stays,
-    /// and in the kd-tree each child stays where it is. O(d + m) for d nodes on the way of the point and m moved nodes.
+    /// the first parent at the first cost, and each node of `moved` hangs below it at the first cost and the edge. All else stays.
+    /// O(d + m) for d nodes on the way of the point and m moved nodes.
     pub fn put(&mut self, entry: &Record, p: Point, moved: &[u32])
         requires left { self.old.limit < length self.old.task.marks }
         requires nodes { All (IsPresent (state_of_grown self.old).points) moved.now }
@@ -170,6 +170,7 @@ impl Grown {
         ensures task { self.new.task ≡ self.old.task }
         ensures limit { self.new.limit ≡ self.old.limit + 1 }
         ensures state { AreSameRuns (with_mark (state_of_grown self.old) self.old.limit entry.now p moved.now) (state_of_grown self.new) }
+        // the kd-tree grows: each child stays where it is
         ensures children { KeepsChildren (children_of_grown self.old) (children_of_grown self.new) }
     {
         write_mark(

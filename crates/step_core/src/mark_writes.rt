@@ -42,7 +42,8 @@ pub(crate) fn write_mark(
     ensures run { ∥ HoldRun task.now (mark + 1) (words_of words.new) ∥₁ }
     ensures state { AreSameRuns (with_mark (state_of_words (sizes_of task.now) (words_of words.old)) mark entry.now p moved.now)
         (state_of_words (sizes_of task.now) (words_of words.new)) }
-    ensures children { KeepsChildren (children_of_words (sizes_of task.now) (words_of words.old)) (children_of_words (sizes_of task.now) (words_of words.new)) }
+    ensures children { KeepsChildren (children_of_words (sizes_of task.now) (words_of words.old))
+        (children_of_words (sizes_of task.now) (words_of words.new)) }
 {
     let places = WordPlaces::of(task);
     count_mark(words, places, mark);
