@@ -22,6 +22,22 @@ mark 40 79
 mark 40 30
 ";
 
+// A scene of two obstacles and 400 drawn marks.
+const DRAWN_MARKS: &str = "\
+prrt 1
+room 200 100
+body 0 0 10 0 10 10 0 10
+obstacle 90 0 110 0 110 60 90 60
+obstacle 40 50 60 50 50 70
+start 20 20
+goal 150 10 189 60
+step 30
+gamma 500
+seed 3
+strips 3
+marks 400
+";
+
 // How many marks of a run were placed, ended at a node, and were blocked, each at most 65535.
 fn outcomes(grown: &Grown) -> [u16; 3] {
     let [mut placed, mut same, mut blocked] = [0_u16; 3];
@@ -45,6 +61,18 @@ fn greatest_worker(grown: &Grown) -> u32 {
         }
     }
     greatest
+}
+
+// The line of a report that counts the nodes and the marks of each outcome of this run.
+fn counts_written(alloc: Global, grown: &Grown) -> Result<String, Fail> {
+    let [placed, same, blocked] = outcomes(grown);
+    let mut counts = String::new(alloc);
+    write!(
+        counts,
+        "nodes {} placed {placed} same {same} blocked {blocked}",
+        grown.count()
+    )?;
+    Ok(counts)
 }
 
 // The line of a report that counts the nodes and the marks of each outcome.
@@ -101,7 +129,7 @@ fn plans_by_any_number_of_workers(rt: HostRuntime) -> Result<(), Fail> {
         ),
     ];
     for (workers, text, status, counts, report) in cases {
-        let mut source = SureSource::new(rt.alloc(), text.as_bytes())?;
+        let mut source = MemSource::new(rt.alloc(), text.as_bytes(), 1000, &[])?;
         let (done, written) = call_over(&rt, rt.alloc(), &["plan", workers], &mut source)?;
         assert_eq!(rt; written.as_str(), report, "by {workers}");
         assert_eq!(rt; done.status, status, "by {workers}");
@@ -172,13 +200,11 @@ mark 2 worker 0 turn 2 nearest 1 blocked\n",
     Ok(())
 }
 
-// Each mark has a line, by one of the workers.
+// Each mark has a line, by one of the workers. The tree is that of one worker, so all of them look at the same nodes.
 #[test]
 fn plans_hundreds_of_marks_by_three_workers(rt: HostRuntime) -> Result<(), Fail> {
     let alloc = rt.alloc();
-    let text = "prrt 1\nroom 200 100\nbody 0 0 10 0 10 10 0 10\nobstacle 90 0 110 0 110 60 90 60\n\
-obstacle 40 50 60 50 50 70\nstart 20 20\ngoal 150 10 189 60\nstep 30\ngamma 500\nseed 3\nstrips 3\nmarks 400\n";
-    let mut source = SureSource::new(alloc, text.as_bytes())?;
+    let mut source = SureSource::new(alloc, DRAWN_MARKS.as_bytes())?;
     let (done, written) = call_over(&rt, alloc, &["plan", "3", "full"], &mut source)?;
     let Some(grown) = &done.run else {
         panic!(rt; "no run");
@@ -191,18 +217,38 @@ obstacle 40 50 60 50 50 70\nstart 20 20\ngoal 150 10 189 60\nstep 30\ngamma 500\
     assert_eq!(rt; grown.limit(), 400);
     assert_eq!(rt; grown.count(), u32::from(placed) + 1);
     assert!(rt; greatest_worker(grown) < 3);
-    let mut counts = String::new(alloc);
-    write!(
-        counts,
-        "nodes {} placed {placed} same {same} blocked {blocked}",
-        grown.count()
-    )?;
+    let counts = counts_written(alloc, grown)?;
     assert_eq!(rt; counts_line(&written), Some(counts.as_str()));
     let marks = written
         .lines()
         .filter(|line| line.starts_with("mark "))
         .count();
     assert_eq!(rt; marks, 400);
+    let (_, by_three) = answer_to_text(&rt, alloc, &["plan", "3"], DRAWN_MARKS)?;
+    let (_, by_one) = answer_to_text(&rt, alloc, &["plan", "1"], DRAWN_MARKS)?;
+    assert_eq!(rt; by_three.as_str(), by_one.as_str());
+    Ok(())
+}
+
+#[test]
+fn plans_a_generated_scene_by_four_workers(rt: HostRuntime) -> Result<(), Fail> {
+    let alloc = rt.alloc();
+    let (_, text, _) = answer_over_failing(&rt, alloc, &["gen", "9"])?;
+    let mut source = MemSource::new(alloc, text.as_bytes(), 1000, &[])?;
+    let (done, written) = call_over(&rt, alloc, &["plan", "4"], &mut source)?;
+    let Some(grown) = &done.run else {
+        panic!(rt; "no run");
+    };
+    assert_eq!(rt; grown.limit(), 20_000);
+    let [placed, same, blocked] = outcomes(grown);
+    assert_eq!(rt;
+        u32::from(placed) + u32::from(same) + u32::from(blocked),
+        20_000
+    );
+    assert_eq!(rt; grown.count(), u32::from(placed) + 1);
+    let counts = counts_written(alloc, grown)?;
+    assert_eq!(rt; written.lines().last(), Some(counts.as_str()));
+    assert!(rt; done.status <= 1);
     Ok(())
 }
 
@@ -301,12 +347,14 @@ fn hands_out_the_run_if_the_sink_fails(rt: HostRuntime) -> Result<(), Fail> {
     Ok(())
 }
 
-// A gate for two workers: worker 0 looks for its first mark only after worker 1 has handled one, and worker 1 only after
-// worker 0 has come. One thread alone cannot pass it.
+// A gate for two workers: worker 1 looks for its first mark only after worker 0 has come, and worker 0 only after worker 1
+// has handled one; worker 1 then waits until worker 0 has handled one too. One thread alone cannot pass it, nor can two of
+// which one keeps the run to itself while the gate is told.
 #[derive(Drop)]
 struct OtherFirst {
     come: AtomicBool,
     handled: AtomicBool,
+    answered: AtomicBool,
     in_time: AtomicBool,
 }
 
@@ -336,6 +384,9 @@ impl Gate for OtherFirst {
     fn after(&self, worker: u32, turn: u32) {
         if (worker, turn) == (1, 0) {
             self.handled.store(true, Ordering::SeqCst);
+            self.wait_for(&self.answered);
+        } else if (worker, turn) == (0, 0) {
+            self.answered.store(true, Ordering::SeqCst);
         }
     }
 }
@@ -345,12 +396,13 @@ fn two_workers_are_at_work(rt: HostRuntime) -> Result<(), Fail> {
     let gate = OtherFirst {
         come: AtomicBool::new(false),
         handled: AtomicBool::new(false),
+        answered: AtomicBool::new(false),
         in_time: AtomicBool::new(true),
     };
-    let mut source = SureSource::new(rt.alloc(), THREE_MARKS.as_bytes())?;
+    let mut source = MemSource::new(rt.alloc(), THREE_MARKS.as_bytes(), 1000, &[])?;
     let words = ["plan", "2", "full"];
     let (done, written) = call_with_gate(&rt, rt.alloc(), &words, &mut source, &gate)?;
-    assert!(rt; gate.handled.load(Ordering::SeqCst));
+    assert!(rt; gate.answered.load(Ordering::SeqCst));
     assert!(rt; gate.in_time.load(Ordering::SeqCst));
     let Some(grown) = &done.run else {
         panic!(rt; "no run");
@@ -358,10 +410,23 @@ fn two_workers_are_at_work(rt: HostRuntime) -> Result<(), Fail> {
     assert_eq!(rt; grown.limit(), 3);
     let first = grown.record_of(0);
     assert_eq!(rt; (first.worker, first.turn), (1, 0));
+    let second = grown.record_of(1);
+    assert_eq!(rt; (second.worker, second.turn), (0, 0));
+    assert_eq!(rt;
+        (second.nearest, second.first_parent, second.first_cost),
+        (1, 1, 25_449)
+    );
     let [placed, same, blocked] = outcomes(grown);
     assert_eq!(rt; u32::from(placed) + u32::from(same) + u32::from(blocked), 3);
-    let begin = "mark 0 worker 1 turn 0 ";
-    assert!(rt; written.lines().any(|line| line.starts_with(begin)));
+    for begin in [
+        "mark 0 worker 1 turn 0 ",
+        "mark 1 worker 0 turn 0 nearest 1 ",
+    ] {
+        assert!(rt;
+            written.lines().any(|line| line.starts_with(begin)),
+            "{begin}"
+        );
+    }
     assert_eq!(rt; done.status, 0);
     Ok(())
 }
