@@ -8,6 +8,7 @@ use Rattle.plan_model.specs.declared.geometry.Point.{Point}
 use Rattle.plan_model.specs.Geometry.{squared_distance}
 use Rattle.plan_model.specs.PointsByNumber.{point_at, IsFree}
 use Rattle.plan_model.specs.Nearness.{is_within}
+use Rattle.plan_model.proofs.SamePoints.{point_is}
 
 -- points with no distance are the same
 zero_difference : (a b : ℕ) → abs_diff a b * abs_diff a b ≤ 0 → a ≡ b
@@ -22,9 +23,7 @@ pub same-from_distance : (a b : Point) → squared_distance a b ≤ 0 → a ≡ 
 same-from_distance a b h =
     let x : a.x ≡ b.x = zero_difference a.x b.x (omega arith) in
     let y : a.y ≡ b.y = zero_difference a.y b.y (omega arith) in
-    let move_x : ℕ → Point = λ u. record { x = u; y = a.y } in
-    let move_y : ℕ → Point = λ v. record { x = b.x; y = v } in
-    ap move_x x ∙ ap move_y y
+    point_is a b x y
 
 -- a node is not within radius 0 of a point at which none stands
 pub is_near_free : (points : List (Option Point)) (p : Point) (i : ℕ) → IsFree points p → (o : Option Point) → point_at points i ≡ o → is_within p 0 o ≡ false

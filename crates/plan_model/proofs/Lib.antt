@@ -1,4 +1,5 @@
 pub mod RootLaws
+pub mod SamePoints
 pub mod EmptyRoomClearance
 pub mod ChainLaws
 pub mod TreeChanges

@@ -12,6 +12,7 @@ use Rattle.plan_model.specs.Geometry.{squared_distance, IsInBoxOf}
 use Rattle.plan_model.specs.Roots.{IsRootCeiling, root_ceiling}
 use Rattle.plan_model.specs.Steering.{IsStep, advanced, steered}
 use Rattle.plan_model.proofs.RootLaws.{root_ceiling-is, lt-from_squares}
+use Rattle.plan_model.proofs.SamePoints.{point_is}
 
 forwards : (from step len d : ℕ) (z : ℤ) → z ≡ pos d → unsigned_abs (pos from +ℤ int_div (z *ℤ pos step) (pos len)) ≡ from + (d * step) / len
 forwards from step len d z e = rw e refl
@@ -165,9 +166,7 @@ corner_of_box a b p box far =
     let x = split a.x b.x p.x box.left box.right in
     let y = split a.y b.y p.y box.bottom box.top in
     let rests = rests_are_none _ _ _ _ (abs_diff a.x p.x) (abs_diff a.y p.y) x y far in
-    let move_x : ℕ → Point = λ u. record { x = u; y = p.y } in
-    let move_y : ℕ → Point = λ v. record { x = a.x; y = v } in
-    ap move_x (same_coordinate a.x p.x rests.0) ∙ ap move_y (same_coordinate a.y p.y rests.1)
+    point_is p a (same_coordinate a.x p.x rests.0) (same_coordinate a.y p.y rests.1)
 
 pub steered-nearer : (a b : Point) (step : ℕ) → steered a b step ≢ a → squared_distance (steered a b step) b < squared_distance a b
 steered-nearer a b step moved =

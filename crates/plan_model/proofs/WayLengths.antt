@@ -1,7 +1,6 @@
 -- The nodes of a way through a kd-tree are different, so it is no longer than nodes are present, and it comes to an end.
 use Rattle.std.proofs.Common.{◌≡◌, ℕ, zero, suc, ◌+◌, ◌<◌, ◌≤◌, List, set, Option, Some, None, arith, sym, ap, ◌∙◌, subst, inl, inr}
-use Rattle.std.specs.Prelude.{◌≢◌, ◌⊎◌, is_some}
-use Rattle.std.proofs.lemmas.Bool.{cases_eq}
+use Rattle.std.specs.Prelude.{◌⊎◌, is_some}
 use Rattle.std.proofs.lemmas.List.{get_or-set_same, get_or-set_other}
 use Rattle.plan_model.specs.declared.geometry.Point.{Point}
 use Rattle.plan_model.specs.PointsByNumber.{point_at, point_of, StandsAt, IsPresent, IsFree, node_count}
@@ -9,6 +8,7 @@ use Rattle.plan_model.specs.Ways.{Children, IsOnWay, EndsBelow, FollowWays}
 use Rattle.plan_model.specs.Ways.IsOnWay.{begins}
 use Rattle.plan_model.proofs.NewNodes.{StandsAt-present}
 use Rattle.plan_model.proofs.NodeCounts.{node_count-one_more}
+use Rattle.plan_model.proofs.SamePoints.{same_or_other}
 use Rattle.plan_model.proofs.DistinctPoints.{IsPresent-below}
 use Rattle.plan_model.proofs.WayLaws.{last_step, way_goes_on, IsOnWay-depth, IsOnWay-present}
 
@@ -29,19 +29,7 @@ record LeavesOut (child : Children) (points : List (Option Point)) (q : Point) (
   count : node_count points ≡ node_count fewer + suc depth
   others : (i : ℕ) → ((e : ℕ) → e ≤ depth → ¬ IsOnWay child points q e i) → point_at fewer i ≡ point_at points i
 
--- ---- a point is another, or the same
-
-pub same_or_other : (p q : Point) → (p ≡ q) ⊎ (p ≢ q)
-same_or_other p q =
-    let horizontal : ℕ → Point = λ u. record { x = u; y = p.y } in
-    let vertical : ℕ → Point = λ v. record { x = q.x; y = v } in
-    elim (cases_eq p.x q.x) [
-      | inl same ↦ elim (cases_eq p.y q.y) [
-        | inl also ↦ inl (ap horizontal same ∙ ap vertical also)
-        | inr apart ↦ inr (λ e. apart (ap (λ (r : Point). r.y) e))
-      ]
-      | inr apart ↦ inr (λ e. apart (ap (λ (r : Point). r.x) e))
-    ]
+-- ---- ways
 
 module _ (child : Children) (points : List (Option Point)) (follow : FollowWays child points) (start : IsPresent points 0) (q : Point) where
   leave_out : (depth n : ℕ) → IsOnWay child points q depth n → LeavesOut child points q depth

@@ -4,5 +4,4 @@ pub mod HandledWorkers
 pub mod HeldNodes
 pub mod NumberScans
 pub mod OpenNodes
-pub mod SamePoints
 pub mod SteeredMarks

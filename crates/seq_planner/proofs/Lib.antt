@@ -1,4 +1,3 @@
-pub mod SamePoints
 pub mod PlacedLists
 pub mod ScannedLists
 pub mod GreatestAndLeast

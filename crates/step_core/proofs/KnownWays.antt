@@ -11,8 +11,9 @@ use Rattle.plan_model.specs.PointsByNumber.{point_at, IsPresent}
 use Rattle.plan_model.specs.Ways.{Children, IsOnWay, FollowWays}
 use Rattle.plan_model.specs.Ways.IsOnWay.{begins}
 use Rattle.plan_model.proofs.NodeCounts.{node_count-length}
+use Rattle.plan_model.proofs.SamePoints.{same_or_other}
 use Rattle.plan_model.proofs.WayLaws.{last_step, not_empty, IsOnWay-unique, way_stops, way_ends, way_goes_on}
-use Rattle.plan_model.proofs.WayLengths.{same_or_other, depth_below}
+use Rattle.plan_model.proofs.WayLengths.{depth_below}
 
 module _ (child : Children) (points : List (Option Point)) (q : Point) where
   -- the node at a depth, or that the way is not so long

@@ -10,9 +10,9 @@ use Rattle.plan_model.specs.Radius.{class_of, radius_of}
 use Rattle.plan_model.specs.Textbook.{setup_of, near_new, cost_through}
 use Rattle.plan_model.specs.Trees.{points_of}
 use Rattle.plan_model.proofs.DistinctPoints.{near-present}
+use Rattle.plan_model.proofs.SamePoints.{same_point-true, same_point-false}
 use Rattle.seq_planner.specs.SearchTrees.{IsOpenTo}
 use Rattle.seq_planner.proofs.PlacedLists.{ArePlaced-bounded}
-use Rattle.seq_planner.proofs.SamePoints.{same_point-true, same_point-false}
 use Rattle.seq_planner.proofs.SoundTrees.{IsBounded-present, some_present}
 use Rattle.seq_planner.proofs.MarkExtensions.{Steers, IsFree-steered, IsExtensionOf-same, IsExtensionOf-blocked, IsExtensionOf-placed}
 use Rattle.seq_planner.proofs.search_tree.SearchTree.extension.Goals as goal

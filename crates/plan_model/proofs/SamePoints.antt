@@ -1,19 +1,33 @@
 -- Whether two points are the same.
-use Rattle.std.proofs.Common.{◌≡◌, ℕ, Bool, true, false, eqb, refl, ap, ◌∙◌, eq-eqb}
-use Rattle.std.specs.Prelude.{nat_eq, ◌&&◌, ◌≢◌}
+use Rattle.std.proofs.Common.{◌≡◌, ℕ, Bool, true, false, eqb, refl, ap, ◌∙◌, eq-eqb, inl, inr}
+use Rattle.std.specs.Prelude.{nat_eq, ◌&&◌, ◌≢◌, ◌⊎◌}
 use Rattle.std.specs.Cmp.Derive.{both_true}
-use Rattle.std.proofs.lemmas.Bool.{eqb-true}
+use Rattle.std.proofs.lemmas.Bool.{cases_eq, eqb-true}
 use Rattle.plan_model.specs.declared.geometry.Point.{Point}
 
--- whether two points are the same, by coordinates
-abbrev pub same_point : Point → Point → Bool
-same_point a b = nat_eq a.x b.x && nat_eq a.y b.y
-
-point_is : (a b : Point) → a.x ≡ b.x → a.y ≡ b.y → a ≡ b
+-- points with the same coordinates are the same
+pub point_is : (a b : Point) → a.x ≡ b.x → a.y ≡ b.y → a ≡ b
 point_is a b x y =
     let horizontal : ℕ → Point = λ u. record { x = u; y = a.y } in
     let vertical : ℕ → Point = λ v. record { x = b.x; y = v } in
     ap horizontal x ∙ ap vertical y
+
+-- a point is another, or the same
+pub same_or_other : (p q : Point) → (p ≡ q) ⊎ (p ≢ q)
+same_or_other p q =
+    elim (cases_eq p.x q.x) [
+      | inl same ↦ elim (cases_eq p.y q.y) [
+        | inl also ↦ inl (point_is p q same also)
+        | inr apart ↦ inr (λ e. apart (ap (λ (r : Point). r.y) e))
+      ]
+      | inr apart ↦ inr (λ e. apart (ap (λ (r : Point). r.x) e))
+    ]
+
+-- ---- by a test
+
+-- whether two points are the same, by coordinates
+abbrev pub same_point : Point → Point → Bool
+same_point a b = nat_eq a.x b.x && nat_eq a.y b.y
 
 both_parts : (a b c d : ℕ) (s t : Bool) → eqb a b ≡ s → eqb c d ≡ t → (s && t) ≡ true → (a ≡ b) × (c ≡ d)
 both_parts a b c d true true x y h = (eqb-true a b x, eqb-true c d y)
