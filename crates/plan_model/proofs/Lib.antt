@@ -39,6 +39,7 @@ pub mod SpanLaws
 pub mod CountsBelow
 pub mod QuotaLaws
 pub mod DrawnMarks
+pub mod ParentChoices
 pub mod ParentChanges
 pub mod NodeCounts
 pub mod TreeStateLaws

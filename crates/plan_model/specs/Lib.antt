@@ -17,6 +17,7 @@ pub mod PlacesOfRooms
 pub mod PointsByNumber
 pub mod LeastPairs
 pub mod Nearness
+pub mod OpenNodes
 pub mod Trees
 pub mod Branches
 pub mod Outcomes

@@ -3,5 +3,5 @@ pub mod GrownMarks
 pub mod HandledWorkers
 pub mod HeldNodes
 pub mod NumberScans
-pub mod OpenNodes
+pub mod ReadCosts
 pub mod SteeredMarks

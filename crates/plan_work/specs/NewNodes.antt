@@ -1,5 +1,5 @@
 -- A new node beside those that are present: its parent, and the nodes that are cheaper by way of it.
-use Rattle.std.specs.Prelude.{◌≡◌, ℕ, ◌+◌, ◌<◌, ◌^◌, Contains, Option, List}
+use Rattle.std.specs.Prelude.{◌≡◌, ℕ, ◌+◌, ◌<◌, ◌^◌}
 use Rattle.plan_model.specs.declared.geometry.Point.{Point}
 use Rattle.plan_model.specs.Clearance.{Clear}
 use Rattle.plan_model.specs.ConfigurationSpace.{ConfigurationSpace}
@@ -8,11 +8,6 @@ use Rattle.plan_model.specs.HandledMarks.{kept_cost_through}
 use Rattle.plan_model.specs.PointsByNumber.{IsPresent, point_of}
 use Rattle.plan_model.specs.TreeStates.{TreeState}
 use Rattle.plan_work.specs.declared.choice.Parent.{Parent}
-
--- one of some nodes with a clear edge to p
-pub record IsOpenTo (space : ConfigurationSpace) (points : List (Option Point)) (p : Point) (among : List ℕ) (i : ℕ) : Type 0 where
-  pub one_of : Contains among i
-  pub clear : Clear space (point_of points i) p
 
 -- a present node, and the kept cost of reaching p through it, which is within 63 bits
 pub record IsParentOf (state : TreeState) (p : Point) (parent : Parent) : Type 0 where

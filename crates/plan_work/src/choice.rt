@@ -5,9 +5,10 @@ ghost use Rattle.plan_model.specs.Bounds.{IsBounded};
 ghost use Rattle.plan_model.specs.Clearance.{Clear};
 ghost use Rattle.plan_model.specs.HandledMarks.{kept_cost_through};
 ghost use Rattle.plan_model.specs.LeastPairs.{IsFirstLeast, IsNotAbove};
+ghost use Rattle.plan_model.specs.OpenNodes.{IsOpenTo};
 ghost use Rattle.plan_model.specs.PointsByNumber.{IsPresent, point_of};
 ghost use Rattle.step_core.specs.GrownRuns.{state_of_grown};
-ghost use Rattle.plan_work.specs.NewNodes.{IsOpenTo, IsParentOf};
+ghost use Rattle.plan_work.specs.NewNodes.{IsParentOf};
 
 use edge_cost::{cost, costs_less};
 use plan_model::Point;

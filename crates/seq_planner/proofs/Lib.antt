@@ -12,7 +12,7 @@ pub mod LoweringTurns
 pub mod PendingNodes
 pub mod RecordFacts
 pub mod SoundTrees
-pub mod ParentChoices
+pub mod ReadCosts
 pub mod MarkExtensions
 pub mod NewLeaves
 pub mod RewiredNodes

@@ -14,6 +14,7 @@ use Rattle.plan_model.specs.LeastPairs.{IsFirstLeast}
 use Rattle.plan_model.specs.Radius.{class_of, radius_of}
 use Rattle.plan_model.specs.Steering.{steered}
 use Rattle.plan_model.specs.Nearness.{IsNearest}
+use Rattle.plan_model.specs.OpenNodes.{IsOpenTo}
 use Rattle.plan_model.specs.PointsByNumber.{StandsAt, IsPresent, IsFree, point_of, node_count}
 use Rattle.plan_model.specs.Trees.{points_of}
 use Rattle.plan_model.specs.Textbook.{Nodes, setup_of, near_new, SteersTo, Rewires, EndsPlaced, Handles, IsCandidate, IsBestParent, cost_through, same_record}
@@ -26,7 +27,7 @@ use Rattle.plan_model.proofs.NewNodes.{StandsAt-present}
 use Rattle.seq_planner.specs.declared.extensions.Extension.{Extension}
 use Rattle.seq_planner.specs.declared.extensions.Parent.{Parent}
 use Rattle.seq_planner.specs.declared.search_tree.SearchTree.{SearchTree}
-use Rattle.seq_planner.specs.SearchTrees.{IsOpenTo, IsParentOf, IsExtensionOf, Fits}
+use Rattle.seq_planner.specs.SearchTrees.{IsParentOf, IsExtensionOf, Fits}
 use Rattle.seq_planner.proofs.ScannedLists.{near-rising}
 use Rattle.seq_planner.proofs.SoundTrees.{IsBounded-in_room}
 

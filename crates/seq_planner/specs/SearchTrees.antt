@@ -1,5 +1,5 @@
 -- The search tree: it grows by one number for each mark, and costs are kept beside its nodes.
-use Rattle.std.specs.Prelude.{◌≡◌, ℕ, ◌+◌, ◌-◌, ◌*◌, ◌^◌, ◌≤◌, All, Contains, Option, Some, None, List, [], ◌∷◌, ◌++◌, length, map, option_map, slice_index}
+use Rattle.std.specs.Prelude.{◌≡◌, ℕ, ◌+◌, ◌-◌, ◌*◌, ◌^◌, ◌≤◌, All, Option, Some, None, List, [], ◌∷◌, ◌++◌, length, map, option_map, slice_index}
 use Rattle.std.specs.List.{zip}
 use Rattle.std.specs.List.Sorted.{IsStrictlyIncreasing}
 use Rattle.plan_model.specs.declared.geometry.Point.{Point}
@@ -8,9 +8,8 @@ use Rattle.plan_model.specs.declared.trees.Knot.{Knot}
 use Rattle.plan_model.specs.declared.scenes.Scene.{Scene}
 use Rattle.plan_model.specs.declared.records.Record.{Record}
 use Rattle.plan_model.specs.Bounds.{IsBounded}
-use Rattle.plan_model.specs.Clearance.{Clear}
-use Rattle.plan_model.specs.ConfigurationSpace.{ConfigurationSpace, space_of}
-use Rattle.plan_model.specs.PointsByNumber.{StandsAt, IsPresent, IsFree, AreDistinct, point_of, node_count}
+use Rattle.plan_model.specs.ConfigurationSpace.{space_of}
+use Rattle.plan_model.specs.PointsByNumber.{StandsAt, IsPresent, IsFree, AreDistinct, node_count}
 use Rattle.plan_model.specs.Trees.{points_of, CostsFall, AreTight}
 use Rattle.plan_model.specs.Textbook.{Nodes, setup_of, cost_through, Rewires, Handles}
 use Rattle.seq_planner.specs.declared.extensions.Extension.{Extension}
@@ -55,11 +54,6 @@ with_cost node cost = option_map (λ n. record { point = n.point; parent = n.par
 -- the nodes with their kept costs
 abbrev pub with_costs : Nodes → List ℕ → List (Option Knot)
 with_costs nodes costs = map (λ kept. with_cost kept.0 kept.1) (zip nodes costs)
-
--- one of some nodes with a clear edge to p
-pub record IsOpenTo (space : ConfigurationSpace) (points : List (Option Point)) (p : Point) (among : List ℕ) (i : ℕ) : Type 0 where
-  pub one_of : Contains among i
-  pub clear : Clear space (point_of points i) p
 
 -- The node that is to be added, if there is one, stands in bounds where no node does, under a present parent, at the cost
 -- through that; and at no cost if there is none.

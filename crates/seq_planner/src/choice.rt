@@ -4,11 +4,12 @@ ghost use Rattle.std.specs.Prelude.{◌≡◌, ◌≤◌, ◌∷◌, length, All
 ghost use Rattle.plan_model.specs.Bounds.{IsBounded};
 ghost use Rattle.plan_model.specs.Clearance.{Clear};
 ghost use Rattle.plan_model.specs.LeastPairs.{IsFirstLeast, IsNotAbove};
+ghost use Rattle.plan_model.specs.OpenNodes.{IsOpenTo};
 ghost use Rattle.plan_model.specs.PointsByNumber.{IsPresent, point_of};
 ghost use Rattle.plan_model.specs.Textbook.{cost_through};
 ghost use Rattle.plan_model.specs.Trees.{points_of};
 ghost use Rattle.plan_model.specs.declared.limits.TheConstants.{MOST_NODES};
-ghost use Rattle.seq_planner.specs.SearchTrees.{IsOpenTo, IsParentOf, IsSoundTree};
+ghost use Rattle.seq_planner.specs.SearchTrees.{IsParentOf, IsSoundTree};
 
 use crate::extensions::Parent;
 use crate::search_tree::SearchTree;

@@ -4,8 +4,8 @@ use Rattle.plan_model.specs.Clearance.{Clear}
 use Rattle.plan_model.specs.HandledMarks.{kept_cost_through}
 use Rattle.plan_model.specs.LeastPairs.{IsNotAbove}
 use Rattle.plan_model.specs.PointsByNumber.{point_of}
+use Rattle.plan_model.proofs.ParentChoices.{IsFirstLeast-alone, IsFirstLeast-takes, IsFirstLeast-keeps}
 use Rattle.step_core.specs.GrownRuns.{state_of_grown}
-use Rattle.plan_work.proofs.OpenNodes.{IsFirstLeast-alone, IsFirstLeast-takes, IsFirstLeast-keeps}
 use Rattle.plan_work.proofs.choice.choose.Goals as goal
 use Rattle.plan_work.proofs.choice.choose.Goals.{then-wins+then-is_open, else-wins, else-wins-via-then-wins+else-is_open, else-wins-via-else-wins}
 

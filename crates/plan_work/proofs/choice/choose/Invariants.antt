@@ -1,8 +1,9 @@
 use Rattle.std.proofs.Common.{◌∷◌, take}
 use Rattle.plan_model.specs.HandledMarks.{kept_cost_through}
 use Rattle.plan_model.specs.LeastPairs.{IsFirstLeast}
+use Rattle.plan_model.specs.OpenNodes.{IsOpenTo}
 use Rattle.step_core.specs.GrownRuns.{state_of_grown}
-use Rattle.plan_work.specs.NewNodes.{IsOpenTo, IsParentOf}
+use Rattle.plan_work.specs.NewNodes.{IsParentOf}
 use Rattle.plan_work.proofs.choice.choose.Given as goal
 
 -- the best so far is that of the nearest node and the earlier near ones

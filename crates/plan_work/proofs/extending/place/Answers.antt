@@ -5,6 +5,7 @@ use Rattle.plan_model.specs.Clearance.{Clear}
 use Rattle.plan_model.specs.ConfigurationSpace.{ConfigurationSpace}
 use Rattle.plan_model.specs.HandledMarks.{kept_cost_through}
 use Rattle.plan_model.specs.Nearness.{near}
+use Rattle.plan_model.specs.OpenNodes.{IsOpenTo}
 use Rattle.plan_model.specs.PointsByNumber.{IsPresent, node_count, point_of}
 use Rattle.plan_model.specs.Radius.{radius_of}
 use Rattle.plan_model.specs.Textbook.{IsCandidate, near_new, setup_of}
@@ -14,7 +15,6 @@ use Rattle.plan_model.proofs.MarkBounds.{length-marks}
 use Rattle.step_core.specs.GrownRuns.{state_of_grown}
 use Rattle.step_core.specs.GrownWords.{sizes_of, words_of}
 use Rattle.step_core.proofs.GrownPoints.{node_count-words}
-use Rattle.plan_work.specs.NewNodes.{IsOpenTo}
 use Rattle.plan_work.proofs.extending.place.Goals as goal
 
 pub at-requires-clause-most : goal.at-requires-clause-most

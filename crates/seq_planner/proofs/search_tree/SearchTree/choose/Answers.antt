@@ -7,7 +7,7 @@ use Rattle.plan_model.specs.LeastPairs.{IsNotAbove}
 use Rattle.plan_model.specs.PointsByNumber.{point_of}
 use Rattle.plan_model.specs.Textbook.{cost_through}
 use Rattle.plan_model.specs.Trees.{points_of}
-use Rattle.seq_planner.proofs.ParentChoices.{IsFirstLeast-alone, IsFirstLeast-takes, IsFirstLeast-keeps}
+use Rattle.plan_model.proofs.ParentChoices.{IsFirstLeast-alone, IsFirstLeast-takes, IsFirstLeast-keeps}
 use Rattle.seq_planner.proofs.search_tree.SearchTree.choose.Goals as goal
 use Rattle.seq_planner.proofs.search_tree.SearchTree.choose.Goals.{then-wins+then-clear, else-wins, else-wins-via-then-wins+else-clear, else-wins-via-else-wins}
 

@@ -1,8 +1,9 @@
 use Rattle.std.proofs.Common.{◌∷◌, take}
 use Rattle.plan_model.specs.LeastPairs.{IsFirstLeast}
+use Rattle.plan_model.specs.OpenNodes.{IsOpenTo}
 use Rattle.plan_model.specs.Textbook.{cost_through}
 use Rattle.plan_model.specs.Trees.{points_of}
-use Rattle.seq_planner.specs.SearchTrees.{IsOpenTo, IsParentOf}
+use Rattle.seq_planner.specs.SearchTrees.{IsParentOf}
 use Rattle.seq_planner.proofs.search_tree.SearchTree.choose.Given as goal
 
 abbrev pub invariant-loop-number : goal.invariant-loop-number

@@ -5,13 +5,13 @@ use Rattle.plan_model.specs.ConfigurationSpace.{ConfigurationSpace, space_of}
 use Rattle.plan_model.specs.Clearance.{Clear}
 use Rattle.plan_model.specs.LeastPairs.{IsFirstLeast}
 use Rattle.plan_model.specs.Nearness.{near}
+use Rattle.plan_model.specs.OpenNodes.{IsOpenTo}
 use Rattle.plan_model.specs.PointsByNumber.{IsPresent, node_count}
 use Rattle.plan_model.specs.Radius.{class_of, radius_of}
 use Rattle.plan_model.specs.Textbook.{setup_of, near_new, cost_through}
 use Rattle.plan_model.specs.Trees.{points_of}
 use Rattle.plan_model.proofs.DistinctPoints.{near-present}
 use Rattle.plan_model.proofs.SamePoints.{same_point-true, same_point-false}
-use Rattle.seq_planner.specs.SearchTrees.{IsOpenTo}
 use Rattle.seq_planner.proofs.PlacedLists.{ArePlaced-bounded}
 use Rattle.seq_planner.proofs.SoundTrees.{IsBounded-present, some_present}
 use Rattle.seq_planner.proofs.MarkExtensions.{Steers, IsFree-steered, IsExtensionOf-same, IsExtensionOf-blocked, IsExtensionOf-placed}

@@ -1,7 +1,7 @@
 use Rattle.std.proofs.Common.{◌≡◌, Bool, true, false, arith, sym, ◌∙◌}
 use Rattle.std.specs.Prelude.{IsTrue}
 use Rattle.std.proofs.lemmas.Bool.{ltb-true}
-use Rattle.seq_planner.proofs.ParentChoices.{sum-read}
+use Rattle.seq_planner.proofs.ReadCosts.{sum-read}
 use Rattle.seq_planner.proofs.RewiredNodes.{AreRead, IsCheaperThrough-read, cost-cheaper_through, Clear-cheaper_through}
 use Rattle.seq_planner.proofs.search_tree.SearchTree.is_cheaper.Goals as goal
 use Rattle.seq_planner.proofs.search_tree.SearchTree.is_cheaper.Goals.{then-through-kept, else-through-kept}

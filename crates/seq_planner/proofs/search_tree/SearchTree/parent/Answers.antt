@@ -1,6 +1,6 @@
 use Rattle.std.proofs.Common.{arith}
 use Rattle.seq_planner.proofs.SoundTrees.{few_present}
-use Rattle.seq_planner.proofs.ParentChoices.{IsParentOf-read, kept-bound}
+use Rattle.seq_planner.proofs.ReadCosts.{IsParentOf-read, kept-bound}
 use Rattle.seq_planner.proofs.search_tree.SearchTree.parent.Goals as goal
 
 pub overflow_add-result : goal.overflow_add-result

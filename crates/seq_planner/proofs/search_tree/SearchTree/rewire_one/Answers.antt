@@ -3,7 +3,7 @@ use Rattle.plan_model.specs.PointsByNumber.{point_of}
 use Rattle.plan_model.specs.Trees.{points_of}
 use Rattle.plan_model.specs.Textbook.{cost_through}
 use Rattle.plan_model.proofs.ParentChanges.{points_of-cheaper_parent, IsPresent-cheaper_parent, CostsFall-cheaper_parent}
-use Rattle.seq_planner.proofs.ParentChoices.{sum-read}
+use Rattle.seq_planner.proofs.ReadCosts.{sum-read}
 use Rattle.seq_planner.proofs.RewiredNodes.{OnOk-two, IsCheaper, child-cheaper, HasCheaperParent-cheaper, IsSound-rewired}
 use Rattle.seq_planner.proofs.search_tree.SearchTree.rewire_one.Goals as goal
 

@@ -2,7 +2,8 @@ use Rattle.std.proofs.Common.{◌≡◌, ℕ, ◌+◌, ◌-◌, ◌<◌, ◌≤�
 use Rattle.std.proofs.lemmas.Bool.{cases_lt}
 use Rattle.plan_model.specs.Cost.{cost_of}
 use Rattle.plan_model.specs.Textbook.{cost_through}
-use Rattle.seq_planner.proofs.ParentChoices.{IsLimit, IsNotAbove-wins, IsNotAbove-loses, sum-read, through-read}
+use Rattle.plan_model.proofs.ParentChoices.{IsLimit, IsNotAbove-wins, IsNotAbove-loses}
+use Rattle.seq_planner.proofs.ReadCosts.{sum-read, through-read}
 use Rattle.seq_planner.proofs.search_tree.SearchTree.wins.Goals as goal
 use Rattle.seq_planner.proofs.search_tree.SearchTree.wins.Goals.{Joined-number-best, After-point, then-number-best, else-number-best}
 

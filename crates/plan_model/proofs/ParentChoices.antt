@@ -1,28 +1,16 @@
 -- The choice of a parent: the least pair of cost and number among the nodes that were looked at.
 use Rattle.std.proofs.Common.{◌≡◌, ℕ, ◌+◌, ◌<◌, ◌≤◌, List, [], ◌∷◌, ◌++◌, Option}
-use Rattle.std.proofs.Common.{arith, refl, sym, ap, subst, inl, inr, ◌⊎◌}
+use Rattle.std.proofs.Common.{arith, refl, sym, subst, inl, inr, ◌⊎◌}
 use Rattle.std.specs.Prelude.{Contains}
 use Rattle.std.proofs.lemmas.List.Elements.{Contains-append_left, Contains-push, Contains-push_cases}
 use Rattle.std.proofs.lemmas.Bool.{cases_lt}
 use Rattle.plan_model.specs.declared.geometry.Point.{Point}
 use Rattle.plan_model.specs.Clearance.{Clear}
 use Rattle.plan_model.specs.ConfigurationSpace.{ConfigurationSpace}
-use Rattle.plan_model.specs.Cost.{cost_of}
-use Rattle.plan_model.specs.HandledMarks.{kept_cost_through}
 use Rattle.plan_model.specs.LeastPairs.{IsNotAbove, IsFirstLeast}
-use Rattle.plan_model.specs.PointsByNumber.{StandsAt, point_of}
-use Rattle.plan_model.specs.TreeStates.{TreeState}
+use Rattle.plan_model.specs.OpenNodes.{IsOpenTo}
+use Rattle.plan_model.specs.PointsByNumber.{point_of}
 use Rattle.plan_model.proofs.LeastPairLaws.{IsNotAbove-refl, IsNotAbove-lesser, IsNotAbove-trans}
-use Rattle.plan_model.proofs.NewNodes.{point_of-stands}
-use Rattle.plan_work.specs.NewNodes.{IsOpenTo}
-
--- ---- costs that are read
-
--- the cost through a node whose kept cost and point were read
-pub through-read :
-    (state : TreeState) (n kept : ℕ) (from p : Point) → kept ≡ state.cost n → StandsAt state.points n from
-    → kept_cost_through state p n ≡ kept + cost_of from p
-through-read state n kept from p e h = omega (arith, e, ap (λ a. cost_of a p) (point_of-stands state.points n from h))
 
 -- ---- who wins
 
