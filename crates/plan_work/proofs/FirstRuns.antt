@@ -1,55 +1,31 @@
 -- A run before its first mark: the start alone. Every run of the same task has grown from it.
-use Rattle.std.proofs.Common.{◌≡◌, ℕ, zero, suc, false, Some, refl, sym, ap, ◌∙◌, subst, arith, inl}
-use Rattle.std.specs.Prelude.{Option, is_some, unwrap_or}
+use Rattle.std.proofs.Common.{◌≡◌, ℕ, false, Some, refl, sym, ap, ◌∙◌, subst, arith, inl}
+use Rattle.std.specs.Prelude.{is_some}
 use Rattle.std.proofs.Math.Logic.{∥∥₁_elim}
 use Rattle.std.proofs.Math.Bool.{Bool-set}
-use Rattle.std.proofs.Math.Nat.{ℕ_set}
 use Rattle.plan_model.specs.declared.geometry.Point.{Point}
 use Rattle.plan_model.specs.declared.records.Record.{Record}
 use Rattle.plan_model.specs.declared.tasks.Task.{Task}
-use Rattle.plan_model.specs.PointsByNumber.{point_of, StandsAt, IsPresent}
+use Rattle.plan_model.specs.PointsByNumber.{StandsAt, IsPresent}
 use Rattle.plan_model.specs.TreeStates.{GrowsInto, first_cost_of, KeepsOrFalls}
-use Rattle.plan_model.proofs.NewNodes.{StandsAt-present, IsPresent-stands}
+use Rattle.plan_model.proofs.NewNodes.{IsPresent-stands}
 use Rattle.step_core.specs.declared.grown.Grown.{Grown}
 use Rattle.step_core.specs.GrownRuns.{state_of_grown}
-
--- ---- the start of a run
-
--- the coordinates of a point that may be absent
-abbrev x_of : Option Point → ℕ
-x_of o = (unwrap_or o (record { x = 0; y = 0 })).x
-
-abbrev y_of : Option Point → ℕ
-y_of o = (unwrap_or o (record { x = 0; y = 0 })).y
-
-same_points : (p q : Point) → p.x ≡ q.x → p.y ≡ q.y → p ≡ q
-same_points p q right top =
-    let across : ℕ → Point = λ u. record { x = u; y = p.y } in
-    let along : ℕ → Point = λ v. record { x = q.x; y = v } in
-    ap across right ∙ ap along top
+use Rattle.step_core.specs.GrownWords.{words_of}
+use Rattle.step_core.proofs.HeldNodes.{start_stands-held, start_parent-held, start_cost-held, node-held}
 
 module _ (grown : Grown) where
-  start_present-grown : IsPresent (state_of_grown grown).points 0
-  start_present-grown =
-      ∥∥₁_elim grown.hold_run (Bool-set _ _) (λ h. IsPresent-stands (state_of_grown grown).points 0 _ h.closed.order.start_stands)
-
   -- the start stands at its place
-  pub StandsAt-start : StandsAt (state_of_grown grown).points 0 grown.task.scene.start
-  StandsAt-start =
-      let points = (state_of_grown grown).points in
-      let right : (point_of points 0).x ≡ grown.task.scene.start.x =
-      ∥∥₁_elim grown.hold_run (ℕ_set _ _) (λ h. ap x_of h.closed.order.start_stands) in
-      let top : (point_of points 0).y ≡ grown.task.scene.start.y =
-      ∥∥₁_elim grown.hold_run (ℕ_set _ _) (λ h. ap y_of h.closed.order.start_stands) in
-      StandsAt-present points 0 start_present-grown ∙ ap Some (same_points (point_of points 0) grown.task.scene.start right top)
+  StandsAt-start : StandsAt (state_of_grown grown).points 0 grown.task.scene.start
+  StandsAt-start = start_stands-held grown.task grown.limit (words_of grown.words.items) grown.hold_run
 
   -- it is its own parent
-  pub parent-start : (state_of_grown grown).parent 0 ≡ 0
-  parent-start = ∥∥₁_elim grown.hold_run (ℕ_set _ _) (λ h. h.closed.order.start_parent)
+  parent-start : (state_of_grown grown).parent 0 ≡ 0
+  parent-start = start_parent-held grown.task grown.limit (words_of grown.words.items) grown.hold_run
 
   -- and costs nothing
-  pub cost-start : (state_of_grown grown).cost 0 ≡ 0
-  cost-start = ∥∥₁_elim grown.hold_run (ℕ_set _ _) (λ h. h.closed.order.start_cost)
+  cost-start : (state_of_grown grown).cost 0 ≡ 0
+  cost-start = start_cost-held grown.task grown.limit (words_of grown.words.items) grown.hold_run
 
   -- ---- before its first mark
 
@@ -62,12 +38,9 @@ module _ (grown : Grown) where
   no_record-first fresh k entry is = let none = sym (record_of-first fresh k) ∙ ap is_some is in cc
 
   -- and the start alone is present
-  pub start_alone-first : grown.limit ≡ 0 → (n : ℕ) → IsPresent (state_of_grown grown).points n → n ≡ 0
-  start_alone-first fresh zero here = refl
-  start_alone-first fresh (suc k) here =
-      ∥∥₁_elim grown.hold_run (ℕ_set _ _) (λ h.
-      let own = (h.closed.placed k).0 here in
-      absurd (no_record-first fresh k own.0 own.1))
+  start_alone-first : grown.limit ≡ 0 → (n : ℕ) → IsPresent (state_of_grown grown).points n → n ≡ 0
+  start_alone-first fresh n here =
+      omega (arith, fresh, node-held grown.task grown.limit (words_of grown.words.items) grown.hold_run n here)
 
 -- ---- from it to a later run
 

@@ -2,7 +2,6 @@
 use Rattle.std.proofs.Common.{◌≡◌, ◌≢◌, ℕ, zero, suc, ◌<◌, List, [], ◌∷◌, map, reverse, refl, sym, ap, ◌∙◌, subst}
 use mathlib.Core.List.{reverse_aux}
 use Rattle.std.proofs.Math.Logic.{∥∥₁_elim}
-use Rattle.std.proofs.Math.Bool.{Bool-set}
 use Rattle.std.proofs.Math.Bridge.{le_prop}
 use Rattle.plan_model.specs.declared.geometry.Point.{Point}
 use Rattle.plan_model.specs.PointsByNumber.{point_of, IsPresent, StandsAt}
@@ -11,23 +10,24 @@ use Rattle.plan_model.specs.Textbook.{setup_of}
 use Rattle.plan_model.specs.Trees.{FallAlong}
 use Rattle.plan_model.specs.TreeStates.{TreeState, chain_in}
 use Rattle.plan_model.proofs.ChainLaws.{chain-start, chain-parent}
-use Rattle.plan_model.proofs.OrderedTrees.{FallAlong-ordered}
+use Rattle.plan_model.proofs.OrderLaws.{KeepsOrder-falls}
 use Rattle.step_core.specs.declared.grown.Grown.{Grown}
 use Rattle.step_core.specs.GrownRuns.{state_of_grown}
-use Rattle.step_core.specs.GrownWords.{HoldRun, words_of}
+use Rattle.step_core.specs.GrownWords.{words_of}
+use Rattle.step_core.proofs.HeldNodes.{start_present-held}
+use Rattle.settle_report.proofs.HeldOrders.{parent-held}
 
 -- kept costs fall along the parents of a finished run
 pub FallAlong-grown : (grown : Grown) → FallAlong (state_of_grown grown).cost (state_of_grown grown).points (state_of_grown grown).parent
-FallAlong-grown grown = record {
-  start = ∥∥₁_elim grown.hold_run (Bool-set _ _) (λ h. (fall h).start);
-  parent = λ n here. ∥∥₁_elim grown.hold_run (Bool-set _ _) (λ h. (fall h).parent n here);
-  falls = λ n here. ∥∥₁_elim grown.hold_run le_prop (λ h. (fall h).falls n here);
-}
-  where
-    fall :
-        HoldRun grown.task grown.limit (words_of grown.words.items)
-        → FallAlong (state_of_grown grown).cost (state_of_grown grown).points (state_of_grown grown).parent
-    fall h = FallAlong-ordered (setup_of grown.task.scene) grown.task.scene.start (state_of_grown grown) h.closed.order
+FallAlong-grown grown =
+    let words = words_of grown.words.items in
+    record {
+      start = start_present-held grown.task grown.limit words grown.hold_run;
+      parent = λ n here. parent-held grown.task grown.limit words grown.hold_run (suc n) here;
+      falls = λ n here.
+          ∥∥₁_elim grown.hold_run le_prop
+          (λ h. KeepsOrder-falls (setup_of grown.task.scene) grown.task.scene.start (state_of_grown grown) h.closed.order n here);
+    }
 
 -- the points of a node's chain: from the node up to the start
 abbrev pub points_up : TreeState → ℕ → List Point

@@ -1,14 +1,28 @@
--- The nodes that the words of a run hold: each has a number up to that of the last mark, and stands where its point word says.
-use Rattle.std.proofs.Common.{◌≡◌, ℕ, zero, suc, ◌+◌, ◌<◌, ◌≤◌, true, false, None, arith, sym, ap, ◌∙◌, inl, inr}
-use Rattle.std.specs.Prelude.{is_some, if◌then◌else◌}
+-- The nodes that the words of a run hold: each has a number up to that of the last mark, and stands where its point word says, within bounds.
+use Rattle.std.proofs.Common.{◌≡◌, ℕ, zero, suc, ◌+◌, ◌<◌, ◌≤◌, ◌^◌, Bool, true, false, Some, None, arith, sym, ap, ◌∙◌, inl, inr}
+use Rattle.std.specs.Prelude.{is_some, nat_lt, unwrap_or, if◌then◌else◌}
 use Rattle.std.proofs.lemmas.Bool.{cases_lt, cases_Bool, le-ltb, lt-ltb}
 use Rattle.std.proofs.lemmas.List.{get_or_past}
 use Rattle.std.proofs.lemmas.List.Sums.{count_by-le-length}
 use Rattle.std.proofs.lemmas.List.FromFn.{get_or-map-range_with_len, length-map-range_with_len}
-use Rattle.plan_model.specs.PointsByNumber.{point_at, IsPresent, node_count}
+use Rattle.plan_model.specs.declared.geometry.Point.{Point}
+use Rattle.plan_model.specs.Bounds.{IsBounded}
+use Rattle.plan_model.specs.PointsByNumber.{point_at, StandsAt, IsPresent, node_count}
+use Rattle.plan_model.proofs.NewNodes.{IsPresent-stands}
 use Rattle.step_core.specs.WordPlaces.{Sizes, record_place, first_place, point_place}
-use Rattle.step_core.specs.Words.{record_of_word, point_of_word}
+use Rattle.step_core.specs.Words.{record_of_word, point_in, point_of_word}
 use Rattle.step_core.specs.GrownWords.{Words, record_at, has_placed, has_node, node_point, points_of_words}
+
+-- the point in a word has coordinates of 20 bits
+IsBounded-word : (word : ℕ) (p : Point) → point_of_word word ≡ Some p → IsBounded p
+IsBounded-word word p h = by_test (nat_lt word (2 ^ 63)) h
+  where
+    by_test : (b : Bool) → (if b then None else Some (point_in word)) ≡ Some p → IsBounded p
+    by_test true e = cc
+    by_test false e =
+        let right = ap (λ o. (unwrap_or {T = Point} o (record { x = 0; y = 0 })).x) e in
+        let top = ap (λ o. (unwrap_or {T = Point} o (record { x = 0; y = 0 })).y) e in
+        record { right = omega (arith, right); top = omega (arith, top) }
 
 module _ (sizes : Sizes) (words : Words) where
   -- ---- records
@@ -80,3 +94,11 @@ module _ (sizes : Sizes) (words : Words) where
         count_by-le-length is_some (points_of_words sizes words),
         length-map-range_with_len (node_point sizes words) 0 (sizes.marks + 1),
       )
+
+  -- ---- where they stand
+
+  -- a node stands within bounds
+  pub IsBounded-stands : (n : ℕ) (p : Point) → StandsAt (points_of_words sizes words) n p → IsBounded p
+  IsBounded-stands n p h =
+      let here = has_node-present n (IsPresent-stands (points_of_words sizes words) n p h) in
+      IsBounded-word (words (point_place sizes n)) p (sym (node_point-here n here) ∙ sym (point_at-words n) ∙ h)

@@ -5,6 +5,7 @@ pub mod PackedRecords
 pub mod GrownPoints
 pub mod WordReads
 pub mod HeldRuns
+pub mod HeldNodes
 pub mod LoweredWords
 pub mod StartWords
 pub mod KdWays

@@ -1,6 +1,6 @@
 use Rattle.std.proofs.Common.{sym, ◌∙◌}
 use Rattle.step_core.specs.GrownWords.{sizes_of, words_of}
-use Rattle.plan_work.proofs.HeldNodes.{IsBounded-stands}
+use Rattle.step_core.proofs.GrownPoints.{IsBounded-stands}
 use Rattle.plan_work.proofs.choice.as_parent.Goals as goal
 
 pub cost-requires-2-clause-from : goal.cost-requires-2-clause-from

@@ -5,7 +5,7 @@ use Rattle.plan_model.specs.HandledMarks.{kept_cost_through}
 use Rattle.plan_model.proofs.ParentChoices.{IsLimit, IsNotAbove-wins, IsNotAbove-loses}
 use Rattle.step_core.specs.GrownRuns.{state_of_grown}
 use Rattle.step_core.specs.GrownWords.{sizes_of, words_of}
-use Rattle.plan_work.proofs.HeldNodes.{IsBounded-stands}
+use Rattle.step_core.proofs.GrownPoints.{IsBounded-stands}
 use Rattle.plan_work.proofs.ReadCosts.{through-read}
 use Rattle.plan_work.proofs.choice.wins.Goals as goal
 use Rattle.plan_work.proofs.choice.wins.Goals.{Joined-number-best, then-number-best, else-number-best}

@@ -16,7 +16,7 @@ use Rattle.plan_model.proofs.NewNodes.{point_of-stands}
 use Rattle.plan_model.proofs.SamePoints.{same_point-false}
 use Rattle.step_core.specs.GrownRuns.{state_of_grown}
 use Rattle.step_core.specs.GrownWords.{words_of}
-use Rattle.plan_work.proofs.HeldNodes.{some-held}
+use Rattle.step_core.proofs.HeldNodes.{some-held}
 use Rattle.plan_work.proofs.SteeredMarks.{IsFree-steered, IsHandledWhole-by}
 use Rattle.plan_work.proofs.extending.entry_of.Goals as goal
 

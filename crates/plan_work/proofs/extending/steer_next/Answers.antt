@@ -4,7 +4,7 @@ use Rattle.plan_model.specs.declared.tasks.Task.{Task}
 use Rattle.plan_model.specs.Bounds.{IsBounded}
 use Rattle.plan_model.proofs.MarkBounds.{All-task_marks_within}
 use Rattle.step_core.specs.GrownWords.{sizes_of, words_of}
-use Rattle.plan_work.proofs.HeldNodes.{IsBounded-stands}
+use Rattle.step_core.proofs.GrownPoints.{IsBounded-stands}
 use Rattle.plan_work.proofs.extending.steer_next.Goals as goal
 
 -- distances can be taken from a mark

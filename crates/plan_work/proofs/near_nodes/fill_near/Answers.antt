@@ -12,7 +12,7 @@ use Rattle.plan_model.proofs.MarkBounds.{length-marks}
 use Rattle.step_core.specs.GrownRuns.{state_of_grown}
 use Rattle.step_core.specs.GrownWords.{node_point, sizes_of, words_of}
 use Rattle.step_core.proofs.HeldRuns.{limit-held}
-use Rattle.plan_work.proofs.HeldNodes.{node-held}
+use Rattle.step_core.proofs.HeldNodes.{node-held}
 use Rattle.plan_work.proofs.NumberScans.{filter-more, filter-longer}
 use Rattle.plan_work.proofs.near_nodes.fill_near.Goals as goal
 use Rattle.plan_work.proofs.near_nodes.fill_near.Goals.{then-is_near, else-is_near}

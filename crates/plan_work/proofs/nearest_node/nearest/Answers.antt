@@ -11,7 +11,8 @@ use Rattle.plan_model.proofs.NewNodes.{IsPresent-stands, point_of-stands}
 use Rattle.step_core.specs.GrownRuns.{state_of_grown}
 use Rattle.step_core.specs.GrownWords.{sizes_of, words_of}
 use Rattle.step_core.proofs.HeldRuns.{limit-held}
-use Rattle.plan_work.proofs.HeldNodes.{IsBounded-stands, node-held, start_distance-held, start_present-held}
+use Rattle.step_core.proofs.GrownPoints.{IsBounded-stands}
+use Rattle.step_core.proofs.HeldNodes.{node-held, start_distance-held, start_present-held}
 use Rattle.plan_work.proofs.nearest_node.nearest.Goals as goal
 use Rattle.plan_work.proofs.nearest_node.nearest.Goals.{in-Some+then-distance-least, in-Some+else-distance-least, in_default}
 

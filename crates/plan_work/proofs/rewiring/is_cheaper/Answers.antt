@@ -6,7 +6,7 @@ use Rattle.plan_model.specs.declared.geometry.Point.{Point}
 use Rattle.plan_model.proofs.NewNodes.{IsPresent-stands, point_of-stands}
 use Rattle.step_core.specs.GrownRuns.{state_of_grown}
 use Rattle.step_core.specs.GrownWords.{sizes_of, words_of}
-use Rattle.plan_work.proofs.HeldNodes.{IsBounded-stands}
+use Rattle.step_core.proofs.GrownPoints.{IsBounded-stands}
 use Rattle.plan_work.proofs.rewiring.is_cheaper.Goals as goal
 use Rattle.plan_work.proofs.rewiring.is_cheaper.Goals.{then-through-kept, else-through-kept}
 

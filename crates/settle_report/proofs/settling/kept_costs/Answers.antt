@@ -4,9 +4,9 @@ use Rattle.plan_model.proofs.MarkBounds.{length-marks}
 use Rattle.step_core.specs.GrownRuns.{state_of_grown}
 use Rattle.step_core.specs.GrownWords.{words_of}
 use Rattle.step_core.proofs.HeldRuns.{limit-held}
+use Rattle.step_core.proofs.HeldNodes.{node-held}
 use Rattle.settle_report.specs.CostOrders.{IsKeptCost}
 use Rattle.settle_report.proofs.CostOrderLaws.{AreKeptCostsBelow, AreKeptCostsBelow-push, AreKeptCostsBelow-skip, AreKeptCosts-below}
-use Rattle.settle_report.proofs.HeldOrders.{node-held}
 use Rattle.settle_report.proofs.settling.kept_costs.Goals.{then-is_some+in_ok-push, else-is_some}
 use Rattle.settle_report.proofs.settling.kept_costs.Goals as goal
 

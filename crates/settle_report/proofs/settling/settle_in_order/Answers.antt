@@ -5,7 +5,7 @@ use Rattle.plan_model.specs.PointsByNumber.{IsPresent}
 use Rattle.plan_model.specs.Textbook.{setup_of}
 use Rattle.step_core.specs.GrownRuns.{state_of_grown}
 use Rattle.step_core.specs.GrownWords.{words_of}
-use Rattle.settle_report.proofs.HeldOrders.{start_cost-held}
+use Rattle.step_core.proofs.HeldNodes.{start_cost-held}
 use Rattle.settle_report.proofs.SettlingSteps.{AreSettledBelow, AreSettledBelow-more, ChangesCosts-more, all-settled, sum_in-changed}
 use Rattle.settle_report.proofs.settling.settle_in_order.Goals as goal
 

@@ -5,7 +5,8 @@ use Rattle.plan_model.specs.PointsByNumber.{IsPresent, point_of}
 use Rattle.plan_model.proofs.NewNodes.{point_of-stands}
 use Rattle.step_core.specs.GrownRuns.{state_of_grown}
 use Rattle.step_core.specs.GrownWords.{sizes_of, words_of}
-use Rattle.settle_report.proofs.HeldOrders.{IsBounded-stands, edge-held, parent-held}
+use Rattle.step_core.proofs.GrownPoints.{IsBounded-stands}
+use Rattle.settle_report.proofs.HeldOrders.{edge-held, parent-held}
 use Rattle.settle_report.proofs.settling.settle_node.Goals as goal
 
 pub unwrap-above-requires : goal.unwrap-above-requires
