@@ -1,11 +1,13 @@
--- A node that stands where the nearest node steers to stands where the nearest node does.
-use Rattle.std.proofs.Common.{◌≡◌, ℕ, ◌≤◌, List, Option, IsSome, refl, ap, sym, subst}
-use Rattle.std.specs.Prelude.{unwrap_or}
+-- A node that stands where the nearest node steers to stands where the nearest node does; if that is elsewhere, none stands there.
+use Rattle.std.proofs.Common.{◌≡◌, ℕ, ◌≤◌, List, Option, Some, IsSome, refl, ap, sym, ◌∙◌, subst}
+use Rattle.std.specs.Prelude.{◌≢◌, unwrap_or}
 use Rattle.plan_model.specs.declared.geometry.Point.{Point}
 use Rattle.plan_model.specs.Geometry.{squared_distance}
-use Rattle.plan_model.specs.PointsByNumber.{point_of, StandsAt, IsPresent}
+use Rattle.plan_model.specs.PointsByNumber.{point_of, StandsAt, IsPresent, IsFree}
 use Rattle.plan_model.specs.Nearness.{IsNearest}
 use Rattle.plan_model.specs.Steering.{steered}
+use Rattle.plan_model.specs.Textbook.{Setup, SteersTo}
+use Rattle.plan_model.proofs.NewNodes.{point_of-stands}
 use Rattle.plan_model.proofs.SteeringLaws.{IsStep-steered, corner_of_box}
 
 -- the nearest node is no farther from q than a node that stands at p
@@ -23,3 +25,11 @@ pub steered-is_nearest :
 steered-is_nearest points q step m n nearest own =
     let from = point_of points m in
     corner_of_box from q (steered from q step) (IsStep-steered from q step).within (nearest_below points q (steered from q step) m n nearest own)
+
+-- if the point is not the nearest node's own, no node stands there
+pub IsFree-steered :
+    (setup : Setup) (points : List (Option Point)) (mark : Point) (nearest : ℕ) (from point : Point) → SteersTo setup points mark nearest point
+    → StandsAt points nearest from → point ≢ from → IsFree points point
+IsFree-steered setup points mark nearest from point steers stands apart = λ j own.
+    let begins = point_of-stands points nearest from stands in
+    apart (steers.reached ∙ steered-is_nearest points mark setup.step nearest j steers.nearest (own ∙ ap Some steers.reached) ∙ begins)

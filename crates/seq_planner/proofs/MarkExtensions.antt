@@ -21,7 +21,7 @@ use Rattle.plan_model.specs.Textbook.{Nodes, setup_of, near_new, SteersTo, Rewir
 use Rattle.plan_model.specs.Textbook.{blocked_record, placed_record}
 use Rattle.plan_model.proofs.LeastPairLaws.{IsFirstLeast-among}
 use Rattle.plan_model.proofs.EmptyRoomClearance.{AreInRoom-from_clear}
-use Rattle.plan_model.proofs.SteeredNodes.{steered-is_nearest}
+use Rattle.plan_model.proofs.SteeredNodes.{IsFree-steered}
 use Rattle.plan_model.proofs.DistinctPoints.{near-present}
 use Rattle.plan_model.proofs.NewNodes.{StandsAt-present}
 use Rattle.seq_planner.specs.declared.extensions.Extension.{Extension}
@@ -49,16 +49,16 @@ module _ (scene : Scene) (tree : SearchTree) (mark : Point) (k nearest : ℕ) (f
   steers_to : SteersTo (setup_of scene) (points_of tree.nodes) mark nearest point
   steers_to = record { nearest = h.is_nearest; reached = reached }
 
+  from_stands : StandsAt (points_of tree.nodes) nearest from
+  from_stands = StandsAt-present (points_of tree.nodes) nearest h.is_nearest.member ∙ ap Some (sym h.begins)
+
   -- if the point is the nearest node's own, that node stands there
   nearest_stands : point ≡ from → StandsAt (points_of tree.nodes) nearest point
-  nearest_stands same =
-      StandsAt-present (points_of tree.nodes) nearest h.is_nearest.member ∙ ap Some (sym (same ∙ h.begins))
+  nearest_stands same = from_stands ∙ ap Some (sym same)
 
   -- otherwise no node does
-  pub IsFree-steered : point ≢ from → IsFree (points_of tree.nodes) point
-  IsFree-steered apart = λ j own.
-      let stands : StandsAt (points_of tree.nodes) j (steered (point_of (points_of tree.nodes) nearest) mark scene.step) = own ∙ ap Some reached in
-      apart (reached ∙ steered-is_nearest (points_of tree.nodes) mark scene.step nearest j h.is_nearest stands ∙ sym h.begins)
+  pub is_free : point ≢ from → IsFree (points_of tree.nodes) point
+  is_free apart = IsFree-steered (setup_of scene) (points_of tree.nodes) mark nearest from point steers_to from_stands apart
 
   -- a clear segment ends in the room
   IsInRoom-reached : Clear (space_of scene) from point → IsInRoom scene.room point
@@ -123,7 +123,7 @@ module _ (scene : Scene) (tree : SearchTree) (mark : Point) (k nearest : ℕ) (f
       let ends : P k = record {
         point = point;
         steers = steers_to scene tree mark k nearest from point h;
-        free = IsFree-steered scene tree mark k nearest from point h apart;
+        free = is_free scene tree mark k nearest from point h apart;
         blocked = subst Q h.begins blocked;
         recorded = refl;
         added = refl;
@@ -179,7 +179,7 @@ module _ (scene : Scene) (tree : SearchTree) (mark : Point) (k nearest : ℕ) (f
       let ends : EndsPlaced (setup_of scene) tree.nodes k mark entry after = record {
         point = point;
         steers = steers_to scene tree mark k nearest from point h;
-        free = IsFree-steered scene tree mark k nearest from point h apart;
+        free = is_free scene tree mark k nearest from point h apart;
         clear = subst Q h.begins clear;
         parent = best_parent;
         recorded = refl;
@@ -191,7 +191,7 @@ module _ (scene : Scene) (tree : SearchTree) (mark : Point) (k nearest : ℕ) (f
   fits_new =
       let in_room = IsInRoom-reached scene tree mark k nearest from point h clear in (
         own.is_parent.present,
-        IsFree-steered scene tree mark k nearest from point h apart,
+        is_free scene tree mark k nearest from point h apart,
         IsBounded-in_room scene point in_room,
         own.cost ∙ own.is_parent.cost,
         omega (arith, own.cost, own.is_parent.cost_bound),

@@ -14,10 +14,11 @@ use Rattle.plan_model.specs.Textbook.{near_new, setup_of}
 use Rattle.plan_model.proofs.DistinctPoints.{near-present}
 use Rattle.plan_model.proofs.NewNodes.{point_of-stands}
 use Rattle.plan_model.proofs.SamePoints.{same_point-false}
+use Rattle.plan_model.proofs.SteeredNodes.{IsFree-steered}
 use Rattle.step_core.specs.GrownRuns.{state_of_grown}
 use Rattle.step_core.specs.GrownWords.{words_of}
 use Rattle.step_core.proofs.HeldNodes.{some-held}
-use Rattle.plan_work.proofs.SteeredMarks.{IsFree-steered, IsHandledWhole-by}
+use Rattle.plan_work.proofs.SteeredMarks.{IsHandledWhole-by}
 use Rattle.plan_work.proofs.extending.entry_of.Goals as goal
 
 pub returns-then-not-clear-clause-handled : goal.returns-then-not-clear-clause-handled

@@ -14,7 +14,7 @@ use Rattle.plan_model.proofs.DistinctPoints.{near-present}
 use Rattle.plan_model.proofs.SamePoints.{same_point-true, same_point-false}
 use Rattle.seq_planner.proofs.PlacedLists.{ArePlaced-bounded}
 use Rattle.seq_planner.proofs.SoundTrees.{IsBounded-present, some_present}
-use Rattle.seq_planner.proofs.MarkExtensions.{Steers, IsFree-steered, IsExtensionOf-same, IsExtensionOf-blocked, IsExtensionOf-placed}
+use Rattle.seq_planner.proofs.MarkExtensions.{Steers, is_free, IsExtensionOf-same, IsExtensionOf-blocked, IsExtensionOf-placed}
 use Rattle.seq_planner.proofs.search_tree.SearchTree.extension.Goals as goal
 
 pub nearest-nearest-requires-clause-nodes : goal.nearest-nearest-requires-clause-nodes
@@ -99,7 +99,7 @@ choose-parent-requires-clause-near g c κs within =
       begins = c.point-from.ensures;
       ends = c.steer-point.ensures.value;
     } in
-    let free = IsFree-steered c.args.scene.now tree c.args.mark c.len-turn.result c.nearest-nearest.result c.point-from.result c.steer-point.result steers
+    let free = is_free c.args.scene.now tree c.args.mark c.len-turn.result c.nearest-nearest.result c.point-from.result c.steer-point.result steers
     (same_point-false c.steer-point.result c.point-from.result (sym c.eq.ensures ∙ c.if-eq.false)) in
     let found : c.deref.result.now ≡ near points c.steer-point.result c.at.result =
     c.deref.ensures.value ∙ c.in_ok-near.ensures points c.requires.sound.are_placed free in
@@ -127,7 +127,7 @@ returns g c =
       ends = c.steer-point.ensures.value;
     } in
     let apart = same_point-false c.steer-point.result c.point-from.result (sym c.eq.ensures ∙ c.if-eq.false) in
-    let free = IsFree-steered scene tree c.args.mark c.len-turn.result c.nearest-nearest.result c.point-from.result c.steer-point.result steers apart in
+    let free = is_free scene tree c.args.mark c.len-turn.result c.nearest-nearest.result c.point-from.result c.steer-point.result steers apart in
     let count : c.count-present.result ≡ node_count points = c.count-present.ensures points c.requires.sound.are_placed in
     let radius : c.at.result ≡ radius_of scene.step scene.gamma (node_count points) =
     c.at.ensures ∙ ap (λ s. radius_of s c.args.radii.now.gamma c.count-present.result) c.requires.step
