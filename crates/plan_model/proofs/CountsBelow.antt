@@ -1,22 +1,24 @@
--- How many numbers below a limit pass a test.
+-- The numbers below a limit, and how many of them pass a test.
 use Rattle.std.proofs.Common.{◌≡◌, ℕ, zero, suc, ◌+◌, ◌-◌, ◌<◌, ◌≤◌, Bool, true, false, cond, [], ◌∷◌, ◌++◌, arith, refl, sym, ap, ◌∙◌, inl, inr}
 use Rattle.std.specs.Prelude.{◌≢◌, count_by}
 use Rattle.std.specs.List.{range_with_len, sum_by}
 use Rattle.std.proofs.lemmas.Bool.{cases_eq, cases_lt, cases_Bool}
+use Rattle.std.proofs.lemmas.List.{map-id}
+use Rattle.std.proofs.lemmas.List.FromFn.{map-range_with_len_more}
 use Rattle.std.proofs.lemmas.List.Sums.{sum_by_push}
 
-range-more : (a n : ℕ) → range_with_len a (suc n) ≡ range_with_len a n ++ (a + n) ∷ []
-range-more a zero = ap (λ k. k ∷ []) (omega arith)
-range-more a (suc n) =
-    let e : (a + 1) + n ≡ a + suc n = omega arith in
-    ap (λ ks. a ∷ ks) (range-more (a + 1) n ∙ ap (λ k. range_with_len (a + 1) n ++ k ∷ []) e)
+-- one more number at the end
+pub range-more : (n : ℕ) → range_with_len 0 (n + 1) ≡ range_with_len 0 n ++ n ∷ []
+range-more n =
+    sym (map-id (range_with_len 0 (n + 1))) ∙ map-range_with_len_more (λ (x : ℕ). x) 0 n n (omega arith)
+    ∙ ap (λ ns. ns ++ n ∷ []) (map-id (range_with_len 0 n))
 
 -- with a limit of one more, the number before it counts if it passes
 pub count-more : (test : ℕ → Bool) (n : ℕ) → count_by test (range_with_len 0 (suc n)) ≡ count_by test (range_with_len 0 n) + cond (test n) 1 0
 count-more test n =
     let own : ℕ → ℕ = λ k. cond (test k) 1 0 in
-    let number : 0 + n ≡ n = omega arith in
-    ap (sum_by own) (range-more 0 n ∙ ap (λ k. range_with_len 0 n ++ k ∷ []) number) ∙ sum_by_push own (range_with_len 0 n) n
+    let next : suc n ≡ n + 1 = omega arith in
+    ap (λ m. count_by test (range_with_len 0 m)) next ∙ ap (sum_by own) (range-more n) ∙ sum_by_push own (range_with_len 0 n) n
 
 -- as many as the limit if all below pass
 pub count-all : (test : ℕ → Bool) (n : ℕ) → ((i : ℕ) → i < n → test i ≡ true) → count_by test (range_with_len 0 n) ≡ n

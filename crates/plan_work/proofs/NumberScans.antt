@@ -5,24 +5,15 @@ use Rattle.std.specs.Prelude.{◌↔◌, Contains, filter}
 use Rattle.std.specs.List.{range_with_len}
 use Rattle.std.proofs.lemmas.List.{append-nil, length-set, get_or-set_same, take_all, take_more, take-set-le, drop_more, drop-set-lt}
 use Rattle.std.proofs.lemmas.List.Elements.{filter-append, Contains-append_left, Contains-push, Contains-push_cases}
+use Rattle.plan_model.proofs.CountsBelow.{range-more}
 
 -- ---- numbers below a limit
-
-range-more : (a n : ℕ) → range_with_len a (suc n) ≡ range_with_len a n ++ (a + n) ∷ []
-range-more a zero = ap (λ k. k ∷ []) (omega arith)
-range-more a (suc n) =
-    let e : (a + 1) + n ≡ a + suc n = omega arith in
-    ap (λ ks. a ∷ ks) (range-more (a + 1) n ∙ ap (λ k. range_with_len (a + 1) n ++ k ∷ []) e)
 
 -- with a limit of one more, the number before it is kept if it passes
 pub filter-more : (test : ℕ → Bool) (n : ℕ)
     → filter test (range_with_len 0 (n + 1)) ≡ filter test (range_with_len 0 n) ++ cond (test n) (n ∷ []) []
 filter-more test n =
-    let next : n + 1 ≡ suc n = omega arith in
-    let number : 0 + n ≡ n = omega arith in
-    ap (λ m. filter test (range_with_len 0 m)) next
-    ∙ ap (filter test) (range-more 0 n ∙ ap (λ k. range_with_len 0 n ++ k ∷ []) number)
-    ∙ filter-append test (range_with_len 0 n) (n ∷ [])
+    ap (filter test) (range-more n) ∙ filter-append test (range_with_len 0 n) (n ∷ [])
 
 -- numbers that fail add nothing
 filter-past : (test : ℕ → Bool) (m d : ℕ) → ((i : ℕ) → m ≤ i → test i ≡ false)

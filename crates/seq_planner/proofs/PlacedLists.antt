@@ -4,26 +4,21 @@ use Rattle.std.proofs.Common.{arith, refl, sym, ap, ◌∙◌}
 use Rattle.std.specs.Prelude.{is_some, unwrap_or, filter, All}
 use Rattle.std.specs.List.{range_with_len}
 use Rattle.std.specs.List.Sorted.{IsStrictlyIncreasing}
-use Rattle.std.proofs.lemmas.List.{append-nil, map-id, length-map, length_push, get_or_append_left, get_or_push, map_push}
+use Rattle.std.proofs.lemmas.List.{append-nil, length-map, length_push, get_or_append_left, get_or_push, map_push}
 use Rattle.std.proofs.lemmas.List.Elements.{All-same, All-head, All-tail, All-weaker, All-map, filter-append, filter_passes}
-use Rattle.std.proofs.lemmas.List.FromFn.{fill_by_all, length-range_with_len, get_or-range_with_len, map-range_with_len_more}
+use Rattle.std.proofs.lemmas.List.FromFn.{fill_by_all, length-range_with_len, get_or-range_with_len}
 use Rattle.std.proofs.lemmas.List.Kept.{IsStrictlyIncreasing-filter}
 use Rattle.std.proofs.lemmas.List.Sums.{length-filter}
 use Rattle.plan_model.specs.Bounds.{IsBounded}
 use Rattle.plan_model.specs.PointsByNumber.{point_at, StandsAt, IsPresent, point_of, node_count}
 use Rattle.plan_model.specs.declared.geometry.Point.{Point}
+use Rattle.plan_model.proofs.CountsBelow.{range-more}
 use Rattle.plan_model.proofs.DistinctPoints.{IsPresent-below}
 use Rattle.plan_model.proofs.NewNodes.{StandsAt-present, node_count-some}
 use Rattle.seq_planner.specs.PlacedLists.{present_numbers, ArePlaced}
 use Rattle.seq_planner.specs.declared.placed_points.PlacedPoints.{PlacedPoints}
 
 -- ---- ranges and filters
-
--- one more number at the end
-range_with_len-more : (n : ℕ) → range_with_len 0 (n + 1) ≡ range_with_len 0 n ++ n ∷ []
-range_with_len-more n =
-    sym (map-id (range_with_len 0 (n + 1))) ∙ map-range_with_len_more (λ (x : ℕ). x) 0 n n (omega arith)
-    ∙ ap (λ ns. ns ++ n ∷ []) (map-id (range_with_len 0 n))
 
 -- each number is below the next
 pub IsStrictlyIncreasing-range_with_len : (a n : ℕ) → IsStrictlyIncreasing (range_with_len a n)
@@ -93,7 +88,7 @@ present_numbers-push points o =
     filter-range_agree q p 0 n (λ i low high. ap is_some (get_or_append_left points (o ∷ []) None i (omega (arith, high)))) in
     let new : q n ≡ is_some o = ap is_some (get_or_push points o None n refl) in
     ap (λ k. filter q (range_with_len 0 k)) (length_push points o)
-    ∙ ap (filter q) (range_with_len-more n)
+    ∙ ap (filter q) (range-more n)
     ∙ filter-append q (range_with_len 0 n) (n ∷ [])
     ∙ ap (λ ns. ns ++ cond (q n) (n ∷ []) []) kept
     ∙ ap (λ b. filter p (range_with_len 0 n) ++ cond b (n ∷ []) []) new
