@@ -3,13 +3,13 @@ use Rattle.std.proofs.Common.{◌≡◌, ◌≢◌, ◌⊎◌, inl, inr, ℕ, su
 use Rattle.std.proofs.Common.{refl, sym, ◌∙◌, arith, cond, eq-eqb}
 use Rattle.std.specs.Prelude.{pos, ◌<ℤ◌, int_lt}
 use Rattle.std.proofs.lemmas.Int.{ints}
-use Rattle.std.proofs.lemmas.Bool.{leb-true, eqb-true, cases_lt}
+use Rattle.std.proofs.lemmas.Bool.{and_parts, and_from, leb-true, eqb-true, cases_lt}
 use Rattle.std.specs.List.{list_all, range_with_len}
 use Rattle.plan_model.specs.declared.geometry.Vertex.{Vertex}
 use Rattle.plan_model.specs.Convexity.{corner_at, next_corner, is_left_of_edge, is_strictly_convex}
 use Rattle.plan_model.specs.Geometry.{orientation}
 use Rattle.convex_sets.specs.Edges.{is_end_or_left}
-use Rattle.convex_sets.proofs.Tests.{both_true, both_hold, true_below, true_of_below, false_below, last_true, one_true}
+use Rattle.convex_sets.proofs.Tests.{true_below, true_of_below, false_below, last_true, one_true}
 
 pub left_of_edge : (corners : List Vertex) (i to : ℕ) → to ≡ next_corner (length corners) i
     → ((k : ℕ) → k < length corners → is_end_or_left corners i to k ≡ true) → is_left_of_edge corners i ≡ true
@@ -24,7 +24,7 @@ not_left_of_edge corners i to k e l h =
 pub strictly_convex : (corners : List Vertex) → 3 ≤ length corners → ((i : ℕ) → i < length corners → is_left_of_edge corners i ≡ true)
     → is_strictly_convex corners ≡ true
 strictly_convex corners three h =
-    both_hold (nat_le 3 (length corners)) (list_all (is_left_of_edge corners) (range_with_len 0 (length corners))) (grind arith)
+    and_from (nat_le 3 (length corners)) (list_all (is_left_of_edge corners) (range_with_len 0 (length corners))) (grind arith)
     (true_of_below (is_left_of_edge corners) (length corners) h)
 
 right_fails : (a b : Bool) → b ≡ false → (a && b) ≡ false
@@ -44,7 +44,7 @@ pub record IsConvex (corners : List Vertex) : Type 0 where
 
 pub IsConvex-from_test : (corners : List Vertex) → is_strictly_convex corners ≡ true → IsConvex corners
 IsConvex-from_test corners h =
-    let parts = both_true (nat_le 3 (length corners)) (list_all (is_left_of_edge corners) (range_with_len 0 (length corners))) h in
+    let parts = and_parts (nat_le 3 (length corners)) (list_all (is_left_of_edge corners) (range_with_len 0 (length corners))) h in
     record {
       three = leb-true 3 (length corners) parts.0;
       left = λ i k l m p q.

@@ -1,13 +1,18 @@
--- What the bounds of corners say.
+-- Corners by their coordinates: when two are the same, and what their bounds say.
 use Rattle.std.proofs.Common.{◌≡◌, ℕ, ◌<◌, true, ◌&&◌, List, length, sym, arith}
 use Rattle.std.specs.Prelude.{ℤ, pos, ◌≤ℤ◌, int_le}
+use Rattle.std.proofs.lemmas.Bool.{and_parts, and_from}
 use Rattle.std.proofs.lemmas.Int.{ints}
 use Rattle.plan_model.specs.declared.limits.TheConstants.{LEAST_CORNER_COORDINATE, MOST_CORNER_COORDINATE}
 use Rattle.plan_model.specs.declared.geometry.Vertex.{Vertex}
 use Rattle.plan_model.specs.Convexity.{corner_at}
 use Rattle.plan_model.specs.Limits.{is_corner_between}
 use Rattle.convex_sets.specs.Bounds.{IsBoundedCorner, AreBoundedCorners}
-use Rattle.convex_sets.proofs.Tests.{both_true, both_hold, true_at}
+use Rattle.convex_sets.proofs.Tests.{true_at}
+
+-- vectors with the same coordinates are the same
+pub same_vector : (u v : Vertex) → u.x ≡ v.x → u.y ≡ v.y → u ≡ v
+same_vector u v p q = λ t. record { x = p t; y = q t }
 
 -- both coordinates are between two numbers
 pub record IsWithin (low high : ℤ) (v : Vertex) : Type 0 where
@@ -18,9 +23,9 @@ pub record IsWithin (low high : ℤ) (v : Vertex) : Type 0 where
 
 pub within_of : (low high : ℤ) (v : Vertex) → is_corner_between low high v ≡ true → IsWithin low high v
 within_of low high v h =
-    let first = both_true (int_le low v.x) (int_le v.x high && (int_le low v.y && int_le v.y high)) h in
-    let second = both_true (int_le v.x high) (int_le low v.y && int_le v.y high) first.1 in
-    let third = both_true (int_le low v.y) (int_le v.y high) second.1 in
+    let first = and_parts (int_le low v.x) (int_le v.x high && (int_le low v.y && int_le v.y high)) h in
+    let second = and_parts (int_le v.x high) (int_le low v.y && int_le v.y high) first.1 in
+    let third = and_parts (int_le low v.y) (int_le v.y high) second.1 in
     record {
       left = omega (arith, ints, first.0);
       right = omega (arith, ints, second.0);
@@ -44,4 +49,4 @@ bounded_of v h =
     let b : int_le v.x MOST_CORNER_COORDINATE ≡ true = sym (omega (arith, ints)) in
     let c : int_le LEAST_CORNER_COORDINATE v.y ≡ true = sym (omega (arith, ints)) in
     let d : int_le v.y MOST_CORNER_COORDINATE ≡ true = sym (omega (arith, ints)) in
-    both_hold _ _ a (both_hold _ _ b (both_hold _ _ c d))
+    and_from _ _ a (and_from _ _ b (and_from _ _ c d))

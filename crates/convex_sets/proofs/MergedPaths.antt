@@ -9,6 +9,7 @@ use Rattle.plan_model.specs.declared.geometry.Vertex.{Vertex}
 use Rattle.plan_model.specs.Convexity.{corner_at}
 use Rattle.convex_sets.specs.Edges.{cross, from_to}
 use Rattle.convex_sets.specs.Outlines.{both, edge_at, start, rise, IsOutline, IsSum, IsStep}
+use Rattle.convex_sets.proofs.Corners.{same_vector}
 use Rattle.convex_sets.proofs.Ring.{var, plus, minus, times, same}
 use Rattle.convex_sets.proofs.MergeSteps.{IsAhead, IsAt, IsNext, Step, take_first, take_second, take_both}
 
@@ -156,12 +157,6 @@ step a b corners i j k l f m s small_a small_b edge =
       long_a = omega (arith, pushed corners y);
       long_b = omega (arith, pushed corners y);
     }
-
-same_record : (a b c d : ℤ) → a ≡ c → b ≡ d → ◌≡◌ {A = Vertex} (record { x = a; y = b }) (record { x = c; y = d })
-same_record a b c d p q = cc
-
-pub same_vector : (u v : Vertex) → u.x ≡ v.x → u.y ≡ v.y → u ≡ v
-same_vector u v p q = same_record u.x u.y v.x v.y p q
 
 pub step_first : (a b corners : List Vertex) (i j : ℕ) → IsMergedTo a b corners i j → IsOutline a → IsOutline b → suc i < length a
     → (suc j < length b → pos 0 <ℤ cross (edge_at a i) (edge_at b j))

@@ -1,26 +1,18 @@
 -- Tests of every member of a list, and of every number below another.
-use Rattle.std.proofs.Common.{◌≡◌, ◌≢◌, ℕ, ◌<◌, Bool, true, false, ◌&&◌, ◌||◌, eqb, List, [], ◌∷◌, length, get_or, refl, zero, suc, eq-eqb, arith}
-use Rattle.std.proofs.lemmas.Bool.{eqb-true}
+use Rattle.std.proofs.Common.{◌≡◌, ◌≢◌, ℕ, ◌<◌, Bool, true, false, ◌||◌, eqb, List, [], ◌∷◌, length, get_or, refl, zero, suc, eq-eqb, arith}
+use Rattle.std.proofs.lemmas.Bool.{and_parts, and_from, eqb-true}
 use Rattle.std.proofs.lemmas.List.FromFn.{length-range_with_len, get_or-range_with_len}
 use Rattle.std.proofs.lemmas.List.Folds.{list_all_at}
 use Rattle.std.specs.List.{list_all, range_with_len}
 
-pub both_true : (a b : Bool) → (a && b) ≡ true → (a ≡ true) × (b ≡ true)
-both_true true b h = (refl, h)
-both_true false b h = cc
-
 pub true_at : {X : Type 0} (p : X → Bool) (xs : List X) (i : ℕ) (d : X) → list_all p xs ≡ true → i < length xs → p (get_or xs i d) ≡ true
 true_at p [] i d h l = absurd (omega arith)
-true_at p (x ∷ xs) zero d h l = (both_true (p x) (list_all p xs) h).0
-true_at p (x ∷ xs) (suc i) d h l = true_at p xs i d (both_true (p x) (list_all p xs) h).1 (omega arith)
-
-pub both_hold : (a b : Bool) → a ≡ true → b ≡ true → (a && b) ≡ true
-both_hold true b h k = k
-both_hold false b h k = cc
+true_at p (x ∷ xs) zero d h l = (and_parts (p x) (list_all p xs) h).0
+true_at p (x ∷ xs) (suc i) d h l = true_at p xs i d (and_parts (p x) (list_all p xs) h).1 (omega arith)
 
 pub true_of_all : {X : Type 0} (p : X → Bool) (xs : List X) (d : X) → ((i : ℕ) → i < length xs → p (get_or xs i d) ≡ true) → list_all p xs ≡ true
 true_of_all p [] d h = refl
-true_of_all p (x ∷ xs) d h = both_hold (p x) (list_all p xs) (h 0 (omega arith)) (true_of_all p xs d (λ i l. h (suc i) (omega arith)))
+true_of_all p (x ∷ xs) d h = and_from (p x) (list_all p xs) (h 0 (omega arith)) (true_of_all p xs d (λ i l. h (suc i) (omega arith)))
 
 -- a test of every number below n
 pub true_below : (p : ℕ → Bool) (n : ℕ) → list_all p (range_with_len 0 n) ≡ true → (k : ℕ) → k < n → p k ≡ true
@@ -48,14 +40,6 @@ last_true k i j b h p q = by (eqb k i) (eqb k j) refl refl h
     by true t e f g = absurd (p (eqb-true k i e))
     by false true e f g = absurd (q (eqb-true k j f))
     by false false e f g = g
-
-pub last_false : (k i j : ℕ) (b : Bool) → k ≢ i → k ≢ j → b ≡ false → (eqb k i || (eqb k j || b)) ≡ false
-last_false k i j b p q h = by (eqb k i) (eqb k j) refl refl
-  where
-    by : (s t : Bool) → eqb k i ≡ s → eqb k j ≡ t → (s || (t || b)) ≡ false
-    by true t e f = absurd (p (eqb-true k i e))
-    by false true e f = absurd (q (eqb-true k j f))
-    by false false e f = h
 
 -- three tests, of which one holds
 pub one_true : (k i j : ℕ) (b : Bool) → (k ≢ i → k ≢ j → b ≡ true) → (eqb k i || (eqb k j || b)) ≡ true

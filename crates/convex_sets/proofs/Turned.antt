@@ -11,10 +11,10 @@ use Rattle.plan_model.specs.Geometry.{orientation}
 use Rattle.convex_sets.specs.Bounds.{AreBoundedCorners, IsBoundedCorner}
 use Rattle.convex_sets.specs.Edges.{cross, from_to}
 use Rattle.convex_sets.specs.Outlines.{edge_at, start, rise, IsOutline, IsOutlineOf, IsTurned, places_after}
-use Rattle.convex_sets.proofs.Corners.{bounded_corner, bounded_at}
+use Rattle.convex_sets.proofs.Corners.{same_vector, bounded_corner, bounded_at}
 use Rattle.convex_sets.proofs.Crosses.{between, cross_opposite, cross_self, cross-by_way}
 use Rattle.convex_sets.proofs.MergeSteps.{zero_vector, from_end}
-use Rattle.convex_sets.proofs.MergedPaths.{same_vector, pushed, at_front, at_end}
+use Rattle.convex_sets.proofs.MergedPaths.{pushed, at_front, at_end}
 use borrow.Author.Count.{below_more}
 use Rattle.convex_sets.proofs.ConvexPolygons.{IsConvex, IsConvex-from_test, next_suc, next_last}
 use Rattle.convex_sets.proofs.Tests.{true_of_all}

@@ -7,13 +7,14 @@ use Rattle.std.proofs.lemmas.List.Folds.{list_all-map}
 use Rattle.std.proofs.lemmas.Nat.{mod_below, div-add-mod'}
 use Rattle.std.proofs.Math.Nat.{mul-pos}
 use Rattle.std.proofs.lemmas.Int.{ints}
+use Rattle.std.proofs.lemmas.Bool.{and_from}
 use Rattle.plan_model.specs.declared.geometry.Point.{Point}
 use Rattle.plan_model.specs.declared.geometry.Vertex.{Vertex}
 use Rattle.plan_model.specs.Geometry.{orientation}
 use Rattle.plan_model.specs.Convexity.{is_strictly_convex}
 use Rattle.plan_model.specs.Limits.{is_corner_between, is_obstacle, are_obstacles}
 use Rattle.plan_model.specs.declared.limits.TheConstants.{LEAST_OBSTACLE_COORDINATE, MOST_OBSTACLE_COORDINATE, MOST_OBSTACLES}
-use Rattle.convex_sets.proofs.Tests.{both_hold, true_of_below}
+use Rattle.convex_sets.proofs.Tests.{true_of_below}
 use Rattle.convex_sets.proofs.Ring.{Read, var, minus, times}
 use Rattle.planner_main.specs.GeneratedScenes.{corner, square, triangle, place_in_cell, side_by, obstacle_by, generated_obstacle, generated_obstacles}
 
@@ -114,7 +115,7 @@ are_obstacles-numbered : (f : ℕ → List Vertex) (n : ℕ) → n ≤ MOST_OBST
     are_obstacles (map f (range_with_len 0 n)) ≡ true
 are_obstacles-numbered f n few h =
     let long = length-map-range_with_len f 0 n in
-    both_hold (nat_le (length (map f (range_with_len 0 n))) MOST_OBSTACLES) (list_all is_obstacle (map f (range_with_len 0 n)))
+    and_from (nat_le (length (map f (range_with_len 0 n))) MOST_OBSTACLES) (list_all is_obstacle (map f (range_with_len 0 n)))
     (rw long (grind arith)) (list_all-map is_obstacle f (range_with_len 0 n) ∙ true_of_below (λ k. is_obstacle (f k)) n h)
 
 pub are_obstacles-generated : (number : ℕ) → IsTrue (are_obstacles (generated_obstacles number))

@@ -5,6 +5,7 @@ use Rattle.std.specs.List.{list_all}
 use Rattle.std.proofs.lemmas.Bool.Decides.{nat_tests}
 use Rattle.std.proofs.lemmas.List.{length-append}
 use Rattle.std.proofs.lemmas.List.Folds.{list_all-append}
+use Rattle.std.proofs.lemmas.Bool.{and_parts}
 use Rattle.plan_model.specs.declared.geometry.Point.{Point}
 use Rattle.plan_model.specs.declared.geometry.Vertex.{Vertex}
 use Rattle.plan_model.specs.declared.scenes.Scene.{Scene}
@@ -20,7 +21,7 @@ use Rattle.plan_model.specs.SceneGrammar.{supported}
 use Rattle.plan_model.specs.CanonicalText.{point_numbers, goal_numbers, corner_numbers, statement, version_statement, obstacle_statement, mark_statement}
 use Rattle.plan_model.specs.CanonicalText.{plan_statements, task_statements, canonical_statements}
 use Rattle.plan_model.proofs.StatementNumbers.{given_by-append}
-use Rattle.scene_text.proofs.StatementTexts.{both, is_clean, AreSound, AreSound-append}
+use Rattle.scene_text.proofs.StatementTexts.{is_clean, AreSound, AreSound-append}
 use Rattle.scene_text.proofs.CanonicalWords.{IsFit, is_clean-statement, fault-none}
 use Rattle.scene_text.proofs.CanonicalNumbers.{fit-room, fit-body, few-body, fit-obstacle, small-obstacle, fit-start, fit-goal, fit-step, fit-gamma}
 use Rattle.scene_text.proofs.CanonicalNumbers.{fit-seed, fit-strips, fit-marks, fit-mark}
@@ -74,7 +75,7 @@ sound-obstacles : (before : List (List (List ℕ))) (obstacles : List (List Vert
     → length (given_by before keys.Obstacle) + length obstacles ≤ MOST_OBSTACLES → AreSound (version_statement ∷ before) (map obstacle_statement obstacles)
 sound-obstacles before [] h few = tt
 sound-obstacles before (corners ∷ obstacles) h few =
-    let parts = both (is_obstacle corners) (list_all is_obstacle obstacles) h in
+    let parts = and_parts (is_obstacle corners) (list_all is_obstacle obstacles) h in
     let count = count-push keys.Obstacle before (obstacle_statement corners) in (
       fault-none keys.Obstacle (corner_numbers corners) (given_by before) (fit-obstacle corners parts.0) refl
           (few-obstacles corners (length (given_by before keys.Obstacle)) (length obstacles) parts.0 few),
@@ -85,7 +86,7 @@ sound-marks : (before : List (List (List ℕ))) (points : List Point) → list_a
     → length (given_by before keys.Mark) + length points ≤ MOST_MARKS → AreSound (version_statement ∷ before) (map mark_statement points)
 sound-marks before [] h none few = tt
 sound-marks before (p ∷ points) h none few =
-    let parts = both (is_mark p) (list_all is_mark points) h in
+    let parts = and_parts (is_mark p) (list_all is_mark points) h in
     let count = count-push keys.Mark before (mark_statement p) in
     let below : leb MOST_MARKS (length (given_by before keys.Mark)) ≡ false = grind (arith, nat_tests) in (
       fault-none keys.Mark (point_numbers p) (given_by before) (fit-mark p parts.0) (ap is_inhabited none) below,
@@ -99,7 +100,7 @@ sound-plan before (Drawn n) h none unlisted =
     let room : is_too_many (given_by before) keys.Marks 1 ≡ false = rw none refl in
     (fault-none keys.Marks (pos n ∷ []) (given_by before) (fit-marks n h) fresh room, tt)
 sound-plan before (Listed points) h none unlisted =
-    let parts = both (leb (length points) MOST_MARKS) (list_all is_mark points) h in
+    let parts = and_parts (leb (length points) MOST_MARKS) (list_all is_mark points) h in
     let count : length (given_by before keys.Mark) ≡ 0 = ap length unlisted in
     sound-marks before points parts.1 none (grind (arith, nat_tests))
 
@@ -156,7 +157,7 @@ sound-task scene short =
 
 obstacles-within : (scene : Scene) → (length scene.obstacles ≤ MOST_OBSTACLES) × (list_all is_obstacle scene.obstacles ≡ true)
 obstacles-within scene =
-    let parts = both (leb (length scene.obstacles) MOST_OBSTACLES) (list_all is_obstacle scene.obstacles) scene.obstacles_within in
+    let parts = and_parts (leb (length scene.obstacles) MOST_OBSTACLES) (list_all is_obstacle scene.obstacles) scene.obstacles_within in
     (grind (arith, nat_tests), parts.1)
 
 sound-after : (scene : Scene) → scene.seed < 2 ^ 64 → AreSound (version_statement ∷ prefix_of scene) (task_statements scene ++ plan_statements scene.plan)
@@ -192,18 +193,18 @@ sound-canonical scene short =
 clean-obstacles : (obstacles : List (List Vertex)) → list_all is_obstacle obstacles ≡ true → list_all is_clean (map obstacle_statement obstacles) ≡ true
 clean-obstacles [] h = refl
 clean-obstacles (corners ∷ obstacles) h =
-    let parts = both (is_obstacle corners) (list_all is_obstacle obstacles) h in
+    let parts = and_parts (is_obstacle corners) (list_all is_obstacle obstacles) h in
     rw (is_clean-statement keys.Obstacle (corner_numbers corners) (fit-obstacle corners parts.0), clean-obstacles obstacles parts.1) refl
 
 clean-marks : (points : List Point) → list_all is_mark points ≡ true → list_all is_clean (map mark_statement points) ≡ true
 clean-marks [] h = refl
 clean-marks (p ∷ points) h =
-    let parts = both (is_mark p) (list_all is_mark points) h in
+    let parts = and_parts (is_mark p) (list_all is_mark points) h in
     rw (is_clean-statement keys.Mark (point_numbers p) (fit-mark p parts.0), clean-marks points parts.1) refl
 
 clean-plan : (plan : Marks) → is_plan plan ≡ true → list_all is_clean (plan_statements plan) ≡ true
 clean-plan (Drawn n) h = rw (is_clean-statement keys.Marks (pos n ∷ []) (fit-marks n h)) refl
-clean-plan (Listed points) h = clean-marks points (both (leb (length points) MOST_MARKS) (list_all is_mark points) h).1
+clean-plan (Listed points) h = clean-marks points (and_parts (leb (length points) MOST_MARKS) (list_all is_mark points) h).1
 
 clean-append : (xs ys : List (List (List ℕ))) → list_all is_clean xs ≡ true → list_all is_clean ys ≡ true → list_all is_clean (xs ++ ys) ≡ true
 clean-append xs ys e f = list_all-append is_clean xs ys ∙ rw (e, f) refl

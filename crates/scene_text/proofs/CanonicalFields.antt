@@ -3,6 +3,7 @@ use Rattle.std.proofs.Common.{◌≡◌, ℕ, ◌^◌, ◌<◌, true, false, leb
 use Rattle.std.specs.List.{list_all}
 use Rattle.std.specs.Fmt.{signed_decimal}
 use Rattle.std.proofs.lemmas.List.{append-nil}
+use Rattle.std.proofs.lemmas.Bool.{and_parts}
 use Rattle.plan_model.specs.declared.geometry.Point.{Point}
 use Rattle.plan_model.specs.declared.geometry.Vertex.{Vertex}
 use Rattle.plan_model.specs.declared.scenes.Scene.{Scene}
@@ -21,7 +22,7 @@ use Rattle.plan_model.specs.SceneGrammar.{supported}
 use Rattle.plan_model.specs.CanonicalText.{point_numbers, goal_numbers, corner_numbers, obstacle_statement, mark_statement, plan_statements}
 use Rattle.plan_model.specs.CanonicalText.{task_statements, canonical_statements, canonical_text}
 use Rattle.plan_model.proofs.StatementNumbers.{given_by-append}
-use Rattle.scene_text.proofs.StatementTexts.{both, lines_of-text, statements_of-lines, IsSoundBelow-text}
+use Rattle.scene_text.proofs.StatementTexts.{lines_of-text, statements_of-lines, IsSoundBelow-text}
 use Rattle.scene_text.proofs.CanonicalWords.{IsFit, short-ranged, values-decimal}
 use Rattle.scene_text.proofs.CanonicalNumbers.{corners_from-numbers, fit-room, fit-body, fit-obstacle, fit-start, fit-goal, fit-step, fit-gamma, fit-seed}
 use Rattle.scene_text.proofs.CanonicalNumbers.{fit-strips, fit-marks, fit-mark}
@@ -37,7 +38,7 @@ given-obstacles : (obstacles : List (List Vertex)) → list_all is_obstacle obst
     → map corners_from (given_by (map obstacle_statement obstacles) keys.Obstacle) ≡ obstacles
 given-obstacles [] h = refl
 given-obstacles (corners ∷ obstacles) h =
-    let parts = both (is_obstacle corners) (list_all is_obstacle obstacles) h in
+    let parts = and_parts (is_obstacle corners) (list_all is_obstacle obstacles) h in
     let here : corners_from (map value_of (map signed_decimal (corner_numbers corners)))
     ≡ corners = ap corners_from (values-fit keys.Obstacle (corner_numbers corners) (fit-obstacle corners parts.0)) ∙ corners_from-numbers corners in
     rw (here, given-obstacles obstacles parts.1) refl
@@ -45,7 +46,7 @@ given-obstacles (corners ∷ obstacles) h =
 given-marks : (points : List Point) → list_all is_mark points ≡ true → map point_from (given_by (map mark_statement points) keys.Mark) ≡ points
 given-marks [] h = refl
 given-marks (p ∷ points) h =
-    let parts = both (is_mark p) (list_all is_mark points) h in
+    let parts = and_parts (is_mark p) (list_all is_mark points) h in
     let here : point_from (map value_of (map signed_decimal (point_numbers p)))
     ≡ p = ap point_from (values-fit keys.Mark (point_numbers p) (fit-mark p parts.0)) in
     rw (here, given-marks points parts.1) refl
@@ -63,7 +64,7 @@ plan-again (Drawn n) h =
     ap (λ zs. plan_from (zs ∷ []) []) (values-fit keys.Marks (pos n ∷ []) (fit-marks n h))
 plan-again (Listed points) h =
     ap (λ lists. plan_from lists (given_by (map mark_statement points) keys.Mark)) (none-marks keys.Marks points refl)
-    ∙ ap Listed (given-marks points (both (leb _ MOST_MARKS) (list_all is_mark points) h).1)
+    ∙ ap Listed (given-marks points (and_parts (leb _ MOST_MARKS) (list_all is_mark points) h).1)
 
 -- ---- the fields
 
@@ -91,7 +92,7 @@ stands-rest key scene other some =
 
 obstacles-again : (scene : Scene) → map corners_from (given_by (map obstacle_statement scene.obstacles ++ rest_of scene) keys.Obstacle) ≡ scene.obstacles
 obstacles-again scene =
-    let within = (both _ (list_all is_obstacle scene.obstacles) scene.obstacles_within).1 in
+    let within = (and_parts _ (list_all is_obstacle scene.obstacles) scene.obstacles_within).1 in
     ap (map corners_from) (given_by-append (map obstacle_statement scene.obstacles) (rest_of scene) keys.Obstacle
     ∙ ap (λ lists. given_by (map obstacle_statement scene.obstacles) keys.Obstacle ++ lists) (obstacles-of-plan scene.plan)
     ∙ append-nil (given_by (map obstacle_statement scene.obstacles) keys.Obstacle)) ∙ given-obstacles scene.obstacles within

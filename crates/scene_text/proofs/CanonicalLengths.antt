@@ -6,6 +6,7 @@ use Rattle.std.proofs.lemmas.Bool.Decides.{nat_tests}
 use Rattle.std.proofs.lemmas.Fmt.{length-decimal-le}
 use Rattle.std.proofs.lemmas.Grind.{flat_map-append}
 use Rattle.std.proofs.lemmas.List.{length-append}
+use Rattle.std.proofs.lemmas.Bool.{and_parts}
 use Rattle.plan_model.specs.declared.geometry.Point.{Point}
 use Rattle.plan_model.specs.declared.geometry.Vertex.{Vertex}
 use Rattle.plan_model.specs.declared.scenes.Scene.{Scene}
@@ -19,7 +20,6 @@ use Rattle.plan_model.specs.ReportText.{line}
 use Rattle.plan_model.specs.Keys.{name_of}
 use Rattle.plan_model.specs.CanonicalText.{point_numbers, goal_numbers, corner_numbers, statement, version_statement, obstacle_statement, mark_statement}
 use Rattle.plan_model.specs.CanonicalText.{plan_statements, task_statements, canonical_text}
-use Rattle.scene_text.proofs.StatementTexts.{both}
 use Rattle.scene_text.proofs.TextLemmas.{line-spaced}
 use Rattle.scene_text.proofs.DecimalWords.{IsShort}
 use Rattle.scene_text.proofs.CanonicalWords.{IsFit, AreShort, short-ranged}
@@ -77,7 +77,7 @@ length-obstacles : (obstacles : List (List Vertex)) → list_all is_obstacle obs
     → length (flat_map line (map obstacle_statement obstacles)) ≤ 2825 * length obstacles
 length-obstacles [] h = omega arith
 length-obstacles (corners ∷ obstacles) h =
-    let parts = both (is_obstacle corners) (list_all is_obstacle obstacles) h in
+    let parts = and_parts (is_obstacle corners) (list_all is_obstacle obstacles) h in
     let few = small-obstacle corners parts.0 in
     let count : length (corner_numbers corners) ≤ 2 * MOST_OBSTACLE_CORNERS = grind (arith, nat_tests) in
     let here = length-line keys.Obstacle (corner_numbers corners) (fit-obstacle corners parts.0) in
@@ -89,7 +89,7 @@ length-obstacles (corners ∷ obstacles) h =
 length-marks : (points : List Point) → list_all is_mark points ≡ true → length (flat_map line (map mark_statement points)) ≤ 49 * length points
 length-marks [] h = omega arith
 length-marks (p ∷ points) h =
-    let parts = both (is_mark p) (list_all is_mark points) h in
+    let parts = and_parts (is_mark p) (list_all is_mark points) h in
     let here = length-line keys.Mark (point_numbers p) (fit-mark p parts.0) in
     let rest = length-marks points parts.1 in
     let more = length-more (mark_statement p) (map mark_statement points) in
@@ -101,7 +101,7 @@ length-plan (Drawn n) h =
     let more = length-more (statement keys.Marks (pos n ∷ [])) [] in
     omega arith
 length-plan (Listed points) h =
-    let parts = both (leb (length points) MOST_MARKS) (list_all is_mark points) h in
+    let parts = and_parts (leb (length points) MOST_MARKS) (list_all is_mark points) h in
     let few : length points ≤ MOST_MARKS = grind (arith, nat_tests) in
     let lines = length-marks points parts.1 in
     omega arith
@@ -137,7 +137,7 @@ length-after : (scene : Scene) → scene.seed < 2 ^ 64
     → length (flat_map line (map obstacle_statement scene.obstacles ++ (task_statements scene ++ plan_statements scene.plan)))
     ≤ 2825 * MOST_OBSTACLES + (300 + 49 * MOST_MARKS)
 length-after scene short =
-    let parts = both (leb (length scene.obstacles) MOST_OBSTACLES) (list_all is_obstacle scene.obstacles) scene.obstacles_within in
+    let parts = and_parts (leb (length scene.obstacles) MOST_OBSTACLES) (list_all is_obstacle scene.obstacles) scene.obstacles_within in
     let few : length scene.obstacles ≤ MOST_OBSTACLES = grind (arith, nat_tests) in
     let obstacles = length-obstacles scene.obstacles parts.1 in
     let task = length-task scene short in

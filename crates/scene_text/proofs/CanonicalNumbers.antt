@@ -3,6 +3,7 @@ use Rattle.std.proofs.Common.{◌≡◌, ℕ, ◌*◌, ◌%◌, ◌^◌, ◌<◌
 use Rattle.std.proofs.Common.{inl, inr, refl, ap, ◌∙◌, arith}
 use Rattle.std.specs.List.{list_all}
 use Rattle.std.proofs.lemmas.Bool.Decides.{nat_tests}
+use Rattle.std.proofs.lemmas.Bool.{and_parts}
 use Rattle.plan_model.specs.declared.geometry.Point.{Point}
 use Rattle.plan_model.specs.declared.geometry.Vertex.{Vertex}
 use Rattle.plan_model.specs.declared.geometry.Goal.{Goal}
@@ -14,7 +15,6 @@ use Rattle.plan_model.specs.declared.limits.TheConstants.{MOST_BODY_COORDINATE, 
 use Rattle.plan_model.specs.declared.limits.TheConstants.{MOST_OBSTACLE_CORNERS, MOST_SIDE, MOST_STEP, MOST_STRIPS}
 use Rattle.plan_model.specs.LineChecks.{corners_from}
 use Rattle.plan_model.specs.CanonicalText.{point_numbers, goal_numbers, corner_numbers}
-use Rattle.scene_text.proofs.StatementTexts.{both}
 use Rattle.scene_text.proofs.CanonicalWords.{IsFit}
 
 -- ---- one number
@@ -58,7 +58,7 @@ fit-start p h = record { words = refl; ranged = pair 0 p.x p.y h.left h.right h.
 
 pub fit-mark : (p : Point) → is_mark p ≡ true → IsFit keys.Mark (point_numbers p)
 fit-mark p h =
-    let parts = both (leb p.x MOST_SIDE) (leb p.y MOST_SIDE) h in
+    let parts = and_parts (leb p.x MOST_SIDE) (leb p.y MOST_SIDE) h in
     record {
       words = refl;
       ranged = pair 0 p.x p.y (omega arith) (grind (arith, nat_tests)) (omega arith) (grind (arith, nat_tests));
@@ -99,11 +99,11 @@ corners-ranged : (low high : ℤ) (corners : List Vertex)
     → list_all (λ z. int_le low z && int_le z high) (corner_numbers corners) ≡ true
 corners-ranged low high [] h = refl
 corners-ranged low high (v ∷ corners) h =
-    let parts = both (int_le low v.x && (int_le v.x high && (int_le low v.y && int_le v.y high)))
+    let parts = and_parts (int_le low v.x && (int_le v.x high && (int_le low v.y && int_le v.y high)))
     (list_all (λ u. int_le low u.x && (int_le u.x high && (int_le low u.y && int_le u.y high))) corners) h in
-    let left = both (int_le low v.x) (int_le v.x high && (int_le low v.y && int_le v.y high)) parts.0 in
-    let right = both (int_le v.x high) (int_le low v.y && int_le v.y high) left.1 in
-    let up = both (int_le low v.y) (int_le v.y high) right.1 in
+    let left = and_parts (int_le low v.x) (int_le v.x high && (int_le low v.y && int_le v.y high)) parts.0 in
+    let right = and_parts (int_le v.x high) (int_le low v.y && int_le v.y high) left.1 in
+    let up = and_parts (int_le low v.y) (int_le v.y high) right.1 in
     rw (left.0, right.0, up.0, up.1, corners-ranged low high corners parts.1) refl
 
 -- ---- how many words a polygon has
@@ -123,12 +123,12 @@ shape : (one convex : Bool) (n : ℕ) → (one || (leb n MOST_BODY_CORNERS && co
     → (n ≡ 1) ⊎ ((n ≤ MOST_BODY_CORNERS) × (convex ≡ true))
 shape true convex n h e = inl (grind (arith, nat_tests))
 shape false convex n h e =
-    let parts = both (leb n MOST_BODY_CORNERS) convex h in
+    let parts = and_parts (leb n MOST_BODY_CORNERS) convex h in
     inr (grind (arith, nat_tests), parts.1)
 
 convex-many : (corners : List Vertex) → is_strictly_convex corners ≡ true → LEAST_CORNERS ≤ length corners
 convex-many corners h =
-    let many = (both (leb LEAST_CORNERS (length corners)) _ h).0 in
+    let many = (and_parts (leb LEAST_CORNERS (length corners)) _ h).0 in
     grind (arith, nat_tests)
 
 -- if there is one corner, or they are many and convex
@@ -157,7 +157,7 @@ IsShaped-one corners (inr h) = record { few = h.0; many = inr (convex-many corne
 body-shaped : (corners : List Vertex) → is_body corners ≡ true → IsShaped corners
 body-shaped corners h =
     IsShaped-one corners (shape (eqb (length corners) 1) (is_strictly_convex corners) (length corners)
-    (both (eqb (length corners) 1 || (leb (length corners) MOST_BODY_CORNERS && is_strictly_convex corners)) _ h).0 refl)
+    (and_parts (eqb (length corners) 1 || (leb (length corners) MOST_BODY_CORNERS && is_strictly_convex corners)) _ h).0 refl)
 
 pub fit-body : (corners : List Vertex) → is_body corners ≡ true → IsFit keys.Body (corner_numbers corners)
 fit-body corners h =
@@ -166,7 +166,7 @@ fit-body corners h =
     record {
       words = body-words (length corners) (length (corner_numbers corners)) count shaped.many;
       ranged = corners-ranged LEAST_BODY_COORDINATE MOST_BODY_COORDINATE corners
-          (both (eqb (length corners) 1 || (leb (length corners) MOST_BODY_CORNERS && is_strictly_convex corners)) _ h).1;
+          (and_parts (eqb (length corners) 1 || (leb (length corners) MOST_BODY_CORNERS && is_strictly_convex corners)) _ h).1;
       convex = ap (λ vs. eqb (length (corner_numbers corners)) 2 || is_strictly_convex vs) (corners_from-numbers corners)
           ∙ body-corners (length corners) (length (corner_numbers corners)) (is_strictly_convex corners) count shaped.convex;
     }
@@ -179,8 +179,8 @@ few-body corners h =
 
 obstacle-parts : (corners : List Vertex) → is_obstacle corners ≡ true → (length corners ≤ MOST_OBSTACLE_CORNERS) × (is_strictly_convex corners ≡ true)
 obstacle-parts corners h =
-    let parts = both (leb (length corners) MOST_OBSTACLE_CORNERS) (is_strictly_convex corners)
-    (both (leb (length corners) MOST_OBSTACLE_CORNERS && is_strictly_convex corners) _ h).0 in
+    let parts = and_parts (leb (length corners) MOST_OBSTACLE_CORNERS) (is_strictly_convex corners)
+    (and_parts (leb (length corners) MOST_OBSTACLE_CORNERS && is_strictly_convex corners) _ h).0 in
     (grind (arith, nat_tests), parts.1)
 
 pub fit-obstacle : (corners : List Vertex) → is_obstacle corners ≡ true → IsFit keys.Obstacle (corner_numbers corners)
@@ -189,7 +189,7 @@ fit-obstacle corners h =
     record {
       words = words-many (length corners) (length (corner_numbers corners)) (length-corner_numbers corners) (convex-many corners convex);
       ranged = corners-ranged LEAST_OBSTACLE_COORDINATE MOST_OBSTACLE_COORDINATE corners
-          (both (leb (length corners) MOST_OBSTACLE_CORNERS && is_strictly_convex corners) _ h).1;
+          (and_parts (leb (length corners) MOST_OBSTACLE_CORNERS && is_strictly_convex corners) _ h).1;
       convex = ap is_strictly_convex (corners_from-numbers corners) ∙ convex;
     }
 

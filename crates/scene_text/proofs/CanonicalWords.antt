@@ -5,6 +5,7 @@ use Rattle.std.specs.Fmt.{signed_decimal}
 use Rattle.std.specs.List.{list_all}
 use Rattle.std.proofs.lemmas.List.{length-map}
 use Rattle.std.proofs.lemmas.Bool.Decides.{nat_tests}
+use Rattle.std.proofs.lemmas.Bool.{and_parts}
 use Rattle.plan_model.specs.declared.text_terms.Key.{Key}
 use Rattle.plan_model.specs.declared.text_terms.Key.TheVariants as keys
 use Rattle.plan_model.specs.declared.text_terms.Kind.TheVariants as kinds
@@ -16,19 +17,19 @@ use Rattle.plan_model.specs.LineChecks.{fault_of_statement, Given}
 use Rattle.plan_model.specs.SceneGrammar.{supported}
 use Rattle.plan_model.specs.CanonicalText.{statement}
 use Rattle.plan_model.proofs.StatementNumbers.{key_of-name}
-use Rattle.scene_text.proofs.StatementTexts.{both, is_word, is_clean}
+use Rattle.scene_text.proofs.StatementTexts.{is_word, is_clean}
 use Rattle.scene_text.proofs.DecimalWords.{IsShort, is_word-signed, is_number-signed, value_of-signed}
 
 -- ---- numbers in their range are short
 
 short-natural : (least : Bool) (n most : ℕ) → (least && leb n most) ≡ true → most < 2 ^ 64 → n < 2 ^ 64
 short-natural least n most h small =
-    let within = (both least (leb n most) h).1 in
+    let within = (and_parts least (leb n most) h).1 in
     grind (arith, nat_tests)
 
 short-negative : (n least : ℕ) (most : Bool) → (leb n least && most) ≡ true → least < 131072 → suc n < 2 ^ 64
 short-negative n least most h small =
-    let within = (both (leb n least) most h).0 in
+    let within = (and_parts (leb n least) most h).0 in
     grind (arith, nat_tests)
 
 short-in_range : (key : Key) (z : ℤ) → (int_le (least_of key) z && int_le z (most_of key)) ≡ true → IsShort z
@@ -54,12 +55,12 @@ AreShort (z ∷ zs) = IsShort z × AreShort zs
 short-all : (key : Key) (zs : List ℤ) → are_between (least_of key) (most_of key) zs ≡ true → AreShort zs
 short-all key [] h = tt
 short-all key (z ∷ zs) h =
-    let parts = both (int_le (least_of key) z && int_le z (most_of key)) (are_between (least_of key) (most_of key) zs) h in
+    let parts = and_parts (int_le (least_of key) z && int_le z (most_of key)) (are_between (least_of key) (most_of key) zs) h in
     (short-in_range key z parts.0, short-all key zs parts.1)
 
 pub short-ranged : (key : Key) (zs : List ℤ) → is_in_range key zs ≡ true → AreShort zs
 short-ranged key zs h =
-    short-all key zs (both (is_ordered key zs) (are_between (least_of key) (most_of key) zs) h).1
+    short-all key zs (and_parts (is_ordered key zs) (are_between (least_of key) (most_of key) zs) h).1
 
 -- ---- numbers in decimal
 

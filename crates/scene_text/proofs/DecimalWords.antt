@@ -7,8 +7,9 @@ use Rattle.std.proofs.lemmas.Fmt.{decimal_by_steps, decimal_nonempty, decimal_di
 use Rattle.std.proofs.lemmas.List.Folds.{list_all-append}
 use Rattle.std.proofs.lemmas.List.Sums.{fold-append}
 use Rattle.std.proofs.lemmas.Bool.Decides.{nat_tests}
+use Rattle.std.proofs.lemmas.Bool.{and_parts}
 use Rattle.plan_model.specs.TextNumbers.{is_digit, is_positive, is_number, magnitude, value_of}
-use Rattle.scene_text.proofs.StatementTexts.{both, is_inner, is_word}
+use Rattle.scene_text.proofs.StatementTexts.{is_inner, is_word}
 
 -- the number has at most 64 bits
 abbrev pub IsShort : ℤ → Type 0
@@ -34,7 +35,7 @@ AreDigitsOf-one n h = record {
 is_positive-more : (digits : List ℕ) (b : ℕ) → is_positive digits ≡ true → is_digit b ≡ true → is_positive (digits ++ b ∷ []) ≡ true
 is_positive-more [] b h e = absurd (cc)
 is_positive-more (d ∷ digits) b h e =
-    let parts = both (is_digit d && not (eqb d 48)) (list_all is_digit digits) h in
+    let parts = and_parts (is_digit d && not (eqb d 48)) (list_all is_digit digits) h in
     rw (parts.0, list_all-append is_digit digits (b ∷ []), parts.1, e) refl
 
 AreDigitsOf-more : (n : ℕ) (digits : List ℕ) → 10 ≤ n → AreDigitsOf (n / 10) digits → AreDigitsOf n (digits ++ (48 + n % 10) ∷ [])
@@ -59,7 +60,7 @@ inner-digit b h = grind (arith, nat_tests)
 inner-digits : (digits : List ℕ) → list_all is_digit digits ≡ true → list_all is_inner digits ≡ true
 inner-digits [] h = refl
 inner-digits (b ∷ digits) h =
-    let parts = both (is_digit b) (list_all is_digit digits) h in
+    let parts = and_parts (is_digit b) (list_all is_digit digits) h in
     rw (inner-digit b parts.0, inner-digits digits parts.1) refl
 
 is_word-decimal : (n : ℕ) → n < 2 ^ 64 → is_word (decimal n) ≡ true
@@ -70,7 +71,7 @@ is_word-decimal n h =
 is_word-minus : (digits : List ℕ) → is_word digits ≡ true → is_word (45 ∷ digits) ≡ true
 is_word-minus digits h =
     let some : ltb 0 (length (45 ∷ digits)) ≡ true = grind (arith, nat_tests) in
-    let inner = (both (ltb 0 (length digits)) (list_all is_inner digits) h).1 in
+    let inner = (and_parts (ltb 0 (length digits)) (list_all is_inner digits) h).1 in
     rw (some, inner) refl
 
 pub is_word-signed : (z : ℤ) → IsShort z → is_word (signed_decimal z) ≡ true
@@ -101,7 +102,7 @@ is_number-signed (negsuc n) h =
 value_of-digits : (digits : List ℕ) → list_all is_digit digits ≡ true → value_of digits ≡ pos (magnitude digits)
 value_of-digits [] h = refl
 value_of-digits (b ∷ digits) h =
-    let first = (both (is_digit b) (list_all is_digit digits) h).0 in
+    let first = (and_parts (is_digit b) (list_all is_digit digits) h).0 in
     let other : eqb b 45 ≡ false = grind (arith, nat_tests, first) in
     rw other refl
 

@@ -5,6 +5,7 @@ use Rattle.std.specs.List.{list_all, flat_map, join_with_byte}
 use Rattle.std.proofs.lemmas.List.{append_assoc, append-nil, take-map, length-map}
 use Rattle.std.proofs.Math.ListN.{get_or-map}
 use Rattle.std.proofs.lemmas.List.Folds.{list_all-append}
+use Rattle.std.proofs.lemmas.Bool.{and_parts}
 use Rattle.plan_model.specs.declared.text_terms.Key.{Key}
 use Rattle.plan_model.specs.ReportText.{line}
 use Rattle.plan_model.specs.TextLines.{lines_of, pieces_of, words_of, is_skipped, statements_of}
@@ -25,10 +26,6 @@ is_word bytes = ltb 0 (length bytes) && list_all is_inner bytes
 abbrev pub is_clean : List (List ℕ) → Bool
 is_clean words = list_all is_word words && not (is_skipped words)
 
-pub both : (p q : Bool) → (p && q) ≡ true → (p ≡ true) × (q ≡ true)
-both true q h = (refl, h)
-both false q h = absurd (cc)
-
 not-true : (p : Bool) → not p ≡ true → p ≡ false
 not-true true h = absurd (cc)
 not-true false h = refl
@@ -38,7 +35,7 @@ not-true false h = refl
 lines_of-line : (bytes rest : List ℕ) → list_all (λ b. not (eqb b 10)) bytes ≡ true → lines_of (bytes ++ 10 ∷ rest) ≡ bytes ∷ lines_of rest
 lines_of-line [] rest h = refl
 lines_of-line (b ∷ bytes) rest h =
-    let parts = both (not (eqb b 10)) (list_all (λ x. not (eqb x 10)) bytes) h in
+    let parts = and_parts (not (eqb b 10)) (list_all (λ x. not (eqb x 10)) bytes) h in
     let inner : eqb b 10 ≡ false = not-true (eqb b 10) parts.0 in
     rw (inner, lines_of-line bytes rest parts.1) refl
 
@@ -47,30 +44,30 @@ lines_of-line (b ∷ bytes) rest h =
 pieces_of-word : (bytes rest : List ℕ) → list_all is_inner bytes ≡ true → pieces_of (bytes ++ 32 ∷ rest) ≡ bytes ∷ pieces_of rest
 pieces_of-word [] rest h = refl
 pieces_of-word (b ∷ bytes) rest h =
-    let parts = both (is_inner b) (list_all is_inner bytes) h in
-    let inner : eqb b 32 ≡ false = not-true (eqb b 32) (both (not (eqb b 32)) (not (eqb b 10)) parts.0).0 in
+    let parts = and_parts (is_inner b) (list_all is_inner bytes) h in
+    let inner : eqb b 32 ≡ false = not-true (eqb b 32) (and_parts (not (eqb b 32)) (not (eqb b 10)) parts.0).0 in
     rw (inner, pieces_of-word bytes rest parts.1) refl
 
 pieces_of-last : (bytes : List ℕ) → list_all is_inner bytes ≡ true → pieces_of bytes ≡ bytes ∷ []
 pieces_of-last [] h = refl
 pieces_of-last (b ∷ bytes) h =
-    let parts = both (is_inner b) (list_all is_inner bytes) h in
-    let inner : eqb b 32 ≡ false = not-true (eqb b 32) (both (not (eqb b 32)) (not (eqb b 10)) parts.0).0 in
+    let parts = and_parts (is_inner b) (list_all is_inner bytes) h in
+    let inner : eqb b 32 ≡ false = not-true (eqb b 32) (and_parts (not (eqb b 32)) (not (eqb b 10)) parts.0).0 in
     rw (inner, pieces_of-last bytes parts.1) refl
 
 pieces_of-join : (word : List ℕ) (words : List (List ℕ)) → list_all is_word (word ∷ words) ≡ true → pieces_of (join_with_byte 32 (word ∷ words)) ≡ word ∷ words
 pieces_of-join word [] h =
-    pieces_of-last word (both (ltb 0 (length word)) (list_all is_inner word) (both (is_word word) true h).0).1
+    pieces_of-last word (and_parts (ltb 0 (length word)) (list_all is_inner word) (and_parts (is_word word) true h).0).1
 pieces_of-join word (next ∷ words) h =
-    let parts = both (is_word word) (list_all is_word (next ∷ words)) h in
-    pieces_of-word word (join_with_byte 32 (next ∷ words)) (both (ltb 0 (length word)) (list_all is_inner word) parts.0).1
+    let parts = and_parts (is_word word) (list_all is_word (next ∷ words)) h in
+    pieces_of-word word (join_with_byte 32 (next ∷ words)) (and_parts (ltb 0 (length word)) (list_all is_inner word) parts.0).1
     ∙ ap (λ pieces. word ∷ pieces) (pieces_of-join next words parts.1)
 
 filter-words : (words : List (List ℕ)) → list_all is_word words ≡ true → filter (λ piece. ltb 0 (length piece)) words ≡ words
 filter-words [] h = refl
 filter-words (word ∷ words) h =
-    let parts = both (is_word word) (list_all is_word words) h in
-    let some = (both (ltb 0 (length word)) (list_all is_inner word) parts.0).0 in
+    let parts = and_parts (is_word word) (list_all is_word words) h in
+    let some = (and_parts (ltb 0 (length word)) (list_all is_inner word) parts.0).0 in
     rw (some, filter-words words parts.1) refl
 
 words_of-join : (words : List (List ℕ)) → list_all is_word words ≡ true → words_of (join_with_byte 32 words) ≡ words
@@ -86,24 +83,24 @@ line_of words = join_with_byte 32 words
 inner-word : (bytes : List ℕ) → list_all is_inner bytes ≡ true → list_all (λ b. not (eqb b 10)) bytes ≡ true
 inner-word [] h = refl
 inner-word (b ∷ bytes) h =
-    let parts = both (is_inner b) (list_all is_inner bytes) h in
-    let inner = (both (not (eqb b 32)) (not (eqb b 10)) parts.0).1 in
+    let parts = and_parts (is_inner b) (list_all is_inner bytes) h in
+    let inner = (and_parts (not (eqb b 32)) (not (eqb b 10)) parts.0).1 in
     rw (inner, inner-word bytes parts.1) refl
 
 inner-line : (words : List (List ℕ)) → list_all is_word words ≡ true → list_all (λ b. not (eqb b 10)) (line_of words) ≡ true
 inner-line [] h = refl
 inner-line (word ∷ []) h =
-    inner-word word (both (ltb 0 (length word)) (list_all is_inner word) (both (is_word word) true h).0).1
+    inner-word word (and_parts (ltb 0 (length word)) (list_all is_inner word) (and_parts (is_word word) true h).0).1
 inner-line (word ∷ next ∷ words) h =
-    let parts = both (is_word word) (list_all is_word (next ∷ words)) h in
-    let here = inner-word word (both (ltb 0 (length word)) (list_all is_inner word) parts.0).1 in
+    let parts = and_parts (is_word word) (list_all is_word (next ∷ words)) h in
+    let here = inner-word word (and_parts (ltb 0 (length word)) (list_all is_inner word) parts.0).1 in
     list_all-append (λ b. not (eqb b 10)) word (32 ∷ line_of (next ∷ words)) ∙ rw (here, inner-line (next ∷ words) parts.1) refl
 
 pub lines_of-text : (statements : List (List (List ℕ))) → list_all is_clean statements ≡ true → lines_of (flat_map line statements) ≡ map line_of statements
 lines_of-text [] h = refl
 lines_of-text (words ∷ statements) h =
-    let parts = both (is_clean words) (list_all is_clean statements) h in
-    let clean = (both (list_all is_word words) (not (is_skipped words)) parts.0).0 in
+    let parts = and_parts (is_clean words) (list_all is_clean statements) h in
+    let clean = (and_parts (list_all is_word words) (not (is_skipped words)) parts.0).0 in
     ap lines_of (append_assoc (line_of words) (10 ∷ []) (flat_map line statements))
     ∙ lines_of-line (line_of words) (flat_map line statements) (inner-line words clean)
     ∙ ap (λ lines. line_of words ∷ lines) (lines_of-text statements parts.1)
@@ -113,8 +110,8 @@ lines_of-text (words ∷ statements) h =
 pub statements_of-lines : (statements : List (List (List ℕ))) → list_all is_clean statements ≡ true → statements_of (map line_of statements) ≡ statements
 statements_of-lines [] h = refl
 statements_of-lines (words ∷ statements) h =
-    let parts = both (is_clean words) (list_all is_clean statements) h in
-    let clean = both (list_all is_word words) (not (is_skipped words)) parts.0 in
+    let parts = and_parts (is_clean words) (list_all is_clean statements) h in
+    let clean = and_parts (list_all is_word words) (not (is_skipped words)) parts.0 in
     rw (words_of-join words clean.0, clean.1, statements_of-lines statements parts.1) refl
 
 clean-take : (statements : List (List (List ℕ))) (i : ℕ) → list_all is_clean statements ≡ true → list_all is_clean (take i statements) ≡ true
@@ -122,14 +119,14 @@ clean-take [] zero h = refl
 clean-take [] (suc i) h = refl
 clean-take (words ∷ statements) zero h = refl
 clean-take (words ∷ statements) (suc i) h =
-    let parts = both (is_clean words) (list_all is_clean statements) h in
+    let parts = and_parts (is_clean words) (list_all is_clean statements) h in
     rw (parts.0, clean-take statements i parts.1) refl
 
 clean-at : (statements : List (List (List ℕ))) (i : ℕ) → list_all is_clean statements ≡ true → i < length statements → is_clean (get_or statements i []) ≡ true
 clean-at [] i h below = absurd (omega arith)
-clean-at (words ∷ statements) zero h below = (both (is_clean words) (list_all is_clean statements) h).0
+clean-at (words ∷ statements) zero h below = (and_parts (is_clean words) (list_all is_clean statements) h).0
 clean-at (words ∷ statements) (suc i) h below =
-    clean-at statements i (both (is_clean words) (list_all is_clean statements) h).1 (omega arith)
+    clean-at statements i (and_parts (is_clean words) (list_all is_clean statements) h).1 (omega arith)
 
 -- the fault of a statement after others
 abbrev pub fault_after_statements : (Key → Bool) → List (List (List ℕ)) → List (List ℕ) → Option Kind
@@ -139,7 +136,7 @@ fault_after_statements built before words = fault_after built (is_version_read b
 pub fault_of_line-statement : (built : Key → Bool) (statements : List (List (List ℕ))) (i : ℕ) → list_all is_clean statements ≡ true → i < length statements
     → fault_of_line built (map line_of statements) i ≡ fault_after_statements built (take i statements) (get_or statements i [])
 fault_of_line-statement built statements i h below =
-    let clean = both (list_all is_word (get_or statements i [])) (not (is_skipped (get_or statements i []))) (clean-at statements i h below) in
+    let clean = and_parts (list_all is_word (get_or statements i [])) (not (is_skipped (get_or statements i []))) (clean-at statements i h below) in
     let kept : is_skipped (get_or statements i []) ≡ false = not-true (is_skipped (get_or statements i [])) clean.1 in
     let here : words_of (get_or (map line_of statements) i []) ≡ get_or statements i [] = ap words_of (get_or-map line_of statements i [])
     ∙ words_of-join (get_or statements i []) clean.0 in

@@ -4,6 +4,7 @@ use Rattle.std.specs.Prelude.{ℤ, ◌≤ℤ◌, int_le}
 use Rattle.std.specs.List.{list_all}
 use Rattle.std.proofs.lemmas.Int.{ints}
 use Rattle.std.proofs.lemmas.List.{get_or_append_left, get_or_push}
+use Rattle.std.proofs.lemmas.Bool.{and_parts, and_from}
 use borrow.Author.Count.{below_more}
 use Rattle.plan_model.specs.declared.geometry.Vertex.{Vertex}
 use Rattle.plan_model.specs.Limits.{is_corner_between, is_obstacle, are_obstacles}
@@ -12,14 +13,14 @@ use Rattle.plan_model.specs.declared.limits.TheConstants.{MOST_OBSTACLE_COORDINA
 use Rattle.plan_model.specs.Convexity.{is_strictly_convex}
 use Rattle.plan_model.specs.Zones.{IsZoneOf}
 use Rattle.convex_sets.proofs.Corners.{within_of}
-use Rattle.convex_sets.proofs.Tests.{both_true, both_hold, true_at}
+use Rattle.convex_sets.proofs.Tests.{true_at}
 
 -- corners between two numbers are between wider ones
 widened : (low high least most : ℤ) → least ≤ℤ low → high ≤ℤ most → (corners : List Vertex) → list_all (is_corner_between low high) corners ≡ true
     → list_all (is_corner_between least most) corners ≡ true
 widened low high least most f g [] h = refl
 widened low high least most f g (v ∷ corners) h =
-    let parts = both_true (is_corner_between low high v) (list_all (is_corner_between low high) corners) h in
+    let parts = and_parts (is_corner_between low high v) (list_all (is_corner_between low high) corners) h in
     let w = within_of low high v parts.0 in
     let left = w.left in
     let right = w.right in
@@ -29,14 +30,14 @@ widened low high least most f g (v ∷ corners) h =
     let b : int_le v.x most ≡ true = sym (omega (arith, ints)) in
     let c : int_le least v.y ≡ true = sym (omega (arith, ints)) in
     let d : int_le v.y most ≡ true = sym (omega (arith, ints)) in
-    both_hold _ _ (both_hold _ _ a (both_hold _ _ b (both_hold _ _ c d))) (widened low high least most f g corners parts.1)
+    and_from _ _ (and_from _ _ a (and_from _ _ b (and_from _ _ c d))) (widened low high least most f g corners parts.1)
 
 pub obstacle_within : (obstacles : List (List Vertex)) (i : ℕ) → are_obstacles obstacles ≡ true → i < length obstacles
     → list_all (is_corner_between LEAST_SUMMAND_COORDINATE MOST_SUMMAND_COORDINATE) (get_or obstacles i []) ≡ true
 obstacle_within obstacles i h l =
-    let all = both_true (nat_le (length obstacles) MOST_OBSTACLES) (list_all is_obstacle obstacles) h in
+    let all = and_parts (nat_le (length obstacles) MOST_OBSTACLES) (list_all is_obstacle obstacles) h in
     let v = get_or obstacles i [] in
-    let here = both_true (nat_le (length v) MOST_OBSTACLE_CORNERS && is_strictly_convex v)
+    let here = and_parts (nat_le (length v) MOST_OBSTACLE_CORNERS && is_strictly_convex v)
     (list_all (is_corner_between LEAST_OBSTACLE_COORDINATE MOST_OBSTACLE_COORDINATE) v) (true_at is_obstacle obstacles i [] all.1 l) in
     widened LEAST_OBSTACLE_COORDINATE MOST_OBSTACLE_COORDINATE LEAST_SUMMAND_COORDINATE MOST_SUMMAND_COORDINATE (omega (arith, ints))
     (omega (arith, ints)) v here.1
