@@ -17,6 +17,7 @@ use Rattle.plan_model.specs.declared.geometry.Point.{Point}
 use Rattle.plan_model.proofs.DistinctPoints.{IsPresent-below, within_present}
 use Rattle.plan_model.proofs.FreePoints.{is_near_free, filter-none}
 use Rattle.plan_model.proofs.LeastScans.{IsFirstLeastBelow, IsFirstLeast-scanned}
+use Rattle.plan_model.proofs.NearNodes.{Contains-filter}
 use Rattle.plan_model.proofs.NewNodes.{IsPresent-stands, point_of-stands, StandsAt-present}
 use Rattle.seq_planner.specs.PlacedLists.{present_numbers, ArePlaced}
 use Rattle.seq_planner.specs.declared.placed_points.PlacedPoints.{PlacedPoints}
@@ -36,19 +37,6 @@ StandsAt-place points placed place d h below =
     let point : get_or placed.points.items place d ≡ point_of points n =
     ap (λ ps. get_or ps place d) h.points ∙ get_or-map (point_of points) (present_numbers points) place 0 d low in
     ap (point_at points) number ∙ StandsAt-present points n present ∙ ap Some (sym point)
-
--- a number that passes a test is kept with those that do
-Contains-filter : (p : ℕ → Bool) (ns : List ℕ) (n : ℕ) → p n ≡ true → Contains ns n → Contains (filter p ns) n
-Contains-filter p [] n e (k, l, is) = absurd (omega arith)
-Contains-filter p (m ∷ ns) n e (zero, l, is) =
-    let passes : p m ≡ true = ap p is ∙ e in
-    let P : List ℕ → Type 0 = λ ms. Contains ms n in
-    subst P (sym (ap (λ b. cond b (m ∷ filter p ns) (filter p ns)) passes)) (0, omega arith, is)
-Contains-filter p (m ∷ ns) n e (suc k, l, is) = by_test (p m) (Contains-filter p ns n e (k, omega (arith, l), is))
-  where
-    by_test : (b : Bool) → Contains (filter p ns) n → Contains (cond b (m ∷ filter p ns) (filter p ns)) n
-    by_test true (j, below, same) = (suc j, omega (arith, below), same)
-    by_test false h = h
 
 -- each present node has a place
 pub present_numbers-all : (points : List (Option Point)) (n : ℕ) → IsPresent points n → Contains (present_numbers points) n
