@@ -21,7 +21,8 @@ use Rattle.plan_model.proofs.TreeStateLaws.{IsPresent-grows}
 
 -- ---- earlier nodes are present
 
-is_placed-true : (outcome : Outcome) → is_placed outcome ≡ true → outcome ≡ Placed
+-- an outcome that counts as placed is
+pub is_placed-true : (outcome : Outcome) → is_placed outcome ≡ true → outcome ≡ Placed
 is_placed-true Placed h = refl
 is_placed-true (Same j) h = cc
 is_placed-true Blocked h = cc

@@ -1,5 +1,5 @@
 -- A closed run, of which only that it is closed is known, with a mark that is handled whole: it is closed, and has grown.
-use Rattle.std.proofs.Common.{◌≡◌, ℕ, zero, suc, ◌+◌, ◌<◌, eqb, List, length, Some, None, arith, refl, sym, ap, ◌∙◌, subst, inl, inr}
+use Rattle.std.proofs.Common.{◌≡◌, ℕ, suc, ◌+◌, ◌<◌, eqb, List, length, Some, None, arith, refl, sym, ap, ◌∙◌, subst, inl, inr}
 use Rattle.std.specs.Prelude.{◌≢◌}
 use Rattle.std.proofs.Math.Logic.{∥∥₁_elim, ∥∥₁_map}
 use Rattle.std.proofs.Math.Nat.{ℕ_set}
@@ -14,28 +14,12 @@ use Rattle.plan_model.specs.ClosedLaw.{mark_at, IsClosed}
 use Rattle.plan_model.specs.HandledMarks.{with_outcome, with_mark, IsHandledWhole}
 use Rattle.plan_model.specs.PointsByNumber.{point_at, StandsAt, IsPresent}
 use Rattle.plan_model.specs.Textbook.{Setup}
-use Rattle.plan_model.specs.TreeStates.{TreeState, recorded_or, first_cost_of, AreSameRuns, GrowsInto}
+use Rattle.plan_model.specs.TreeStates.{TreeState, AreSameRuns, GrowsInto}
 use Rattle.plan_model.proofs.HandledMarks.{IsClosed-handled, GrowsInto-handled}
 use Rattle.plan_model.proofs.NewNodes.{IsPresent-stands}
 use Rattle.plan_model.proofs.NextMarks.{node-absent, record-absent}
+use Rattle.plan_model.proofs.SameTrees.{GrowsInto-same_run}
 use Rattle.plan_model.proofs.TreeStateLaws.{GrowsInto-trans}
-
--- a closed run grows into one that is the same
-GrowsInto-same :
-    (setup : Setup) (start : Point) (marks : List Point) (limit : ℕ) (one other : TreeState) → IsClosed setup start marks limit one
-    → AreSameRuns one other → GrowsInto one other
-GrowsInto-same setup start marks limit one other closed same = record {
-  nodes = λ n p h. same.points n ∙ h;
-  first_costs = first_costs;
-  trees = λ n h. inl (same.costs n h, same.parents n h);
-  records = λ k entry h. same.records k ∙ h;
-}
-  where
-    first_costs : (n : ℕ) → IsPresent one.points n → first_cost_of other n ≡ first_cost_of one n
-    first_costs zero h = refl
-    first_costs (suc k) h =
-        let own = (closed.placed k).0 h in
-        ap (recorded_or (other.written_cost (suc k))) (same.records k ∙ own.1) ∙ sym (ap (recorded_or (one.written_cost (suc k))) own.1)
 
 module _
     (setup : Setup) (start : Point) (marks : List Point) (k : ℕ) (state : TreeState) (entry : Record) (p : Point) (moved : List ℕ)
@@ -65,7 +49,7 @@ module _
     grows : IsClosed setup start marks k state → GrowsInto state after
     grows h =
         GrowsInto-trans state (with_mark state k entry p moved) after (GrowsInto-handled setup start marks k state entry p moved h room handled)
-        (GrowsInto-same setup start marks (suc k) (with_mark state k entry p moved) after
+        (GrowsInto-same_run setup start marks (suc k) (with_mark state k entry p moved) after
         (IsClosed-handled setup start marks k state entry p moved h room handled below few) same)
 
     -- and the run has grown into it, however it is kept

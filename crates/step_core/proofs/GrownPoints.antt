@@ -1,5 +1,5 @@
 -- The nodes that the words of a run hold: each has a number up to that of the last mark, and stands where its point word says, within bounds.
-use Rattle.std.proofs.Common.{◌≡◌, ℕ, zero, suc, ◌+◌, ◌<◌, ◌≤◌, ◌^◌, Bool, true, false, Some, None, arith, sym, ap, ◌∙◌, inl, inr}
+use Rattle.std.proofs.Common.{◌≡◌, ℕ, zero, suc, ◌+◌, ◌<◌, ◌≤◌, ◌^◌, Bool, true, false, Option, Some, None, refl, arith, sym, ap, ◌∙◌, inl, inr}
 use Rattle.std.specs.Prelude.{is_some, nat_lt, unwrap_or, if◌then◌else◌}
 use Rattle.std.proofs.lemmas.Bool.{cases_lt, cases_Bool, le-ltb, lt-ltb}
 use Rattle.std.proofs.lemmas.List.{get_or_past}
@@ -12,6 +12,11 @@ use Rattle.plan_model.proofs.NewNodes.{IsPresent-stands}
 use Rattle.step_core.specs.WordPlaces.{Sizes, record_place, first_place, point_place}
 use Rattle.step_core.specs.Words.{record_of_word, point_in, point_of_word}
 use Rattle.step_core.specs.GrownWords.{Words, record_at, has_placed, has_node, node_point, points_of_words}
+
+-- an absent point is none
+pub none_some : (o : Option Point) → is_some o ≡ false → o ≡ None
+none_some None h = refl
+none_some (Some p) h = cc
 
 -- the point in a word has coordinates of 20 bits
 IsBounded-word : (word : ℕ) (p : Point) → point_of_word word ≡ Some p → IsBounded p

@@ -10,12 +10,9 @@ use Rattle.plan_model.proofs.WayLinks.{FollowWays-same, FollowWays-start}
 use Rattle.step_core.specs.WordPlaces.{Sizes}
 use Rattle.step_core.specs.GrownWords.{Words, points_of_words, children_of_words}
 use Rattle.step_core.specs.KdLinks.{points_below, AreLinkedBelow, AreUnlinked, ChangesChildren, LinksRise, MayLink}
+use Rattle.step_core.proofs.GrownPoints.{none_some}
 use Rattle.step_core.proofs.KdWays.{point_at-lesser, point_at-greater, present-lesser}
 use Rattle.step_core.proofs.LinkedWords.{points-children}
-
-none_some : (o : Option Point) → is_some o ≡ false → o ≡ None
-none_some None h = refl
-none_some (Some p) h = cc
 
 -- The nodes below number m are linked, each below one of a lesser number, and only child words changed so far.
 pub record LinksSoFar (sizes : Sizes) (has : ℕ → Bool) (before words : Words) (m : ℕ) : Type 0 where

@@ -6,8 +6,7 @@ use Rattle.std.proofs.lemmas.List.{get_or_past}
 use Rattle.std.proofs.lemmas.Option.{slice_get-get_or, slice_get_cases}
 use Rattle.std.proofs.Math.ListN.{get_or-map}
 use Rattle.plan_model.specs.declared.geometry.Point.{Point}
-use Rattle.plan_model.specs.declared.records.Outcome.{Outcome}
-use Rattle.plan_model.specs.declared.records.Outcome.TheVariants.{Placed, Same, Blocked}
+use Rattle.plan_model.specs.declared.records.Outcome.TheVariants.{Placed}
 use Rattle.plan_model.specs.declared.records.Record.{Record}
 use Rattle.plan_model.specs.declared.tasks.Task.{Task}
 use Rattle.plan_model.specs.declared.trees.Knot.{Knot}
@@ -18,21 +17,21 @@ use Rattle.plan_model.specs.PointsByNumber.{point_at, IsPresent}
 use Rattle.plan_model.specs.RecordLaw.{is_placed}
 use Rattle.plan_model.specs.Textbook.{setup_of}
 use Rattle.plan_model.specs.Trees.{points_of, parent_of, parent_or_zero, without_costs}
-use Rattle.plan_model.specs.TreeStates.{recorded_or, first_cost_of, AreSameRuns}
+use Rattle.plan_model.specs.TreeStates.{AreSameRuns}
 use Rattle.plan_model.specs.Ways.{FollowWays}
-use Rattle.plan_model.proofs.ClosedLaws.{IsClosed-same}
-use Rattle.plan_model.proofs.LoweredCosts.{HaveSameTree}
+use Rattle.plan_model.proofs.EarlierNodes.{is_placed-true}
 use Rattle.plan_model.proofs.NewNodes.{IsPresent-stands}
 use Rattle.plan_model.proofs.NodeCounts.{node_count-same}
+use Rattle.plan_model.proofs.SameTrees.{IsClosed-same_run}
 use Rattle.plan_model.proofs.TreeChanges.{point_at-points_of}
 use Rattle.step_core.specs.WordPlaces.{Sizes, tree_place, first_place}
 use Rattle.step_core.specs.Words.{parent_in, cost_in, point_word, point_of_word, record_of_word}
 use Rattle.step_core.specs.GrownWords.{Words, record_at, has_placed, has_node, points_of_words, state_of_words}
 use Rattle.step_core.specs.GrownWords.{children_of_words, IsPointWord, IsTreeWord, IsWritten, sizes_of, HoldRun}
 use Rattle.step_core.specs.PackedRuns.{kept_cost_of, state_of_lists, IsKnot, FitWords, HoldLists}
-use Rattle.step_core.proofs.GrownPoints.{record_at-within, record_at-past, node_point-absent, node_point-here, point_at-words}
+use Rattle.step_core.proofs.GrownPoints.{none_some, record_at-within, record_at-past, node_point-absent, node_point-here, point_at-words}
 use Rattle.step_core.proofs.PackedRecords.{record_of_word-packed}
-use Rattle.step_core.proofs.PackedWords.{parent_in-tree_word, cost_in-tree_word, point_of_word-packed, x_in-point_word, y_in-point_word}
+use Rattle.step_core.proofs.PackedWords.{parent_in-tree_word, cost_in-tree_word, point_of_word-packed, IsPointWord-packed}
 use Rattle.step_core.proofs.LoweredWords.{IsTreeWord-packed}
 
 -- ---- lists
@@ -78,11 +77,6 @@ HasKnot-present knots n h = by_knot (slice_index_or knots n None) refl
     by_knot : (o : Option Knot) → slice_index_or knots n None ≡ o → HasKnot knots n
     by_knot None e = let gone = sym h ∙ ap is_some (point_at-lists knots n ∙ ap (option_map (λ (knot : Knot). knot.point)) e) in cc
     by_knot (Some knot) e = record { knot = knot; at = e }
-
-is_placed-true : (outcome : Outcome) → is_placed outcome ≡ true → outcome ≡ Placed
-is_placed-true Placed h = refl
-is_placed-true (Same j) h = cc
-is_placed-true Blocked h = cc
 
 -- a record of a placed mark
 placed_in : (o : Option Record) → has_placed o ≡ true → (entry : Record) × (o ≡ Some entry) × (entry.outcome ≡ Placed)
@@ -147,10 +141,6 @@ module _
             point_at-words sizes words n ∙ node_point-absent sizes words n absent
             ∙ sym (none_some (point_at (points_of (without_costs knots)) n) none))
       ]
-    where
-      none_some : (o : Option Point) → is_some o ≡ false → o ≡ None
-      none_some None h = refl
-      none_some (Some p) h = cc
 
   parents :
       (n : ℕ) → IsPresent (points_of (without_costs knots)) n
@@ -172,20 +162,6 @@ module _
   pub AreSameRuns-packed : AreSameRuns (state_of_lists knots records) (state_of_words (sizes_of task) words)
   AreSameRuns-packed = record { points = points-packed; parents = parents; costs = costs; records = record_at-packed }
 
-  same_tree : HaveSameTree (state_of_lists knots records) (state_of_words (sizes_of task) words)
-  same_tree = record {
-    still = record { points = points-packed; first_costs = first_costs; records = λ k entry h. record_at-packed k ∙ h };
-    parents = parents;
-    costs = costs;
-  }
-    where
-      first_costs : (n : ℕ) → IsPresent (points_of (without_costs knots)) n
-          → first_cost_of (state_of_words (sizes_of task) words) n ≡ first_cost_of (state_of_lists knots records) n
-      first_costs zero h = refl
-      first_costs (suc k) h =
-          let own = (closed.placed k).0 h in
-          ap (recorded_or (cost_in (words (first_place (sizes_of task) (suc k))))) (record_at-packed k ∙ own.1) ∙ sym (ap (recorded_or 0) own.1)
-
   -- ---- words as they are packed
 
   written : (n : ℕ) → IsPresent (points_of_words (sizes_of task) words) n → IsWritten (sizes_of task) words n
@@ -195,14 +171,11 @@ module _
       let fits = fit.nodes n own.knot is in
       let holds = held.nodes n own.knot is in
       record {
-        point = subst IsPointWord (sym holds.point) (packed_point own.knot.point fits.point);
+        point = subst IsPointWord (sym holds.point) (IsPointWord-packed own.knot.point fits.point);
         tree = subst IsTreeWord (sym holds.tree) (IsTreeWord-packed own.knot.parent own.knot.cost fits.parent fits.cost);
         first = first_word n (ap is_some (sym (points-packed n)) ∙ h);
       }
     where
-      packed_point : (p : Point) → IsBounded p → IsPointWord (point_word p)
-      packed_point p bounded = λ t. point_word (record { x = sym (x_in-point_word p bounded) t; y = sym (y_in-point_word p bounded) t })
-
       first_word : (n : ℕ) → IsPresent (points_of (without_costs knots)) n → IsTreeWord (words (first_place (sizes_of task) n))
       first_word zero h = subst IsTreeWord (sym held.start) refl
       first_word (suc k) h =
@@ -214,8 +187,8 @@ module _
   pub HoldRun-packed : FollowWays (children_of_words (sizes_of task) words) (points_of_words (sizes_of task) words) → HoldRun task (length records) words
   HoldRun-packed ways = record {
     closed =
-        IsClosed-same (setup_of task.scene) task.scene.start task.marks (length records) (state_of_lists knots records)
-        (state_of_words (sizes_of task) words) record_at-packed closed same_tree;
+        IsClosed-same_run (setup_of task.scene) task.scene.start task.marks (length records) (state_of_lists knots records)
+        (state_of_words (sizes_of task) words) closed AreSameRuns-packed;
     ways = ways;
     counted = held.count ∙ sym (node_count-same (points_of (without_costs knots)) (points_of_words (sizes_of task) words) points-packed);
     claimed = held.counters;

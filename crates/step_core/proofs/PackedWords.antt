@@ -1,7 +1,8 @@
 -- Packed points, and packed parents with their costs, are read again; a lower cost has a lower word.
-use Rattle.std.proofs.Common.{◌≡◌, ℕ, ◌<◌, ◌/◌, ◌%◌, ◌^◌, Some, ◌∙◌, arith}
+use Rattle.std.proofs.Common.{◌≡◌, ℕ, ◌<◌, ◌/◌, ◌%◌, ◌^◌, Some, sym, ◌∙◌, arith}
 use Rattle.plan_model.specs.declared.geometry.Point.{Point}
 use Rattle.plan_model.specs.Bounds.{IsBounded}
+use Rattle.step_core.specs.GrownWords.{IsPointWord}
 use Rattle.step_core.specs.Words.{point_word, point_of_word, tree_word, tree_of_word, parent_in, cost_in}
 use Rattle.step_core.proofs.ReadWords.{if_written-set}
 
@@ -17,6 +18,10 @@ pub point_of_word-packed : (p : Point) → IsBounded p → point_of_word (point_
 point_of_word-packed p h =
     if_written-set (point_word p) (record { x = point_word p % 2 ^ 20; y = point_word p / 2 ^ 20 % 2 ^ 20 }) (omega arith)
     ∙ (λ i. Some (record { x = x_in-point_word p h i; y = y_in-point_word p h i }))
+
+-- and its word is written as it is packed
+pub IsPointWord-packed : (p : Point) → IsBounded p → IsPointWord (point_word p)
+IsPointWord-packed p bounded = λ t. point_word (record { x = sym (x_in-point_word p bounded) t; y = sym (y_in-point_word p bounded) t })
 
 pub parent_in-tree_word : (parent cost : ℕ) → parent < 2 ^ 18 → parent_in (tree_word parent cost) ≡ parent
 parent_in-tree_word parent cost small = omega (arith, small)

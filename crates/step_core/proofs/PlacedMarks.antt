@@ -19,7 +19,7 @@ use Rattle.step_core.specs.PackedRuns.{FitsRecord}
 use Rattle.step_core.proofs.GrownPoints.{has_node-past, node_point-absent, node_point-here, point_at-words, present-within}
 use Rattle.step_core.proofs.LoweredWords.{IsTreeWord-packed}
 use Rattle.step_core.proofs.MarkStates.{knot_of, with_placed, other-present, StandsAt-placed, point_at-others, cost-moved}
-use Rattle.step_core.proofs.PackedWords.{parent_in-tree_word, cost_in-tree_word, point_of_word-packed, x_in-point_word, y_in-point_word}
+use Rattle.step_core.proofs.PackedWords.{parent_in-tree_word, cost_in-tree_word, point_of_word-packed, IsPointWord-packed}
 use Rattle.step_core.proofs.RecordedMarks.{RecordsMark, HoldsMark, word-unrecorded, HoldsMark-recorded, HoldsMark-later}
 use Rattle.step_core.proofs.RecordedMarks.{record_at-marked, has_node-own, has_node-other}
 
@@ -30,10 +30,6 @@ pub record PlacesMark (sizes : Sizes) (k n : ℕ) (entry : Record) (p : Point) (
   pub records : RecordsMark sizes k entry before recorded
   pub node : WritesNewNode sizes n (knot_of entry p) recorded noded
   pub moves : MovesNodes sizes n (knot_of entry p) moved noded after
-
--- the word of a point that fits is written as it is packed
-pub IsPointWord-packed : (p : Point) → IsBounded p → IsPointWord (point_word p)
-IsPointWord-packed p bounded = λ t. point_word (record { x = sym (x_in-point_word p bounded) t; y = sym (y_in-point_word p bounded) t })
 
 -- the points of the other nodes are as they were
 pub noded-point :

@@ -12,12 +12,11 @@ use Rattle.plan_model.specs.ConfigurationSpace.{space_of}
 use Rattle.plan_model.specs.PointsByNumber.{point_at, StandsAt, IsPresent}
 use Rattle.plan_model.specs.Textbook.{setup_of, start_alone}
 use Rattle.plan_model.specs.Trees.{points_of, parent_of, sum_of}
-use Rattle.plan_model.specs.TreeStates.{first_cost_of, state_of, AreSameRuns}
+use Rattle.plan_model.specs.TreeStates.{state_of, AreSameRuns}
 use Rattle.plan_model.specs.Ways.{FollowWays}
-use Rattle.plan_model.proofs.ClosedLaws.{IsClosed-same}
-use Rattle.plan_model.proofs.LoweredCosts.{HaveSameTree}
 use Rattle.plan_model.proofs.NewNodes.{IsPresent-stands, not_present, point_at-absent}
 use Rattle.plan_model.proofs.NodeCounts.{node_count-same}
+use Rattle.plan_model.proofs.SameTrees.{IsClosed-same_run}
 use Rattle.plan_model.proofs.TextbookStates.{IsClosed-start}
 use Rattle.plan_model.proofs.TreeChanges.{node_at-past}
 use Rattle.plan_model.proofs.WayLinks.{FollowWays-start}
@@ -26,7 +25,7 @@ use Rattle.step_core.specs.Words.{parent_in, cost_in, tree_word, point_word, poi
 use Rattle.step_core.specs.GrownWords.{Words, words_of, record_at, has_placed, points_of_words, state_of_words}
 use Rattle.step_core.specs.GrownWords.{child_of_word, children_of_words, IsPointWord, IsTreeWord, IsWritten, sizes_of, HoldRun}
 use Rattle.step_core.proofs.GrownPoints.{record_at-within, record_at-past, node_point-absent, point_at-words}
-use Rattle.step_core.proofs.PackedWords.{parent_in-tree_word, cost_in-tree_word, point_of_word-packed, x_in-point_word, y_in-point_word}
+use Rattle.step_core.proofs.PackedWords.{parent_in-tree_word, cost_in-tree_word, point_of_word-packed, IsPointWord-packed}
 use Rattle.step_core.proofs.WordReads.{word-set, word-other}
 
 -- The words of the start alone: one node is counted, and only the words of node 0 are written, but no child.
@@ -76,18 +75,10 @@ module _ (sizes : Sizes) (start : Point) (words : Words) (bounded : IsBounded st
   start_cost : cost_in (words (tree_place sizes 0)) ≡ 0
   start_cost = ap cost_in held.tree ∙ cost_in-tree_word 0 0 (omega arith) (omega arith)
 
-  same_tree : HaveSameTree (state_of (start_alone start) []) (state_of_words sizes words)
-  same_tree = record {
-    still = record { points = same_points; first_costs = first_costs; records = λ k entry h. cc };
-    parents = parents;
-    costs = costs;
-  }
+  -- The words hold the run of the start alone.
+  pub AreSameRuns-start : AreSameRuns (state_of (start_alone start) []) (state_of_words sizes words)
+  AreSameRuns-start = record { points = same_points; parents = parents; costs = costs; records = record_at-none }
     where
-      first_costs : (n : ℕ) → IsPresent (points_of (start_alone start)) n
-          → first_cost_of (state_of_words sizes words) n ≡ first_cost_of (state_of (start_alone start) []) n
-      first_costs zero h = refl
-      first_costs (suc k) h = absurd (no_other_alone k h)
-
       parents : (n : ℕ) → IsPresent (points_of (start_alone start)) n → parent_in (words (tree_place sizes n)) ≡ parent_of (start_alone start) n
       parents zero h = start_parent
       parents (suc k) h = absurd (no_other_alone k h)
@@ -95,10 +86,6 @@ module _ (sizes : Sizes) (start : Point) (words : Words) (bounded : IsBounded st
       costs : (n : ℕ) → IsPresent (points_of (start_alone start)) n → cost_in (words (tree_place sizes n)) ≡ sum_of (start_alone start) n
       costs zero h = start_cost
       costs (suc k) h = absurd (no_other_alone k h)
-
-  -- The words hold the run of the start alone.
-  pub AreSameRuns-start : AreSameRuns (state_of (start_alone start) []) (state_of_words sizes words)
-  AreSameRuns-start = record { points = same_points; parents = same_tree.parents; costs = same_tree.costs; records = record_at-none }
 
   -- ---- the kd-tree
 
@@ -128,13 +115,10 @@ module _ (sizes : Sizes) (start : Point) (words : Words) (bounded : IsBounded st
 
   IsWritten-start : (n : ℕ) → IsPresent (points_of_words sizes words) n → IsWritten sizes words n
   IsWritten-start zero h = record {
-    point = subst IsPointWord (sym held.point) packed_point;
+    point = subst IsPointWord (sym held.point) (IsPointWord-packed start bounded);
     tree = subst IsTreeWord (sym held.tree) refl;
     first = subst IsTreeWord (sym held.first) refl;
   }
-    where
-      packed_point : IsPointWord (point_word start)
-      packed_point = λ t. point_word (record { x = sym (x_in-point_word start bounded) t; y = sym (y_in-point_word start bounded) t })
   IsWritten-start (suc k) h = absurd (no_other k h)
 
 -- the start of a task fits its word
@@ -147,9 +131,9 @@ pub HoldRun-start :
     → HoldRun task 0 words
 HoldRun-start task words clear held = record {
   closed =
-      IsClosed-same (setup_of task.scene) task.scene.start task.marks 0 (state_of (start_alone task.scene.start) []) (state_of_words (sizes_of task) words)
-      (record_at-none (sizes_of task) task.scene.start words bounded held) (IsClosed-start (setup_of task.scene) task.scene.start task.marks clear)
-      (same_tree (sizes_of task) task.scene.start words bounded held);
+      IsClosed-same_run (setup_of task.scene) task.scene.start task.marks 0 (state_of (start_alone task.scene.start) [])
+      (state_of_words (sizes_of task) words) (IsClosed-start (setup_of task.scene) task.scene.start task.marks clear)
+      (AreSameRuns-start (sizes_of task) task.scene.start words bounded held);
   ways = start_ways (sizes_of task) task.scene.start words bounded held;
   counted =
       held.count

@@ -1,9 +1,10 @@
 -- A linear function along a segment, by its values at the ends.
-use Rattle.std.proofs.Common.{◌≡◌, ℕ, suc, ◌+◌, ◌-◌, ◌*◌, ◌<◌, ◌≤◌, arith, subst, ap, inl, inr}
+use Rattle.std.proofs.Common.{◌≡◌, ℕ, suc, ◌+◌, ◌-◌, ◌*◌, ◌<◌, ◌≤◌, arith, subst, inl, inr}
 use Rattle.std.specs.Prelude.{ℤ, pos, negsuc, ◌+ℤ◌, ◌*ℤ◌, ◌≤ℤ◌, ◌<ℤ◌, ◌↔◌, unsigned_abs}
 use Rattle.std.proofs.lemmas.Int.{ints}
 use Rattle.std.proofs.lemmas.Bool.{cases_lt}
 use Rattle.std.proofs.Math.Nat.{mul-pos}
+use Rattle.plan_model.proofs.SegmentLaws.{part_and_rest}
 use Rattle.swept_check.specs.Clipping.{value_at, IsAdmitted}
 use Rattle.convex_sets.proofs.Ring.{var, plus, minus, times, same}
 
@@ -19,9 +20,6 @@ value_at-mean : (f t : ℤ) (s d : ℕ) → s ≤ d → value_at f t s d ≡ (po
 value_at-mean f t s d l =
     let whole : s + (d - s) ≡ d = omega arith in
     subst (λ n. value_at f t s n ≡ (pos (d - s) *ℤ f) +ℤ (pos s *ℤ t)) whole (value_at-parts f t s (d - s))
-
-parts : (s d n : ℕ) → s ≤ d → (d - s) * n + s * n ≡ d * n
-parts s d n h = let whole : (d - s) + s ≡ d = omega arith in omega (arith, ap (λ m. m * n) whole)
 
 -- not below 0 at both ends: never below 0
 pub IsAdmitted-inside : (f t : ℤ) (s d : ℕ) → pos 0 ≤ℤ f → pos 0 ≤ℤ t → s ≤ d → IsAdmitted f t s d
@@ -46,7 +44,7 @@ pub IsAdmitted-entering : (f t : ℤ) (s d : ℕ) → f <ℤ pos 0 → pos 0 ≤
     → IsAdmitted f t s d ↔ (unsigned_abs f * d ≤ s * (unsigned_abs f + unsigned_abs t))
 IsAdmitted-entering (negsuc f) (pos t) s d h g l =
     let mean = value_at-mean (negsuc f) (pos t) s d l in
-    let whole : (d - s) * suc f + s * suc f ≡ d * suc f = parts s d (suc f) l in (
+    let whole : (d - s) * suc f + s * suc f ≡ d * suc f = part_and_rest s d (suc f) l in (
       λ yes. (let low : pos 0 ≤ℤ ((pos (d - s) *ℤ negsuc f) +ℤ (pos s *ℤ pos t)) = rw mean at yes in omega (arith, ints)),
       λ past. rw mean (omega (arith, ints)),
     )
@@ -58,7 +56,7 @@ pub IsAdmitted-leaving : (f t : ℤ) (s d : ℕ) → pos 0 ≤ℤ f → t <ℤ p
     → IsAdmitted f t s d ↔ (s * (unsigned_abs f + unsigned_abs t) ≤ unsigned_abs f * d)
 IsAdmitted-leaving (pos f) (negsuc t) s d h g l =
     let mean = value_at-mean (pos f) (negsuc t) s d l in
-    let whole : (d - s) * f + s * f ≡ d * f = parts s d f l in (
+    let whole : (d - s) * f + s * f ≡ d * f = part_and_rest s d f l in (
       λ yes. (let low : pos 0 ≤ℤ ((pos (d - s) *ℤ pos f) +ℤ (pos s *ℤ negsuc t)) = rw mean at yes in omega (arith, ints)),
       λ before. rw mean (omega (arith, ints)),
     )
