@@ -65,7 +65,7 @@ module _ (costs : ℕ → ℕ) (tree : List (Option Twig)) (i n fall : ℕ) (aft
   pub parent_kept : (k : ℕ) → k ≢ i → parent_of after k ≡ parent_of tree k
   parent_kept k apart = ap (λ nodes. parent_of nodes k) change.exchanged ∙ ap parent_or_zero (get_or-set_other tree i k _ None apart)
 
-  edge_from : (k m : ℕ) → parent_of after k ≡ m → edge_of after k ≡ cost_of (point_of (points_of tree) m) (point_of (points_of tree) k)
+  pub edge_from : (k m : ℕ) → parent_of after k ≡ m → edge_of after k ≡ cost_of (point_of (points_of tree) m) (point_of (points_of tree) k)
   edge_from k m e =
       ap (λ points. cost_of (point_of points (parent_of after k)) (point_of points k)) points_of-cheaper_parent
       ∙ ap (λ j. cost_of (point_of (points_of tree) j) (point_of (points_of tree) k)) e

@@ -15,7 +15,8 @@ use Rattle.plan_model.specs.OrderLaw.{IsAllowedEdge, KeepsOrder, KeepsFirstCosts
 use Rattle.plan_model.specs.Textbook.{Nodes, Setup, cost_through, IsCheaperThrough, with_parent, RewiresOne, Rewires}
 use Rattle.plan_model.proofs.ChainLaws.{AreTight-sums}
 use Rattle.plan_model.proofs.NewNodes.{StandsAt-present}
-use Rattle.plan_model.proofs.ParentChanges.{HasCheaperParent, points_of-cheaper_parent, parent_new, parent_kept, CostsFall-cheaper_parent}
+use Rattle.plan_model.proofs.ParentChanges.{HasCheaperParent, points_of-cheaper_parent, IsPresent-cheaper_parent, parent_new, parent_kept, edge_from}
+use Rattle.plan_model.proofs.ParentChanges.{CostsFall-cheaper_parent}
 use Rattle.plan_model.proofs.OrderLaws.{HangsBelow-at}
 use Rattle.plan_model.proofs.LoweredCosts.{FallsWithParent, HangsCheaper, LowersCosts, GrowsInto-lowered, KeepsOrder-lowered, KeepsFirstCosts-lowered}
 use Rattle.plan_model.proofs.TreeStateLaws.{cost-grows, GrowsInto-refl, GrowsInto-trans}
@@ -47,11 +48,8 @@ module _
   same_points : points_of after ≡ points_of tree
   same_points = points_of-cheaper_parent (sum_of tree) tree i n fall after change
 
-  was_present : (j : ℕ) → IsPresent (points_of after) j → IsPresent (points_of tree) j
-  was_present j h = subst (λ points. IsPresent points j) same_points h
-
   still_present : (j : ℕ) → IsPresent (points_of tree) j → IsPresent (points_of after) j
-  still_present j h = subst (λ points. IsPresent points j) (sym same_points) h
+  still_present = IsPresent-cheaper_parent (sum_of tree) tree i n fall after change
 
   has_new_parent : (j : ℕ) → j ≡ i → parent_of after j ≡ n
   has_new_parent = parent_new (sum_of tree) tree i n fall after change
@@ -60,9 +58,7 @@ module _
   has_own_parent = parent_kept (sum_of tree) tree i n fall after change
 
   edge_is : (j m : ℕ) → parent_of after j ≡ m → edge_of after j ≡ cost_of (point_of (points_of tree) m) (point_of (points_of tree) j)
-  edge_is j m e =
-      ap (λ points. cost_of (point_of points (parent_of after j)) (point_of points j)) same_points
-      ∙ ap (λ k. cost_of (point_of (points_of tree) k) (point_of (points_of tree) j)) e
+  edge_is = edge_from (sum_of tree) tree i n fall after change
 
   -- node i costs what its new parent costs and the edge
   sum_exchanged : (j : ℕ) → suc j ≡ i → IsPresent (points_of tree) (suc j)
