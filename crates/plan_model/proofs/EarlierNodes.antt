@@ -4,19 +4,16 @@ use Rattle.std.specs.Prelude.{◌≢◌, ◌⊎◌, ◌&&◌, IsTrue}
 use Rattle.std.specs.List.{range_with_len}
 use Rattle.std.proofs.lemmas.Bool.{cases_eq, and_parts, and_left, and_right, ne_eqb, le-ltb}
 use Rattle.std.proofs.lemmas.List.Sums.{length-filter}
-use Rattle.plan_model.specs.declared.geometry.Point.{Point}
 use Rattle.plan_model.specs.declared.records.Outcome.{Outcome}
 use Rattle.plan_model.specs.declared.records.Outcome.TheVariants.{Placed, Same, Blocked}
 use Rattle.plan_model.specs.declared.records.Record.{Record}
-use Rattle.plan_model.specs.PointsByNumber.{IsPresent, point_of}
-use Rattle.plan_model.specs.Steering.{steered}
+use Rattle.plan_model.specs.PointsByNumber.{IsPresent}
 use Rattle.plan_model.specs.TreeStates.{TreeState, GrowsInto}
-use Rattle.plan_model.specs.RecordLaw.{is_placed, is_earlier_record, is_earlier, IsEarlier, earlier_count, HasLawfulOutcome, IsLawfulRecord}
+use Rattle.plan_model.specs.RecordLaw.{is_placed, is_earlier_record, is_earlier, IsEarlier, earlier_count}
 use Rattle.plan_model.specs.ClosedLaw.{ArePlacedMarks}
-use Rattle.plan_model.specs.Textbook.{Setup}
 use Rattle.plan_model.proofs.CountsBelow.{count-same, count-limits}
 use Rattle.plan_model.proofs.DistinctPoints.{IsPresent-below}
-use Rattle.plan_model.proofs.NewNodes.{IsPresent-stands}
+use Rattle.plan_model.proofs.NextRecords.{RecordsMark}
 use Rattle.plan_model.proofs.TreeStateLaws.{IsPresent-grows}
 
 -- ---- earlier nodes are present
@@ -42,25 +39,6 @@ earlier-present state entry start placed (suc k) h =
     let own = earlier_placed entry (state.record_of k) h in
     (placed k).1 own
 
--- the node of a mark that was placed lawfully is present
-placed_present :
-    (setup : Setup) (state : TreeState) (k : ℕ) (entry : Record) (p : Point) (outcome : Outcome) → outcome ≡ Placed
-    → HasLawfulOutcome setup state k entry p outcome → IsPresent state.points (suc k)
-placed_present setup state k entry p Placed e h = IsPresent-stands state.points (suc k) p h.by_tree.stands
-placed_present setup state k entry p (Same j) e h = let b = ap is_placed e in cc
-placed_present setup state k entry p Blocked e h = let b = ap is_placed e in cc
-
--- or if all records are lawful
-pub earlier-present_lawful :
-    (setup : Setup) (mark : ℕ → Point) (state : TreeState) (entry : Record) → IsPresent state.points 0
-    → ((k : ℕ) (own : Record) → state.record_of k ≡ Some own → IsLawfulRecord setup state k (mark k) own)
-    → (n : ℕ) → IsEarlier state entry n → IsPresent state.points n
-earlier-present_lawful setup mark state entry start lawful zero h = start
-earlier-present_lawful setup mark state entry start lawful (suc k) h =
-    let own = earlier_placed entry (state.record_of k) h in
-    let point : Point = steered (point_of state.points own.0.nearest) (mark k) setup.step in
-    placed_present setup state k own.0 point own.0.outcome own.2 (lawful k own.0 own.1).outcome
-
 -- ---- the same earlier nodes
 
 -- The earlier nodes of a record are the same at both moments, and were present.
@@ -83,15 +61,8 @@ earlier_count-same before after entry grows h =
     ∙ count-limits early (length after.points) (length before.points) later_below below
     ∙ sym (length-filter early (range_with_len 0 (length before.points)))
 
--- The record of mark k is the only new one: of another worker than `entry`, or of no earlier turn.
-pub record AddsLaterRecord (before after : TreeState) (k : ℕ) (new entry : Record) : Type 0 where
-  pub absent : before.record_of k ≡ None
-  pub recorded : after.record_of k ≡ Some new
-  pub others : (j : ℕ) → j ≢ k → after.record_of j ≡ before.record_of j
-  pub later : (new.worker ≢ entry.worker) ⊎ (entry.turn ≤ new.turn)
-
--- such a record is not that of an earlier mark
-pub not_earlier : (new entry : Record) → (new.worker ≢ entry.worker) ⊎ (entry.turn ≤ new.turn) → is_earlier_record entry (Some new) ≡ false
+-- a record of another worker, or of no earlier turn, is not that of an earlier mark
+not_earlier : (new entry : Record) → (new.worker ≢ entry.worker) ⊎ (entry.turn ≤ new.turn) → is_earlier_record entry (Some new) ≡ false
 not_earlier new entry (inl apart) =
     and_right (is_placed new.outcome) (eqb new.worker entry.worker && ltb new.turn entry.turn)
     (and_left (eqb new.worker entry.worker) (ltb new.turn entry.turn) (ne_eqb new.worker entry.worker apart))
@@ -101,13 +72,13 @@ not_earlier new entry (inr no_less) =
 
 -- so the earlier nodes are the same with it
 pub is_earlier-same :
-    (before after : TreeState) (k : ℕ) (new entry : Record) → AddsLaterRecord before after k new entry
-    → (n : ℕ) → is_earlier after entry n ≡ is_earlier before entry n
-is_earlier-same before after k new entry change zero = refl
-is_earlier-same before after k new entry change (suc j) =
+    (before after : TreeState) (k : ℕ) (new entry : Record) → RecordsMark before.record_of after.record_of k new
+    → (new.worker ≢ entry.worker) ⊎ (entry.turn ≤ new.turn) → (n : ℕ) → is_earlier after entry n ≡ is_earlier before entry n
+is_earlier-same before after k new entry change later zero = refl
+is_earlier-same before after k new entry change later (suc j) =
     elim (cases_eq j k) [
       | inl e ↦ (
-          ap (λ m. is_earlier_record entry (after.record_of m)) e ∙ ap (is_earlier_record entry) change.recorded ∙ not_earlier new entry change.later
+          ap (λ m. is_earlier_record entry (after.record_of m)) e ∙ ap (is_earlier_record entry) change.recorded ∙ not_earlier new entry later
           ∙ sym (ap (λ m. is_earlier_record entry (before.record_of m)) e ∙ ap (is_earlier_record entry) change.absent))
       | inr apart ↦ ap (is_earlier_record entry) (change.others j apart)
     ]

@@ -1,5 +1,5 @@
 -- The next mark of a closed run: if the tree has grown in the order law and the new record is lawful, the run with it is closed.
-use Rattle.std.proofs.Common.{◌≡◌, ℕ, zero, suc, ◌<◌, ◌≤◌, Bool, false, List, length, Some, None, arith, sym, ap, ◌∙◌, subst, inl, inr}
+use Rattle.std.proofs.Common.{◌≡◌, ℕ, suc, ◌<◌, ◌≤◌, Bool, false, List, length, Some, None, arith, sym, ap, ◌∙◌, subst, inl, inr}
 use Rattle.std.specs.Prelude.{◌≢◌, ◌↔◌, ◌⊎◌, is_some}
 use Rattle.std.specs.List.{range_with_len}
 use Rattle.std.proofs.lemmas.Bool.{cases_eq, cases_lt, true≢false}
@@ -14,7 +14,7 @@ use Rattle.plan_model.specs.PointsByNumber.{IsPresent, point_of, node_count}
 use Rattle.plan_model.specs.Steering.{steered}
 use Rattle.plan_model.specs.TreeStates.{TreeState, GrowsInto}
 use Rattle.plan_model.specs.OrderLaw.{KeepsOrder}
-use Rattle.plan_model.specs.RecordLaw.{is_placed, is_earlier_record, is_earlier, IsEarlier, earlier_count, IsBlockedLawfully, HasLawfulOutcome, IsLawfulRecord}
+use Rattle.plan_model.specs.RecordLaw.{is_placed, is_earlier, IsEarlier, earlier_count, IsBlockedLawfully, HasLawfulOutcome, IsLawfulRecord}
 use Rattle.plan_model.specs.ClosedLaw.{mark_at, IsClosed}
 use Rattle.plan_model.specs.HandledMarks.{IsBlockedWhole, EndsBy, turns_of}
 use Rattle.plan_model.specs.Textbook.{Setup, SteersTo}
@@ -22,7 +22,7 @@ use Rattle.plan_model.proofs.NodeCounts.{count-le_node_count}
 use Rattle.plan_model.proofs.TreeStateLaws.{IsPresent-grows, point_of-grows, StandsAt-before}
 use Rattle.plan_model.proofs.OrderLaws.{start-present}
 use Rattle.plan_model.proofs.LoweredCosts.{AddsRecord, LowersCosts, LowersCosts-adds_record, GrowsInto-lowered, KeepsOrder-lowered}
-use Rattle.plan_model.proofs.EarlierNodes.{earlier-present, HaveSameEarlier, not_earlier, is_earlier-same}
+use Rattle.plan_model.proofs.EarlierNodes.{earlier-present, HaveSameEarlier, is_earlier-same}
 use Rattle.plan_model.proofs.RecordLaws.{IsNotAbove-grows, IsLawfulRecord-grows}
 use Rattle.plan_model.proofs.NextRecords.{RecordsMark, new_or_recorded, AreRecordedBelow-next}
 use Rattle.plan_model.proofs.WorkerTurns.{turn-new, AreTurns-next}
@@ -64,12 +64,7 @@ module _ (setup : Setup) (start : Point) (marks : List Point) (k : ℕ) (before 
       same_earlier : (j : ℕ) (own : Record) → before.record_of j ≡ Some own → HaveSameEarlier before after own
       same_earlier j own h = record {
         same =
-            is_earlier-same before after k entry own (record {
-              absent = ends.records.absent;
-              recorded = ends.records.recorded;
-              others = ends.records.others;
-              later = later;
-            });
+            is_earlier-same before after k entry own ends.records later;
         present = earlier-present before own (start-present setup start before closed.order) closed.placed;
       }
         where
@@ -139,18 +134,9 @@ module _ (setup : Setup) (start : Point) (marks : List Point) (k : ℕ) (before 
     module _ (records : RecordsMark before.record_of after.record_of k entry) (grows : GrowsInto before after) where
       -- what stood earlier by the records was present
       pub early-present : (i : ℕ) → IsEarlier after entry i → IsPresent before.points i
-      early-present zero h = start-present setup start before closed.order
-      early-present (suc j) h =
-          elim (cases_eq j k) [
-            | inl e ↦ (
-                let here = ap after.record_of e ∙ records.recorded in
-                let not_before : is_earlier_record entry (after.record_of j) ≡ false =
-                ap (is_earlier_record entry) here ∙ not_earlier entry entry (inr (omega arith)) in
-                absurd (true≢false (sym h ∙ not_before)))
-            | inr apart ↦
-                earlier-present before entry (start-present setup start before closed.order) closed.placed (suc j)
-                (sym (ap (is_earlier_record entry) (records.others j apart)) ∙ h)
-          ]
+      early-present i h =
+          let same = is_earlier-same before after k entry entry records (inr (omega arith)) i in
+          earlier-present before entry (start-present setup start before closed.order) closed.placed i (sym same ∙ h)
 
       pub earlier_count-le : earlier_count after entry ≤ node_count before.points
       earlier_count-le =
