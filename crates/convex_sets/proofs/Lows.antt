@@ -33,13 +33,6 @@ pub record IsLowestOf (corners : List Vertex) (lowest n : ℕ) : Type 0 where
   pub within : lowest < length corners
   pub least : (k : ℕ) → k < n → pos 0 ≤ℤ rise (from_to (corner_at corners lowest) (corner_at corners k))
 
-pub IsLowestOf-first : (corners : List Vertex) → 0 < length corners → IsLowestOf corners 0 1
-IsLowestOf-first corners some =
-    record {
-      within = some;
-      least = λ k l. let z : k ≡ 0 = omega arith in rw (z, zero_vector start (corner_at corners 0)) (omega (arith, ints));
-    }
-
 pub IsLowestOf-keeps : (corners : List Vertex) (lowest n : ℕ) → IsLowestOf corners lowest n
     → pos 0 ≤ℤ rise (from_to (corner_at corners lowest) (corner_at corners n)) → IsLowestOf corners lowest (n + 1)
 IsLowestOf-keeps corners lowest n h f = record { within = h.within; least = below_more _ n h.least f }

@@ -81,9 +81,6 @@ other_left a b i j e p h outline ahead left l inside = by (cases_lt (suc j) (len
     x : Vertex
     x = from_to (corner_at b j) (corner_at b l)
 
-    ahead_left : pos 0 ≤ℤ cross e p
-    ahead_left = let f = ahead.left in omega (arith, ints)
-
     at_end : (suc j ≡ length b) → pos 0 ≤ℤ cross p (from_to (corner_at b j) (corner_at b l))
     at_end last = by_length (cases_lt 1 (length b))
       where

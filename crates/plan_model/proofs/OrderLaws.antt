@@ -1,5 +1,5 @@
 -- The order law: what an edge costs at most, and that costs strictly fall along parents.
-use Rattle.std.proofs.Common.{◌≡◌, ℕ, zero, suc, ◌+◌, ◌-◌, ◌*◌, ◌^◌, ◌<◌, ◌≤◌, Some, arith, refl, sym, ap, ◌∙◌, subst}
+use Rattle.std.proofs.Common.{◌≡◌, ℕ, zero, suc, ◌+◌, ◌-◌, ◌*◌, ◌^◌, ◌<◌, ◌≤◌, Some, arith, sym, ap, ◌∙◌, subst}
 use Rattle.std.specs.Prelude.{◌≢◌}
 use Rattle.std.proofs.lemmas.Nat.{mul-le}
 use Rattle.plan_model.specs.declared.geometry.Point.{Point}
@@ -55,19 +55,6 @@ HangsBelow-at setup state n m a b h =
       edge = subst (λ q. IsAllowedEdge setup q (point_of state.points n)) (sym up) edge;
       cost = omega (arith, ap state.cost h.parent, price, h.cost);
     }
-
--- and a present node that hangs below its parent stands with it at their points
-pub HangsAt-below :
-    (setup : Setup) (state : TreeState) (n : ℕ) → IsPresent state.points n → HangsBelow setup state n
-    → HangsAt setup state n (state.parent n) (point_of state.points (state.parent n)) (point_of state.points n)
-HangsAt-below setup state n here h = record {
-  parent = refl;
-  above = StandsAt-present state.points (state.parent n) h.parent;
-  here = StandsAt-present state.points n here;
-  other = h.other;
-  edge = h.edge;
-  cost = h.cost;
-}
 
 -- ---- costs fall along parents
 

@@ -1,12 +1,12 @@
 -- A state that keeps the order law: kept costs fall along its parents, are at least its sums, and its sums if they are settled.
-use Rattle.std.proofs.Common.{◌≡◌, ℕ, zero, suc, ◌+◌, ◌≤◌, [], ◌∷◌, arith, ◌∙◌}
+use Rattle.std.proofs.Common.{◌≡◌, ℕ, zero, suc, ◌+◌, ◌≤◌, arith, ◌∙◌}
 use Rattle.plan_model.specs.declared.geometry.Point.{Point}
 use Rattle.plan_model.specs.PointsByNumber.{IsPresent}
 use Rattle.plan_model.specs.Trees.{edge_by, FallAlong}
-use Rattle.plan_model.specs.TreeStates.{TreeState, chain_in, sum_in}
+use Rattle.plan_model.specs.TreeStates.{TreeState, sum_in}
 use Rattle.plan_model.specs.OrderLaw.{KeepsOrder}
 use Rattle.plan_model.specs.Textbook.{Setup}
-use Rattle.plan_model.proofs.ChainLaws.{chain-start, chain-parent, sum-start, sum-parent}
+use Rattle.plan_model.proofs.ChainLaws.{sum-start, sum-parent}
 use Rattle.plan_model.proofs.LoweredCosts.{StandsStill, SettlesCosts}
 use Rattle.plan_model.proofs.OrderLaws.{start-present, KeepsOrder-falls}
 
@@ -18,13 +18,6 @@ module _ (setup : Setup) (start : Point) (state : TreeState) (order : KeepsOrder
     parent = λ n h. (order.hangs n h).parent;
     falls = λ n h. KeepsOrder-falls setup start state order n h;
   }
-
-  -- the chain of a node is the node and its parent's
-  pub chain_in-start : chain_in state 0 ≡ 0 ∷ []
-  chain_in-start = chain-start state.cost state.points state.parent FallAlong-ordered
-
-  pub chain_in-parent : (n : ℕ) → IsPresent state.points (suc n) → chain_in state (suc n) ≡ suc n ∷ chain_in state (state.parent (suc n))
-  chain_in-parent = chain-parent state.cost state.points state.parent FallAlong-ordered
 
   -- the sum of a node is its parent's and the edge
   pub sum_in-start : sum_in state 0 ≡ 0

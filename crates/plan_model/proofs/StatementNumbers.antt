@@ -2,7 +2,6 @@
 use Rattle.std.proofs.Common.{◌≡◌, ℕ, not, Bool, true, false, cond, Some, List, [], ◌∷◌, ◌++◌, map, filter, refl, sym, ap, ◌∙◌}
 use mathlib.Core.Path.{fun_ext}
 use Rattle.std.specs.Prelude.{bytes_eq}
-use Rattle.std.proofs.lemmas.Bool.{false_from_ne_true}
 use Rattle.std.proofs.lemmas.List.{map-append, append-nil}
 use Rattle.std.proofs.lemmas.List.Elements.{filter-append}
 use Rattle.std.proofs.lemmas.Slice.Eq.{bytes_eq-Decides}
@@ -44,11 +43,6 @@ key-begun word words key other e same =
     cc
 
 -- ---- the statements with a key
-
-pub begins_with-other : (word : List ℕ) (words : List (List ℕ)) (key other : Key) → key_of word ≡ Some key → (key ≡ other → ⊥)
-    → begins_with other (word ∷ words) ≡ false
-begins_with-other word words key other e differ =
-    false_from_ne_true (bytes_eq word (name_of other)) (λ same. differ (key-begun word words key other e same))
 
 -- what two runs of statements give, one after the other
 pub given_by-append : (xs ys : List (List (List ℕ))) (key : Key) → given_by (xs ++ ys) key ≡ given_by xs key ++ given_by ys key

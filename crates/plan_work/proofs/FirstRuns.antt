@@ -3,7 +3,6 @@ use Rattle.std.proofs.Common.{◌≡◌, ℕ, false, Some, refl, sym, ap, ◌∙
 use Rattle.std.specs.Prelude.{is_some}
 use Rattle.std.proofs.Math.Logic.{∥∥₁_elim}
 use Rattle.std.proofs.Math.Bool.{Bool-set}
-use Rattle.plan_model.specs.declared.geometry.Point.{Point}
 use Rattle.plan_model.specs.declared.records.Record.{Record}
 use Rattle.plan_model.specs.declared.tasks.Task.{Task}
 use Rattle.plan_model.specs.PointsByNumber.{StandsAt, IsPresent}

@@ -17,10 +17,6 @@ use Rattle.planner_main.specs.Conclusions.{IsCaused, HasScene}
 use Rattle.planner_main.specs.Exchanges.{Reading, ReadFailed, CameShort}
 use Rattle.planner_main.specs.Faults.{refusal_of_fetch}
 
--- a value is no error
-pub ok_is_no_error : {T E : Type 0} (value : T) (error : E) → Ok value ≡ Err error → ⊥
-ok_is_no_error value error is = absurd cc
-
 read≢long : fetching.Read ≡ fetching.TooLong → ⊥
 read≢long is = absurd cc
 

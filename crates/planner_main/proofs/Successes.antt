@@ -20,7 +20,7 @@ use Rattle.step_core.specs.GrownRuns.{state_of_grown}
 use Rattle.planner_main.specs.declared.commands.Command.TheVariants as commands
 use Rattle.planner_main.specs.declared.statuses.TheConstants.{DONE}
 use Rattle.planner_main.specs.declared.top_call.Done.{Done}
-use Rattle.planner_main.specs.Conclusions.{HasScene, IsSuccess, Report, ReportsGrown, ReportsScene, WritesGenerated, TriesGenerated, status_of_report}
+use Rattle.planner_main.specs.Conclusions.{HasScene, IsSuccess, Report, ReportsGrown, ReportsScene, TriesGenerated, status_of_report}
 use Rattle.planner_main.specs.Exchanges.{Reading, IsUnread}
 
 -- a settled run over all marks of its scene is reported by its status and such a text; that it is closed, its type says
@@ -102,11 +102,6 @@ module _ (reading : Reading) (scene : Scene) (done : Done) (text : List ℕ) whe
   }
 
 module _ (reading : Reading) (done : Done) (text : List ℕ) where
-  pub IsSuccess-generated : (number : ℕ) → IsUnread reading → WritesGenerated number done text →
-      IsSuccess (Some (commands.Gen number)) reading done text
-  IsSuccess-generated number unread written =
-      record { command = commands.Gen number; known = refl; bytes = []; read = unread; meaning = written }
-
   pub IsSuccess-tried : (number : ℕ) → IsUnread reading → TriesGenerated number done text →
       IsSuccess (Some (commands.Trial number)) reading done text
   IsSuccess-tried number unread tried =

@@ -1,8 +1,7 @@
 -- The checks of a draft are those of the grammar over what the draft gives.
-use Rattle.std.proofs.Common.{◌≡◌, ℕ, ◌&&◌, ◌||◌, not, Bool, true, false, ltb, None, List, [], ◌∷◌, ◌++◌, length, map, Result, Ok, Err, OnOk}
-use Rattle.std.proofs.Common.{refl, sym, ap, ◌∙◌, arith}
+use Rattle.std.proofs.Common.{◌≡◌, ℕ, ◌&&◌, ◌||◌, not, Bool, true, false, None, List, [], ◌∷◌, ◌++◌, map, Result, Ok, Err, OnOk}
+use Rattle.std.proofs.Common.{refl, sym, ap, ◌∙◌}
 use mathlib.Core.Path.{fun_ext}
-use Rattle.std.specs.List.{list_all}
 use Rattle.std.proofs.lemmas.List.{map-append}
 use Rattle.plan_model.specs.declared.geometry.Point.{Point}
 use Rattle.plan_model.specs.declared.geometry.Vertex.{Vertex}
@@ -10,31 +9,20 @@ use Rattle.plan_model.specs.declared.text_terms.Key.{Key}
 use Rattle.plan_model.specs.declared.text_terms.Key.TheVariants as keys
 use Rattle.plan_model.specs.declared.text_terms.Kind.TheVariants as kinds
 use Rattle.plan_model.specs.TextLines.{is_skipped}
-use Rattle.plan_model.specs.TextNumbers.{is_number, value_of}
-use Rattle.plan_model.specs.Keys.{name_of, fits_words}
-use Rattle.plan_model.specs.LineChecks.{Given, Check, with_statement, is_version, fault_of_statement, is_inhabited, is_repeated, is_too_many}
-use Rattle.plan_model.specs.LineChecks.{first_failing, number_checks, checks_of}
+use Rattle.plan_model.specs.TextNumbers.{value_of}
+use Rattle.plan_model.specs.Keys.{name_of}
+use Rattle.plan_model.specs.LineChecks.{Check, with_statement, is_version, fault_of_statement}
+use Rattle.plan_model.specs.LineChecks.{first_failing}
 use Rattle.plan_model.specs.SceneGrammar.{supported}
 use Rattle.plan_model.specs.CanonicalText.{point_numbers, corner_numbers}
 use Rattle.scene_text.specs.declared.drafts.Draft.{Draft}
-use Rattle.scene_text.specs.Drafts.{IsFormed, given_by_draft, TakesLine}
-
-pub is_inhabited-length : {A : Type 0} (xs : List A) → is_inhabited xs ≡ ltb 0 (length xs)
-is_inhabited-length [] = refl
-is_inhabited-length (x ∷ xs) = grind arith
+use Rattle.scene_text.specs.Drafts.{given_by_draft, TakesLine}
 
 -- the checks that pass leave those after them
 formed : (built repeated fits many numbers : Bool) (rest : List Check) → built ≡ true → repeated ≡ false → fits ≡ true → many ≡ false → numbers ≡ true
     → first_failing ((built, kinds.Unbuilt) ∷ (not repeated, kinds.Repeat) ∷ (fits, kinds.Words) ∷ (not many, kinds.Many) ∷ (numbers, kinds.Number) ∷ rest)
     ≡ first_failing rest
 formed built repeated fits many numbers rest a b c d e = rw (a, b, c, d, e) refl
-
--- if the checks of the form pass, those of the numbers are left
-pub first_failing-formed : (given : Given) (key : Key) (words : List (List ℕ)) → IsFormed given key words
-    → first_failing (checks_of supported given key words) ≡ first_failing (number_checks key (map value_of words))
-first_failing-formed given key words h =
-    formed (supported key) (is_repeated given key) (fits_words key (length words)) (is_too_many given key (length words)) (list_all is_number words)
-    (number_checks key (map value_of words)) h.built h.fresh h.fits h.few h.numbers
 
 -- ---- one line
 

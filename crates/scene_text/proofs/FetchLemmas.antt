@@ -1,25 +1,16 @@
 -- What came from a source.
-use Rattle.std.proofs.Common.{◌≡◌, ℕ, ◌+◌, ◌-◌, ◌<◌, ◌≤◌, List, ◌++◌, length, take, Option, None, Some, Result, Ok, Err, Vec, IsErrAnd}
-use Rattle.std.proofs.Common.{sym, ◌∙◌, ap, refl, arith, length-append, length-take}
+use Rattle.std.proofs.Common.{◌≡◌, ℕ, ◌+◌, ◌-◌, ◌<◌, ◌≤◌, List, ◌++◌, length, take, Option, Result, Ok, Err, Vec, IsErrAnd}
+use Rattle.std.proofs.Common.{refl, arith, length-append, length-take}
 use Rattle.std.proofs.KnownBytes.{Consumes-trans}
 use Rattle.std.specs.Io.KnownBytes.{Consumes}
 use Rattle.plan_model.specs.declared.limits.TheConstants.{MOST_TEXT_BYTES}
 use Rattle.scene_text.specs.declared.fetching.FetchFault.{FetchFault}
 use Rattle.scene_text.specs.declared.fetching.FetchFault.TheVariants as faults
-use Rattle.scene_text.specs.Fetching.{CameTooLong, Fetches, ReadsWithin}
+use Rattle.scene_text.specs.Fetching.{Fetches, ReadsWithin}
 
 pub ReadsWithin-fetched : {Z : Type 0} (before now : Option (List ℕ)) (result : Result (Vec ℕ Z) FetchFault)
     → Fetches before now result → ReadsWithin before now
 ReadsWithin-fetched before now result h = (h.came, h.within, h.consumed)
-
--- a source that gave too many bytes had too many
-pub CameTooLong-known : (before now : Option (List ℕ)) (known : List ℕ) → before ≡ Some known
-    → CameTooLong before now → MOST_TEXT_BYTES < length known
-CameTooLong-known None now known e h = absurd cc
-CameTooLong-known (Some xs) None known e h = absurd h.2
-CameTooLong-known (Some xs) (Some ys) known e h =
-    let same : xs ≡ known = cc in
-    omega (arith, h.1, ap length (sym same ∙ h.2), length-append h.0 ys)
 
 -- one read more after a text: count bytes, of which a text has places for room
 module _ (before mid now : Option (List ℕ)) (text into : List ℕ) (count : ℕ)

@@ -1,5 +1,5 @@
 -- The corners of a polygon, from the numbers of its line.
-use Rattle.std.proofs.Common.{◌≡◌, ℕ, ◌+◌, ◌*◌, ◌<◌, ◌%◌, Bool, true, false, ◌||◌, eqb, ℤ, ◌≤ℤ◌, None, Some, List, [], ◌∷◌, ◌++◌, length, map}
+use Rattle.std.proofs.Common.{◌≡◌, ℕ, ◌+◌, ◌*◌, ◌%◌, Bool, true, false, ◌||◌, eqb, ℤ, ◌≤ℤ◌, None, Some, List, [], ◌∷◌, ◌++◌, length, map}
 use Rattle.std.proofs.Common.{refl, ap, ◌∙◌, subst, arith}
 use Rattle.std.specs.List.{list_all}
 use Rattle.std.proofs.lemmas.List.{length-map}
@@ -27,11 +27,6 @@ pub record ReadsCorners (least most : ℤ) (words rest : List (List ℕ)) (corne
   pub numbers : list_all is_number rest ≡ true
   pub pairs : length rest % 2 ≡ 0
 
--- before the first corner
-pub ReadsCorners-none : (least most : ℤ) (words : List (List ℕ)) → list_all is_number words ≡ true → length words % 2 ≡ 0
-    → ReadsCorners least most words words []
-ReadsCorners-none least most words numbers pairs = record { value = refl; ranged = refl; numbers = numbers; pairs = pairs }
-
 corner_numbers-push : (corners : List Vertex) (v : Vertex) (zs : List ℤ) → corner_numbers corners ++ v.x ∷ v.y ∷ zs ≡ corner_numbers (corners ++ v ∷ []) ++ zs
 corner_numbers-push [] v zs = refl
 corner_numbers-push (corner ∷ corners) v zs = ap (λ rest. corner.x ∷ corner.y ∷ rest) (corner_numbers-push corners v zs)
@@ -57,9 +52,6 @@ ReadsCorners-more least most words rest after corners v h e within numbers = rec
   numbers = numbers;
   pairs = (let count = fewer rest after v.x v.y e in let pairs = h.pairs in omega arith);
 }
-
-pub ReadsCorners-fewer : (rest after : List (List ℕ)) (x y : ℤ) → map value_of rest ≡ x ∷ y ∷ map value_of after → length after < length rest
-ReadsCorners-fewer rest after x y e = let count = fewer rest after x y e in omega arith
 
 -- ---- the checks of the numbers of a polygon
 

@@ -1,37 +1,10 @@
 -- Children that are added to a list, one after another, in falling number.
-use Rattle.std.proofs.Common.{
-  ◌≡◌,
-  ◌==◌,
-  ℕ,
-  suc,
-  ◌+◌,
-  ◌<◌,
-  ◌≤◌,
-  List,
-  [],
-  ◌∷◌,
-  ◌++◌,
-  get_or,
-  Option,
-  Some,
-  None,
-  count_by,
-  cond,
-  refl,
-  sym,
-  ap,
-  ◌∙◌,
-  arith,
-  inl,
-  inr,
-  if◌then◌else◌,
-}
-use Rattle.std.specs.Prelude.{◌≢◌, false}
+use Rattle.std.proofs.Common.{◌≡◌, ◌==◌, ℕ, suc, ◌+◌, ◌<◌, ◌≤◌, List, [], ◌∷◌, ◌++◌, get_or, Option, Some, None, count_by, cond, sym, ap, ◌∙◌, arith, inl, inr}
+use Rattle.std.specs.Prelude.{◌≢◌}
 use Rattle.std.proofs.lemmas.Bool.{cases_eq, cases_order, eq-eqb, ne_eqb}
 use Rattle.std.proofs.lemmas.List.Sums.{sum_by-append}
 use Rattle.seq_planner.specs.declared.child_lists.ChildLists.{ChildLists}
-use Rattle.seq_planner.specs.LinkedTrees.{is_number, IsGreatest, AreChildLists}
-use Rattle.seq_planner.proofs.ChildLists.{cases_some}
+use Rattle.seq_planner.specs.LinkedTrees.{IsGreatest, AreChildLists}
 
 -- a number is above the one that is next, or none is left
 abbrev pub IsAbove : Option ℕ → ℕ → Type 0
@@ -66,20 +39,6 @@ count-push_other : (list : List ℕ) (m c : ℕ) → c ≢ m → count_by (λ k.
 count-push_other list m c ne = count-push list m c ∙ (ap (λ b. count_by (λ k. k == c) list + cond b 1 0) (ne_eqb m c (λ e. ne (sym e))) ∙ omega arith)
 
 -- ---- the steps
-
--- at first nothing was added, and the greatest child is next
-AreAdded-first : (up : ℕ → Option ℕ) (parent : ℕ) (old : List ℕ) (next : Option ℕ) → IsGreatest (λ c. up c ≡ Some parent) next → AreAdded up parent old old next
-AreAdded-first up parent old None none = record { child = tt; added = λ c h _. absurd (none c h); others = λ c _. refl }
-AreAdded-first up parent old (Some m) most = record {
-  child = most.0;
-  added = λ c h above. (let bound : c ≤ m = most.1 c h in absurd (omega arith));
-  others = λ c _. refl;
-}
-
-pub AreAdded-init :
-    (up : ℕ → Option ℕ) (lists : ChildLists) (parent : ℕ) (old : List ℕ) → AreChildLists up lists
-    → AreAdded up parent old old (get_or lists.first.items parent None)
-AreAdded-init up lists parent old are = AreAdded-first up parent old (get_or lists.first.items parent None) (are.first parent)
 
 -- the next child is a child, below the one that was added
 next_child : (up : ℕ → Option ℕ) (parent m : ℕ) (next : Option ℕ) → IsGreatest (λ d. (up d ≡ Some parent) × (d < m)) next → IsChild up parent next
@@ -127,19 +86,3 @@ pub AreAdded-more :
     → AreAdded up parent old (list ++ m ∷ []) (get_or lists.next.items m None)
 AreAdded-more up lists parent m old list are so_far =
     AreAdded-step up parent m old list (get_or lists.next.items m None) (are.next parent m so_far.child) so_far
-
--- at the end each child was added once
-pub AreAdded-all :
-    (up : ℕ → Option ℕ) (parent : ℕ) (old list : List ℕ) → AreAdded up parent old list None
-    → (c : ℕ) → count_by (λ k. k == c) list ≡ count_by (λ k. k == c) old + (if is_number parent (up c) then 1 else 0)
-AreAdded-all up parent old list all c =
-    elim (cases_some (up c) parent) [
-      | inl e ↦
-          all.added c e tt ∙ ap (λ b. count_by (λ k. k == c) old + cond b 1 0) (sym (ap (is_number parent) e ∙ eq-eqb parent parent refl))
-      | inr ne ↦
-          all.others c (λ h. ne h.0) ∙ (omega arith ∙ ap (λ b. count_by (λ k. k == c) old + cond b 1 0) (sym (not_number (up c) ne)))
-    ]
-  where
-    not_number : (o : Option ℕ) → o ≢ Some parent → is_number parent o ≡ false
-    not_number None ne = refl
-    not_number (Some g) ne = ne_eqb g parent (λ e. ne (ap Some e))

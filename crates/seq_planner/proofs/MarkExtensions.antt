@@ -95,9 +95,6 @@ unplaced scene tree mark extension entry ns none handles h =
     }
 
 module _ (scene : Scene) (tree : SearchTree) (mark : Point) (k nearest : ℕ) (from point : Point) (h : Steers scene tree mark k nearest from point) where
-  at_turn : Record → Type 0
-  at_turn entry = Handles (setup_of scene) tree.nodes k mark entry (tree.nodes ++ None ∷ [])
-
   -- the nearest node stands at the point already
   pub IsExtensionOf-same :
       (extension : Extension) (ns : List ℕ) → ns ≡ [] → point ≡ from → IsUnplaced extension (same_record k nearest nearest)

@@ -67,19 +67,6 @@ pub record IsRewiredSoFar (space : ConfigurationSpace) (before tree : SearchTree
   pub records : tree.records.items ≡ before.records.items
   pub children : (c : ℕ) → is_child_of tree.nodes n c ≡ true → (j : ℕ) → k ≤ j → j < length ns → c < get_or ns j 0
 
--- before the first
-pub IsRewiredSoFar-none :
-    (space : ConfigurationSpace) (tree : SearchTree) (n : ℕ) (ns : List ℕ) → IsSoundTree tree
-    → ((c : ℕ) → ¬ is_child_of tree.nodes n c ≡ true) → IsRewiredSoFar space tree tree n ns 0
-IsRewiredSoFar-none space tree n ns sound leaf = record {
-  rewired = refl;
-  sound = sound;
-  points = refl;
-  count = refl;
-  records = refl;
-  children = λ c h j low below. absurd (leaf c h);
-}
-
 -- What the look at one near node leaves.
 pub record IsRewiredOne (space : ConfigurationSpace) (tree after : SearchTree) (n i : ℕ) : Type 0 where
   pub rewired : RewiresOne space tree.nodes n i after.nodes

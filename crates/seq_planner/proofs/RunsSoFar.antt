@@ -16,19 +16,6 @@ pub record IsRunSoFar (scene : Scene) (marks : List Point) (tree : SearchTree) :
   pub nodes : length tree.nodes ≡ length marks + 1
   pub records : length tree.records.items ≡ length marks
 
--- before the first mark
-pub IsRunSoFar-none :
-    (scene : Scene) (marks : List Point) (tree : SearchTree) → tree.nodes ≡ start_alone scene.start → tree.records.items ≡ []
-    → IsSoundTree tree → IsRunSoFar scene (take 0 marks) tree
-IsRunSoFar-none scene marks tree nodes records sound =
-    let P : List Record → Type 0 = λ entries. HandlesAll (setup_of scene) 0 (start_alone scene.start) [] entries tree.nodes in
-    record {
-      run = subst P (sym records) nodes;
-      sound = sound;
-      nodes = ap length nodes;
-      records = ap length records;
-    }
-
 -- after one more mark
 pub IsRunSoFar-more :
     (scene : Scene) (marks : List Point) (tree after : SearchTree) (i : ℕ) (mark : Point) → IsRunSoFar scene (take i marks) tree

@@ -1,6 +1,6 @@
 -- A tree with its kept costs stays sound if a node, or an absent one, is put at its end.
-use Rattle.std.proofs.Common.{◌≡◌, ℕ, zero, suc, ◌+◌, ◌<◌, ◌≤◌, List, [], ◌∷◌, ◌++◌}
-use Rattle.std.proofs.Common.{length, get_or, Option, Some, None, arith, refl, sym, ap, ◌∙◌, subst, inl, inr, length-append}
+use Rattle.std.proofs.Common.{◌≡◌, ℕ, ◌+◌, ◌<◌, ◌≤◌, List, [], ◌∷◌, ◌++◌}
+use Rattle.std.proofs.Common.{length, get_or, Option, Some, None, arith, sym, ap, ◌∙◌, subst, inl, inr, length-append}
 use Rattle.std.proofs.Math.Seq.{get_or-append_seam}
 use Rattle.std.specs.Prelude.{is_some, option_map}
 use Rattle.std.proofs.lemmas.List.{get_or_append_left, get_or_past, length-map}
@@ -13,11 +13,11 @@ use Rattle.plan_model.specs.Bounds.{IsBounded}
 use Rattle.plan_model.specs.EmptyRooms.{IsInRoom}
 use Rattle.plan_model.specs.PointsByNumber.{StandsAt, IsPresent, point_of, node_count}
 use Rattle.plan_model.specs.Trees.{points_of, parent_of, sum_of}
-use Rattle.plan_model.specs.Textbook.{Nodes, start_alone}
-use Rattle.plan_model.proofs.TreeChanges.{node_at-past, points_of-push, node_count-push, node_at-absent}
-use Rattle.plan_model.proofs.NewNodes.{Adds, Adds-push, AreDistinct-adds, IsPresent-stands, StandsAt-present, StandsAt-unique}
-use Rattle.plan_model.proofs.NewNodes.{node_count-some, new_or_kept, point_at-same, present_below, not_present}
-use Rattle.plan_model.proofs.KeptCosts.{CostsFall-start, AreTight-start, CostsFall-same, AreTight-same, CostsFall-adds}
+use Rattle.plan_model.specs.Textbook.{Nodes}
+use Rattle.plan_model.proofs.TreeChanges.{points_of-push, node_count-push, node_at-absent}
+use Rattle.plan_model.proofs.NewNodes.{Adds, Adds-push, AreDistinct-adds, StandsAt-present}
+use Rattle.plan_model.proofs.NewNodes.{node_count-some, new_or_kept, point_at-same, present_below}
+use Rattle.plan_model.proofs.KeptCosts.{CostsFall-same, AreTight-same, CostsFall-adds}
 use Rattle.plan_model.proofs.KeptCosts.{AreTight-adds, KeepsCosts, IsPriced, AddsPriced}
 use Rattle.plan_model.proofs.ChainLaws.{sums-tight}
 use Rattle.seq_planner.specs.declared.placed_points.PlacedPoints.{PlacedPoints}
@@ -45,27 +45,6 @@ within_put costs cost most n h low = elim (cases_order n (length costs)) [
   | inr (inl l) ↦ omega (arith, kept_before costs cost n l, h n)
   | inr (inr past) ↦ omega (arith, get_or_past (costs ++ cost ∷ []) n 0 (omega (arith, length-append costs (cost ∷ []))))
 ]
-
--- ---- the start alone
-
-only_start : (start : Point) (n : ℕ) (p : Point) → StandsAt (points_of (start_alone start)) n p → (n ≡ 0) × (start ≡ p)
-only_start start zero p h = (refl, StandsAt-unique (points_of (start_alone start)) 0 start p refl h)
-only_start start (suc n) p h =
-    let absent = node_at-past (start_alone start) (suc n) (omega arith) in
-    absurd (not_present (start_alone start) (suc n) absent (IsPresent-stands (points_of (start_alone start)) (suc n) p h))
-
-pub IsSound-start :
-    (start : Point) (placed : PlacedPoints) → IsBounded start → ArePlaced (Some start ∷ []) placed
-    → IsSound (start_alone start) (0 ∷ []) placed
-IsSound-start start placed h are = record {
-  falling = CostsFall-start (λ n. get_or (0 ∷ []) n 0) start;
-  tight = AreTight-start (λ n. get_or (0 ∷ []) n 0) start refl;
-  distinct = λ i j p one other. (only_start start i p one).0 ∙ sym (only_start start j p other).0;
-  bounded = λ n p own. subst IsBounded (only_start start n p own).1 h;
-  are_placed = are;
-  cost_count = refl;
-  cost_bound = λ n. within_put [] 0 0 n (λ m. omega (arith, get_or_past {X = ℕ} [] m 0 (omega arith))) (omega arith);
-}
 
 -- ---- an absent node
 

@@ -15,7 +15,6 @@ use Rattle.step_core.specs.GrownWords.{Words, words_of, record_at, has_placed, h
 use Rattle.step_core.specs.KdLinks.{points_below, AreLinkedBelow, KeepsChildren, LinksRise, IsFreeBelow, EndsAt, MayLink, ChangesChildren}
 use Rattle.step_core.proofs.KdWays.{child_of_word-some, child-word, child_place-within, point_in-stands}
 use Rattle.step_core.proofs.KdWays.{point_at-lesser, point_at-greater, present-lesser, stands-lesser}
-use Rattle.step_core.proofs.GrownPoints.{present-within}
 use Rattle.step_core.proofs.WordReads.{word-set, word-other}
 
 -- ---- only child words change
@@ -111,9 +110,6 @@ module _
       let same = may.distinct n m q (stands-lesser sizes before m n q h) stands_own in
       let less = present-lesser sizes before m n (IsPresent-stands (points_below sizes before m) n q h) in
       omega (arith, same, less)
-
-  pub own-within : m ≤ sizes.marks
-  own-within = present-within sizes before m may.present
 
   module _ (after : Words) (place : ℕ) (ends : EndsAt sizes before m q place)
       (writes : WritesChild sizes before after ends.above m (goes_right ends.depth ends.p q)) where

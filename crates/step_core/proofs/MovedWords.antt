@@ -11,9 +11,6 @@ use Rattle.step_core.specs.GrownWords.{Words, words_of}
 use Rattle.step_core.specs.MarkWrites.{cost_below, MovesNodes}
 use Rattle.step_core.proofs.WordReads.{word-set, word-other}
 
-pub MovesNodes-none : (sizes : Sizes) (n : ℕ) (knot : Knot) (moved : List ℕ) (words : Words) → MovesNodes sizes n knot (take 0 moved) words words
-MovesNodes-none sizes n knot moved words = record { hang = λ i among. cc; others = λ place apart. refl }
-
 or_right : (a b : Bool) → b ≡ true → (a || b) ≡ true
 or_right true b h = refl
 or_right false b h = h

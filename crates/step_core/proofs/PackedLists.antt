@@ -1,5 +1,5 @@
 -- The words of a run after its counters, its count, its nodes and its records were written, one after another.
-use Rattle.std.proofs.Common.{◌≡◌, ℕ, suc, ◌<◌, ◌≤◌, Bool, true, false, List, [], ◌∷◌, Option, Some, None}
+use Rattle.std.proofs.Common.{◌≡◌, ℕ, suc, ◌<◌, ◌≤◌, Bool, List, [], ◌∷◌, Option, Some, None}
 use Rattle.std.proofs.Common.{length, cond, arith, refl, sym, ap, ◌∙◌, subst, inl, inr}
 use Rattle.std.specs.Prelude.{◌≢◌, is_some, count_by, slice_set, slice_index_or, option_map, if◌then◌else◌}
 use Rattle.std.proofs.lemmas.Bool.{cases_lt, lt-leb}
@@ -53,22 +53,6 @@ module _
     (fit : FitWords sizes knots records) (zeros : (place : ℕ) → none place ≡ 0) (claims : CountsMarks sizes (length records) none counted)
     (number : WritesWord place_of_count (count_by is_some knots) counted numbered) (first : WritesWord (first_place sizes 0) (tree_word 0 0) numbered started)
     (nodes : WritesNodes sizes knots (length knots) started noded) (entries : WritesRecords sizes records (length records) noded full) where
-  -- a child word stays empty
-  child_none : (n : ℕ) (side : Bool) → n ≤ sizes.marks → full (child_place sizes n side) ≡ 0
-  child_none n false within =
-      entries.others (child_place sizes n false) (λ k less. ((λ e. omega (arith, e, within)), (λ e. omega (arith, e))))
-      ∙ nodes.others (child_place sizes n false) (λ m below. ((λ e. omega (arith, e)), (λ e. omega (arith, e))))
-      ∙ first.others (child_place sizes n false) (λ e. omega (arith, e)) ∙ number.others (child_place sizes n false) (λ e. omega (arith, e))
-      ∙ claims.others (child_place sizes n false) (λ g below e. omega (arith, e, below)) ∙ zeros (child_place sizes n false)
-  child_none n true within =
-      entries.others (child_place sizes n true) (λ k less. ((λ e. omega (arith, e, within)), (λ e. omega (arith, e))))
-      ∙ nodes.others (child_place sizes n true) (λ m below. ((λ e. omega (arith, e)), (λ e. omega (arith, e))))
-      ∙ first.others (child_place sizes n true) (λ e. omega (arith, e)) ∙ number.others (child_place sizes n true) (λ e. omega (arith, e))
-      ∙ claims.others (child_place sizes n true) (λ g below e. omega (arith, e, below)) ∙ zeros (child_place sizes n true)
-
-  pub no_child-written : (n : ℕ) (side : Bool) → n ≤ sizes.marks → full (child_place sizes n side) ≡ 0
-  no_child-written = child_none
-
   kept_node : (n : ℕ) (knot : Knot) → n ≤ sizes.marks → HoldsNode sizes noded n knot → HoldsNode sizes full n knot
   kept_node n knot within held = record {
     point = entries.others (point_place sizes n) (λ k less. ((λ e. omega (arith, e, within)), (λ e. omega (arith, e)))) ∙ held.point;

@@ -1,17 +1,15 @@
 -- The words that hold the lists of a closed run are those of a finished run, and have the same tree and records.
-use Rattle.std.proofs.Common.{◌≡◌, ℕ, zero, suc, true, false, List, Option, Some, None, length, arith, refl, sym, ap, ◌∙◌, subst, inl, inr}
+use Rattle.std.proofs.Common.{◌≡◌, ℕ, zero, suc, true, List, Option, Some, None, length, arith, refl, sym, ap, ◌∙◌, subst, inl, inr}
 use Rattle.std.specs.Prelude.{is_some, option_map, slice_get, slice_index_or}
 use Rattle.std.proofs.lemmas.Bool.{cases_lt, cases_Bool, false_from_ne_true}
 use Rattle.std.proofs.lemmas.List.{get_or_past}
 use Rattle.std.proofs.lemmas.Option.{slice_get-get_or, slice_get_cases}
 use Rattle.std.proofs.Math.ListN.{get_or-map}
-use Rattle.plan_model.specs.declared.geometry.Point.{Point}
 use Rattle.plan_model.specs.declared.records.Outcome.TheVariants.{Placed}
 use Rattle.plan_model.specs.declared.records.Record.{Record}
 use Rattle.plan_model.specs.declared.tasks.Task.{Task}
 use Rattle.plan_model.specs.declared.trees.Knot.{Knot}
 use Rattle.plan_model.specs.declared.trees.Twig.{Twig}
-use Rattle.plan_model.specs.Bounds.{IsBounded}
 use Rattle.plan_model.specs.ClosedLaw.{IsClosed}
 use Rattle.plan_model.specs.PointsByNumber.{point_at, IsPresent}
 use Rattle.plan_model.specs.RecordLaw.{is_placed}
@@ -25,7 +23,7 @@ use Rattle.plan_model.proofs.NodeCounts.{node_count-same}
 use Rattle.plan_model.proofs.SameTrees.{IsClosed-same_run}
 use Rattle.plan_model.proofs.TreeChanges.{point_at-points_of}
 use Rattle.step_core.specs.WordPlaces.{Sizes, tree_place, first_place}
-use Rattle.step_core.specs.Words.{parent_in, cost_in, point_word, point_of_word, record_of_word}
+use Rattle.step_core.specs.Words.{parent_in, cost_in, point_of_word, record_of_word}
 use Rattle.step_core.specs.GrownWords.{Words, record_at, has_placed, has_node, points_of_words, state_of_words}
 use Rattle.step_core.specs.GrownWords.{children_of_words, IsPointWord, IsTreeWord, IsWritten, sizes_of, HoldRun}
 use Rattle.step_core.specs.PackedRuns.{kept_cost_of, state_of_lists, IsKnot, FitWords, HoldLists}

@@ -18,9 +18,6 @@ use Rattle.step_core.proofs.WordReads.{word-set, word-other}
 
 -- ---- nodes
 
-pub WritesNodes-none : (sizes : Sizes) (knots : List (Option Knot)) (words : Words) → WritesNodes sizes knots 0 words words
-WritesNodes-none sizes knots words = record { hold = λ n knot below. absurd (omega (arith, below)); others = λ place apart. refl }
-
 module _ (sizes : Sizes) (knots : List (Option Knot)) (m : ℕ) (before mid : Words) (so_far : WritesNodes sizes knots m before mid) where
   -- an absent node needs no word
   pub WritesNodes-absent : slice_get knots m ≡ Some None → WritesNodes sizes knots (m + 1) before mid
@@ -59,9 +56,6 @@ module _ (sizes : Sizes) (knots : List (Option Knot)) (m : ℕ) (before mid : Wo
 
 -- ---- records
 
-pub WritesRecords-none : (sizes : Sizes) (records : List Record) (words : Words) → WritesRecords sizes records 0 words words
-WritesRecords-none sizes records words = record { hold = λ k entry below. absurd (omega (arith, below)); others = λ place apart. refl }
-
 module _
     (sizes : Sizes) (records : List Record) (m : ℕ) (before mid after : Words) (so_far : WritesRecords sizes records m before mid) (entry : Record)
     (own : slice_get records m ≡ Some entry) (within : m < sizes.marks) (here : HoldsRecord sizes after m entry)
@@ -91,12 +85,6 @@ module _
 
 pub quota_of-le : (strips g n : ℕ) → quota_of strips g n ≤ n
 quota_of-le strips g n = omega (arith, count_by-le-length (λ k. k % strips == g) (range_with_len 0 n), length-range_with_len 0 n)
-
-pub CountsMarks-none : (sizes : Sizes) (words : Words) → CountsMarks sizes 0 words words
-CountsMarks-none sizes words = record {
-  counted = λ g below. let none : quota_of sizes.strips g 0 ≡ 0 = refl in omega (arith, none);
-  others = λ place apart. refl;
-}
 
 module _
     (sizes : Sizes) (m : ℕ) (before : Words) (items : List ℕ) (place value : ℕ) (so_far : CountsMarks sizes m before (words_of items))

@@ -3,8 +3,6 @@ use Rattle.std.proofs.Common.{◌≡◌, ℕ, ◌*◌, ◌<◌, ◌≤◌, arith
 use Rattle.std.specs.Prelude.{ℤ, pos, ◌+ℤ◌, ◌-ℤ◌, ◌*ℤ◌, ◌≤ℤ◌}
 use Rattle.std.proofs.lemmas.Int.{ints}
 use Rattle.plan_model.specs.declared.geometry.Point.{Point}
-use Rattle.plan_model.specs.declared.limits.TheConstants.{MOST_SIDE}
-use Rattle.plan_model.specs.Bounds.{IsBounded}
 use Rattle.plan_model.specs.ConfigurationSpace.{ConfigurationSpace}
 use Rattle.plan_model.specs.RoomOfConfigurations.{InRoom, at_lattice}
 use Rattle.plan_model.specs.Clearance.{on_the_way}
@@ -90,13 +88,6 @@ InRoom-on_the_way space a b s d p l f g =
           (record { low = two.bottom; high = two.top }) in
           record { left = across.low; right = across.high; bottom = up.low; top = up.high });
     }
-
--- a lattice point in the room is bounded
-pub bounded_in_room : (space : ConfigurationSpace) (p : Point) → space.room.x ≤ MOST_SIDE → space.room.y ≤ MOST_SIDE → InRoom space (at_lattice p) → IsBounded p
-bounded_in_room space p f g h =
-    let right = h.here.right in
-    let top = h.here.top in
-    record { right = omega (arith, ints); top = omega (arith, ints) }
 
 -- the places say which lattice points are in the room
 pub in_room_of_places : (space : ConfigurationSpace) (places : Places) (p : Point) → ArePlacesOf space.room space.body places
