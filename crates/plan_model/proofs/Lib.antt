@@ -11,6 +11,7 @@ pub mod BestNodeLaws
 pub mod DistinctPoints
 pub mod UniqueRuns
 pub mod OpenRoomMarks
+pub mod ThreeMarks
 pub mod RewiredRun
 pub mod KeptRun
 pub mod HandledThird
