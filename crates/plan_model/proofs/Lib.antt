@@ -1,6 +1,7 @@
 pub mod RootLaws
 pub mod SamePoints
 pub mod EmptyRoomClearance
+pub mod ShortLists
 pub mod ChainLaws
 pub mod TreeChanges
 pub mod NewNodes

@@ -1,4 +1,4 @@
-use Rattle.std.proofs.Common.{◌≡◌, ℕ, ◌+◌, ◌-◌, ◌*◌, ◌<◌, ◌≤◌, List, [], ◌∷◌, length, arith, refl}
+use Rattle.std.proofs.Common.{◌≡◌, ℕ, ◌+◌, ◌-◌, ◌*◌, ◌<◌, ◌≤◌, List, [], ◌∷◌, arith, refl}
 use Rattle.std.specs.Prelude.{pos, ◌-ℤ◌, ◌*ℤ◌, sum}
 use Rattle.std.proofs.lemmas.Int.{ints}
 use Rattle.std.proofs.lemmas.Nat.{mul-le}
@@ -13,6 +13,7 @@ use Rattle.plan_model.specs.Vectors.Clearances.{square, beside_square}
 use Rattle.plan_model.proofs.EmptyRoomClearance.{corner_in_box}
 use Rattle.plan_model.proofs.SegmentLaws.{part_and_rest, way_is}
 use Rattle.plan_model.proofs.RationalPoints.{IsClear-same}
+use Rattle.plan_model.proofs.ShortLists.{one, four}
 use Rattle.plan_model.proofs.vectors.clearances.Goals as goal
 
 abbrev point : List Vertex
@@ -21,31 +22,6 @@ point = corner 0 0 ∷ []
 -- the point (x / n, y / n)
 abbrev fraction : ℕ → ℕ → (n : ℕ) → 0 < n → Rational
 fraction x y n positive = record { x = pos x; y = pos y; over = n; positive = positive }
-
--- the weights of the square's corners, and of the body's only one
-record FourWeights (ws : List ℕ) : Type 0 where
-  first : ℕ
-  second : ℕ
-  third : ℕ
-  fourth : ℕ
-  are : ws ≡ first ∷ second ∷ third ∷ fourth ∷ []
-
-four_weights : (ws : List ℕ) → length ws ≡ 4 → FourWeights ws
-four_weights [] h = absurd (omega arith)
-four_weights (a ∷ []) h = absurd (omega arith)
-four_weights (a ∷ b ∷ []) h = absurd (omega arith)
-four_weights (a ∷ b ∷ c ∷ []) h = absurd (omega arith)
-four_weights (a ∷ b ∷ c ∷ d ∷ []) h = record { first = a; second = b; third = c; fourth = d; are = refl }
-four_weights (a ∷ b ∷ c ∷ d ∷ e ∷ ws) h = absurd (omega arith)
-
-record OneWeight (ws : List ℕ) : Type 0 where
-  weight : ℕ
-  are : ws ≡ weight ∷ []
-
-one_weight : (ws : List ℕ) → length ws ≡ 1 → OneWeight ws
-one_weight [] h = absurd (omega arith)
-one_weight (a ∷ []) h = record { weight = a; are = refl }
-one_weight (a ∷ b ∷ ws) h = absurd (omega arith)
 
 -- t parts of x are below n parts of a whole that is 10 * t at least
 below_ten : (t x n whole : ℕ) → 0 < t → x < n * 10 → 10 * t ≤ whole → n * whole ≡ t * x → ⊥
@@ -70,15 +46,15 @@ below_square t y n a b c d e some less total h =
 
 apart_left : (x y n : ℕ) (positive : 0 < n) → x < n * 10 → ¬ Meets point (fraction x y n positive) square
 apart_left x y n positive less m =
-    let o = four_weights m.on_obstacle m.obstacle_corners in
-    let b = one_weight m.on_body m.body_corners in
-    left_of_square m.total x n o.first o.second o.third o.fourth b.weight m.some_weight less (rw o.are at m.obstacle_total) (rw (o.are, b.are) at m.horizontal)
+    let o = four m.on_obstacle m.obstacle_corners in
+    let b = one m.on_body m.body_corners in
+    left_of_square m.total x n o.first o.second o.third o.fourth b.only m.some_weight less (rw o.are at m.obstacle_total) (rw (o.are, b.are) at m.horizontal)
 
 apart_below : (x y n : ℕ) (positive : 0 < n) → y < n * 10 → ¬ Meets point (fraction x y n positive) square
 apart_below x y n positive less m =
-    let o = four_weights m.on_obstacle m.obstacle_corners in
-    let b = one_weight m.on_body m.body_corners in
-    below_square m.total y n o.first o.second o.third o.fourth b.weight m.some_weight less (rw o.are at m.obstacle_total) (rw (o.are, b.are) at m.vertical)
+    let o = four m.on_obstacle m.obstacle_corners in
+    let b = one m.on_body m.body_corners in
+    below_square m.total y n o.first o.second o.third o.fourth b.only m.some_weight less (rw o.are at m.obstacle_total) (rw (o.are, b.are) at m.vertical)
 
 -- a point within the walls that does not meet the square is clear
 clear_apart :

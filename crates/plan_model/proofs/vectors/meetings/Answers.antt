@@ -1,23 +1,10 @@
-use Rattle.std.proofs.Common.{◌≡◌, ℕ, ◌<◌, List, [], ◌∷◌, length, arith, refl}
+use Rattle.std.proofs.Common.{◌≡◌, ℕ, ◌<◌, [], ◌∷◌, arith, refl}
 use Rattle.std.specs.Prelude.{pos, ◌-ℤ◌, ◌*ℤ◌, sum}
 use Rattle.std.proofs.lemmas.Int.{ints}
 use Rattle.plan_model.specs.Meeting.{weighted}
 use Rattle.plan_model.specs.Vectors.Meetings.{small_triangle, great_triangle, small_square, great_square, far_square}
+use Rattle.plan_model.proofs.ShortLists.{three, four}
 use Rattle.plan_model.proofs.vectors.meetings.Goals as goal
-
--- a list of three numbers, by its members
-record Three (ws : List ℕ) : Type 0 where
-  first : ℕ
-  second : ℕ
-  third : ℕ
-  are : ws ≡ first ∷ second ∷ third ∷ []
-
-three : (ws : List ℕ) → length ws ≡ 3 → Three ws
-three [] h = absurd (omega arith)
-three (a ∷ []) h = absurd (omega arith)
-three (a ∷ b ∷ []) h = absurd (omega arith)
-three (a ∷ b ∷ c ∷ []) h = record { first = a; second = b; third = c; are = refl }
-three (a ∷ b ∷ c ∷ d ∷ ws) h = absurd (omega arith)
 
 -- each difference of an obstacle's and a body's point has coordinates that add up to 18 at least
 beside_corner :
@@ -32,22 +19,6 @@ half_beside_corner :
     → pos 2 *ℤ (weighted (λ v. v.x) (a ∷ b ∷ c ∷ []) great_triangle -ℤ weighted (λ v. v.x) (d ∷ e ∷ f ∷ []) small_triangle) ≡ pos t *ℤ pos 17
     → pos 2 *ℤ (weighted (λ v. v.y) (a ∷ b ∷ c ∷ []) great_triangle -ℤ weighted (λ v. v.y) (d ∷ e ∷ f ∷ []) small_triangle) ≡ pos t *ℤ pos 18 → ⊥
 half_beside_corner t a b c d e f some obstacle body horizontal vertical = omega (arith, ints)
-
--- a list of four numbers, by its members
-record Four (ws : List ℕ) : Type 0 where
-  first : ℕ
-  second : ℕ
-  third : ℕ
-  fourth : ℕ
-  are : ws ≡ first ∷ second ∷ third ∷ fourth ∷ []
-
-four : (ws : List ℕ) → length ws ≡ 4 → Four ws
-four [] h = absurd (omega arith)
-four (a ∷ []) h = absurd (omega arith)
-four (a ∷ b ∷ []) h = absurd (omega arith)
-four (a ∷ b ∷ c ∷ []) h = absurd (omega arith)
-four (a ∷ b ∷ c ∷ d ∷ []) h = record { first = a; second = b; third = c; fourth = d; are = refl }
-four (a ∷ b ∷ c ∷ d ∷ e ∷ ws) h = absurd (omega arith)
 
 -- each difference of an obstacle's and a body's point has an x of 8 at least
 beside_edge :
