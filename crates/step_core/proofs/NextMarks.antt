@@ -31,7 +31,7 @@ use Rattle.step_core.proofs.LinkedMarks.{start_was, MayLink-placed, AreSameRuns-
 use Rattle.step_core.proofs.MarkStates.{knot_of, with_placed, other-present, FitsRecord-marked, IsBounded-placed, cost_below-low}
 use Rattle.step_core.proofs.PackedWritings.{quota_of-le}
 use Rattle.step_core.proofs.PlacedMarks.{PlacesMark, noded-point, child-placed}
-use Rattle.step_core.proofs.RecordedMarks.{RecordsMark, children-kept, word-unrecorded}
+use Rattle.step_core.proofs.RecordedMarks.{RecordsMark, children-kept, count-unrecorded}
 use Rattle.step_core.proofs.UnplacedMarks.{AreSameRuns-unplaced, children-same, HoldRun-unplaced}
 
 next_number : (k : ℕ) → k + 1 ≡ suc k
@@ -80,8 +80,7 @@ module _
         subst (λ (s : Sizes). recorded place_of_count ≤ s.marks + 1) (sym same)
         (omega (
           arith,
-          word-unrecorded (sizes_of task) k entry before recorded records_of_task strip left place_of_count (λ e. omega (arith, e)) (λ e. omega (arith, e))
-              (λ e. omega (arith, e)),
+          count-unrecorded (sizes_of task) k entry before recorded records_of_task strip left,
           counted-held task k before run,
           node_count-words (sizes_of task) before,
         ))

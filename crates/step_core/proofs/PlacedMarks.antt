@@ -20,7 +20,8 @@ use Rattle.step_core.proofs.GrownPoints.{has_node-past, node_point-absent, node_
 use Rattle.step_core.proofs.LoweredWords.{IsTreeWord-packed}
 use Rattle.step_core.proofs.MarkStates.{knot_of, with_placed, other-present, StandsAt-placed, point_at-others, cost-moved}
 use Rattle.step_core.proofs.PackedWords.{parent_in-tree_word, cost_in-tree_word, point_of_word-packed, IsPointWord-packed}
-use Rattle.step_core.proofs.RecordedMarks.{RecordsMark, HoldsMark, word-unrecorded, HoldsMark-recorded, HoldsMark-later}
+use Rattle.step_core.proofs.RecordedMarks.{RecordsMark, HoldsMark, HoldsMark-recorded, HoldsMark-later}
+use Rattle.step_core.proofs.RecordedMarks.{count-unrecorded, point-unrecorded, tree-unrecorded, child-unrecorded}
 use Rattle.step_core.proofs.RecordedMarks.{record_at-marked, has_node-own, has_node-other}
 
 -- the record of mark k is written, then its node, and then the moved nodes
@@ -38,8 +39,7 @@ pub noded-point :
     → (n : ℕ) → n ≢ suc k → n ≤ sizes.marks → noded (point_place sizes n) ≡ before (point_place sizes n)
 noded-point sizes k entry p before recorded noded records node strip within n apart low =
     node.others (point_place sizes n) (λ e. omega (arith, e)) (λ e. apart (omega (arith, e))) (λ e. omega (arith, e))
-    ∙ word-unrecorded sizes k entry before recorded records strip within (point_place sizes n) (λ e. omega (arith, e, strip))
-    (λ e. omega (arith, e, low)) (λ e. omega (arith, e))
+    ∙ point-unrecorded sizes k entry before recorded records strip within n low
 
 module _
     (sizes : Sizes) (k : ℕ) (entry : Record) (p : Point) (moved : List ℕ) (before after : Words)
@@ -74,9 +74,7 @@ module _
   pub count-placed : after place_of_count ≡ before place_of_count + 1
   count-placed =
       let moved_past = writes.moves.others place_of_count (λ i among e. omega (arith, e)) in
-      let unrecorded =
-      word-unrecorded sizes k entry before writes.recorded writes.records strip within place_of_count (λ e. omega (arith, e)) (λ e. omega (arith, e))
-      (λ e. omega (arith, e)) in
+      let unrecorded = count-unrecorded sizes k entry before writes.recorded writes.records strip within in
       omega (arith, moved_past, unrecorded, writes.node.counted)
 
   point-own : after (point_place sizes (suc k)) ≡ point_word p
@@ -97,8 +95,7 @@ module _
       writes.moves.others (tree_place sizes n)
       (λ i among e. let same : i ≡ n = omega (arith, e) in let gone = sym among ∙ ap (is_among moved) same ∙ unmoved in cc)
       ∙ writes.node.others (tree_place sizes n) (λ e. omega (arith, e)) (λ e. omega (arith, e)) (λ e. apart (omega (arith, e)))
-      ∙ word-unrecorded sizes k entry before writes.recorded writes.records strip within (tree_place sizes n) (λ e. omega (arith, e, strip))
-      (λ e. omega (arith, e, low)) (λ e. omega (arith, e))
+      ∙ tree-unrecorded sizes k entry before writes.recorded writes.records strip within n low
 
   tree-moved : (n : ℕ) → is_among moved n ≡ true → after (tree_place sizes n) ≡ tree_word (suc k) (cost_below sizes before (knot_of entry p) n)
   tree-moved n among =
@@ -108,12 +105,10 @@ module _
   pub child-placed : (n : ℕ) (side : Bool) → n ≤ sizes.marks → after (child_place sizes n side) ≡ before (child_place sizes n side)
   child-placed n false low =
       later (child_place sizes n false) (λ e. omega (arith, e)) (λ e. omega (arith, e)) (λ i less e. omega (arith, e))
-      ∙ word-unrecorded sizes k entry before writes.recorded writes.records strip within (child_place sizes n false) (λ e. omega (arith, e, strip))
-      (λ e. omega (arith, e, low)) (λ e. omega (arith, e))
+      ∙ child-unrecorded sizes k entry before writes.recorded writes.records strip within n false low
   child-placed n true low =
       later (child_place sizes n true) (λ e. omega (arith, e)) (λ e. omega (arith, e)) (λ i less e. omega (arith, e))
-      ∙ word-unrecorded sizes k entry before writes.recorded writes.records strip within (child_place sizes n true) (λ e. omega (arith, e, strip))
-      (λ e. omega (arith, e, low)) (λ e. omega (arith, e))
+      ∙ child-unrecorded sizes k entry before writes.recorded writes.records strip within n true low
 
   -- ---- the tree
 

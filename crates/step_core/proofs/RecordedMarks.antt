@@ -1,5 +1,5 @@
 -- The words of a run after the record of its next mark was written and counted: what they say of the records and of the counters.
-use Rattle.std.proofs.Common.{◌≡◌, ℕ, zero, suc, ◌+◌, ◌<◌, ◌≤◌, ◌%◌, Bool, Some, None, cond, arith, refl, sym, ap, ◌∙◌, subst, inl, inr}
+use Rattle.std.proofs.Common.{◌≡◌, ℕ, zero, suc, ◌+◌, ◌<◌, ◌≤◌, ◌%◌, Bool, true, false, Some, None, cond, arith, refl, sym, ap, ◌∙◌, subst, inl, inr}
 use Rattle.std.specs.Prelude.{◌≢◌, ◌==◌, if◌then◌else◌}
 use Rattle.std.proofs.lemmas.Bool.{cases_eq, cases_lt, eq-eqb, ne_eqb, lt-leb}
 use Rattle.std.proofs.lemmas.Option.{same_Some}
@@ -7,7 +7,7 @@ use Rattle.plan_model.specs.declared.records.Record.{Record}
 use Rattle.plan_model.specs.MarkPoints.{quota_of}
 use Rattle.plan_model.specs.RecordLaw.{is_placed}
 use Rattle.plan_model.proofs.CountsBelow.{count-more}
-use Rattle.step_core.specs.WordPlaces.{Sizes, counter_place, child_place, first_place, record_place}
+use Rattle.step_core.specs.WordPlaces.{Sizes, place_of_count, counter_place, point_place, child_place, tree_place, first_place, record_place}
 use Rattle.step_core.specs.Words.{record_of_word, record_word}
 use Rattle.step_core.specs.GrownWords.{Words, record_at, has_placed, has_node, child_of_word, children_of_words}
 use Rattle.step_core.specs.MarkWrites.{CountsMark}
@@ -52,10 +52,27 @@ children-kept sizes before after same n side =
 module _
     (sizes : Sizes) (k : ℕ) (entry : Record) (before after : Words) (writes : RecordsMark sizes k entry before after)
     (strip : k % sizes.strips < sizes.strips) (within : k < sizes.marks) where
-  -- all other words are as they were
+  -- all other words are as they were, and so are the count, the words of the nodes and those of the kd-tree
   pub word-unrecorded : (place : ℕ) → place ≢ counter_place (k % sizes.strips) → place ≢ record_place sizes k → place ≢ first_place sizes (suc k)
       → after place ≡ before place
   word-unrecorded place counter own first = writes.others place own first ∙ writes.counts.others place counter
+
+  pub count-unrecorded : after place_of_count ≡ before place_of_count
+  count-unrecorded = word-unrecorded place_of_count (λ e. omega (arith, e)) (λ e. omega (arith, e)) (λ e. omega (arith, e))
+
+  pub point-unrecorded : (n : ℕ) → n ≤ sizes.marks → after (point_place sizes n) ≡ before (point_place sizes n)
+  point-unrecorded n low =
+      word-unrecorded (point_place sizes n) (λ e. omega (arith, e, strip)) (λ e. omega (arith, e, low)) (λ e. omega (arith, e))
+
+  pub tree-unrecorded : (n : ℕ) → n ≤ sizes.marks → after (tree_place sizes n) ≡ before (tree_place sizes n)
+  tree-unrecorded n low =
+      word-unrecorded (tree_place sizes n) (λ e. omega (arith, e, strip)) (λ e. omega (arith, e, low)) (λ e. omega (arith, e))
+
+  pub child-unrecorded : (n : ℕ) (side : Bool) → n ≤ sizes.marks → after (child_place sizes n side) ≡ before (child_place sizes n side)
+  child-unrecorded n false low =
+      word-unrecorded (child_place sizes n false) (λ e. omega (arith, e, strip)) (λ e. omega (arith, e, low)) (λ e. omega (arith, e))
+  child-unrecorded n true low =
+      word-unrecorded (child_place sizes n true) (λ e. omega (arith, e, strip)) (λ e. omega (arith, e, low)) (λ e. omega (arith, e))
 
   counter-marked : (g : ℕ) → g < sizes.strips → after (counter_place g) ≡ before (counter_place g) + cond (k % sizes.strips == g) 1 0
   counter-marked g below =

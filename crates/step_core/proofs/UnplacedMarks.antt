@@ -1,5 +1,5 @@
 -- The next mark of a run is recorded, and no node was placed: the tree stays, and the run is finished with the mark.
-use Rattle.std.proofs.Common.{◌≡◌, ℕ, suc, ◌<◌, ◌≤◌, ◌%◌, Bool, true, false, List, None, length, arith, sym, ap, ◌∙◌, subst, inl, inr}
+use Rattle.std.proofs.Common.{◌≡◌, ℕ, suc, ◌<◌, ◌≤◌, ◌%◌, Bool, false, List, None, length, sym, ap, ◌∙◌, subst, inl, inr}
 use Rattle.std.specs.Prelude.{◌≢◌, is_some, if◌then◌else◌}
 use Rattle.std.proofs.lemmas.Bool.{cases_eq, cases_lt}
 use Rattle.plan_model.specs.declared.geometry.Point.{Point}
@@ -16,13 +16,14 @@ use Rattle.plan_model.specs.TreeStates.{AreSameRuns}
 use Rattle.plan_model.proofs.NodeCounts.{node_count-same}
 use Rattle.plan_model.proofs.SameTrees.{IsClosed-same_run}
 use Rattle.plan_model.proofs.WayLinks.{FollowWays-same}
-use Rattle.step_core.specs.WordPlaces.{Sizes, place_of_count, point_place, child_place, tree_place}
+use Rattle.step_core.specs.WordPlaces.{Sizes, point_place, tree_place}
 use Rattle.step_core.specs.Words.{parent_in, cost_in, point_of_word}
 use Rattle.step_core.specs.GrownWords.{Words, has_node, node_point, points_of_words, state_of_words, children_of_words}
 use Rattle.step_core.specs.GrownWords.{IsPointWord, IsTreeWord, IsWritten, sizes_of, HoldRun}
 use Rattle.step_core.specs.PackedRuns.{FitsRecord}
 use Rattle.step_core.proofs.GrownPoints.{has_node-past, has_node-present, node_point-absent, point_at-words, present-within}
-use Rattle.step_core.proofs.RecordedMarks.{RecordsMark, HoldsMark, children-kept, word-unrecorded, HoldsMark-recorded}
+use Rattle.step_core.proofs.RecordedMarks.{RecordsMark, HoldsMark, children-kept, HoldsMark-recorded}
+use Rattle.step_core.proofs.RecordedMarks.{count-unrecorded, point-unrecorded, tree-unrecorded, child-unrecorded}
 use Rattle.step_core.proofs.RecordedMarks.{record_at-marked, has_node-own, has_node-other, quota-marked}
 use Rattle.step_core.proofs.RecordedMarks.{recorded-marked, unrecorded-marked, start_first-marked}
 
@@ -34,22 +35,10 @@ module _
   held = HoldsMark-recorded sizes k entry before after writes strip within
 
   point_word : (n : ℕ) → n ≤ sizes.marks → after (point_place sizes n) ≡ before (point_place sizes n)
-  point_word n low =
-      word-unrecorded sizes k entry before after writes strip within (point_place sizes n) (λ e. omega (arith, e, strip))
-      (λ e. omega (arith, e, low)) (λ e. omega (arith, e))
+  point_word = point-unrecorded sizes k entry before after writes strip within
 
   tree_word-same : (n : ℕ) → n ≤ sizes.marks → after (tree_place sizes n) ≡ before (tree_place sizes n)
-  tree_word-same n low =
-      word-unrecorded sizes k entry before after writes strip within (tree_place sizes n) (λ e. omega (arith, e, strip))
-      (λ e. omega (arith, e, low)) (λ e. omega (arith, e))
-
-  child_word : (n : ℕ) (side : Bool) → n ≤ sizes.marks → after (child_place sizes n side) ≡ before (child_place sizes n side)
-  child_word n false low =
-      word-unrecorded sizes k entry before after writes strip within (child_place sizes n false) (λ e. omega (arith, e, strip))
-      (λ e. omega (arith, e, low)) (λ e. omega (arith, e))
-  child_word n true low =
-      word-unrecorded sizes k entry before after writes strip within (child_place sizes n true) (λ e. omega (arith, e, strip))
-      (λ e. omega (arith, e, low)) (λ e. omega (arith, e))
+  tree_word-same = tree-unrecorded sizes k entry before after writes strip within
 
   -- ---- the same tree
 
@@ -94,7 +83,7 @@ module _
       by_outcome Blocked h = AreSameRuns-recorded
 
   pub children-same : (n : ℕ) (side : Bool) → children_of_words sizes after n side ≡ children_of_words sizes before n side
-  children-same = children-kept sizes before after child_word
+  children-same = children-kept sizes before after (child-unrecorded sizes k entry before after writes strip within)
 
   pub written-same : (n : ℕ) → IsPresent (points_of_words sizes before) n → IsWritten sizes before n → IsWritten sizes after n
   written-same n h written =
@@ -130,7 +119,7 @@ module _
         FollowWays-same (children_of_words sizes before) (children_of_words sizes after) (points_of_words sizes before) (points_of_words sizes after)
         (children-same sizes k entry before after writes strip within fits absent unplaced) same_points run.ways;
     counted =
-        word-unrecorded sizes k entry before after writes strip within place_of_count (λ e. omega (arith, e)) (λ e. omega (arith, e)) (λ e. omega (arith, e))
+        count-unrecorded sizes k entry before after writes strip within
         ∙ run.counted ∙ sym (node_count-same (points_of_words sizes before) (points_of_words sizes after) same_points);
     claimed = λ g below. quota-marked sizes k entry before after marked within fits g below (run.claimed g below);
     written = λ n h.
