@@ -39,14 +39,17 @@ bounded_corner v h = within_of LEAST_CORNER_COORDINATE MOST_CORNER_COORDINATE v 
 pub bounded_at : (corners : List Vertex) (i : ℕ) → AreBoundedCorners corners → i < length corners → IsBoundedCorner (corner_at corners i)
 bounded_at corners i h l = true_at (is_corner_between LEAST_CORNER_COORDINATE MOST_CORNER_COORDINATE) corners i (record { x = pos 0; y = pos 0 }) h l
 
-pub bounded_of : (v : Vertex) → IsWithin LEAST_CORNER_COORDINATE MOST_CORNER_COORDINATE v → IsBoundedCorner v
-bounded_of v h =
+pub of_within : (low high : ℤ) (v : Vertex) → IsWithin low high v → is_corner_between low high v ≡ true
+of_within low high v h =
     let left = h.left in
     let right = h.right in
     let bottom = h.bottom in
     let top = h.top in
-    let a : int_le LEAST_CORNER_COORDINATE v.x ≡ true = sym (omega (arith, ints)) in
-    let b : int_le v.x MOST_CORNER_COORDINATE ≡ true = sym (omega (arith, ints)) in
-    let c : int_le LEAST_CORNER_COORDINATE v.y ≡ true = sym (omega (arith, ints)) in
-    let d : int_le v.y MOST_CORNER_COORDINATE ≡ true = sym (omega (arith, ints)) in
+    let a : int_le low v.x ≡ true = sym (omega (arith, ints)) in
+    let b : int_le v.x high ≡ true = sym (omega (arith, ints)) in
+    let c : int_le low v.y ≡ true = sym (omega (arith, ints)) in
+    let d : int_le v.y high ≡ true = sym (omega (arith, ints)) in
     and_from _ _ a (and_from _ _ b (and_from _ _ c d))
+
+pub bounded_of : (v : Vertex) → IsWithin LEAST_CORNER_COORDINATE MOST_CORNER_COORDINATE v → IsBoundedCorner v
+bounded_of v h = of_within LEAST_CORNER_COORDINATE MOST_CORNER_COORDINATE v h

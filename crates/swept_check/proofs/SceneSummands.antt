@@ -1,6 +1,6 @@
 -- The body and the obstacles of a scene have zones, which are made one after another.
-use Rattle.std.proofs.Common.{◌≡◌, ℕ, ◌+◌, ◌<◌, true, ◌&&◌, List, [], ◌∷◌, ◌++◌, length, length-append, get_or, nat_le, refl, sym, arith}
-use Rattle.std.specs.Prelude.{ℤ, ◌≤ℤ◌, int_le}
+use Rattle.std.proofs.Common.{◌≡◌, ℕ, ◌+◌, ◌<◌, true, ◌&&◌, List, [], ◌∷◌, ◌++◌, length, length-append, get_or, nat_le, refl, arith}
+use Rattle.std.specs.Prelude.{ℤ, ◌≤ℤ◌}
 use Rattle.std.specs.List.{list_all}
 use Rattle.std.proofs.lemmas.Int.{ints}
 use Rattle.std.proofs.lemmas.List.{get_or_append_left, get_or_push}
@@ -12,7 +12,7 @@ use Rattle.plan_model.specs.declared.limits.TheConstants.{LEAST_OBSTACLE_COORDIN
 use Rattle.plan_model.specs.declared.limits.TheConstants.{MOST_OBSTACLE_COORDINATE, MOST_OBSTACLES, MOST_SUMMAND_COORDINATE}
 use Rattle.plan_model.specs.Convexity.{is_strictly_convex}
 use Rattle.plan_model.specs.Zones.{IsZoneOf}
-use Rattle.convex_sets.proofs.Corners.{within_of}
+use Rattle.convex_sets.proofs.Corners.{IsWithin, within_of, of_within}
 use Rattle.convex_sets.proofs.Tests.{true_at}
 
 -- corners between two numbers are between wider ones
@@ -26,11 +26,9 @@ widened low high least most f g (v ∷ corners) h =
     let right = w.right in
     let bottom = w.bottom in
     let top = w.top in
-    let a : int_le least v.x ≡ true = sym (omega (arith, ints)) in
-    let b : int_le v.x most ≡ true = sym (omega (arith, ints)) in
-    let c : int_le least v.y ≡ true = sym (omega (arith, ints)) in
-    let d : int_le v.y most ≡ true = sym (omega (arith, ints)) in
-    and_from _ _ (and_from _ _ a (and_from _ _ b (and_from _ _ c d))) (widened low high least most f g corners parts.1)
+    let wide : IsWithin least most v =
+    record { left = omega (arith, ints); right = omega (arith, ints); bottom = omega (arith, ints); top = omega (arith, ints) } in
+    and_from _ _ (of_within least most v wide) (widened low high least most f g corners parts.1)
 
 pub obstacle_within : (obstacles : List (List Vertex)) (i : ℕ) → are_obstacles obstacles ≡ true → i < length obstacles
     → list_all (is_corner_between LEAST_SUMMAND_COORDINATE MOST_SUMMAND_COORDINATE) (get_or obstacles i []) ≡ true
