@@ -1,5 +1,5 @@
 #!/bin/sh
-# Runs the greatest scene: 262,143 marks that make one branch of 262,144 nodes, four rows of a room of 65,535 columns.
+# Runs the greatest scene: 262,143 marks that make one branch of 262,144 nodes, four rows of a room of 65,536 columns.
 # It takes two to three minutes and 25 MB, which is too long for a test; run it by hand: examples/greatest.sh
 
 root=$(dirname -- "$(readlink -f -- "$0")")/..
