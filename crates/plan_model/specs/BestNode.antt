@@ -13,6 +13,7 @@ abbrev pub is_in_goal : Goal → Point → Bool
 is_in_goal goal p =
     (nat_le goal.low.x p.x && nat_le p.x goal.high.x) && (nat_le goal.low.y p.y && nat_le p.y goal.high.y)
 
+-- there is a point, and it lies in the goal
 abbrev pub lies_in_goal : Scene → Option Point → Bool
 lies_in_goal scene None = false
 lies_in_goal scene (Some p) = is_in_goal scene.goal p

@@ -14,6 +14,7 @@ use Rattle.plan_model.specs.Keys.{name_of}
 
 -- ---- the numbers of the parts of a scene
 
+-- the column and the row of a point
 abbrev pub point_numbers : Point → List ℤ
 point_numbers p = pos p.x ∷ pos p.y ∷ []
 
@@ -21,6 +22,7 @@ point_numbers p = pos p.x ∷ pos p.y ∷ []
 abbrev pub goal_numbers : Goal → List ℤ
 goal_numbers goal = pos goal.low.x ∷ pos goal.low.y ∷ pos goal.high.x ∷ pos goal.high.y ∷ []
 
+-- the columns and rows of corners, one corner after another
 abbrev pub corner_numbers : List Vertex → List ℤ
 corner_numbers corners = flat_map (λ corner. corner.x ∷ corner.y ∷ []) corners
 
@@ -30,12 +32,15 @@ corner_numbers corners = flat_map (λ corner. corner.x ∷ corner.y ∷ []) corn
 abbrev pub statement : Key → List ℤ → List (List ℕ)
 statement key numbers = name_of key ∷ map signed_decimal numbers
 
+-- the words of the first line
 abbrev pub version_statement : List (List ℕ)
 version_statement = codes "prrt" ∷ codes "1" ∷ []
 
+-- the words of an obstacle's line
 abbrev pub obstacle_statement : List Vertex → List (List ℕ)
 obstacle_statement corners = statement keys.Obstacle (corner_numbers corners)
 
+-- the words of a listed mark's line
 abbrev pub mark_statement : Point → List (List ℕ)
 mark_statement p = statement keys.Mark (point_numbers p)
 

@@ -26,7 +26,7 @@ with_record state k entry =
       record_of = λ j. if j == k then Some entry else state.record_of j;
     }
 
--- node n stands at p below node f, at this cost
+-- node n stands at p below node f, at this cost (to a list of points without place n none is added)
 abbrev pub with_node : TreeState → ℕ → Point → ℕ → ℕ → TreeState
 with_node state n p f cost =
     record {
@@ -96,11 +96,12 @@ EndsBy setup state entry p moved Placed = IsPlacedWhole setup state entry p move
 EndsBy setup state entry p moved (Same j) = StandsAt state.points j p
 EndsBy setup state entry p moved Blocked = IsBlockedWhole setup state entry p
 
--- how many marks below the limit this worker has handled
+-- the record is there, and is this worker's
 abbrev pub is_of_worker : ℕ → Option Record → Bool
 is_of_worker worker None = false
 is_of_worker worker (Some entry) = entry.worker == worker
 
+-- how many marks below the limit this worker has handled
 abbrev pub turns_of : (ℕ → Option Record) → ℕ → ℕ → ℕ
 turns_of record_of limit worker = count_by (λ k. is_of_worker worker (record_of k)) (range_with_len 0 limit)
 

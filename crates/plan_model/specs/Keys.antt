@@ -8,6 +8,7 @@ use Rattle.plan_model.specs.declared.limits.TheConstants.{MOST_OBSTACLE_CORNERS,
 
 -- ---- names
 
+-- the word that a key is written as
 abbrev pub name_of : Key → List ℕ
 name_of keys.Room = codes "room"
 name_of keys.Body = codes "body"
@@ -21,6 +22,7 @@ name_of keys.Strips = codes "strips"
 name_of keys.Marks = codes "marks"
 name_of keys.Mark = codes "mark"
 
+-- all keys, in the order in which a word is compared with them
 abbrev pub every_key : List Key
 every_key =
     keys.Room

@@ -3,6 +3,7 @@ use Rattle.std.specs.Prelude.{ℕ, List, [], ◌∷◌, codes, decimal}
 use Rattle.plan_model.specs.declared.text_terms.Kind.{Kind}
 use Rattle.plan_model.specs.declared.text_terms.Kind.TheVariants as kinds
 
+-- the number of a kind
 abbrev pub number_of_kind : Kind → ℕ
 number_of_kind kinds.Version = 1
 number_of_kind kinds.Key = 2
@@ -15,6 +16,7 @@ number_of_kind kinds.Many = 8
 number_of_kind kinds.Missing = 9
 number_of_kind kinds.Unbuilt = 10
 
+-- the name of a kind
 abbrev pub name_of_kind : Kind → List ℕ
 name_of_kind kinds.Version = codes "Version"
 name_of_kind kinds.Key = codes "Key"

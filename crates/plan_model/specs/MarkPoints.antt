@@ -22,18 +22,20 @@ abbrev pub word_of_state : ℕ → ℕ
 word_of_state state =
     let z = mixed 27 0x94D049BB133111EB (mixed 30 0xBF58476D1CE4E5B9 state) in bit_xor z (z / 2 ^ 31)
 
--- the first and the second word drawn from a state
+-- the first word drawn from a state
 abbrev pub first_word : ℕ → ℕ
 first_word state = word_of_state (next_state state)
 
+-- the second word drawn from a state
 abbrev pub second_word : ℕ → ℕ
 second_word state = word_of_state (next_state (next_state state))
 
--- how far a coordinate lies below 0, and above it
+-- how far a coordinate lies below 0
 abbrev pub below_zero : ℤ → ℕ
 below_zero (pos n) = 0
 below_zero (negsuc n) = n + 1
 
+-- how far a coordinate lies above 0
 abbrev pub above_zero : ℤ → ℕ
 above_zero (pos n) = n
 above_zero (negsuc n) = 0

@@ -18,6 +18,7 @@ use Rattle.plan_model.specs.Textbook.{Setup}
 
 -- ---- the nodes that the same worker placed earlier
 
+-- a node was placed for the mark
 abbrev pub is_placed : Outcome → Bool
 is_placed Placed = true
 is_placed (Same j) = false
@@ -34,6 +35,7 @@ abbrev pub is_earlier : TreeState → Record → ℕ → Bool
 is_earlier state entry zero = true
 is_earlier state entry (suc k) = is_earlier_record entry (state.record_of k)
 
+-- the same as a proposition
 abbrev pub IsEarlier : TreeState → Record → ℕ → Type 0
 IsEarlier state entry n = IsTrue (is_earlier state entry n)
 

@@ -21,9 +21,11 @@ line words = join_with_byte 32 words ++ 10 ∷ []
 abbrev pub path_line : List Point → ℕ → List ℕ
 path_line path cost = line (codes "path" ∷ decimal (length path) ∷ codes "cost" ∷ decimal cost ∷ [])
 
+-- the line of a tree without a node in the goal
 abbrev pub no_path_line : List ℕ
 no_path_line = line (codes "no" ∷ codes "path" ∷ [])
 
+-- the line of one point of the path
 abbrev pub point_line : Point → List ℕ
 point_line p = line (decimal p.x ∷ decimal p.y ∷ [])
 

@@ -39,10 +39,12 @@ fault_of_end statements = fault_at_end (is_version_read statements) (given_after
 abbrev pub first_of : List (List ℤ) → List ℤ
 first_of lists = get_or lists 0 []
 
+-- the point with the first two numbers as its column and row
 abbrev pub point_from : List ℤ → Point
 point_from (x ∷ y ∷ zs) = record { x = unsigned_abs x; y = unsigned_abs y }
 point_from zs = record { x = 0; y = 0 }
 
+-- the goal with the first two numbers as its low corner and the next two as its high one
 abbrev pub goal_from : List ℤ → Goal
 goal_from zs = record { low = point_from zs; high = point_from (drop 2 zs) }
 

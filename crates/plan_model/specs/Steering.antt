@@ -11,12 +11,12 @@ pub record IsStep (a b : Point) (step : ℕ) (p : Point) : Type 0 where
 
 -- from a coordinate by step / length of the way to another, truncated towards zero
 abbrev pub advanced : ℕ → ℕ → ℕ → ℕ → ℕ
-advanced from to step len =
-    unsigned_abs (pos from +ℤ int_div ((pos to -ℤ pos from) *ℤ pos step) (pos len))
+advanced from to step length_up =
+    unsigned_abs (pos from +ℤ int_div ((pos to -ℤ pos from) *ℤ pos step) (pos length_up))
 
 -- b if it is at most a step away, otherwise a step towards it, whose length is rounded up before the division
 abbrev pub steered : Point → Point → ℕ → Point
 steered a b step =
     if nat_le (squared_distance a b) (step * step) then b else
-    let len = root_ceiling (squared_distance a b) in
-    record { x = advanced a.x b.x step len; y = advanced a.y b.y step len }
+    let length_up = root_ceiling (squared_distance a b) in
+    record { x = advanced a.x b.x step length_up; y = advanced a.y b.y step length_up }

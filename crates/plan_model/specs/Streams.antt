@@ -22,7 +22,7 @@ abbrev pub moved_count : ℕ → ℕ → ℕ → ℕ
 moved_count len most free = min len (min most free)
 
 -- Bytes that were taken into a fixed room: at most so many in one call, and the calls with these numbers fail.
-pub record Taken : Type 0 where
+pub record MemSinkState : Type 0 where
   pub bytes : List ℕ
   pub room : ℕ
   pub most : ℕ
@@ -35,20 +35,21 @@ abbrev pub counted : ℕ → ℕ
 counted n = min (n + 1) (2 ^ 64 - 1)
 
 -- the next write of at least one byte fails: its number is listed, or the room is full
-abbrev pub is_refused : Taken → Bool
+abbrev pub is_refused : MemSinkState → Bool
 is_refused sink =
     list_any (λ number. number == counted sink.calls) sink.fails || sink.room == length sink.bytes
 
 -- how many bytes a write takes that does not fail
-abbrev pub taken_count : Taken → List ℕ → ℕ
+abbrev pub taken_count : MemSinkState → List ℕ → ℕ
 taken_count sink piece = moved_count (length piece) sink.most (sink.room - length sink.bytes)
 
--- What a write of these bytes returns, and what it leaves. A write of no byte is not numbered and changes nothing.
-abbrev pub write_result : Taken → List ℕ → Result ℕ Failed
+-- What a write of these bytes returns. A write of no byte is not numbered and changes nothing.
+abbrev pub write_result : MemSinkState → List ℕ → Result ℕ Failed
 write_result sink piece =
     if length piece == 0 then Ok 0 else (if is_refused sink then Err (record {}) else Ok (taken_count sink piece))
 
-abbrev pub after_write : Taken → List ℕ → Taken
+-- what a write of these bytes leaves
+abbrev pub after_write : MemSinkState → List ℕ → MemSinkState
 after_write sink piece =
     if length piece == 0 then sink else
     (if is_refused sink then record sink { calls = counted sink.calls; faults = counted sink.faults } else
@@ -56,7 +57,7 @@ after_write sink piece =
 
 -- Bytes that are given in pieces: those that are left, whether their end was given, at most so many bytes in one call,
 -- and the calls with these numbers fail.
-pub record Given : Type 0 where
+pub record MemSourceState : Type 0 where
   pub left : List ℕ
   pub ended : Bool
   pub most : ℕ
@@ -65,20 +66,20 @@ pub record Given : Type 0 where
   pub faults : ℕ
 
 -- the next read into a slice that is not empty fails: its number is listed
-abbrev pub is_failing : Given → Bool
+abbrev pub is_failing : MemSourceState → Bool
 is_failing source = list_any (λ number. number == counted source.calls) source.fails
 
 -- how many bytes a read gives that does not fail, into a slice of so many places
-abbrev pub given_count : Given → ℕ → ℕ
+abbrev pub given_count : MemSourceState → ℕ → ℕ
 given_count source len = moved_count len source.most (length source.left)
 
--- What a read into a slice of so many places returns, what it leaves, and what the slice then holds. A read into an empty
--- slice is not numbered and changes nothing.
-abbrev pub read_result : Given → ℕ → Result ℕ Failed
+-- What a read into a slice of so many places returns. A read into an empty slice is not numbered and changes nothing.
+abbrev pub read_result : MemSourceState → ℕ → Result ℕ Failed
 read_result source len =
     if len == 0 then Ok 0 else (if is_failing source then Err (record {}) else Ok (given_count source len))
 
-abbrev pub after_read : Given → ℕ → Given
+-- what a read into a slice of so many places leaves
+abbrev pub after_read : MemSourceState → ℕ → MemSourceState
 after_read source len =
     if len == 0 then source else
     (if is_failing source then record source { calls = counted source.calls; faults = counted source.faults } else
@@ -88,7 +89,8 @@ after_read source len =
       calls = counted source.calls;
     })
 
-abbrev pub read_into : Given → List ℕ → List ℕ
+-- what the slice holds after a read into it
+abbrev pub read_into : MemSourceState → List ℕ → List ℕ
 read_into source into =
     if length into == 0 then into else
     (if is_failing source then into else

@@ -2,6 +2,7 @@
 use Rattle.std.specs.Prelude.{ℕ, ◌+◌, ◌-◌, ◌*◌, ◌==◌, nat_le, ◌&&◌, ◌||◌, not, Bool, false, ℤ, pos, neg_ℤ, List, [], ◌∷◌, fold, bytes_eq, if◌then◌else◌}
 use Rattle.std.specs.List.{list_all}
 
+-- the byte is one of the digits 0 to 9
 abbrev pub is_digit : ℕ → Bool
 is_digit b = nat_le 48 b && nat_le b 57
 

@@ -1,11 +1,12 @@
 -- The textbook run: RRT* as in Karaman and Frazzoli, IJRR 2011, algorithm 6, one mark after another.
-use Rattle.std.specs.Prelude.{◌≡◌, ℕ, suc, ◌+◌, ◌<◌, ◌⊎◌, refl, Contains, Option, Some, None, List, [], ◌∷◌, ◌++◌, slice_set}
+use Rattle.std.specs.Prelude.{◌≡◌, ℕ, suc, ◌+◌, ◌<◌, ◌⊎◌, refl, IsTrue, Contains, Option, Some, None, List, [], ◌∷◌, ◌++◌, slice_set}
 use Rattle.plan_model.specs.declared.geometry.Point.{Point}
 use Rattle.plan_model.specs.declared.trees.Twig.{Twig}
 use Rattle.plan_model.specs.declared.scenes.Scene.{Scene}
 use Rattle.plan_model.specs.declared.records.Outcome.{Outcome}
 use Rattle.plan_model.specs.declared.records.Outcome.TheVariants.{Placed, Same, Blocked}
 use Rattle.plan_model.specs.declared.records.Record.{Record}
+use Rattle.plan_model.specs.Outcomes.{is_zero_unless_placed}
 use Rattle.plan_model.specs.ConfigurationSpace.{ConfigurationSpace, space_of}
 use Rattle.plan_model.specs.Clearance.{Clear}
 use Rattle.plan_model.specs.Cost.{cost_of}
@@ -16,6 +17,7 @@ use Rattle.plan_model.specs.LeastPairs.{IsFirstLeast}
 use Rattle.plan_model.specs.Nearness.{IsNearest, near}
 use Rattle.plan_model.specs.Trees.{points_of, sum_of}
 
+-- a tree as a list: the nodes by number, absent if the mark was not placed
 abbrev pub Nodes : Type 0
 Nodes = List (Option Twig)
 
@@ -25,6 +27,7 @@ pub record Setup : Type 0 where
   pub step : ℕ
   pub gamma : ℕ
 
+-- what the handling of the marks of a scene depends on
 abbrev pub setup_of : Scene → Setup
 setup_of scene = record { space = space_of scene; step = scene.step; gamma = scene.gamma }
 
@@ -73,7 +76,7 @@ RewiresOne space tree n i after =
 abbrev pub Rewires : ConfigurationSpace → Nodes → ℕ → List ℕ → Nodes → Type 0
 Rewires space tree n [] after = after ≡ tree
 Rewires space tree n (i ∷ near) after =
-    (mid : Nodes) × RewiresOne space tree n i mid × Rewires space mid n near after
+    (between : Nodes) × RewiresOne space tree n i between × Rewires space between n near after
 
 -- ---- one mark
 
@@ -82,33 +85,35 @@ pub record SteersTo (setup : Setup) (points : List (Option Point)) (mark : Point
   pub nearest : IsNearest points mark m
   pub reached : p ≡ steered (point_of points m) mark setup.step
 
--- the records of mark k, which worker 0 handles in its turn k, by the outcome
+-- three zeros go with any outcome
+abbrev pub zeros : (outcome : Outcome) → IsTrue (is_zero_unless_placed outcome 0 0 0)
+zeros Placed = refl
+zeros (Same j) = refl
+zeros Blocked = refl
+
+-- the record of a mark for which no node is placed, by its worker, the worker's turn, the nearest node and the outcome
+abbrev pub unplaced_record : ℕ → ℕ → ℕ → Outcome → Record
+unplaced_record worker turn nearest outcome =
+    record {
+      worker = worker;
+      turn = turn;
+      nearest = nearest;
+      outcome = outcome;
+      first_parent = 0;
+      first_cost = 0;
+      class = 0;
+      unplaced = zeros outcome;
+    }
+
+-- the record of mark k, which worker 0 handles in its turn k, if node j stands where it ends
 abbrev pub same_record : ℕ → ℕ → ℕ → Record
-same_record k nearest j =
-    record {
-      worker = 0;
-      turn = k;
-      nearest = nearest;
-      outcome = Same j;
-      first_parent = 0;
-      first_cost = 0;
-      class = 0;
-      unplaced = refl;
-    }
+same_record k nearest j = unplaced_record 0 k nearest (Same j)
 
+-- the record of mark k, which worker 0 handles in its turn k, if it is blocked
 abbrev pub blocked_record : ℕ → ℕ → Record
-blocked_record k nearest =
-    record {
-      worker = 0;
-      turn = k;
-      nearest = nearest;
-      outcome = Blocked;
-      first_parent = 0;
-      first_cost = 0;
-      class = 0;
-      unplaced = refl;
-    }
+blocked_record k nearest = unplaced_record 0 k nearest Blocked
 
+-- the record of mark k, which worker 0 handles in its turn k, if it is placed
 abbrev pub placed_record : ℕ → ℕ → ℕ → ℕ → ℕ → Record
 placed_record k nearest parent cost class =
     record {
@@ -151,12 +156,13 @@ pub record EndsPlaced (setup : Setup) (tree : Nodes) (k : ℕ) (mark : Point) (e
   pub rewired :
       Rewires setup.space (tree ++ Some (record { point = point; parent = entry.first_parent }) ∷ []) (suc k) (near_new setup (points_of tree) point) after
 
--- Mark k is handled, by the outcome that is recorded: from tree to after.
+-- Mark k is handled with this outcome: from tree to after.
 abbrev pub Ends : Setup → Nodes → ℕ → Point → Outcome → Record → Nodes → Type 0
 Ends setup tree k mark (Same j) entry after = EndsSame setup tree k mark j entry after
 Ends setup tree k mark Blocked entry after = EndsBlocked setup tree k mark entry after
 Ends setup tree k mark Placed entry after = EndsPlaced setup tree k mark entry after
 
+-- Mark k is handled, by the outcome of its record.
 abbrev pub Handles : Setup → Nodes → ℕ → Point → Record → Nodes → Type 0
 Handles setup tree k mark entry after = Ends setup tree k mark entry.outcome entry after
 
@@ -166,7 +172,7 @@ Handles setup tree k mark entry after = Ends setup tree k mark entry.outcome ent
 abbrev pub HandlesAll : Setup → ℕ → Nodes → List Point → List Record → Nodes → Type 0
 HandlesAll setup k tree [] [] after = after ≡ tree
 HandlesAll setup k tree (mark ∷ marks) (entry ∷ entries) after =
-    (mid : Nodes) × Handles setup tree k mark entry mid × HandlesAll setup (k + 1) mid marks entries after
+    (between : Nodes) × Handles setup tree k mark entry between × HandlesAll setup (k + 1) between marks entries after
 HandlesAll setup k tree [] (entry ∷ entries) after = ⊥
 HandlesAll setup k tree (mark ∷ marks) [] after = ⊥
 

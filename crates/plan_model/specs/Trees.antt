@@ -14,6 +14,7 @@ node_at tree n = slice_index_or tree n None
 abbrev pub points_of : List (Option Twig) → List (Option Point)
 points_of tree = map (option_map (λ node. node.point)) tree
 
+-- the parent that a node names, 0 if there is no node
 abbrev pub parent_or_zero : Option Twig → ℕ
 parent_or_zero None = 0
 parent_or_zero (Some node) = node.parent
@@ -46,13 +47,15 @@ sum_by points parents n = length_of_path (map (point_of points) (chain_by points
 abbrev pub edge_by : List (Option Point) → (ℕ → ℕ) → ℕ → ℕ
 edge_by points parents n = cost_of (point_of points (parents n)) (point_of points n)
 
--- the same for a tree that is a list
+-- the chain of a node of a tree that is a list
 abbrev pub chain : List (Option Twig) → ℕ → List ℕ
 chain tree n = chain_by (points_of tree) (parent_of tree) n
 
+-- the cost-to-come of a node of a tree that is a list
 abbrev pub sum_of : List (Option Twig) → ℕ → ℕ
 sum_of tree n = sum_by (points_of tree) (parent_of tree) n
 
+-- the cost of the edge from the parent of a node of a tree that is a list
 abbrev pub edge_of : List (Option Twig) → ℕ → ℕ
 edge_of tree n = edge_by (points_of tree) (parent_of tree) n
 
@@ -69,10 +72,11 @@ pub record AreTightAlong (costs : ℕ → ℕ) (points : List (Option Point)) (p
   pub start : costs 0 ≡ 0
   pub edges : (n : ℕ) → IsPresent points (suc n) → costs (suc n) ≡ costs (parents (suc n)) + edge_by points parents (suc n)
 
--- the same for a tree that is a list
+-- costs fall along the parents of a tree that is a list
 abbrev pub CostsFall : (ℕ → ℕ) → List (Option Twig) → Type 0
 CostsFall costs tree = FallAlong costs (points_of tree) (parent_of tree)
 
+-- costs are tight along the parents of a tree that is a list
 abbrev pub AreTight : (ℕ → ℕ) → List (Option Twig) → Type 0
 AreTight costs tree = AreTightAlong costs (points_of tree) (parent_of tree)
 

@@ -27,7 +27,7 @@ pub record EndsBelow (child : Children) (points : List (Option Point)) (q : Poin
 -- Each present node but node 0 is a child once, at the end of the way of its point. No other number is a child or has one.
 pub record FollowWays (child : Children) (points : List (Option Point)) : Type 0 where
   pub on_way : (n : ℕ) (q : Point) → StandsAt points n q → (depth : ℕ) × IsOnWay child points q depth n
-  pub once : (n a b : ℕ) (left right : Bool) → child a left ≡ Some n → child b right ≡ Some n → (a ≡ b) × (left ≡ right)
+  pub once : (n a b : ℕ) (side other_side : Bool) → child a side ≡ Some n → child b other_side ≡ Some n → (a ≡ b) × (side ≡ other_side)
   pub root : (a : ℕ) (side : Bool) → child a side ≢ Some 0
   pub present : (a n : ℕ) (side : Bool) → child a side ≡ Some n → IsPresent points n
   pub empty : (n : ℕ) (side : Bool) → ¬ IsPresent points n → child n side ≡ None

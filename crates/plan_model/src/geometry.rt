@@ -7,7 +7,9 @@ ghost use Rattle.plan_model.specs.declared.limits.TheConstants.{MOST_COORDINATE}
 /// A configuration: where the body's origin stands.
 #[derive(Clone, Copy, Debug, PartialEq, Eq)]
 pub struct Point {
+    /// The column, counted to the right from 0, in lattice steps.
     pub x: u32,
+    /// The row, counted upwards from 0, in lattice steps.
     pub y: u32,
 }
 
@@ -39,29 +41,21 @@ fn square_of_difference(a: u32, b: u32) -> u64
     (difference * difference) as u64
 }
 
-impl Point {
-    ghost use Rattle.std.specs.Prelude.{◌↔◌, IsTrue};
-    ghost use Rattle.plan_model.specs.EmptyRooms.{IsInRoom};
-
-    /// Whether the point lies between the origin and the room's upper right corner, on the walls or within them.
-    pub fn is_in_room(self, room: Point) -> bool
-        ensures { IsTrue result ↔ IsInRoom room self }
-    {
-        self.x <= room.x && self.y <= room.y
-    }
-}
-
 /// A corner of a polygon.
 #[derive(Clone, Copy, Debug, PartialEq, Eq)]
 pub struct Vertex {
+    /// The column, counted to the right from 0, in lattice steps; negative to the left of it.
     pub x: i32,
+    /// The row, counted upwards from 0, in lattice steps; negative below it.
     pub y: i32,
 }
 
 /// A closed box of configurations.
 #[derive(Clone, Copy, Debug, PartialEq, Eq)]
 pub struct Goal {
+    /// The lower left corner.
     pub low: Point,
+    /// The upper right corner; it belongs to the box.
     pub high: Point,
 }
 

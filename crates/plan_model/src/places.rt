@@ -51,7 +51,9 @@ impl Span {
 /// If the body does not fit into the room, one of the spans is empty.
 #[derive(Clone, Copy, Debug, PartialEq, Eq)]
 pub struct Places {
+    /// The columns that the body's origin may stand in.
     pub columns: Span,
+    /// The rows that the body's origin may stand in.
     pub rows: Span,
 }
 

@@ -31,10 +31,31 @@ pub struct Record {
     pub first_parent: u32,
     /// The cost that a placed node was given first, in 256ths of a lattice step, else 0.
     pub first_cost: u64,
-    /// The number of binary digits of the number of nodes before a placed node, else 0.
+    /// For a placed node, the class of the number of nodes that its worker counted, else 0. The class of a number is how many
+    /// binary digits it has; the worker counts at least the start and the nodes that it placed earlier, and at most all nodes.
     pub class: u32,
     // a mark that was not placed has no first parent, no first cost and no class
     ghost unplaced: { IsTrue (is_zero_unless_placed outcome first_parent first_cost class) },
+}
+
+impl Record {
+    ghost use Rattle.std.specs.Prelude.{◌≡◌};
+    ghost use Rattle.plan_model.specs.Textbook.{unplaced_record};
+
+    /// The record of a mark for which no node is placed.
+    pub fn unplaced(worker: u32, turn: u32, nearest: u32, outcome: Outcome) -> Record
+        ensures { result ≡ unplaced_record worker turn nearest outcome }
+    {
+        Record {
+            worker,
+            turn,
+            nearest,
+            outcome,
+            first_parent: 0,
+            first_cost: 0,
+            class: 0,
+        }
+    }
 }
 
 /// Records, by the number of the mark.

@@ -1,4 +1,4 @@
-//! A scene, the task that it sets, and the plan of its marks.
+//! A scene, and the plan of its marks.
 
 ghost use Rattle.std.specs.Prelude.{◌≡◌, ◌≤◌, IsTrue};
 ghost use Rattle.plan_model.specs.Limits.{IsBetween, IsGoal, is_body, are_obstacles, is_plan};
@@ -38,7 +38,7 @@ pub struct Scene {
     pub body: Poly,
     /// Up to 1,024 strictly convex polygons of 3 to 64 corners.
     pub obstacles: Polys,
-    /// Where the tree begins.
+    /// Where the tree begins, each coordinate 0 to 65,535.
     pub start: Point,
     /// The closed box of configurations that is to be reached.
     pub goal: Goal,

@@ -29,7 +29,8 @@ pub trait Source {
     ///
     /// # Errors
     ///
-    /// `Failed` only if the count of faults rose in this call. Then nothing is moved and no end is given.
+    /// `Failed` only if the count of faults rose in this call. Then nothing is taken from the source and no end is given;
+    /// what the slice holds is left open.
     fn read(&mut self, into: &mut [u8]) -> Result<usize, Failed>
         ensures bound { IfOk result (λ count. count ≤ length into.new) }
         ensures bytes { ReadConsumes (bytes_left self.old) (bytes_left self.new) result into.new }

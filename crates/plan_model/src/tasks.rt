@@ -9,6 +9,7 @@ use crate::scenes::{Points, Scene};
 /// A scene with its mark points.
 #[derive(Debug, Drop)]
 pub struct Task {
+    /// The scene that is to be planned.
     pub scene: Scene,
     /// The mark points (the samples) of the scene, in the order of their numbers.
     pub marks: Points,

@@ -54,7 +54,7 @@ pub enum Kind {
     Many = 8,
     /// `room`, `start`, `goal` or `step` does not stand; the line is the one after the last.
     Missing = 9,
-    /// The key is not supported yet.
+    /// The key is one of the grammar that the reader does not support.
     Unbuilt = 10,
 }
 

@@ -1,14 +1,14 @@
 -- Counts of faults, and calls on streams in memory.
 use Rattle.std.specs.Prelude.{◌≡◌, ℕ, true, false, List, [], ◌∷◌, Ok, Err}
-use Rattle.plan_model.specs.Streams.{FaultsRose, Taken, Given, ended_after, counted, write_result, after_write, read_result, after_read, read_into}
+use Rattle.plan_model.specs.Streams.{FaultsRose, MemSinkState, MemSourceState, ended_after, counted, write_result, after_write, read_result, after_read, read_into}
 
 -- room for so many bytes, of which one is taken; the third call fails
-abbrev pub sink_with : ℕ → ℕ → Taken
+abbrev pub sink_with : ℕ → ℕ → MemSinkState
 sink_with room calls =
     record { bytes = 65 ∷ []; room = room; most = 2; fails = 3 ∷ []; calls = calls; faults = 0 }
 
 -- a source of these bytes that gives two of them at most in one call; the third call fails
-abbrev pub source_of : List ℕ → ℕ → Given
+abbrev pub source_of : List ℕ → ℕ → MemSourceState
 source_of left calls =
     record { left = left; ended = false; most = 2; fails = 3 ∷ []; calls = calls; faults = 0 }
 

@@ -2,7 +2,7 @@
 
 ghost use Rattle.std.specs.Prelude.{◌≡◌, ◌+◌, ◌++◌, ◌≤◌, ◌<◌, true, [], length, Some, IfOk, OnOk, OnErr, Ok, vec_len, vec_capacity};
 ghost use Rattle.std.specs.Io.KnownBytes.{WriteAppends};
-ghost use Rattle.plan_model.specs.Streams.{FaultsRose, Taken, after_write, counted, write_result};
+ghost use Rattle.plan_model.specs.Streams.{FaultsRose, MemSinkState, after_write, counted, write_result};
 
 use super::numbered_calls::is_failing_call;
 use crate::errors::{Failed, Memory};
@@ -24,9 +24,9 @@ pub struct MemSink {
 
 impl Model for MemSink {
     ghost use Rattle.std.specs.Prelude.{◌≡◌, ◌≤◌, length, vec_capacity};
-    ghost use Rattle.plan_model.specs.Streams.{Taken};
+    ghost use Rattle.plan_model.specs.Streams.{MemSinkState};
 
-    ghost Value = { Taken };
+    ghost Value = { MemSinkState };
 
     ghost view = { λ s. record { bytes = s.taken.items; room = s.room; most = s.most; fails = s.fails.items; calls = s.calls; faults = s.faults } };
 
@@ -39,7 +39,7 @@ impl MemSink {
     ///
     /// # Errors
     ///
-    /// `Memory` if there is no memory for the room or for a copy of the numbers.
+    /// `Memory` if out of memory for the room or for a copy of the numbers.
     pub fn new(alloc: Global, room: usize, most: usize, fails: &[u32]) -> Result<MemSink, Memory>
         requires { 1 ≤ most }
         ensures { IfOk result (λ sink. sink ≡ record { bytes = []; room = room; most = most; fails = fails.now; calls = 0; faults = 0 }) }
@@ -100,7 +100,7 @@ impl Sink for MemSink {
     }
 }
 
-// Appends the bytes within the memory that the vector has.
+/// Appends the bytes within the memory that the vector has.
 fn append_reserved(taken: &mut Vec<u8>, bytes: &[u8])
     requires { vec_len taken.old + length bytes.now ≤ vec_capacity taken.old }
     ensures items { taken.new.items ≡ taken.old.items ++ bytes.now }

@@ -2,7 +2,7 @@
 
 ghost use Rattle.std.specs.Prelude.{◌≡◌, ◌≤◌, ◌<◌, ◌^◌, true, false, length, Some, IfOk, OnOk, OnErr, Ok};
 ghost use Rattle.std.specs.Io.KnownBytes.{Keeps, ReadConsumes};
-ghost use Rattle.plan_model.specs.Streams.{FaultsRose, Given, after_read, counted, ended_after, read_into, read_result};
+ghost use Rattle.plan_model.specs.Streams.{FaultsRose, MemSourceState, after_read, counted, ended_after, read_into, read_result};
 
 use super::numbered_calls::is_failing_call;
 use super::unread::Unread;
@@ -25,9 +25,9 @@ pub struct MemSource {
 
 impl Model for MemSource {
     ghost use Rattle.std.specs.Prelude.{◌≤◌, ◌<◌, ◌^◌};
-    ghost use Rattle.plan_model.specs.Streams.{Given};
+    ghost use Rattle.plan_model.specs.Streams.{MemSourceState};
 
-    ghost Value = { Given };
+    ghost Value = { MemSourceState };
 
     ghost view = { λ s. record { left = s.unread; ended = s.ended; most = s.most; fails = s.fails.items; calls = s.calls; faults = s.faults } };
 
@@ -40,7 +40,7 @@ impl MemSource {
     ///
     /// # Errors
     ///
-    /// `Memory` if there is no memory for a copy of the bytes or of the numbers.
+    /// `Memory` if out of memory for a copy of the bytes or of the numbers.
     pub fn new(alloc: Global, bytes: &[u8], most: usize, fails: &[u32]) -> Result<MemSource, Memory>
         requires { 1 ≤ most }
         ensures { IfOk result (λ source. source ≡ record { left = bytes.now; ended = false; most = most; fails = fails.now; calls = 0; faults = 0 }) }

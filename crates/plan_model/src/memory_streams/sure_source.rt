@@ -29,7 +29,7 @@ impl SureSource {
     ///
     /// # Errors
     ///
-    /// `Memory` if there is no memory for a copy of the bytes.
+    /// `Memory` if out of memory for a copy of the bytes.
     pub fn new(alloc: Global, bytes: &[u8]) -> Result<SureSource, Memory>
         ensures { IfOk result (λ source. source ≡ record { left = bytes.now; ended = false }) }
     {
