@@ -1,4 +1,4 @@
-//! Which way one turns from one corner to another.
+//! On which side of a line a corner lies.
 
 ghost use Rattle.std.specs.Prelude.{◌≡◌};
 ghost use Rattle.convex_sets.specs.Bounds.{IsBoundedCorner};

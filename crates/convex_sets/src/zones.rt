@@ -64,7 +64,7 @@ impl Zone {
     ///
     /// # Errors
     ///
-    /// [`Memory`] if the corners found no memory.
+    /// `Memory` if out of memory for the corners.
     pub fn sum(alloc: Global, body: &Poly, obstacle: &Poly) -> Result<Zone, Memory>
         requires body { IsTrue (length body.now == 1 || is_strictly_convex body.now) }
         requires body_within { IsTrue (list_all (is_corner_between LEAST_BODY_COORDINATE MOST_BODY_COORDINATE) body.now) }
@@ -73,9 +73,9 @@ impl Zone {
         ensures zone { IfOk result (λ zone. IsZoneOf body.now obstacle.now zone) }
     {
         let reflected = reflected(alloc, body.as_slice())?;
-        let turning = outline(alloc, reflected.as_slice())?;
-        let standing = outline(alloc, obstacle.as_slice())?;
-        let corners = merged(alloc, standing.as_slice(), turning.as_slice())?;
+        let body_outline = outline(alloc, reflected.as_slice())?;
+        let obstacle_outline = outline(alloc, obstacle.as_slice())?;
+        let corners = merged(alloc, obstacle_outline.as_slice(), body_outline.as_slice())?;
         Ok(Zone::from_corners(corners))
     }
 

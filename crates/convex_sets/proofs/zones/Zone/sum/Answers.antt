@@ -33,38 +33,40 @@ outline-requires-2-clause-bounded c =
     rw c.as_slice-3.ensures (bounded_corners LEAST_SUMMAND_COORDINATE MOST_SUMMAND_COORDINATE c.args.obstacle.now (omega (arith, ints)) (omega (arith, ints))
     c.requires.obstacle_within)
 
-record Parts (body obstacle standing turning corners : List Vertex) : Type 0 where
-  first : IsOutlineOf obstacle standing
-  second : IsOutlineOf (map reflection body) turning
-  merged : IsMerged standing turning corners
+record Parts (body obstacle obstacle_outline body_outline corners : List Vertex) : Type 0 where
+  first : IsOutlineOf obstacle obstacle_outline
+  second : IsOutlineOf (map reflection body) body_outline
+  merged : IsMerged obstacle_outline body_outline corners
 
 parts : (c : goal.In_ok-corners)
-    → Parts c.args.body.now c.args.obstacle.now c.in_ok-standing.standing.items c.in_ok-turning.turning.items c.in_ok-corners.corners.items
+    → Parts c.args.body.now c.args.obstacle.now c.in_ok-obstacle_outline.obstacle_outline.items c.in_ok-body_outline.body_outline.items
+    c.in_ok-corners.corners.items
 parts c =
     let e : c.as_slice-2.result.now ≡ map reflection c.args.body.now = c.as_slice-2.ensures.value ∙ c.in_ok-reflected.ensures ∙ ap (map reflection)
     c.as_slice.ensures in
     record {
-      first = rw c.as_slice-3.ensures at c.in_ok-standing.ensures.corners;
-      second = rw e at c.in_ok-turning.ensures.corners;
+      first = rw c.as_slice-3.ensures at c.in_ok-obstacle_outline.ensures.corners;
+      second = rw e at c.in_ok-body_outline.ensures.corners;
       merged = rw (c.as_slice-4.ensures.value, c.as_slice-5.ensures.value) at c.in_ok-corners.ensures;
     }
 
 pub from_corners-requires-clause-bounded : goal.from_corners-requires-clause-bounded
 from_corners-requires-clause-bounded c =
     let p = parts c in
-    zone_bounded c.args.body.now c.args.obstacle.now c.in_ok-standing.standing.items c.in_ok-turning.turning.items c.in_ok-corners.corners.items
-    p.first p.second p.merged c.requires.body_within c.requires.obstacle_within
+    zone_bounded c.args.body.now c.args.obstacle.now c.in_ok-obstacle_outline.obstacle_outline.items c.in_ok-body_outline.body_outline.items
+    c.in_ok-corners.corners.items p.first p.second p.merged c.requires.body_within c.requires.obstacle_within
 
 pub returns : goal.returns
 returns c =
     let e : c.as_slice-2.result.now ≡ map reflection c.args.body.now = c.as_slice-2.ensures.value ∙ c.in_ok-reflected.ensures ∙ ap (map reflection)
     c.as_slice.ensures in
-    let first : IsOutlineOf c.args.obstacle.now c.in_ok-standing.standing.items = rw c.as_slice-3.ensures at c.in_ok-standing.ensures.corners in
-    let second : IsOutlineOf (map reflection c.args.body.now) c.in_ok-turning.turning.items = rw e at c.in_ok-turning.ensures.corners in
-    let merged : IsMerged c.in_ok-standing.standing.items c.in_ok-turning.turning.items c.in_ok-corners.corners.items = rw
+    let first : IsOutlineOf c.args.obstacle.now c.in_ok-obstacle_outline.obstacle_outline.items =
+    rw c.as_slice-3.ensures at c.in_ok-obstacle_outline.ensures.corners in
+    let second : IsOutlineOf (map reflection c.args.body.now) c.in_ok-body_outline.body_outline.items = rw e at c.in_ok-body_outline.ensures.corners in
+    let merged : IsMerged c.in_ok-obstacle_outline.obstacle_outline.items c.in_ok-body_outline.body_outline.items c.in_ok-corners.corners.items = rw
     (c.as_slice-4.ensures.value, c.as_slice-5.ensures.value) at c.in_ok-corners.ensures in
     record {
       zone = rw c.from_corners.ensures
-          (zone_is c.args.body.now c.args.obstacle.now c.in_ok-standing.standing.items c.in_ok-turning.turning.items c.in_ok-corners.corners.items
-          first second merged c.requires.body_within c.requires.obstacle_within);
+          (zone_is c.args.body.now c.args.obstacle.now c.in_ok-obstacle_outline.obstacle_outline.items c.in_ok-body_outline.body_outline.items
+          c.in_ok-corners.corners.items first second merged c.requires.body_within c.requires.obstacle_within);
     }
