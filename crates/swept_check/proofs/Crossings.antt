@@ -45,22 +45,22 @@ admitted_of_inside corners a b s d p h i l =
 -- what is left after all edges, if its entry is not past its exit
 pub crosses_between : (corners : List Vertex) (a b : Point) (entry exit : Fraction)
     → ((s d : ℕ) → 0 < d → s ≤ d → IsBetweenFractions entry exit s d ↔ IsAdmittedBelow corners (corner_of a) (corner_of b) (length corners) s d)
-    → (entry.over * exit.under ≤ exit.over * entry.under) ↔ Crosses corners a b
+    → (entry.numerator * exit.denominator ≤ exit.numerator * entry.denominator) ↔ Crosses corners a b
 crosses_between corners a b entry exit h = (
   λ order.
       let p = entry.positive in
       let l = entry.at_most_one in
-      let between : IsBetweenFractions entry exit entry.over entry.under = record { after_entry = omega arith; before_exit = order } in
+      let between : IsBetweenFractions entry exit entry.numerator entry.denominator = record { after_entry = omega arith; before_exit = order } in
       record {
-        s = entry.over;
-        d = entry.under;
+        s = entry.numerator;
+        d = entry.denominator;
         positive = p;
         on_segment = l;
-        inside = inside_of_admitted corners a b entry.over entry.under p ((h entry.over entry.under p l).0 between);
+        inside = inside_of_admitted corners a b entry.numerator entry.denominator p ((h entry.numerator entry.denominator p l).0 between);
       },
   λ x.
       let between = (h x.s x.d x.positive x.on_segment).1 (admitted_of_inside corners a b x.s x.d x.positive x.inside) in
-      in_order entry.over entry.under exit.over exit.under x.s x.d x.positive between.after_entry between.before_exit,
+      in_order entry.numerator entry.denominator exit.numerator exit.denominator x.s x.d x.positive between.after_entry between.before_exit,
 )
 
 -- no parameter is admitted by some edge: not crossing

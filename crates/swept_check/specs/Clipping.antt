@@ -4,8 +4,8 @@ use Rattle.swept_check.specs.declared.fractions.Fraction.{Fraction}
 
 -- between two parameters, both included
 pub record IsBetweenFractions (entry exit : Fraction) (s d : ℕ) : Type 0 where
-  pub after_entry : entry.over * d ≤ s * entry.under
-  pub before_exit : s * exit.under ≤ exit.over * d
+  pub after_entry : entry.numerator * d ≤ s * entry.denominator
+  pub before_exit : s * exit.denominator ≤ exit.numerator * d
 
 -- A linear function with these values at the ends of a segment, at s / d of the way, times d.
 abbrev pub value_at : ℤ → ℤ → ℕ → ℕ → ℤ

@@ -13,7 +13,9 @@ use plan_model::{Point, Vertex};
 /// The part of a segment between two parameters; empty if the exit lies before the entry.
 #[derive(Clone, Copy)]
 pub(crate) struct Part {
+    /// The parameter at which it begins.
     pub(crate) entry: Fraction,
+    /// The parameter at which it ends.
     pub(crate) exit: Fraction,
 }
 

@@ -19,7 +19,7 @@ use std::marker::Model;
 ///     +--------------------------+  the room
 ///     | +----------------------+ |
 ///     | |  a----------b        | |  the room of configurations, for a body that
-///     | |       +----+         | |  reaches one step to each side of its origin
+///     | |       +----+         | |  reaches one lattice step to each side of its origin
 ///     | |  c----|----|--d      | |
 ///     | |       +----+ zone    | |  clear: a to b; not clear: c to d
 ///     | +----------------------+ |
@@ -61,7 +61,7 @@ impl Hall {
     ///
     /// # Errors
     ///
-    /// [`Memory`] if the zones, or the copies of the body and the obstacles, found no memory.
+    /// `Memory` if out of memory for the zones or for the copies of the body and the obstacles.
     pub fn new(alloc: Global, scene: &Scene) -> Result<Hall, Memory>
         ensures { IfOk result (λ hall. hall ≡ space_of scene.now) }
     {

@@ -4,10 +4,14 @@ use Rattle.swept_check.proofs.fractions.Fraction.min.Goals as goal
 
 pub returns-then-is_at_most : goal.returns-then-is_at_most
 returns-then-is_at_most c s d =
-    let order : c.args.self.over * c.args.other.under ≤ c.args.other.over * c.args.self.under = search rules in
-    (λ h. (h, before-greater c.args.self.over c.args.self.under c.args.other.over c.args.other.under s d c.args.self.positive order h), λ h. h.0)
+    let x = c.args.self in
+    let y = c.args.other in
+    let order : x.numerator * y.denominator ≤ y.numerator * x.denominator = search rules in
+    (λ h. (h, before-greater x.numerator x.denominator y.numerator y.denominator s d x.positive order h), λ h. h.0)
 
 pub returns-else-is_at_most : goal.returns-else-is_at_most
 returns-else-is_at_most c s d =
-    let order : c.args.other.over * c.args.self.under ≤ c.args.self.over * c.args.other.under = grind (arith, rules) in
-    (λ h. (before-greater c.args.other.over c.args.other.under c.args.self.over c.args.self.under s d c.args.other.positive order h, h), λ h. h.1)
+    let x = c.args.self in
+    let y = c.args.other in
+    let order : y.numerator * x.denominator ≤ x.numerator * y.denominator = grind (arith, rules) in
+    (λ h. (before-greater y.numerator y.denominator x.numerator x.denominator s d y.positive order h, h), λ h. h.1)
