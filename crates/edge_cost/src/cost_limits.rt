@@ -4,6 +4,7 @@ ghost use Rattle.std.specs.Prelude.{◌↔◌, ◌<◌, IsTrue};
 ghost use Rattle.plan_model.specs.Cost.{cost_of};
 ghost use Rattle.plan_model.specs.Bounds.{IsBounded};
 
+use crate::costs::SQUARED_UNITS;
 use plan_model::Point;
 
 /// Every cost is below it, in 256ths of a lattice step.
@@ -11,7 +12,7 @@ const COST_BOUND: u64 = 536_870_912;
 
 /// Whether the edge from `a` to `b` costs less than `limit`: the same as `cost(a, b) < limit`, without a root.
 ///
-/// The limit is in 256ths of a lattice step, and any number. It takes O(1) steps.
+/// The limit is in 256ths of a lattice step, and any number. O(1).
 pub fn costs_less(a: Point, b: Point, limit: u64) -> bool
     requires from { IsBounded a }
     requires to { IsBounded b }
@@ -22,7 +23,7 @@ pub fn costs_less(a: Point, b: Point, limit: u64) -> bool
     }
     // all limits above the bound have the same answer, and the square of the bound fits
     let most = (limit - 1).min(COST_BOUND);
-    65536 * a.squared_distance(b) <= most * most
+    SQUARED_UNITS * a.squared_distance(b) <= most * most
 }
 
 #[cfg(test)]

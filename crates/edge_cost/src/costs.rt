@@ -7,11 +7,14 @@ ghost use Rattle.plan_model.specs.Bounds.{IsBounded};
 use crate::roots::root_ceiling;
 use plan_model::Point;
 
+/// 256 squared: the square of a distance in lattice steps, times this, is the square of that distance in 256ths of a step.
+pub(crate) const SQUARED_UNITS: u64 = 65_536;
+
 /// The cost of the edge from `a` to `b`: its length in 256ths of a lattice step, rounded up.
 ///
-/// An edge one step along an axis costs 256, and one along a diagonal of the lattice 363, since 256 times
+/// An edge one lattice step along an axis costs 256, and one along a diagonal of the lattice 363, since 256 times
 /// the root of 2 is 362.04. So no edge costs less than its length, and the costs along a path overestimate
-/// its length by less than a 256th of a step an edge. It takes O(1) steps.
+/// its length by less than a 256th of a lattice step an edge. O(1).
 pub fn cost(a: Point, b: Point) -> u64
     requires from { IsBounded a }
     requires to { IsBounded b }
@@ -19,7 +22,7 @@ pub fn cost(a: Point, b: Point) -> u64
     ensures least { IsCost a b result }
     ensures bound { result < 2 ^ 29 }
 {
-    root_ceiling(65536 * a.squared_distance(b))
+    root_ceiling(SQUARED_UNITS * a.squared_distance(b))
 }
 
 #[cfg(test)]

@@ -14,7 +14,7 @@ const CLASSES: usize = 20;
 /// as near, which shrinks as the tree grows.
 ///
 /// At n nodes, whose class is b, the radius is the greatest number r up to the step with
-/// r * r * 2 ^ (b - 1) ≤ gamma * gamma * b. So there is one for each class, and all are computed once.
+/// r * r * 2 ^ (b - 1) ≤ gamma * gamma * b. So there is one for each class, and [`new`](Radii::new) makes them all.
 ///
 /// With a gamma of 1000 and a step of 4096 the radii of the classes 1 to 5 are 1000, 1000, 866, 707 and 559.
 #[derive(Clone, Copy, Debug)]
