@@ -31,4 +31,4 @@ fault_text number kind = join_with_byte 32 (fault_words number kind)
 -- how a refusal is shown
 abbrev pub refusal_text : SceneRefusal → List ℕ
 refusal_text (scene.Fault fault) = fault_text fault.line fault.kind
-refusal_text scene.Memory = codes "no memory"
+refusal_text scene.Memory = codes "out of memory"

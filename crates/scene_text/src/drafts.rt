@@ -41,7 +41,7 @@ pub(crate) struct Draft {
     marks: Vec<Point>,
 }
 
-// Whether a statement is the version, by its first word and the words after it.
+/// Whether a statement is the version, by its first word and the words after it.
 fn is_version(word: &[u8], words: &[u8]) -> bool
     ensures { result ≡ is_version (word.now ∷ words_of words.now) }
 {
@@ -51,7 +51,7 @@ fn is_version(word: &[u8], words: &[u8]) -> bool
     }
 }
 
-// The body, or without a line for it the point at the origin.
+/// The body, or without a line for it the point at the origin.
 fn body_or_origin(alloc: Global, body: Option<Poly>) -> Result<Poly, AllocError>
     ensures { IfOk result (λ corners. corners ≡ body_from (line_numbers corner_numbers body)) }
 {
@@ -61,7 +61,7 @@ fn body_or_origin(alloc: Global, body: Option<Poly>) -> Result<Poly, AllocError>
     }
 }
 
-// The plan: so many drawn marks if there is a line for them, or else the listed ones.
+/// The plan: so many drawn marks if there is a line for them, or else the listed ones.
 fn plan_of(drawn: Option<u32>, listed: Vec<Point>) -> Marks
     ensures { result ≡ plan_from (line_numbers amount_numbers drawn) (map point_numbers listed.items) }
 {
@@ -95,7 +95,7 @@ impl Draft {
         }
     }
 
-    // How many lines with the key stand.
+    /// How many lines with the key stand.
     fn count(&self, key: Key) -> usize
         ensures { result ≡ length (given_by_draft self.now key) }
     {
@@ -114,14 +114,14 @@ impl Draft {
         }
     }
 
-    // Whether a line with the key stands.
+    /// Whether a line with the key stands.
     fn stands(&self, key: Key) -> bool
         ensures { result ≡ stands (given_by_draft self.now) key }
     {
         self.count(key) > 0
     }
 
-    // Whether the key may stand once and stands already, or one stands that may not stand beside it.
+    /// Whether the key may stand once and stands already, or one stands that may not stand beside it.
     fn is_repeated(&self, key: Key) -> bool
         ensures { result ≡ is_repeated (given_by_draft self.now) key }
     {
@@ -134,14 +134,14 @@ impl Draft {
         }
     }
 
-    // Whether so many words after the key give too many corners, or no further line with the key may stand.
+    /// Whether so many words after the key give too many corners, or no further line with the key may stand.
     fn is_too_many(&self, key: Key, count: usize) -> bool
         ensures { result ≡ is_too_many (given_by_draft self.now) key count }
     {
         2 * most_corners(key) < count || most_lines(key) <= self.count(key)
     }
 
-    // Makes the checks of a line that come before those of its numbers.
+    /// Makes the checks of a line that come before those of its numbers.
     fn check_form(&self, key: Key, words: &[u8]) -> Result<(), Kind>
         ensures formed { OnOk result (IsFormed (given_by_draft self.now) key (words_of words.now)) }
         ensures refused { IfErr result (λ kind.
@@ -166,7 +166,7 @@ impl Draft {
         Ok(())
     }
 
-    // Takes the field that the numbers after the key give, or returns the first of their checks that fails.
+    /// Takes the field that the numbers after the key give, or returns the first of their checks that fails.
     fn take_field(&mut self, alloc: Global, key: Key, words: &[u8]) -> Result<(), LineRefusal>
         requires { IsFormed (given_by_draft self.old) key (words_of words.now) }
         ensures sound { OnOk result (first_failing (number_checks key (map value_of (words_of words.now))) ≡ None) }
@@ -195,7 +195,7 @@ impl Draft {
         Ok(())
     }
 
-    // Takes a statement after the version, by its first word and the words after it.
+    /// Takes a statement after the version, by its first word and the words after it.
     fn take_statement(
         &mut self,
         alloc: Global,

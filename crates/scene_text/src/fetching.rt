@@ -23,7 +23,7 @@ pub enum FetchFault {
     /// More than `MOST_TEXT_BYTES` bytes came. One more than these was read.
     #[error("text longer than {most} bytes", most = MOST_TEXT_BYTES)]
     TooLong,
-    /// There was no memory left for the bytes.
+    /// The program is out of memory for the bytes.
     #[error("out of memory")]
     Memory,
 }
@@ -49,15 +49,15 @@ impl From<AllocError> for FetchFault {
 ///
 /// # Errors
 ///
-/// `Read` if a read failed, `TooLong` exactly if more than `MOST_TEXT_BYTES` bytes came, and `Memory` if there was no
-/// memory left for the bytes. The source has then not given its end.
+/// `Read` if a read failed, `TooLong` exactly if more than `MOST_TEXT_BYTES` bytes came, and `Memory` if out of memory for
+/// the bytes. The source has then not given its end.
 pub fn fetch<S: Source>(alloc: Global, source: &mut S) -> Result<Vec<u8>, FetchFault>
     requires { S.has_ended source.old ≡ false }
     ensures end { OnOk result (S.has_ended source.new ≡ true) }
     ensures no_end { OnErr result (S.has_ended source.new ≡ false) }
-    // the bytes that came, and the result
+    // the bytes that came were the next ones of the source; a text is those bytes
     ensures came { Fetches (S.bytes_left source.old) (S.bytes_left source.new) result }
-    // a text is all bytes of the source, if they are known
+    // and it is all bytes of the source, if they are known
     ensures bytes { IfOk result (λ text. IsAllOf (S.bytes_left source.old) text.items) }
     ensures none_left { OnOk result (IsAtEnd (S.bytes_left source.new)) }
     ensures small { IfOk result (λ text. length text.items ≤ MOST_TEXT_BYTES) }

@@ -24,7 +24,7 @@ use plan_model::{
 };
 use std::alloc::Global;
 
-// The first of the numbers, if it is in the range, and the words after it.
+/// The first of the numbers, if it is in the range, and the words after it.
 fn read_number(words: &[u8], least: u64, most: u64) -> Option<(u64, &[u8])>
     requires numbers { IsTrue (list_all is_number (words_of words.now)) }
     requires some { 0 < length (words_of words.now) }
@@ -102,7 +102,7 @@ pub(crate) fn read_amount(words: &[u8], least: u64, most: u64) -> Result<u64, Ki
     Ok(amount)
 }
 
-// The first of the coordinates, if it is in the range, and the words after it.
+/// The first of the coordinates, if it is in the range, and the words after it.
 fn read_coordinate(words: &[u8], least: i32, most: i32) -> Option<(i32, &[u8])>
     requires numbers { IsTrue (list_all is_number (words_of words.now)) }
     requires some { 0 < length (words_of words.now) }
@@ -116,7 +116,7 @@ fn read_coordinate(words: &[u8], least: i32, most: i32) -> Option<(i32, &[u8])>
     Some((coordinate, rest))
 }
 
-// The first of the corners, if it is in the range, and the words after it.
+/// The first of the corners, if it is in the range, and the words after it.
 fn read_corner(words: &[u8], least: i32, most: i32) -> Option<(Vertex, &[u8])>
     requires numbers { IsTrue (list_all is_number (words_of words.now)) }
     requires two { 1 < length (words_of words.now) }
@@ -131,7 +131,7 @@ fn read_corner(words: &[u8], least: i32, most: i32) -> Option<(Vertex, &[u8])>
     Some((Vertex { x, y }, rest))
 }
 
-// The corners that the numbers give, two for each. The error is `Range` if a number is out of the range.
+/// The corners that the numbers give, two for each. The error is `Range` if a number is out of the range.
 fn read_corners(
     alloc: Global,
     words: &[u8],
@@ -157,8 +157,10 @@ fn read_corners(
 
 /// The obstacle that the numbers give, two for each corner.
 ///
-/// The error is `Range` if a coordinate is out of its range, `Corners` if the corners are not strictly convex and
-/// counterclockwise, and `Memory` if the program is out of memory.
+/// # Errors
+///
+/// `Range` if a coordinate is out of its range, `Corners` if the corners are not strictly convex and counterclockwise, and
+/// `Memory` if out of memory.
 pub(crate) fn read_obstacle(alloc: Global, words: &[u8]) -> Result<Poly, LineRefusal>
     requires numbers { IsTrue (list_all is_number (words_of words.now)) }
     requires pairs { length (words_of words.now) % 2 ≡ 0 }
@@ -178,7 +180,7 @@ pub(crate) fn read_obstacle(alloc: Global, words: &[u8]) -> Result<Poly, LineRef
     Ok(Poly::from_vec(corners))
 }
 
-// Whether the corners are one, or strictly convex and counterclockwise.
+/// Whether the corners are one, or strictly convex and counterclockwise.
 fn is_point_or_convex(corners: &[Vertex]) -> bool
     requires { AreBoundedCorners corners.now }
     ensures { result ≡ (length corners.now == 1 || is_strictly_convex corners.now) }
@@ -188,8 +190,10 @@ fn is_point_or_convex(corners: &[Vertex]) -> bool
 
 /// The body that the numbers give, two for each corner; a body of one corner is a point.
 ///
-/// The error is `Range` if a coordinate is out of its range, `Corners` if three corners or more are not strictly convex
-/// and counterclockwise, and `Memory` if the program is out of memory.
+/// # Errors
+///
+/// `Range` if a coordinate is out of its range, `Corners` if three corners or more are not strictly convex and
+/// counterclockwise, and `Memory` if out of memory.
 pub(crate) fn read_body(alloc: Global, words: &[u8]) -> Result<Poly, LineRefusal>
     requires numbers { IsTrue (list_all is_number (words_of words.now)) }
     requires pairs { length (words_of words.now) % 2 ≡ 0 }

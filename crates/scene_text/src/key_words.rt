@@ -28,7 +28,7 @@ pub(crate) fn key_of(word: &[u8]) -> Option<Key>
     }
 }
 
-/// Whether this version of the reader supports the key. It supports each key today.
+/// Whether this version of the reader supports the key. This version supports each.
 pub(crate) fn is_supported(key: Key) -> bool
     ensures { result ≡ supported key }
 {

@@ -20,7 +20,6 @@ mod scene_writer;
 
 pub use fetching::{FetchFault, fetch};
 pub use number_words::{is_number, natural};
-pub use plan_model::Kind;
 pub use refusals::{SceneFault, SceneRefusal};
 pub use scene_reader::read_scene;
 pub use scene_writer::write_scene;

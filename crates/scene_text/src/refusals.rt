@@ -52,7 +52,7 @@ impl fmt::Display for SceneRefusal {
     fn fmt<W: fmt::Write>(&self, f: &mut fmt::Formatter<W>) -> fmt::Result {
         match self {
             SceneRefusal::Fault(fault) => write!(f, "{fault}"),
-            SceneRefusal::Memory => write!(f, "no memory"),
+            SceneRefusal::Memory => write!(f, "out of memory"),
         }
     }
 }

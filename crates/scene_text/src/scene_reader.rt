@@ -10,10 +10,13 @@ use crate::refusals::SceneRefusal;
 use plan_model::Scene;
 use std::alloc::Global;
 
-/// The scene that a text spells.
+/// The scene that a text spells, by the grammar. The text has fewer bytes than the greatest `u32`, so that its lines can be
+/// counted.
 ///
-/// A text that is no scene by the grammar is refused at the first line that fails a check, with the first check that
-/// it fails; if something is missing, at the line after the last. The error is `Memory` if the program is out of memory.
+/// # Errors
+///
+/// `Fault` with the first line that fails a check, and that check; if something is missing, with the line after the last.
+/// `Memory` if out of memory.
 pub fn read_scene(alloc: Global, text: &[u8]) -> Result<Scene, SceneRefusal>
     requires { length text.now < u32.MAX }
     ensures scene { IfOk result (λ scene. Spells supported text.now scene) }

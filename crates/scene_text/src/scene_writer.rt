@@ -13,7 +13,9 @@ use std::alloc::{AllocError, Global};
 /// The canonical text of a scene: one text for each scene, with a line for each field, one space between words and a
 /// line feed at the end of each line.
 ///
-/// The error is `Memory` if the program is out of memory.
+/// # Errors
+///
+/// `Memory` if out of memory.
 pub fn write_scene(alloc: Global, scene: &Scene) -> Result<Vec<u8>, Memory>
     ensures text { IfOk result (λ text. text.items ≡ canonical_text scene.now) }
     // read again, it gives this scene
@@ -29,7 +31,7 @@ pub fn write_scene(alloc: Global, scene: &Scene) -> Result<Vec<u8>, Memory>
     Ok(text.into_bytes())
 }
 
-// The line of a polygon.
+/// The line of a polygon.
 fn push_polygon(text: &mut String, key: &str, corners: &[Vertex]) -> Result<(), AllocError>
     ensures { OnOk result (string_bytes text.new ≡ string_bytes text.old
         ++ line (key.now ∷ map signed_decimal (corner_numbers corners.now))) }
@@ -40,7 +42,7 @@ fn push_polygon(text: &mut String, key: &str, corners: &[Vertex]) -> Result<(), 
     Ok(())
 }
 
-// The coordinates of the corners, each after a blank.
+/// The coordinates of the corners, each after a blank.
 fn push_corners(text: &mut String, corners: &[Vertex]) -> Result<(), AllocError>
     ensures { OnOk result (string_bytes text.new ≡ string_bytes text.old
         ++ flat_map (λ z. 32 ∷ signed_decimal z) (corner_numbers corners.now)) }
@@ -51,7 +53,7 @@ fn push_corners(text: &mut String, corners: &[Vertex]) -> Result<(), AllocError>
     Ok(())
 }
 
-// A line for each obstacle.
+/// A line for each obstacle.
 fn push_obstacles(text: &mut String, obstacles: &[Poly]) -> Result<(), AllocError>
     ensures { OnOk result (string_bytes text.new ≡ string_bytes text.old
         ++ flat_map line (map obstacle_statement obstacles.now)) }
@@ -62,7 +64,7 @@ fn push_obstacles(text: &mut String, obstacles: &[Poly]) -> Result<(), AllocErro
     Ok(())
 }
 
-// The lines of what is to be planned in the room.
+/// The lines of what is to be planned in the room.
 fn push_task(text: &mut String, scene: &Scene) -> Result<(), AllocError>
     ensures text { OnOk result (string_bytes text.new ≡ string_bytes text.old ++ flat_map line (task_statements scene.now)) }
     // what the type of the seed says, for callers that do not read it
@@ -76,7 +78,7 @@ fn push_task(text: &mut String, scene: &Scene) -> Result<(), AllocError>
     write!(text, "seed {seed}\nstrips {}\n", scene.strips)
 }
 
-// The line of how many marks are drawn, or those of the listed marks.
+/// The line of how many marks are drawn, or those of the listed marks.
 fn push_plan(text: &mut String, plan: &Marks) -> Result<(), AllocError>
     ensures { OnOk result (string_bytes text.new ≡ string_bytes text.old ++ flat_map line (plan_statements plan.now)) }
 {
@@ -86,7 +88,7 @@ fn push_plan(text: &mut String, plan: &Marks) -> Result<(), AllocError>
     }
 }
 
-// A line for each mark.
+/// A line for each mark.
 fn push_marks(text: &mut String, marks: &[Point]) -> Result<(), AllocError>
     ensures { OnOk result (string_bytes text.new ≡ string_bytes text.old
         ++ flat_map line (map mark_statement marks.now)) }
