@@ -16,7 +16,7 @@ use std::alloc::Global;
 ///
 /// # Errors
 ///
-/// [`Memory`] if the points found no memory.
+/// `Memory` if out of memory for the points.
 pub fn marks(alloc: Global, scene: &Scene) -> Result<Points, Memory>
     requires fits { (n : ℕ) → scene.now.plan ≡ Drawn n → BodyFits (space_of scene.now) }
     ensures value { IfOk result (λ points. points ≡ mark_points scene.now) }
