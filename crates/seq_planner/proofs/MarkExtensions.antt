@@ -25,7 +25,7 @@ use Rattle.plan_model.proofs.SteeredNodes.{IsFree-steered}
 use Rattle.plan_model.proofs.DistinctPoints.{near-present}
 use Rattle.plan_model.proofs.NewNodes.{StandsAt-present}
 use Rattle.seq_planner.specs.declared.extensions.Extension.{Extension}
-use Rattle.seq_planner.specs.declared.extensions.Parent.{Parent}
+use Rattle.seq_planner.specs.declared.choice.Parent.{Parent}
 use Rattle.seq_planner.specs.declared.search_tree.SearchTree.{SearchTree}
 use Rattle.seq_planner.specs.SearchTrees.{IsParentOf, IsExtensionOf, Fits}
 use Rattle.seq_planner.proofs.ScannedLists.{near-rising}

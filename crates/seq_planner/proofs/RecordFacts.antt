@@ -3,10 +3,10 @@ use Rattle.std.proofs.Common.{◌≡◌, ℕ, ap, refl}
 use Rattle.std.specs.Prelude.{Bool, IsTrue}
 use Rattle.std.proofs.Props.{props}
 use Rattle.plan_model.specs.declared.records.Outcome.{Outcome}
-use Rattle.plan_model.specs.declared.records.Outcome.TheVariants.{Placed, Same, Blocked}
+use Rattle.plan_model.specs.declared.records.Outcome.TheVariants.{Placed}
 use Rattle.plan_model.specs.declared.records.Record.{Record}
 use Rattle.plan_model.specs.Outcomes.{is_zero_unless_placed}
-use Rattle.plan_model.specs.Textbook.{same_record, blocked_record, placed_record}
+use Rattle.plan_model.specs.Textbook.{placed_record}
 
 one_proof : (b : Bool) → IsProp (IsTrue b)
 one_proof b = hlevel props
@@ -24,14 +24,6 @@ of_fields k nearest outcome parent cost class holds =
       class = class;
       unplaced = holds;
     }
-
-pub same_record-is :
-    (k nearest j : ℕ) (holds : IsTrue (is_zero_unless_placed (Same j) 0 0 0)) → of_fields k nearest (Same j) 0 0 0 holds ≡ same_record k nearest j
-same_record-is k nearest j holds = ap (of_fields k nearest (Same j) 0 0 0) (one_proof _ holds refl)
-
-pub blocked_record-is :
-    (k nearest : ℕ) (holds : IsTrue (is_zero_unless_placed Blocked 0 0 0)) → of_fields k nearest Blocked 0 0 0 holds ≡ blocked_record k nearest
-blocked_record-is k nearest holds = ap (of_fields k nearest Blocked 0 0 0) (one_proof _ holds refl)
 
 pub placed_record-is :
     (k nearest parent cost class : ℕ) (holds : IsTrue (is_zero_unless_placed Placed parent cost class))

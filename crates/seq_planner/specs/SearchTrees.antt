@@ -13,7 +13,7 @@ use Rattle.plan_model.specs.PointsByNumber.{StandsAt, IsPresent, IsFree, AreDist
 use Rattle.plan_model.specs.Trees.{points_of, CostsFall, AreTight}
 use Rattle.plan_model.specs.Textbook.{Nodes, setup_of, cost_through, Rewires, Handles}
 use Rattle.seq_planner.specs.declared.extensions.Extension.{Extension}
-use Rattle.seq_planner.specs.declared.extensions.Parent.{Parent}
+use Rattle.seq_planner.specs.declared.choice.Parent.{Parent}
 use Rattle.seq_planner.specs.declared.placed_points.PlacedPoints.{PlacedPoints}
 use Rattle.seq_planner.specs.declared.search_tree.SearchTree.{SearchTree}
 use Rattle.seq_planner.specs.PlacedLists.{ArePlaced}

@@ -11,11 +11,19 @@ ghost use Rattle.plan_model.specs.Trees.{points_of};
 ghost use Rattle.plan_model.specs.declared.limits.TheConstants.{MOST_NODES};
 ghost use Rattle.seq_planner.specs.SearchTrees.{IsParentOf, IsSoundTree};
 
-use crate::extensions::Parent;
 use crate::search_tree::SearchTree;
 use edge_cost::{cost, costs_less};
 use plan_model::Point;
 use swept_check::Clearing;
+
+/// A node as the parent of a new one.
+#[derive(Clone, Copy)]
+pub(crate) struct Parent {
+    /// Its number.
+    pub(crate) number: u32,
+    /// The cost from the start through it to the new node, in 256ths of a lattice step.
+    pub(crate) cost: u64,
+}
 
 impl SearchTree {
     /// The parent of a new node: among the nearest node and the near ones with a clear edge to it, the one through which

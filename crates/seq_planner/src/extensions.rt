@@ -3,16 +3,8 @@
 ghost use Rattle.std.specs.Prelude.{◌≡◌, Some, None};
 ghost use Rattle.plan_model.specs.Textbook.{blocked_record, placed_record, same_record};
 
+use crate::choice::Parent;
 use plan_model::{Outcome, Point, Record, Twig};
-
-/// A node as the parent of a new one.
-#[derive(Clone, Copy)]
-pub(crate) struct Parent {
-    /// Its number.
-    pub(crate) number: u32,
-    /// The cost from the start through it to the new node, in 256ths of a lattice step.
-    pub(crate) cost: u64,
-}
 
 /// What a mark (a sample) adds to a search tree.
 #[derive(Clone, Copy)]
@@ -35,15 +27,7 @@ impl Extension {
         Extension {
             node: None,
             cost: 0,
-            entry: Record {
-                worker: 0,
-                turn,
-                nearest,
-                outcome: Outcome::Same(number),
-                first_parent: 0,
-                first_cost: 0,
-                class: 0,
-            },
+            entry: Record::unplaced(0, turn, nearest, Outcome::Same(number)),
         }
     }
 
@@ -56,15 +40,7 @@ impl Extension {
         Extension {
             node: None,
             cost: 0,
-            entry: Record {
-                worker: 0,
-                turn,
-                nearest,
-                outcome: Outcome::Blocked,
-                first_parent: 0,
-                first_cost: 0,
-                class: 0,
-            },
+            entry: Record::unplaced(0, turn, nearest, Outcome::Blocked),
         }
     }
 

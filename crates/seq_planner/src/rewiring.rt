@@ -27,24 +27,24 @@ impl SearchTree {
     pub(crate) fn rewire<C: Clearing>(
         &mut self,
         hall: &C,
-        number: u32,
+        new_node: u32,
         near: &[u32],
         pending: &mut Vec<u32>,
     ) -> Result<(), Memory>
         requires sound { IsSoundTree self.old }
         requires few { length self.old.nodes ≤ MOST_NODES }
-        requires present { IsPresent (points_of self.old.nodes) number }
+        requires present { IsPresent (points_of self.old.nodes) new_node }
         requires near { All (IsPresent (points_of self.old.nodes)) near.now }
         requires rising { IsStrictlyIncreasing near.now }
-        requires leaf { (c : ℕ) → ¬ is_child_of self.old.nodes number c ≡ true }
-        ensures rewired { OnOk result (Rewires (C.space hall.now) self.old.nodes number near.now self.new.nodes) }
+        requires leaf { (c : ℕ) → ¬ is_child_of self.old.nodes new_node c ≡ true }
+        ensures rewired { OnOk result (Rewires (C.space hall.now) self.old.nodes new_node near.now self.new.nodes) }
         ensures sound { OnOk result (IsSoundTree self.new) }
         ensures points { OnOk result (points_of self.new.nodes ≡ points_of self.old.nodes) }
         ensures count { OnOk result (length self.new.nodes ≡ length self.old.nodes) }
         ensures records { OnOk result (self.new.records.items ≡ self.old.records.items) }
     {
-        for &other in near {
-            self.rewire_one(hall, number, other, pending)?;
+        for &near_node in near {
+            self.rewire_one(hall, new_node, near_node, pending)?;
         }
         Ok(())
     }
@@ -53,43 +53,43 @@ impl SearchTree {
     fn rewire_one<C: Clearing>(
         &mut self,
         hall: &C,
-        number: u32,
-        other: u32,
+        new_node: u32,
+        near_node: u32,
         pending: &mut Vec<u32>,
     ) -> Result<(), Memory>
         requires sound { IsSoundTree self.old }
         requires few { length self.old.nodes ≤ MOST_NODES }
-        requires present { IsPresent (points_of self.old.nodes) number }
-        requires near { IsPresent (points_of self.old.nodes) other }
-        requires last { (c : ℕ) → is_child_of self.old.nodes number c ≡ true → c < other }
-        ensures rewired { OnOk result (RewiresOne (C.space hall.now) self.old.nodes number other self.new.nodes) }
+        requires present { IsPresent (points_of self.old.nodes) new_node }
+        requires near { IsPresent (points_of self.old.nodes) near_node }
+        requires last { (c : ℕ) → is_child_of self.old.nodes new_node c ≡ true → c < near_node }
+        ensures rewired { OnOk result (RewiresOne (C.space hall.now) self.old.nodes new_node near_node self.new.nodes) }
         ensures sound { OnOk result (IsSoundTree self.new) }
         ensures points { OnOk result (points_of self.new.nodes ≡ points_of self.old.nodes) }
         ensures count { OnOk result (length self.new.nodes ≡ length self.old.nodes) }
         ensures records { OnOk result (self.new.records.items ≡ self.old.records.items) }
     {
-        if !self.is_cheaper(hall, number, other) {
+        if !self.is_cheaper(hall, new_node, near_node) {
             return Ok(());
         }
-        let through = self.parent(number, self.nodes.point(other)).cost;
-        let fall = self.costs[other as usize] - through;
-        self.nodes.set_parent(other, number);
-        spread(&self.nodes, &mut self.costs, other, fall, pending)
+        let cost_through = self.parent(new_node, self.nodes.point(near_node)).cost;
+        let fall = self.costs[near_node as usize] - cost_through;
+        self.nodes.set_parent(near_node, new_node);
+        spread(&self.nodes, &mut self.costs, near_node, fall, pending)
     }
 
     /// Whether a near node would cost strictly less with the new node as its parent, over a clear edge.
-    fn is_cheaper<C: Clearing>(&self, hall: &C, number: u32, other: u32) -> bool
+    fn is_cheaper<C: Clearing>(&self, hall: &C, new_node: u32, near_node: u32) -> bool
         requires sound { IsSoundTree self.now }
         requires few { length self.now.nodes ≤ MOST_NODES }
-        requires present { IsPresent (points_of self.now.nodes) number }
-        requires near { IsPresent (points_of self.now.nodes) other }
-        ensures { IsTrue result ↔ IsCheaperThrough (C.space hall.now) self.now.nodes number other }
+        requires present { IsPresent (points_of self.now.nodes) new_node }
+        requires near { IsPresent (points_of self.now.nodes) near_node }
+        ensures { IsTrue result ↔ IsCheaperThrough (C.space hall.now) self.now.nodes new_node near_node }
     {
-        let from = self.nodes.point(number);
-        let to = self.nodes.point(other);
-        let through = self.costs[number as usize];
-        let kept = self.costs[other as usize];
+        let from = self.nodes.point(new_node);
+        let to = self.nodes.point(near_node);
+        let new_cost = self.costs[new_node as usize];
+        let kept = self.costs[near_node as usize];
         // a root is taken, and an edge tested, only for what wins
-        through < kept && costs_less(from, to, kept - through) && hall.clear(from, to)
+        new_cost < kept && costs_less(from, to, kept - new_cost) && hall.clear(from, to)
     }
 }

@@ -20,7 +20,7 @@ use std::alloc::Global;
 use step_core::Grown;
 use swept_check::Clearing;
 
-/// The tree that RRT* grows, by a number for each mark, with the record of each mark so far.
+/// The tree that RRT* grows, with a number for each mark and the records so far.
 ///
 /// Each mark that is handled adds a number to the nodes, a cost and a record. So the nodes and their costs have the same
 /// numbers, one more than the records: node 0 is the start, and node `k + 1` belongs to mark `k`.
