@@ -14,8 +14,8 @@ use plan_model::Point;
 use step_core::Grown;
 use swept_check::Clearing;
 
-/// Keeps of the nodes near a new one those that are strictly cheaper by way of it, over a clear edge. It stands at this point,
-/// and costs so much, in 256ths of a lattice step. O(n) for n near nodes.
+/// Keeps of the nodes near a new one those that are strictly cheaper by way of it, over a clear edge. The new node stands at
+/// `point` and costs `cost`, in 256ths of a lattice step. O(n) for n near nodes.
 pub(crate) fn keep_cheaper<C: Clearing>(
     grown: &Grown,
     hall: &C,
@@ -30,26 +30,26 @@ pub(crate) fn keep_cheaper<C: Clearing>(
         ↔ IsCheaperBy (setup_of grown.now.task.scene) (state_of_grown grown.now) point cost i }
     ensures spare { vec_capacity near.new ≡ vec_capacity near.old }
 {
-    let mut kept = 0;
+    let mut kept_count = 0;
     for place in 0..near.len() {
-        let node = near[place];
-        if is_cheaper(grown, hall, point, cost, node) {
-            near[kept] = node;
-            kept += 1;
+        let near_node = near[place];
+        if is_cheaper(grown, hall, point, cost, near_node) {
+            near[kept_count] = near_node;
+            kept_count += 1;
         }
     }
-    near.truncate(kept);
+    near.truncate(kept_count);
 }
 
 /// Whether a node is present and strictly cheaper by way of a new one, over a clear edge.
-fn is_cheaper<C: Clearing>(grown: &Grown, hall: &C, point: Point, through: u64, node: u32) -> bool
+fn is_cheaper<C: Clearing>(grown: &Grown, hall: &C, point: Point, cost: u64, near_node: u32) -> bool
     requires { IsBounded point }
-    ensures { IsTrue result ↔ CostsLessBy (C.space hall.now) (state_of_grown grown.now) point through node }
+    ensures { IsTrue result ↔ CostsLessBy (C.space hall.now) (state_of_grown grown.now) point cost near_node }
 {
-    let Some(to) = grown.point(node) else {
+    let Some(to) = grown.point(near_node) else {
         return false;
     };
-    let kept = grown.cost(node);
+    let kept_cost = grown.cost(near_node);
     // a root is taken, and an edge tested, only for what wins
-    through < kept && costs_less(point, to, kept - through) && hall.clear(point, to)
+    cost < kept_cost && costs_less(point, to, kept_cost - cost) && hall.clear(point, to)
 }

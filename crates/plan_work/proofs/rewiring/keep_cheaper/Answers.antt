@@ -27,14 +27,14 @@ loop-place-preserved g c =
     let below : l.place < length l.near.items = omega (arith, c.loop-place-test.true, c.len-place-end.ensures, c.args.near.now.ok.0, h.long) in
     elim c.if-is_cheaper.branch [
       | then-is_cheaper w ↦ (
-          rw (w.near-is, w.kept-is) (record {
-            kept = KeepsInPlace-keeps P xs l.near.items l.kept l.place c.index-node.result.now h below c.index-node.ensures
+          rw (w.near-is, w.kept_count-is) (record {
+            kept = KeepsInPlace-keeps P xs l.near.items l.kept_count l.place c.index-near_node.result.now h below c.index-near_node.ensures
                 (c.is_cheaper.ensures.0 w.if-is_cheaper.true);
             spare = l.invariant.spare;
           }))
       | else-is_cheaper w ↦ (
-          rw (w.near-is, w.kept-is) (record {
-            kept = KeepsInPlace-leaves P xs l.near.items l.kept l.place c.index-node.result.now h below c.index-node.ensures
+          rw (w.near-is, w.kept_count-is) (record {
+            kept = KeepsInPlace-leaves P xs l.near.items l.kept_count l.place c.index-near_node.result.now h below c.index-near_node.ensures
                 (λ own. (let passes = c.is_cheaper.ensures.1 own in absurd (cc)));
             spare = l.invariant.spare;
           }))
@@ -47,7 +47,7 @@ returns-clause-kept g c = λ i.
     let p = c.args.point in
     let l = c.loop-place in
     let all : length c.args.near.now.items ≤ l.place = omega (arith, c.loop-place-test.false, c.len-place-end.ensures, c.args.near.now.ok.0) in
-    let both = KeepsInPlace-all (CostsLessBy space state p c.args.cost) c.args.near.now.items l.near.items l.kept l.place i l.invariant.kept all in (
+    let both = KeepsInPlace-all (CostsLessBy space state p c.args.cost) c.args.near.now.items l.near.items l.kept_count l.place i l.invariant.kept all in (
       λ h.
           let own = both.0 (subst (λ ns. Contains ns i) c.truncate.ensures.items h) in record {
             near = subst (λ ns. Contains ns i) c.requires.near own.0;
