@@ -6,11 +6,13 @@ use Rattle.scene_text.specs.declared.fetching.FetchFault.TheVariants as fetching
 use Rattle.scene_text.specs.declared.refusals.SceneRefusal.{SceneRefusal}
 use Rattle.scene_text.specs.declared.refusals.SceneRefusal.TheVariants as reading
 
+-- what a fault of reading the bytes becomes
 abbrev pub refusal_of_fetch : FetchFault → Refusal
 refusal_of_fetch fetching.Read = refusals.ReadFault
 refusal_of_fetch fetching.TooLong = refusals.TooLong
 refusal_of_fetch fetching.Memory = refusals.Memory
 
+-- what a refusal of the text becomes
 abbrev pub refusal_of_scene : SceneRefusal → Refusal
 refusal_of_scene (reading.Fault fault) = refusals.Text fault.line fault.kind
 refusal_of_scene reading.Memory = refusals.Memory

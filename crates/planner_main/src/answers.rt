@@ -45,8 +45,8 @@ pub struct Answer {
     pub text: Vec<u8>,
 }
 
-/// What is to be written for the words, which the command that they ask for reads from the source. The gate is told of the
-/// turns of the workers, if several are to plan.
+/// What is to be written for the words. What their command needs is read from the source. The gate is told of the turns of
+/// the workers, if workers are to plan.
 ///
 /// # Errors
 ///
@@ -74,7 +74,7 @@ pub fn answer_to<R: Threads + Sync + Wait, S: Source, G: Gate>(
     }
 }
 
-// Does what the command says.
+/// Does what the command says.
 fn perform<R: Threads + Sync + Wait, S: Source, G: Gate>(
     rt: &R,
     alloc: Global,
@@ -101,7 +101,7 @@ fn perform<R: Threads + Sync + Wait, S: Source, G: Gate>(
     }
 }
 
-// Plans the scene that is read as the textbook does, and reports it in full or in short.
+/// Plans the scene that is read as the textbook does, and reports it in full or in short.
 fn plain<S: Source>(alloc: Global, full: bool, source: &mut S) -> Result<Answer, Refusal>
     requires { S.has_ended source.old ≡ false }
     ensures success { IfOk result (λ answer. IsSuccess (Some (Command.Plain full))
@@ -116,7 +116,7 @@ fn plain<S: Source>(alloc: Global, full: bool, source: &mut S) -> Result<Answer,
     Ok(report_of(alloc, full, grown)?)
 }
 
-// Plans the scene that is read by several workers, and reports it in full or in short.
+/// Plans the scene that is read by several workers, and reports it in full or in short.
 fn plan<R: Threads + Sync + Wait, S: Source, G: Gate>(
     rt: &R,
     alloc: Global,
@@ -140,7 +140,7 @@ fn plan<R: Threads + Sync + Wait, S: Source, G: Gate>(
     Ok(report_of(alloc, full, grown)?)
 }
 
-// Shows the scene that is read.
+/// Shows the scene that is read.
 fn show<S: Source>(alloc: Global, source: &mut S) -> Result<Answer, Refusal>
     requires { S.has_ended source.old ≡ false }
     ensures success { IfOk result (λ answer. IsSuccess (Some Command.Show)
@@ -159,7 +159,7 @@ fn show<S: Source>(alloc: Global, source: &mut S) -> Result<Answer, Refusal>
     })
 }
 
-// The scene that a command asks for, read from the source.
+/// The scene that a command asks for, read from the source.
 fn scene_for<S: Source>(alloc: Global, command: Command, source: &mut S) -> Result<Scene, Refusal>
     requires reads { reads_scene command ≡ true }
     requires unended { S.has_ended source.old ≡ false }
@@ -174,7 +174,7 @@ fn scene_for<S: Source>(alloc: Global, command: Command, source: &mut S) -> Resu
     Ok(scene)
 }
 
-// The collision checker of a scene that is to be planned, so one whose start is clear.
+/// The collision checker of a scene that is to be planned, so one whose start is clear.
 fn hall_for(alloc: Global, scene: &Scene) -> Result<Hall, Refusal>
     ensures hall { IfOk result (λ hall. hall ≡ space_of scene.now) }
     ensures start { IfOk result (λ hall. ClearAt (space_of scene.now) scene.now.start) }
@@ -188,7 +188,7 @@ fn hall_for(alloc: Global, scene: &Scene) -> Result<Hall, Refusal>
     Ok(hall)
 }
 
-// The textbook run of a scene, over all its marks.
+/// The textbook run of a scene, over all its marks.
 fn textbook_run(alloc: Global, scene: Scene, hall: &Hall) -> Result<Grown, Memory>
     requires hall { hall.now ≡ space_of scene }
     requires start { ClearAt (space_of scene) scene.start }
@@ -202,7 +202,7 @@ fn textbook_run(alloc: Global, scene: Scene, hall: &Hall) -> Result<Grown, Memor
     textbook(alloc, Task { scene, marks }, hall)
 }
 
-// A run of a scene by several workers, over all its marks, settled.
+/// A run of a scene by several workers, over all its marks, settled.
 fn run_by_workers<R: Threads + Sync + Wait, G: Gate>(
     rt: &R,
     alloc: Global,
@@ -230,7 +230,7 @@ fn run_by_workers<R: Threads + Sync + Wait, G: Gate>(
     Ok(grown)
 }
 
-// The report of a settled run over all marks of its scene, in full or in short.
+/// The report of a settled run over all marks of its scene, in full or in short.
 fn report_of(alloc: Global, full: bool, grown: Grown) -> Result<Answer, Memory>
     requires whole { grown.limit ≡ length (mark_points grown.task.scene) }
     requires settled { IsSettled (state_of_grown grown) }
@@ -240,7 +240,7 @@ fn report_of(alloc: Global, full: bool, grown: Grown) -> Result<Answer, Memory>
     Ok(answer_of(grown, text))
 }
 
-// The summary of a settled run over all marks of its scene.
+/// The summary of a settled run over all marks of its scene.
 fn summary_of(alloc: Global, grown: Grown) -> Result<Answer, Memory>
     requires whole { grown.limit ≡ length (mark_points grown.task.scene) }
     requires settled { IsSettled (state_of_grown grown) }
@@ -250,7 +250,7 @@ fn summary_of(alloc: Global, grown: Grown) -> Result<Answer, Memory>
     Ok(answer_of(grown, text))
 }
 
-// The answer that a report of a settled run is.
+/// The answer that a report of a settled run is.
 fn answer_of(grown: Grown, text: Vec<u8>) -> Answer
     requires { IsSettled (state_of_grown grown) }
     ensures status { result.done.status ≡ status_of_report (is_some (best_node grown.task.scene (state_of_grown grown))) }
@@ -267,7 +267,7 @@ fn answer_of(grown: Grown, text: Vec<u8>) -> Answer
     }
 }
 
-// Writes the generated scene of a number.
+/// Writes the generated scene of a number.
 fn generate(alloc: Global, number: u32) -> Result<Answer, Memory>
     requires { number ≤ MOST_GENERATED }
     ensures { IfOk result (λ answer. WritesGenerated number answer.done answer.text.items) }
@@ -282,7 +282,7 @@ fn generate(alloc: Global, number: u32) -> Result<Answer, Memory>
     })
 }
 
-// Plans the generated scene of a number.
+/// Plans the generated scene of a number.
 fn trial(alloc: Global, number: u32) -> Result<Answer, Memory>
     requires { number ≤ MOST_GENERATED }
     ensures { IfOk result (λ answer. TriesGenerated number answer.done answer.text.items) }

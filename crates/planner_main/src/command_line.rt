@@ -64,7 +64,7 @@ pub fn exit_code<R: Threads + Sync + Wait, S: Source, K: Sink>(
     }
 }
 
-// The words after the program's name: none if the arguments are no text.
+/// The words after the program's name: none if the arguments are no text.
 fn words_of(alloc: Global, args: io::Result<Args>) -> Result<Vec<String>, Memory>
     ensures words { IfOk result (λ words. words.items ≡ given args) }
     ensures no_memory { IsOutOfMemory args → IsErr result }

@@ -34,7 +34,7 @@ pub enum Command {
 /// The command that the words ask for, without the program's name. `None` if they ask for none.
 pub fn command_of(words: &[String]) -> Option<Command>
     ensures value { result ≡ command_of (map string_bytes words.now) }
-    ensures scene { IfSome result IsNumbered }
+    ensures numbered { IfSome result IsNumbered }
 {
     match words {
         [word] => command_of_word(word.as_str()),
@@ -44,9 +44,10 @@ pub fn command_of(words: &[String]) -> Option<Command>
     }
 }
 
+/// The command that one word asks for.
 fn command_of_word(word: &str) -> Option<Command>
     ensures value { result ≡ command_of_word word.now }
-    ensures scene { IfSome result IsNumbered }
+    ensures numbered { IfSome result IsNumbered }
 {
     match word {
         "plain" => Some(Command::Plain { full: false }),
@@ -55,9 +56,10 @@ fn command_of_word(word: &str) -> Option<Command>
     }
 }
 
+/// The command that two words ask for.
 fn command_of_two(word: &str, second: &str) -> Option<Command>
     ensures value { result ≡ command_of_two word.now second.now }
-    ensures scene { IfSome result IsNumbered }
+    ensures numbered { IfSome result IsNumbered }
 {
     match (word, second) {
         ("plain", "full") => Some(Command::Plain { full: true }),
@@ -66,9 +68,10 @@ fn command_of_two(word: &str, second: &str) -> Option<Command>
     }
 }
 
+/// The command that three words ask for.
 fn command_of_three(word: &str, second: &str, third: &str) -> Option<Command>
     ensures value { result ≡ command_of_three word.now second.now third.now }
-    ensures scene { IfSome result IsNumbered }
+    ensures numbered { IfSome result IsNumbered }
 {
     match (word, third) {
         ("plan", "full") => plan_by(second, true),
@@ -76,20 +79,20 @@ fn command_of_three(word: &str, second: &str, third: &str) -> Option<Command>
     }
 }
 
-// The command to plan by so many workers, which a word says.
+/// The command to plan by so many workers, which a word says.
 fn plan_by(word: &str, full: bool) -> Option<Command>
     ensures value { result ≡ plan_by full word.now }
-    ensures scene { IfSome result IsNumbered }
+    ensures numbered { IfSome result IsNumbered }
 {
     let workers = number_in(word.as_bytes(), 1, MOST_WORKERS)?;
     Some(Command::Plan { workers, full })
 }
 
-// The command of a word about the generated scene of a number.
+/// The command of a word about the generated scene of a number.
 fn command_about(word: &str, number: u32) -> Option<Command>
     requires { number ≤ MOST_GENERATED }
     ensures value { result ≡ command_about word.now number }
-    ensures scene { IfSome result IsNumbered }
+    ensures numbered { IfSome result IsNumbered }
 {
     match word {
         "gen" => Some(Command::Gen(number)),
@@ -98,7 +101,7 @@ fn command_about(word: &str, number: u32) -> Option<Command>
     }
 }
 
-// The number that a word stands for, if it is one from `least` to `most`.
+/// The number that a word stands for, if it is one from `least` to `most`.
 fn number_in(word: &[u8], least: u32, most: u32) -> Option<u32>
     ensures value { result ≡ number_in least most word.now }
     ensures least { IfSome result (λ number. least ≤ number) }

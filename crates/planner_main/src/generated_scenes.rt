@@ -19,7 +19,7 @@ use strip_sampler::drawn_words;
 /// The greatest number of a generated scene.
 pub const MOST_GENERATED: u32 = 9_999;
 
-// The cells of a generated scene, and its obstacles.
+/// The cells of a generated scene, and its obstacles.
 const CELLS: u32 = 64;
 
 /// The generated scene of a number: a square room of 9,999, a square body of 20, 64 obstacles, and 2,000 to 20,000 drawn
@@ -27,7 +27,7 @@ const CELLS: u32 = 64;
 ///
 /// # Errors
 ///
-/// [`Memory`] if out of memory for the obstacles or the body.
+/// `Memory` if out of memory for the obstacles or the body.
 pub fn gen_scene(alloc: Global, number: u32) -> Result<Scene, Memory>
     requires { number ≤ MOST_GENERATED }
     ensures scene { IfOk result (spec.IsGenerated number) }
@@ -51,7 +51,7 @@ pub fn gen_scene(alloc: Global, number: u32) -> Result<Scene, Memory>
     })
 }
 
-// The obstacles of a generated scene, one in each cell.
+/// The obstacles of a generated scene, one in each cell.
 fn obstacles(alloc: Global, number: u32) -> Result<Polys, Memory>
     requires { number ≤ MOST_GENERATED }
     ensures { IfOk result (λ obstacles. obstacles ≡ spec.generated_obstacles number) }
@@ -63,7 +63,7 @@ fn obstacles(alloc: Global, number: u32) -> Result<Polys, Memory>
     Ok(Polys::from_vec(obstacles))
 }
 
-// The obstacle of a cell: a square in a cell of even number, a triangle in one of odd number.
+/// The obstacle of a cell: a square in a cell of even number, a triangle in one of odd number.
 fn obstacle(alloc: Global, number: u32, cell: u32) -> Result<Poly, Memory>
     requires number { number ≤ MOST_GENERATED }
     requires cell { cell < CELLS }
@@ -82,7 +82,7 @@ fn obstacle(alloc: Global, number: u32, cell: u32) -> Result<Poly, Memory>
     }
 }
 
-// The square with this lower left corner.
+/// The square with this lower left corner.
 fn square(alloc: Global, at: Point, side: u32) -> Result<Poly, Memory>
     requires right { at.x + side < 2 ^ 31 }
     requires top { at.y + side < 2 ^ 31 }
@@ -98,7 +98,7 @@ fn square(alloc: Global, at: Point, side: u32) -> Result<Poly, Memory>
     Ok(Poly::from_vec(corners))
 }
 
-// The lower left half of that square.
+/// The lower left half of that square.
 fn triangle(alloc: Global, at: Point, side: u32) -> Result<Poly, Memory>
     requires right { at.x + side < 2 ^ 31 }
     requires top { at.y + side < 2 ^ 31 }

@@ -2,11 +2,15 @@
 //! 2011). The program reads a scene from standard input, does what the words of the command line ask for, and writes the
 //! text of its answer to standard output.
 //!
-//! Everything is done by `run`, over any source and any sink. Its contract says what each status means: with 0 and 1 the
-//! text is the report, short or full, of the textbook run of the scene that the bytes read spell, or of a lawful run that
-//! one or more workers have grown (or, for `show`, that scene's canonical text), or of a generated scene, and the run itself is
-//! handed out with the status; each refusal has its cause, and which status comes is decided by the bytes if no read or
-//! write fails and memory lasts. The exit code is that of `exit_code`.
+//! Everything is done by `run`, over any source and any sink. Its contract says what each status means:
+//!
+//! - A success writes the text that the command asks for. A report tells of the textbook run of the scene that the bytes
+//!   spell, of a lawful run that workers have grown for that scene, or of the textbook run of a generated scene, and `run`
+//!   hands out that run with the status. `show` and `gen` write the canonical text of a scene.
+//! - Each refusal has its cause.
+//! - The bytes decide which status comes, if no read or write fails and memory lasts.
+//!
+//! The exit code is that of `exit_code`.
 #![tactic(auto)]
 
 mod answers;

@@ -52,7 +52,7 @@ impl Refusal {
         line
     }
 
-    // The line without its line feed.
+    /// The line without its line feed.
     fn message(&self) -> Line
         ensures text { result.bytes ≡ message_of self.now }
         ensures short { length result.bytes < LINE_CAPACITY }
@@ -121,7 +121,7 @@ impl From<Memory> for Refusal {
     }
 }
 
-// Room for the longest line: the number of a line has at most ten digits, the name of a kind at most ten letters.
+/// Room for the longest line: the number of a line has at most ten digits, the name of a kind at most ten letters.
 const LINE_CAPACITY: usize = 64;
 
 type Line = ArrayString<LINE_CAPACITY>;
@@ -142,7 +142,7 @@ fn push_number(line: &mut Line, number: u32)
     push(line, buffer.format(number));
 }
 
-// Of a text that is no scene: the number of the line, and the kind of its fault.
+/// Of a text that is no scene: the number of the line, and the kind of its fault.
 fn fault_message(number: u32, kind: Kind) -> Line
     ensures text { result.bytes ≡ message_of (Refusal.Text number kind) }
     ensures short { length result.bytes < LINE_CAPACITY }

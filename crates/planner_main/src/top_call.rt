@@ -27,11 +27,15 @@ pub struct Done {
     pub run: Option<Grown>,
 }
 
-/// Does as the words say: for `plain`, reads a scene from the source, plans it by textbook RRT* (Karaman and Frazzoli,
-/// IJRR 2011), and writes the short report to the sink, or for `plain full` the full one; for `plan W` and `plan W full` the
-/// same, but `W` workers grow the run, each in a thread of its own if one can be made, and the gate is told of their turns;
-/// for `show`, reads a scene and writes its canonical text. For `gen` and `trial` it reads nothing: it writes the text of a
-/// generated scene, or plans that scene and writes the report without the points of its path.
+/// Does as the words say:
+///
+/// - `plain` reads a scene from the source, plans it by textbook RRT* (Karaman and Frazzoli, IJRR 2011), and writes the short
+///   report to the sink. `plain full` writes the full report.
+/// - `plan W` and `plan W full` do the same, but `W` workers grow the run, each in a thread of its own if one can be made.
+///   The gate is told of their turns.
+/// - `show` reads a scene and writes its canonical text.
+/// - `gen N` reads nothing and writes the canonical text of a generated scene.
+/// - `trial N` reads nothing, plans a generated scene as `plain` does, and writes the report without the points of its path.
 ///
 /// The text is made whole before anything is written. Each status but `WRITE_FAULT` has one text, which the sink takes
 /// whole; with `WRITE_FAULT` the sink failed, and took a proper prefix of the text. The run that was reported is handed out
@@ -80,7 +84,7 @@ pub fn run<R: Threads + Sync + Wait, S: Source, K: Sink, G: Gate>(
     }
 }
 
-// Writes the text of an answer. Its status becomes `WRITE_FAULT` if the sink fails.
+/// Writes the text of an answer. Its status becomes `WRITE_FAULT` if the sink fails.
 fn conclude<K: Sink>(sink: &mut K, text: &[u8], done: Done) -> Done
     requires { done.status ≢ WRITE_FAULT }
     ensures done { result.status ≢ WRITE_FAULT → (result ≡ done)
