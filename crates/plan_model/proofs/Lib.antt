@@ -68,3 +68,4 @@ pub mod TextbookRuns
 pub mod WayLaws
 pub mod WayLengths
 pub mod WayLinks
+pub mod SeenTreeLaws

@@ -28,6 +28,7 @@ pub mod OrderLaw
 pub mod RecordLaw
 pub mod ClosedLaw
 pub mod Ways
+pub mod SeenTrees
 pub mod SameRuns
 pub mod ReportText
 pub mod TextLines
