@@ -16,6 +16,7 @@ pub mod ThreeMarks
 pub mod RewiredRun
 pub mod KeptRun
 pub mod HandledThird
+pub mod OverlappingMarks
 pub mod RunLaws
 pub mod MarkBounds
 pub mod FreePoints

@@ -18,4 +18,5 @@ pub mod Rooms
 pub mod Streams
 pub mod Runs
 pub mod Handled
+pub mod Overlaps
 pub mod Ways

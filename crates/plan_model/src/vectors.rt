@@ -6,6 +6,7 @@ ghost use Rattle.plan_model.specs.Vectors.Costs.{CostVectors};
 ghost use Rattle.plan_model.specs.Vectors.Drawn.{DrawnVectors};
 ghost use Rattle.plan_model.specs.Vectors.Limits.{LimitVectors};
 ghost use Rattle.plan_model.specs.Vectors.Meetings.{MeetingVectors};
+ghost use Rattle.plan_model.specs.Vectors.Overlaps.{OverlapVectors};
 ghost use Rattle.plan_model.specs.Vectors.Polygons.{ConvexityVectors};
 ghost use Rattle.plan_model.specs.Vectors.Radii.{RadiusVectors};
 ghost use Rattle.plan_model.specs.Vectors.Ranges.{RangeVectors};
@@ -134,4 +135,9 @@ pub fn runs()
 /// The third mark of the first of these runs, handled whole by one of two workers, and a mark that ends on a node.
 pub fn handled_marks()
     ensures { HandledMarkVectors }
+{}
+
+/// A closed run of two workers, who handled their first marks at the same time: no order of whole marks gives it.
+pub fn overlapping_marks()
+    ensures { OverlapVectors }
 {}

@@ -1,0 +1,330 @@
+-- The run of two workers whose first marks overlap is closed, and mark 0 was not handled whole in it.
+use Rattle.std.proofs.Common.{◌≡◌, ℕ, zero, suc, ◌+◌, ◌*◌, ◌<◌, ◌≤◌, Some, None, List, [], ◌∷◌, arith, refl, sym, ap, ◌∙◌, subst}
+use Rattle.std.specs.Prelude.{IsSome, ◌/◌, unwrap_or}
+use Rattle.plan_model.specs.declared.geometry.Point.{Point}
+use Rattle.plan_model.specs.declared.records.Record.{Record}
+use Rattle.plan_model.specs.ClosedLaw.{ArePlacedMarks, IsClosed, mark_at}
+use Rattle.plan_model.specs.Cost.{cost_of}
+use Rattle.plan_model.specs.Geometry.{squared_distance}
+use Rattle.plan_model.specs.HandledMarks.{IsHandledWhole}
+use Rattle.plan_model.specs.LeastPairs.{IsNotAbove}
+use Rattle.plan_model.specs.Nearness.{distance_to}
+use Rattle.plan_model.specs.OrderLaw.{HangsBelow, IsAllowedEdge, most_cost_of}
+use Rattle.plan_model.specs.PointsByNumber.{StandsAt, IsPresent, point_of, node_count}
+use Rattle.plan_model.specs.RecordLaw.{IsEarlier, IsLawfulRecord, IsPlacedLawfully, first_cost_through}
+use Rattle.plan_model.specs.Roots.{root_ceiling}
+use Rattle.plan_model.specs.Steering.{advanced, steered}
+use Rattle.plan_model.specs.TreeStates.{TreeState, GrowsInto}
+use Rattle.plan_model.specs.Vectors.Handled.{placed_by}
+use Rattle.plan_model.specs.Vectors.Overlaps.{early_record, overlapped}
+use Rattle.plan_model.specs.Vectors.Runs.{open_setup, marks_to_rewire}
+use Rattle.plan_model.specs.Vectors.Shapes.{at}
+use Rattle.plan_model.proofs.EmptyRoomClearance.{Clear-empty_room}
+use Rattle.plan_model.proofs.LeastPairLaws.{IsNotAbove-lesser, IsNotAbove-refl}
+use Rattle.plan_model.proofs.NodeCounts.{node_count-le}
+use Rattle.plan_model.proofs.OpenRoomMarks.{cost_2500}
+use Rattle.plan_model.proofs.RecordLaws.{class_of-le}
+use Rattle.plan_model.proofs.RootLaws.{root_ceiling-from_squares}
+use Rattle.plan_model.proofs.SegmentLaws.{Clear-first}
+use Rattle.plan_model.proofs.TreeStateLaws.{IsPresent-grows, point_of-grows, StandsAt-before}
+
+abbrev second : Record
+second = placed_by 1 0 0 0 12594 1
+
+abbrev third : Record
+third = placed_by 0 1 2 0 12800 2
+
+-- ---- edges, all from the start, and steering
+
+to_first : cost_of (at 0 0) (at 0 50) ≡ 12800
+to_first = cost_2500
+
+to_second : cost_of (at 0 0) (at 22 44) ≡ 12594
+to_second = root_ceiling-from_squares 158597120 12594 (omega arith) (omega arith)
+
+to_third : cost_of (at 0 0) (at 40 30) ≡ 12800
+to_third = cost_2500
+
+between : cost_of (at 22 44) (at 40 30) ≡ 5838
+between = root_ceiling-from_squares 34078720 5838 (omega arith) (omega arith)
+
+half_the_way : root_ceiling 7841 ≡ 89
+half_the_way = root_ceiling-from_squares 7841 89 (omega arith) (omega arith)
+
+reached : steered (at 0 0) (at 40 79) 50 ≡ at 22 44
+reached = ap (λ len. at (advanced 0 40 50 len) (advanced 0 79 50 len)) half_the_way
+
+-- a short edge in the room is allowed
+allowed : (a b : Point) → a.x ≤ 100 → a.y ≤ 100 → b.x ≤ 100 → b.y ≤ 100 → squared_distance a b ≤ 2500 → IsAllowedEdge open_setup a b
+allowed a b ax ay bx by_y short = record {
+  clear = Clear-empty_room (at 100 100) a b (record { horizontal = ax; vertical = ay }) (record { horizontal = bx; vertical = by_y });
+  short = omega (arith, short);
+}
+
+start_first : IsAllowedEdge open_setup (at 0 0) (at 0 50)
+start_first = allowed (at 0 0) (at 0 50) (omega arith) (omega arith) (omega arith) (omega arith) (omega arith)
+
+start_second : IsAllowedEdge open_setup (at 0 0) (at 22 44)
+start_second = allowed (at 0 0) (at 22 44) (omega arith) (omega arith) (omega arith) (omega arith) (omega arith)
+
+start_third : IsAllowedEdge open_setup (at 0 0) (at 40 30)
+start_third = allowed (at 0 0) (at 40 30) (omega arith) (omega arith) (omega arith) (omega arith) (omega arith)
+
+second_third : IsAllowedEdge open_setup (at 22 44) (at 40 30)
+second_third = allowed (at 22 44) (at 40 30) (omega arith) (omega arith) (omega arith) (omega arith) (omega arith)
+
+-- ---- the order law
+
+hangs : (n : ℕ) → IsPresent overlapped.points (suc n) → HangsBelow open_setup overlapped (suc n)
+hangs zero h = record { parent = refl; other = λ e. absurd (omega (arith, e)); edge = start_first; cost = omega (arith, to_first) }
+hangs (suc zero) h = record { parent = refl; other = λ e. absurd (omega (arith, e)); edge = start_second; cost = omega (arith, to_second) }
+hangs (suc (suc zero)) h = record { parent = refl; other = λ e. absurd (omega (arith, e)); edge = start_third; cost = omega (arith, to_third) }
+hangs (suc (suc (suc n))) h = cc
+
+bounded : (n : ℕ) → IsPresent overlapped.points n → overlapped.cost n ≤ most_cost_of open_setup (node_count overlapped.points)
+bounded zero h = omega arith
+bounded (suc zero) h = omega arith
+bounded (suc (suc zero)) h = omega arith
+bounded (suc (suc (suc zero))) h = omega arith
+bounded (suc (suc (suc (suc n)))) h = cc
+
+-- the number of a node by its point
+abbrev number_at : Point → ℕ
+number_at p = (p.x + p.y) / 50 + (p.x + p.y) / 66 + (p.x + p.y) / 70
+
+number_is : (n : ℕ) (p : Point) → StandsAt overlapped.points n p → n ≡ number_at p
+number_is zero p h = ap (λ o. number_at (unwrap_or {T = Point} o p)) h
+number_is (suc zero) p h = ap (λ o. number_at (unwrap_or {T = Point} o p)) h
+number_is (suc (suc zero)) p h = ap (λ o. number_at (unwrap_or {T = Point} o p)) h
+number_is (suc (suc (suc zero))) p h = ap (λ o. number_at (unwrap_or {T = Point} o p)) h
+number_is (suc (suc (suc (suc n)))) p h = cc
+
+-- ---- records
+
+recorded : (k : ℕ) → k < 3 → IsSome (overlapped.record_of k)
+recorded zero h = refl
+recorded (suc zero) h = refl
+recorded (suc (suc zero)) h = refl
+recorded (suc (suc (suc k))) h = absurd (omega (arith, h))
+
+none_else : (k : ℕ) → 3 ≤ k → overlapped.record_of k ≡ None
+none_else zero h = absurd (omega (arith, h))
+none_else (suc zero) h = absurd (omega (arith, h))
+none_else (suc (suc zero)) h = absurd (omega (arith, h))
+none_else (suc (suc (suc k))) h = refl
+
+-- the mark of a record by its worker and turn
+mark_is : (k : ℕ) (entry : Record) → overlapped.record_of k ≡ Some entry → k ≡ entry.worker + 2 * entry.turn
+mark_is zero entry h = ap (λ o. let r = unwrap_or {T = Record} o third in r.worker + 2 * r.turn) h
+mark_is (suc zero) entry h = ap (λ o. let r = unwrap_or {T = Record} o third in r.worker + 2 * r.turn) h
+mark_is (suc (suc zero)) entry h = ap (λ o. let r = unwrap_or {T = Record} o third in r.worker + 2 * r.turn) h
+mark_is (suc (suc (suc k))) entry h = cc
+
+few_marks : (k : ℕ) (entry : Record) → overlapped.record_of k ≡ Some entry → k ≤ 2
+few_marks zero entry h = omega arith
+few_marks (suc zero) entry h = omega arith
+few_marks (suc (suc zero)) entry h = omega arith
+few_marks (suc (suc (suc k))) entry h = cc
+
+no_gap : (k turn : ℕ) (entry : Record) → overlapped.record_of k ≡ Some entry → entry.turn ≡ suc turn
+    → (j : ℕ) × (before : Record) × (overlapped.record_of j ≡ Some before) × (before.worker ≡ entry.worker) × (before.turn ≡ turn)
+no_gap k turn entry h e =
+    let own = mark_is k entry h in
+    let most = few_marks k entry h in
+    (0, early_record, refl, omega (arith, own, most, e), omega (arith, own, most, e))
+
+placed : ArePlacedMarks overlapped
+placed zero = ((λ h. (early_record, refl, refl)), λ h. refl)
+placed (suc zero) = ((λ h. (second, refl, refl)), λ h. refl)
+placed (suc (suc zero)) = ((λ h. (third, refl, refl)), λ h. refl)
+placed (suc (suc (suc k))) = ((λ h. cc), λ h. (let e = h.1 in cc))
+
+-- ---- the nodes that stood earlier: the start for each mark, and node 1 for the third
+
+alone_1 : (i : ℕ) → ¬ IsEarlier overlapped early_record (suc i)
+alone_1 zero h = cc
+alone_1 (suc zero) h = cc
+alone_1 (suc (suc zero)) h = cc
+alone_1 (suc (suc (suc i))) h = cc
+
+alone_2 : (i : ℕ) → ¬ IsEarlier overlapped second (suc i)
+alone_2 zero h = cc
+alone_2 (suc zero) h = cc
+alone_2 (suc (suc zero)) h = cc
+alone_2 (suc (suc (suc i))) h = cc
+
+alone_3 : (i : ℕ) → ¬ IsEarlier overlapped third (suc (suc i))
+alone_3 zero h = cc
+alone_3 (suc zero) h = cc
+alone_3 (suc (suc i)) h = cc
+
+nearest_1 : (i : ℕ) → IsEarlier overlapped early_record i → IsNotAbove (distance_to (at 0 50) overlapped.points) 0 i
+nearest_1 zero h = IsNotAbove-refl (distance_to (at 0 50) overlapped.points) 0
+nearest_1 (suc i) h = absurd (alone_1 i h)
+
+nearest_2 : (i : ℕ) → IsEarlier overlapped second i → IsNotAbove (distance_to (at 40 79) overlapped.points) 0 i
+nearest_2 zero h = IsNotAbove-refl (distance_to (at 40 79) overlapped.points) 0
+nearest_2 (suc i) h = absurd (alone_2 i h)
+
+nearest_3 : (i : ℕ) → IsEarlier overlapped third i → IsNotAbove (distance_to (at 40 30) overlapped.points) 2 i
+nearest_3 zero h = IsNotAbove-lesser (distance_to (at 40 30) overlapped.points) 2 0 (omega arith)
+nearest_3 (suc zero) h = IsNotAbove-lesser (distance_to (at 40 30) overlapped.points) 2 1 (omega arith)
+nearest_3 (suc (suc i)) h = absurd (alone_3 i h)
+
+-- ---- neighbours: none was a cheaper parent, and none is dearer than by way of the new node
+
+abbrev Fits : Record → Point → ℕ → Type 0
+Fits entry p i =
+    (entry.first_cost ≤ first_cost_through overlapped p i)
+    × (overlapped.cost i ≤ entry.first_cost + cost_of (point_of overlapped.points i) p)
+
+fits_1 : (i : ℕ) → IsEarlier overlapped early_record i → Fits early_record (at 0 50) i
+fits_1 zero h = (omega (arith, to_first), omega arith)
+fits_1 (suc i) h = absurd (alone_1 i h)
+
+fits_2 : (i : ℕ) → IsEarlier overlapped second i → Fits second (at 22 44) i
+fits_2 zero h = (omega (arith, to_second), omega arith)
+fits_2 (suc i) h = absurd (alone_2 i h)
+
+fits_3 : (i : ℕ) → IsEarlier overlapped third i → Fits third (at 40 30) i
+fits_3 zero h = (omega (arith, to_third), omega arith)
+fits_3 (suc zero) h = (omega arith, omega arith)
+fits_3 (suc (suc i)) h = absurd (alone_3 i h)
+
+-- ---- the record law
+
+law_1 : IsLawfulRecord open_setup overlapped 0 (at 0 50) early_record
+law_1 = record {
+  present = refl;
+  nearest = nearest_1;
+  outcome = record {
+    by_worker = record {
+      clear = start_first.clear;
+      of_class = record { low = omega arith; high = omega arith };
+      chosen = λ i h. (fits_1 i h.earlier).0;
+      rewired = λ i h. (fits_1 i h.earlier).1;
+    };
+    by_tree = record {
+      stands = refl;
+      parent = refl;
+      other = λ e. absurd (omega (arith, e));
+      nearest_other = λ e. absurd (omega (arith, e));
+      edge = start_first;
+      above_kept = omega (arith, to_first);
+      below_first = omega (arith, to_first);
+      below_nearest = omega (arith, to_first);
+      bounded = omega arith;
+      kept = omega arith;
+    };
+  };
+}
+
+placed_2 : IsPlacedLawfully open_setup overlapped 1 second (at 22 44)
+placed_2 = record {
+  by_worker = record {
+    clear = start_second.clear;
+    of_class = record { low = omega arith; high = omega arith };
+    chosen = λ i h. (fits_2 i h.earlier).0;
+    rewired = λ i h. (fits_2 i h.earlier).1;
+  };
+  by_tree = record {
+    stands = refl;
+    parent = refl;
+    other = λ e. absurd (omega (arith, e));
+    nearest_other = λ e. absurd (omega (arith, e));
+    edge = start_second;
+    above_kept = omega (arith, to_second);
+    below_first = omega (arith, to_second);
+    below_nearest = omega (arith, to_second);
+    bounded = omega arith;
+    kept = omega arith;
+  };
+}
+
+law_2 : IsLawfulRecord open_setup overlapped 1 (at 40 79) second
+law_2 = record {
+  present = refl;
+  nearest = nearest_2;
+  outcome = subst (IsPlacedLawfully open_setup overlapped 1 second) (sym reached) placed_2;
+}
+
+law_3 : IsLawfulRecord open_setup overlapped 2 (at 40 30) third
+law_3 = record {
+  present = refl;
+  nearest = nearest_3;
+  outcome = record {
+    by_worker = record {
+      clear = second_third.clear;
+      of_class = record { low = omega arith; high = omega arith };
+      chosen = λ i h. (fits_3 i h.earlier).0;
+      rewired = λ i h. (fits_3 i h.earlier).1;
+    };
+    by_tree = record {
+      stands = refl;
+      parent = refl;
+      other = λ e. absurd (omega (arith, e));
+      nearest_other = λ e. absurd (omega (arith, e));
+      edge = start_third;
+      above_kept = omega (arith, to_third);
+      below_first = omega (arith, to_third);
+      below_nearest = omega (arith, between);
+      bounded = omega arith;
+      kept = omega arith;
+    };
+  };
+}
+
+lawful : (k : ℕ) (entry : Record) → overlapped.record_of k ≡ Some entry → IsLawfulRecord open_setup overlapped k (mark_at marks_to_rewire k) entry
+lawful zero entry h = subst (IsLawfulRecord open_setup overlapped 0 (at 0 50)) (ap (λ o. unwrap_or {T = Record} o third) h) law_1
+lawful (suc zero) entry h = subst (IsLawfulRecord open_setup overlapped 1 (at 40 79)) (ap (λ o. unwrap_or {T = Record} o third) h) law_2
+lawful (suc (suc zero)) entry h = subst (IsLawfulRecord open_setup overlapped 2 (at 40 30)) (ap (λ o. unwrap_or {T = Record} o third) h) law_3
+lawful (suc (suc (suc k))) entry h = cc
+
+-- ---- the closed law
+
+pub IsClosed-overlapped : IsClosed open_setup (at 0 0) marks_to_rewire 3 overlapped
+IsClosed-overlapped = record {
+  order = record {
+    distinct = λ i j p a b. number_is i p a ∙ sym (number_is j p b);
+    start_stands = refl;
+    start_clear = Clear-first open_setup.space (at 0 0) (at 0 50) start_first.clear;
+    start_parent = refl;
+    start_cost = refl;
+    hangs = hangs;
+    bounded = bounded;
+  };
+  within = omega arith;
+  records = record { recorded = recorded; none_else = none_else };
+  workers = λ k entry h. omega (arith, mark_is k entry h, few_marks k entry h);
+  turns = record {
+    once = λ j k one other p q worker turn. omega (arith, mark_is j one p, mark_is k other q, worker, turn);
+    no_gap = no_gap;
+  };
+  lawful = lawful;
+  placed = placed;
+}
+
+-- ---- mark 0 was not handled whole
+
+module _ (before : TreeState) (grows : GrowsInto before overlapped) (moved : List ℕ)
+    (whole : IsHandledWhole open_setup before 0 (at 0 50) early_record (at 0 50) moved) where
+  -- no node stood that is nearer to the mark than the start
+  not_nearer : (i : ℕ) → IsPresent before.points i → distance_to (at 0 50) overlapped.points 0 ≤ distance_to (at 0 50) overlapped.points i
+  not_nearer i h =
+      let nearest = whole.steers.nearest in
+      let least = (nearest.not_above i h).least in
+      let own = ap (λ p. squared_distance p (at 0 50)) (point_of-grows before overlapped grows 0 nearest.member) in
+      let other = ap (λ p. squared_distance p (at 0 50)) (point_of-grows before overlapped grows i h) in
+      omega (arith, least, own, other)
+
+  start_alone : (i : ℕ) → IsPresent before.points i → IsPresent (Some (at 0 0) ∷ []) i
+  start_alone zero h = refl
+  start_alone (suc zero) h = absurd (whole.outcome.free 1 (StandsAt-before before overlapped grows 1 (at 0 50) h refl))
+  start_alone (suc (suc zero)) h = absurd (omega (arith, not_nearer 2 h))
+  start_alone (suc (suc (suc zero))) h = absurd (omega (arith, not_nearer 3 h))
+  start_alone (suc (suc (suc (suc i)))) h = let later = IsPresent-grows before overlapped grows (suc (suc (suc (suc i)))) h in cc
+
+  pub not_handled_whole : ⊥
+  not_handled_whole =
+      let one = node_count-le before.points (Some (at 0 0) ∷ []) start_alone in
+      omega (arith, whole.outcome.of_class, class_of-le (node_count before.points) 1 one)
