@@ -70,3 +70,4 @@ pub mod WayLaws
 pub mod WayLengths
 pub mod WayLinks
 pub mod SeenTreeLaws
+pub mod SeenThree

@@ -117,6 +117,17 @@ module _ (seen : SeenTree) (q : Point) where
   seen_on_way zero n way = inl (seen_start seen q n way)
   seen_on_way (suc depth) n way = let step = seen_step seen q depth n way in inr (step.node, step.side, step.link)
 
+  -- a way whose points are seen is such a way
+  pub over_seen_points : (depth n : ℕ) → IsOnWay seen.child seen.points q depth n → IsOnSeenWay seen q depth n
+  over_seen_points zero n way = subst (IsOnSeenWay seen q 0) (sym (way_start seen.child seen.points q n way)) begins
+  over_seen_points (suc depth) n way =
+      let step = last_step seen.child seen.points q depth n way in
+      let turns : (p : Point) → StandsAt seen.points step.node p → (p ≢ q) × (goes_right depth p q ≡ goes_right depth step.point q) =
+      λ p h.
+      let same = StandsAt-unique seen.points step.node p step.point h step.stands in
+      ((λ e. step.other (sym same ∙ e)), ap (λ r. goes_right depth r q) same) in
+      goes_on depth step.node n (goes_right depth step.point q) (over_seen_points depth step.node step.on_way) turns step.link
+
   -- while the points on a way are seen, it is the way
   same_way : (depth n m : ℕ) → IsOnWay seen.child seen.points q depth n → IsOnSeenWay seen q depth m → m ≡ n
   same_way zero n m way over = seen_start seen q m over ∙ sym (way_start seen.child seen.points q n way)

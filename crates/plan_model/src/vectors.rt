@@ -13,6 +13,7 @@ ghost use Rattle.plan_model.specs.Vectors.Ranges.{RangeVectors};
 ghost use Rattle.plan_model.specs.Vectors.Reports.{ReportVectors};
 ghost use Rattle.plan_model.specs.Vectors.Rooms.{RoomVectors};
 ghost use Rattle.plan_model.specs.Vectors.Runs.{RunVectors};
+ghost use Rattle.plan_model.specs.Vectors.SeenTrees.{SeenTreeVectors};
 ghost use Rattle.plan_model.specs.Vectors.Steps.{SteeringVectors};
 ghost use Rattle.plan_model.specs.Vectors.Streams.{StreamVectors};
 ghost use Rattle.plan_model.specs.Vectors.Strips.{StripVectors};
@@ -114,6 +115,11 @@ pub fn trees()
 /// Ways through a kd-tree of three nodes.
 pub fn ways()
     ensures { WayVectors }
+{}
+
+/// What a worker has seen of these three nodes before a call and after it, and points that the call has swept or not.
+pub fn seen_trees()
+    ensures { SeenTreeVectors }
 {}
 
 /// A body at a wall, and points of a segment.

@@ -1,0 +1,221 @@
+-- What a worker has seen of a kd-tree of three nodes, and which points a call has swept.
+use Rattle.std.proofs.Common.{◌≡◌, ℕ, zero, suc, ◌<◌, ◌≤◌, Bool, true, false, Some, arith, refl, sym, ap, ◌∙◌, subst, inl, inr}
+use Rattle.std.specs.Prelude.{◌≢◌, ◌/◌, ◌%◌, ◌==◌, IsSome, unwrap_or}
+use Rattle.plan_model.specs.declared.geometry.Point.{Point}
+use Rattle.plan_model.specs.PointsByNumber.{point_at, StandsAt, IsPresent, IsFree}
+use Rattle.plan_model.specs.Ways.{goes_right, IsOnWay}
+use Rattle.plan_model.specs.Ways.IsOnWay.{begins, goes_on}
+use Rattle.plan_model.specs.SeenTrees.{IsSeen, HasSeenWay, KeepsSight, KeepsOrLowers, KeepsOrFindsEmpty, IsLater, IsSwept}
+use Rattle.plan_model.specs.Vectors.Shapes.{at}
+use Rattle.plan_model.specs.Vectors.SeenTrees.{at_entry, at_return, four_children, found_at_return}
+use Rattle.plan_model.specs.Vectors.Ways.{three_points, three_children}
+use Rattle.plan_model.proofs.NewNodes.{StandsAt-unique}
+use Rattle.plan_model.proofs.OpenRoomMarks.{same_x, same_y}
+use Rattle.plan_model.proofs.SeenTreeLaws.{over_seen_points}
+use Rattle.plan_model.proofs.WayLaws.{way_start, way_ends}
+
+-- ---- ways
+
+other_row : (p q : Point) → p.y ≢ q.y → p ≢ q
+other_row p q apart e = apart (ap (λ (r : Point). r.y) e)
+
+-- the ways of points to the right of node 0
+to_node_1 : (q : Point) → at 5 5 ≢ q → four_children 0 (goes_right 0 (at 5 5) q) ≡ Some 1 → IsOnWay four_children three_points q 1 1
+to_node_1 q other link = goes_on 0 0 1 (at 5 5) begins refl other link
+
+-- a node whose point is seen has its way
+has_way : (n depth : ℕ) (q : Point) → IsOnWay four_children three_points q depth n → StandsAt three_points n q → HasSeenWay at_return n
+has_way n depth q way stands = record {
+  point = q;
+  own = λ p h. StandsAt-unique three_points n p q h stands;
+  depth = depth;
+  on_way = over_seen_points at_return q depth n way;
+}
+
+way_1 : HasSeenWay at_return 1
+way_1 = has_way 1 1 (at 5 3) (to_node_1 (at 5 3) (other_row (at 5 5) (at 5 3) (λ e. omega (arith, e))) refl) refl
+
+way_2 : HasSeenWay at_return 2
+way_2 =
+    let above = to_node_1 (at 9 2) (other_row (at 5 5) (at 9 2) (λ e. omega (arith, e))) refl in
+    has_way 2 2 (at 9 2) (goes_on 1 1 2 (at 5 3) above refl (other_row (at 5 3) (at 9 2) (λ e. omega (arith, e))) refl) refl
+
+-- node 3 is on the way of a point above node 1
+way_3 : HasSeenWay at_return 3
+way_3 =
+    let above = to_node_1 (at 9 8) (other_row (at 5 5) (at 9 8) (λ e. omega (arith, e))) refl in
+    record {
+      point = at 9 8;
+      own = λ p h. cc;
+      depth = 2;
+      on_way =
+          over_seen_points at_return (at 9 8) 2 3
+          (goes_on 1 1 3 (at 5 3) above refl (other_row (at 5 3) (at 9 8) (λ e. omega (arith, e))) refl);
+    }
+
+way_of_child : (n a : ℕ) (side : Bool) → four_children a side ≡ Some n → HasSeenWay at_return n
+way_of_child n zero false link = cc
+way_of_child n zero true link = subst (HasSeenWay at_return) (ap (λ o. unwrap_or o 0) link) way_1
+way_of_child n (suc zero) false link = subst (HasSeenWay at_return) (ap (λ o. unwrap_or o 0) link) way_2
+way_of_child n (suc zero) true link = subst (HasSeenWay at_return) (ap (λ o. unwrap_or o 0) link) way_3
+way_of_child n (suc (suc a)) false link = cc
+way_of_child n (suc (suc a)) true link = cc
+
+ways : (n : ℕ) → IsSeen at_return n → HasSeenWay at_return n
+ways n (inl start) = subst (HasSeenWay at_return) (sym start) (has_way 0 0 (at 5 5) begins refl)
+ways n (inr (a, side, link)) = way_of_child n a side link
+
+-- the place of a child by its number
+record IsPlaceOf (n a : ℕ) (side : Bool) : Type 0 where
+  above : a ≡ n / 2
+  right : side ≡ (n % 2 == 1)
+  few : (0 < n) × (n ≤ 3)
+
+same_place : (n m a : ℕ) (side : Bool) → Some m ≡ Some n → IsPlaceOf m a side → IsPlaceOf n a side
+same_place n m a side link = subst (λ k. IsPlaceOf k a side) (ap (λ o. unwrap_or o 0) link)
+
+place_is : (n a : ℕ) (side : Bool) → four_children a side ≡ Some n → IsPlaceOf n a side
+place_is n zero false link = cc
+place_is n zero true link = same_place n 1 0 true link (record { above = refl; right = refl; few = (omega arith, omega arith) })
+place_is n (suc zero) false link = same_place n 2 1 false link (record { above = refl; right = refl; few = (omega arith, omega arith) })
+place_is n (suc zero) true link = same_place n 3 1 true link (record { above = refl; right = refl; few = (omega arith, omega arith) })
+place_is n (suc (suc a)) false link = cc
+place_is n (suc (suc a)) true link = cc
+
+-- ---- what is seen at the end
+
+points_seen : (n : ℕ) → IsPresent three_points n → IsSeen at_return n
+points_seen zero h = inl refl
+points_seen (suc zero) h = inr (0, true, refl)
+points_seen (suc (suc zero)) h = inr (1, false, refl)
+points_seen (suc (suc (suc n))) h = cc
+
+trees_seen : (n : ℕ) → IsSome (at_return.parent_and_cost n) → IsSeen at_return n
+trees_seen zero h = inl refl
+trees_seen (suc zero) h = inr (0, true, refl)
+trees_seen (suc (suc zero)) h = inr (1, false, refl)
+trees_seen (suc (suc (suc n))) h = cc
+
+-- step 8 is the last that found a place empty
+found_by_8 : (n : ℕ) (side : Bool) → found_at_return n side ≤ 8
+found_by_8 zero false = omega arith
+found_by_8 zero true = omega arith
+found_by_8 (suc zero) false = omega arith
+found_by_8 (suc zero) true = omega arith
+found_by_8 (suc (suc n)) false = omega arith
+found_by_8 (suc (suc n)) true = omega arith
+
+pub KeepsSight-return : KeepsSight at_return
+KeepsSight-return = record {
+  start = refl;
+  ways = ways;
+  once = λ n a b left right one other.
+      let here = place_is n a left one in
+      let there = place_is n b right other in
+      (here.above ∙ sym there.above, here.right ∙ sym there.right);
+  root = λ a side link. omega (arith, (place_is 0 a side link).few.0);
+  points = points_seen;
+  trees = trees_seen;
+  steps = λ n side. omega (arith, found_by_8 n side);
+}
+
+pub not_seen_4 : ¬ IsSeen at_return 4
+not_seen_4 (inl start) = omega (arith, start)
+not_seen_4 (inr (a, side, link)) = omega (arith, (place_is 4 a side link).few.1)
+
+-- ---- later
+
+children_stay : (n m : ℕ) (side : Bool) → three_children n side ≡ Some m → four_children n side ≡ Some m
+children_stay zero m false h = h
+children_stay zero m true h = h
+children_stay (suc zero) m false h = h
+children_stay (suc zero) m true h = cc
+children_stay (suc (suc n)) m false h = h
+children_stay (suc (suc n)) m true h = h
+
+trees_stay : (n : ℕ) → KeepsOrLowers at_entry at_return n
+trees_stay zero tree h = (tree, h, inl refl)
+trees_stay (suc zero) tree h = (tree, h, inl refl)
+trees_stay (suc (suc zero)) tree h =
+    let cost : 1568 ≡ tree.1 = ap (λ o. (unwrap_or {T = ℕ × ℕ} o tree).1) h in
+    ((0, 1280), refl, inr (omega (arith, cost)))
+trees_stay (suc (suc (suc n))) tree h = cc
+
+empty_stays : (n : ℕ) (side : Bool) → KeepsOrFindsEmpty at_entry at_return n side
+empty_stays zero false = inl refl
+empty_stays zero true = inl refl
+empty_stays (suc zero) false = inl refl
+empty_stays (suc zero) true = inr (omega arith, refl)
+empty_stays (suc (suc n)) false = inl refl
+empty_stays (suc (suc n)) true = inl refl
+
+pub IsLater-return : IsLater at_entry at_return
+IsLater-return = record {
+  places = record { children = children_stay; nodes = λ n p h. h };
+  trees = trees_stay;
+  records = λ k entry h. cc;
+  counters = λ strip. omega arith;
+  count = omega arith;
+  steps = omega arith;
+  empty = empty_stays;
+}
+
+-- ---- swept
+
+pub swept_beside_node_1 : IsSwept at_return 6 (at 9 9)
+swept_beside_node_1 free = record {
+  depth = 1;
+  node = 1;
+  point = at 5 3;
+  on_way = to_node_1 (at 9 9) (other_row (at 5 5) (at 9 9) (λ e. omega (arith, e))) refl;
+  stands = refl;
+  other = other_row (at 5 3) (at 9 9) (λ e. omega (arith, e));
+  empty = omega arith;
+}
+
+pub swept_beside_node_0 : IsSwept at_return 2 (at 4 3)
+swept_beside_node_0 free = record {
+  depth = 0;
+  node = 0;
+  point = at 5 5;
+  on_way = begins;
+  stands = refl;
+  other = other_row (at 5 5) (at 4 3) (λ e. omega (arith, e));
+  empty = omega arith;
+}
+
+free_9_9 : IsFree three_points (at 9 9)
+free_9_9 zero h = absurd (omega (arith, same_x (at 5 5) (at 9 9) h))
+free_9_9 (suc zero) h = absurd (omega (arith, same_x (at 5 3) (at 9 9) h))
+free_9_9 (suc (suc zero)) h = absurd (omega (arith, same_y (at 9 2) (at 9 9) h))
+free_9_9 (suc (suc (suc n))) h = cc
+
+free_4_3 : IsFree three_points (at 4 3)
+free_4_3 zero h = absurd (omega (arith, same_x (at 5 5) (at 4 3) h))
+free_4_3 (suc zero) h = absurd (omega (arith, same_x (at 5 3) (at 4 3) h))
+free_4_3 (suc (suc zero)) h = absurd (omega (arith, same_x (at 9 2) (at 4 3) h))
+free_4_3 (suc (suc (suc n))) h = cc
+
+-- the way of a point to the left of node 0 ends there, at what step 3 found
+ends_left : (depth n : ℕ) (p : Point) → IsOnWay four_children three_points (at 4 3) depth n → StandsAt three_points n p
+    → ¬ (6 < found_at_return n (goes_right depth p (at 4 3)))
+ends_left zero n p way stands since =
+    let start = way_start four_children three_points (at 4 3) n way in
+    let point = StandsAt-unique three_points 0 p (at 5 5) (ap (point_at three_points) (sym start) ∙ stands) refl in
+    let found : found_at_return n (goes_right 0 p (at 4 3)) ≡ 3 =
+    ap (λ a. found_at_return a (goes_right 0 p (at 4 3))) start ∙ ap (λ r. found_at_return 0 (goes_right 0 r (at 4 3))) point in
+    omega (arith, since, found)
+ends_left (suc depth) n p way stands since =
+    way_ends four_children three_points (at 4 3) 0 0 (at 5 5)
+    (record { on_way = begins; stands = refl; other = other_row (at 5 5) (at 4 3) (λ e. omega (arith, e)); empty = refl })
+    (suc depth) n (omega arith) way
+
+pub found_before_6 : ¬ IsSwept at_return 6 (at 4 3)
+found_before_6 swept =
+    let ends = swept free_4_3 in
+    ends_left ends.depth ends.node ends.point ends.on_way ends.stands ends.empty
+
+pub none_after_8 : ¬ IsSwept at_return 8 (at 9 9)
+none_after_8 swept =
+    let ends = swept free_9_9 in
+    omega (arith, ends.empty, found_by_8 ends.node (goes_right ends.depth ends.point (at 9 9)))

@@ -1,0 +1,17 @@
+use Rattle.std.proofs.Common.{true, refl, inr}
+use Rattle.plan_model.proofs.SeenThree.{KeepsSight-return, not_seen_4, IsLater-return, swept_beside_node_1, swept_beside_node_0, found_before_6, none_after_8}
+use Rattle.plan_model.proofs.vectors.seen_trees.Goals as goal
+
+pub returns : goal.returns
+returns c = record {
+  later = IsLater-return;
+  keeps = KeepsSight-return;
+  seen = inr (1, true, refl);
+  without_point = λ h. cc;
+  not_seen = not_seen_4;
+  swept = swept_beside_node_1;
+  swept_at_node = λ free. absurd (free 2 refl);
+  found_before = found_before_6;
+  found_in_earlier_call = swept_beside_node_0;
+  last_step = none_after_8;
+}
