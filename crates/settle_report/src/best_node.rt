@@ -60,8 +60,35 @@ mod tests {
     use super::*;
     use crate::settling::settle;
     use crate::test_runs::{start_alone, unsettled_run};
-    use plan_model::{Goal, Point};
+    use plan_model::{Goal, Memory, Point};
+    use std::alloc::Global;
+    use std::process::Abort;
     use std::test::Fail;
+
+    /// The goal between these two corners.
+    fn goal(low: (u32, u32), high: (u32, u32)) -> Goal
+        ensures { result ≡ record { low = record { x = low.0; y = low.1 }; high = record { x = high.0; y = high.1 } } }
+    {
+        Goal {
+            low: Point { x: low.0, y: low.1 },
+            high: Point {
+                x: high.0,
+                y: high.1,
+            },
+        }
+    }
+
+    /// Settles a run, and asserts which of its nodes is the best.
+    fn assert_best(
+        rt: &impl Abort,
+        alloc: Global,
+        grown: &mut Grown,
+        want: Option<u32>,
+    ) -> Result<(), Memory> {
+        settle(alloc, grown)?;
+        assert_eq!(rt; best(grown), want, "in {:?}", grown.task().scene.goal);
+        Ok(())
+    }
 
     #[test]
     fn takes_the_cheapest_and_of_equal_ones_the_first(rt: HostRuntime) -> Result<(), Fail> {
@@ -73,26 +100,21 @@ mod tests {
             ((40, 79), (40, 79), Some(2)),
             ((41, 30), (100, 79), None),
         ] {
-            let low = Point { x: low.0, y: low.1 };
-            let high = Point {
-                x: high.0,
-                y: high.1,
-            };
-            let mut grown = unsettled_run(rt.alloc(), Goal { low, high })?;
-            settle(rt.alloc(), &mut grown)?;
-            assert_eq!(rt; best(&grown), want, "from {low:?} to {high:?}");
+            let mut grown = unsettled_run(rt.alloc(), goal(low, high))?;
+            assert_best(&rt, rt.alloc(), &mut grown, want)?;
         }
         Ok(())
     }
 
     #[test]
     fn takes_the_start_alone_if_it_lies_in_the_goal(rt: HostRuntime) -> Result<(), Fail> {
-        for (low, high, want) in [(0, 0, Some(0)), (0, 9, Some(0)), (1, 9, None)] {
-            let low = Point { x: low, y: low };
-            let high = Point { x: high, y: high };
-            let mut grown = start_alone(rt.alloc(), Goal { low, high })?;
-            settle(rt.alloc(), &mut grown)?;
-            assert_eq!(rt; best(&grown), want, "from {low:?} to {high:?}");
+        for (low, high, want) in [
+            ((0, 0), (0, 0), Some(0)),
+            ((0, 0), (9, 9), Some(0)),
+            ((1, 1), (9, 9), None),
+        ] {
+            let mut grown = start_alone(rt.alloc(), goal(low, high))?;
+            assert_best(&rt, rt.alloc(), &mut grown, want)?;
         }
         Ok(())
     }

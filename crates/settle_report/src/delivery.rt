@@ -32,16 +32,22 @@ pub fn deliver<K: Sink>(sink: &mut K, text: &[u8]) -> Result<(), Failed>
 mod tests {
     use super::*;
     use plan_model::MemSink;
+    use std::process::Abort;
     use std::test::Fail;
+
+    /// Asserts what a sink has taken, and how many of its writes have failed.
+    fn assert_taken(rt: &impl Abort, sink: &MemSink, bytes: &[u8], faults: u64) {
+        assert_eq!(rt; sink.bytes(), bytes);
+        assert_eq!(rt; sink.faults(), faults);
+    }
 
     #[test]
     fn delivers_in_pieces(rt: HostRuntime) -> Result<(), Fail> {
         let mut sink = MemSink::new(rt.alloc(), 20, 3, &[])?;
-        assert_eq!(rt; deliver(&mut sink, b"no path\n"), Ok(()));
-        assert_eq!(rt; deliver(&mut sink, b""), Ok(()));
-        assert_eq!(rt; deliver(&mut sink, b"nodes 1\n"), Ok(()));
-        assert_eq!(rt; sink.bytes(), b"no path\nnodes 1\n".as_slice());
-        assert_eq!(rt; sink.faults(), 0);
+        for text in ["no path\n", "", "nodes 1\n"] {
+            assert_eq!(rt; deliver(&mut sink, text.as_bytes()), Ok(()));
+        }
+        assert_taken(&rt, &sink, b"no path\nnodes 1\n", 0);
         Ok(())
     }
 
@@ -49,8 +55,7 @@ mod tests {
     fn ends_with_the_first_failed_write(rt: HostRuntime) -> Result<(), Fail> {
         let mut sink = MemSink::new(rt.alloc(), 20, 3, &[2])?;
         assert_eq!(rt; deliver(&mut sink, b"no path\n"), Err(Failed));
-        assert_eq!(rt; sink.bytes(), b"no ".as_slice());
-        assert_eq!(rt; sink.faults(), 1);
+        assert_taken(&rt, &sink, b"no ", 1);
         Ok(())
     }
 
@@ -58,12 +63,15 @@ mod tests {
     fn fails_if_the_sink_is_full(rt: HostRuntime) -> Result<(), Fail> {
         let mut sink = MemSink::new(rt.alloc(), 5, 3, &[])?;
         assert_eq!(rt; deliver(&mut sink, b"no path\n"), Err(Failed));
-        assert_eq!(rt; sink.bytes(), b"no pa".as_slice());
-        assert_eq!(rt; sink.faults(), 1);
-        // all of a text that fits the room is taken
+        assert_taken(&rt, &sink, b"no pa", 1);
+        Ok(())
+    }
+
+    #[test]
+    fn fills_the_room_of_a_sink(rt: HostRuntime) -> Result<(), Fail> {
         let mut sink = MemSink::new(rt.alloc(), 8, 8, &[])?;
         assert_eq!(rt; deliver(&mut sink, b"no path\n"), Ok(()));
-        assert_eq!(rt; sink.bytes(), b"no path\n".as_slice());
+        assert_taken(&rt, &sink, b"no path\n", 0);
         Ok(())
     }
 }

@@ -97,6 +97,7 @@ mod tests {
     use super::*;
     use crate::test_runs::{start_alone, unsettled_run};
     use plan_model::{Goal, Point};
+    use std::process::Abort;
     use std::test::Fail;
 
     const GOAL: Goal = Goal {
@@ -110,27 +111,47 @@ mod tests {
         Some((grown.parent(node), grown.cost(node)))
     }
 
+    /// Asserts the parents and the kept costs of a run's nodes, by number.
+    fn assert_kept(rt: &impl Abort, grown: &Grown, wants: &[Option<(u32, u64)>]) {
+        for (node, want) in (0..).zip(wants) {
+            assert_eq!(rt; kept(grown, node), *want, "node {node}");
+        }
+    }
+
+    /// What the run of three marks keeps before it is settled, and then.
+    const UNSETTLED: [Option<(u32, u64)>; 5] = [
+        Some((0, 0)),
+        Some((0, 12_800)),
+        Some((3, 25_449)),
+        Some((0, 12_900)),
+        None,
+    ];
+
+    const SETTLED: [Option<(u32, u64)>; 5] = [
+        Some((0, 0)),
+        Some((0, 12_800)),
+        Some((3, 25_344)),
+        Some((0, 12_800)),
+        None,
+    ];
+
     #[test]
     fn lowers_each_node_after_its_parent(rt: HostRuntime) -> Result<(), Fail> {
         let mut grown = unsettled_run(rt.alloc(), GOAL)?;
-        assert_eq!(rt; kept(&grown, 2), Some((3, 25_449)));
-        assert_eq!(rt; kept(&grown, 3), Some((0, 12_900)));
-        for pass in ["first", "second"] {
+        assert_kept(&rt, &grown, &UNSETTLED);
+        settle(rt.alloc(), &mut grown)?;
+        assert_kept(&rt, &grown, &SETTLED);
+        assert_eq!(rt; (grown.limit(), grown.count()), (3, 4));
+        Ok(())
+    }
+
+    #[test]
+    fn changes_nothing_the_second_time(rt: HostRuntime) -> Result<(), Fail> {
+        let mut grown = unsettled_run(rt.alloc(), GOAL)?;
+        for _pass in 0..2 {
             settle(rt.alloc(), &mut grown)?;
-            for (node, want) in [
-                (0, Some((0, 0))),
-                (1, Some((0, 12_800))),
-                (2, Some((3, 25_344))),
-                (3, Some((0, 12_800))),
-                (4, None),
-            ] {
-                assert_eq!(rt;
-                    kept(&grown, node),
-                    want,
-                    "node {node} after the {pass} pass"
-                );
-            }
         }
+        assert_kept(&rt, &grown, &SETTLED);
         assert_eq!(rt; (grown.limit(), grown.count()), (3, 4));
         Ok(())
     }
@@ -139,8 +160,7 @@ mod tests {
     fn leaves_the_start_alone(rt: HostRuntime) -> Result<(), Fail> {
         let mut grown = start_alone(rt.alloc(), GOAL)?;
         settle(rt.alloc(), &mut grown)?;
-        assert_eq!(rt; kept(&grown, 0), Some((0, 0)));
-        assert_eq!(rt; kept(&grown, 1), None);
+        assert_kept(&rt, &grown, &[Some((0, 0)), None]);
         Ok(())
     }
 }

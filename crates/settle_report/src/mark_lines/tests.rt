@@ -5,13 +5,14 @@ ghost use Rattle.plan_model.specs.Outcomes.{is_zero_unless_placed};
 
 use super::*;
 use std::alloc::Global;
+use std::process::Abort;
 use std::test::Fail;
 
-/// The line of mark 7 with this outcome, which is not that it was placed.
-fn line_of(alloc: Global, outcome: Outcome) -> Result<String, AllocError>
+/// A record with this outcome, which is not that the mark was placed.
+fn unplaced(outcome: Outcome) -> Record
     requires { IsTrue (is_zero_unless_placed outcome 0 0 0) }
 {
-    let entry = Record {
+    Record {
         worker: 2,
         turn: 3,
         nearest: 4,
@@ -19,10 +20,21 @@ fn line_of(alloc: Global, outcome: Outcome) -> Result<String, AllocError>
         first_parent: 0,
         first_cost: 0,
         class: 0,
-    };
+    }
+}
+
+/// Asserts the line of a mark.
+fn assert_line(
+    rt: &impl Abort,
+    alloc: Global,
+    mark: u32,
+    entry: Record,
+    want: &str,
+) -> Result<(), AllocError> {
     let mut text = String::new(alloc);
-    push_mark_line(&mut text, 7, entry)?;
-    Ok(text)
+    push_mark_line(&mut text, mark, entry)?;
+    assert_eq!(rt; text.as_str(), want);
+    Ok(())
 }
 
 #[test]
@@ -36,18 +48,24 @@ fn writes_a_line_for_each_outcome(rt: HostRuntime) -> Result<(), Fail> {
         first_cost: 12_800,
         class: 6,
     };
-    let mut text = String::new(rt.alloc());
-    push_mark_line(&mut text, 8, placed)?;
-    assert_eq!(rt;
-        text.as_str(),
-        "mark 8 worker 1 turn 0 nearest 4 placed class 6 first 5 12800\n"
-    );
-    let same = line_of(rt.alloc(), Outcome::Same(9))?;
-    assert_eq!(rt; same.as_str(), "mark 7 worker 2 turn 3 nearest 4 same 9\n");
-    let blocked = line_of(rt.alloc(), Outcome::Blocked)?;
-    assert_eq!(rt;
-        blocked.as_str(),
-        "mark 7 worker 2 turn 3 nearest 4 blocked\n"
-    );
+    for (mark, entry, want) in [
+        (
+            8,
+            placed,
+            "mark 8 worker 1 turn 0 nearest 4 placed class 6 first 5 12800\n",
+        ),
+        (
+            7,
+            unplaced(Outcome::Same(9)),
+            "mark 7 worker 2 turn 3 nearest 4 same 9\n",
+        ),
+        (
+            7,
+            unplaced(Outcome::Blocked),
+            "mark 7 worker 2 turn 3 nearest 4 blocked\n",
+        ),
+    ] {
+        assert_line(&rt, rt.alloc(), mark, entry, want)?;
+    }
     Ok(())
 }
