@@ -123,18 +123,30 @@ impl<T: Drop> From<AllocFailed<T>> for LineRefusal {
 #[cfg(test)]
 mod tests {
     use super::*;
+    use std::alloc::Global;
+    use std::process::Abort;
     use std::test::Fail;
+
+    // Asserts how a fault is shown, alone and as a refusal.
+    fn assert_shown(
+        rt: &impl Abort,
+        alloc: Global,
+        fault: SceneFault,
+        want: &str,
+    ) -> Result<(), AllocError> {
+        assert_eq!(rt; fault.to_string(alloc)?.as_str(), want);
+        let refusal = SceneRefusal::Fault(fault);
+        assert_eq!(rt; refusal.to_string(alloc)?.as_str(), want);
+        Ok(())
+    }
 
     #[test]
     fn shows_faults_as_lines(rt: HostRuntime) -> Result<(), Fail> {
-        for (line, kind, shown) in [
+        for (line, kind, want) in [
             (5, Kind::Repeat, "line 5 kind 6 Repeat"),
             (16_777_217, Kind::Unbuilt, "line 16777217 kind 10 Unbuilt"),
         ] {
-            let fault = SceneFault { line, kind };
-            assert_eq!(rt; format!(in rt.alloc(); "{fault}")?.as_str(), shown);
-            let refusal = SceneRefusal::Fault(fault);
-            assert_eq!(rt; format!(in rt.alloc(); "{refusal}")?.as_str(), shown);
+            assert_shown(&rt, rt.alloc(), SceneFault { line, kind }, want)?;
         }
         Ok(())
     }

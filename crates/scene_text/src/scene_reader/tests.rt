@@ -2,9 +2,9 @@
 
 use super::*;
 use crate::refusals::SceneFault;
-use crate::scene_writer::write_scene;
 use plan_model::{Goal, Kind, MOST_TEXT_BYTES, Marks, Point, Vertex};
 use std::alloc::AllocError;
+use std::process::Abort;
 use std::test::Fail;
 
 const SMALL: &str =
@@ -13,9 +13,23 @@ const SMALL: &str =
 const GREATEST: &str =
     "prrt 1\nseed 18446744073709551615\ngamma 16777215\nroom 9 9\nstart 1 1\ngoal 2 2 2 2\nstep 4096\nstrips 64\n";
 
+// The scene of a text, or why it is refused.
+fn read(rt: &impl Abort, alloc: Global, text: &str) -> Result<Scene, SceneRefusal> {
+    assert!(rt; text.len() <= MOST_TEXT_BYTES);
+    read_scene(alloc, text.as_bytes())
+}
+
+// Asserts that a scene lists these marks.
+fn assert_listed(rt: &impl Abort, scene: &Scene, want: &[Point]) {
+    let Marks::Listed(marks) = &scene.plan else {
+        panic!(rt; "no listed marks");
+    };
+    assert_eq!(rt; marks.as_slice(), want);
+}
+
 #[test]
-fn reads_the_fields(rt: HostRuntime) {
-    let scene = read_scene(rt.alloc(), SMALL.as_bytes()).unwrap_or_else(|_| panic!(rt; "not read"));
+fn reads_the_fields(rt: HostRuntime) -> Result<(), Fail> {
+    let scene = read(&rt, rt.alloc(), SMALL)?;
     assert_eq!(rt; scene.room, Point { x: 10, y: 12 });
     assert_eq!(rt; scene.start, Point { x: 5, y: 6 });
     assert_eq!(rt;
@@ -26,30 +40,33 @@ fn reads_the_fields(rt: HostRuntime) {
         }
     );
     assert_eq!(rt; scene.step, 4);
-    let Marks::Listed(marks) = &scene.plan else {
-        panic!(rt; "no listed marks");
-    };
-    assert_eq!(rt;
-        marks.as_slice(),
-        [Point { x: 1, y: 2 }, Point { x: 3, y: 0 }].as_slice()
-    );
+    assert_listed(&rt, &scene, &[Point { x: 1, y: 2 }, Point { x: 3, y: 0 }]);
+    Ok(())
 }
 
 #[test]
-fn reads_gamma_seed_and_strips(rt: HostRuntime) {
+fn reads_gamma_seed_and_strips(rt: HostRuntime) -> Result<(), Fail> {
     for (text, gamma, seed, strips) in [(SMALL, 0, 0, 1), (GREATEST, 16_777_215, u64::MAX, 64)] {
-        let scene = read_scene(rt.alloc(), text.as_bytes()).unwrap_or_else(|_| panic!(rt;
-            "not read"
-        ));
-        assert_eq!(rt; scene.gamma, gamma);
-        assert_eq!(rt; scene.seed, seed);
-        assert_eq!(rt; scene.strips, strips);
+        let scene = read(&rt, rt.alloc(), text)?;
+        assert_eq!(rt;
+            (scene.gamma, scene.seed, scene.strips),
+            (gamma, seed, strips)
+        );
     }
+    Ok(())
+}
+
+// Asserts that a scene draws so many marks.
+fn assert_drawn(rt: &impl Abort, scene: &Scene, want: u32) {
+    let Marks::Drawn(count) = scene.plan else {
+        panic!(rt; "no drawn marks");
+    };
+    assert_eq!(rt; count, want);
 }
 
 #[test]
-fn reads_drawn_marks(rt: HostRuntime) {
-    for (text, expected) in [
+fn reads_drawn_marks(rt: HostRuntime) -> Result<(), Fail> {
+    for (text, want) in [
         (
             "prrt 1\nmarks 0\nroom 9 9\nstart 1 1\ngoal 2 2 2 2\nstep 4\n",
             0,
@@ -59,13 +76,17 @@ fn reads_drawn_marks(rt: HostRuntime) {
             262_143,
         ),
     ] {
-        let scene = read_scene(rt.alloc(), text.as_bytes()).unwrap_or_else(|_| panic!(rt;
-            "not read"
-        ));
-        let Marks::Drawn(count) = scene.plan else {
-            panic!(rt; "no drawn marks");
-        };
-        assert_eq!(rt; count, expected);
+        assert_drawn(&rt, &read(&rt, rt.alloc(), text)?, want);
+    }
+    Ok(())
+}
+
+// Asserts that a text is refused at this line, for a fault of this kind.
+fn assert_refused(rt: &impl Abort, alloc: Global, text: &str, line: u32, kind: Kind) {
+    let fault = SceneFault { line, kind };
+    match read(rt, alloc, text) {
+        Err(refusal) => assert_eq!(rt; refusal, SceneRefusal::Fault(fault)),
+        Ok(_) => panic!(rt; "read"),
     }
 }
 
@@ -94,22 +115,16 @@ fn refuses_the_first_fault(rt: HostRuntime) {
         ("prrt 1\nmarks 5\nmark 1 1\n", 3, Kind::Repeat),
         ("prrt 1\nmark 1 1\nmarks 5\n", 3, Kind::Repeat),
     ] {
-        match read_scene(rt.alloc(), text.as_bytes()) {
-            Err(refusal) => assert_eq!(rt; refusal, SceneRefusal::Fault(SceneFault { line, kind })),
-            Ok(_) => panic!(rt; "read"),
-        }
+        assert_refused(&rt, rt.alloc(), text, line, kind);
     }
 }
 
 const POLYGONS: &str =
     "prrt 1\nobstacle 4 4 6 4 5 7\nroom 9 9\nstart 0 0\nstep 4\ngoal 1 1 2 2\nbody -1 -2 3 -2 3 4 -1 4\nobstacle -9 2 3 2 3 3\n";
 
-const CANONICAL: &str =
-    "prrt 1\nroom 9 9\nbody -1 -2 3 -2 3 4 -1 4\nobstacle 4 4 6 4 5 7\nobstacle -9 2 3 2 3 3\nstart 0 0\ngoal 1 1 2 2\nstep 4\ngamma 0\nseed 0\nstrips 1\n";
-
 #[test]
-fn reads_polygons_and_writes_them_again(rt: HostRuntime) -> Result<(), Fail> {
-    let scene = read_scene(rt.alloc(), POLYGONS.as_bytes())?;
+fn reads_polygons(rt: HostRuntime) -> Result<(), Fail> {
+    let scene = read(&rt, rt.alloc(), POLYGONS)?;
     let body = [
         Vertex { x: -1, y: -2 },
         Vertex { x: 3, y: -2 },
@@ -118,8 +133,6 @@ fn reads_polygons_and_writes_them_again(rt: HostRuntime) -> Result<(), Fail> {
     ];
     assert_eq!(rt; scene.body.as_slice(), body.as_slice());
     assert_eq!(rt; scene.obstacles.len(), 2);
-    let text = write_scene(rt.alloc(), &scene)?;
-    assert_eq!(rt; text.as_slice(), CANONICAL.as_bytes());
     Ok(())
 }
 
@@ -157,13 +170,7 @@ fn refuses_polygons(rt: HostRuntime) {
             Kind::Range,
         ),
     ] {
-        match read_scene(rt.alloc(), text.as_bytes()) {
-            Err(refusal) => assert_eq!(rt;
-                refusal,
-                SceneRefusal::Fault(SceneFault { line: 2, kind })
-            ),
-            Ok(_) => panic!(rt; "read"),
-        }
+        assert_refused(&rt, rt.alloc(), text, 2, kind);
     }
 }
 
@@ -191,11 +198,7 @@ fn refuses_too_many_corners_and_obstacles(rt: HostRuntime) -> Result<(), Fail> {
         ("prrt 1\n", "body 0 0\n", 2, 3, Kind::Repeat),
     ] {
         let text = repeated(rt.alloc(), before, piece, count)?;
-        assert!(rt; text.len() <= MOST_TEXT_BYTES);
-        match read_scene(rt.alloc(), text.as_bytes()) {
-            Err(refusal) => assert_eq!(rt; refusal, SceneRefusal::Fault(SceneFault { line, kind })),
-            Ok(_) => panic!(rt; "read"),
-        }
+        assert_refused(&rt, rt.alloc(), text.as_str(), line, kind);
     }
     Ok(())
 }
@@ -204,8 +207,7 @@ fn refuses_too_many_corners_and_obstacles(rt: HostRuntime) -> Result<(), Fail> {
 fn reads_as_many_obstacles_as_there_may_be(rt: HostRuntime) -> Result<(), Fail> {
     let before = "prrt 1\nroom 9 9\nstart 0 0\ngoal 1 1 2 2\nstep 4\n";
     let text = repeated(rt.alloc(), before, TRIANGLE, 1_024)?;
-    assert!(rt; text.len() <= MOST_TEXT_BYTES);
-    let scene = read_scene(rt.alloc(), text.as_bytes())?;
+    let scene = read(&rt, rt.alloc(), text.as_str())?;
     assert_eq!(rt; scene.obstacles.len(), 1_024);
     assert_eq!(rt; scene.body.as_slice(), [Vertex { x: 0, y: 0 }].as_slice());
     Ok(())

@@ -6,14 +6,19 @@ ghost use Rattle.plan_model.specs.Limits.{is_obstacle, are_obstacles};
 use super::*;
 use crate::scene_reader::read_scene;
 use plan_model::{MOST_OBSTACLES, Polys};
+use std::process::Abort;
 use std::test::Fail;
 
 const SMALL: &str = "prrt 1\nroom 9 9\nstart 0 0\ngoal 1 1 2 2\nstep 4\n";
 
-// The lines before the obstacles, and those after them.
-const BEFORE: &str = "prrt 1\nroom 9 9\nbody 0 0\n";
+const SMALL_WRITTEN: &str =
+    "prrt 1\nroom 9 9\nbody 0 0\nstart 0 0\ngoal 1 1 2 2\nstep 4\ngamma 0\nseed 0\nstrips 1\n";
 
-const AFTER: &str = "start 0 0\ngoal 1 1 2 2\nstep 4\ngamma 0\nseed 0\nstrips 1\n";
+const POLYGONS: &str =
+    "prrt 1\nobstacle 4 4 6 4 5 7\nroom 9 9\nstart 0 0\nstep 4\ngoal 1 1 2 2\nbody -1 -2 3 -2 3 4 -1 4\nobstacle -9 2 3 2 3 3\n";
+
+const POLYGONS_WRITTEN: &str =
+    "prrt 1\nroom 9 9\nbody -1 -2 3 -2 3 4 -1 4\nobstacle 4 4 6 4 5 7\nobstacle -9 2 3 2 3 3\nstart 0 0\ngoal 1 1 2 2\nstep 4\ngamma 0\nseed 0\nstrips 1\n";
 
 // A triangle as wide as an obstacle may be.
 fn triangle(alloc: Global) -> Result<Poly, AllocError>
@@ -37,29 +42,45 @@ fn most_obstacles(alloc: Global) -> Result<Polys, AllocError>
     Ok(Polys::from_vec(obstacles))
 }
 
-#[test]
-fn writes_every_line(rt: HostRuntime) -> Result<(), Fail> {
-    let scene = read_scene(rt.alloc(), SMALL.as_bytes())?;
-    let text = write_scene(rt.alloc(), &scene)?;
-    let mut expected = String::new(rt.alloc());
-    expected.push_str(BEFORE)?;
-    expected.push_str(AFTER)?;
-    assert_eq!(rt; text.as_slice(), expected.as_bytes());
+// Asserts the canonical text of a scene.
+fn assert_written(rt: &impl Abort, alloc: Global, scene: &Scene, want: &str) -> Result<(), Memory> {
+    let text = write_scene(alloc, scene)?;
+    assert_eq!(rt; text.as_slice(), want.as_bytes());
     Ok(())
 }
 
 #[test]
-fn writes_as_many_obstacles_as_there_may_be(rt: HostRuntime) -> Result<(), Fail> {
-    let mut scene = read_scene(rt.alloc(), SMALL.as_bytes())?;
-    scene.obstacles = most_obstacles(rt.alloc())?;
-    let text = write_scene(rt.alloc(), &scene)?;
-    let mut expected = String::new(rt.alloc());
-    expected.push_str(BEFORE)?;
-    for _number in 0..1_024 {
-        expected.push_str("obstacle -131072 0 131071 0 0 131071\n")?;
+fn writes_every_line(rt: HostRuntime) -> Result<(), Fail> {
+    for (text, want) in [(SMALL, SMALL_WRITTEN), (POLYGONS, POLYGONS_WRITTEN)] {
+        let scene = read_scene(rt.alloc(), text.as_bytes())?;
+        assert_written(&rt, rt.alloc(), &scene, want)?;
     }
-    expected.push_str(AFTER)?;
-    assert_eq!(rt; text.as_slice(), expected.as_bytes());
+    Ok(())
+}
+
+// The canonical text with as many of these triangles as there may be.
+fn most_obstacles_written(alloc: Global) -> Result<String, AllocError> {
+    let mut text = String::new(alloc);
+    text.push_str("prrt 1\nroom 9 9\nbody 0 0\n")?;
+    for _number in 0..1_024 {
+        text.push_str("obstacle -131072 0 131071 0 0 131071\n")?;
+    }
+    text.push_str("start 0 0\ngoal 1 1 2 2\nstep 4\ngamma 0\nseed 0\nstrips 1\n")?;
+    Ok(text)
+}
+
+// The small scene with as many obstacles as there may be.
+fn scene_with_most_obstacles(alloc: Global) -> Result<Scene, Fail> {
+    let mut scene = read_scene(alloc, SMALL.as_bytes())?;
+    scene.obstacles = most_obstacles(alloc)?;
+    Ok(scene)
+}
+
+#[test]
+fn writes_as_many_obstacles_as_there_may_be(rt: HostRuntime) -> Result<(), Fail> {
+    let want = most_obstacles_written(rt.alloc())?;
+    let scene = scene_with_most_obstacles(rt.alloc())?;
+    assert_written(&rt, rt.alloc(), &scene, want.as_str())?;
     Ok(())
 }
 
@@ -82,13 +103,23 @@ fn read_again(alloc: Global, scene: &Scene) -> Result<Scene, Fail>
     Ok(again)
 }
 
+// Asserts that a scene is read again from what is written for it, and is then written as this text.
+fn assert_read_again(
+    rt: &impl Abort,
+    alloc: Global,
+    scene: &Scene,
+    want: &str,
+) -> Result<(), Fail> {
+    let again = read_again(alloc, scene)?;
+    assert_written(rt, alloc, &again, want)?;
+    Ok(())
+}
+
 #[test]
 fn what_is_written_is_read_again(rt: HostRuntime) -> Result<(), Fail> {
     for canonical in [DRAWN, LISTED] {
         let scene = read_scene(rt.alloc(), canonical.as_bytes())?;
-        let again = read_again(rt.alloc(), &scene)?;
-        let text = write_scene(rt.alloc(), &again)?;
-        assert_eq!(rt; text.as_slice(), canonical.as_bytes());
+        assert_read_again(&rt, rt.alloc(), &scene, canonical)?;
     }
     Ok(())
 }
