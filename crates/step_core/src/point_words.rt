@@ -42,16 +42,23 @@ mod tests {
 
     #[test]
     fn packs_y_above_x(rt: HostRuntime) {
-        assert_eq!(rt;
-            pack_point(Point { x: 30, y: 40 }),
-            (1 << 63) + 40 * (1 << 20) + 30
-        );
-        assert_eq!(rt; pack_point(Point { x: 0, y: 0 }), 1 << 63);
         let greatest = Point {
             x: MOST_COORDINATE,
             y: MOST_COORDINATE,
         };
-        assert_eq!(rt; pack_point(greatest), (1 << 63) + (1 << 40) - 1);
+        let words = [
+            pack_point(Point { x: 30, y: 40 }),
+            pack_point(Point { x: 0, y: 0 }),
+            pack_point(greatest),
+        ];
+        assert_eq!(rt;
+            words,
+            [
+                (1 << 63) + 40 * (1 << 20) + 30,
+                1 << 63,
+                (1 << 63) + (1 << 40) - 1
+            ]
+        );
     }
 
     #[test]
@@ -66,7 +73,6 @@ mod tests {
 
     #[test]
     fn a_word_without_bit_63_holds_no_point(rt: HostRuntime) {
-        assert_eq!(rt; read_point(0), None);
-        assert_eq!(rt; read_point((1 << 63) - 1), None);
+        assert_eq!(rt; [read_point(0), read_point((1 << 63) - 1)], [None, None]);
     }
 }

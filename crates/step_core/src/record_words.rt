@@ -147,6 +147,7 @@ fn number_of(outcome: Outcome) -> u64
 mod tests {
     use super::*;
     use crate::tree_words::pack_tree;
+    use std::process::Abort;
 
     /// A placed mark with the first parent 3 and the first cost 25,344.
     const ENTRY: Record = Record {
@@ -159,11 +160,23 @@ mod tests {
         class: 2,
     };
 
+    /// Asserts the word of a record.
+    fn assert_packed(rt: &impl Abort, entry: Record, word: u64)
+        requires { FitsWord entry }
+    {
+        assert_eq!(rt; pack_mark(&entry), word);
+    }
+
+    /// Asserts the record that is read from a word and the first word of its node.
+    fn assert_read(rt: &impl Abort, word: u64, first: u64, want: Option<Record>) {
+        assert_eq!(rt; read_mark(word, first), want);
+    }
+
     #[test]
     fn packs_a_placed_mark(rt: HostRuntime) {
         let word = (1 << 63) + 2 * (1 << 6) + (1 << 24) + 2 * (1 << 44);
-        assert_eq!(rt; pack_mark(&ENTRY), word);
-        assert_eq!(rt; read_mark(word, pack_tree(3, 25_344)), Some(ENTRY));
+        assert_packed(&rt, ENTRY, word);
+        assert_read(&rt, word, pack_tree(3, 25_344), Some(ENTRY));
     }
 
     #[test]
@@ -183,10 +196,10 @@ mod tests {
             + 262_143 * (1 << 24)
             + (1 << 42)
             + 262_143 * (1 << 44);
-        assert_eq!(rt; pack_mark(&entry), word);
-        assert_eq!(rt; read_mark(word, 0), Some(entry));
+        assert_packed(&rt, entry, word);
+        assert_read(&rt, word, 0, Some(entry));
         // no node was placed, so its first word does not count
-        assert_eq!(rt; read_mark(word, u64::MAX), Some(entry));
+        assert_read(&rt, word, u64::MAX, Some(entry));
     }
 
     #[test]
@@ -201,10 +214,10 @@ mod tests {
             class: 0,
         };
         let word = (1 << 63) + 1 + 262_143 * (1 << 24) + 2 * (1 << 42);
-        assert_eq!(rt; pack_mark(&entry), word);
-        assert_eq!(rt; read_mark(word, 0), Some(entry));
+        assert_packed(&rt, entry, word);
+        assert_read(&rt, word, 0, Some(entry));
         // the fourth number of an outcome
-        assert_eq!(rt; read_mark(word + (1 << 42), 0), Some(entry));
+        assert_read(&rt, word + (1 << 42), 0, Some(entry));
     }
 
     #[test]
@@ -219,12 +232,12 @@ mod tests {
             class: 19,
         };
         let first = pack_tree(262_143, 17_592_186_044_415);
-        assert_eq!(rt; read_mark(pack_mark(&entry), first), Some(entry));
+        assert_read(&rt, pack_mark(&entry), first, Some(entry));
     }
 
     #[test]
     fn a_word_without_bit_63_holds_no_record(rt: HostRuntime) {
-        assert_eq!(rt; read_mark(0, 0), None);
-        assert_eq!(rt; read_mark((1 << 63) - 1, 0), None);
+        assert_read(&rt, 0, 0, None);
+        assert_read(&rt, (1 << 63) - 1, 0, None);
     }
 }

@@ -49,11 +49,18 @@ mod tests {
 
     #[test]
     fn packs_the_cost_above_the_parent(rt: HostRuntime) {
-        assert_eq!(rt; pack_tree(3, 25_344), (1 << 63) + 25_344 * (1 << 18) + 3);
-        assert_eq!(rt; pack_tree(0, 0), 1 << 63);
-        assert_eq!(rt;
+        let words = [
+            pack_tree(3, 25_344),
+            pack_tree(0, 0),
             pack_tree(262_143, (1 << 44) - 1),
-            (1 << 63) + (1 << 62) - 1
+        ];
+        assert_eq!(rt;
+            words,
+            [
+                (1 << 63) + 25_344 * (1 << 18) + 3,
+                1 << 63,
+                (1 << 63) + (1 << 62) - 1
+            ]
         );
     }
 
@@ -73,8 +80,7 @@ mod tests {
 
     #[test]
     fn a_word_without_bit_63_holds_no_parent(rt: HostRuntime) {
-        assert_eq!(rt; read_tree(0), None);
-        assert_eq!(rt; read_tree((1 << 63) - 1), None);
+        assert_eq!(rt; [read_tree(0), read_tree((1 << 63) - 1)], [None, None]);
     }
 
     #[test]

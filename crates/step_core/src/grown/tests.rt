@@ -139,6 +139,24 @@ fn stopped(alloc: Global) -> Result<Grown, Memory> {
     Grown::pack(alloc, task, &knots, &records)
 }
 
+/// The run of these marks from this start that has handled none.
+fn fresh(alloc: Global, start: Point, marks: &[Point]) -> Result<Grown, Memory>
+    requires right { start.x ≤ 100 }
+    requires top { start.y ≤ 100 }
+    requires marks { IsTrue (is_plan (Listed marks.now)) }
+{
+    Grown::new(alloc, task_of(alloc, 100, start, marks)?)
+}
+
+/// The same run, packed with the start as its one node.
+fn fresh_packed(alloc: Global, start: Point, marks: &[Point]) -> Result<Grown, Memory>
+    requires right { start.x ≤ 100 }
+    requires top { start.y ≤ 100 }
+    requires marks { IsTrue (is_plan (Listed marks.now)) }
+{
+    start_packed(alloc, task_of(alloc, 100, start, marks)?)
+}
+
 /// The start of the task as the one node of a run.
 fn start_packed(alloc: Global, task: Task) -> Result<Grown, Memory>
     requires { ClearAt (space_of task.scene) task.scene.start }
@@ -171,24 +189,53 @@ fn node_of(grown: &Grown, node: u32) -> Option<Knot> {
     })
 }
 
+/// Asserts the nodes of a run, by number; `None` if one is absent.
+fn assert_nodes(rt: &impl Abort, grown: &Grown, wants: &[Option<Knot>]) {
+    for (number, want) in (0..).zip(wants) {
+        assert_eq!(rt; node_of(grown, number), *want, "node {number}");
+    }
+}
+
+/// Asserts the records of a run's first marks, by number.
+fn assert_records(rt: &impl Abort, grown: &Grown, wants: &[Record]) {
+    for (mark, want) in (0..).zip(wants) {
+        assert!(rt; mark < grown.limit());
+        assert_eq!(rt; grown.record_of(mark), *want, "mark {mark}");
+    }
+}
+
 /// Asserts that the run has handled none of so many marks, and has no node but its start.
 fn assert_start_alone(rt: &impl Abort, grown: &Grown, start: Point, marks: usize) {
     assert_eq!(rt; grown.task().marks.len(), marks);
     assert_eq!(rt; (grown.limit(), grown.count()), (0, 1));
     assert_eq!(rt; node_of(grown, 0), node(start.x, start.y, 0, 0));
     for absent in [1, 2, 3, 262_142, 262_143, 262_144, u32::MAX] {
-        assert_eq!(rt; node_of(grown, absent), None, "node {absent}");
+        assert!(rt; grown.point(absent).is_none(), "node {absent}");
     }
+}
+
+/// Asserts the same of the run of these marks that has handled none, made as such and packed.
+fn assert_starts_alone(
+    rt: &impl Abort,
+    alloc: Global,
+    start: Point,
+    marks: &[Point],
+    count: usize,
+) -> Result<(), Memory>
+    requires right { start.x ≤ 100 }
+    requires top { start.y ≤ 100 }
+    requires marks { IsTrue (is_plan (Listed marks.now)) }
+{
+    assert_start_alone(rt, &fresh(alloc, start, marks)?, start, count);
+    assert_start_alone(rt, &fresh_packed(alloc, start, marks)?, start, count);
+    Ok(())
 }
 
 #[test]
 fn holds_the_start_alone(rt: HostRuntime) -> Result<(), Fail> {
     let start = Point { x: 3, y: 4 };
     let marks = [Point { x: 30, y: 40 }, Point { x: 60, y: 80 }];
-    let grown = Grown::new(rt.alloc(), task_of(rt.alloc(), 100, start, &marks)?)?;
-    assert_start_alone(&rt, &grown, start, 2);
-    let grown = start_packed(rt.alloc(), task_of(rt.alloc(), 100, start, &marks)?)?;
-    assert_start_alone(&rt, &grown, start, 2);
+    assert_starts_alone(&rt, rt.alloc(), start, &marks, 2)?;
     Ok(())
 }
 
@@ -196,10 +243,7 @@ fn holds_the_start_alone(rt: HostRuntime) -> Result<(), Fail> {
 fn holds_the_start_of_the_longest_task(rt: HostRuntime) -> Result<(), Fail> {
     let start = Point { x: 100, y: 0 };
     let marks = most_marks(rt.alloc())?;
-    let grown = Grown::new(rt.alloc(), task_of(rt.alloc(), 100, start, &marks)?)?;
-    assert_start_alone(&rt, &grown, start, 262_143);
-    let grown = start_packed(rt.alloc(), task_of(rt.alloc(), 100, start, &marks)?)?;
-    assert_start_alone(&rt, &grown, start, 262_143);
+    assert_starts_alone(&rt, rt.alloc(), start, &marks, 262_143)?;
     Ok(())
 }
 
@@ -208,23 +252,20 @@ fn packs_a_run_in_which_a_node_was_rewired(rt: HostRuntime) -> Result<(), Fail> 
     let grown = rewired(rt.alloc())?;
     assert_eq!(rt; grown.task().marks.len(), 3);
     assert_eq!(rt; (grown.limit(), grown.count()), (3, 4));
-    for (number, want) in [
-        (0, node(0, 0, 0, 0)),
-        (1, node(0, 50, 0, 12_800)),
-        (2, node(40, 79, 3, 25_344)),
-        (3, node(40, 30, 0, 12_800)),
-        (4, None),
-    ] {
-        assert_eq!(rt; node_of(&grown, number), want, "node {number}");
-    }
-    for (mark, want) in [
-        (0, placed(0, 0, 0, 12_800, 1)),
-        (1, placed(1, 1, 1, 25_449, 2)),
-        (2, placed(2, 1, 0, 12_800, 2)),
-    ] {
-        assert!(rt; mark < grown.limit());
-        assert_eq!(rt; grown.record_of(mark), want, "mark {mark}");
-    }
+    let nodes = [
+        node(0, 0, 0, 0),
+        node(0, 50, 0, 12_800),
+        node(40, 79, 3, 25_344),
+        node(40, 30, 0, 12_800),
+        None,
+    ];
+    assert_nodes(&rt, &grown, &nodes);
+    let records = [
+        placed(0, 0, 0, 12_800, 1),
+        placed(1, 1, 1, 25_449, 2),
+        placed(2, 1, 0, 12_800, 2),
+    ];
+    assert_records(&rt, &grown, &records);
     Ok(())
 }
 
@@ -232,13 +273,7 @@ fn packs_a_run_in_which_a_node_was_rewired(rt: HostRuntime) -> Result<(), Fail> 
 fn packs_a_run_in_which_no_mark_was_placed(rt: HostRuntime) -> Result<(), Fail> {
     let grown = stopped(rt.alloc())?;
     assert_eq!(rt; (grown.limit(), grown.count()), (2, 1));
-    assert_eq!(rt; node_of(&grown, 0), node(0, 0, 0, 0));
-    for absent in [1, 2, 3] {
-        assert_eq!(rt; node_of(&grown, absent), None, "node {absent}");
-    }
-    for (mark, want) in [(0, same(0, 0, 0)), (1, blocked(1, 0))] {
-        assert!(rt; mark < grown.limit());
-        assert_eq!(rt; grown.record_of(mark), want, "mark {mark}");
-    }
+    assert_nodes(&rt, &grown, &[node(0, 0, 0, 0), None, None, None]);
+    assert_records(&rt, &grown, &[same(0, 0, 0), blocked(1, 0)]);
     Ok(())
 }
