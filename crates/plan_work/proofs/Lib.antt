@@ -1,3 +1,4 @@
+pub mod CountedTurns
 pub mod FirstRuns
 pub mod GrownMarks
 pub mod HandledWorkers

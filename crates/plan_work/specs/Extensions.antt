@@ -1,7 +1,9 @@
--- A run before and after its next mark was handled whole.
-use Rattle.std.specs.Prelude.{ℕ, List}
+-- A run before and after its next mark was handled whole, and the radii that it is handled by.
+use Rattle.std.specs.Prelude.{◌≡◌, ℕ, List}
 use Rattle.plan_model.specs.declared.geometry.Point.{Point}
 use Rattle.plan_model.specs.declared.records.Record.{Record}
+use Rattle.plan_model.specs.declared.scenes.Scene.{Scene}
+use Rattle.edge_cost.specs.declared.radii.Radii.{Radii}
 use Rattle.plan_model.specs.ClosedLaw.{mark_at}
 use Rattle.plan_model.specs.HandledMarks.{IsHandledWhole, with_mark}
 use Rattle.plan_model.specs.Textbook.{setup_of}
@@ -15,3 +17,8 @@ pub record HandlesNext (before after : Grown) (entry : Record) : Type 0 where
   pub moved : List ℕ
   pub handled : IsHandledWhole (setup_of before.task.scene) (state_of_grown before) before.limit (mark_at before.task.marks before.limit) entry point moved
   pub run : AreSameRuns (with_mark (state_of_grown before) before.limit entry point moved) (state_of_grown after)
+
+-- the radii are those of the scene's step and gamma
+pub record AreRadiiOf (scene : Scene) (radii : Radii) : Type 0 where
+  pub step : radii.step ≡ scene.step
+  pub gamma : radii.gamma ≡ scene.gamma

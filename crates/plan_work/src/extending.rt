@@ -12,7 +12,7 @@ ghost use Rattle.plan_model.specs.PointsByNumber.{IsFree, IsPresent, StandsAt, p
 ghost use Rattle.plan_model.specs.Textbook.{IsCandidate, SteersTo, setup_of};
 ghost use Rattle.plan_model.specs.TreeStates.{GrowsInto};
 ghost use Rattle.plan_model.specs.declared.limits.TheConstants.{MOST_WORKERS};
-ghost use Rattle.plan_work.specs.Extensions.{HandlesNext};
+ghost use Rattle.plan_work.specs.Extensions.{AreRadiiOf, HandlesNext};
 ghost use Rattle.step_core.specs.GrownRuns.{state_of_grown};
 
 use crate::choice::{Parent, choose};
@@ -51,8 +51,38 @@ pub fn extend_whole<C: Clearing>(
     ensures turn { result.turn ≡ turns_of (state_of_grown grown.old).record_of grown.old.limit worker }
     ensures spare { vec_capacity list.new ≡ vec_capacity list.old }
 {
+    let scene = &grown.task().scene;
+    let radii = Radii::new(scene.step, scene.gamma);
+    let turn = turns_of(grown, worker);
+    extend_in_turn(grown, hall, &radii, worker, turn, list)
+}
+
+/// The same, with the radii of the scene and the worker's turn, so that neither is found anew for each mark. O(n) for n marks.
+pub(crate) fn extend_in_turn<C: Clearing>(
+    grown: &mut Grown,
+    hall: &C,
+    radii: &Radii,
+    worker: u32,
+    turn: u32,
+    list: &mut Vec<u32>,
+) -> Record
+    requires left { grown.old.limit < length grown.old.task.marks }
+    requires worker { worker < MOST_WORKERS }
+    requires hall { C.space hall.now ≡ space_of grown.old.task.scene }
+    requires radii { AreRadiiOf grown.old.task.scene radii.now }
+    requires turn { turn ≡ turns_of (state_of_grown grown.old).record_of grown.old.limit worker }
+    requires spare { length grown.old.task.marks + 1 ≤ vec_capacity list.old }
+    ensures task { grown.new.task ≡ grown.old.task }
+    ensures limit { grown.new.limit ≡ grown.old.limit + 1 }
+    ensures grows { GrowsInto (state_of_grown grown.old) (state_of_grown grown.new) }
+    ensures handled { HandlesNext grown.old grown.new result }
+    ensures recorded { (state_of_grown grown.new).record_of grown.old.limit ≡ Some result }
+    ensures worker { result.worker ≡ worker }
+    ensures turn { result.turn ≡ turn }
+    ensures spare { vec_capacity list.new ≡ vec_capacity list.old }
+{
     let steering = steer_next(grown);
-    let entry = entry_of(grown, hall, steering, worker, list);
+    let entry = entry_of(grown, hall, radii, steering, worker, turn, list);
     grown.put(&entry, steering.point, list);
     entry
 }
@@ -91,8 +121,10 @@ fn steer_next(grown: &Grown) -> Steering
 fn entry_of<C: Clearing>(
     grown: &Grown,
     hall: &C,
+    radii: &Radii,
     steering: Steering,
     worker: u32,
+    turn: u32,
     list: &mut Vec<u32>,
 ) -> Record
     requires steers { SteersTo (setup_of grown.now.task.scene) (state_of_grown grown.now).points
@@ -100,15 +132,17 @@ fn entry_of<C: Clearing>(
     requires from { StandsAt (state_of_grown grown.now).points steering.nearest steering.from }
     requires bounded { IsBounded steering.point }
     requires hall { C.space hall.now ≡ space_of grown.now.task.scene }
+    requires radii { AreRadiiOf grown.now.task.scene radii.now }
+    requires turn { turn ≡ turns_of (state_of_grown grown.now).record_of grown.now.limit worker }
     requires spare { grown.now.limit + 1 ≤ vec_capacity list.old }
     ensures handled { IsHandledWhole (setup_of grown.now.task.scene) (state_of_grown grown.now) grown.now.limit
         (mark_at grown.now.task.marks grown.now.limit) result steering.point list.new.items }
     ensures worker { result.worker ≡ worker }
+    ensures turn { result.turn ≡ turn }
     ensures nodes { All (IsPresent (state_of_grown grown.now).points) list.new.items }
     ensures spare { vec_capacity list.new ≡ vec_capacity list.old }
 {
     list.clear();
-    let turn = turns_of(grown, worker);
     let Steering {
         nearest,
         from,
@@ -121,7 +155,7 @@ fn entry_of<C: Clearing>(
     if !hall.clear(from, point) {
         return unplaced(worker, turn, nearest, Outcome::Blocked);
     }
-    let parent = place(grown, hall, nearest, point, list);
+    let parent = place(grown, hall, radii, nearest, point, list);
     Record {
         worker,
         turn,
@@ -155,6 +189,7 @@ fn unplaced(worker: u32, turn: u32, nearest: u32, outcome: Outcome) -> Record
 fn place<C: Clearing>(
     grown: &Grown,
     hall: &C,
+    radii: &Radii,
     nearest: u32,
     point: Point,
     list: &mut Vec<u32>,
@@ -164,6 +199,7 @@ fn place<C: Clearing>(
     requires nearest { IsPresent (state_of_grown grown.now).points nearest }
     requires clear { Clear (C.space hall.now) (point_of (state_of_grown grown.now).points nearest) point }
     requires hall { C.space hall.now ≡ space_of grown.now.task.scene }
+    requires radii { AreRadiiOf grown.now.task.scene radii.now }
     requires spare { grown.now.limit + 1 ≤ vec_capacity list.old }
     ensures parent { IsFirstLeast (kept_cost_through (state_of_grown grown.now) point)
         (IsCandidate (setup_of grown.now.task.scene) (state_of_grown grown.now).points nearest point) result.number }
@@ -172,8 +208,6 @@ fn place<C: Clearing>(
         ↔ IsCheaperBy (setup_of grown.now.task.scene) (state_of_grown grown.now) point result.cost i }
     ensures spare { vec_capacity list.new ≡ vec_capacity list.old }
 {
-    let scene = &grown.task().scene;
-    let radii = Radii::new(scene.step, scene.gamma);
     fill_near(grown, point, radii.at(u64::from(grown.count())), list);
     let parent = choose(grown, hall, point, nearest, list);
     keep_cheaper(grown, hall, point, parent.cost, list);

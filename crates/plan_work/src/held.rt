@@ -1,16 +1,19 @@
 //! The run behind the one lock. No other file knows of the lock.
 
-ghost use Rattle.std.specs.Prelude.{◌≡◌, ◌+◌, ◌<◌, ◌≤◌, ℕ, Option, Some, None, IsFalse, IsTrue, length};
+ghost use Rattle.std.specs.Prelude.{◌≡◌, ◌+◌, ◌<◌, ◌≤◌, ℕ, Option, Some, None, IsFalse, IsTrue, length, slice_index};
 ghost use Rattle.std.specs.Vec.{vec_capacity};
+ghost use Rattle.plan_model.specs.HandledMarks.{turns_of};
 ghost use Rattle.plan_model.specs.TreeStates.{GrowsInto};
 ghost use Rattle.plan_model.specs.declared.limits.TheConstants.{MOST_WORKERS};
 ghost use Rattle.plan_model.specs.declared.records.Record.{Record};
 ghost use Rattle.plan_model.specs.declared.tasks.Task.{Task};
-ghost use Rattle.plan_work.specs.Extensions.{HandlesNext};
+ghost use Rattle.plan_work.specs.Extensions.{AreRadiiOf, HandlesNext};
 ghost use Rattle.plan_work.specs.Jobs.{AreOfWorkers, HasRoom, IsSpaceOf};
 ghost use Rattle.step_core.specs.GrownRuns.{state_of_grown};
 
-use crate::extending::extend_whole;
+use crate::extending::extend_in_turn;
+use edge_cost::Radii;
+use plan_model::MOST_WORKERS;
 use std::marker::{Brand, PhantomData};
 use std::sync::{Mutex, Wait};
 use step_core::Grown;
@@ -34,14 +37,24 @@ impl Job for Brand {
     ghost limit = { 0 };
 }
 
+/// How many workers there may be.
+const WORKERS: usize = MOST_WORKERS as usize;
+
 /// A run that several workers hold in turn. Whenever the lock is free, it is closed at its limit, as every run is.
 #[derive(Drop)]
 pub struct Held<N: Job> {
     grown: Grown,
+    /// The radii of the scene.
+    radii: Radii,
+    /// How many marks each worker has handled.
+    turns: [u32; WORKERS],
     of: PhantomData<N>,
     ghost of_task: { N.task ≡ Some grown.task },
     ghost few_workers: { N.workers ≤ MOST_WORKERS },
     ghost of_workers: { AreOfWorkers N.workers (state_of_grown grown).record_of },
+    ghost of_scene: { AreRadiiOf grown.task.scene radii },
+    ghost counted: { (worker : ℕ) → worker < MOST_WORKERS
+        → slice_index turns worker ≡ turns_of (state_of_grown grown).record_of grown.limit worker },
     ghost within: { grown.limit ≤ N.limit },
     ghost within_marks: { N.limit ≤ length grown.task.marks },
 }
@@ -54,8 +67,12 @@ impl<N: Job> Held<N> {
         requires fresh { grown.limit ≡ 0 }
         requires within { N.limit ≤ length grown.task.marks }
     {
+        let scene = &grown.task().scene;
+        let radii = Radii::new(scene.step, scene.gamma);
         Held {
             grown,
+            radii,
+            turns: no_turns(),
             of: PhantomData,
         }
     }
@@ -83,7 +100,9 @@ impl<N: Job> Held<N> {
         if self.grown.limit() >= limit {
             return false;
         }
-        extend_whole(&mut self.grown, hall, worker, list);
+        let turn = self.turns[worker as usize];
+        extend_in_turn(&mut self.grown, hall, &self.radii, worker, turn, list);
+        self.turns[worker as usize] = turn + 1;
         true
     }
 
@@ -100,6 +119,13 @@ impl<N: Job> Held<N> {
         while self.extend(hall, 0, limit, list) {}
         self.grown
     }
+}
+
+/// The count of each worker before its first mark.
+fn no_turns() -> [u32; WORKERS]
+    ensures { (worker : ℕ) → worker < MOST_WORKERS → slice_index result worker ≡ 0 }
+{
+    [0; WORKERS]
 }
 
 /// A run that the workers share: the one that has the lock handles its next mark.

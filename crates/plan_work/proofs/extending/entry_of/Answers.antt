@@ -43,7 +43,7 @@ returns-then-not-clear-clause-handled g c =
     cc) in
     let ends : IsBlockedWhole (setup_of scene) state entry s.point = record { free = free; blocked = blocked } in
     IsHandledWhole-by (setup_of scene) state grown.limit mark entry s.point c.clear.new.self.items c.args.worker s.nearest Blocked e.worker e.nearest e.outcome
-    (e.turn ∙ c.turns_of-turn.ensures) c.requires.steers ends
+    (e.turn ∙ c.requires.turn) c.requires.steers ends
 
 pub place-parent-requires-clause-free : goal.place-parent-requires-clause-free
 place-parent-requires-clause-free g c κs within =
@@ -89,7 +89,7 @@ returns-clause-handled g c =
         of_class = c.class.ensures.value ∙ ap class_of (c.from.ensures ∙ c.count.ensures);
         moves = placed.moves;
       };
-      turn = c.turns_of-turn.ensures;
+      turn = c.requires.turn;
     }
 
 pub returns-clause-nodes : goal.returns-clause-nodes

@@ -1,6 +1,5 @@
 use Rattle.std.proofs.Common.{◌≡◌, ◌∷◌, arith, sym, ap, ◌∙◌, subst}
 use Rattle.std.specs.Prelude.{All, Contains}
-use Rattle.plan_model.specs.declared.tasks.Task.{Task}
 use Rattle.plan_model.specs.Clearance.{Clear}
 use Rattle.plan_model.specs.ConfigurationSpace.{ConfigurationSpace}
 use Rattle.plan_model.specs.HandledMarks.{kept_cost_through}
@@ -34,12 +33,11 @@ returns-clause-parent g c =
     let state = state_of_grown grown in
     let points = state.points in
     let p = c.args.point in
-    let step = c.new-radii.ensures.step ∙ ap (λ (task : Task). task.scene.step) c.task.ensures in
-    let gamma = c.new-radii.ensures.gamma ∙ ap (λ (task : Task). task.scene.gamma) c.task.ensures in
+    let radii = c.args.radii.now in
     let count = c.from.ensures ∙ c.count.ensures in
     let radius : c.at.result ≡ radius_of scene.step scene.gamma (node_count points) =
-    c.at.ensures ∙ ap (λ s. radius_of s c.new-radii.result.gamma c.from.result) step
-    ∙ ap (λ e. radius_of scene.step e c.from.result) gamma ∙ ap (radius_of scene.step scene.gamma) count in
+    c.at.ensures ∙ ap (λ s. radius_of s radii.gamma c.from.result) c.requires.radii.step
+    ∙ ap (λ e. radius_of scene.step e c.from.result) c.requires.radii.gamma ∙ ap (radius_of scene.step scene.gamma) count in
     let are_near : c.deref.result.now ≡ near_new (setup_of scene) points p =
     c.deref.ensures.value ∙ c.fill_near.ensures.near ∙ ap (near points p) radius in
     IsFirstLeast-among (kept_cost_through state p) (IsOpenTo (g.C.Clearing.space c.args.hall.now) points p (c.args.nearest ∷ c.deref.result.now))

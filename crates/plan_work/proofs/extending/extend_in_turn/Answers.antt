@@ -9,7 +9,7 @@ use Rattle.plan_model.specs.TreeStates.{AreSameRuns}
 use Rattle.step_core.specs.GrownRuns.{state_of_grown}
 use Rattle.step_core.specs.GrownWords.{node_point, sizes_of, words_of}
 use Rattle.plan_work.proofs.GrownMarks.{GrowsInto-put, IsClosed-put}
-use Rattle.plan_work.proofs.extending.extend_whole.Goals as goal
+use Rattle.plan_work.proofs.extending.extend_in_turn.Goals as goal
 
 pub put-requires-clause-closed : goal.put-requires-clause-closed
 put-requires-clause-closed g c =
