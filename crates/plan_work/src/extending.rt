@@ -150,10 +150,10 @@ fn entry_of<C: Clearing>(
     } = steering;
     // no other node stands there: the point is nearer to the mark than the nearest node
     if point == from {
-        return unplaced(worker, turn, nearest, Outcome::Same(nearest));
+        return Record::unplaced(worker, turn, nearest, Outcome::Same(nearest));
     }
     if !hall.clear(from, point) {
-        return unplaced(worker, turn, nearest, Outcome::Blocked);
+        return Record::unplaced(worker, turn, nearest, Outcome::Blocked);
     }
     let parent = place(grown, hall, radii, nearest, point, list);
     Record {
@@ -164,24 +164,6 @@ fn entry_of<C: Clearing>(
         first_parent: parent.number,
         first_cost: parent.cost,
         class: class(u64::from(grown.count())),
-    }
-}
-
-/// The record of a mark for which no node is placed.
-fn unplaced(worker: u32, turn: u32, nearest: u32, outcome: Outcome) -> Record
-    ensures worker { result.worker ≡ worker }
-    ensures turn { result.turn ≡ turn }
-    ensures nearest { result.nearest ≡ nearest }
-    ensures outcome { result.outcome ≡ outcome }
-{
-    Record {
-        worker,
-        turn,
-        nearest,
-        outcome,
-        first_parent: 0,
-        first_cost: 0,
-        class: 0,
     }
 }
 

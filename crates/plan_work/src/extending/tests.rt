@@ -182,8 +182,8 @@ fn places_no_node_on_another_or_behind_a_wall(rt: HostRuntime) -> Result<(), Fai
     let records = [
         placed((7, 0), 0, 0, 12_800, 1),
         placed((7, 1), 1, 1, 25_600, 2),
-        unplaced(7, 2, 0, Outcome::Same(0)),
-        unplaced(63, 0, 2, Outcome::Blocked),
+        Record::unplaced(7, 2, 0, Outcome::Same(0)),
+        Record::unplaced(63, 0, 2, Outcome::Blocked),
     ];
     assert_all_handled(&rt, &mut grown, &hall, &mut list, &records);
     assert_eq!(rt; grown.count(), 3);

@@ -4,6 +4,7 @@ use Rattle.std.proofs.lemmas.List.{get_or_default}
 use Rattle.std.proofs.lemmas.List.Elements.{All-contains}
 use Rattle.plan_model.specs.declared.geometry.Point.{Point}
 use Rattle.plan_model.specs.declared.records.Outcome.TheVariants.{Blocked}
+use Rattle.plan_model.specs.declared.records.Record.{Record}
 use Rattle.plan_model.specs.Clearance.{Clear}
 use Rattle.plan_model.specs.ClosedLaw.{mark_at}
 use Rattle.plan_model.specs.ConfigurationSpace.{ConfigurationSpace, space_of}
@@ -30,11 +31,12 @@ returns-then-not-clear-clause-handled g c =
     let s = c.args.steering in
     let entry = c.unplaced-then-not-clear.result in
     let e = c.unplaced-then-not-clear.ensures in
+    let nearest : entry.nearest ≡ s.nearest = ap (λ (r : Record). r.nearest) e in
     let free : IsFree state.points s.point =
     IsFree-steered (setup_of scene) state.points mark s.nearest s.from s.point c.requires.steers c.requires.from
     (same_point-false s.point s.from (sym c.eq.ensures ∙ c.if-eq.false)) in
     let at : point_of state.points entry.nearest ≡ s.from =
-    ap (point_of state.points) e.nearest ∙ point_of-stands state.points s.nearest s.from c.requires.from in
+    ap (point_of state.points) nearest ∙ point_of-stands state.points s.nearest s.from c.requires.from in
     let blocked : ¬ Clear (space_of scene) (point_of state.points entry.nearest) s.point =
     λ clear. (
     let passes : c.clear-2.result ≡ true =
@@ -42,8 +44,8 @@ returns-then-not-clear-clause-handled g c =
     (subst (λ (a : Point). Clear (space_of scene) a s.point) at clear)) in
     cc) in
     let ends : IsBlockedWhole (setup_of scene) state entry s.point = record { free = free; blocked = blocked } in
-    IsHandledWhole-by (setup_of scene) state grown.limit mark entry s.point c.clear.new.self.items c.args.worker s.nearest Blocked e.worker e.nearest e.outcome
-    (e.turn ∙ c.requires.turn) c.requires.steers ends
+    IsHandledWhole-by (setup_of scene) state grown.limit mark entry s.point c.clear.new.self.items c.args.worker s.nearest Blocked
+    (ap (λ (r : Record). r.worker) e) nearest (ap (λ (r : Record). r.outcome) e) (ap (λ (r : Record). r.turn) e ∙ c.requires.turn) c.requires.steers ends
 
 pub place-parent-requires-clause-free : goal.place-parent-requires-clause-free
 place-parent-requires-clause-free g c κs within =
