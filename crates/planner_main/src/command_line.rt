@@ -80,6 +80,7 @@ fn words_of(alloc: Global, args: io::Result<Args>) -> Result<Vec<String>, Memory
 mod tests {
     use super::*;
     use plan_model::{MemSink, SureSource};
+    use std::process::Abort;
     use std::test::Fail;
 
     const SCENE: &[u8] = b"prrt 1\nroom 10 10\nstart 5 5\ngoal 0 0 1 1\nstep 4\n";
@@ -97,9 +98,37 @@ mod tests {
         Ok((code, written))
     }
 
+    // Compares that code and that text.
+    fn expect<R: Threads + Sync + Wait + Abort>(
+        rt: &R,
+        alloc: Global,
+        args: io::Result<Args>,
+        code: u8,
+        text: &str,
+    ) -> Result<(), Fail> {
+        let (ended, written) = ends(rt, alloc, args)?;
+        assert_eq!(rt; written.as_str(), text);
+        assert_eq!(rt; ended, ExitCode::from(code));
+        Ok(())
+    }
+
+    // The same on arguments that are these words.
+    fn expect_on<R: Threads + Sync + Wait + Abort>(
+        rt: &R,
+        alloc: Global,
+        words: &[&str],
+        code: u8,
+        text: &str,
+    ) -> Result<(), Fail> {
+        let mut args = Vec::new(alloc);
+        for word in words {
+            args.push(String::from_str(alloc, word)?)?;
+        }
+        expect(rt, alloc, Ok(args.into_iter()), code, text)
+    }
+
     #[test]
     fn ends_by_all_words_after_the_name(rt: HostRuntime) -> Result<(), Fail> {
-        let alloc = rt.alloc();
         let cases: [(&[&str], u8, &str); 6] = [
             (
                 &["prrt", "plain"],
@@ -117,28 +146,16 @@ mod tests {
             (&[], 2, "words refused\n"),
         ];
         for (words, code, text) in cases {
-            let mut args = Vec::new(alloc);
-            for word in words {
-                args.push(String::from_str(alloc, word)?)?;
-            }
-            let (ended, written) = ends(&rt, alloc, Ok(args.into_iter()))?;
-            assert_eq!(rt; written.as_str(), text);
-            assert_eq!(rt; ended, ExitCode::from(code));
+            expect_on(&rt, rt.alloc(), words, code, text)?;
         }
         Ok(())
     }
 
     #[test]
     fn ends_without_words(rt: HostRuntime) -> Result<(), Fail> {
-        let alloc = rt.alloc();
-        for (kind, code, text) in [
-            (io::ErrorKind::OutOfMemory, 7, ""),
-            (io::ErrorKind::InvalidData, 2, "words refused\n"),
-        ] {
-            let (ended, written) = ends(&rt, alloc, Err(io::Error::from(kind)))?;
-            assert_eq!(rt; written.as_str(), text);
-            assert_eq!(rt; ended, ExitCode::from(code));
-        }
-        Ok(())
+        let no_memory = io::Error::from(io::ErrorKind::OutOfMemory);
+        expect(&rt, rt.alloc(), Err(no_memory), 7, "")?;
+        let no_text = io::Error::from(io::ErrorKind::InvalidData);
+        expect(&rt, rt.alloc(), Err(no_text), 2, "words refused\n")
     }
 }

@@ -170,7 +170,22 @@ fn line_from(text: &str) -> Line
 #[cfg(test)]
 mod tests {
     use super::*;
+    use std::alloc::Global;
+    use std::process::Abort;
     use std::test::Fail;
+
+    // Compares the line of a refusal, and what is displayed, which is the line without its line feed.
+    fn expect_line<R: Abort>(
+        rt: &R,
+        alloc: Global,
+        refusal: Refusal,
+        line: &str,
+    ) -> Result<(), Fail> {
+        assert_eq!(rt; refusal.line().as_str(), line);
+        let shown = refusal.to_string(alloc)?;
+        assert_eq!(rt; Some(shown.as_str()), line.strip_suffix("\n"));
+        Ok(())
+    }
 
     #[test]
     fn displays_its_line(rt: HostRuntime) -> Result<(), Fail> {
@@ -186,9 +201,7 @@ mod tests {
             (Refusal::ReadFault, "read fault\n"),
             (Refusal::Memory, "no memory\n"),
         ] {
-            assert_eq!(rt; refusal.line().as_str(), line);
-            let shown = refusal.to_string(rt.alloc())?;
-            assert_eq!(rt; Some(shown.as_str()), line.strip_suffix("\n"));
+            expect_line(&rt, rt.alloc(), refusal, line)?;
         }
         Ok(())
     }

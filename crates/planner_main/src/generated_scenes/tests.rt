@@ -1,9 +1,10 @@
 //! Generated scenes, against fields and corners that were worked out apart from the planner.
 
-ghost use Rattle.std.specs.Prelude.{◌≤◌};
+ghost use Rattle.std.specs.Prelude.{◌≤◌, ◌<◌};
 
 use super::*;
 use scene_text::write_scene;
+use std::process::Abort;
 use std::test::Fail;
 
 // How many obstacles the scene of a number has, and how many marks are drawn.
@@ -32,50 +33,61 @@ fn writes_the_first_scene(rt: HostRuntime) -> Result<(), Fail> {
     Ok(())
 }
 
+// Compares how many marks are drawn in the scene of a number, which has 64 obstacles.
+fn expect_marks<R: Abort>(rt: &R, alloc: Global, number: u32, marks: u32) -> Result<(), Fail>
+    requires { number ≤ MOST_GENERATED }
+{
+    assert_eq!(rt; counts_of(alloc, number)?, (64, marks), "scene {number}");
+    Ok(())
+}
+
 #[test]
 fn has_obstacles_and_marks_by_its_number(rt: HostRuntime) -> Result<(), Fail> {
-    for (number, marks) in [(0, 2_000), (3, 8_000), (9, 20_000), (9_999, 20_000)] {
-        assert_eq!(rt;
-            counts_of(rt.alloc(), number)?,
-            (64, marks),
-            "scene {number}"
-        );
-    }
+    expect_marks(&rt, rt.alloc(), 0, 2_000)?;
+    expect_marks(&rt, rt.alloc(), 3, 8_000)?;
+    expect_marks(&rt, rt.alloc(), 9, 20_000)?;
+    expect_marks(&rt, rt.alloc(), 9_999, 20_000)
+}
+
+// Compares the corners of an obstacle of the scene of a number.
+fn expect_obstacle<R: Abort>(
+    rt: &R,
+    alloc: Global,
+    number: u32,
+    cell: u32,
+    corners: &[Vertex],
+) -> Result<(), Fail>
+    requires number { number ≤ MOST_GENERATED }
+    requires cell { cell < CELLS }
+{
+    let got = obstacle(alloc, number, cell)?;
+    assert_eq!(rt;
+        got.as_slice(),
+        corners,
+        "obstacle {cell} of scene {number}"
+    );
     Ok(())
 }
 
 #[test]
 fn places_squares_and_triangles(rt: HostRuntime) -> Result<(), Fail> {
-    for (number, cell, want) in [
-        (
-            0,
-            1,
-            [corner(1_643, 303), corner(1_789, 303), corner(1_643, 449)].as_slice(),
-        ),
-        (
-            3,
-            17,
-            [
-                corner(1_578, 2_756),
-                corner(1_764, 2_756),
-                corner(1_578, 2_942),
-            ]
-            .as_slice(),
-        ),
-        (
-            9_999,
-            62,
-            [
-                corner(7_983, 9_437),
-                corner(8_208, 9_437),
-                corner(8_208, 9_662),
-                corner(7_983, 9_662),
-            ]
-            .as_slice(),
-        ),
-    ] {
-        let got = obstacle(rt.alloc(), number, cell)?;
-        assert_eq!(rt; got.as_slice(), want, "obstacle {cell} of scene {number}");
-    }
-    Ok(())
+    let lower_left = [
+        Vertex { x: 1_643, y: 303 },
+        Vertex { x: 1_789, y: 303 },
+        Vertex { x: 1_643, y: 449 },
+    ];
+    expect_obstacle(&rt, rt.alloc(), 0, 1, &lower_left)?;
+    let third_row = [
+        Vertex { x: 1_578, y: 2_756 },
+        Vertex { x: 1_764, y: 2_756 },
+        Vertex { x: 1_578, y: 2_942 },
+    ];
+    expect_obstacle(&rt, rt.alloc(), 3, 17, &third_row)?;
+    let square = [
+        Vertex { x: 7_983, y: 9_437 },
+        Vertex { x: 8_208, y: 9_437 },
+        Vertex { x: 8_208, y: 9_662 },
+        Vertex { x: 7_983, y: 9_662 },
+    ];
+    expect_obstacle(&rt, rt.alloc(), 9_999, 62, &square)
 }

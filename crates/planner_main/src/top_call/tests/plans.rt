@@ -1,12 +1,10 @@
 //! Runs by several workers: what `plan W` and `plan W full` write, and which run they hand out.
 
+use super::faults::{expect_cut, expect_read_fault};
 use super::*;
 use plan_model::Outcome;
 use std::sync::atomic::{AtomicBool, Ordering};
 use std::thread;
-
-// A scene whose only mark is the goal.
-const ONE_MARK: &str = "prrt 1\nroom 100 100\nstart 0 0\ngoal 30 40 30 40\nstep 100\nmark 30 40\n";
 
 // A scene of three marks, of which the node of the third gives that of the second a cheaper way.
 const THREE_MARKS: &str = "\
@@ -80,72 +78,64 @@ fn counts_line(report: &str) -> Option<&str> {
     report.lines().find(|line| line.starts_with("nodes "))
 }
 
+// Compares the answer by so many workers with that of a case, and the counts of the run that is handed out.
+fn expect_by<R: Threads + Sync + Wait + Abort>(
+    rt: &R,
+    alloc: Global,
+    workers: &str,
+    case: &Case,
+    counts: (u32, u32),
+) -> Result<(), Fail> {
+    let mut source = MemSource::new(alloc, case.scene.as_bytes(), 1000, &[])?;
+    let (done, written) = call_over(rt, alloc, &["plan", workers], &mut source)?;
+    assert_eq!(rt; written.as_str(), case.text, "{} by {workers}", case.shows);
+    assert_eq!(rt; done.status, case.status, "{} by {workers}", case.shows);
+    assert_eq!(rt;
+        counts_of(&done),
+        Some(counts),
+        "{} by {workers}",
+        case.shows
+    );
+    Ok(())
+}
+
 #[test]
 fn plans_by_any_number_of_workers(rt: HostRuntime) -> Result<(), Fail> {
-    let in_goal = "prrt 1\nroom 10 10\nstart 5 5\ngoal 0 0 9 9\nstep 4\n";
-    let far = "prrt 1\nroom 100 100\nstart 0 0\ngoal 90 90 99 99\nstep 50\nmark 60 80\n";
-    let cases: [(&str, &str, u8, (u32, u32), &str); 6] = [
-        (
-            "4",
-            ONE_MARK,
-            0,
-            (2, 1),
-            "path 2 cost 12800\n0 0\n30 40\nnodes 2 placed 1 same 0 blocked 0\n",
-        ),
-        (
-            "1",
-            ONE_MARK,
-            0,
-            (2, 1),
-            "path 2 cost 12800\n0 0\n30 40\nnodes 2 placed 1 same 0 blocked 0\n",
-        ),
-        (
-            "64",
-            in_goal,
-            0,
-            (1, 0),
-            "path 1 cost 0\n5 5\nnodes 1 placed 0 same 0 blocked 0\n",
-        ),
-        (
-            "1",
-            in_goal,
-            0,
-            (1, 0),
-            "path 1 cost 0\n5 5\nnodes 1 placed 0 same 0 blocked 0\n",
-        ),
-        (
-            "1",
-            far,
-            1,
-            (2, 1),
-            "no path\nnodes 2 placed 1 same 0 blocked 0\n",
-        ),
-        (
-            "64",
-            far,
-            1,
-            (2, 1),
-            "no path\nnodes 2 placed 1 same 0 blocked 0\n",
-        ),
-    ];
-    for (workers, text, status, counts, report) in cases {
-        let mut source = MemSource::new(rt.alloc(), text.as_bytes(), 1000, &[])?;
-        let (done, written) = call_over(&rt, rt.alloc(), &["plan", workers], &mut source)?;
-        assert_eq!(rt; written.as_str(), report, "by {workers}");
-        assert_eq!(rt; done.status, status, "by {workers}");
-        assert_eq!(rt; counts_of(&done), Some(counts), "by {workers}");
-    }
-    Ok(())
+    let one_mark = Case {
+        shows: "a mark reached in one step",
+        scene: ONE_MARK,
+        status: 0,
+        text: "path 2 cost 12800\n0 0\n30 40\nnodes 2 placed 1 same 0 blocked 0\n",
+    };
+    expect_by(&rt, rt.alloc(), "4", &one_mark, (2, 1))?;
+    expect_by(&rt, rt.alloc(), "1", &one_mark, (2, 1))?;
+    let in_goal = Case {
+        shows: "a start that lies in the goal, and no mark",
+        scene: "prrt 1\nroom 10 10\nstart 5 5\ngoal 0 0 9 9\nstep 4\n",
+        status: 0,
+        text: "path 1 cost 0\n5 5\nnodes 1 placed 0 same 0 blocked 0\n",
+    };
+    expect_by(&rt, rt.alloc(), "64", &in_goal, (1, 0))?;
+    expect_by(&rt, rt.alloc(), "1", &in_goal, (1, 0))?;
+    let past_step = Case {
+        shows: "a mark past the step",
+        scene: "prrt 1\nroom 100 100\nstart 0 0\ngoal 90 90 99 99\nstep 50\nmark 60 80\n",
+        status: 1,
+        text: "no path\nnodes 2 placed 1 same 0 blocked 0\n",
+    };
+    expect_by(&rt, rt.alloc(), "1", &past_step, (2, 1))?;
+    expect_by(&rt, rt.alloc(), "64", &past_step, (2, 1))
 }
 
 // The one worker handles the marks in their order.
 #[test]
 fn reports_each_node_and_each_mark_of_one_worker(rt: HostRuntime) -> Result<(), Fail> {
-    for (shows, text, report) in [
-        (
-            "a node that is moved",
-            THREE_MARKS,
-            "path 3 cost 25344\n\
+    let cases = [
+        Case {
+            shows: "a node that is moved",
+            scene: THREE_MARKS,
+            status: 0,
+            text: "path 3 cost 25344\n\
 0 0\n\
 40 30\n\
 40 79\n\
@@ -157,12 +147,13 @@ node 3 at 40 30 parent 0 cost 12800\n\
 mark 0 worker 0 turn 0 nearest 0 placed class 1 first 0 12800\n\
 mark 1 worker 0 turn 1 nearest 1 placed class 2 first 1 25449\n\
 mark 2 worker 0 turn 2 nearest 1 placed class 2 first 0 12800\n",
-        ),
-        (
-            "a child of a node that is moved, which costs the sum of its edges",
-            "prrt 1\nroom 100 100\nstart 0 0\ngoal 60 79 60 79\nstep 50\ngamma 1000\n\
+        },
+        Case {
+            shows: "a child of a node that is moved, which costs the sum of its edges",
+            scene: "prrt 1\nroom 100 100\nstart 0 0\ngoal 60 79 60 79\nstep 50\ngamma 1000\n\
 mark 0 50\nmark 40 79\nmark 60 79\nmark 40 30\n",
-            "path 4 cost 30464\n\
+            status: 0,
+            text: "path 4 cost 30464\n\
 0 0\n\
 40 30\n\
 40 79\n\
@@ -177,12 +168,13 @@ mark 0 worker 0 turn 0 nearest 0 placed class 1 first 0 12800\n\
 mark 1 worker 0 turn 1 nearest 1 placed class 2 first 1 25449\n\
 mark 2 worker 0 turn 2 nearest 2 placed class 2 first 2 30569\n\
 mark 3 worker 0 turn 3 nearest 1 placed class 3 first 0 12800\n",
-        ),
-        (
-            "a blocked mark after one on a node",
-            "prrt 1\nroom 100 100\nobstacle 40 0 60 0 60 60 40 60\nstart 10 10\ngoal 30 10 30 10\nstep 100\n\
+        },
+        Case {
+            shows: "a blocked mark after one on a node",
+            scene: "prrt 1\nroom 100 100\nobstacle 40 0 60 0 60 60 40 60\nstart 10 10\ngoal 30 10 30 10\nstep 100\n\
 mark 30 10\nmark 30 10\nmark 70 10\n",
-            "path 2 cost 5120\n\
+            status: 0,
+            text: "path 2 cost 5120\n\
 10 10\n\
 30 10\n\
 nodes 2 placed 1 same 1 blocked 1\n\
@@ -191,63 +183,69 @@ node 1 at 30 10 parent 0 cost 5120\n\
 mark 0 worker 0 turn 0 nearest 0 placed class 1 first 0 5120\n\
 mark 1 worker 0 turn 1 nearest 1 same 1\n\
 mark 2 worker 0 turn 2 nearest 1 blocked\n",
-        ),
-    ] {
-        let (status, written) = answer_to_text(&rt, rt.alloc(), &["plan", "1", "full"], text)?;
-        assert_eq!(rt; written.as_str(), report, "{shows}");
-        assert_eq!(rt; status, 0, "{shows}");
-    }
+        },
+    ];
+    expect_each(&rt, rt.alloc(), &["plan", "1", "full"], &cases)
+}
+
+// Compares the counts of a run over so many marks with its records, and with the line of its report that tells them.
+fn expect_whole<R: Abort>(
+    rt: &R,
+    alloc: Global,
+    grown: &Grown,
+    marks: u32,
+    report: &str,
+) -> Result<(), Fail> {
+    let [placed, same, blocked] = outcomes(grown);
+    let handled = u32::from(placed) + u32::from(same) + u32::from(blocked);
+    assert_eq!(rt; (grown.limit(), handled), (marks, marks));
+    assert_eq!(rt; grown.count(), u32::from(placed) + 1);
+    let counts = counts_written(alloc, grown)?;
+    assert_eq!(rt; counts_line(report), Some(counts.as_str()));
     Ok(())
 }
 
-// Each mark has a line, by one of the workers. The tree is that of one worker, so all of them look at the same nodes.
+// How many lines of a report tell of a mark.
+fn mark_lines(report: &str) -> usize {
+    report
+        .lines()
+        .filter(|line| line.starts_with("mark "))
+        .count()
+}
+
+// Each mark has a line, by one of the workers.
 #[test]
 fn plans_hundreds_of_marks_by_three_workers(rt: HostRuntime) -> Result<(), Fail> {
-    let alloc = rt.alloc();
-    let mut source = SureSource::new(alloc, DRAWN_MARKS.as_bytes())?;
-    let (done, written) = call_over(&rt, alloc, &["plan", "3", "full"], &mut source)?;
+    let mut source = SureSource::new(rt.alloc(), DRAWN_MARKS.as_bytes())?;
+    let (done, written) = call_over(&rt, rt.alloc(), &["plan", "3", "full"], &mut source)?;
     let Some(grown) = &done.run else {
         panic!(rt; "no run");
     };
-    let [placed, same, blocked] = outcomes(grown);
-    assert_eq!(rt;
-        u32::from(placed) + u32::from(same) + u32::from(blocked),
-        400
-    );
-    assert_eq!(rt; grown.limit(), 400);
-    assert_eq!(rt; grown.count(), u32::from(placed) + 1);
+    expect_whole(&rt, rt.alloc(), grown, 400, &written)?;
     assert!(rt; greatest_worker(grown) < 3);
-    let counts = counts_written(alloc, grown)?;
-    assert_eq!(rt; counts_line(&written), Some(counts.as_str()));
-    let marks = written
-        .lines()
-        .filter(|line| line.starts_with("mark "))
-        .count();
-    assert_eq!(rt; marks, 400);
-    let (_, by_three) = answer_to_text(&rt, alloc, &["plan", "3"], DRAWN_MARKS)?;
-    let (_, by_one) = answer_to_text(&rt, alloc, &["plan", "1"], DRAWN_MARKS)?;
+    assert_eq!(rt; mark_lines(&written), 400);
+    Ok(())
+}
+
+// The tree is that of one worker, so all of them look at the same nodes.
+#[test]
+fn three_workers_grow_the_tree_of_one(rt: HostRuntime) -> Result<(), Fail> {
+    let (_, by_three) = answer_to_text(&rt, rt.alloc(), &["plan", "3"], DRAWN_MARKS)?;
+    let (_, by_one) = answer_to_text(&rt, rt.alloc(), &["plan", "1"], DRAWN_MARKS)?;
     assert_eq!(rt; by_three.as_str(), by_one.as_str());
     Ok(())
 }
 
 #[test]
 fn plans_a_generated_scene_by_four_workers(rt: HostRuntime) -> Result<(), Fail> {
-    let alloc = rt.alloc();
-    let (_, text, _) = answer_over_failing(&rt, alloc, &["gen", "9"])?;
-    let mut source = MemSource::new(alloc, text.as_bytes(), 1000, &[])?;
-    let (done, written) = call_over(&rt, alloc, &["plan", "4"], &mut source)?;
+    let text = generated(&rt, rt.alloc(), "gen", "9")?;
+    let mut source = MemSource::new(rt.alloc(), text.as_bytes(), 1000, &[])?;
+    let (done, written) = call_over(&rt, rt.alloc(), &["plan", "4"], &mut source)?;
     let Some(grown) = &done.run else {
         panic!(rt; "no run");
     };
-    assert_eq!(rt; grown.limit(), 20_000);
-    let [placed, same, blocked] = outcomes(grown);
-    assert_eq!(rt;
-        u32::from(placed) + u32::from(same) + u32::from(blocked),
-        20_000
-    );
-    assert_eq!(rt; grown.count(), u32::from(placed) + 1);
-    let counts = counts_written(alloc, grown)?;
-    assert_eq!(rt; written.lines().last(), Some(counts.as_str()));
+    expect_whole(&rt, rt.alloc(), grown, 20_000, &written)?;
+    assert_eq!(rt; written.lines().last(), counts_line(&written));
     assert!(rt; done.status <= 1);
     Ok(())
 }
@@ -282,41 +280,51 @@ fn refuses_other_numbers_of_workers(rt: HostRuntime) -> Result<(), Fail> {
         &["plain", "1", "full"],
     ];
     for form in words {
-        let mut source = SureSource::new(rt.alloc(), ONE_MARK.as_bytes())?;
-        let (done, written) = call_over(&rt, rt.alloc(), form, &mut source)?;
-        assert_eq!(rt; written.as_str(), "words refused\n", "{form:?}");
-        assert_eq!(rt; done.status, 2, "{form:?}");
-        assert_eq!(rt; counts_of(&done), None, "{form:?}");
-        let (status, _, faults) = answer_over_failing(&rt, rt.alloc(), form)?;
-        assert_eq!(rt; (status, faults), (2, 0), "{form:?} is read");
+        expect_words_refused(&rt, rt.alloc(), form)?;
     }
+    Ok(())
+}
+
+// Compares the refusal of a text by several workers. No run is handed out.
+fn expect_no_run<R: Threads + Sync + Wait + Abort>(
+    rt: &R,
+    alloc: Global,
+    words: &[&str],
+    text: &str,
+    status: u8,
+    line: &str,
+) -> Result<(), Fail> {
+    let mut source = SureSource::new(alloc, text.as_bytes())?;
+    let (done, written) = call_over(rt, alloc, words, &mut source)?;
+    assert_eq!(rt; written.as_str(), line, "{words:?}");
+    assert_eq!(rt; done.status, status, "{words:?}");
+    assert_eq!(rt; counts_of(&done), None, "{words:?}");
     Ok(())
 }
 
 #[test]
 fn refuses_a_scene_as_plain_does(rt: HostRuntime) -> Result<(), Fail> {
-    let alloc = rt.alloc();
-    let blocked = "prrt 1\nroom 10 10\nstart 11 5\ngoal 0 0 9 9\nstep 4\n";
     let forms: [&[&str]; 3] = [&["plan", "1"], &["plan", "2", "full"], &["plan", "64"]];
     for form in forms {
-        for (text, status, line) in [
-            (blocked, 4, "start blocked\n"),
-            ("prrt 2\n", 3, "line 1 kind 1 Version\n"),
-            ("prrt 1\n", 3, "line 2 kind 9 Missing\n"),
-        ] {
-            let mut source = SureSource::new(alloc, text.as_bytes())?;
-            let (done, written) = call_over(&rt, alloc, form, &mut source)?;
-            assert_eq!(rt; written.as_str(), line, "{form:?}");
-            assert_eq!(rt; done.status, status, "{form:?}");
-            assert_eq!(rt; counts_of(&done), None, "{form:?}");
-        }
+        expect_no_run(&rt, rt.alloc(), form, BLOCKED_START, 4, "start blocked\n")?;
+        expect_no_run(
+            &rt,
+            rt.alloc(),
+            form,
+            "prrt 2\n",
+            3,
+            "line 1 kind 1 Version\n",
+        )?;
+        expect_no_run(
+            &rt,
+            rt.alloc(),
+            form,
+            "prrt 1\n",
+            3,
+            "line 2 kind 9 Missing\n",
+        )?;
         for fails in [1, 2, 8] {
-            let mut failing = MemSource::new(alloc, ONE_MARK.as_bytes(), 10, &[fails])?;
-            let (done, written) = call_over(&rt, alloc, form, &mut failing)?;
-            assert_eq!(rt; written.as_str(), "read fault\n", "{form:?}");
-            assert_eq!(rt; done.status, 5, "{form:?}");
-            assert_eq!(rt; counts_of(&done), None, "{form:?}");
-            assert_eq!(rt; failing.faults(), 1, "{form:?}");
+            expect_read_fault(&rt, rt.alloc(), form, ONE_MARK, 10, fails)?;
         }
     }
     Ok(())
@@ -325,26 +333,17 @@ fn refuses_a_scene_as_plain_does(rt: HostRuntime) -> Result<(), Fail> {
 // The run is handed out even so; it has two nodes and one mark.
 #[test]
 fn hands_out_the_run_if_the_sink_fails(rt: HostRuntime) -> Result<(), Fail> {
-    let alloc = rt.alloc();
-    let cases: [(&[&str], u32, &str); 3] = [
-        (&["plan", "2"], 1, ""),
-        (&["plan", "2"], 2, "path 2 cos"),
-        (&["plan", "1", "full"], 3, "path 2 cost 12800\n0 "),
-    ];
-    for (form, fails, bytes) in cases {
-        let mut words = Vec::new(alloc);
-        for word in form {
-            words.push(String::from_str(alloc, word)?)?;
-        }
-        let mut source = SureSource::new(alloc, ONE_MARK.as_bytes())?;
-        let mut sink = MemSink::new(alloc, 1000, 10, &[fails])?;
-        let done = run(&rt, alloc, &words, &mut source, &mut sink, &NoGate);
-        assert_eq!(rt; sink.bytes(), bytes.as_bytes());
-        assert_eq!(rt; done.status, 6);
-        assert_eq!(rt; counts_of(&done), Some((2, 1)));
-        assert_eq!(rt; sink.faults(), 1);
-    }
-    Ok(())
+    let counts = Some((2, 1));
+    expect_cut(&rt, rt.alloc(), &["plan", "2"], 1, "", counts)?;
+    expect_cut(&rt, rt.alloc(), &["plan", "2"], 2, "path 2 cos", counts)?;
+    expect_cut(
+        &rt,
+        rt.alloc(),
+        &["plan", "1", "full"],
+        3,
+        "path 2 cost 12800\n0 ",
+        counts,
+    )
 }
 
 // A gate for two workers: worker 1 looks for its first mark only after worker 0 has come, and worker 0 only after worker 1
@@ -391,6 +390,24 @@ impl Gate for OtherFirst {
     }
 }
 
+// Compares the records of a run whose first mark was handled by worker 1, and then its second by worker 0.
+fn expect_other_first<R: Abort>(rt: &R, grown: &Grown) {
+    assert_eq!(rt; grown.limit(), 3);
+    let first = grown.record_of(0);
+    let second = grown.record_of(1);
+    assert_eq!(rt; (first.worker, first.turn), (1, 0));
+    assert_eq!(rt; (second.worker, second.turn), (0, 0));
+    assert_eq!(rt;
+        (second.nearest, second.first_parent, second.first_cost),
+        (1, 1, 25_449)
+    );
+}
+
+// Whether a line of the text begins so.
+fn has_line(text: &str, begin: &str) -> bool {
+    text.lines().any(|line| line.starts_with(begin))
+}
+
 #[test]
 fn two_workers_are_at_work(rt: HostRuntime) -> Result<(), Fail> {
     let gate = OtherFirst {
@@ -407,26 +424,10 @@ fn two_workers_are_at_work(rt: HostRuntime) -> Result<(), Fail> {
     let Some(grown) = &done.run else {
         panic!(rt; "no run");
     };
-    assert_eq!(rt; grown.limit(), 3);
-    let first = grown.record_of(0);
-    assert_eq!(rt; (first.worker, first.turn), (1, 0));
-    let second = grown.record_of(1);
-    assert_eq!(rt; (second.worker, second.turn), (0, 0));
-    assert_eq!(rt;
-        (second.nearest, second.first_parent, second.first_cost),
-        (1, 1, 25_449)
-    );
-    let [placed, same, blocked] = outcomes(grown);
-    assert_eq!(rt; u32::from(placed) + u32::from(same) + u32::from(blocked), 3);
-    for begin in [
-        "mark 0 worker 1 turn 0 ",
-        "mark 1 worker 0 turn 0 nearest 1 ",
-    ] {
-        assert!(rt;
-            written.lines().any(|line| line.starts_with(begin)),
-            "{begin}"
-        );
-    }
+    expect_other_first(&rt, grown);
+    expect_whole(&rt, rt.alloc(), grown, 3, &written)?;
+    assert!(rt; has_line(&written, "mark 0 worker 1 turn 0 "));
+    assert!(rt; has_line(&written, "mark 1 worker 0 turn 0 nearest 1 "));
     assert_eq!(rt; done.status, 0);
     Ok(())
 }

@@ -13,45 +13,42 @@ fn counts_in(report: &str) -> Option<(u32, u32)> {
     Some((nodes, marks))
 }
 
+// Compares the status of a call over this text, and the counts of the run that it hands out, if it hands out one.
+fn expect_run<R: Threads + Sync + Wait + Abort>(
+    rt: &R,
+    alloc: Global,
+    words: &[&str],
+    text: &[u8],
+    status: u8,
+    counts: Option<(u32, u32)>,
+) -> Result<(), Fail> {
+    let mut source = SureSource::new(alloc, text)?;
+    let (done, _) = call_over(rt, alloc, words, &mut source)?;
+    assert_eq!(rt; done.status, status, "{words:?}");
+    assert_eq!(rt; counts_of(&done), counts, "{words:?}");
+    Ok(())
+}
+
 #[test]
 fn hands_out_the_run_of_a_plan(rt: HostRuntime) -> Result<(), Fail> {
-    let alloc = rt.alloc();
+    let on_node =
+        "prrt 1\nroom 100 100\nstart 0 0\ngoal 30 40 30 40\nstep 100\nmark 30 40\nmark 30 40\n";
+    let past_step =
+        "prrt 1\nroom 100 100\nstart 0 0\ngoal 90 90 99 99\nstep 50\nmark 60 80\nmark 150 80\nmark 60 80\n";
+    let no_mark = "prrt 1\nroom 10 10\nstart 5 5\ngoal 0 0 1 1\nstep 4\n";
     let forms: [&[&str]; 2] = [&["plain"], &["plain", "full"]];
-    for (shows, text, status, counts) in [
-        (
-            "a path, and a mark on a node",
-            "prrt 1\nroom 100 100\nstart 0 0\ngoal 30 40 30 40\nstep 100\nmark 30 40\nmark 30 40\n",
-            0,
-            (2, 2),
-        ),
-        (
-            "no path, and three marks past the step",
-            "prrt 1\nroom 100 100\nstart 0 0\ngoal 90 90 99 99\nstep 50\nmark 60 80\nmark 150 80\nmark 60 80\n",
-            1,
-            (4, 3),
-        ),
-        (
-            "no mark",
-            "prrt 1\nroom 10 10\nstart 5 5\ngoal 0 0 1 1\nstep 4\n",
-            1,
-            (1, 0),
-        ),
-    ] {
-        for form in forms {
-            let mut source = SureSource::new(alloc, text.as_bytes())?;
-            let (done, _) = call_over(&rt, alloc, form, &mut source)?;
-            assert_eq!(rt; done.status, status, "{shows}");
-            assert_eq!(rt; counts_of(&done), Some(counts), "{shows}");
-        }
+    for form in forms {
+        expect_run(&rt, rt.alloc(), form, on_node.as_bytes(), 0, Some((2, 2)))?;
+        expect_run(&rt, rt.alloc(), form, past_step.as_bytes(), 1, Some((4, 3)))?;
+        expect_run(&rt, rt.alloc(), form, no_mark.as_bytes(), 1, Some((1, 0)))?;
     }
     Ok(())
 }
 
 #[test]
 fn hands_out_the_run_of_a_trial(rt: HostRuntime) -> Result<(), Fail> {
-    let alloc = rt.alloc();
-    let mut source = SureSource::new(alloc, b"")?;
-    let (done, summary) = call_over(&rt, alloc, &["trial", "0"], &mut source)?;
+    let mut source = SureSource::new(rt.alloc(), b"")?;
+    let (done, summary) = call_over(&rt, rt.alloc(), &["trial", "0"], &mut source)?;
     assert!(rt; done.status <= 1);
     let counts = counts_of(&done);
     assert_eq!(rt; counts, counts_in(&summary));
@@ -61,9 +58,7 @@ fn hands_out_the_run_of_a_trial(rt: HostRuntime) -> Result<(), Fail> {
 
 #[test]
 fn hands_out_no_run_if_none_is_reported(rt: HostRuntime) -> Result<(), Fail> {
-    let alloc = rt.alloc();
     let scene = "prrt 1\nroom 10 10\nstart 5 5\ngoal 0 0 9 9\nstep 4\n";
-    let blocked = "prrt 1\nroom 10 10\nstart 11 5\ngoal 0 0 9 9\nstep 4\n";
     let cases: [(&[&str], &str, u8); 8] = [
         (&["show"], scene, 0),
         (&["gen", "7"], scene, 0),
@@ -71,19 +66,12 @@ fn hands_out_no_run_if_none_is_reported(rt: HostRuntime) -> Result<(), Fail> {
         (&["plain"], "prrt 2\n", 3),
         (&["plain", "full"], "prrt 1\n", 3),
         (&["show"], "prrt 1\n", 3),
-        (&["plain"], blocked, 4),
-        (&["plain", "full"], blocked, 4),
+        (&["plain"], BLOCKED_START, 4),
+        (&["plain", "full"], BLOCKED_START, 4),
     ];
     for (form, text, status) in cases {
-        let mut source = SureSource::new(alloc, text.as_bytes())?;
-        let (done, _) = call_over(&rt, alloc, form, &mut source)?;
-        assert_eq!(rt; done.status, status, "{form:?}");
-        assert_eq!(rt; counts_of(&done), None, "{form:?}");
+        expect_run(&rt, rt.alloc(), form, text.as_bytes(), status, None)?;
     }
-    let long = vec![in alloc; b'#'; 16_777_217]?;
-    let mut source = SureSource::new(alloc, &long)?;
-    let (done, _) = call_over(&rt, alloc, &["plain", "full"], &mut source)?;
-    assert_eq!(rt; done.status, 3);
-    assert_eq!(rt; counts_of(&done), None);
-    Ok(())
+    let long = vec![in rt.alloc(); b'#'; 16_777_217]?;
+    expect_run(&rt, rt.alloc(), &["plain", "full"], &long, 3, None)
 }
