@@ -69,7 +69,7 @@ pub fn expect_cut<R: Threads + Sync + Wait + Abort>(
     taken: &str,
     counts: Option<(u32, u32)>,
 ) -> Result<(), Fail> {
-    let mut source = SureSource::new(alloc, ONE_MARK.as_bytes())?;
+    let mut source = MemSource::new(alloc, ONE_MARK.as_bytes(), 1 << 16, &[])?;
     let mut sink = MemSink::new(alloc, 1000, 10, &[fails])?;
     let done = call(rt, alloc, words, &mut source, &mut sink, &NoGate)?;
     assert_eq!(rt; sink.bytes(), taken.as_bytes(), "{words:?}, call {fails}");

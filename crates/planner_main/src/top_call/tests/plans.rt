@@ -347,10 +347,12 @@ fn hands_out_the_run_if_the_sink_fails(rt: HostRuntime) -> Result<(), Fail> {
 }
 
 // A gate for two workers: worker 1 looks for its first mark only after worker 0 has come, and worker 0 only after worker 1
-// has handled one; worker 1 then waits until worker 0 has handled one too. One thread alone cannot pass it, nor can two of
-// which one keeps the run to itself while the gate is told.
+// has handled one. If it is to, worker 1 then waits until worker 0 has handled one too. One thread alone cannot pass it, nor
+// can two of which one keeps the run to itself while the gate is told.
 #[derive(Drop)]
 struct OtherFirst {
+    // Whether worker 1 waits after its first mark.
+    answer_awaited: bool,
     come: AtomicBool,
     handled: AtomicBool,
     answered: AtomicBool,
@@ -358,6 +360,16 @@ struct OtherFirst {
 }
 
 impl OtherFirst {
+    fn new(answer_awaited: bool) -> OtherFirst {
+        OtherFirst {
+            answer_awaited,
+            come: AtomicBool::new(false),
+            handled: AtomicBool::new(false),
+            answered: AtomicBool::new(false),
+            in_time: AtomicBool::new(true),
+        }
+    }
+
     // Waits for a flag, and notes if it did not come.
     fn wait_for(&self, flag: &AtomicBool) {
         for _ in 0..100_000_000u32 {
@@ -383,7 +395,9 @@ impl Gate for OtherFirst {
     fn after(&self, worker: u32, turn: u32) {
         if (worker, turn) == (1, 0) {
             self.handled.store(true, Ordering::SeqCst);
-            self.wait_for(&self.answered);
+            if self.answer_awaited {
+                self.wait_for(&self.answered);
+            }
         } else if (worker, turn) == (0, 0) {
             self.answered.store(true, Ordering::SeqCst);
         }
@@ -410,12 +424,7 @@ fn has_line(text: &str, begin: &str) -> bool {
 
 #[test]
 fn two_workers_are_at_work(rt: HostRuntime) -> Result<(), Fail> {
-    let gate = OtherFirst {
-        come: AtomicBool::new(false),
-        handled: AtomicBool::new(false),
-        answered: AtomicBool::new(false),
-        in_time: AtomicBool::new(true),
-    };
+    let gate = OtherFirst::new(true);
     let mut source = MemSource::new(rt.alloc(), THREE_MARKS.as_bytes(), 1000, &[])?;
     let words = ["plan", "2", "full"];
     let (done, written) = call_with_gate(&rt, rt.alloc(), &words, &mut source, &gate)?;
@@ -428,6 +437,24 @@ fn two_workers_are_at_work(rt: HostRuntime) -> Result<(), Fail> {
     expect_whole(&rt, rt.alloc(), grown, 3, &written)?;
     assert!(rt; has_line(&written, "mark 0 worker 1 turn 0 "));
     assert!(rt; has_line(&written, "mark 1 worker 0 turn 0 nearest 1 "));
+    assert_eq!(rt; done.status, 0);
+    Ok(())
+}
+
+// Worker 1 may go on and handle every mark; worker 0 then finds none left.
+#[test]
+fn a_worker_that_comes_late_is_not_waited_for(rt: HostRuntime) -> Result<(), Fail> {
+    let gate = OtherFirst::new(false);
+    let mut source = MemSource::new(rt.alloc(), THREE_MARKS.as_bytes(), 1000, &[])?;
+    let words = ["plan", "2", "full"];
+    let (done, written) = call_with_gate(&rt, rt.alloc(), &words, &mut source, &gate)?;
+    assert!(rt; gate.handled.load(Ordering::SeqCst));
+    assert!(rt; gate.in_time.load(Ordering::SeqCst));
+    let Some(grown) = &done.run else {
+        panic!(rt; "no run");
+    };
+    expect_whole(&rt, rt.alloc(), grown, 3, &written)?;
+    assert!(rt; has_line(&written, "mark 0 worker 1 turn 0 "));
     assert_eq!(rt; done.status, 0);
     Ok(())
 }
