@@ -94,10 +94,8 @@ fn assert_handled(
     assert!(rt; (mark as usize) < grown.task().marks.len());
     assert!(rt; want.worker < MOST_WORKERS && grown.task().marks.len() + 1 <= room);
     let entry = extend_whole(grown, hall, want.worker, list);
-    assert_eq!(rt; entry, want, "mark {mark}");
-    assert_eq!(rt; grown.limit(), mark + 1);
-    assert_eq!(rt; grown.record_of(mark), want, "mark {mark}");
-    assert_eq!(rt; list.capacity(), room);
+    assert_eq!(rt; (grown.limit(), list.capacity()), (mark + 1, room));
+    assert_eq!(rt; [entry, grown.record_of(mark)], [want; 2], "mark {mark}");
 }
 
 /// Asserts that handling the next marks gives these records.
@@ -115,6 +113,32 @@ fn assert_all_handled(
     }
 }
 
+/// The run of these marks, handled one after another with so much room for a list of nodes. Asserts that handling them gives
+/// these records.
+fn assert_run(
+    rt: &impl Abort,
+    alloc: Global,
+    marks: &[Point],
+    room: usize,
+    records: &[Record],
+) -> Result<Grown, Memory>
+    requires { IsTrue (is_plan (Listed marks.now)) }
+{
+    let mut list = Vec::with_capacity(alloc, room)?;
+    let task = small_task(alloc, marks)?;
+    let hall = Hall::new(alloc, &task.scene)?;
+    let mut grown = Grown::new(alloc, task)?;
+    assert_all_handled(rt, &mut grown, &hall, &mut list, records);
+    Ok(grown)
+}
+
+/// Asserts the nodes of a run, by number; `None` if one is absent.
+fn assert_nodes(rt: &impl Abort, grown: &Grown, wants: &[Option<Knot>]) {
+    for (number, want) in (0..).zip(wants) {
+        assert_eq!(rt; node_of(grown, number), *want, "node {number}");
+    }
+}
+
 /// The marks of which the third gives the node of the second a cheaper way.
 fn marks_to_rewire() -> [Point; 3]
     ensures { IsTrue (is_plan (Listed result)) }
@@ -128,41 +152,32 @@ fn marks_to_rewire() -> [Point; 3]
 
 #[test]
 fn rewires_the_node_that_is_cheaper_through_a_new_one(rt: HostRuntime) -> Result<(), Fail> {
-    let task = small_task(rt.alloc(), &marks_to_rewire())?;
-    let hall = Hall::new(rt.alloc(), &task.scene)?;
-    let mut grown = Grown::new(rt.alloc(), task)?;
-    // exactly as much room as there may be nodes
-    let mut list = Vec::with_capacity(rt.alloc(), 4)?;
     let records = [
         placed((0, 0), 0, 0, 12_800, 1),
         placed((0, 1), 1, 1, 25_449, 2),
         placed((0, 2), 1, 0, 12_800, 2),
     ];
-    assert_all_handled(&rt, &mut grown, &hall, &mut list, &records);
+    // exactly as much room as there may be nodes
+    let grown = assert_run(&rt, rt.alloc(), &marks_to_rewire(), 4, &records)?;
     assert_eq!(rt; grown.count(), 4);
-    for (number, want) in [
-        (0, node(0, 0, 0, 0)),
-        (1, node(0, 50, 0, 12_800)),
-        (2, node(40, 79, 3, 25_344)),
-        (3, node(40, 30, 0, 12_800)),
-    ] {
-        assert_eq!(rt; node_of(&grown, number), want, "node {number}");
-    }
+    let nodes = [
+        node(0, 0, 0, 0),
+        node(0, 50, 0, 12_800),
+        node(40, 79, 3, 25_344),
+        node(40, 30, 0, 12_800),
+    ];
+    assert_nodes(&rt, &grown, &nodes);
     Ok(())
 }
 
 #[test]
 fn counts_the_turns_of_each_worker(rt: HostRuntime) -> Result<(), Fail> {
-    let task = small_task(rt.alloc(), &marks_to_rewire())?;
-    let hall = Hall::new(rt.alloc(), &task.scene)?;
-    let mut grown = Grown::new(rt.alloc(), task)?;
-    let mut list = Vec::with_capacity(rt.alloc(), 4)?;
     let records = [
         placed((0, 0), 0, 0, 12_800, 1),
         placed((1, 0), 1, 1, 25_449, 2),
         placed((0, 1), 1, 0, 12_800, 2),
     ];
-    assert_all_handled(&rt, &mut grown, &hall, &mut list, &records);
+    assert_run(&rt, rt.alloc(), &marks_to_rewire(), 4, &records)?;
     Ok(())
 }
 
@@ -175,26 +190,21 @@ fn places_no_node_on_another_or_behind_a_wall(rt: HostRuntime) -> Result<(), Fai
         Point { x: 0, y: 0 },
         Point { x: 0, y: 160 },
     ];
-    let task = small_task(rt.alloc(), &marks)?;
-    let hall = Hall::new(rt.alloc(), &task.scene)?;
-    let mut grown = Grown::new(rt.alloc(), task)?;
-    let mut list = Vec::with_capacity(rt.alloc(), 9)?;
     let records = [
         placed((7, 0), 0, 0, 12_800, 1),
         placed((7, 1), 1, 1, 25_600, 2),
         Record::unplaced(7, 2, 0, Outcome::Same(0)),
         Record::unplaced(63, 0, 2, Outcome::Blocked),
     ];
-    assert_all_handled(&rt, &mut grown, &hall, &mut list, &records);
+    let grown = assert_run(&rt, rt.alloc(), &marks, 9, &records)?;
     assert_eq!(rt; grown.count(), 3);
-    for (number, want) in [
-        (0, node(0, 0, 0, 0)),
-        (1, node(0, 50, 0, 12_800)),
-        (2, node(0, 100, 1, 25_600)),
-        (3, None),
-        (4, None),
-    ] {
-        assert_eq!(rt; node_of(&grown, number), want, "node {number}");
-    }
+    let nodes = [
+        node(0, 0, 0, 0),
+        node(0, 50, 0, 12_800),
+        node(0, 100, 1, 25_600),
+        None,
+        None,
+    ];
+    assert_nodes(&rt, &grown, &nodes);
     Ok(())
 }
