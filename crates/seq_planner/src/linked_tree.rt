@@ -118,6 +118,7 @@ impl LinkedTree {
 #[cfg(test)]
 mod tests {
     use super::*;
+    use std::process::Abort;
     use std::test::Fail;
 
     /// A node under a parent.
@@ -130,27 +131,26 @@ mod tests {
         })
     }
 
-    #[test]
-    fn children_come_in_falling_number(rt: HostRuntime) -> Result<(), Fail> {
-        let alloc = rt.alloc();
+    /// The start with nodes 1 and 3 under it, node 4 under node 1, and node 2 absent.
+    fn five_nodes(alloc: Global) -> Result<LinkedTree, Memory>
+        ensures start { IfOk result (λ tree. IsPresent (points_of tree) 0) }
+        ensures first { IfOk result (λ tree. IsPresent (points_of tree) 1) }
+        ensures last { IfOk result (λ tree. IsPresent (points_of tree) 4) }
+    {
         let mut tree = LinkedTree::new(alloc, Point { x: 0, y: 0 })?;
         tree.push(under(0))?;
         tree.push(None)?;
         tree.push(under(0))?;
         tree.push(under(1))?;
-        let mut list = Vec::new(alloc);
-        tree.push_children(0, &mut list)?;
-        tree.push_children(1, &mut list)?;
-        tree.push_children(4, &mut list)?;
-        assert_eq!(rt; list.as_slice(), [3, 1, 4].as_slice());
-        assert_eq!(rt; tree.point(4), Point { x: 1, y: 2 });
-        assert_eq!(rt; tree.as_slice().len(), 5);
-        Ok(())
+        Ok(tree)
     }
 
-    #[test]
-    fn a_child_moves_from_one_parent_to_another(rt: HostRuntime) -> Result<(), Fail> {
-        let alloc = rt.alloc();
+    /// The start with three nodes under it, of which the second and the third have moved under the first.
+    fn moved_nodes(alloc: Global) -> Result<LinkedTree, Memory>
+        ensures start { IfOk result (λ tree. IsPresent (points_of tree) 0) }
+        ensures first { IfOk result (λ tree. IsPresent (points_of tree) 1) }
+        ensures last { IfOk result (λ tree. IsPresent (points_of tree) 3) }
+    {
         let mut tree = LinkedTree::new(alloc, Point { x: 0, y: 0 })?;
         tree.push(under(0))?;
         tree.push(under(0))?;
@@ -158,10 +158,43 @@ mod tests {
         // from the middle of a list, then from its front
         tree.set_parent(2, 1);
         tree.set_parent(3, 1);
-        let mut list = Vec::new(alloc);
-        tree.push_children(0, &mut list)?;
-        tree.push_children(1, &mut list)?;
-        assert_eq!(rt; list.as_slice(), [1, 3, 2].as_slice());
+        Ok(tree)
+    }
+
+    /// Asserts the children of the start, of node 1 and of the last node, all in one list.
+    fn assert_children(
+        rt: &impl Abort,
+        tree: &LinkedTree,
+        last: u32,
+        list: &mut Vec<u32>,
+        want: &[u32],
+    ) -> Result<(), Memory>
+        requires start { IsPresent (points_of tree.now) 0 }
+        requires first { IsPresent (points_of tree.now) 1 }
+        requires last { IsPresent (points_of tree.now) last }
+    {
+        tree.push_children(0, list)?;
+        tree.push_children(1, list)?;
+        tree.push_children(last, list)?;
+        assert_eq!(rt; list.as_slice(), want);
+        Ok(())
+    }
+
+    #[test]
+    fn children_come_in_falling_number(rt: HostRuntime) -> Result<(), Fail> {
+        let tree = five_nodes(rt.alloc())?;
+        let mut list = Vec::new(rt.alloc());
+        assert_children(&rt, &tree, 4, &mut list, &[3, 1, 4])?;
+        assert_eq!(rt; tree.point(4), Point { x: 1, y: 2 });
+        assert_eq!(rt; tree.as_slice().len(), 5);
+        Ok(())
+    }
+
+    #[test]
+    fn a_child_moves_from_one_parent_to_another(rt: HostRuntime) -> Result<(), Fail> {
+        let tree = moved_nodes(rt.alloc())?;
+        let mut list = Vec::new(rt.alloc());
+        assert_children(&rt, &tree, 3, &mut list, &[1, 3, 2])?;
         Ok(())
     }
 }

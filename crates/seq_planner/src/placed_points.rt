@@ -110,6 +110,7 @@ impl PlacedPoints {
 #[cfg(test)]
 mod tests {
     use super::*;
+    use std::process::Abort;
 
     // five nodes of which the third is absent
     fn four_points(alloc: Global) -> Result<PlacedPoints, Memory>
@@ -124,11 +125,30 @@ mod tests {
         Ok(placed)
     }
 
+    /// Fills a list with the nodes at most `radius` away from a point between them, and asserts that it has these.
+    fn assert_near(
+        rt: &impl Abort,
+        placed: &PlacedPoints,
+        radius: u32,
+        found: &mut Vec<u32>,
+        want: &[u32],
+    ) -> Result<(), Memory>
+        requires numbered { length placed.now.numbers.items ≡ length placed.now.points.items }
+        requires nodes { All IsBounded placed.now.points.items }
+    {
+        placed.near(Point { x: 10, y: 10 }, radius, found)?;
+        assert!(rt; found.as_slice() == want);
+        Ok(())
+    }
+
     #[test]
     fn of_equally_near_nodes_the_least_number_wins(rt: HostRuntime) -> Result<(), Memory> {
         let placed = four_points(rt.alloc())?;
-        assert_eq!(rt; placed.nearest(Point { x: 10, y: 10 }), 1);
-        assert_eq!(rt; placed.nearest(Point { x: 9, y: 21 }), 4);
+        let nearest = [
+            placed.nearest(Point { x: 10, y: 10 }),
+            placed.nearest(Point { x: 9, y: 21 }),
+        ];
+        assert_eq!(rt; nearest, [1, 4]);
         assert_eq!(rt; placed.count(), 4);
         Ok(())
     }
@@ -137,12 +157,9 @@ mod tests {
     fn nodes_at_the_radius_exactly_are_near(rt: HostRuntime) -> Result<(), Memory> {
         let placed = four_points(rt.alloc())?;
         let mut found = Vec::new(rt.alloc());
-        placed.near(Point { x: 10, y: 10 }, 15, &mut found)?;
-        assert!(rt; found.as_slice() == [0, 1, 3, 4].as_slice());
-        placed.near(Point { x: 10, y: 10 }, 10, &mut found)?;
-        assert!(rt; found.as_slice() == [1, 3, 4].as_slice());
-        placed.near(Point { x: 10, y: 10 }, 9, &mut found)?;
-        assert!(rt; found.is_empty());
+        assert_near(&rt, &placed, 15, &mut found, &[0, 1, 3, 4])?;
+        assert_near(&rt, &placed, 10, &mut found, &[1, 3, 4])?;
+        assert_near(&rt, &placed, 9, &mut found, &[])?;
         Ok(())
     }
 
@@ -151,8 +168,7 @@ mod tests {
         let placed = four_points(rt.alloc())?;
         let mut found = Vec::new(rt.alloc());
         found.push(7)?;
-        placed.near(Point { x: 10, y: 10 }, 0, &mut found)?;
-        assert!(rt; found.is_empty());
+        assert_near(&rt, &placed, 0, &mut found, &[])?;
         Ok(())
     }
 }

@@ -51,6 +51,7 @@ pub fn textbook<C: Clearing>(alloc: Global, task: Task, hall: &C) -> Result<Grow
 mod tests {
     use super::*;
     use plan_model::{Goal, Knot, Marks, Outcome, Point, Record, Scene, Sequence, Vertex};
+    use std::process::Abort;
     use swept_check::Hall;
 
     /// The task of these marks in a room of 100 by 100, from its lower left corner by steps of 50.
@@ -79,6 +80,16 @@ mod tests {
             scene,
             marks: Sequence::from_vec(Vec::from_slice(alloc, marks)?),
         })
+    }
+
+    /// The textbook run over these marks in that room.
+    fn small_run(alloc: Global, gamma: u32, marks: &[Point]) -> Result<Grown, Memory>
+        requires gamma { gamma ≤ MOST_GAMMA }
+        requires marks { IsTrue (is_plan (Marks.Listed marks.now)) }
+    {
+        let task = small_task(alloc, gamma, marks)?;
+        let hall = Hall::new(alloc, &task.scene)?;
+        textbook(alloc, task, &hall)
     }
 
     fn placed(turn: u32, nearest: u32, first_parent: u32, first_cost: u64, class: u32) -> Record {
@@ -123,31 +134,28 @@ mod tests {
         })
     }
 
-    /// All nodes of a run, up to that of its last mark.
-    fn knots_of(alloc: Global, grown: &Grown) -> Result<Vec<Option<Knot>>, Memory> {
-        let mut knots = Vec::new(alloc);
-        for number in 0..=grown.limit() {
-            knots.push(knot_of(grown, number))?;
+    /// Asserts all nodes of a run, by number; `None` if one is absent.
+    fn assert_nodes(rt: &impl Abort, grown: &Grown, wants: &[Option<Knot>]) {
+        assert!(rt; wants.len() == grown.limit() as usize + 1);
+        for (number, want) in (0..).zip(wants) {
+            assert_eq!(rt; knot_of(grown, number), *want, "node {number}");
         }
-        Ok(knots)
     }
 
-    /// The records of all marks of a run.
-    fn records_of(alloc: Global, grown: &Grown) -> Result<Vec<Record>, Memory> {
-        let mut records = Vec::new(alloc);
-        for mark in 0..grown.limit() {
-            records.push(grown.record_of(mark))?;
+    /// Asserts the records of all marks of a run, by number.
+    fn assert_records(rt: &impl Abort, grown: &Grown, wants: &[Record]) {
+        assert!(rt; wants.len() == grown.limit() as usize);
+        for (mark, want) in (0..).zip(wants) {
+            assert!(rt; mark < grown.limit());
+            assert_eq!(rt; grown.record_of(mark), *want, "mark {mark}");
         }
-        Ok(records)
     }
 
     #[test]
     fn leaves_the_start_alone_without_marks(rt: HostRuntime) -> Result<(), Memory> {
-        let task = small_task(rt.alloc(), 0, &[])?;
-        let hall = Hall::new(rt.alloc(), &task.scene)?;
-        let grown = textbook(rt.alloc(), task, &hall)?;
-        assert!(rt; knots_of(rt.alloc(), &grown)?.as_slice() == [node(0, 0, 0, 0)].as_slice());
-        assert!(rt; records_of(rt.alloc(), &grown)?.is_empty());
+        let grown = small_run(rt.alloc(), 0, &[])?;
+        assert_nodes(&rt, &grown, &[node(0, 0, 0, 0)]);
+        assert_records(&rt, &grown, &[]);
         Ok(())
     }
 
@@ -161,9 +169,7 @@ mod tests {
             Point { x: 60, y: 80 },
             Point { x: 150, y: 80 },
         ];
-        let task = small_task(rt.alloc(), 0, &marks)?;
-        let hall = Hall::new(rt.alloc(), &task.scene)?;
-        let grown = textbook(rt.alloc(), task, &hall)?;
+        let grown = small_run(rt.alloc(), 0, &marks)?;
         let nodes = [
             node(0, 0, 0, 0),
             node(30, 40, 0, 12_800),
@@ -172,6 +178,7 @@ mod tests {
             None,
             None,
         ];
+        assert_nodes(&rt, &grown, &nodes);
         let records = [
             placed(0, 0, 0, 12_800, 1),
             placed(1, 1, 1, 25_600, 2),
@@ -179,8 +186,7 @@ mod tests {
             unplaced(3, 3, Outcome::Same(3)),
             unplaced(4, 2, Outcome::Blocked),
         ];
-        assert!(rt; knots_of(rt.alloc(), &grown)?.as_slice() == nodes.as_slice());
-        assert!(rt; records_of(rt.alloc(), &grown)?.as_slice() == records.as_slice());
+        assert_records(&rt, &grown, &records);
         Ok(())
     }
 
@@ -194,9 +200,7 @@ mod tests {
             Point { x: 40, y: 30 },
             Point { x: 100, y: 79 },
         ];
-        let task = small_task(rt.alloc(), 1000, &marks)?;
-        let hall = Hall::new(rt.alloc(), &task.scene)?;
-        let grown = textbook(rt.alloc(), task, &hall)?;
+        let grown = small_run(rt.alloc(), 1000, &marks)?;
         let nodes = [
             node(0, 0, 0, 0),
             node(0, 50, 0, 12_800),
@@ -205,6 +209,7 @@ mod tests {
             node(40, 30, 0, 12_800),
             node(100, 79, 3, 40_704),
         ];
+        assert_nodes(&rt, &grown, &nodes);
         let records = [
             placed(0, 0, 0, 12_800, 1),
             placed(1, 1, 1, 25_449, 2),
@@ -212,8 +217,7 @@ mod tests {
             placed(3, 1, 0, 12_800, 3),
             placed(4, 3, 3, 40_704, 3),
         ];
-        assert!(rt; knots_of(rt.alloc(), &grown)?.as_slice() == nodes.as_slice());
-        assert!(rt; records_of(rt.alloc(), &grown)?.as_slice() == records.as_slice());
+        assert_records(&rt, &grown, &records);
         Ok(())
     }
 }
