@@ -127,16 +127,14 @@ mod tests {
     use std::process::Abort;
     use std::test::Fail;
 
-    // Asserts how a fault is shown, alone and as a refusal.
-    fn assert_shown(
+    // Asserts how a fault or a refusal is shown.
+    fn assert_shown<T: fmt::Display>(
         rt: &impl Abort,
         alloc: Global,
-        fault: SceneFault,
+        value: &T,
         want: &str,
     ) -> Result<(), AllocError> {
-        assert_eq!(rt; fault.to_string(alloc)?.as_str(), want);
-        let refusal = SceneRefusal::Fault(fault);
-        assert_eq!(rt; refusal.to_string(alloc)?.as_str(), want);
+        assert_eq!(rt; value.to_string(alloc)?.as_str(), want);
         Ok(())
     }
 
@@ -146,7 +144,9 @@ mod tests {
             (5, Kind::Repeat, "line 5 kind 6 Repeat"),
             (16_777_217, Kind::Unbuilt, "line 16777217 kind 10 Unbuilt"),
         ] {
-            assert_shown(&rt, rt.alloc(), SceneFault { line, kind }, want)?;
+            let fault = SceneFault { line, kind };
+            assert_shown(&rt, rt.alloc(), &fault, want)?;
+            assert_shown(&rt, rt.alloc(), &SceneRefusal::Fault(fault), want)?;
         }
         Ok(())
     }

@@ -176,12 +176,8 @@ fn refuses_polygons(rt: HostRuntime) {
 
 // A text, and then a piece of text so many times.
 fn repeated(alloc: Global, before: &str, piece: &str, count: usize) -> Result<String, AllocError> {
-    let mut text = String::new(alloc);
-    text.push_str(before)?;
-    for _number in 0..count {
-        text.push_str(piece)?;
-    }
-    Ok(text)
+    let pieces = piece.repeat(alloc, count)?;
+    [before, pieces.as_str()].concat(alloc)
 }
 
 const TRIANGLE: &str = "obstacle 0 0 9 0 0 9\n";

@@ -43,8 +43,8 @@ fn most_obstacles(alloc: Global) -> Result<Polys, AllocError>
 }
 
 // Asserts the canonical text of a scene.
-fn assert_written(rt: &impl Abort, alloc: Global, scene: &Scene, want: &str) -> Result<(), Memory> {
-    let text = write_scene(alloc, scene)?;
+fn assert_written(rt: &impl Abort, alloc: Global, scene: Scene, want: &str) -> Result<(), Fail> {
+    let text = write_scene(alloc, &scene)?;
     assert_eq!(rt; text.as_slice(), want.as_bytes());
     Ok(())
 }
@@ -53,20 +53,20 @@ fn assert_written(rt: &impl Abort, alloc: Global, scene: &Scene, want: &str) -> 
 fn writes_every_line(rt: HostRuntime) -> Result<(), Fail> {
     for (text, want) in [(SMALL, SMALL_WRITTEN), (POLYGONS, POLYGONS_WRITTEN)] {
         let scene = read_scene(rt.alloc(), text.as_bytes())?;
-        assert_written(&rt, rt.alloc(), &scene, want)?;
+        assert_written(&rt, rt.alloc(), scene, want)?;
     }
     Ok(())
 }
 
 // The canonical text with as many of these triangles as there may be.
 fn most_obstacles_written(alloc: Global) -> Result<String, AllocError> {
-    let mut text = String::new(alloc);
-    text.push_str("prrt 1\nroom 9 9\nbody 0 0\n")?;
-    for _number in 0..1_024 {
-        text.push_str("obstacle -131072 0 131071 0 0 131071\n")?;
-    }
-    text.push_str("start 0 0\ngoal 1 1 2 2\nstep 4\ngamma 0\nseed 0\nstrips 1\n")?;
-    Ok(text)
+    let obstacles = "obstacle -131072 0 131071 0 0 131071\n".repeat(alloc, 1_024)?;
+    [
+        "prrt 1\nroom 9 9\nbody 0 0\n",
+        obstacles.as_str(),
+        "start 0 0\ngoal 1 1 2 2\nstep 4\ngamma 0\nseed 0\nstrips 1\n",
+    ]
+    .concat(alloc)
 }
 
 // The small scene with as many obstacles as there may be.
@@ -80,8 +80,7 @@ fn scene_with_most_obstacles(alloc: Global) -> Result<Scene, Fail> {
 fn writes_as_many_obstacles_as_there_may_be(rt: HostRuntime) -> Result<(), Fail> {
     let want = most_obstacles_written(rt.alloc())?;
     let scene = scene_with_most_obstacles(rt.alloc())?;
-    assert_written(&rt, rt.alloc(), &scene, want.as_str())?;
-    Ok(())
+    assert_written(&rt, rt.alloc(), scene, want.as_str())
 }
 
 // Texts that are canonical already, with a line for each field: drawn marks, and listed ones.
@@ -104,22 +103,16 @@ fn read_again(alloc: Global, scene: &Scene) -> Result<Scene, Fail>
 }
 
 // Asserts that a scene is read again from what is written for it, and is then written as this text.
-fn assert_read_again(
-    rt: &impl Abort,
-    alloc: Global,
-    scene: &Scene,
-    want: &str,
-) -> Result<(), Fail> {
-    let again = read_again(alloc, scene)?;
-    assert_written(rt, alloc, &again, want)?;
-    Ok(())
+fn assert_read_again(rt: &impl Abort, alloc: Global, scene: Scene, want: &str) -> Result<(), Fail> {
+    let again = read_again(alloc, &scene)?;
+    assert_written(rt, alloc, again, want)
 }
 
 #[test]
 fn what_is_written_is_read_again(rt: HostRuntime) -> Result<(), Fail> {
     for canonical in [DRAWN, LISTED] {
         let scene = read_scene(rt.alloc(), canonical.as_bytes())?;
-        assert_read_again(&rt, rt.alloc(), &scene, canonical)?;
+        assert_read_again(&rt, rt.alloc(), scene, canonical)?;
     }
     Ok(())
 }
