@@ -3,6 +3,7 @@
 ghost use Rattle.std.specs.Prelude.{◌≡◌, ◌≤◌, false};
 
 use super::*;
+use calls::*;
 use plan_model::{MemSink, MemSource, SureSource};
 use plan_work::NoGate;
 use std::process::Abort;
@@ -28,95 +29,6 @@ const BLOCKED_START: &str = "prrt 1\nroom 10 10\nstart 11 5\ngoal 0 0 9 9\nstep 
 const MOST_DRAWN_MARKS: &str =
     "prrt 1\nroom 1 1\nstart 0 0\ngoal 1 1 1 1\nstep 4\ngamma 9\nstrips 2\nmarks 262143\n";
 
-// What the call for these words over this source and this sink has done. The gate is told of the turns of workers.
-fn call<R: Threads + Sync + Wait, S: Source, G: Gate>(
-    rt: &R,
-    alloc: Global,
-    words: &[&str],
-    source: &mut S,
-    sink: &mut MemSink,
-    gate: &G,
-) -> Result<Done, Fail>
-    requires { S.has_ended source.old ≡ false }
-{
-    let mut given = Vec::new(alloc);
-    for word in words {
-        given.push(String::from_str(alloc, word)?)?;
-    }
-    Ok(run(rt, alloc, &given, source, sink, gate))
-}
-
-// The same over a sink that does not fail, and what is written.
-fn call_with_gate<R: Threads + Sync + Wait, S: Source, G: Gate>(
-    rt: &R,
-    alloc: Global,
-    words: &[&str],
-    source: &mut S,
-    gate: &G,
-) -> Result<(Done, String), Fail>
-    requires { S.has_ended source.old ≡ false }
-{
-    let mut sink = MemSink::new(alloc, 1 << 24, 1 << 24, &[])?;
-    let done = call(rt, alloc, words, source, &mut sink, gate)?;
-    let written = String::from_utf8(Vec::from_slice(alloc, sink.bytes())?)?;
-    Ok((done, written))
-}
-
-// The same through the gate that does nothing.
-fn call_over<R: Threads + Sync + Wait, S: Source>(
-    rt: &R,
-    alloc: Global,
-    words: &[&str],
-    source: &mut S,
-) -> Result<(Done, String), Fail>
-    requires { S.has_ended source.old ≡ false }
-{
-    call_with_gate(rt, alloc, words, source, &NoGate)
-}
-
-// The status of that call, and what it writes.
-fn answer_over<R: Threads + Sync + Wait, S: Source>(
-    rt: &R,
-    alloc: Global,
-    words: &[&str],
-    source: &mut S,
-) -> Result<(u8, String), Fail>
-    requires { S.has_ended source.old ≡ false }
-{
-    let (done, written) = call_over(rt, alloc, words, source)?;
-    Ok((done.status, written))
-}
-
-// The same over a source of this text.
-fn answer_to_text<R: Threads + Sync + Wait>(
-    rt: &R,
-    alloc: Global,
-    words: &[&str],
-    text: &str,
-) -> Result<(u8, String), Fail> {
-    let mut source = MemSource::new(alloc, text.as_bytes(), 1 << 16, &[])?;
-    answer_over(rt, alloc, words, &mut source)
-}
-
-// The same over a source whose first read fails; and how many of its reads failed.
-fn answer_over_failing<R: Threads + Sync + Wait>(
-    rt: &R,
-    alloc: Global,
-    words: &[&str],
-) -> Result<(u8, String, u64), Fail> {
-    let mut failing = MemSource::new(alloc, b"prrt 1\n", 10, &[1])?;
-    let (status, written) = answer_over(rt, alloc, words, &mut failing)?;
-    Ok((status, written, failing.faults()))
-}
-
-// How many nodes the run that was handed out has and how many marks it has handled, if there is one.
-fn counts_of(done: &Done) -> Option<(u32, u32)> {
-    match &done.run {
-        Some(grown) => Some((grown.count(), grown.limit())),
-        None => None,
-    }
-}
-
 // Compares the answer over this source with that of a case.
 fn expect_over<R: Threads + Sync + Wait + Abort, S: Source>(
     rt: &R,
@@ -128,8 +40,8 @@ fn expect_over<R: Threads + Sync + Wait + Abort, S: Source>(
     requires { S.has_ended source.old ≡ false }
 {
     let (status, written) = answer_over(rt, alloc, words, source)?;
-    assert_eq!(rt; written.as_str(), case.text, "{}", case.shows);
-    assert_eq!(rt; status, case.status, "{}", case.shows);
+    assert_text(rt, &written, case.text, &case.shows);
+    assert_status(rt, status, case.status, &case.shows);
     Ok(())
 }
 
@@ -178,6 +90,16 @@ fn expect_each<R: Threads + Sync + Wait + Abort>(
 fn expect_ends<R: Abort>(rt: &R, text: &str, first: &str, last: &str) {
     assert_eq!(rt; text.lines().next(), Some(first));
     assert_eq!(rt; text.lines().last(), Some(last));
+}
+
+// Compares one line of a text, by number from 0.
+fn expect_line<R: Abort>(rt: &R, text: &str, number: usize, line: &str) {
+    assert_eq!(rt; text.lines().nth(number), Some(line));
+}
+
+// Compares how many lines a text has.
+fn expect_line_count<R: Abort>(rt: &R, text: &str, count: usize) {
+    assert_eq!(rt; text.lines().count(), count);
 }
 
 #[test]
@@ -302,17 +224,40 @@ fn plans_over_drawn_marks(rt: HostRuntime) -> Result<(), Fail> {
     expect_each(&rt, rt.alloc(), &["plain"], &cases)
 }
 
-// A scene of a corridor with a mark at each lattice step, so that the path has a point at each.
-fn corridor(alloc: Global, length: u32) -> Result<String, Fail> {
-    let mut text = String::new(alloc);
+// Adds the lines of a corridor before those of its marks.
+fn write_corridor(text: &mut String, length: u32) -> Result<(), Fail> {
     write!(
         text,
         "prrt 1\nroom {length} 10\nstart 0 0\ngoal {length} 0 {length} 0\nstep 4\n"
     )?;
+    Ok(())
+}
+
+// Adds the line of a mark in a corridor.
+fn write_mark(text: &mut String, x: u32) -> Result<(), Fail> {
+    write!(text, "mark {x} 0\n")?;
+    Ok(())
+}
+
+// A scene of a corridor with a mark at each lattice step, so that the path has a point at each.
+fn corridor(alloc: Global, length: u32) -> Result<String, Fail> {
+    let mut text = String::new(alloc);
+    write_corridor(&mut text, length)?;
     for x in 1..=length {
-        write!(text, "mark {x} 0\n")?;
+        write_mark(&mut text, x)?;
     }
     Ok(text)
+}
+
+// The report of the plan of a scene that has a path.
+fn report_of<R: Threads + Sync + Wait + Abort>(
+    rt: &R,
+    alloc: Global,
+    scene: &str,
+) -> Result<String, Fail> {
+    let (status, report) = answer_to_text(rt, alloc, &["plain"], scene)?;
+    assert_status(rt, status, 0, &"plain");
+    Ok(report)
 }
 
 // The report of the plan of a corridor.
@@ -321,10 +266,8 @@ fn report_of_corridor<R: Threads + Sync + Wait + Abort>(
     alloc: Global,
     length: u32,
 ) -> Result<String, Fail> {
-    let text = corridor(alloc, length)?;
-    let (status, written) = answer_to_text(rt, alloc, &["plain"], &text)?;
-    assert_eq!(rt; status, 0);
-    Ok(written)
+    let scene = corridor(alloc, length)?;
+    report_of(rt, alloc, &scene)
 }
 
 #[test]
@@ -349,9 +292,9 @@ fn plans_one_branch_of_four_thousand_nodes(rt: HostRuntime) -> Result<(), Fail> 
         "nodes 4001 placed 4000 same 0 blocked 0",
     );
     for (number, line) in [(1, "0 0"), (2346, "2345 0"), (4001, "4000 0")] {
-        assert_eq!(rt; written.lines().nth(number), Some(line));
+        expect_line(&rt, &written, number, line);
     }
-    assert_eq!(rt; written.lines().count(), 4003);
+    expect_line_count(&rt, &written, 4003);
     Ok(())
 }
 
@@ -431,6 +374,16 @@ fn plans_for_a_body(rt: HostRuntime) -> Result<(), Fail> {
     expect_each(&rt, rt.alloc(), &["plain"], &cases)
 }
 
+// Compares the answer of the commands that read a scene.
+fn expect_by_readers<R: Threads + Sync + Wait + Abort>(
+    rt: &R,
+    alloc: Global,
+    case: &Case,
+) -> Result<(), Fail> {
+    expect(rt, alloc, &["plain"], case)?;
+    expect(rt, alloc, &["show"], case)
+}
+
 // Compares the refusal of each text by the commands that read a scene. Each is given with what it shows and with the line
 // that tells its fault.
 fn expect_refused<R: Threads + Sync + Wait + Abort>(
@@ -445,8 +398,7 @@ fn expect_refused<R: Threads + Sync + Wait + Abort>(
             status: 3,
             text,
         };
-        expect(rt, alloc, &["plain"], &case)?;
-        expect(rt, alloc, &["show"], &case)?;
+        expect_by_readers(rt, alloc, &case)?;
     }
     Ok(())
 }
@@ -594,6 +546,36 @@ fn shows_a_scattered_scene(rt: HostRuntime) -> Result<(), Fail> {
     expect_each(&rt, rt.alloc(), &["show"], &cases)
 }
 
+// Compares the refusal of a text. No run is handed out.
+fn expect_no_run<R: Threads + Sync + Wait + Abort>(
+    rt: &R,
+    alloc: Global,
+    words: &[&str],
+    text: &str,
+    status: u8,
+    line: &str,
+) -> Result<(), Fail> {
+    let mut source = SureSource::new(alloc, text.as_bytes())?;
+    let (done, written) = call_over(rt, alloc, words, &mut source)?;
+    assert_text(rt, &written, line, &words);
+    assert_status(rt, done.status, status, &words);
+    assert_counts(rt, &done, None, &words);
+    Ok(())
+}
+
+// What is written for words over a source whose reads would fail, of which there is none. Compares the status.
+fn written_unread<R: Threads + Sync + Wait + Abort>(
+    rt: &R,
+    alloc: Global,
+    words: &[&str],
+    want: u8,
+) -> Result<String, Fail> {
+    let (status, written, faults) = answer_over_failing(rt, alloc, words)?;
+    assert_status(rt, status, want, &words);
+    assert_faults(rt, faults, 0, &words);
+    Ok(written)
+}
+
 // Compares the refusal of words over a scene, and over a source whose reads would fail, of which there is none. No run is
 // handed out.
 fn expect_words_refused<R: Threads + Sync + Wait + Abort>(
@@ -601,20 +583,27 @@ fn expect_words_refused<R: Threads + Sync + Wait + Abort>(
     alloc: Global,
     words: &[&str],
 ) -> Result<(), Fail> {
-    let mut source = SureSource::new(alloc, ONE_MARK.as_bytes())?;
-    let (done, written) = call_over(rt, alloc, words, &mut source)?;
-    assert_eq!(rt; written.as_str(), "words refused\n", "{words:?}");
-    assert_eq!(rt; done.status, 2, "{words:?}");
-    assert_eq!(rt; counts_of(&done), None, "{words:?}");
-    let (status, written, faults) = answer_over_failing(rt, alloc, words)?;
-    assert_eq!(rt; written.as_str(), "words refused\n", "{words:?}");
-    assert_eq!(rt; (status, faults), (2, 0), "{words:?} is read");
+    expect_no_run(rt, alloc, words, ONE_MARK, 2, "words refused\n")?;
+    let written = written_unread(rt, alloc, words, 2)?;
+    assert_text(rt, &written, "words refused\n", &words);
+    Ok(())
+}
+
+// The same of each form of words.
+fn expect_each_refused<R: Threads + Sync + Wait + Abort>(
+    rt: &R,
+    alloc: Global,
+    forms: &[&[&str]],
+) -> Result<(), Fail> {
+    for words in forms {
+        expect_words_refused(rt, alloc, words)?;
+    }
     Ok(())
 }
 
 #[test]
 fn refuses_with_the_cause(rt: HostRuntime) -> Result<(), Fail> {
-    let words: [&[&str]; 20] = [
+    let forms: [&[&str]; 20] = [
         &[],
         &["plain full"],
         &["plain  full"],
@@ -636,9 +625,7 @@ fn refuses_with_the_cause(rt: HostRuntime) -> Result<(), Fail> {
         &["gen", "1", "2"],
         &["trial", "x"],
     ];
-    for form in words {
-        expect_words_refused(&rt, rt.alloc(), form)?;
-    }
+    expect_each_refused(&rt, rt.alloc(), &forms)?;
     let blocked = Case {
         shows: "a start outside the room",
         scene: BLOCKED_START,
@@ -648,51 +635,66 @@ fn refuses_with_the_cause(rt: HostRuntime) -> Result<(), Fail> {
     expect(&rt, rt.alloc(), &["plain"], &blocked)
 }
 
-// What is written for a command and the number of a generated scene, over a source whose reads would fail, of which there
-// is none.
+// What is written for a command and the number of a generated scene. Nothing is read.
 fn generated<R: Threads + Sync + Wait + Abort>(
     rt: &R,
     alloc: Global,
     command: &str,
     number: &str,
 ) -> Result<String, Fail> {
-    let (status, written, faults) = answer_over_failing(rt, alloc, &[command, number])?;
-    assert_eq!(rt; (status, faults), (0, 0), "{command} {number}");
-    Ok(written)
+    written_unread(rt, alloc, &[command, number], 0)
+}
+
+// Compares how the text of a generated scene begins, and its last line.
+fn expect_generated<R: Threads + Sync + Wait + Abort>(
+    rt: &R,
+    alloc: Global,
+    number: &str,
+    begin: &str,
+    last: &str,
+) -> Result<(), Fail> {
+    let text = generated(rt, alloc, "gen", number)?;
+    assert!(rt; text.as_str().starts_with(begin));
+    expect_ends(rt, &text, "prrt 1", last);
+    Ok(())
 }
 
 #[test]
 fn writes_a_generated_scene(rt: HostRuntime) -> Result<(), Fail> {
-    let begin =
+    let first =
         "prrt 1\nroom 9999 9999\nbody 0 0 20 0 20 20 0 20\nobstacle 631 700 961 700 961 1030 631 1030\n";
-    let first = generated(&rt, rt.alloc(), "gen", "0")?;
-    assert!(rt; first.as_str().starts_with(begin));
-    expect_ends(&rt, &first, "prrt 1", "marks 2000");
-    let last = generated(&rt, rt.alloc(), "gen", "9999")?;
-    expect_ends(&rt, &last, "prrt 1", "marks 20000");
+    expect_generated(&rt, rt.alloc(), "0", first, "marks 2000")?;
+    let any = "prrt 1\nroom 9999 9999\nbody 0 0 20 0 20 20 0 20\nobstacle ";
+    expect_generated(&rt, rt.alloc(), "9999", any, "marks 20000")
+}
+
+// Compares the first and the last line of the plan of a generated scene that has a path.
+fn expect_planned<R: Threads + Sync + Wait + Abort>(
+    rt: &R,
+    alloc: Global,
+    number: &str,
+    first: &str,
+    last: &str,
+) -> Result<(), Fail> {
+    let scene = generated(rt, alloc, "gen", number)?;
+    let report = report_of(rt, alloc, &scene)?;
+    expect_ends(rt, &report, first, last);
     Ok(())
 }
 
 // A trial is the plan of the generated scene without the lines of the points. It was worked out apart from the planner.
 #[test]
 fn tries_a_generated_scene(rt: HostRuntime) -> Result<(), Fail> {
+    let path = "path 48 cost 3522991";
+    let counts = "nodes 7605 placed 7604 same 0 blocked 396";
+    expect_planned(&rt, rt.alloc(), "3", path, counts)?;
     let summary = generated(&rt, rt.alloc(), "trial", "3")?;
-    assert_eq!(rt;
-        summary.as_str(),
-        "path 48 cost 3522991\nnodes 7605 placed 7604 same 0 blocked 396\n"
-    );
-    let text = generated(&rt, rt.alloc(), "gen", "3")?;
-    let (planned, report) = answer_to_text(&rt, rt.alloc(), &["plain"], &text)?;
-    expect_ends(
-        &rt,
-        &report,
-        "path 48 cost 3522991",
-        "nodes 7605 placed 7604 same 0 blocked 396",
-    );
-    assert_eq!(rt; planned, 0);
+    let text = "path 48 cost 3522991\nnodes 7605 placed 7604 same 0 blocked 396\n";
+    assert_text(&rt, &summary, text, &"trial 3");
     Ok(())
 }
 
+mod calls;
 mod faults;
 mod full_reports;
 mod limits;

@@ -17,10 +17,22 @@ pub fn expect_read_fault<R: Threads + Sync + Wait + Abort>(
 {
     let mut failing = MemSource::new(alloc, text.as_bytes(), most, &[fails])?;
     let (done, written) = call_over(rt, alloc, words, &mut failing)?;
-    assert_eq!(rt; written.as_str(), "read fault\n", "{words:?}, call {fails}");
-    assert_eq!(rt; done.status, 5, "{words:?}, call {fails}");
-    assert_eq!(rt; counts_of(&done), None, "{words:?}, call {fails}");
-    assert_eq!(rt; failing.faults(), 1, "{words:?}, call {fails}");
+    assert_text(rt, &written, "read fault\n", &(words, fails));
+    assert_status(rt, done.status, 5, &(words, fails));
+    assert_counts(rt, &done, None, &(words, fails));
+    assert_faults(rt, failing.faults(), 1, &(words, fails));
+    Ok(())
+}
+
+// The same of a small scene, at one of the first reads.
+pub fn expect_early_faults<R: Threads + Sync + Wait + Abort>(
+    rt: &R,
+    alloc: Global,
+    words: &[&str],
+) -> Result<(), Fail> {
+    for fails in [1, 2, 8] {
+        expect_read_fault(rt, alloc, words, ONE_MARK, 10, fails)?;
+    }
     Ok(())
 }
 
@@ -28,9 +40,7 @@ pub fn expect_read_fault<R: Threads + Sync + Wait + Abort>(
 fn refuses_a_source_that_fails_early(rt: HostRuntime) -> Result<(), Fail> {
     let forms: [&[&str]; 3] = [&["plain"], &["plain", "full"], &["show"]];
     for form in forms {
-        for fails in [1, 2, 8] {
-            expect_read_fault(&rt, rt.alloc(), form, ONE_MARK, 10, fails)?;
-        }
+        expect_early_faults(&rt, rt.alloc(), form)?;
     }
     Ok(())
 }
@@ -48,7 +58,8 @@ fn expect_late_fault<R: Threads + Sync + Wait + Abort>(
     }
     let mut sound = MemSource::new(alloc, text.as_bytes(), 100, &[172])?;
     let (status, _) = answer_over(rt, alloc, words, &mut sound)?;
-    assert_eq!(rt; (status, sound.faults()), (0, 0));
+    assert_status(rt, status, 0, &words);
+    assert_faults(rt, sound.faults(), 0, &words);
     Ok(())
 }
 
@@ -72,10 +83,11 @@ pub fn expect_cut<R: Threads + Sync + Wait + Abort>(
     let mut source = MemSource::new(alloc, ONE_MARK.as_bytes(), 1 << 16, &[])?;
     let mut sink = MemSink::new(alloc, 1000, 10, &[fails])?;
     let done = call(rt, alloc, words, &mut source, &mut sink, &NoGate)?;
-    assert_eq!(rt; sink.bytes(), taken.as_bytes(), "{words:?}, call {fails}");
-    assert_eq!(rt; done.status, 6, "{words:?}, call {fails}");
-    assert_eq!(rt; counts_of(&done), counts, "{words:?}, call {fails}");
-    assert_eq!(rt; sink.faults(), 1, "{words:?}, call {fails}");
+    assert_status(rt, done.status, 6, &(words, fails));
+    assert_counts(rt, &done, counts, &(words, fails));
+    assert_faults(rt, sink.faults(), 1, &(words, fails));
+    let written = text_in(alloc, &sink)?;
+    assert_text(rt, &written, taken, &(words, fails));
     Ok(())
 }
 

@@ -121,6 +121,7 @@ mark 1 worker 0 turn 1 nearest 0 placed class 1 first 0 363\n";
         "path 2 cost 363",
         "mark 262142 worker 0 turn 262142 nearest 0 same 0",
     );
-    assert_eq!(rt; (status, written.lines().count()), (0, 262_151));
+    assert_status(&rt, status, 0, &words);
+    expect_line_count(&rt, &written, 262_151);
     Ok(())
 }

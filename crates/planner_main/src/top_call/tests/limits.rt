@@ -42,13 +42,24 @@ fn plans_among_as_many_obstacles_as_there_may_be(rt: HostRuntime) -> Result<(), 
     expect_among_obstacles(&rt, rt.alloc(), 1_025, 3, "line 1027 kind 8 Many\n")
 }
 
+// Compares how many lines the canonical text of a scene has.
+fn expect_shown<R: Threads + Sync + Wait + Abort>(
+    rt: &R,
+    alloc: Global,
+    scene: &str,
+    lines: usize,
+) -> Result<(), Fail> {
+    let (status, written) = answer_to_text(rt, alloc, &["show"], scene)?;
+    assert_status(rt, status, 0, &"show");
+    expect_line_count(rt, &written, lines);
+    Ok(())
+}
+
 #[test]
 fn shows_as_many_marks_as_there_may_be(rt: HostRuntime) -> Result<(), Fail> {
     let scene = "prrt 1\nroom 9 9\nstart 0 0\ngoal 1 1 2 2\nstep 4\n";
     let mut text = repeated(rt.alloc(), scene, "mark 0 0\n", 262_143)?;
-    let (status, written) = answer_to_text(&rt, rt.alloc(), &["show"], &text)?;
-    assert_eq!(rt; status, 0);
-    assert_eq!(rt; written.lines().count(), 262_152);
+    expect_shown(&rt, rt.alloc(), &text, 262_152)?;
     text.push_str("mark 0 0\n")?;
     let more = Case {
         shows: "one more",

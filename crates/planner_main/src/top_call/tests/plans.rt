@@ -1,6 +1,6 @@
 //! Runs by several workers: what `plan W` and `plan W full` write, and which run they hand out.
 
-use super::faults::{expect_cut, expect_read_fault};
+use super::faults::{expect_cut, expect_early_faults};
 use super::*;
 use plan_model::Outcome;
 use std::sync::atomic::{AtomicBool, Ordering};
@@ -88,14 +88,9 @@ fn expect_by<R: Threads + Sync + Wait + Abort>(
 ) -> Result<(), Fail> {
     let mut source = MemSource::new(alloc, case.scene.as_bytes(), 1000, &[])?;
     let (done, written) = call_over(rt, alloc, &["plan", workers], &mut source)?;
-    assert_eq!(rt; written.as_str(), case.text, "{} by {workers}", case.shows);
-    assert_eq!(rt; done.status, case.status, "{} by {workers}", case.shows);
-    assert_eq!(rt;
-        counts_of(&done),
-        Some(counts),
-        "{} by {workers}",
-        case.shows
-    );
+    assert_text(rt, &written, case.text, &(case.shows, workers));
+    assert_status(rt, done.status, case.status, &(case.shows, workers));
+    assert_counts(rt, &done, Some(counts), &(case.shows, workers));
     Ok(())
 }
 
@@ -188,7 +183,15 @@ mark 2 worker 0 turn 2 nearest 1 blocked\n",
     expect_each(&rt, rt.alloc(), &["plan", "1", "full"], &cases)
 }
 
-// Compares the counts of a run over so many marks with its records, and with the line of its report that tells them.
+// Compares the counts of a run over so many marks with its records.
+fn expect_counted<R: Abort>(rt: &R, grown: &Grown, marks: u32) {
+    let [placed, same, blocked] = outcomes(grown);
+    let handled = u32::from(placed) + u32::from(same) + u32::from(blocked);
+    assert_eq!(rt; (grown.limit(), handled), (marks, marks));
+    assert_eq!(rt; grown.count(), u32::from(placed) + 1);
+}
+
+// The same, and compares them with the line of its report that tells them.
 fn expect_whole<R: Abort>(
     rt: &R,
     alloc: Global,
@@ -196,13 +199,18 @@ fn expect_whole<R: Abort>(
     marks: u32,
     report: &str,
 ) -> Result<(), Fail> {
-    let [placed, same, blocked] = outcomes(grown);
-    let handled = u32::from(placed) + u32::from(same) + u32::from(blocked);
-    assert_eq!(rt; (grown.limit(), handled), (marks, marks));
-    assert_eq!(rt; grown.count(), u32::from(placed) + 1);
+    expect_counted(rt, grown, marks);
     let counts = counts_written(alloc, grown)?;
     assert_eq!(rt; counts_line(report), Some(counts.as_str()));
     Ok(())
+}
+
+// The run that a call has handed out.
+fn run_of<'a, R: Abort>(rt: &R, done: &'a Done) -> &'a Grown {
+    let Some(grown) = &done.run else {
+        panic!(rt; "no run");
+    };
+    grown
 }
 
 // How many lines of a report tell of a mark.
@@ -218,9 +226,7 @@ fn mark_lines(report: &str) -> usize {
 fn plans_hundreds_of_marks_by_three_workers(rt: HostRuntime) -> Result<(), Fail> {
     let mut source = SureSource::new(rt.alloc(), DRAWN_MARKS.as_bytes())?;
     let (done, written) = call_over(&rt, rt.alloc(), &["plan", "3", "full"], &mut source)?;
-    let Some(grown) = &done.run else {
-        panic!(rt; "no run");
-    };
+    let grown = run_of(&rt, &done);
     expect_whole(&rt, rt.alloc(), grown, 400, &written)?;
     assert!(rt; greatest_worker(grown) < 3);
     assert_eq!(rt; mark_lines(&written), 400);
@@ -236,24 +242,29 @@ fn three_workers_grow_the_tree_of_one(rt: HostRuntime) -> Result<(), Fail> {
     Ok(())
 }
 
+// Compares the run of a scene of 20,000 marks by four workers with its short report.
+fn expect_by_four<R: Threads + Sync + Wait + Abort>(
+    rt: &R,
+    alloc: Global,
+    scene: &str,
+) -> Result<(), Fail> {
+    let mut source = MemSource::new(alloc, scene.as_bytes(), 1000, &[])?;
+    let (done, written) = call_over(rt, alloc, &["plan", "4"], &mut source)?;
+    assert!(rt; done.status <= 1);
+    assert_eq!(rt; written.lines().last(), counts_line(&written));
+    expect_whole(rt, alloc, run_of(rt, &done), 20_000, &written)
+}
+
 #[test]
 fn plans_a_generated_scene_by_four_workers(rt: HostRuntime) -> Result<(), Fail> {
     let text = generated(&rt, rt.alloc(), "gen", "9")?;
-    let mut source = MemSource::new(rt.alloc(), text.as_bytes(), 1000, &[])?;
-    let (done, written) = call_over(&rt, rt.alloc(), &["plan", "4"], &mut source)?;
-    let Some(grown) = &done.run else {
-        panic!(rt; "no run");
-    };
-    expect_whole(&rt, rt.alloc(), grown, 20_000, &written)?;
-    assert_eq!(rt; written.lines().last(), counts_line(&written));
-    assert!(rt; done.status <= 1);
-    Ok(())
+    expect_by_four(&rt, rt.alloc(), &text)
 }
 
 // The words are refused before anything is read.
 #[test]
 fn refuses_other_numbers_of_workers(rt: HostRuntime) -> Result<(), Fail> {
-    let words: [&[&str]; 24] = [
+    let forms: [&[&str]; 24] = [
         &[],
         &["plan"],
         &["plan", "0"],
@@ -279,53 +290,26 @@ fn refuses_other_numbers_of_workers(rt: HostRuntime) -> Result<(), Fail> {
         &["plain", "1"],
         &["plain", "1", "full"],
     ];
-    for form in words {
-        expect_words_refused(&rt, rt.alloc(), form)?;
-    }
-    Ok(())
+    expect_each_refused(&rt, rt.alloc(), &forms)
 }
 
-// Compares the refusal of a text by several workers. No run is handed out.
-fn expect_no_run<R: Threads + Sync + Wait + Abort>(
+// Compares the refusals of scenes, and of a source that fails.
+fn expect_no_plan<R: Threads + Sync + Wait + Abort>(
     rt: &R,
     alloc: Global,
     words: &[&str],
-    text: &str,
-    status: u8,
-    line: &str,
 ) -> Result<(), Fail> {
-    let mut source = SureSource::new(alloc, text.as_bytes())?;
-    let (done, written) = call_over(rt, alloc, words, &mut source)?;
-    assert_eq!(rt; written.as_str(), line, "{words:?}");
-    assert_eq!(rt; done.status, status, "{words:?}");
-    assert_eq!(rt; counts_of(&done), None, "{words:?}");
-    Ok(())
+    expect_no_run(rt, alloc, words, BLOCKED_START, 4, "start blocked\n")?;
+    expect_no_run(rt, alloc, words, "prrt 2\n", 3, "line 1 kind 1 Version\n")?;
+    expect_no_run(rt, alloc, words, "prrt 1\n", 3, "line 2 kind 9 Missing\n")?;
+    expect_early_faults(rt, alloc, words)
 }
 
 #[test]
 fn refuses_a_scene_as_plain_does(rt: HostRuntime) -> Result<(), Fail> {
     let forms: [&[&str]; 3] = [&["plan", "1"], &["plan", "2", "full"], &["plan", "64"]];
     for form in forms {
-        expect_no_run(&rt, rt.alloc(), form, BLOCKED_START, 4, "start blocked\n")?;
-        expect_no_run(
-            &rt,
-            rt.alloc(),
-            form,
-            "prrt 2\n",
-            3,
-            "line 1 kind 1 Version\n",
-        )?;
-        expect_no_run(
-            &rt,
-            rt.alloc(),
-            form,
-            "prrt 1\n",
-            3,
-            "line 2 kind 9 Missing\n",
-        )?;
-        for fails in [1, 2, 8] {
-            expect_read_fault(&rt, rt.alloc(), form, ONE_MARK, 10, fails)?;
-        }
+        expect_no_plan(&rt, rt.alloc(), form)?;
     }
     Ok(())
 }
@@ -422,39 +406,45 @@ fn has_line(text: &str, begin: &str) -> bool {
     text.lines().any(|line| line.starts_with(begin))
 }
 
+// What two workers do with three marks through this gate, which they pass in time, and what is written.
+fn call_through<R: Threads + Sync + Wait + Abort>(
+    rt: &R,
+    alloc: Global,
+    gate: &OtherFirst,
+) -> Result<(Done, String), Fail> {
+    let mut source = MemSource::new(alloc, THREE_MARKS.as_bytes(), 1000, &[])?;
+    let called = call_with_gate(rt, alloc, &["plan", "2", "full"], &mut source, gate)?;
+    assert!(rt; gate.in_time.load(Ordering::SeqCst));
+    Ok(called)
+}
+
+// Compares the run of three marks, of which worker 1 handled the first, with its full report.
+fn expect_begun_by_other<R: Abort>(
+    rt: &R,
+    alloc: Global,
+    done: &Done,
+    report: &str,
+) -> Result<(), Fail> {
+    assert_status(rt, done.status, 0, &"plan 2 full");
+    assert!(rt; has_line(report, "mark 0 worker 1 turn 0 "));
+    expect_whole(rt, alloc, run_of(rt, done), 3, report)
+}
+
 #[test]
 fn two_workers_are_at_work(rt: HostRuntime) -> Result<(), Fail> {
     let gate = OtherFirst::new(true);
-    let mut source = MemSource::new(rt.alloc(), THREE_MARKS.as_bytes(), 1000, &[])?;
-    let words = ["plan", "2", "full"];
-    let (done, written) = call_with_gate(&rt, rt.alloc(), &words, &mut source, &gate)?;
+    let (done, written) = call_through(&rt, rt.alloc(), &gate)?;
     assert!(rt; gate.answered.load(Ordering::SeqCst));
-    assert!(rt; gate.in_time.load(Ordering::SeqCst));
-    let Some(grown) = &done.run else {
-        panic!(rt; "no run");
-    };
-    expect_other_first(&rt, grown);
-    expect_whole(&rt, rt.alloc(), grown, 3, &written)?;
-    assert!(rt; has_line(&written, "mark 0 worker 1 turn 0 "));
+    expect_other_first(&rt, run_of(&rt, &done));
     assert!(rt; has_line(&written, "mark 1 worker 0 turn 0 nearest 1 "));
-    assert_eq!(rt; done.status, 0);
-    Ok(())
+    expect_begun_by_other(&rt, rt.alloc(), &done, &written)
 }
 
 // Worker 1 may go on and handle every mark; worker 0 then finds none left.
 #[test]
 fn a_worker_that_comes_late_is_not_waited_for(rt: HostRuntime) -> Result<(), Fail> {
     let gate = OtherFirst::new(false);
-    let mut source = MemSource::new(rt.alloc(), THREE_MARKS.as_bytes(), 1000, &[])?;
-    let words = ["plan", "2", "full"];
-    let (done, written) = call_with_gate(&rt, rt.alloc(), &words, &mut source, &gate)?;
+    let (done, written) = call_through(&rt, rt.alloc(), &gate)?;
     assert!(rt; gate.handled.load(Ordering::SeqCst));
-    assert!(rt; gate.in_time.load(Ordering::SeqCst));
-    let Some(grown) = &done.run else {
-        panic!(rt; "no run");
-    };
-    expect_whole(&rt, rt.alloc(), grown, 3, &written)?;
-    assert!(rt; has_line(&written, "mark 0 worker 1 turn 0 "));
-    assert_eq!(rt; done.status, 0);
-    Ok(())
+    expect_begun_by_other(&rt, rt.alloc(), &done, &written)
 }

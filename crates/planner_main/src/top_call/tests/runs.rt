@@ -24,8 +24,8 @@ fn expect_run<R: Threads + Sync + Wait + Abort>(
 ) -> Result<(), Fail> {
     let mut source = SureSource::new(alloc, text)?;
     let (done, _) = call_over(rt, alloc, words, &mut source)?;
-    assert_eq!(rt; done.status, status, "{words:?}");
-    assert_eq!(rt; counts_of(&done), counts, "{words:?}");
+    assert_status(rt, done.status, status, &words);
+    assert_counts(rt, &done, counts, &words);
     Ok(())
 }
 
