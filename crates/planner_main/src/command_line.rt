@@ -85,6 +85,11 @@ mod tests {
 
     const SCENE: &[u8] = b"prrt 1\nroom 10 10\nstart 5 5\ngoal 0 0 1 1\nstep 4\n";
 
+    // The text that a sink has taken.
+    fn text_in(alloc: Global, sink: &MemSink) -> Result<String, Fail> {
+        Ok(String::from_utf8(Vec::from_slice(alloc, sink.bytes())?)?)
+    }
+
     // The code that the program ends with on these arguments, and what it writes.
     fn ends<R: Threads + Sync + Wait>(
         rt: &R,
@@ -94,8 +99,7 @@ mod tests {
         let mut source = SureSource::new(alloc, SCENE)?;
         let mut sink = MemSink::new(alloc, 1000, 1000, &[])?;
         let code = exit_code(rt, alloc, args, &mut source, &mut sink);
-        let written = String::from_utf8(Vec::from_slice(alloc, sink.bytes())?)?;
-        Ok((code, written))
+        Ok((code, text_in(alloc, &sink)?))
     }
 
     // Compares that code and that text.
@@ -112,6 +116,21 @@ mod tests {
         Ok(())
     }
 
+    // Adds a word to the arguments.
+    fn push_word(alloc: Global, args: &mut Vec<String>, word: &str) -> Result<(), Fail> {
+        args.push(String::from_str(alloc, word)?)?;
+        Ok(())
+    }
+
+    // The arguments that are these words.
+    fn args_of(alloc: Global, words: &[&str]) -> Result<Args, Fail> {
+        let mut args = Vec::new(alloc);
+        for word in words {
+            push_word(alloc, &mut args, word)?;
+        }
+        Ok(args.into_iter())
+    }
+
     // The same on arguments that are these words.
     fn expect_on<R: Threads + Sync + Wait + Abort>(
         rt: &R,
@@ -120,11 +139,8 @@ mod tests {
         code: u8,
         text: &str,
     ) -> Result<(), Fail> {
-        let mut args = Vec::new(alloc);
-        for word in words {
-            args.push(String::from_str(alloc, word)?)?;
-        }
-        expect(rt, alloc, Ok(args.into_iter()), code, text)
+        let args = args_of(alloc, words)?;
+        expect(rt, alloc, Ok(args), code, text)
     }
 
     #[test]

@@ -97,6 +97,13 @@ fn expect_line<R: Abort>(rt: &R, text: &str, number: usize, line: &str) {
     assert_eq!(rt; text.lines().nth(number), Some(line));
 }
 
+// Compares some lines of a text.
+fn expect_lines<R: Abort>(rt: &R, text: &str, lines: &[(usize, &str)]) {
+    for (number, line) in lines {
+        expect_line(rt, text, *number, line);
+    }
+}
+
 // Compares how many lines a text has.
 fn expect_line_count<R: Abort>(rt: &R, text: &str, count: usize) {
     assert_eq!(rt; text.lines().count(), count);
@@ -291,9 +298,8 @@ fn plans_one_branch_of_four_thousand_nodes(rt: HostRuntime) -> Result<(), Fail> 
         "path 4001 cost 1024000",
         "nodes 4001 placed 4000 same 0 blocked 0",
     );
-    for (number, line) in [(1, "0 0"), (2346, "2345 0"), (4001, "4000 0")] {
-        expect_line(&rt, &written, number, line);
-    }
+    let points = [(1, "0 0"), (2346, "2345 0"), (4001, "4000 0")];
+    expect_lines(&rt, &written, &points);
     expect_line_count(&rt, &written, 4003);
     Ok(())
 }
@@ -555,11 +561,8 @@ fn expect_no_run<R: Threads + Sync + Wait + Abort>(
     status: u8,
     line: &str,
 ) -> Result<(), Fail> {
-    let mut source = SureSource::new(alloc, text.as_bytes())?;
-    let (done, written) = call_over(rt, alloc, words, &mut source)?;
-    assert_text(rt, &written, line, &words);
-    assert_status(rt, done.status, status, &words);
-    assert_counts(rt, &done, None, &words);
+    let (done, written) = call_over_text(rt, alloc, words, text.as_bytes())?;
+    assert_refused(rt, &done, &written, status, line, &words);
     Ok(())
 }
 
@@ -601,6 +604,20 @@ fn expect_each_refused<R: Threads + Sync + Wait + Abort>(
     Ok(())
 }
 
+// Compares the refusal of a start that lies outside the room.
+fn expect_start_refused<R: Threads + Sync + Wait + Abort>(
+    rt: &R,
+    alloc: Global,
+) -> Result<(), Fail> {
+    let blocked = Case {
+        shows: "a start outside the room",
+        scene: BLOCKED_START,
+        status: 4,
+        text: "start blocked\n",
+    };
+    expect(rt, alloc, &["plain"], &blocked)
+}
+
 #[test]
 fn refuses_with_the_cause(rt: HostRuntime) -> Result<(), Fail> {
     let forms: [&[&str]; 20] = [
@@ -626,13 +643,7 @@ fn refuses_with_the_cause(rt: HostRuntime) -> Result<(), Fail> {
         &["trial", "x"],
     ];
     expect_each_refused(&rt, rt.alloc(), &forms)?;
-    let blocked = Case {
-        shows: "a start outside the room",
-        scene: BLOCKED_START,
-        status: 4,
-        text: "start blocked\n",
-    };
-    expect(&rt, rt.alloc(), &["plain"], &blocked)
+    expect_start_refused(&rt, rt.alloc())
 }
 
 // What is written for a command and the number of a generated scene. Nothing is read.

@@ -16,18 +16,38 @@ pub fn assert_status<R: Abort, C: Debug>(rt: &R, status: u8, want: u8, case: &C)
 }
 
 // Asserts how many nodes the run that a call handed out has and how many marks it has handled, if it handed out one.
-pub fn assert_counts<R: Abort, C: Debug>(
+fn assert_counts<R: Abort, C: Debug>(rt: &R, done: &Done, counts: Option<(u32, u32)>, case: &C) {
+    assert_eq!(rt; counts_of(done), counts, "{case:?}");
+}
+
+// Asserts the status that a call ended with, and the counts of the run that it handed out.
+pub fn assert_done<R: Abort, C: Debug>(
     rt: &R,
     done: &Done,
+    status: u8,
     counts: Option<(u32, u32)>,
     case: &C,
 ) {
-    assert_eq!(rt; counts_of(done), counts, "{case:?}");
+    assert_status(rt, done.status, status, case);
+    assert_counts(rt, done, counts, case);
 }
 
 // Asserts how many reads or writes of a call failed.
 pub fn assert_faults<R: Abort, C: Debug>(rt: &R, faults: u64, want: u64, case: &C) {
     assert_eq!(rt; faults, want, "{case:?}");
+}
+
+// Asserts the status and the text of a refusal, which hands out no run.
+pub fn assert_refused<R: Abort, C: Debug>(
+    rt: &R,
+    done: &Done,
+    written: &str,
+    status: u8,
+    line: &str,
+    case: &C,
+) {
+    assert_text(rt, written, line, case);
+    assert_done(rt, done, status, None, case);
 }
 
 // Adds a word to those that a call is given.
@@ -46,7 +66,7 @@ fn given_words(alloc: Global, words: &[&str]) -> Result<Vec<String>, Fail> {
 }
 
 // The text that a sink has taken.
-pub fn text_in(alloc: Global, sink: &MemSink) -> Result<String, Fail> {
+fn text_in(alloc: Global, sink: &MemSink) -> Result<String, Fail> {
     Ok(String::from_utf8(Vec::from_slice(alloc, sink.bytes())?)?)
 }
 
@@ -92,7 +112,18 @@ pub fn call_over<R: Threads + Sync + Wait, S: Source>(
     call_with_gate(rt, alloc, words, source, &NoGate)
 }
 
-// The status of that call, and what it writes.
+// The same over a source that gives as much of this text as is asked for.
+pub fn call_over_text<R: Threads + Sync + Wait>(
+    rt: &R,
+    alloc: Global,
+    words: &[&str],
+    text: &[u8],
+) -> Result<(Done, String), Fail> {
+    let mut source = SureSource::new(alloc, text)?;
+    call_over(rt, alloc, words, &mut source)
+}
+
+// The status of such a call, and what it writes.
 pub fn answer_over<R: Threads + Sync + Wait, S: Source>(
     rt: &R,
     alloc: Global,

@@ -3,6 +3,7 @@
 ghost use Rattle.std.specs.Prelude.{◌≤◌};
 
 use super::*;
+use std::fmt::Debug;
 
 // Compares the refusal of a text one of whose reads fails, in pieces of at most so many bytes. No run is handed out.
 pub fn expect_read_fault<R: Threads + Sync + Wait + Abort>(
@@ -17,10 +18,9 @@ pub fn expect_read_fault<R: Threads + Sync + Wait + Abort>(
 {
     let mut failing = MemSource::new(alloc, text.as_bytes(), most, &[fails])?;
     let (done, written) = call_over(rt, alloc, words, &mut failing)?;
-    assert_text(rt, &written, "read fault\n", &(words, fails));
-    assert_status(rt, done.status, 5, &(words, fails));
-    assert_counts(rt, &done, None, &(words, fails));
-    assert_faults(rt, failing.faults(), 1, &(words, fails));
+    let case = (words, fails);
+    assert_refused(rt, &done, &written, 5, "read fault\n", &case);
+    assert_faults(rt, failing.faults(), 1, &case);
     Ok(())
 }
 
@@ -71,6 +71,23 @@ fn refuses_a_source_that_fails_late(rt: HostRuntime) -> Result<(), Fail> {
     expect_late_fault(&rt, rt.alloc(), &["show"], &text)
 }
 
+// What the call for these words over the scene of one mark and this sink has done.
+fn call_into<R: Threads + Sync + Wait>(
+    rt: &R,
+    alloc: Global,
+    words: &[&str],
+    sink: &mut MemSink,
+) -> Result<Done, Fail> {
+    let mut source = MemSource::new(alloc, ONE_MARK.as_bytes(), 1 << 16, &[])?;
+    call(rt, alloc, words, &mut source, sink, &NoGate)
+}
+
+// Asserts what a sink has taken, one of whose writes failed.
+fn assert_taken<R: Abort, C: Debug>(rt: &R, sink: &MemSink, taken: &str, case: &C) {
+    assert_eq!(rt; sink.bytes(), taken.as_bytes(), "{case:?}");
+    assert_faults(rt, sink.faults(), 1, case);
+}
+
 // Compares what a sink takes that fails at one of its writes, and the counts of the run that is handed out even so.
 pub fn expect_cut<R: Threads + Sync + Wait + Abort>(
     rt: &R,
@@ -80,14 +97,11 @@ pub fn expect_cut<R: Threads + Sync + Wait + Abort>(
     taken: &str,
     counts: Option<(u32, u32)>,
 ) -> Result<(), Fail> {
-    let mut source = MemSource::new(alloc, ONE_MARK.as_bytes(), 1 << 16, &[])?;
     let mut sink = MemSink::new(alloc, 1000, 10, &[fails])?;
-    let done = call(rt, alloc, words, &mut source, &mut sink, &NoGate)?;
-    assert_status(rt, done.status, 6, &(words, fails));
-    assert_counts(rt, &done, counts, &(words, fails));
-    assert_faults(rt, sink.faults(), 1, &(words, fails));
-    let written = text_in(alloc, &sink)?;
-    assert_text(rt, &written, taken, &(words, fails));
+    let done = call_into(rt, alloc, words, &mut sink)?;
+    let case = (words, fails);
+    assert_done(rt, &done, 6, counts, &case);
+    assert_taken(rt, &sink, taken, &case);
     Ok(())
 }
 

@@ -78,6 +78,17 @@ fn counts_line(report: &str) -> Option<&str> {
     report.lines().find(|line| line.starts_with("nodes "))
 }
 
+// What the call over a scene that is read in pieces has done, and what is written.
+fn call_by_pieces<R: Threads + Sync + Wait>(
+    rt: &R,
+    alloc: Global,
+    words: &[&str],
+    scene: &str,
+) -> Result<(Done, String), Fail> {
+    let mut source = MemSource::new(alloc, scene.as_bytes(), 1000, &[])?;
+    call_over(rt, alloc, words, &mut source)
+}
+
 // Compares the answer by so many workers with that of a case, and the counts of the run that is handed out.
 fn expect_by<R: Threads + Sync + Wait + Abort>(
     rt: &R,
@@ -86,11 +97,9 @@ fn expect_by<R: Threads + Sync + Wait + Abort>(
     case: &Case,
     counts: (u32, u32),
 ) -> Result<(), Fail> {
-    let mut source = MemSource::new(alloc, case.scene.as_bytes(), 1000, &[])?;
-    let (done, written) = call_over(rt, alloc, &["plan", workers], &mut source)?;
+    let (done, written) = call_by_pieces(rt, alloc, &["plan", workers], case.scene)?;
     assert_text(rt, &written, case.text, &(case.shows, workers));
-    assert_status(rt, done.status, case.status, &(case.shows, workers));
-    assert_counts(rt, &done, Some(counts), &(case.shows, workers));
+    assert_done(rt, &done, case.status, Some(counts), &(case.shows, workers));
     Ok(())
 }
 
@@ -224,13 +233,11 @@ fn mark_lines(report: &str) -> usize {
 // Each mark has a line, by one of the workers.
 #[test]
 fn plans_hundreds_of_marks_by_three_workers(rt: HostRuntime) -> Result<(), Fail> {
-    let mut source = SureSource::new(rt.alloc(), DRAWN_MARKS.as_bytes())?;
-    let (done, written) = call_over(&rt, rt.alloc(), &["plan", "3", "full"], &mut source)?;
-    let grown = run_of(&rt, &done);
-    expect_whole(&rt, rt.alloc(), grown, 400, &written)?;
-    assert!(rt; greatest_worker(grown) < 3);
+    let words = ["plan", "3", "full"];
+    let (done, written) = call_over_text(&rt, rt.alloc(), &words, DRAWN_MARKS.as_bytes())?;
+    assert!(rt; greatest_worker(run_of(&rt, &done)) < 3);
     assert_eq!(rt; mark_lines(&written), 400);
-    Ok(())
+    expect_whole(&rt, rt.alloc(), run_of(&rt, &done), 400, &written)
 }
 
 // The tree is that of one worker, so all of them look at the same nodes.
@@ -242,16 +249,20 @@ fn three_workers_grow_the_tree_of_one(rt: HostRuntime) -> Result<(), Fail> {
     Ok(())
 }
 
+// Asserts that a short report, of a path or of none, ends with its counts.
+fn assert_reported<R: Abort>(rt: &R, done: &Done, report: &str) {
+    assert!(rt; done.status <= 1);
+    assert_eq!(rt; report.lines().last(), counts_line(report));
+}
+
 // Compares the run of a scene of 20,000 marks by four workers with its short report.
 fn expect_by_four<R: Threads + Sync + Wait + Abort>(
     rt: &R,
     alloc: Global,
     scene: &str,
 ) -> Result<(), Fail> {
-    let mut source = MemSource::new(alloc, scene.as_bytes(), 1000, &[])?;
-    let (done, written) = call_over(rt, alloc, &["plan", "4"], &mut source)?;
-    assert!(rt; done.status <= 1);
-    assert_eq!(rt; written.lines().last(), counts_line(&written));
+    let (done, written) = call_by_pieces(rt, alloc, &["plan", "4"], scene)?;
+    assert_reported(rt, &done, &written);
     expect_whole(rt, alloc, run_of(rt, &done), 20_000, &written)
 }
 

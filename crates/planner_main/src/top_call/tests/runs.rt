@@ -22,10 +22,8 @@ fn expect_run<R: Threads + Sync + Wait + Abort>(
     status: u8,
     counts: Option<(u32, u32)>,
 ) -> Result<(), Fail> {
-    let mut source = SureSource::new(alloc, text)?;
-    let (done, _) = call_over(rt, alloc, words, &mut source)?;
-    assert_status(rt, done.status, status, &words);
-    assert_counts(rt, &done, counts, &words);
+    let (done, _) = call_over_text(rt, alloc, words, text)?;
+    assert_done(rt, &done, status, counts, &words);
     Ok(())
 }
 
@@ -47,8 +45,7 @@ fn hands_out_the_run_of_a_plan(rt: HostRuntime) -> Result<(), Fail> {
 
 #[test]
 fn hands_out_the_run_of_a_trial(rt: HostRuntime) -> Result<(), Fail> {
-    let mut source = SureSource::new(rt.alloc(), b"")?;
-    let (done, summary) = call_over(&rt, rt.alloc(), &["trial", "0"], &mut source)?;
+    let (done, summary) = call_over_text(&rt, rt.alloc(), &["trial", "0"], b"")?;
     assert!(rt; done.status <= 1);
     let counts = counts_of(&done);
     assert_eq!(rt; counts, counts_in(&summary));
