@@ -102,13 +102,13 @@ module _ (setup : Setup) (before after : TreeState) (n f : ℕ) (p : Point) (cha
   new_within = omega (arith, change.within, ap (most_cost_of setup) node_count-adds)
 
   -- the order law stays
-  pub KeepsOrder-adds : (start : Point) → KeepsOrder setup start before → KeepsOrder setup start after
-  KeepsOrder-adds start order = record {
+  pub KeepsOrder-adds : KeepsOrder setup before → KeepsOrder setup after
+  KeepsOrder-adds order = record {
     distinct = distinct;
-    start_stands = still_at 0 (start-present setup start before order) ∙ order.start_stands;
+    start_stands = still_at 0 (start-present setup before order) ∙ order.start_stands;
     start_clear = order.start_clear;
-    start_parent = change.kept.parents 0 (start-present setup start before order) ∙ order.start_parent;
-    start_cost = change.kept.costs 0 (start-present setup start before order) ∙ order.start_cost;
+    start_parent = change.kept.parents 0 (start-present setup before order) ∙ order.start_parent;
+    start_cost = change.kept.costs 0 (start-present setup before order) ∙ order.start_cost;
     hangs = λ i h.
         elim (new_or_present (suc i) h) [
           | inl e ↦ subst (HangsBelow setup after) (sym e) new_hangs

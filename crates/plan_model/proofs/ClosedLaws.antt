@@ -29,20 +29,20 @@ use Rattle.plan_model.proofs.RecordLaws.{IsLawfulRecord-grows}
 -- ---- lowered costs
 
 module _
-    (setup : Setup) (start : Point) (marks : List Point) (limit : ℕ) (before after : TreeState) (same : (k : ℕ) → after.record_of k ≡ before.record_of k)
-    (closed : IsClosed setup start marks limit before) where
+    (setup : Setup) (marks : List Point) (limit : ℕ) (before after : TreeState) (same : (k : ℕ) → after.record_of k ≡ before.record_of k)
+    (closed : IsClosed setup marks limit before) where
   same_earlier : (entry : Record) → HaveSameEarlier before after entry
   same_earlier entry = record {
     same = is_earlier-same_records before after entry same;
-    present = earlier-present before entry (start-present setup start before closed.order) closed.placed;
+    present = earlier-present before entry (start-present setup before closed.order) closed.placed;
   }
 
   -- A closed run with lowered costs and the same records is closed.
-  pub IsClosed-lowered : LowersCosts setup before after → IsClosed setup start marks limit after
+  pub IsClosed-lowered : LowersCosts setup before after → IsClosed setup marks limit after
   IsClosed-lowered lowers =
       let grows = GrowsInto-lowered setup before after lowers in
       record {
-        order = KeepsOrder-lowered setup before after lowers start closed.order;
+        order = KeepsOrder-lowered setup before after lowers closed.order;
         within = closed.within;
         records = record {
           recorded = λ k below. ap is_some (same k) ∙ closed.records.recorded k below;
@@ -66,16 +66,16 @@ module _
       }
 
   -- so is one whose costs are settled
-  pub IsClosed-settled : SettlesCosts before after → IsClosed setup start marks limit after
-  IsClosed-settled settles = IsClosed-lowered (LowersCosts-settles setup start before after closed.order settles)
+  pub IsClosed-settled : SettlesCosts before after → IsClosed setup marks limit after
+  IsClosed-settled settles = IsClosed-lowered (LowersCosts-settles setup before after closed.order settles)
 
   -- and one with the same tree
-  pub IsClosed-same : HaveSameTree before after → IsClosed setup start marks limit after
-  IsClosed-same same_tree = IsClosed-lowered (LowersCosts-same setup start before after closed.order same_tree)
+  pub IsClosed-same : HaveSameTree before after → IsClosed setup marks limit after
+  IsClosed-same same_tree = IsClosed-lowered (LowersCosts-same setup before after closed.order same_tree)
 
 -- ---- first costs
 
-module _ (setup : Setup) (start : Point) (marks : List Point) (limit : ℕ) (state : TreeState) (closed : IsClosed setup start marks limit state) where
+module _ (setup : Setup) (marks : List Point) (limit : ℕ) (state : TreeState) (closed : IsClosed setup marks limit state) where
   -- what the tree knows of the node of a mark that was placed
   hangs_of : (k : ℕ) (entry : Record) (p : Point) (outcome : Outcome) → outcome ≡ Placed → HasLawfulOutcome setup state k entry p outcome
       → HangsLawfully setup state k entry p

@@ -46,9 +46,9 @@ outcomes-add_up record_of (suc limit) all =
 
 -- the outcomes add up to the limit in a closed run
 pub outcomes-closed :
-    (setup : Setup) (start : Point) (marks : List Point) (limit : ℕ) (state : TreeState) → IsClosed setup start marks limit state
+    (setup : Setup) (marks : List Point) (limit : ℕ) (state : TreeState) → IsClosed setup marks limit state
     → (outcome_count state.record_of limit 0 + outcome_count state.record_of limit 1) + outcome_count state.record_of limit 2 ≡ limit
-outcomes-closed setup start marks limit state closed = outcomes-add_up state.record_of limit closed.records.recorded
+outcomes-closed setup marks limit state closed = outcomes-add_up state.record_of limit closed.records.recorded
 
 -- ---- nodes
 
@@ -62,7 +62,7 @@ placed_record : (o : Option Record) → has_outcome 0 o ≡ true → (entry : Re
 placed_record None h = cc
 placed_record (Some entry) h = (entry, refl, placed_number entry.outcome h)
 
-module _ (setup : Setup) (start : Point) (marks : List Point) (limit : ℕ) (state : TreeState) (closed : IsClosed setup start marks limit state) where
+module _ (setup : Setup) (marks : List Point) (limit : ℕ) (state : TreeState) (closed : IsClosed setup marks limit state) where
   placed : ℕ → Bool
   placed k = has_outcome 0 (state.record_of k)
 
@@ -94,5 +94,5 @@ module _ (setup : Setup) (start : Point) (marks : List Point) (limit : ℕ) (sta
   node_count-closed =
       let n : ℕ = limit + length state.points in
       let nodes =
-      count-next state.points placed n (start-present setup start state closed.order) (omega arith) placed_present in
+      count-next state.points placed n (start-present setup state closed.order) (omega arith) placed_present in
       omega (arith, nodes, count-longer placed limit n (omega arith) placed_below)

@@ -182,7 +182,7 @@ AreDistinct-handles_all setup k tree (mark ∷ marks) (entry ∷ entries) after 
 
 -- no two nodes of a textbook run stand at one point
 pub AreDistinct-textbook :
-    (setup : Setup) (start : Point) (marks : List Point) (tree : Nodes) (records : List Record)
-    → IsTextbookRun setup start marks tree records → AreDistinct (points_of tree)
-AreDistinct-textbook setup start marks tree records run =
-    AreDistinct-handles_all setup 0 (start_alone start) marks records tree run (AreDistinct-start start)
+    (setup : Setup) (marks : List Point) (tree : Nodes) (records : List Record)
+    → IsTextbookRun setup marks tree records → AreDistinct (points_of tree)
+AreDistinct-textbook setup marks tree records run =
+    AreDistinct-handles_all setup 0 (start_alone setup.start) marks records tree run (AreDistinct-start setup.start)

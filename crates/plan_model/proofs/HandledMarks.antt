@@ -52,8 +52,8 @@ is_among-contains (j ∷ nodes) i (suc k, l, is) =
     or_right (eqb j i) (is_among nodes i) (is_among-contains nodes i (k, omega (arith, l), is))
 
 module _
-    (setup : Setup) (start : Point) (marks : List Point) (k : ℕ) (state : TreeState) (entry : Record) (p : Point) (moved : List ℕ)
-    (closed : IsClosed setup start marks k state) where
+    (setup : Setup) (marks : List Point) (k : ℕ) (state : TreeState) (entry : Record) (p : Point) (moved : List ℕ)
+    (closed : IsClosed setup marks k state) where
   -- the record is new
   adds_record : AddsRecord state (with_record state k entry) k entry
   adds_record = record {
@@ -61,10 +61,10 @@ module _
     parents = λ n h. refl;
     costs = λ n h. refl;
     written_costs = λ n h. refl;
-    absent = record-absent setup start marks k state closed;
+    absent = record-absent setup marks k state closed;
     recorded = cond-true (eqb k k) (Some entry) (state.record_of k) (eq-eqb k k refl);
     records = λ j apart. cond-false (eqb j k) (Some entry) (state.record_of j) (ne_eqb j k apart);
-    written = λ h. absurd (node-absent setup start marks k state closed h);
+    written = λ h. absurd (node-absent setup marks k state closed h);
   }
 
   -- ---- a mark that is placed
@@ -91,7 +91,7 @@ module _
     -- ---- the new node
 
     present_apart : (i : ℕ) → IsPresent state.points i → i ≢ suc k
-    present_apart i h e = node-absent setup start marks k state closed (subst (IsPresent state.points) e h)
+    present_apart i h e = node-absent setup marks k state closed (subst (IsPresent state.points) e h)
 
     new_cost : with_it.cost (suc k) ≡ entry.first_cost
     new_cost = cond-true (eqb (suc k) (suc k)) entry.first_cost (state.cost (suc k)) (eq-eqb (suc k) (suc k) refl)
@@ -107,8 +107,8 @@ module _
 
     adds : AddsNode setup state with_it (suc k) f p
     adds =
-        let reachable = parent-reachable setup start marks k state after mark entry p closed chooses in
-        let edge = parent-allowed setup start marks k state after mark entry p closed chooses in
+        let reachable = parent-reachable setup marks k state after mark entry p closed chooses in
+        let edge = parent-allowed setup marks k state after mark entry p closed chooses in
         record {
           kept = record {
             parents = λ i h. cond-false (eqb i (suc k)) f (state.parent i) (ne_eqb i (suc k) (present_apart i h));
@@ -117,14 +117,14 @@ module _
             records = still_recorded state.record_of after.record_of k entry records;
           };
           elsewhere = λ i apart. get_or-set_other state.points (suc k) i (Some p) None apart;
-          absent = node-absent setup start marks k state closed;
+          absent = node-absent setup marks k state closed;
           stands = get_or-set_same state.points (suc k) (Some p) None room;
           free = placed.free;
           parent_present = reachable.present;
           edge = edge;
           parent = cond-true (eqb (suc k) (suc k)) f (state.parent (suc k)) (eq-eqb (suc k) (suc k) refl);
           above = omega (arith, new_cost, placed.cost);
-          within = omega (arith, new_cost, placed.cost, cost-within_more setup start state closed.order f p reachable.present edge);
+          within = omega (arith, new_cost, placed.cost, cost-within_more setup state closed.order f p reachable.present edge);
           first_cost = ap (recorded_or (with_it.written_cost (suc k))) records.recorded ∙ sym new_cost;
         }
 
@@ -184,8 +184,8 @@ module _
 
     lowers : LowersCosts setup with_it after
     lowers =
-        LowersCosts-moves setup start with_it after (suc k) (λ i. is_among moved i)
-        (KeepsOrder-adds setup state with_it (suc k) f p adds start closed.order) moves
+        LowersCosts-moves setup with_it after (suc k) (λ i. is_among moved i)
+        (KeepsOrder-adds setup state with_it (suc k) f p adds closed.order) moves
 
     -- no near node with a clear edge is dearer than by way of the new one
     reached : (i : ℕ) → Contains (near_new setup state.points p) i → Clear setup.space (point_of state.points i) p
@@ -204,44 +204,44 @@ module _
           ]
         ]
 
-    leaves : LeavesPlaced setup start state after k entry p
+    leaves : LeavesPlaced setup state after k entry p
     leaves = record {
       records = records;
-      order = KeepsOrder-lowered setup with_it after lowers start (KeepsOrder-adds setup state with_it (suc k) f p adds start closed.order);
+      order = KeepsOrder-lowered setup with_it after lowers (KeepsOrder-adds setup state with_it (suc k) f p adds closed.order);
       grows = GrowsInto-trans state with_it after grows_with (GrowsInto-lowered setup with_it after lowers);
       firsts =
           KeepsFirstCosts-lowered setup with_it after lowers
-          (KeepsFirstCosts-adds setup state with_it (suc k) f p adds (KeepsFirstCosts-closed setup start marks k state closed));
+          (KeepsFirstCosts-adds setup state with_it (suc k) f p adds (KeepsFirstCosts-closed setup marks k state closed));
       stands = adds.stands;
       elsewhere = adds.elsewhere;
       reached = reached;
     }
 
     -- A mark that is placed whole ends lawfully.
-    pub EndsLawfully-placed_whole : entry.outcome ≡ Placed → EndsLawfully setup start state after k mark entry
-    EndsLawfully-placed_whole e = EndsLawfully-placed setup start marks k state after mark entry p closed chooses leaves e
+    pub EndsLawfully-placed_whole : entry.outcome ≡ Placed → EndsLawfully setup state after k mark entry
+    EndsLawfully-placed_whole e = EndsLawfully-placed setup marks k state after mark entry p closed chooses leaves e
 
   -- ---- each mark
 
   module _ (room : suc k < length state.points) (handled : IsHandledWhole setup state k (mark_at marks k) entry p moved) where
     by_outcome : (outcome : Outcome) → entry.outcome ≡ outcome → EndsBy setup state entry p moved outcome
-        → EndsLawfully setup start state (with_outcome state k entry p moved outcome) k (mark_at marks k) entry
+        → EndsLawfully setup state (with_outcome state k entry p moved outcome) k (mark_at marks k) entry
     by_outcome Placed e h = EndsLawfully-placed_whole (mark_at marks k) handled.steers room h e
     by_outcome (Same j) e h =
-        EndsLawfully-unplaced setup start marks k state closed (with_record state k entry) entry (mark_at marks k) p handled.steers adds_record moved
+        EndsLawfully-unplaced setup marks k state closed (with_record state k entry) entry (mark_at marks k) p handled.steers adds_record moved
         (ap is_placed e) handled.outcome
     by_outcome Blocked e h =
-        EndsLawfully-unplaced setup start marks k state closed (with_record state k entry) entry (mark_at marks k) p handled.steers adds_record moved
+        EndsLawfully-unplaced setup marks k state closed (with_record state k entry) entry (mark_at marks k) p handled.steers adds_record moved
         (ap is_placed e) handled.outcome
 
     -- A mark that is handled whole ends lawfully.
-    pub EndsLawfully-handled : EndsLawfully setup start state (with_mark state k entry p moved) k (mark_at marks k) entry
+    pub EndsLawfully-handled : EndsLawfully setup state (with_mark state k entry p moved) k (mark_at marks k) entry
     EndsLawfully-handled = by_outcome entry.outcome refl handled.outcome
 
     -- So the run with it is closed at the next limit,
-    pub IsClosed-handled : k < length marks → entry.worker < MOST_WORKERS → IsClosed setup start marks (suc k) (with_mark state k entry p moved)
+    pub IsClosed-handled : k < length marks → entry.worker < MOST_WORKERS → IsClosed setup marks (suc k) (with_mark state k entry p moved)
     IsClosed-handled below few =
-        IsClosed-next setup start marks k state closed (with_mark state k entry p moved) entry EndsLawfully-handled handled.turn below few
+        IsClosed-next setup marks k state closed (with_mark state k entry p moved) entry EndsLawfully-handled handled.turn below few
 
     -- and has grown.
     pub GrowsInto-handled : GrowsInto state (with_mark state k entry p moved)

@@ -40,7 +40,7 @@ unfolding four_nodes
 node_2_stays = (kept_tree, inr ((λ c. omega (arith, c.cheaper, own_way, new_way)), refl), refl)
 
 -- the three marks, one after another
-pub kept_run : IsTextbookRun open_setup (at 0 0) marks_to_keep kept_tree kept_records
+pub kept_run : IsTextbookRun open_setup marks_to_keep kept_tree kept_records
 kept_run = IsTextbookRun-three (at 40 80) 25600 second_mark kept_tree node_2_stays
 
 -- what node 2 costs in the end

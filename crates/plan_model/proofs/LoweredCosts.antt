@@ -86,13 +86,13 @@ module _ (setup : Setup) (before after : TreeState) (change : LowersCosts setup 
       })
 
   -- the order law stays
-  pub KeepsOrder-lowered : (start : Point) → KeepsOrder setup start before → KeepsOrder setup start after
-  KeepsOrder-lowered start order = record {
+  pub KeepsOrder-lowered : KeepsOrder setup before → KeepsOrder setup after
+  KeepsOrder-lowered order = record {
     distinct = λ i j p one other. order.distinct i j p (sym (change.still.points i) ∙ one) (sym (change.still.points j) ∙ other);
     start_stands = change.still.points 0 ∙ order.start_stands;
     start_clear = order.start_clear;
     start_parent = change.start ∙ order.start_parent;
-    start_cost = omega (arith, change.none_rises 0 (start-present setup start before order), order.start_cost);
+    start_cost = omega (arith, change.none_rises 0 (start-present setup before order), order.start_cost);
     hangs = hangs;
     bounded = λ n h. omega (arith, change.none_rises n (was_present n h), order.bounded n (was_present n h), ap (most_cost_of setup) same_count);
   }
@@ -154,11 +154,11 @@ pub record RewiresNode (setup : Setup) (before after : TreeState) (i n : ℕ) : 
 
 -- Rewiring one node lowers costs.
 pub LowersCosts-rewires :
-    (setup : Setup) (start : Point) (before after : TreeState) (i n : ℕ) → KeepsOrder setup start before → RewiresNode setup before after i n
+    (setup : Setup) (before after : TreeState) (i n : ℕ) → KeepsOrder setup before → RewiresNode setup before after i n
     → LowersCosts setup before after
-LowersCosts-rewires setup start before after i n order change = record {
+LowersCosts-rewires setup before after i n order change = record {
   still = change.still;
-  start = change.others.parents 0 (λ e. omega (arith, ap before.cost e, order.start_cost, change.cheaper)) (start-present setup start before order);
+  start = change.others.parents 0 (λ e. omega (arith, ap before.cost e, order.start_cost, change.cheaper)) (start-present setup before order);
   none_rises = none_of_them_rises setup before after i change.others (λ h. omega (arith, change.cheaper));
   nodes = λ j h.
       elim (cases_eq (suc j) i) [
@@ -197,11 +197,11 @@ pub record LowersNode (before after : TreeState) (i : ℕ) : Type 0 where
 
 -- Lowering one kept cost lowers costs.
 pub LowersCosts-lowers :
-    (setup : Setup) (start : Point) (before after : TreeState) (i : ℕ) → KeepsOrder setup start before → LowersNode before after i
+    (setup : Setup) (before after : TreeState) (i : ℕ) → KeepsOrder setup before → LowersNode before after i
     → LowersCosts setup before after
-LowersCosts-lowers setup start before after i order change = record {
+LowersCosts-lowers setup before after i order change = record {
   still = change.still;
-  start = same_parent 0 (start-present setup start before order);
+  start = same_parent 0 (start-present setup before order);
   none_rises = none_of_them_rises setup before after i change.others (λ h. change.not_dearer);
   nodes = λ j h.
       elim (cases_eq (suc j) i) [
@@ -274,11 +274,11 @@ pub record RewiresBranch (setup : Setup) (before after : TreeState) (i n fall : 
 
 -- Rewiring a branch lowers costs.
 pub LowersCosts-branch :
-    (setup : Setup) (start : Point) (before after : TreeState) (i n fall : ℕ) → KeepsOrder setup start before
+    (setup : Setup) (before after : TreeState) (i n fall : ℕ) → KeepsOrder setup before
     → RewiresBranch setup before after i n fall → LowersCosts setup before after
-LowersCosts-branch setup start before after i n fall order change = record {
+LowersCosts-branch setup before after i n fall order change = record {
   still = change.still;
-  start = change.parents 0 (λ e. omega (arith, ap before.cost e, order.start_cost, change.top, change.some)) (start-present setup start before order);
+  start = change.parents 0 (λ e. omega (arith, ap before.cost e, order.start_cost, change.top, change.some)) (start-present setup before order);
   none_rises = change.none_rises;
   nodes = λ j h.
       elim (cases_eq (suc j) i) [
@@ -319,11 +319,11 @@ pub record AddsRecord (before after : TreeState) (k : ℕ) (entry : Record) : Ty
 
 -- A record more lowers no cost, and the first costs stay.
 pub LowersCosts-adds_record :
-    (setup : Setup) (start : Point) (before after : TreeState) (k : ℕ) (entry : Record) → KeepsOrder setup start before
+    (setup : Setup) (before after : TreeState) (k : ℕ) (entry : Record) → KeepsOrder setup before
     → AddsRecord before after k entry → LowersCosts setup before after
-LowersCosts-adds_record setup start before after k entry order change = record {
+LowersCosts-adds_record setup before after k entry order change = record {
   still = record { points = change.points; first_costs = first_costs; records = records };
-  start = change.parents 0 (start-present setup start before order);
+  start = change.parents 0 (start-present setup before order);
   none_rises = λ n h. omega (arith, change.costs n h);
   nodes = λ n h. inl (record {
     parent = change.parents (suc n) h;
@@ -369,10 +369,10 @@ pub record SettlesCosts (before after : TreeState) : Type 0 where
 
 -- Settling lowers costs.
 pub LowersCosts-settles :
-    (setup : Setup) (start : Point) (before after : TreeState) → KeepsOrder setup start before → SettlesCosts before after → LowersCosts setup before after
-LowersCosts-settles setup start before after order change = record {
+    (setup : Setup) (before after : TreeState) → KeepsOrder setup before → SettlesCosts before after → LowersCosts setup before after
+LowersCosts-settles setup before after order change = record {
   still = change.still;
-  start = change.parents 0 (start-present setup start before order);
+  start = change.parents 0 (start-present setup before order);
   none_rises = λ n h. none_rises (before.cost n) n h (omega arith);
   nodes = λ n h.
       elim (cases_lt (after.cost (suc n)) (before.cost (suc n))) [
@@ -385,10 +385,10 @@ LowersCosts-settles setup start before after order change = record {
   where
     none_rises : (most n : ℕ) → IsPresent before.points n → before.cost n ≤ most → after.cost n ≤ before.cost n
     none_rises most zero h l = omega (arith, change.start)
-    none_rises zero (suc n) h l = absurd (omega (arith, KeepsOrder-falls setup start before order n h, l))
+    none_rises zero (suc n) h l = absurd (omega (arith, KeepsOrder-falls setup before order n h, l))
     none_rises (suc most) (suc n) h l =
         let old = order.hangs n h in
-        let above = none_rises most (before.parent (suc n)) old.parent (omega (arith, KeepsOrder-falls setup start before order n h, l)) in
+        let above = none_rises most (before.parent (suc n)) old.parent (omega (arith, KeepsOrder-falls setup before order n h, l)) in
         omega (arith, above, change.edges n h, old.cost)
 
     cheaper : (n : ℕ) → IsPresent before.points (suc n) → after.cost (suc n) < before.cost (suc n) → HangsCheaper setup before after (suc n)
@@ -418,10 +418,10 @@ pub record HaveSameTree (before after : TreeState) : Type 0 where
 
 -- the same tree is lowered by nothing
 pub LowersCosts-same :
-    (setup : Setup) (start : Point) (before after : TreeState) → KeepsOrder setup start before → HaveSameTree before after → LowersCosts setup before after
-LowersCosts-same setup start before after order same = record {
+    (setup : Setup) (before after : TreeState) → KeepsOrder setup before → HaveSameTree before after → LowersCosts setup before after
+LowersCosts-same setup before after order same = record {
   still = same.still;
-  start = same.parents 0 (start-present setup start before order);
+  start = same.parents 0 (start-present setup before order);
   none_rises = λ n h. omega (arith, same.costs n h);
   nodes = λ n h. inl (record {
     parent = same.parents (suc n) h;

@@ -31,7 +31,7 @@ pub record MovesNodes (setup : Setup) (before after : TreeState) (n : ℕ) (move
   pub others : (i : ℕ) → moved i ≡ false → IsPresent before.points i → StaysAsItWas before after i
 
 module _
-    (setup : Setup) (start : Point) (before after : TreeState) (n : ℕ) (moved : ℕ → Bool) (order : KeepsOrder setup start before)
+    (setup : Setup) (before after : TreeState) (n : ℕ) (moved : ℕ → Bool) (order : KeepsOrder setup before)
     (change : MovesNodes setup before after n moved) where
   -- no cost rises
   none_rises : (i : ℕ) → IsPresent before.points i → after.cost i ≤ before.cost i
@@ -70,7 +70,7 @@ module _
     start =
         elim (cases_Bool (moved 0)) [
           | inl moves ↦ absurd (omega (arith, order.start_cost, (change.moves 0 moves).cheaper))
-          | inr stays ↦ (change.others 0 stays (start-present setup start before order)).parent
+          | inr stays ↦ (change.others 0 stays (start-present setup before order)).parent
         ];
     none_rises = none_rises;
     nodes = λ j h.

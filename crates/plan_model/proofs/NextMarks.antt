@@ -29,15 +29,15 @@ use Rattle.plan_model.proofs.WorkerTurns.{turn-new, AreTurns-next}
 
 -- What the end of mark k leaves: the tree has grown in the order law, and the new record is lawful. If it was placed its node is
 -- there, and no other node is new.
-pub record EndsLawfully (setup : Setup) (start : Point) (before after : TreeState) (k : ℕ) (mark : Point) (entry : Record) : Type 0 where
+pub record EndsLawfully (setup : Setup) (before after : TreeState) (k : ℕ) (mark : Point) (entry : Record) : Type 0 where
   pub records : RecordsMark before.record_of after.record_of k entry
-  pub order : KeepsOrder setup start after
+  pub order : KeepsOrder setup after
   pub grows : GrowsInto before after
   pub lawful : IsLawfulRecord setup after k mark entry
   pub others : (j : ℕ) → j ≢ k → IsPresent after.points (suc j) → IsPresent before.points (suc j)
   pub own : IsPresent after.points (suc k) ↔ (entry.outcome ≡ Placed)
 
-module _ (setup : Setup) (start : Point) (marks : List Point) (k : ℕ) (before : TreeState) (closed : IsClosed setup start marks k before) where
+module _ (setup : Setup) (marks : List Point) (k : ℕ) (before : TreeState) (closed : IsClosed setup marks k before) where
   -- a mark with a record is below the limit
   pub recorded_below : (j : ℕ) (own : Record) → before.record_of j ≡ Some own → j < k
   recorded_below j own h =
@@ -59,13 +59,13 @@ module _ (setup : Setup) (start : Point) (marks : List Point) (k : ℕ) (before 
   module _ (after : TreeState) (entry : Record) where
     -- ---- closing
 
-    module _ (ends : EndsLawfully setup start before after k (mark_at marks k) entry) (turn : entry.turn ≡ turns_of before.record_of k entry.worker) where
+    module _ (ends : EndsLawfully setup before after k (mark_at marks k) entry) (turn : entry.turn ≡ turns_of before.record_of k entry.worker) where
       -- the earlier nodes of the other records stay the same
       same_earlier : (j : ℕ) (own : Record) → before.record_of j ≡ Some own → HaveSameEarlier before after own
       same_earlier j own h = record {
         same =
             is_earlier-same before after k entry own ends.records later;
-        present = earlier-present before own (start-present setup start before closed.order) closed.placed;
+        present = earlier-present before own (start-present setup before closed.order) closed.placed;
       }
         where
           later : (entry.worker ≢ own.worker) ⊎ (own.turn ≤ entry.turn)
@@ -118,7 +118,7 @@ module _ (setup : Setup) (start : Point) (marks : List Point) (k : ℕ) (before 
           ]
 
       -- A closed run whose next mark ends lawfully is closed at the next limit.
-      pub IsClosed-next : k < length marks → entry.worker < MOST_WORKERS → IsClosed setup start marks (suc k) after
+      pub IsClosed-next : k < length marks → entry.worker < MOST_WORKERS → IsClosed setup marks (suc k) after
       IsClosed-next below few = record {
         order = ends.order;
         within = below;
@@ -136,7 +136,7 @@ module _ (setup : Setup) (start : Point) (marks : List Point) (k : ℕ) (before 
       pub early-present : (i : ℕ) → IsEarlier after entry i → IsPresent before.points i
       early-present i h =
           let same = is_earlier-same before after k entry entry records (inr (omega arith)) i in
-          earlier-present before entry (start-present setup start before closed.order) closed.placed i (sym same ∙ h)
+          earlier-present before entry (start-present setup before closed.order) closed.placed i (sym same ∙ h)
 
       pub earlier_count-le : earlier_count after entry ≤ node_count before.points
       earlier_count-le =
@@ -168,7 +168,7 @@ module _ (setup : Setup) (start : Point) (marks : List Point) (k : ℕ) (before 
 
     module _ (mark p : Point) (steers : SteersTo setup before.points mark entry.nearest p) (adds : AddsRecord before after k entry) where
       lowers : LowersCosts setup before after
-      lowers = LowersCosts-adds_record setup start before after k entry closed.order adds
+      lowers = LowersCosts-adds_record setup before after k entry closed.order adds
 
       grows_unplaced : GrowsInto before after
       grows_unplaced = GrowsInto-lowered setup before after lowers
@@ -196,10 +196,10 @@ module _ (setup : Setup) (start : Point) (marks : List Point) (k : ℕ) (before 
       -- A mark that is not placed ends lawfully if its outcome is what it says.
       pub EndsLawfully-unplaced :
           (moved : List ℕ) → is_placed entry.outcome ≡ false → EndsBy setup before entry p moved entry.outcome
-          → EndsLawfully setup start before after k mark entry
+          → EndsLawfully setup before after k mark entry
       EndsLawfully-unplaced moved unplaced h = record {
         records = records_unplaced;
-        order = KeepsOrder-lowered setup before after lowers start closed.order;
+        order = KeepsOrder-lowered setup before after lowers closed.order;
         grows = grows_unplaced;
         lawful =
             IsLawfulRecord-outcome records_unplaced grows_unplaced mark p steers (outcome_unplaced moved entry.outcome unplaced h);

@@ -75,10 +75,10 @@ HangsBelow-falls setup state n distinct here h =
     cost_of-apart (point_of state.points (state.parent n)) (point_of state.points n) (apart_from_parent setup state n distinct here h) in
     omega (arith, h.cost, edge)
 
-module _ (setup : Setup) (start : Point) (state : TreeState) (order : KeepsOrder setup start state) where
+module _ (setup : Setup) (state : TreeState) (order : KeepsOrder setup state) where
   -- the start is present
   pub start-present : IsPresent state.points 0
-  start-present = IsPresent-stands state.points 0 start order.start_stands
+  start-present = IsPresent-stands state.points 0 setup.start order.start_stands
 
   -- so there is a node
   pub some_node : 1 ≤ node_count state.points

@@ -10,13 +10,13 @@ use Rattle.plan_model.proofs.ChainLaws.{sum-start, sum-parent}
 use Rattle.plan_model.proofs.LoweredCosts.{StandsStill, SettlesCosts}
 use Rattle.plan_model.proofs.OrderLaws.{start-present, KeepsOrder-falls}
 
-module _ (setup : Setup) (start : Point) (state : TreeState) (order : KeepsOrder setup start state) where
+module _ (setup : Setup) (state : TreeState) (order : KeepsOrder setup state) where
   -- kept costs fall along the parents, so chains end at the start
   pub FallAlong-ordered : FallAlong state.cost state.points state.parent
   FallAlong-ordered = record {
-    start = start-present setup start state order;
+    start = start-present setup state order;
     parent = λ n h. (order.hangs n h).parent;
-    falls = λ n h. KeepsOrder-falls setup start state order n h;
+    falls = λ n h. KeepsOrder-falls setup state order n h;
   }
 
   -- the sum of a node is its parent's and the edge
@@ -29,10 +29,10 @@ module _ (setup : Setup) (start : Point) (state : TreeState) (order : KeepsOrder
 
   sum_below : (most n : ℕ) → IsPresent state.points n → state.cost n ≤ most → sum_in state n ≤ state.cost n
   sum_below most zero h l = omega (arith, sum_in-start)
-  sum_below zero (suc n) h l = absurd (omega (arith, KeepsOrder-falls setup start state order n h, l))
+  sum_below zero (suc n) h l = absurd (omega (arith, KeepsOrder-falls setup state order n h, l))
   sum_below (suc most) (suc n) h l =
       let old = order.hangs n h in
-      let above = sum_below most (state.parent (suc n)) old.parent (omega (arith, KeepsOrder-falls setup start state order n h, l)) in
+      let above = sum_below most (state.parent (suc n)) old.parent (omega (arith, KeepsOrder-falls setup state order n h, l)) in
       omega (arith, above, sum_in-parent n h, old.cost)
 
   -- no node is kept at less than its sum
@@ -46,6 +46,6 @@ module _ (setup : Setup) (start : Point) (state : TreeState) (order : KeepsOrder
   SettlesCosts-sums after still parents sums = record {
     still = still;
     parents = parents;
-    start = sums 0 (start-present setup start state order) ∙ sum_in-start;
+    start = sums 0 (start-present setup state order) ∙ sum_in-start;
     edges = λ n h. omega (arith, sums (suc n) h, sums (state.parent (suc n)) (order.hangs n h).parent, sum_in-parent n h);
   }

@@ -282,7 +282,7 @@ lawful (suc (suc (suc k))) entry h = cc
 
 -- ---- the closed law
 
-pub IsClosed-overlapped : IsClosed open_setup (at 0 0) marks_to_rewire 3 overlapped
+pub IsClosed-overlapped : IsClosed open_setup marks_to_rewire 3 overlapped
 IsClosed-overlapped = record {
   order = record {
     distinct = λ i j p a b. number_is i p a ∙ sym (number_is j p b);

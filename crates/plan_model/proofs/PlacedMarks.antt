@@ -35,9 +35,9 @@ pub record ChoosesParent (setup : Setup) (before : TreeState) (mark : Point) (en
 
 -- What the placing of mark k leaves: the tree has grown by its node alone in the order law, and no near node with a clear edge is
 -- dearer than by way of it.
-pub record LeavesPlaced (setup : Setup) (start : Point) (before after : TreeState) (k : ℕ) (entry : Record) (p : Point) : Type 0 where
+pub record LeavesPlaced (setup : Setup) (before after : TreeState) (k : ℕ) (entry : Record) (p : Point) : Type 0 where
   pub records : RecordsMark before.record_of after.record_of k entry
-  pub order : KeepsOrder setup start after
+  pub order : KeepsOrder setup after
   pub grows : GrowsInto before after
   pub firsts : KeepsFirstCosts setup after
   pub stands : StandsAt after.points (suc k) p
@@ -46,8 +46,8 @@ pub record LeavesPlaced (setup : Setup) (start : Point) (before after : TreeStat
       → after.cost i ≤ entry.first_cost + cost_of (point_of before.points i) p
 
 module _
-    (setup : Setup) (start : Point) (marks : List Point) (k : ℕ) (before after : TreeState) (mark : Point) (entry : Record) (p : Point)
-    (closed : IsClosed setup start marks k before) (chooses : ChoosesParent setup before mark entry p) where
+    (setup : Setup) (marks : List Point) (k : ℕ) (before after : TreeState) (mark : Point) (entry : Record) (p : Point)
+    (closed : IsClosed setup marks k before) (chooses : ChoosesParent setup before mark entry p) where
   abbrev f : ℕ
   f = entry.first_parent
 
@@ -58,9 +58,9 @@ module _
   pub parent-allowed : IsAllowedEdge setup (point_of before.points f) p
   parent-allowed = record { clear = chooses.parent.member.clear; short = parent-reachable.short }
 
-  module _ (leaves : LeavesPlaced setup start before after k entry p) where
+  module _ (leaves : LeavesPlaced setup before after k entry p) where
     early : (i : ℕ) → IsNeighbour setup after entry p i → IsPresent before.points i
-    early i h = early-present setup start marks k before closed after entry leaves.records leaves.grows i h.earlier
+    early i h = early-present setup marks k before closed after entry leaves.records leaves.grows i h.earlier
 
     same_point : (i : ℕ) → IsPresent before.points i → point_of after.points i ≡ point_of before.points i
     same_point i h = point_of-grows before after leaves.grows i h
@@ -74,7 +74,7 @@ module _
     below_candidate : (i : ℕ) → IsPresent before.points i → IsCandidate setup before.points entry.nearest p i
         → entry.first_cost ≤ first_cost_through after p i
     below_candidate i h candidate =
-        let kept = (KeepsFirstCosts-closed setup start marks k before closed).kept i h in
+        let kept = (KeepsFirstCosts-closed setup marks k before closed).kept i h in
         omega (arith, chooses.cost, (chooses.parent.not_above i candidate).least, kept, leaves.grows.first_costs i h, same_edge i h)
 
     neighbour_near : (i : ℕ) → IsNeighbour setup after entry p i → IsPresent before.points i → Contains (near_new setup before.points p) i
@@ -98,7 +98,7 @@ module _
               arith,
               chooses.of_class,
               class_of-le (earlier_count after entry) (node_count before.points)
-                  (earlier_count-le setup start marks k before closed after entry leaves.records leaves.grows),
+                  (earlier_count-le setup marks k before closed after entry leaves.records leaves.grows),
             );
         high =
             omega (
@@ -124,7 +124,7 @@ module _
     own_first_cost = ap (recorded_or (after.written_cost (suc k))) leaves.records.recorded
 
     not_new : (i : ℕ) → IsPresent before.points i → i ≢ suc k
-    not_new i h e = node-absent setup start marks k before closed (subst (IsPresent before.points) e h)
+    not_new i h e = node-absent setup marks k before closed (subst (IsPresent before.points) e h)
 
     hangs_lawfully : HangsLawfully setup after k entry p
     hangs_lawfully =
@@ -152,13 +152,13 @@ module _
         subst (λ o. HasLawfulOutcome setup after k entry p o) (sym placed) (record { by_worker = chosen_lawfully; by_tree = hangs_lawfully })
 
     -- A placed mark ends lawfully.
-    pub EndsLawfully-placed : entry.outcome ≡ Placed → EndsLawfully setup start before after k mark entry
+    pub EndsLawfully-placed : entry.outcome ≡ Placed → EndsLawfully setup before after k mark entry
     EndsLawfully-placed placed = record {
       records = leaves.records;
       order = leaves.order;
       grows = leaves.grows;
       lawful =
-          IsLawfulRecord-outcome setup start marks k before closed after entry leaves.records leaves.grows mark p chooses.steers
+          IsLawfulRecord-outcome setup marks k before closed after entry leaves.records leaves.grows mark p chooses.steers
           (outcome_lawful entry.outcome placed);
       others = λ j apart h. ap is_some (sym (leaves.elsewhere (suc j) (λ e. apart (omega (arith, e))))) ∙ h;
       own = ((λ h. placed), (λ e. IsPresent-stands after.points (suc k) p leaves.stands));

@@ -51,7 +51,7 @@ unfolding four_nodes
 node_2_moves = (rewired_tree, inl (is_cheaper, refl), refl)
 
 -- the three marks, one after another
-pub rewired_run : IsTextbookRun open_setup (at 0 0) marks_to_rewire rewired_tree rewired_records
+pub rewired_run : IsTextbookRun open_setup marks_to_rewire rewired_tree rewired_records
 rewired_run = IsTextbookRun-three (at 40 79) 25449 second_mark rewired_tree node_2_moves
 
 -- what node 2 costs in the end

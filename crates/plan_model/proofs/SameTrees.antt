@@ -31,7 +31,7 @@ map-same : {A : Type 0} (f g : ℕ → A) → ((n : ℕ) → f n ≡ g n) → (n
 map-same f g same [] = refl
 map-same f g same (n ∷ ns) = ap (λ a. a ∷ map f ns) (same n) ∙ ap (λ rest. g n ∷ rest) (map-same f g same ns)
 
-module _ (setup : Setup) (start : Point) (one other : TreeState) (order : KeepsOrder setup start one) (same : AreSameRuns one other) where
+module _ (setup : Setup) (one other : TreeState) (order : KeepsOrder setup one) (same : AreSameRuns one other) where
   chain_within-same : (most n : ℕ) → IsPresent one.points n → chain_within most other.parent n ≡ chain_within most one.parent n
   chain_within-same zero n h = refl
   chain_within-same (suc most) zero h = refl
@@ -57,9 +57,9 @@ module _ (setup : Setup) (start : Point) (one other : TreeState) (order : KeepsO
 
 -- a run that is the same as a closed one has its tree, with the first costs
 HaveSameTree-runs :
-    (setup : Setup) (start : Point) (marks : List Point) (limit : ℕ) (one other : TreeState) → IsClosed setup start marks limit one
+    (setup : Setup) (marks : List Point) (limit : ℕ) (one other : TreeState) → IsClosed setup marks limit one
     → AreSameRuns one other → HaveSameTree one other
-HaveSameTree-runs setup start marks limit one other closed same = record {
+HaveSameTree-runs setup marks limit one other closed same = record {
   still = record { points = same.points; first_costs = first_costs; records = λ k entry h. same.records k ∙ h };
   parents = same.parents;
   costs = same.costs;
@@ -73,17 +73,17 @@ HaveSameTree-runs setup start marks limit one other closed same = record {
 
 -- a run that is the same as a closed one is closed
 pub IsClosed-same_run :
-    (setup : Setup) (start : Point) (marks : List Point) (limit : ℕ) (one other : TreeState) → IsClosed setup start marks limit one
-    → AreSameRuns one other → IsClosed setup start marks limit other
-IsClosed-same_run setup start marks limit one other closed same =
-    IsClosed-same setup start marks limit one other same.records closed (HaveSameTree-runs setup start marks limit one other closed same)
+    (setup : Setup) (marks : List Point) (limit : ℕ) (one other : TreeState) → IsClosed setup marks limit one
+    → AreSameRuns one other → IsClosed setup marks limit other
+IsClosed-same_run setup marks limit one other closed same =
+    IsClosed-same setup marks limit one other same.records closed (HaveSameTree-runs setup marks limit one other closed same)
 
 -- and it has grown into it
 pub GrowsInto-same_run :
-    (setup : Setup) (start : Point) (marks : List Point) (limit : ℕ) (one other : TreeState) → IsClosed setup start marks limit one
+    (setup : Setup) (marks : List Point) (limit : ℕ) (one other : TreeState) → IsClosed setup marks limit one
     → AreSameRuns one other → GrowsInto one other
-GrowsInto-same_run setup start marks limit one other closed same =
-    let tree = HaveSameTree-runs setup start marks limit one other closed same in
+GrowsInto-same_run setup marks limit one other closed same =
+    let tree = HaveSameTree-runs setup marks limit one other closed same in
     record {
       nodes = λ n p h. same.points n ∙ h;
       first_costs = tree.still.first_costs;
@@ -94,17 +94,17 @@ GrowsInto-same_run setup start marks limit one other closed same =
 -- ---- the textbook run
 
 module _
-    (setup : Setup) (start : Point) (marks : List Point) (state : TreeState) (clear : ClearAt setup.space start)
-    (of_run : IsOfTextbookRun setup start marks state) where
-  closed_run : IsClosed setup start marks (length marks) (state_of of_run.nodes of_run.records)
-  closed_run = IsClosed-textbook setup start marks of_run.nodes of_run.records clear of_run.run
+    (setup : Setup) (marks : List Point) (state : TreeState) (clear : ClearAt setup.space setup.start)
+    (of_run : IsOfTextbookRun setup marks state) where
+  closed_run : IsClosed setup marks (length marks) (state_of of_run.nodes of_run.records)
+  closed_run = IsClosed-textbook setup marks of_run.nodes of_run.records clear of_run.run
 
   -- the tree of a textbook run is closed at the number of its marks
-  pub IsClosed-of_textbook : IsClosed setup start marks (length marks) state
+  pub IsClosed-of_textbook : IsClosed setup marks (length marks) state
   IsClosed-of_textbook =
-      IsClosed-same_run setup start marks (length marks) (state_of of_run.nodes of_run.records) state closed_run of_run.same
+      IsClosed-same_run setup marks (length marks) (state_of of_run.nodes of_run.records) state closed_run of_run.same
 
   -- and settled
   pub IsSettled-of_textbook : IsSettled state
   IsSettled-of_textbook =
-      IsSettled-same setup start (state_of of_run.nodes of_run.records) state closed_run.order of_run.same (λ n h. refl)
+      IsSettled-same setup (state_of of_run.nodes of_run.records) state closed_run.order of_run.same (λ n h. refl)

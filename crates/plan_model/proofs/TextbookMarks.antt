@@ -44,22 +44,22 @@ abbrev pub AreNumbered : List Record → Type 0
 AreNumbered records = (j : ℕ) (own : Record) → slice_get records j ≡ Some own → (own.worker ≡ 0) × (own.turn ≡ j)
 
 -- A textbook run that has come to mark k: it is closed there, and each of its records is of worker 0 in its turn.
-pub record IsTextbookSoFar (setup : Setup) (start : Point) (marks : List Point) (k : ℕ) (tree : Nodes) (records : List Record) : Type 0 where
+pub record IsTextbookSoFar (setup : Setup) (marks : List Point) (k : ℕ) (tree : Nodes) (records : List Record) : Type 0 where
   pub next : RecordsNext tree records k
-  pub closed : IsClosed setup start marks k (state_of tree records)
+  pub closed : IsClosed setup marks k (state_of tree records)
   pub numbered : AreNumbered records
 
 -- What the end of mark k leaves: a number more in the tree, and a lawful record of worker 0 in its turn k.
-pub record EndsInTurn (setup : Setup) (start : Point) (k : ℕ) (tree : Nodes) (records : List Record) (mark : Point) (entry : Record) (after : Nodes)
+pub record EndsInTurn (setup : Setup) (k : ℕ) (tree : Nodes) (records : List Record) (mark : Point) (entry : Record) (after : Nodes)
     : Type 0 where
   pub nodes : length after ≡ suc (suc k)
   pub worker : entry.worker ≡ 0
   pub turn : entry.turn ≡ k
-  pub lawfully : EndsLawfully setup start (state_of tree records) (state_of after (records ++ entry ∷ [])) k mark entry
+  pub lawfully : EndsLawfully setup (state_of tree records) (state_of after (records ++ entry ∷ [])) k mark entry
 
 module _
-    (setup : Setup) (start : Point) (marks : List Point) (k : ℕ) (tree : Nodes) (records : List Record) (entry : Record) (after : Nodes)
-    (so_far : IsTextbookSoFar setup start marks k tree records) where
+    (setup : Setup) (marks : List Point) (k : ℕ) (tree : Nodes) (records : List Record) (entry : Record) (after : Nodes)
+    (so_far : IsTextbookSoFar setup marks k tree records) where
   abbrev before_mark : TreeState
   before_mark = state_of tree records
 
@@ -80,15 +80,15 @@ module _
 
   -- The run has come to the next mark.
   IsTextbookSoFar-more :
-      (mark : Point) → k < length marks → mark ≡ mark_at marks k → EndsInTurn setup start k tree records mark entry after
-      → IsTextbookSoFar setup start marks (suc k) after (records ++ entry ∷ [])
+      (mark : Point) → k < length marks → mark ≡ mark_at marks k → EndsInTurn setup k tree records mark entry after
+      → IsTextbookSoFar setup marks (suc k) after (records ++ entry ∷ [])
   IsTextbookSoFar-more mark below at ends =
-      let lawfully = subst (λ q. EndsLawfully setup start before_mark after_mark k q entry) at ends.lawfully in
+      let lawfully = subst (λ q. EndsLawfully setup before_mark after_mark k q entry) at ends.lawfully in
       let most : 0 < MOST_WORKERS = omega arith in
       record {
         next = record { nodes = ends.nodes; marks = omega (arith, length-append records (entry ∷ []), so_far.next.marks) };
         closed =
-            IsClosed-next setup start marks k before_mark so_far.closed after_mark entry lawfully (next_turn ends.worker ends.turn) below
+            IsClosed-next setup marks k before_mark so_far.closed after_mark entry lawfully (next_turn ends.worker ends.turn) below
             (omega (arith, most, ends.worker));
         numbered = λ j own h.
             elim (new_or_recorded (slice_get records) (slice_get (records ++ entry ∷ [])) k entry ends.lawfully.records j own h) [
@@ -103,13 +103,13 @@ module _
   EndsInTurn-unplaced :
       (mark p : Point) (outcome : Outcome) → SteersTo setup (points_of tree) mark entry.nearest p → after ≡ tree ++ None ∷ []
       → entry.worker ≡ 0 → entry.turn ≡ k → entry.outcome ≡ outcome → is_placed outcome ≡ false → EndsBy setup before_mark entry p [] outcome
-      → EndsInTurn setup start k tree records mark entry after
+      → EndsInTurn setup k tree records mark entry after
   EndsInTurn-unplaced mark p outcome steers added worker turn e unplaced h = record {
     nodes = omega (arith, ap length added, length-append tree (None ∷ []), so_far.next.nodes);
     worker = worker;
     turn = turn;
     lawfully =
-        EndsLawfully-unplaced setup start marks k before_mark so_far.closed after_mark entry mark p steers
+        EndsLawfully-unplaced setup marks k before_mark so_far.closed after_mark entry mark p steers
         (AddsRecord-unplaced tree records k entry so_far.next after added) [] (ap is_placed e ∙ unplaced)
         (subst (λ o. EndsBy setup before_mark entry p [] o) (sym e) h);
   }
@@ -143,16 +143,16 @@ module _
     places : PlacesNode setup tree k f p entry
     places = record {
       free = ends.free;
-      parent = (parent-reachable setup start marks k before_mark after_mark mark entry p so_far.closed chooses).present;
-      edge = parent-allowed setup start marks k before_mark after_mark mark entry p so_far.closed chooses;
+      parent = (parent-reachable setup marks k before_mark after_mark mark entry p so_far.closed chooses).present;
+      edge = parent-allowed setup marks k before_mark after_mark mark entry p so_far.closed chooses;
       cost = chooses.cost;
     }
 
     adds : AddsNode setup before_mark with_state (suc k) f p
-    adds = AddsNode-placed setup start tree records k f p entry so_far.next so_far.closed.order places
+    adds = AddsNode-placed setup tree records k f p entry so_far.next so_far.closed.order places
 
-    order_with : KeepsOrder setup start with_state
-    order_with = KeepsOrder-adds setup before_mark with_state (suc k) f p adds start so_far.closed.order
+    order_with : KeepsOrder setup with_state
+    order_with = KeepsOrder-adds setup before_mark with_state (suc k) f p adds so_far.closed.order
 
     grows_with : GrowsInto before_mark with_state
     grows_with = GrowsInto-adds setup before_mark with_state (suc k) f p adds
@@ -161,7 +161,7 @@ module _
     new_point = point_of-stands (points_of with_node) (suc k) p adds.stands
 
     new_sum : sum_of with_node (suc k) ≡ entry.first_cost
-    new_sum = sum-placed setup start tree records k f p entry so_far.next so_far.closed.order places ∙ sym chooses.cost
+    new_sum = sum-placed setup tree records k f p entry so_far.next so_far.closed.order places ∙ sym chooses.cost
 
     -- ---- the near nodes
 
@@ -186,11 +186,11 @@ module _
     all_may_rewire =
         All-weaker (IsReachable (points_of tree) p setup.step) (MayRewire setup (points_of with_node) (suc k)) may_rewire near_nodes near_reachable
 
-    relaxes : Relaxes setup start with_node after (records ++ entry ∷ [])
-    relaxes = Relaxes-all setup start with_node (records ++ entry ∷ []) (suc k) near_nodes after order_with all_may_rewire ends.rewired
+    relaxes : Relaxes setup with_node after (records ++ entry ∷ [])
+    relaxes = Relaxes-all setup with_node (records ++ entry ∷ []) (suc k) near_nodes after order_with all_may_rewire ends.rewired
 
     all_reached : All (IsReached setup (points_of with_node) (sum_of after) (sum_of with_node (suc k)) (suc k)) near_nodes
-    all_reached = AreReached-all setup start with_node (records ++ entry ∷ []) (suc k) near_nodes after order_with all_may_rewire ends.rewired
+    all_reached = AreReached-all setup with_node (records ++ entry ∷ []) (suc k) near_nodes after order_with all_may_rewire ends.rewired
 
     -- no near node with a clear edge is dearer than by way of the new one
     reached : (i : ℕ) → Contains near_nodes i → Clear setup.space (point_of (points_of tree) i) p
@@ -209,14 +209,14 @@ module _
 
     -- ---- the mark
 
-    leaves : LeavesPlaced setup start before_mark after_mark k entry p
+    leaves : LeavesPlaced setup before_mark after_mark k entry p
     leaves = record {
       records = RecordsMark-push tree records k entry so_far.next;
       order = relaxes.order;
       grows = GrowsInto-trans before_mark with_state after_mark grows_with relaxes.grows;
       firsts =
           relaxes.firsts
-          (KeepsFirstCosts-adds setup before_mark with_state (suc k) f p adds (KeepsFirstCosts-closed setup start marks k before_mark so_far.closed));
+          (KeepsFirstCosts-adds setup before_mark with_state (suc k) f p adds (KeepsFirstCosts-closed setup marks k before_mark so_far.closed));
       stands = relaxes.grows.nodes (suc k) p adds.stands;
       elsewhere = λ i apart. ap (λ points. point_at points i) relaxes.points ∙ adds.elsewhere i apart;
       reached = reached;
@@ -228,19 +228,19 @@ module _
         ∙ length-map with_node (option_map (λ (node : Twig). node.point))
 
     -- A placed mark ends in its turn.
-    EndsInTurn-placed : EndsInTurn setup start k tree records mark entry after
+    EndsInTurn-placed : EndsInTurn setup k tree records mark entry after
     EndsInTurn-placed = record {
       nodes = omega (arith, same_length, length-append tree (Some (record { point = ends.point; parent = entry.first_parent }) ∷ []), so_far.next.nodes);
       worker = ap (λ r. r.worker) ends.recorded;
       turn = ap (λ r. r.turn) ends.recorded;
       lawfully =
-          EndsLawfully-placed setup start marks k before_mark after_mark mark entry p so_far.closed chooses leaves (ap (λ r. r.outcome) ends.recorded);
+          EndsLawfully-placed setup marks k before_mark after_mark mark entry p so_far.closed chooses leaves (ap (λ r. r.outcome) ends.recorded);
     }
 
   -- ---- each mark
 
   -- Each mark ends in its turn.
-  EndsInTurn-textbook : (mark : Point) (outcome : Outcome) → Ends setup tree k mark outcome entry after → EndsInTurn setup start k tree records mark entry after
+  EndsInTurn-textbook : (mark : Point) (outcome : Outcome) → Ends setup tree k mark outcome entry after → EndsInTurn setup k tree records mark entry after
   EndsInTurn-textbook mark Placed ends = EndsInTurn-placed mark ends
   EndsInTurn-textbook mark (Same j) ends =
       EndsInTurn-unplaced mark ends.point (Same j) ends.steers ends.added (ap (λ r. r.worker) ends.recorded) (ap (λ r. r.turn) ends.recorded)
@@ -252,5 +252,5 @@ module _
   -- So the run comes to the next mark.
   pub IsTextbookSoFar-ends :
       (mark : Point) → k < length marks → mark ≡ mark_at marks k → Ends setup tree k mark entry.outcome entry after
-      → IsTextbookSoFar setup start marks (suc k) after (records ++ entry ∷ [])
+      → IsTextbookSoFar setup marks (suc k) after (records ++ entry ∷ [])
   IsTextbookSoFar-ends mark below at ends = IsTextbookSoFar-more mark below at (EndsInTurn-textbook mark entry.outcome ends)

@@ -31,13 +31,13 @@ same_first_costs tree after records (suc k) = refl
 -- ---- one cheaper parent
 
 module _
-    (setup : Setup) (start : Point) (tree after : Nodes) (records : List Record) (i n fall : ℕ) (order : KeepsOrder setup start (state_of tree records))
+    (setup : Setup) (tree after : Nodes) (records : List Record) (i n fall : ℕ) (order : KeepsOrder setup (state_of tree records))
     (change : HasCheaperParent (sum_of tree) tree i n fall after) where
   falls : CostsFall (sum_of tree) tree
-  falls = CostsFall-ordered setup start tree records order
+  falls = CostsFall-ordered setup tree records order
 
   tight : AreTight (sum_of tree) tree
-  tight = AreTight-ordered setup start tree records order
+  tight = AreTight-ordered setup tree records order
 
   falls_after : CostsFall (sum_of tree) after
   falls_after = CostsFall-cheaper_parent (sum_of tree) tree i n fall after change falls
@@ -163,17 +163,17 @@ IsReached setup points costs through n i =
     Clear setup.space (point_of points n) (point_of points i) → costs i ≤ through + cost_of (point_of points n) (point_of points i)
 
 -- What looking at near nodes does: costs are lowered, no node moves.
-pub record Relaxes (setup : Setup) (start : Point) (tree after : Nodes) (records : List Record) : Type 0 where
+pub record Relaxes (setup : Setup) (tree after : Nodes) (records : List Record) : Type 0 where
   pub points : points_of after ≡ points_of tree
-  pub order : KeepsOrder setup start (state_of after records)
+  pub order : KeepsOrder setup (state_of after records)
   pub grows : GrowsInto (state_of tree records) (state_of after records)
   pub firsts : KeepsFirstCosts setup (state_of tree records) → KeepsFirstCosts setup (state_of after records)
 
 Relaxes-none :
-    (setup : Setup) (start : Point) (tree after : Nodes) (records : List Record) → after ≡ tree → KeepsOrder setup start (state_of tree records)
-    → Relaxes setup start tree after records
-Relaxes-none setup start tree after records e order =
-    subst (λ t. Relaxes setup start tree t records) (sym e) (record {
+    (setup : Setup) (tree after : Nodes) (records : List Record) → after ≡ tree → KeepsOrder setup (state_of tree records)
+    → Relaxes setup tree after records
+Relaxes-none setup tree after records e order =
+    subst (λ t. Relaxes setup tree t records) (sym e) (record {
       points = refl;
       order = order;
       grows = GrowsInto-refl (state_of tree records);
@@ -181,9 +181,9 @@ Relaxes-none setup start tree after records e order =
     })
 
 Relaxes-trans :
-    (setup : Setup) (start : Point) (tree mid after : Nodes) (records : List Record) → Relaxes setup start tree mid records
-    → Relaxes setup start mid after records → Relaxes setup start tree after records
-Relaxes-trans setup start tree mid after records f g = record {
+    (setup : Setup) (tree mid after : Nodes) (records : List Record) → Relaxes setup tree mid records
+    → Relaxes setup mid after records → Relaxes setup tree after records
+Relaxes-trans setup tree mid after records f g = record {
   points = g.points ∙ f.points;
   order = g.order;
   grows = GrowsInto-trans (state_of tree records) (state_of mid records) (state_of after records) f.grows g.grows;
@@ -191,7 +191,7 @@ Relaxes-trans setup start tree mid after records f g = record {
 }
 
 module _
-    (setup : Setup) (start : Point) (tree after : Nodes) (records : List Record) (n i : ℕ) (order : KeepsOrder setup start (state_of tree records))
+    (setup : Setup) (tree after : Nodes) (records : List Record) (n i : ℕ) (order : KeepsOrder setup (state_of tree records))
     (may : MayRewire setup (points_of tree) n i) where
   cheaper_parent : IsCheaperThrough setup.space tree n i → after ≡ with_parent tree i n
       → HasCheaperParent (sum_of tree) tree i n (sum_of tree i - cost_through tree (point_of (points_of tree) i) n) after
@@ -204,27 +204,27 @@ module _
   }
 
   -- Looking at one near node lowers costs.
-  pub Relaxes-one : RewiresOne setup.space tree n i after → Relaxes setup start tree after records
+  pub Relaxes-one : RewiresOne setup.space tree n i after → Relaxes setup tree after records
   Relaxes-one (inl (h, e)) =
       let change = cheaper_parent h e in
       let fall : ℕ = sum_of tree i - cost_through tree (point_of (points_of tree) i) n in
       let lowers =
-      LowersCosts-exchanged setup start tree after records i n fall order change (record { clear = h.clear; short = may.short }) in
+      LowersCosts-exchanged setup tree after records i n fall order change (record { clear = h.clear; short = may.short }) in
       record {
         points = points_of-cheaper_parent (sum_of tree) tree i n fall after change;
-        order = KeepsOrder-lowered setup (state_of tree records) (state_of after records) lowers start order;
+        order = KeepsOrder-lowered setup (state_of tree records) (state_of after records) lowers order;
         grows = GrowsInto-lowered setup (state_of tree records) (state_of after records) lowers;
         firsts = KeepsFirstCosts-lowered setup (state_of tree records) (state_of after records) lowers;
       }
-  Relaxes-one (inr (h, e)) = Relaxes-none setup start tree after records e order
+  Relaxes-one (inr (h, e)) = Relaxes-none setup tree after records e order
 
   -- and it is then reached through the new node as cheaply as that is
   pub IsReached-one : RewiresOne setup.space tree n i after → IsReached setup (points_of tree) (sum_of after) (sum_of tree n) n i
   IsReached-one (inl (h, e)) clear =
       let change = cheaper_parent h e in
       let fall : ℕ = sum_of tree i - cost_through tree (point_of (points_of tree) i) n in
-      let through = no_sum_rises setup start tree after records i n fall order change n may.parent in
-      omega (arith, sum_of_exchanged setup start tree after records i n fall order change, through)
+      let through = no_sum_rises setup tree after records i n fall order change n may.parent in
+      omega (arith, sum_of_exchanged setup tree after records i n fall order change, through)
   IsReached-one (inr (h, e)) clear =
       let same = ap (λ t. sum_of t i) e in
       elim (cases_lt (cost_through tree (point_of (points_of tree) i) n) (sum_of tree i)) [
@@ -241,33 +241,33 @@ MayRewire-all-same setup n ns one other e h = subst (λ points. All (MayRewire s
 
 -- Looking at all near nodes lowers costs.
 pub Relaxes-all :
-    (setup : Setup) (start : Point) (tree : Nodes) (records : List Record) (n : ℕ) (ns : List ℕ) (after : Nodes)
-    → KeepsOrder setup start (state_of tree records) → All (MayRewire setup (points_of tree) n) ns → Rewires setup.space tree n ns after
-    → Relaxes setup start tree after records
-Relaxes-all setup start tree records n [] after order may r = Relaxes-none setup start tree after records r order
-Relaxes-all setup start tree records n (i ∷ ns) after order may (mid, one, rest) =
-    let here = Relaxes-one setup start tree mid records n i order (All-head (MayRewire setup (points_of tree) n) i ns may) one in
+    (setup : Setup) (tree : Nodes) (records : List Record) (n : ℕ) (ns : List ℕ) (after : Nodes)
+    → KeepsOrder setup (state_of tree records) → All (MayRewire setup (points_of tree) n) ns → Rewires setup.space tree n ns after
+    → Relaxes setup tree after records
+Relaxes-all setup tree records n [] after order may r = Relaxes-none setup tree after records r order
+Relaxes-all setup tree records n (i ∷ ns) after order may (mid, one, rest) =
+    let here = Relaxes-one setup tree mid records n i order (All-head (MayRewire setup (points_of tree) n) i ns may) one in
     let later = MayRewire-all-same setup n ns (points_of tree) (points_of mid) here.points (All-tail (MayRewire setup (points_of tree) n) i ns may) in
-    Relaxes-trans setup start tree mid after records here (Relaxes-all setup start mid records n ns after here.order later rest)
+    Relaxes-trans setup tree mid after records here (Relaxes-all setup mid records n ns after here.order later rest)
 
 -- and each of them is then reached through the new node as cheaply as that is
 pub AreReached-all :
-    (setup : Setup) (start : Point) (tree : Nodes) (records : List Record) (n : ℕ) (ns : List ℕ) (after : Nodes)
-    → KeepsOrder setup start (state_of tree records) → All (MayRewire setup (points_of tree) n) ns → Rewires setup.space tree n ns after
+    (setup : Setup) (tree : Nodes) (records : List Record) (n : ℕ) (ns : List ℕ) (after : Nodes)
+    → KeepsOrder setup (state_of tree records) → All (MayRewire setup (points_of tree) n) ns → Rewires setup.space tree n ns after
     → All (IsReached setup (points_of tree) (sum_of after) (sum_of tree n) n) ns
-AreReached-all setup start tree records n [] after order may r = All-nil (IsReached setup (points_of tree) (sum_of after) (sum_of tree n) n)
-AreReached-all setup start tree records n (i ∷ ns) after order may (mid, one, rest) =
+AreReached-all setup tree records n [] after order may r = All-nil (IsReached setup (points_of tree) (sum_of after) (sum_of tree n) n)
+AreReached-all setup tree records n (i ∷ ns) after order may (mid, one, rest) =
     let own = All-head (MayRewire setup (points_of tree) n) i ns may in
-    let here = Relaxes-one setup start tree mid records n i order own one in
+    let here = Relaxes-one setup tree mid records n i order own one in
     let later = MayRewire-all-same setup n ns (points_of tree) (points_of mid) here.points (All-tail (MayRewire setup (points_of tree) n) i ns may) in
-    let falls = Relaxes-all setup start mid records n ns after here.order later rest in
-    let reached = AreReached-all setup start mid records n ns after here.order later rest in
+    let falls = Relaxes-all setup mid records n ns after here.order later rest in
+    let reached = AreReached-all setup mid records n ns after here.order later rest in
     let through = cost-grows (state_of tree records) (state_of mid records) here.grows n own.parent in
     let still = subst (λ points. IsPresent points i) (sym here.points) own.present in
     let cost = cost-grows (state_of mid records) (state_of after records) falls.grows i still in
     let same = subst (λ points. All (IsReached setup points (sum_of after) (sum_of mid n) n) ns) here.points reached in
     let Now : ℕ → Type 0 = IsReached setup (points_of tree) (sum_of after) (sum_of tree n) n in
-    let head : Now i = λ clear. omega (arith, cost, IsReached-one setup start tree mid records n i order own one clear) in
+    let head : Now i = λ clear. omega (arith, cost, IsReached-one setup tree mid records n i order own one clear) in
     let tail : All Now ns =
     All-weaker (IsReached setup (points_of tree) (sum_of after) (sum_of mid n) n) Now (λ j h clear. omega (arith, h clear, through)) ns same in
     All-cons Now i ns head tail

@@ -42,49 +42,49 @@ no_other : (start : Point) (n : ℕ) → ¬ IsPresent (points_of (start_alone st
 no_other start n h = not_present (start_alone start) (suc n) (node_at-past (start_alone start) (suc n) (omega arith)) h
 
 -- the start alone keeps the order law if it is clear
-pub KeepsOrder-start : (setup : Setup) (start : Point) → ClearAt setup.space start → KeepsOrder setup start (state_of (start_alone start) [])
-KeepsOrder-start setup start clear = record {
-  distinct = AreDistinct-start start;
+pub KeepsOrder-start : (setup : Setup) → ClearAt setup.space setup.start → KeepsOrder setup (state_of (start_alone setup.start) [])
+KeepsOrder-start setup clear = record {
+  distinct = AreDistinct-start setup.start;
   start_stands = refl;
   start_clear = clear;
   start_parent = refl;
   start_cost = refl;
-  hangs = λ n h. absurd (no_other start n h);
+  hangs = λ n h. absurd (no_other setup.start n h);
   bounded = bounded;
 }
   where
     bounded :
-        (n : ℕ) → IsPresent (points_of (start_alone start)) n
-        → sum_of (start_alone start) n ≤ most_cost_of setup (node_count (points_of (start_alone start)))
-    bounded zero h = let free : sum_of (start_alone start) 0 ≡ 0 = refl in omega (arith, free)
-    bounded (suc n) h = absurd (no_other start n h)
+        (n : ℕ) → IsPresent (points_of (start_alone setup.start)) n
+        → sum_of (start_alone setup.start) n ≤ most_cost_of setup (node_count (points_of (start_alone setup.start)))
+    bounded zero h = let free : sum_of (start_alone setup.start) 0 ≡ 0 = refl in omega (arith, free)
+    bounded (suc n) h = absurd (no_other setup.start n h)
 
 -- The start alone is a closed run of no marks, if it is clear.
 pub IsClosed-start :
-    (setup : Setup) (start : Point) (marks : List Point) → ClearAt setup.space start → IsClosed setup start marks 0 (state_of (start_alone start) [])
-IsClosed-start setup start marks clear = record {
-  order = KeepsOrder-start setup start clear;
+    (setup : Setup) (marks : List Point) → ClearAt setup.space setup.start → IsClosed setup marks 0 (state_of (start_alone setup.start) [])
+IsClosed-start setup marks clear = record {
+  order = KeepsOrder-start setup clear;
   within = omega arith;
   records = record { recorded = λ k below. absurd (omega arith); none_else = λ k above. refl };
   workers = λ k entry h. cc;
   turns = record { once = λ j k one other f g worker turn. cc; no_gap = λ k turn entry h e. cc };
   lawful = λ k entry h. cc;
-  placed = λ k. ((λ h. absurd (no_other start k h)), (λ h. let e = h.1 in cc));
+  placed = λ k. ((λ h. absurd (no_other setup.start k h)), (λ h. let e = h.1 in cc));
 }
 
 -- ---- costs
 
 -- the sums of a tree that keeps the order law fall along parents
 pub CostsFall-ordered :
-    (setup : Setup) (start : Point) (tree : Nodes) (records : List Record) → KeepsOrder setup start (state_of tree records) → CostsFall (sum_of tree) tree
-CostsFall-ordered setup start tree records order =
-    FallAlong-ordered setup start (state_of tree records) order
+    (setup : Setup) (tree : Nodes) (records : List Record) → KeepsOrder setup (state_of tree records) → CostsFall (sum_of tree) tree
+CostsFall-ordered setup tree records order =
+    FallAlong-ordered setup (state_of tree records) order
 
 -- and each is the parent's and the edge
 pub AreTight-ordered :
-    (setup : Setup) (start : Point) (tree : Nodes) (records : List Record) → KeepsOrder setup start (state_of tree records) → AreTight (sum_of tree) tree
-AreTight-ordered setup start tree records order =
-    AreTight-sums (sum_of tree) (points_of tree) (parent_of tree) (CostsFall-ordered setup start tree records order)
+    (setup : Setup) (tree : Nodes) (records : List Record) → KeepsOrder setup (state_of tree records) → AreTight (sum_of tree) tree
+AreTight-ordered setup tree records order =
+    AreTight-sums (sum_of tree) (points_of tree) (parent_of tree) (CostsFall-ordered setup tree records order)
 
 -- ---- one record more
 
@@ -141,8 +141,8 @@ pub record PlacesNode (setup : Setup) (tree : Nodes) (k f : ℕ) (p : Point) (en
   pub cost : entry.first_cost ≡ cost_through tree p f
 
 module _
-    (setup : Setup) (start : Point) (tree : Nodes) (records : List Record) (k f : ℕ) (p : Point) (entry : Record)
-    (next : RecordsNext tree records k) (order : KeepsOrder setup start (state_of tree records)) (places : PlacesNode setup tree k f p entry) where
+    (setup : Setup) (tree : Nodes) (records : List Record) (k f : ℕ) (p : Point) (entry : Record)
+    (next : RecordsNext tree records k) (order : KeepsOrder setup (state_of tree records)) (places : PlacesNode setup tree k f p entry) where
   abbrev node : Twig
   node = record { point = p; parent = f }
 
@@ -181,8 +181,8 @@ module _
   -- the sums are these
   sum_later : (n : ℕ) → IsPresent (points_of longer) n → sum_of longer n ≡ later n
   sum_later n h =
-      let falls = CostsFall-ordered setup start tree records order in
-      let tight = AreTight-ordered setup start tree records order in
+      let falls = CostsFall-ordered setup tree records order in
+      let tight = AreTight-ordered setup tree records order in
       sums-tight later (points_of longer) (parent_of longer) (CostsFall-adds (sum_of tree) later tree longer (suc k) node adds_priced falls tight)
       (AreTight-adds (sum_of tree) later tree longer (suc k) node adds_priced falls tight) n h
 
@@ -218,6 +218,6 @@ module _
     edge = places.edge;
     parent = parent_of-new tree (suc k) node longer adds;
     above = omega (arith, sum-placed);
-    within = omega (arith, sum-placed, cost-within_more setup start (state_of tree records) order f p places.parent places.edge);
+    within = omega (arith, sum-placed, cost-within_more setup (state_of tree records) order f p places.parent places.edge);
     first_cost = ap (recorded_or 0) recorded_next.recorded ∙ places.cost ∙ sym sum-placed;
   }

@@ -163,7 +163,7 @@ module _ (p : Point) (cost : ℕ) (above : StandsAbove p cost) where
 
     -- the three marks, one after another
     pub IsTextbookRun-three :
-        IsTextbookRun open_setup (at 0 0) (at 0 50 ∷ p ∷ at 40 30 ∷ []) after
+        IsTextbookRun open_setup (at 0 50 ∷ p ∷ at 40 30 ∷ []) after
         (placed_record 0 0 0 12800 1 ∷ placed_record 1 1 1 cost 2 ∷ placed_record 2 1 0 12800 2 ∷ [])
     unfolding one_node two_nodes three_nodes
     IsTextbookRun-three = (two_nodes, first_mark, (three_nodes p, second_mark, (after, third_mark, refl)))

@@ -1,4 +1,4 @@
--- The textbook run is one run: the same setup, start and marks give the same tree and the same records.
+-- The textbook run is one run: the same setup and marks give the same tree and the same records.
 use Rattle.std.proofs.Common.{◌≡◌, ℕ, suc, ◌+◌, List, [], ◌∷◌, ◌++◌, Option, Some, refl, sym, ap, ◌∙◌, subst, inl, inr}
 use Rattle.std.specs.Prelude.{Bool, IsTrue}
 use Rattle.std.proofs.Props.{props}
@@ -238,28 +238,27 @@ HandlesAll-unique setup k tree (mark ∷ marks) (e ∷ one) (f ∷ other) after 
 
 -- the textbook run ends with one tree
 pub IsTextbookRun-one_tree :
-    (setup : Setup) (start : Point) (marks : List Point) (one other : Nodes) (records entries : List Record)
-    → IsTextbookRun setup start marks one records → IsTextbookRun setup start marks other entries → one ≡ other
-IsTextbookRun-one_tree setup start marks one other records entries r s =
-    (HandlesAll-unique setup 0 (start_alone start) marks records entries one other (AreDistinct-start start) r s).trees
+    (setup : Setup) (marks : List Point) (one other : Nodes) (records entries : List Record)
+    → IsTextbookRun setup marks one records → IsTextbookRun setup marks other entries → one ≡ other
+IsTextbookRun-one_tree setup marks one other records entries r s =
+    (HandlesAll-unique setup 0 (start_alone setup.start) marks records entries one other (AreDistinct-start setup.start) r s).trees
 
 -- and one list of records
 pub IsTextbookRun-one_records :
-    (setup : Setup) (start : Point) (marks : List Point) (one other : Nodes) (records entries : List Record)
-    → IsTextbookRun setup start marks one records → IsTextbookRun setup start marks other entries → records ≡ entries
-IsTextbookRun-one_records setup start marks one other records entries r s =
-    (HandlesAll-unique setup 0 (start_alone start) marks records entries one other (AreDistinct-start start) r s).records
+    (setup : Setup) (marks : List Point) (one other : Nodes) (records entries : List Record)
+    → IsTextbookRun setup marks one records → IsTextbookRun setup marks other entries → records ≡ entries
+IsTextbookRun-one_records setup marks one other records entries r s =
+    (HandlesAll-unique setup 0 (start_alone setup.start) marks records entries one other (AreDistinct-start setup.start) r s).records
 
--- scenes with the same space, step and gamma have the same setup
+-- scenes with the same space, start, step and gamma have the same setup
 pub setup_of-same : (one other : Scene) → HaveSameInputs one other → setup_of one ≡ setup_of other
-setup_of-same one other h = λ i. record { space = h.space i; step = h.step i; gamma = h.gamma i }
+setup_of-same one other h = λ i. record { space = h.space i; start = h.start i; step = h.step i; gamma = h.gamma i }
 
 -- the run of a scene is that of each scene with the same inputs
 pub IsTextbookRun-same_inputs :
     (one other : Scene) (tree : Nodes) (records : List Record) → HaveSameInputs one other
-    → IsTextbookRun (setup_of one) one.start (mark_points one) tree records → IsTextbookRun (setup_of other) other.start (mark_points other) tree records
+    → IsTextbookRun (setup_of one) (mark_points one) tree records → IsTextbookRun (setup_of other) (mark_points other) tree records
 IsTextbookRun-same_inputs one other tree records h r =
-    let P : Setup → Type 0 = λ setup. IsTextbookRun setup one.start (mark_points one) tree records in
-    let Q : Point → Type 0 = λ start. IsTextbookRun (setup_of other) start (mark_points one) tree records in
-    let R : List Point → Type 0 = λ marks. IsTextbookRun (setup_of other) other.start marks tree records in
-    subst R h.marks (subst Q h.start (subst P (setup_of-same one other h) r))
+    let P : Setup → Type 0 = λ setup. IsTextbookRun setup (mark_points one) tree records in
+    let Q : List Point → Type 0 = λ marks. IsTextbookRun (setup_of other) marks tree records in
+    subst Q h.marks (subst P (setup_of-same one other h) r)

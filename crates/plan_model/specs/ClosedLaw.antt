@@ -34,8 +34,8 @@ ArePlacedMarks state =
     (k : ℕ) → IsPresent state.points (suc k) ↔ ((entry : Record) × (state.record_of k ≡ Some entry) × (entry.outcome ≡ Placed))
 
 -- A run over these marks that was closed at this limit.
-pub record IsClosed (setup : Setup) (start : Point) (marks : List Point) (limit : ℕ) (state : TreeState) : Type 0 where
-  pub order : KeepsOrder setup start state
+pub record IsClosed (setup : Setup) (marks : List Point) (limit : ℕ) (state : TreeState) : Type 0 where
+  pub order : KeepsOrder setup state
   pub within : limit ≤ length marks
   pub records : AreRecordedBelow limit state.record_of
   pub workers : (k : ℕ) (entry : Record) → state.record_of k ≡ Some entry → entry.worker < MOST_WORKERS

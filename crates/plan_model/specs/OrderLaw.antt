@@ -25,10 +25,10 @@ abbrev pub most_cost_of : Setup → ℕ → ℕ
 most_cost_of setup nodes = 256 * setup.step * (nodes - 1)
 
 -- No two nodes stand at one point. The start is clear, its own parent, and costs nothing; every other node hangs below its parent.
-pub record KeepsOrder (setup : Setup) (start : Point) (state : TreeState) : Type 0 where
+pub record KeepsOrder (setup : Setup) (state : TreeState) : Type 0 where
   pub distinct : AreDistinct state.points
-  pub start_stands : StandsAt state.points 0 start
-  pub start_clear : ClearAt setup.space start
+  pub start_stands : StandsAt state.points 0 setup.start
+  pub start_clear : ClearAt setup.space setup.start
   pub start_parent : state.parent 0 ≡ 0
   pub start_cost : state.cost 0 ≡ 0
   pub hangs : (n : ℕ) → IsPresent state.points (suc n) → HangsBelow setup state (suc n)

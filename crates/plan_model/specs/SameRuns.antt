@@ -27,8 +27,8 @@ pub record HaveSameInputs (one other : Scene) : Type 0 where
   pub marks : mark_points one ≡ mark_points other
 
 -- The tree and its records are those of the textbook run over these marks, each node kept at its sum.
-pub record IsOfTextbookRun (setup : Setup) (start : Point) (marks : List Point) (state : TreeState) : Type 0 where
+pub record IsOfTextbookRun (setup : Setup) (marks : List Point) (state : TreeState) : Type 0 where
   pub nodes : Nodes
   pub records : List Record
-  pub run : IsTextbookRun setup start marks nodes records
+  pub run : IsTextbookRun setup marks nodes records
   pub same : AreSameRuns (state_of nodes records) state

@@ -21,15 +21,16 @@ use Rattle.plan_model.specs.Trees.{points_of, sum_of}
 abbrev pub Nodes : Type 0
 Nodes = List (Option Twig)
 
--- What the handling of a mark depends on: the configuration space, the longest edge and the factor of the radius.
+-- What a run depends on besides its marks: the configuration space, where it starts, the longest edge and the factor of the radius.
 pub record Setup : Type 0 where
   pub space : ConfigurationSpace
+  pub start : Point
   pub step : ℕ
   pub gamma : ℕ
 
--- what the handling of the marks of a scene depends on
+-- what a run of a scene depends on besides its marks
 abbrev pub setup_of : Scene → Setup
-setup_of scene = record { space = space_of scene; step = scene.step; gamma = scene.gamma }
+setup_of scene = record { space = space_of scene; start = scene.start; step = scene.step; gamma = scene.gamma }
 
 -- the tree of the start alone
 abbrev pub start_alone : Point → Nodes
@@ -177,5 +178,5 @@ HandlesAll setup k tree [] (entry ∷ entries) after = ⊥
 HandlesAll setup k tree (mark ∷ marks) [] after = ⊥
 
 -- The textbook run over these marks, from the start alone, ends with this tree and these records.
-abbrev pub IsTextbookRun : Setup → Point → List Point → Nodes → List Record → Type 0
-IsTextbookRun setup start marks tree records = HandlesAll setup 0 (start_alone start) marks records tree
+abbrev pub IsTextbookRun : Setup → List Point → Nodes → List Record → Type 0
+IsTextbookRun setup marks tree records = HandlesAll setup 0 (start_alone setup.start) marks records tree

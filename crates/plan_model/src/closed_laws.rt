@@ -15,51 +15,51 @@ ghost use Rattle.plan_model.specs.declared.records.Record.{Record};
 
 /// A textbook run from a clear start is closed at the number of its marks.
 pub fn textbook_run_is_closed()
-    ensures { (setup : Setup) (start : Point) (marks : List Point) (tree : Nodes) (records : List Record)
-        → ClearAt setup.space start → IsTextbookRun setup start marks tree records
-        → IsClosed setup start marks (length marks) (state_of tree records) }
+    ensures { (setup : Setup) (marks : List Point) (tree : Nodes) (records : List Record)
+        → ClearAt setup.space setup.start → IsTextbookRun setup marks tree records
+        → IsClosed setup marks (length marks) (state_of tree records) }
 {}
 
 /// The tree of a textbook run from a clear start, kept as any other list or table, is closed at the number of its marks
 /// and settled.
 pub fn trees_of_textbook_runs_are_closed()
-    ensures closed { (setup : Setup) (start : Point) (marks : List Point) (state : TreeState) → ClearAt setup.space start
-        → IsOfTextbookRun setup start marks state → IsClosed setup start marks (length marks) state }
-    ensures settled { (setup : Setup) (start : Point) (marks : List Point) (state : TreeState) → ClearAt setup.space start
-        → IsOfTextbookRun setup start marks state → IsSettled state }
+    ensures closed { (setup : Setup) (marks : List Point) (state : TreeState) → ClearAt setup.space setup.start
+        → IsOfTextbookRun setup marks state → IsClosed setup marks (length marks) state }
+    ensures settled { (setup : Setup) (marks : List Point) (state : TreeState) → ClearAt setup.space setup.start
+        → IsOfTextbookRun setup marks state → IsSettled state }
 {}
 
 /// In a closed run costs strictly fall along parents, so there is no cycle, and no node costs more than
 /// it was placed at.
 pub fn costs_of_closed_runs_fall()
-    ensures falls { (setup : Setup) (start : Point) (marks : List Point) (limit : ℕ) (state : TreeState)
-        → IsClosed setup start marks limit state
+    ensures falls { (setup : Setup) (marks : List Point) (limit : ℕ) (state : TreeState)
+        → IsClosed setup marks limit state
         → (n : ℕ) → IsPresent state.points (suc n) → state.cost (state.parent (suc n)) < state.cost (suc n) }
-    ensures first_costs { (setup : Setup) (start : Point) (marks : List Point) (limit : ℕ) (state : TreeState)
-        → IsClosed setup start marks limit state → KeepsFirstCosts setup state }
+    ensures first_costs { (setup : Setup) (marks : List Point) (limit : ℕ) (state : TreeState)
+        → IsClosed setup marks limit state → KeepsFirstCosts setup state }
 {}
 
 /// In a closed run the placed, the same and the blocked marks add up to the limit, and there is a node for
 /// each placed mark beside the start.
 pub fn marks_of_closed_runs_add_up()
-    ensures outcomes { (setup : Setup) (start : Point) (marks : List Point) (limit : ℕ) (state : TreeState)
-        → IsClosed setup start marks limit state
+    ensures outcomes { (setup : Setup) (marks : List Point) (limit : ℕ) (state : TreeState)
+        → IsClosed setup marks limit state
         → (outcome_count state.record_of limit 0 + outcome_count state.record_of limit 1) + outcome_count state.record_of limit 2
         ≡ limit }
-    ensures nodes { (setup : Setup) (start : Point) (marks : List Point) (limit : ℕ) (state : TreeState)
-        → IsClosed setup start marks limit state
+    ensures nodes { (setup : Setup) (marks : List Point) (limit : ℕ) (state : TreeState)
+        → IsClosed setup marks limit state
         → node_count state.points ≡ suc (outcome_count state.record_of limit 0) }
 {}
 
 /// If the next mark is handled whole by all that a closed run holds, the run with it is closed, and has grown: its nodes and
 /// records stand, and no cost rose.
 pub fn handled_marks_close_runs()
-    ensures closed { (setup : Setup) (start : Point) (marks : List Point) (k : ℕ) (state : TreeState) (entry : Record) (p : Point) (moved : List ℕ)
-        → IsClosed setup start marks k state → k < length marks → suc k < length state.points → entry.worker < MOST_WORKERS
+    ensures closed { (setup : Setup) (marks : List Point) (k : ℕ) (state : TreeState) (entry : Record) (p : Point) (moved : List ℕ)
+        → IsClosed setup marks k state → k < length marks → suc k < length state.points → entry.worker < MOST_WORKERS
         → IsHandledWhole setup state k (mark_at marks k) entry p moved
-        → IsClosed setup start marks (suc k) (with_mark state k entry p moved) }
-    ensures grows { (setup : Setup) (start : Point) (marks : List Point) (k : ℕ) (state : TreeState) (entry : Record) (p : Point) (moved : List ℕ)
-        → IsClosed setup start marks k state → k < length marks → suc k < length state.points → entry.worker < MOST_WORKERS
+        → IsClosed setup marks (suc k) (with_mark state k entry p moved) }
+    ensures grows { (setup : Setup) (marks : List Point) (k : ℕ) (state : TreeState) (entry : Record) (p : Point) (moved : List ℕ)
+        → IsClosed setup marks k state → k < length marks → suc k < length state.points → entry.worker < MOST_WORKERS
         → IsHandledWhole setup state k (mark_at marks k) entry p moved
         → GrowsInto state (with_mark state k entry p moved) }
 {}

@@ -41,23 +41,23 @@ pub fn outcomes_exclude_each_other()
 
 /// No two nodes of a textbook run stand at one point.
 pub fn nodes_stand_apart()
-    ensures { (setup : Setup) (start : Point) (marks : List Point) (tree : Nodes) (records : List Record)
-        → IsTextbookRun setup start marks tree records → AreDistinct (points_of tree) }
+    ensures { (setup : Setup) (marks : List Point) (tree : Nodes) (records : List Record)
+        → IsTextbookRun setup marks tree records → AreDistinct (points_of tree) }
 {}
 
 /// The textbook run is one run: the same setup, start and marks give the same tree and the same records.
 pub fn textbook_run_is_unique()
-    ensures tree { (setup : Setup) (start : Point) (marks : List Point) (one other : Nodes) (records entries : List Record)
-        → IsTextbookRun setup start marks one records → IsTextbookRun setup start marks other entries
+    ensures tree { (setup : Setup) (marks : List Point) (one other : Nodes) (records entries : List Record)
+        → IsTextbookRun setup marks one records → IsTextbookRun setup marks other entries
         → one ≡ other }
-    ensures records { (setup : Setup) (start : Point) (marks : List Point) (one other : Nodes) (records entries : List Record)
-        → IsTextbookRun setup start marks one records → IsTextbookRun setup start marks other entries
+    ensures records { (setup : Setup) (marks : List Point) (one other : Nodes) (records entries : List Record)
+        → IsTextbookRun setup marks one records → IsTextbookRun setup marks other entries
         → records ≡ entries }
 {}
 
 /// Scenes with the same space, start, step, gamma and marks have the same run.
 pub fn same_inputs_have_the_same_run()
     ensures { (one other : Scene) (tree : Nodes) (records : List Record) → HaveSameInputs one other
-        → IsTextbookRun (setup_of one) one.start (mark_points one) tree records
-        → IsTextbookRun (setup_of other) other.start (mark_points other) tree records }
+        → IsTextbookRun (setup_of one) (mark_points one) tree records
+        → IsTextbookRun (setup_of other) (mark_points other) tree records }
 {}

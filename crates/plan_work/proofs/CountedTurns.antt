@@ -48,7 +48,7 @@ module _
         arith,
         same-turns entry.worker,
         ∥∥₁_elim before.hold_run (ℕ_set _ _)
-            (λ h. turns_of-handled (setup_of before.task.scene) before.task.scene.start before.task.marks before.limit (state_of_grown before) entry
+            (λ h. turns_of-handled (setup_of before.task.scene) before.task.marks before.limit (state_of_grown before) entry
             next.point next.moved h.closed room next.handled),
       )
 
@@ -57,7 +57,7 @@ module _
   turns-other worker apart =
       same-turns worker
       ∙ ∥∥₁_elim before.hold_run (ℕ_set _ _)
-      (λ h. turns_of-handled_by_other (setup_of before.task.scene) before.task.scene.start before.task.marks before.limit (state_of_grown before)
+      (λ h. turns_of-handled_by_other (setup_of before.task.scene) before.task.marks before.limit (state_of_grown before)
       entry next.point next.moved h.closed room next.handled worker apart)
 
   -- so a list of them stays right if the worker's number in it rises by one

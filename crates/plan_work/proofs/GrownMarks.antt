@@ -22,16 +22,16 @@ use Rattle.plan_model.proofs.SameTrees.{GrowsInto-same_run}
 use Rattle.plan_model.proofs.TreeStateLaws.{GrowsInto-trans}
 
 module _
-    (setup : Setup) (start : Point) (marks : List Point) (k : ℕ) (state : TreeState) (entry : Record) (p : Point) (moved : List ℕ)
-    (closed : ∥ IsClosed setup start marks k state ∥₁) (room : suc k < length state.points) (below : k < length marks)
+    (setup : Setup) (marks : List Point) (k : ℕ) (state : TreeState) (entry : Record) (p : Point) (moved : List ℕ)
+    (closed : ∥ IsClosed setup marks k state ∥₁) (room : suc k < length state.points) (below : k < length marks)
     (few : entry.worker < MOST_WORKERS) (handled : IsHandledWhole setup state k (mark_at marks k) entry p moved) where
   -- the run with the mark is closed
-  pub IsClosed-put : ∥ IsClosed setup start marks (k + 1) (with_mark state k entry p moved) ∥₁
+  pub IsClosed-put : ∥ IsClosed setup marks (k + 1) (with_mark state k entry p moved) ∥₁
   IsClosed-put =
       let next : suc k ≡ k + 1 = omega arith in
       ∥∥₁_map closed (λ h.
-      subst (λ limit. IsClosed setup start marks limit (with_mark state k entry p moved)) next
-      (IsClosed-handled setup start marks k state entry p moved h room handled below few))
+      subst (λ limit. IsClosed setup marks limit (with_mark state k entry p moved)) next
+      (IsClosed-handled setup marks k state entry p moved h room handled below few))
 
   -- other nodes stand where they stood
   points-kept : (outcome : Outcome) (n : ℕ) → n ≢ suc k → point_at (with_outcome state k entry p moved outcome).points n ≡ point_at state.points n
@@ -46,11 +46,11 @@ module _
   records-kept Blocked j apart = cond-false (eqb j k) (Some entry) (state.record_of j) (ne_eqb j k apart)
 
   module _ (after : TreeState) (same : AreSameRuns (with_mark state k entry p moved) after) where
-    grows : IsClosed setup start marks k state → GrowsInto state after
+    grows : IsClosed setup marks k state → GrowsInto state after
     grows h =
-        GrowsInto-trans state (with_mark state k entry p moved) after (GrowsInto-handled setup start marks k state entry p moved h room handled)
-        (GrowsInto-same_run setup start marks (suc k) (with_mark state k entry p moved) after
-        (IsClosed-handled setup start marks k state entry p moved h room handled below few) same)
+        GrowsInto-trans state (with_mark state k entry p moved) after (GrowsInto-handled setup marks k state entry p moved h room handled)
+        (GrowsInto-same_run setup marks (suc k) (with_mark state k entry p moved) after
+        (IsClosed-handled setup marks k state entry p moved h room handled below few) same)
 
     -- and the run has grown into it, however it is kept
     pub GrowsInto-put : GrowsInto state after
@@ -73,9 +73,9 @@ module _
         apart : (n : ℕ) (q : Point) → StandsAt state.points n q → n ≢ suc k
         apart n q own e =
             ∥∥₁_elim closed (λ x y. absurd x)
-            (λ h. node-absent setup start marks k state h (subst (IsPresent state.points) e (IsPresent-stands state.points n q own)))
+            (λ h. node-absent setup marks k state h (subst (IsPresent state.points) e (IsPresent-stands state.points n q own)))
 
         other : (j : ℕ) (own : Record) → state.record_of j ≡ Some own → j ≢ k
         other j own h e =
             ∥∥₁_elim closed (λ x y. absurd x)
-            (λ c. (let none = sym (record-absent setup start marks k state c) ∙ sym (ap state.record_of e) ∙ h in cc))
+            (λ c. (let none = sym (record-absent setup marks k state c) ∙ sym (ap state.record_of e) ∙ h in cc))

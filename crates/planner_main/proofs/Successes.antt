@@ -34,9 +34,9 @@ ReportsGrown-answer report grown done text whole settled given status written = 
   of_scene = refl;
   whole = whole;
   closed = ∥∥₁_map grown.hold_run (λ h.
-      subst (λ (marks : List Point). IsClosed (setup_of scene) scene.start marks (length (mark_points scene)) (state_of_grown grown))
+      subst (λ (marks : List Point). IsClosed (setup_of scene) marks (length (mark_points scene)) (state_of_grown grown))
       grown.task.of_scene
-      (subst (λ (limit : ℕ). IsClosed (setup_of scene) scene.start grown.task.marks limit (state_of_grown grown)) whole h.closed));
+      (subst (λ (limit : ℕ). IsClosed (setup_of scene) grown.task.marks limit (state_of_grown grown)) whole h.closed));
   settled = settled;
   best = status;
   written = written;
@@ -56,7 +56,7 @@ ReportsGrown-of_scene report scene grown done text of_scene reported =
 pub ReportsScene-textbook :
     (report : Report) (scene : Scene) (grown : Grown) (done : Done) (text : List ℕ) → grown.task.scene ≡ scene
     → ReportsGrown report grown.task.scene grown done text
-    → IsOfTextbookRun (setup_of scene) scene.start (mark_points scene) (state_of_grown grown) → ReportsScene report scene done text
+    → IsOfTextbookRun (setup_of scene) (mark_points scene) (state_of_grown grown) → ReportsScene report scene done text
 ReportsScene-textbook report scene grown done text of_scene reported run =
     record { grown = grown; reported = ReportsGrown-of_scene report scene grown done text of_scene reported; textbook = run }
 

@@ -54,7 +54,7 @@ pub record ReportsGrown (report : Report) (scene : Scene) (grown : Grown) (done 
   pub given : done.run ≡ Some grown
   pub of_scene : grown.task.scene ≡ scene
   pub whole : grown.limit ≡ length (mark_points scene)
-  pub closed : ∥ IsClosed (setup_of scene) scene.start (mark_points scene) (length (mark_points scene)) (state_of_grown grown) ∥₁
+  pub closed : ∥ IsClosed (setup_of scene) (mark_points scene) (length (mark_points scene)) (state_of_grown grown) ∥₁
   pub settled : IsSettled (state_of_grown grown)
   pub best : done.status ≡ status_of_report (is_some (best_node scene (state_of_grown grown)))
   pub written : text ≡ report scene grown.limit (state_of_grown grown)
@@ -63,7 +63,7 @@ pub record ReportsGrown (report : Report) (scene : Scene) (grown : Grown) (done 
 pub record ReportsScene (report : Report) (scene : Scene) (done : Done) (text : List ℕ) : Type 0 where
   pub grown : Grown
   pub reported : ReportsGrown report scene grown done text
-  pub textbook : IsOfTextbookRun (setup_of scene) scene.start (mark_points scene) (state_of_grown grown)
+  pub textbook : IsOfTextbookRun (setup_of scene) (mark_points scene) (state_of_grown grown)
 
 -- the text reports the textbook run of the scene that the bytes spell, whose start is clear: in full or in short
 pub record ReportsRun (full : Bool) (bytes : List ℕ) (done : Done) (text : List ℕ) : Type 0 where

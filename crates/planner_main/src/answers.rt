@@ -194,7 +194,7 @@ fn textbook_run(alloc: Global, scene: Scene, hall: &Hall) -> Result<Grown, Memor
     requires start { ClearAt (space_of scene) scene.start }
     ensures scene { IfOk result (λ grown. grown.task.scene ≡ scene) }
     ensures whole { IfOk result (λ grown. grown.limit ≡ length (mark_points scene)) }
-    ensures run { IfOk result (λ grown. IsOfTextbookRun (setup_of scene) scene.start (mark_points scene) (state_of_grown grown)) }
+    ensures run { IfOk result (λ grown. IsOfTextbookRun (setup_of scene) (mark_points scene) (state_of_grown grown)) }
     ensures settled { IfOk result (λ grown. IsSettled (state_of_grown grown)) }
 {
     // the start is clear, so there is room to draw marks in

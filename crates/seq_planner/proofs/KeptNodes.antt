@@ -45,20 +45,20 @@ module _ (nodes : Nodes) (costs : List ℕ) (placed : PlacedPoints) (records : L
         records = λ k. refl;
       }
 
-  module _ (setup : Setup) (start : Point) (marks : List Point) (run : IsTextbookRun setup start marks nodes records) where
+  module _ (setup : Setup) (marks : List Point) (run : IsTextbookRun setup marks nodes records) where
     -- so if the nodes are those of a textbook run from a clear start, they are closed
     pub IsClosed-with_costs :
-        ClearAt setup.space start → IsClosed setup start marks (length records) (state_of_lists (with_costs nodes costs) records)
+        ClearAt setup.space setup.start → IsClosed setup marks (length records) (state_of_lists (with_costs nodes costs) records)
     IsClosed-with_costs clear =
-        let closed = IsClosed-textbook setup start marks nodes records clear run in
-        let here = IsClosed-same_run setup start marks (length marks) (state_of nodes records) (state_of_lists (with_costs nodes costs) records) closed
+        let closed = IsClosed-textbook setup marks nodes records clear run in
+        let here = IsClosed-same_run setup marks (length marks) (state_of nodes records) (state_of_lists (with_costs nodes costs) records) closed
         AreSameRuns-with_costs in
-        let P : ℕ → Type 0 = λ limit. IsClosed setup start marks limit (state_of_lists (with_costs nodes costs) records) in
+        let P : ℕ → Type 0 = λ limit. IsClosed setup marks limit (state_of_lists (with_costs nodes costs) records) in
         subst P (sym (HandlesAll-length setup 0 _ marks records nodes run)) here
 
     -- and whatever is the same run as they are is of the textbook run
     pub IsOfTextbookRun-with_costs :
-        (state : TreeState) → AreSameRuns (state_of_lists (with_costs nodes costs) records) state → IsOfTextbookRun setup start marks state
+        (state : TreeState) → AreSameRuns (state_of_lists (with_costs nodes costs) records) state → IsOfTextbookRun setup marks state
     IsOfTextbookRun-with_costs state same = record {
       nodes = nodes;
       records = records;

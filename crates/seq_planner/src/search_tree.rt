@@ -115,10 +115,10 @@ impl SearchTree {
     pub(crate) fn into_run(self, alloc: Global, task: Task) -> Result<Grown, Memory>
         requires sound { IsSoundTree self }
         requires start { ClearAt (space_of task.scene) task.scene.start }
-        requires run { IsTextbookRun (setup_of task.scene) task.scene.start task.marks self.nodes self.records.items }
+        requires run { IsTextbookRun (setup_of task.scene) task.marks self.nodes self.records.items }
         ensures task { IfOk result (λ grown. grown.task ≡ task) }
         ensures limit { IfOk result (λ grown. grown.limit ≡ length task.marks) }
-        ensures run { IfOk result (λ grown. IsOfTextbookRun (setup_of task.scene) task.scene.start task.marks (state_of_grown grown)) }
+        ensures run { IfOk result (λ grown. IsOfTextbookRun (setup_of task.scene) task.marks (state_of_grown grown)) }
         ensures settled { IfOk result (λ grown. IsSettled (state_of_grown grown)) }
     {
         let knots = Sequence::from_vec(self.knots(alloc)?);

@@ -33,7 +33,7 @@ pub fn textbook<C: Clearing>(alloc: Global, task: Task, hall: &C) -> Result<Grow
     requires start { ClearAt (space_of task.scene) task.scene.start }
     ensures task { IfOk result (λ grown. grown.task ≡ task) }
     ensures limit { IfOk result (λ grown. grown.limit ≡ length task.marks) }
-    ensures run { IfOk result (λ grown. IsOfTextbookRun (setup_of task.scene) task.scene.start task.marks (state_of_grown grown)) }
+    ensures run { IfOk result (λ grown. IsOfTextbookRun (setup_of task.scene) task.marks (state_of_grown grown)) }
     ensures settled { IfOk result (λ grown. IsSettled (state_of_grown grown)) }
 {
     let scene = &task.scene;

@@ -19,7 +19,7 @@ module _ (task : Task) (limit : ℕ) (words : Words) (held : ∥ HoldRun task li
       → IsPresent (state_of_words (sizes_of task) words).points ((state_of_words (sizes_of task) words).parent n)
   parent-held n here =
       ∥∥₁_elim held (Bool-set _ _)
-      (λ h. parent-present (setup_of task.scene) task.scene.start (state_of_words (sizes_of task) words) h.closed.order n here)
+      (λ h. parent-present (setup_of task.scene) (state_of_words (sizes_of task) words) h.closed.order n here)
 
   -- a node but the start costs at least what its parent costs and the edge
   pub edge-held :
@@ -36,4 +36,4 @@ module _ (task : Task) (limit : ℕ) (words : Words) (held : ∥ HoldRun task li
       → sum_in (state_of_words (sizes_of task) words) n ≤ (state_of_words (sizes_of task) words).cost n
   sum-held n here =
       ∥∥₁_elim held le_prop
-      (λ h. sum_in-le_cost (setup_of task.scene) task.scene.start (state_of_words (sizes_of task) words) h.closed.order n here)
+      (λ h. sum_in-le_cost (setup_of task.scene) (state_of_words (sizes_of task) words) h.closed.order n here)

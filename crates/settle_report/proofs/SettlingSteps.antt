@@ -56,7 +56,7 @@ AreSettledBelow before now pairs i =
     (k : ℕ) (d : ℕ × ℕ) → k < i → now.cost (slice_index_or pairs k d).1 ≡ sum_in before (slice_index_or pairs k d).1
 
 module _
-    (setup : Setup) (start : Point) (before : TreeState) (law : KeepsOrder setup start before) (pairs : List (ℕ × ℕ)) (order : IsCostOrder before pairs)
+    (setup : Setup) (before : TreeState) (law : KeepsOrder setup before) (pairs : List (ℕ × ℕ)) (order : IsCostOrder before pairs)
     (now : TreeState) (start_cost : now.cost 0 ≡ 0) where
   -- a node is settled if its pair is below i
   settled-found : (i n : ℕ) → AreSettledBelow before now pairs i → IsPresent before.points (suc n)
@@ -81,12 +81,12 @@ module _
 
       falls : (m : ℕ) → 0 < m → IsPresent before.points m → before.cost (before.parent m) < before.cost m
       falls zero other h = absurd (omega (arith, other))
-      falls (suc m) other h = KeepsOrder-falls setup start before law m h
+      falls (suc m) other h = KeepsOrder-falls setup before law m h
 
       by_parent : (m : ℕ) → before.parent (slice_index_or pairs i d).1 ≡ m → now.cost m ≡ sum_in before m
-      by_parent zero e = start_cost ∙ sym (sum_in-start setup start before law)
+      by_parent zero e = start_cost ∙ sym (sum_in-start setup before law)
       by_parent (suc m) e =
-          let here = subst (IsPresent before.points) e (parent-present setup start before law (slice_index_or pairs i d).1 present) in
+          let here = subst (IsPresent before.points) e (parent-present setup before law (slice_index_or pairs i d).1 present) in
           let less = falls (slice_index_or pairs i d).1 (order.costs.kept i d below).other present in
           settled-found i m settled here (λ k within same.
           elim (cases_lt k i) [
@@ -104,7 +104,7 @@ module _
 
   -- after the pass all nodes are kept at their sums
   pub all-settled : AreSettledBelow before now pairs (length pairs) → (n : ℕ) → IsPresent before.points n → now.cost n ≡ sum_in before n
-  all-settled settled zero here = start_cost ∙ sym (sum_in-start setup start before law)
+  all-settled settled zero here = start_cost ∙ sym (sum_in-start setup before law)
   all-settled settled (suc n) here = settled-found (length pairs) n settled here (λ k within same. within)
 
   -- the next node is settled by what its parent costs and the edge
@@ -130,7 +130,7 @@ module _
 
       tight : (n : ℕ) → 0 < n → IsPresent before.points n → sum_in before n ≡ sum_in before (before.parent n) + edge_by before.points before.parent n
       tight zero other h = absurd (omega (arith, other))
-      tight (suc n) other h = sum_in-parent setup start before law n h
+      tight (suc n) other h = sum_in-parent setup before law n h
 
       edge : edge_by now.points now.parent (slice_index_or pairs i d).1 ≡ edge_by before.points before.parent (slice_index_or pairs i d).1
       edge = λ t. edge_by (change.points t) (λ j. change.parents j t) (slice_index_or pairs i d).1

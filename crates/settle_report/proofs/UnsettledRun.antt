@@ -27,7 +27,7 @@ use Rattle.plan_model.proofs.TextbookRuns.{IsClosed-textbook}
 use Rattle.step_core.specs.PackedRuns.{state_of_lists}
 
 abbrev pub rrt_setup : Setup
-rrt_setup = record { space = empty_room (at 100 100); step = 50; gamma = 0 }
+rrt_setup = record { space = empty_room (at 100 100); start = at 0 0; step = 50; gamma = 0 }
 
 abbrev knot : ℕ → ℕ → ℕ → ℕ → Option Knot
 knot x y parent cost = Some (record { point = at x y; parent = parent; cost = cost })
@@ -279,7 +279,7 @@ lawful (suc (suc (suc k))) entry h = cc
 
 pub IsClosed-unsettled : ClearAt rrt_setup.space (at 0 0) → IsClosed rrt_setup (at 0 0) marks_to_rewire 3 unsettled
 IsClosed-unsettled clear =
-    let textbook = IsClosed-textbook open_setup (at 0 0) marks_to_rewire rewired_tree rewired_records clear rewired_run in
+    let textbook = IsClosed-textbook open_setup marks_to_rewire rewired_tree rewired_records clear rewired_run in
     record {
       order =
           record {

@@ -56,7 +56,7 @@ pub(crate) fn start_alone(alloc: Global, goal: Goal) -> Result<Grown, Memory>
 fn task_of(alloc: Global, goal: Goal, marks: &[Point]) -> Result<Task, Memory>
     requires goal { IsGoal goal }
     requires marks { IsTrue (is_plan (Listed marks.now)) }
-    ensures setup { IfOk result (λ task. setup_of task.scene ≡ record { space = empty_room (at 100 100); step = 50; gamma = 0 }) }
+    ensures setup { IfOk result (λ task. setup_of task.scene ≡ record { space = empty_room (at 100 100); start = at 0 0; step = 50; gamma = 0 }) }
     ensures start { IfOk result (λ task. task.scene.start ≡ at 0 0) }
     ensures marks { IfOk result (λ task. task.marks ≡ marks.now) }
     ensures clear { IfOk result (λ task. ClearAt (space_of task.scene) task.scene.start) }

@@ -20,7 +20,7 @@ use Rattle.step_core.proofs.PackedStates.{point_at-lists, parent_of-lists}
 
 module _
     (task : Task) (knots : List (Option Knot)) (records : List Record)
-    (closed : IsClosed (setup_of task.scene) task.scene.start task.marks (length records) (state_of_lists knots records)) where
+    (closed : IsClosed (setup_of task.scene) task.marks (length records) (state_of_lists knots records)) where
   abbrev state : TreeState
   state = state_of_lists knots records
 
@@ -29,7 +29,7 @@ module _
       let at = get_or_from_slice_get knots n (Some knot) None is in
       let stands : StandsAt (points_of (without_costs knots)) n knot.point = point_at-lists knots n ∙ ap (option_map (λ (k : Knot). k.point)) at in
       let here = IsPresent-stands (points_of (without_costs knots)) n knot.point stands in
-      let parent = parent-present (setup_of task.scene) task.scene.start state closed.order n here in
+      let parent = parent-present (setup_of task.scene) state closed.order n here in
       record {
         within = present-closed task (length records) state closed n here;
         point =

@@ -45,7 +45,7 @@ zero_unless_placed Blocked parent cost class apart h =
 
 module _
     (task : Task) (limit : ℕ) (state : TreeState)
-    (closed : IsClosed (setup_of task.scene) task.scene.start task.marks limit state) where
+    (closed : IsClosed (setup_of task.scene) task.marks limit state) where
   -- ---- numbers
 
   -- a mark with a record is below the limit
@@ -70,7 +70,7 @@ module _
 
   few_nodes : node_count state.points ≤ 262144
   few_nodes =
-      let count = node_count-closed (setup_of task.scene) task.scene.start task.marks limit state closed in
+      let count = node_count-closed (setup_of task.scene) task.marks limit state closed in
       omega (
         arith,
         count,

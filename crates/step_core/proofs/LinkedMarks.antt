@@ -60,7 +60,7 @@ module _
     (within : k < length task.marks) (none_past : (n : ℕ) → k < n → has_node (sizes_of task) before n ≡ false)
     (nodes : (i : ℕ) → is_among moved i ≡ true → IsPresent (points_of_words (sizes_of task) before) i) (is : entry.outcome ≡ Placed)
     (closed :
-    ∥ IsClosed (setup_of task.scene) task.scene.start task.marks (suc k) (with_placed (state_of_words (sizes_of task) before) k entry p moved) ∥₁) where
+    ∥ IsClosed (setup_of task.scene) task.marks (suc k) (with_placed (state_of_words (sizes_of task) before) k entry p moved) ∥₁) where
   abbrev sizes : Sizes
   sizes = sizes_of task
 
@@ -184,10 +184,10 @@ module _
 
     -- A finished run in which such a mark is recorded is one.
     pub HoldRun-placed : (m : ℕ) → suc k < m → AreLinkedBelow (sizes_of task) after m
-        → IsClosed (setup_of task.scene) task.scene.start task.marks (suc k) (with_placed (state_of_words (sizes_of task) before) k entry p moved)
+        → IsClosed (setup_of task.scene) task.marks (suc k) (with_placed (state_of_words (sizes_of task) before) k entry p moved)
         → HoldRun task k before → HoldRun task (suc k) after
     HoldRun-placed m last linked law run = record {
-      closed = IsClosed-same_run (setup_of task.scene) task.scene.start task.marks (suc k) tree (state_of_words sizes after) law AreSameRuns-marked;
+      closed = IsClosed-same_run (setup_of task.scene) task.marks (suc k) tree (state_of_words sizes after) law AreSameRuns-marked;
       ways = ways_all m last linked;
       counted =
           let still = change place_of_count (λ a side low_number. not_count sizes a side) in

@@ -11,7 +11,7 @@ pub IsClosed-same_lists :
     (setup of_setup : Setup) (start at : Point) (marks points : List Point) (knots nodes : List (Option Knot)) (records entries : List Record)
     → setup ≡ of_setup → start ≡ at → marks ≡ points → knots ≡ nodes → records ≡ entries
     → IsClosed of_setup at points (length entries) (state_of_lists nodes entries)
-    → IsClosed setup start marks (length records) (state_of_lists knots records)
+    → IsClosed setup marks (length records) (state_of_lists knots records)
 IsClosed-same_lists setup of_setup start at marks points knots nodes records entries same_setup same_start same_marks same_knots same_records closed =
     let state : state_of_lists nodes entries ≡ state_of_lists knots records = λ t. state_of_lists (sym same_knots t) (sym same_records t) in
     subst (λ s. IsClosed s start marks (length records) (state_of_lists knots records)) (sym same_setup)

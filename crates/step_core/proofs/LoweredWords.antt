@@ -191,9 +191,9 @@ module _
   pub HoldRun-lowered : HoldRun task limit before → HoldRun task limit after
   HoldRun-lowered held = record {
     closed =
-        IsClosed-lowered (setup_of task.scene) task.scene.start task.marks limit (state_of_words sizes before) (state_of_words sizes after)
+        IsClosed-lowered (setup_of task.scene) task.marks limit (state_of_words sizes before) (state_of_words sizes after)
         (record_at-kept sizes before after i exchange.change) held.closed
-        (LowersCosts-lowers (setup_of task.scene) task.scene.start (state_of_words sizes before) (state_of_words sizes after) i held.closed.order lowers);
+        (LowersCosts-lowers (setup_of task.scene) (state_of_words sizes before) (state_of_words sizes after) i held.closed.order lowers);
     ways =
         FollowWays-same (children_of_words sizes before) (children_of_words sizes after) (points_of_words sizes before) (points_of_words sizes after)
         (children-kept sizes before after i exchange.change) (λ n. ap (λ list. point_at list n) points) held.ways;

@@ -79,7 +79,7 @@ IsBounded-known p bounded = record {
 -- The record of a mark in a closed run fits its words.
 pub FitsRecord-marked :
     (task : Task) (state : TreeState) (k : ℕ) (entry : Record) (p : Point) (moved : List ℕ)
-    → ∥ IsClosed (setup_of task.scene) task.scene.start task.marks (suc k) (with_mark state k entry p moved) ∥₁ → FitsRecord entry
+    → ∥ IsClosed (setup_of task.scene) task.marks (suc k) (with_mark state k entry p moved) ∥₁ → FitsRecord entry
 FitsRecord-marked task state k entry p moved closed =
     FitsRecord-known entry
     (∥∥₁_map closed (λ h. FitsRecord-closed task (suc k) (with_mark state k entry p moved) h k entry (record_of-with_mark state k entry p moved)))
@@ -135,7 +135,7 @@ module _
     (absent : has_node (sizes_of task) before (suc k) ≡ false)
     (nodes : (i : ℕ) → is_among moved i ≡ true → IsPresent (points_of_words (sizes_of task) before) i)
     (closed :
-    ∥ IsClosed (setup_of task.scene) task.scene.start task.marks (suc k) (with_placed (state_of_words (sizes_of task) before) k entry p moved) ∥₁) where
+    ∥ IsClosed (setup_of task.scene) task.marks (suc k) (with_placed (state_of_words (sizes_of task) before) k entry p moved) ∥₁) where
   abbrev after : TreeState
   after = with_placed (state_of_words (sizes_of task) before) k entry p moved
 

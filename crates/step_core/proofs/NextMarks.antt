@@ -42,11 +42,11 @@ module _
     (run : ∥ HoldRun task k before ∥₁) (left : k < length task.marks)
     (nodes : All (IsPresent (points_of_words (sizes_of task) before)) moved)
     (closed :
-    ∥ IsClosed (setup_of task.scene) task.scene.start task.marks (k + 1) (with_mark (state_of_words (sizes_of task) before) k entry p moved) ∥₁) where
-  closed_next : ∥ IsClosed (setup_of task.scene) task.scene.start task.marks (suc k) (with_mark (state_of_words (sizes_of task) before) k entry p moved) ∥₁
+    ∥ IsClosed (setup_of task.scene) task.marks (k + 1) (with_mark (state_of_words (sizes_of task) before) k entry p moved) ∥₁) where
+  closed_next : ∥ IsClosed (setup_of task.scene) task.marks (suc k) (with_mark (state_of_words (sizes_of task) before) k entry p moved) ∥₁
   closed_next =
       subst
-      (λ n. ∥ IsClosed (setup_of task.scene) task.scene.start task.marks n (with_mark (state_of_words (sizes_of task) before) k entry p moved) ∥₁)
+      (λ n. ∥ IsClosed (setup_of task.scene) task.marks n (with_mark (state_of_words (sizes_of task) before) k entry p moved) ∥₁)
       (next_number k) closed
 
   strip : k % task.scene.strips < task.scene.strips
@@ -116,8 +116,8 @@ module _
     tree_is : with_mark (state_of_words (sizes_of task) before) k entry p moved ≡ tree
     tree_is = ap (with_outcome (state_of_words (sizes_of task) before) k entry p moved) is
 
-    closed_tree : ∥ IsClosed (setup_of task.scene) task.scene.start task.marks (suc k) tree ∥₁
-    closed_tree = subst (λ state. ∥ IsClosed (setup_of task.scene) task.scene.start task.marks (suc k) state ∥₁) tree_is closed_next
+    closed_tree : ∥ IsClosed (setup_of task.scene) task.marks (suc k) tree ∥₁
+    closed_tree = subst (λ state. ∥ IsClosed (setup_of task.scene) task.marks (suc k) state ∥₁) tree_is closed_next
 
     absent : has_node (sizes_of task) before (suc k) ≡ false
     absent = none_past-held task k before run (suc k) (omega arith)

@@ -122,7 +122,7 @@ module _ (sizes : Sizes) (knots : List (Option Knot)) (records : List Record) (b
 -- The nodes of the lists of a closed run may be linked.
 pub AreUnlinked-packed :
     (task : Task) (knots : List (Option Knot)) (records : List Record) (words : Words)
-    → IsClosed (setup_of task.scene) task.scene.start task.marks (length records) (state_of_lists knots records)
+    → IsClosed (setup_of task.scene) task.marks (length records) (state_of_lists knots records)
     → FitWords (sizes_of task) knots records → HoldLists (sizes_of task) knots records words
     → ((n : ℕ) (side : Bool) → n ≤ length task.marks → words (child_place (sizes_of task) n side) ≡ 0)
     → AreUnlinked (sizes_of task) words (λ n. is_some (slice_index_or knots n None))
@@ -151,7 +151,7 @@ AreUnlinked-packed task knots records words closed fit held empty = record {
 
 module _
     (task : Task) (knots : List (Option Knot)) (records : List Record) (sizes : Sizes) (same : sizes ≡ sizes_of task) (before : Words)
-    (closed : IsClosed (setup_of task.scene) task.scene.start task.marks (length records) (state_of_lists knots records))
+    (closed : IsClosed (setup_of task.scene) task.marks (length records) (state_of_lists knots records))
     (fit : FitWords (sizes_of task) knots records) (held : HoldLists sizes knots records before) where
   -- its nodes may be linked
   pub AreUnlinked-written :

@@ -83,7 +83,7 @@ placed_in (Some entry) h = (entry, refl, is_placed-true entry.outcome h)
 
 module _
     (task : Task) (knots : List (Option Knot)) (records : List Record) (words : Words)
-    (closed : IsClosed (setup_of task.scene) task.scene.start task.marks (length records) (state_of_lists knots records))
+    (closed : IsClosed (setup_of task.scene) task.marks (length records) (state_of_lists knots records))
     (fit : FitWords (sizes_of task) knots records) (held : HoldLists (sizes_of task) knots records words) where
   abbrev sizes : Sizes
   sizes = sizes_of task
@@ -185,7 +185,7 @@ module _
   pub HoldRun-packed : FollowWays (children_of_words (sizes_of task) words) (points_of_words (sizes_of task) words) → HoldRun task (length records) words
   HoldRun-packed ways = record {
     closed =
-        IsClosed-same_run (setup_of task.scene) task.scene.start task.marks (length records) (state_of_lists knots records)
+        IsClosed-same_run (setup_of task.scene) task.marks (length records) (state_of_lists knots records)
         (state_of_words (sizes_of task) words) closed AreSameRuns-packed;
     ways = ways;
     counted = held.count ∙ sym (node_count-same (points_of (without_costs knots)) (points_of_words (sizes_of task) words) points-packed);

@@ -131,8 +131,8 @@ pub HoldRun-start :
     → HoldRun task 0 words
 HoldRun-start task words clear held = record {
   closed =
-      IsClosed-same_run (setup_of task.scene) task.scene.start task.marks 0 (state_of (start_alone task.scene.start) [])
-      (state_of_words (sizes_of task) words) (IsClosed-start (setup_of task.scene) task.scene.start task.marks clear)
+      IsClosed-same_run (setup_of task.scene) task.marks 0 (state_of (start_alone task.scene.start) [])
+      (state_of_words (sizes_of task) words) (IsClosed-start (setup_of task.scene) task.marks clear)
       (AreSameRuns-start (sizes_of task) task.scene.start words bounded held);
   ways = start_ways (sizes_of task) task.scene.start words bounded held;
   counted =

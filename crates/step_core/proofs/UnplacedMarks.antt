@@ -99,7 +99,7 @@ module _
     (task : Task) (k : ℕ) (entry : Record) (p : Point) (moved : List ℕ) (before after : Words)
     (writes : RecordsMark (sizes_of task) k entry before after) (strip : k % task.scene.strips < task.scene.strips) (within : k < length task.marks)
     (fits : FitsRecord entry) (absent : has_node (sizes_of task) before (suc k) ≡ false) (unplaced : is_placed entry.outcome ≡ false)
-    (closed : IsClosed (setup_of task.scene) task.scene.start task.marks (suc k) (with_mark (state_of_words (sizes_of task) before) k entry p moved)) where
+    (closed : IsClosed (setup_of task.scene) task.marks (suc k) (with_mark (state_of_words (sizes_of task) before) k entry p moved)) where
   abbrev sizes : Sizes
   sizes = sizes_of task
 
@@ -113,7 +113,7 @@ module _
   pub HoldRun-unplaced : HoldRun task k before → HoldRun task (suc k) after
   HoldRun-unplaced run = record {
     closed =
-        IsClosed-same_run (setup_of task.scene) task.scene.start task.marks (suc k) (with_mark (state_of_words sizes before) k entry p moved)
+        IsClosed-same_run (setup_of task.scene) task.marks (suc k) (with_mark (state_of_words sizes before) k entry p moved)
         (state_of_words sizes after) closed (AreSameRuns-unplaced sizes k entry before after writes strip within fits absent unplaced p moved);
     ways =
         FollowWays-same (children_of_words sizes before) (children_of_words sizes after) (points_of_words sizes before) (points_of_words sizes after)

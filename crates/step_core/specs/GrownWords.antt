@@ -96,7 +96,7 @@ sizes_of task = record { strips = task.scene.strips; marks = length task.marks }
 -- nodes, and the counter of each strip stands at the strip's quota. The words of its nodes and of its records are written as they are
 -- packed, and no record from the limit on is written. The first word of node 0 is that of parent 0 and cost 0.
 pub record HoldRun (task : Task) (limit : ℕ) (words : Words) : Type 0 where
-  pub closed : IsClosed (setup_of task.scene) task.scene.start task.marks limit (state_of_words (sizes_of task) words)
+  pub closed : IsClosed (setup_of task.scene) task.marks limit (state_of_words (sizes_of task) words)
   pub ways : FollowWays (children_of_words (sizes_of task) words) (points_of_words (sizes_of task) words)
   pub counted : words place_of_count ≡ node_count (points_of_words (sizes_of task) words)
   pub claimed : (g : ℕ) → g < task.scene.strips → words (counter_place g) ≡ quota_of task.scene.strips g limit

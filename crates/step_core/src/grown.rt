@@ -75,7 +75,7 @@ impl Grown {
         knots: &Knots,
         records: &Records,
     ) -> Result<Grown, Memory>
-        requires { IsClosed (setup_of task.scene) task.scene.start task.marks (length records.now) (state_of_lists knots.now records.now) }
+        requires { IsClosed (setup_of task.scene) task.marks (length records.now) (state_of_lists knots.now records.now) }
         ensures task { IfOk result (λ grown. grown.task ≡ task) }
         ensures limit { IfOk result (λ grown. grown.limit ≡ length records.now) }
         ensures state { IfOk result (λ grown. AreSameRuns (state_of_lists knots.now records.now) (state_of_grown grown)) }
@@ -165,7 +165,7 @@ impl Grown {
     pub fn put(&mut self, entry: &Record, p: Point, moved: &[u32])
         requires left { self.old.limit < length self.old.task.marks }
         requires nodes { All (IsPresent (state_of_grown self.old).points) moved.now }
-        requires closed { ∥ IsClosed (setup_of self.old.task.scene) self.old.task.scene.start self.old.task.marks (self.old.limit + 1)
+        requires closed { ∥ IsClosed (setup_of self.old.task.scene) self.old.task.marks (self.old.limit + 1)
             (with_mark (state_of_grown self.old) self.old.limit entry.now p moved.now) ∥₁ }
         ensures task { self.new.task ≡ self.old.task }
         ensures limit { self.new.limit ≡ self.old.limit + 1 }

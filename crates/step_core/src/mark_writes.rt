@@ -37,7 +37,7 @@ pub(crate) fn write_mark(
     requires run { ∥ HoldRun task.now mark (words_of words.old) ∥₁ }
     requires left { mark < length task.now.marks }
     requires nodes { All (IsPresent (points_of_words (sizes_of task.now) (words_of words.old))) moved.now }
-    requires closed { ∥ IsClosed (setup_of task.now.scene) task.now.scene.start task.now.marks (mark + 1)
+    requires closed { ∥ IsClosed (setup_of task.now.scene) task.now.marks (mark + 1)
         (with_mark (state_of_words (sizes_of task.now) (words_of words.old)) mark entry.now p moved.now) ∥₁ }
     ensures run { ∥ HoldRun task.now (mark + 1) (words_of words.new) ∥₁ }
     ensures state { AreSameRuns (with_mark (state_of_words (sizes_of task.now) (words_of words.old)) mark entry.now p moved.now)

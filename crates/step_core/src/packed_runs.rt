@@ -24,7 +24,7 @@ use plan_model::{Knot, Outcome, Record, Task};
 pub(crate) fn write_run(words: &mut [u64], task: &Task, knots: &[Option<Knot>], records: &[Record])
     requires sized { length words.old ≡ word_count (sizes_of task.now) }
     requires zeros { (place : ℕ) → words_of words.old place ≡ 0 }
-    requires closed { IsClosed (setup_of task.now.scene) task.now.scene.start task.now.marks (length records.now) (state_of_lists knots.now records.now) }
+    requires closed { IsClosed (setup_of task.now.scene) task.now.marks (length records.now) (state_of_lists knots.now records.now) }
     ensures run { HoldRun task.now (length records.now) (words_of words.new) }
     ensures state { AreSameRuns (state_of_lists knots.now records.now) (state_of_words (sizes_of task.now) (words_of words.new)) }
     ensures links { LinksRise (children_of_words (sizes_of task.now) (words_of words.new)) }

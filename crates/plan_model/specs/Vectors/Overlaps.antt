@@ -27,7 +27,7 @@ overlapped =
     }
 
 pub record OverlapVectors : Type 0 where
-  pub closed : IsClosed open_setup (at 0 0) marks_to_rewire 3 overlapped
+  pub closed : IsClosed open_setup marks_to_rewire 3 overlapped
   -- whichever of the nodes stood before, mark 0 was not handled whole: with two nodes the start is not the nearest
   pub not_whole : (before : TreeState) (moved : List ℕ) → GrowsInto before overlapped
       → ¬ IsHandledWhole open_setup before 0 (at 0 50) early_record (at 0 50) moved

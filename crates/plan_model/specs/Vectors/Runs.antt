@@ -12,9 +12,9 @@ use Rattle.plan_model.specs.ReportText.{short_report, full_report}
 use Rattle.plan_model.specs.Vectors.Shapes.{at}
 use Rattle.plan_model.specs.Vectors.Reports.{box}
 
--- a point body in an empty room; with this gamma the radius is the step for the first three nodes
+-- a point body in the corner of an empty room; with this gamma the radius is the step for the first three nodes
 abbrev pub open_setup : Setup
-open_setup = record { space = empty_room (at 100 100); step = 50; gamma = 1000 }
+open_setup = record { space = empty_room (at 100 100); start = at 0 0; step = 50; gamma = 1000 }
 
 -- the node at p with this parent
 abbrev pub node : Point → ℕ → Option Twig
@@ -55,9 +55,9 @@ abbrev pub kept_text : List ℕ
 kept_text = codes "path 3 cost 25600\n0 0\n0 50\n40 80\nnodes 4 placed 3 same 0 blocked 0\n"
 
 pub record RunVectors : Type 0 where
-  pub rewired : IsTextbookRun open_setup (at 0 0) marks_to_rewire rewired_tree rewired_records
+  pub rewired : IsTextbookRun open_setup marks_to_rewire rewired_tree rewired_records
   pub cost_of_rewired : sum_of rewired_tree 2 ≡ 25344
   pub report_of_rewired : (scene : Scene) → scene.goal ≡ box 40 79 40 79 → full_report scene 3 (state_of rewired_tree rewired_records) ≡ rewired_text
-  pub kept : IsTextbookRun open_setup (at 0 0) marks_to_keep kept_tree kept_records
+  pub kept : IsTextbookRun open_setup marks_to_keep kept_tree kept_records
   pub cost_of_kept : sum_of kept_tree 2 ≡ 25600
   pub report_of_kept : (scene : Scene) → scene.goal ≡ box 40 80 40 80 → short_report scene 3 (state_of kept_tree kept_records) ≡ kept_text

@@ -3,7 +3,7 @@ use Rattle.plan_model.proofs.OrderLaws.{KeepsOrder-falls}
 use Rattle.plan_model.proofs.closed_laws.costs_of_closed_runs_fall.Goals as goal
 
 pub returns-clause-falls : goal.returns-clause-falls
-returns-clause-falls c = λ setup start marks limit state closed n h. KeepsOrder-falls setup start state closed.order n h
+returns-clause-falls c = λ setup marks limit state closed n h. KeepsOrder-falls setup state closed.order n h
 
 pub returns-clause-first_costs : goal.returns-clause-first_costs
 returns-clause-first_costs c = KeepsFirstCosts-closed

@@ -2,4 +2,4 @@ use Rattle.plan_model.proofs.DistinctPoints.{AreDistinct-textbook}
 use Rattle.plan_model.proofs.run_laws.nodes_stand_apart.Goals as goal
 
 pub returns : goal.returns
-returns c = λ setup start marks tree records run. AreDistinct-textbook setup start marks tree records run
+returns c = λ setup marks tree records run. AreDistinct-textbook setup marks tree records run

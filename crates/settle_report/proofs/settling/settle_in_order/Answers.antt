@@ -24,7 +24,7 @@ loop-node-preserved c =
           ChangesCosts-more (state_of_grown old) (state_of_grown now) (state_of_grown after) _ _ c.loop-node.invariant.costs_alone c.settle_node.ensures.state;
       settled = λ k d l.
           ∥∥₁_elim old.hold_run (ℕ_set _ _) (λ h.
-          AreSettledBelow-more (setup_of old.task.scene) old.task.scene.start (state_of_grown old) h.closed.order c.args.order.now c.requires
+          AreSettledBelow-more (setup_of old.task.scene) (state_of_grown old) h.closed.order c.args.order.now c.requires
           (state_of_grown now) zero_cost (state_of_grown after) i _ (0, 0) (omega arith) c.loop-node.invariant.costs_alone c.settle_node.ensures.state refl
           c.loop-node.invariant.settled k d l);
     }
@@ -38,6 +38,6 @@ returns-clause-settled c = λ n here.
     let all : c.loop-node.node-index ≡ length c.args.order.now = omega arith in
     let settled = subst (AreSettledBelow (state_of_grown old) (state_of_grown now) c.args.order.now) all c.loop-node.invariant.settled in
     ∥∥₁_elim old.hold_run (ℕ_set _ _) (λ h.
-    all-settled (setup_of old.task.scene) old.task.scene.start (state_of_grown old) h.closed.order c.args.order.now c.requires
+    all-settled (setup_of old.task.scene) (state_of_grown old) h.closed.order c.args.order.now c.requires
     (state_of_grown now) zero_cost settled n (subst (λ points. IsPresent points n) change.points here))
     ∙ sym (sum_in-changed (state_of_grown old) (state_of_grown now) change n)

@@ -18,9 +18,9 @@ pack-requires c =
     let tree = c.args.self in
     let task = c.args.task in
     let P : List (Option Knot) → List Record → Type 0 =
-    λ knots records. IsClosed (setup_of task.scene) task.scene.start task.marks (length records) (state_of_lists knots records) in
+    λ knots records. IsClosed (setup_of task.scene) task.marks (length records) (state_of_lists knots records) in
     let closed : P (with_costs tree.nodes tree.costs.items) tree.records.items =
-    IsClosed-with_costs tree.nodes tree.costs.items tree.placed tree.records.items c.requires.sound (setup_of task.scene) task.scene.start task.marks
+    IsClosed-with_costs tree.nodes tree.costs.items tree.placed tree.records.items c.requires.sound (setup_of task.scene) task.marks
     c.requires.run c.requires.start in
     subst (λ knots. P knots c.from_vec.result) (sym (c.from_vec-knots.ensures ∙ c.in_ok-knots.ensures))
     (subst (λ records. P (with_costs tree.nodes tree.costs.items) records) (sym c.from_vec.ensures) closed)
@@ -42,7 +42,7 @@ returns-clause-run c =
     let S : List (Option Knot) → List Record → TreeState → Type 0 = λ knots records state. AreSameRuns (state_of_lists knots records) state in
     IfOk-weaker c.pack-2.result _ _
     (λ grown same.
-    IsOfTextbookRun-with_costs tree.nodes tree.costs.items tree.placed tree.records.items c.requires.sound (setup_of task.scene) task.scene.start
+    IsOfTextbookRun-with_costs tree.nodes tree.costs.items tree.placed tree.records.items c.requires.sound (setup_of task.scene)
     task.marks c.requires.run (state_of_grown grown)
     (subst (λ records. S (with_costs tree.nodes tree.costs.items) records (state_of_grown grown)) c.from_vec.ensures
     (subst (λ knots. S knots c.from_vec.result (state_of_grown grown)) (c.from_vec-knots.ensures ∙ c.in_ok-knots.ensures) same)))
@@ -52,5 +52,5 @@ pub returns-clause-settled : goal.returns-clause-settled
 returns-clause-settled c =
     let task = c.args.task in
     IfOk-weaker c.pack-2.result _ _
-    (λ grown run. IsSettled-of_textbook (setup_of task.scene) task.scene.start task.marks (state_of_grown grown) c.requires.start run)
+    (λ grown run. IsSettled-of_textbook (setup_of task.scene) task.marks (state_of_grown grown) c.requires.start run)
     (returns-clause-run c)

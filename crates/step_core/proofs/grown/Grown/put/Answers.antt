@@ -22,7 +22,7 @@ write_mark-requires-clause-closed c =
     let old = c.args.self.now in
     subst
     (λ items.
-    ∥ IsClosed (setup_of old.task.scene) old.task.scene.start old.task.marks (old.limit + 1)
+    ∥ IsClosed (setup_of old.task.scene) old.task.marks (old.limit + 1)
     (with_mark (state_of_words (sizes_of old.task) (words_of items)) old.limit c.args.entry.now c.args.p c.args.moved.now) ∥₁)
     (sym c.deref_mut.ensures.value) c.requires.closed
 

@@ -37,9 +37,9 @@ same_run : AreSameRuns (state_of rewired_tree rewired_records) (state_of_lists r
 same_run = record { points = λ n. refl; parents = λ n h. refl; costs = kept_sums; records = λ k. refl }
 
 -- so the run is closed
-closed : ClearAt open_setup.space (at 0 0) → IsClosed open_setup (at 0 0) marks_to_rewire 3 (state_of_lists rewired_knots rewired_records)
+closed : ClearAt open_setup.space (at 0 0) → IsClosed open_setup marks_to_rewire 3 (state_of_lists rewired_knots rewired_records)
 closed clear =
-    IsClosed-of_textbook open_setup (at 0 0) marks_to_rewire (state_of_lists rewired_knots rewired_records) clear
+    IsClosed-of_textbook open_setup marks_to_rewire (state_of_lists rewired_knots rewired_records) clear
     (record { nodes = rewired_tree; records = rewired_records; run = rewired_run; same = same_run })
 
 pub pack-requires : goal.pack-requires

@@ -24,7 +24,7 @@ use Rattle.step_core.proofs.ListedRuns.{IsClosed-same_lists}
 use Rattle.step_core.proofs.grown.tests.stopped.Goals as goal
 
 abbrev low_setup : Setup
-low_setup = record { space = empty_room (at 40 40); step = 50; gamma = 1000 }
+low_setup = record { space = empty_room (at 40 40); start = at 0 0; step = 50; gamma = 1000 }
 
 abbrev marks : List Point
 marks = at 0 0 ∷ at 0 50 ∷ []
