@@ -1,45 +1,46 @@
 -- In a closed run each mark below the limit was placed, ended on a node, or was blocked, so these add up to the limit.
 use Rattle.std.proofs.Common.{◌≡◌, ℕ, zero, suc, ◌+◌, ◌<◌, Bool, true, false, cond, List, length, Option, Some, None}
 use Rattle.std.proofs.Common.{arith, refl, sym, ap, ◌∙◌, inl, inr}
-use Rattle.std.specs.Prelude.{◌==◌, IsSome, is_some}
+use Rattle.std.specs.Prelude.{IsSome, is_some}
 use Rattle.std.proofs.lemmas.Bool.{cases_lt, true≢false, false_from_ne_true}
 use Rattle.plan_model.specs.declared.geometry.Point.{Point}
 use Rattle.plan_model.specs.declared.records.Outcome.{Outcome}
 use Rattle.plan_model.specs.declared.records.Outcome.TheVariants.{Placed, Same, Blocked}
 use Rattle.plan_model.specs.declared.records.Record.{Record}
-use Rattle.plan_model.specs.Outcomes.{number_of_outcome}
+use Rattle.plan_model.specs.Outcomes.{is_placed, is_same, is_blocked}
 use Rattle.plan_model.specs.PointsByNumber.{point_at, IsPresent, node_count}
 use Rattle.plan_model.specs.TreeStates.{TreeState}
 use Rattle.plan_model.specs.ClosedLaw.{has_outcome, outcome_count, IsClosed}
 use Rattle.plan_model.specs.Textbook.{Setup}
 use Rattle.plan_model.proofs.CountsBelow.{count-more, count-longer}
+use Rattle.plan_model.proofs.EarlierNodes.{is_placed-true}
 use Rattle.plan_model.proofs.NodeCounts.{count-next}
 use Rattle.plan_model.proofs.OrderLaws.{start-present}
 
 one_outcome : (outcome : Outcome)
-    → (cond (number_of_outcome outcome == 0) 1 0 + cond (number_of_outcome outcome == 1) 1 0) + cond (number_of_outcome outcome == 2) 1 0 ≡ 1
+    → (cond (is_placed outcome) 1 0 + cond (is_same outcome) 1 0) + cond (is_blocked outcome) 1 0 ≡ 1
 one_outcome Placed = refl
 one_outcome (Same j) = refl
 one_outcome Blocked = refl
 
 -- a record has one outcome
-one_of_three : (o : Option Record) → IsSome o → (cond (has_outcome 0 o) 1 0 + cond (has_outcome 1 o) 1 0) + cond (has_outcome 2 o) 1 0 ≡ 1
+one_of_three : (o : Option Record) → IsSome o → (cond (has_outcome is_placed o) 1 0 + cond (has_outcome is_same o) 1 0) + cond (has_outcome is_blocked o) 1 0 ≡ 1
 one_of_three None h = cc
 one_of_three (Some entry) h = one_outcome entry.outcome
 
 -- if each mark below the limit has a record, the outcomes add up to the limit
 pub outcomes-add_up :
     (record_of : ℕ → Option Record) (limit : ℕ) → ((k : ℕ) → k < limit → IsSome (record_of k))
-    → (outcome_count record_of limit 0 + outcome_count record_of limit 1) + outcome_count record_of limit 2 ≡ limit
+    → (outcome_count record_of limit is_placed + outcome_count record_of limit is_same) + outcome_count record_of limit is_blocked ≡ limit
 outcomes-add_up record_of zero all = refl
 outcomes-add_up record_of (suc limit) all =
     let before = outcomes-add_up record_of limit (λ k below. all k (omega arith)) in
     let here = one_of_three (record_of limit) (all limit (omega arith)) in
     omega (
       arith,
-      count-more (λ k. has_outcome 0 (record_of k)) limit,
-      count-more (λ k. has_outcome 1 (record_of k)) limit,
-      count-more (λ k. has_outcome 2 (record_of k)) limit,
+      count-more (λ k. has_outcome is_placed (record_of k)) limit,
+      count-more (λ k. has_outcome is_same (record_of k)) limit,
+      count-more (λ k. has_outcome is_blocked (record_of k)) limit,
       before,
       here,
     )
@@ -47,49 +48,44 @@ outcomes-add_up record_of (suc limit) all =
 -- the outcomes add up to the limit in a closed run
 pub outcomes-closed :
     (setup : Setup) (marks : List Point) (limit : ℕ) (state : TreeState) → IsClosed setup marks limit state
-    → (outcome_count state.record_of limit 0 + outcome_count state.record_of limit 1) + outcome_count state.record_of limit 2 ≡ limit
+    → (outcome_count state.record_of limit is_placed + outcome_count state.record_of limit is_same) + outcome_count state.record_of limit is_blocked ≡ limit
 outcomes-closed setup marks limit state closed = outcomes-add_up state.record_of limit closed.records.recorded
 
 -- ---- nodes
 
-placed_number : (outcome : Outcome) → (number_of_outcome outcome == 0) ≡ true → outcome ≡ Placed
-placed_number Placed h = refl
-placed_number (Same j) h = cc
-placed_number Blocked h = cc
-
 -- a mark that counts as placed has a record of that
-placed_record : (o : Option Record) → has_outcome 0 o ≡ true → (entry : Record) × (o ≡ Some entry) × (entry.outcome ≡ Placed)
+placed_record : (o : Option Record) → has_outcome is_placed o ≡ true → (entry : Record) × (o ≡ Some entry) × (entry.outcome ≡ Placed)
 placed_record None h = cc
-placed_record (Some entry) h = (entry, refl, placed_number entry.outcome h)
+placed_record (Some entry) h = (entry, refl, is_placed-true entry.outcome h)
 
 module _ (setup : Setup) (marks : List Point) (limit : ℕ) (state : TreeState) (closed : IsClosed setup marks limit state) where
   placed : ℕ → Bool
-  placed k = has_outcome 0 (state.record_of k)
+  placed k = has_outcome is_placed (state.record_of k)
 
   -- a mark counts as placed exactly if its node is present
   placed_present : (k : ℕ) → placed k ≡ is_some (point_at state.points (suc k))
   unfolding placed
-  placed_present k = by_test (has_outcome 0 (state.record_of k)) refl
+  placed_present k = by_test (has_outcome is_placed (state.record_of k)) refl
     where
-      by_test : (b : Bool) → has_outcome 0 (state.record_of k) ≡ b → b ≡ is_some (point_at state.points (suc k))
+      by_test : (b : Bool) → has_outcome is_placed (state.record_of k) ≡ b → b ≡ is_some (point_at state.points (suc k))
       by_test true e = sym ((closed.placed k).1 (placed_record (state.record_of k) e))
       by_test false e = sym (false_from_ne_true (is_some (point_at state.points (suc k))) absent)
         where
           absent : ¬ IsPresent state.points (suc k)
           absent h =
               let own = (closed.placed k).0 h in
-              true≢false (sym (ap (has_outcome 0) own.1 ∙ ap (λ o. number_of_outcome o == 0) own.2) ∙ e)
+              true≢false (sym (ap (has_outcome is_placed) own.1 ∙ ap is_placed own.2) ∙ e)
 
   placed_below : (k : ℕ) → placed k ≡ true → k < limit
   unfolding placed
   placed_below k h =
       elim (cases_lt k limit) [
         | inl below ↦ below
-        | inr past ↦ absurd (true≢false (sym h ∙ ap (has_outcome 0) (closed.records.none_else k past)))
+        | inr past ↦ absurd (true≢false (sym h ∙ ap (has_outcome is_placed) (closed.records.none_else k past)))
       ]
 
   -- In a closed run there are as many nodes as placed marks, and the start.
-  pub node_count-closed : node_count state.points ≡ suc (outcome_count state.record_of limit 0)
+  pub node_count-closed : node_count state.points ≡ suc (outcome_count state.record_of limit is_placed)
   unfolding placed
   node_count-closed =
       let n : ℕ = limit + length state.points in

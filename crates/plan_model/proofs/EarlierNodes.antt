@@ -9,7 +9,8 @@ use Rattle.plan_model.specs.declared.records.Outcome.TheVariants.{Placed, Same, 
 use Rattle.plan_model.specs.declared.records.Record.{Record}
 use Rattle.plan_model.specs.PointsByNumber.{IsPresent}
 use Rattle.plan_model.specs.TreeStates.{TreeState, GrowsInto}
-use Rattle.plan_model.specs.RecordLaw.{is_placed, is_earlier_record, is_earlier, IsEarlier, earlier_count}
+use Rattle.plan_model.specs.Outcomes.{is_placed}
+use Rattle.plan_model.specs.RecordLaw.{is_earlier_record, is_earlier, IsEarlier, earlier_count}
 use Rattle.plan_model.specs.ClosedLaw.{ArePlacedMarks}
 use Rattle.plan_model.proofs.CountsBelow.{count-same, count-limits}
 use Rattle.plan_model.proofs.DistinctPoints.{IsPresent-below}

@@ -15,7 +15,7 @@ use Rattle.plan_model.specs.Cost.{cost_of}
 use Rattle.plan_model.specs.PointsByNumber.{IsPresent, point_of}
 use Rattle.plan_model.specs.TreeStates.{TreeState, recorded_or, first_cost_of, GrowsInto}
 use Rattle.plan_model.specs.OrderLaw.{IsAllowedEdge}
-use Rattle.plan_model.specs.RecordLaw.{is_placed}
+use Rattle.plan_model.specs.Outcomes.{is_placed}
 use Rattle.plan_model.specs.ClosedLaw.{mark_at, IsClosed}
 use Rattle.plan_model.specs.HandledMarks.{with_record, with_node, is_among, with_moved, with_outcome, with_mark}
 use Rattle.plan_model.specs.HandledMarks.{IsCheaperBy, IsPlacedWhole, EndsBy, turns_of, IsHandledWhole}

@@ -14,7 +14,8 @@ use Rattle.plan_model.specs.PointsByNumber.{IsPresent, point_of, node_count}
 use Rattle.plan_model.specs.Steering.{steered}
 use Rattle.plan_model.specs.TreeStates.{TreeState, GrowsInto}
 use Rattle.plan_model.specs.OrderLaw.{KeepsOrder}
-use Rattle.plan_model.specs.RecordLaw.{is_placed, is_earlier, IsEarlier, earlier_count, IsBlockedLawfully, HasLawfulOutcome, IsLawfulRecord}
+use Rattle.plan_model.specs.Outcomes.{is_placed}
+use Rattle.plan_model.specs.RecordLaw.{is_earlier, IsEarlier, earlier_count, IsBlockedLawfully, HasLawfulOutcome, IsLawfulRecord}
 use Rattle.plan_model.specs.ClosedLaw.{mark_at, IsClosed}
 use Rattle.plan_model.specs.HandledMarks.{IsBlockedWhole, EndsBy, turns_of}
 use Rattle.plan_model.specs.Textbook.{Setup, SteersTo}

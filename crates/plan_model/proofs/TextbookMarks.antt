@@ -19,7 +19,7 @@ use Rattle.plan_model.specs.PointsByNumber.{point_at, point_of}
 use Rattle.plan_model.specs.Trees.{points_of, sum_of}
 use Rattle.plan_model.specs.TreeStates.{TreeState, GrowsInto, state_of}
 use Rattle.plan_model.specs.OrderLaw.{KeepsOrder}
-use Rattle.plan_model.specs.RecordLaw.{is_placed}
+use Rattle.plan_model.specs.Outcomes.{is_placed}
 use Rattle.plan_model.specs.ClosedLaw.{mark_at, IsClosed}
 use Rattle.plan_model.specs.HandledMarks.{EndsBy, is_of_worker, turns_of}
 use Rattle.plan_model.specs.Textbook.{Nodes, Setup, near_new, SteersTo, EndsPlaced, Ends}

@@ -1,11 +1,11 @@
 -- The closed law: what a run has when no mark is being handled. Each mark below its limit has one record, and each record is lawful.
-use Rattle.std.specs.Prelude.{◌≡◌, ◌↔◌, ℕ, suc, ◌==◌, ◌<◌, ◌≤◌, Bool, false, IsSome, Option, Some, None, List, length, count_by, slice_index_or}
+use Rattle.std.specs.Prelude.{◌≡◌, ◌↔◌, ℕ, suc, ◌<◌, ◌≤◌, Bool, false, IsSome, Option, Some, None, List, length, count_by, slice_index_or}
 use Rattle.std.specs.List.{range_with_len}
 use Rattle.plan_model.specs.declared.geometry.Point.{Point}
 use Rattle.plan_model.specs.declared.limits.TheConstants.{MOST_WORKERS}
+use Rattle.plan_model.specs.declared.records.Outcome.{Outcome}
 use Rattle.plan_model.specs.declared.records.Outcome.TheVariants.{Placed}
 use Rattle.plan_model.specs.declared.records.Record.{Record}
-use Rattle.plan_model.specs.Outcomes.{number_of_outcome}
 use Rattle.plan_model.specs.PointsByNumber.{IsPresent}
 use Rattle.plan_model.specs.TreeStates.{TreeState}
 use Rattle.plan_model.specs.OrderLaw.{KeepsOrder}
@@ -45,11 +45,11 @@ pub record IsClosed (setup : Setup) (marks : List Point) (limit : ℕ) (state : 
 
 -- ---- counts
 
--- whether a mark has a record with the outcome of this number
-abbrev pub has_outcome : ℕ → Option Record → Bool
-has_outcome number None = false
-has_outcome number (Some entry) = number_of_outcome entry.outcome == number
+-- whether a mark has a record with an outcome that passes the test
+abbrev pub has_outcome : (Outcome → Bool) → Option Record → Bool
+has_outcome test None = false
+has_outcome test (Some entry) = test entry.outcome
 
--- how many marks below the limit have the outcome of this number
-abbrev pub outcome_count : (ℕ → Option Record) → ℕ → ℕ → ℕ
-outcome_count record_of limit number = count_by (λ k. has_outcome number (record_of k)) (range_with_len 0 limit)
+-- how many marks below the limit have an outcome that passes the test
+abbrev pub outcome_count : (ℕ → Option Record) → ℕ → (Outcome → Bool) → ℕ
+outcome_count record_of limit test = count_by (λ k. has_outcome test (record_of k)) (range_with_len 0 limit)

@@ -1,13 +1,25 @@
--- What became of a mark, by number; and what a record of an unplaced mark has.
-use Rattle.std.specs.Prelude.{ℕ, ◌==◌, ◌&&◌, Bool, true}
+-- Which outcome a mark had; and what a record of an unplaced mark has.
+use Rattle.std.specs.Prelude.{ℕ, ◌==◌, ◌&&◌, Bool, true, false}
 use Rattle.plan_model.specs.declared.records.Outcome.{Outcome}
 use Rattle.plan_model.specs.declared.records.Outcome.TheVariants.{Placed, Same, Blocked}
 
--- the number of an outcome
-abbrev pub number_of_outcome : Outcome → ℕ
-number_of_outcome Placed = 0
-number_of_outcome (Same j) = 1
-number_of_outcome Blocked = 2
+-- a node was placed for the mark
+abbrev pub is_placed : Outcome → Bool
+is_placed Placed = true
+is_placed (Same j) = false
+is_placed Blocked = false
+
+-- the mark ended where a node stood already
+abbrev pub is_same : Outcome → Bool
+is_same Placed = false
+is_same (Same j) = true
+is_same Blocked = false
+
+-- the segment to where the mark ended was not clear
+abbrev pub is_blocked : Outcome → Bool
+is_blocked Placed = false
+is_blocked (Same j) = false
+is_blocked Blocked = true
 
 -- only a placed mark has a first parent, a first cost and a class; otherwise all three are 0
 abbrev pub is_zero_unless_placed : Outcome → ℕ → ℕ → ℕ → Bool

@@ -13,16 +13,11 @@ use Rattle.plan_model.specs.PointsByNumber.{StandsAt, IsPresent, point_at, point
 use Rattle.plan_model.specs.Radius.{class_of, radius_of_class}
 use Rattle.plan_model.specs.Steering.{steered}
 use Rattle.plan_model.specs.TreeStates.{TreeState, first_cost_of}
+use Rattle.plan_model.specs.Outcomes.{is_placed}
 use Rattle.plan_model.specs.OrderLaw.{IsAllowedEdge, most_cost_of}
 use Rattle.plan_model.specs.Textbook.{Setup}
 
 -- ---- the nodes that the same worker placed earlier
-
--- a node was placed for the mark
-abbrev pub is_placed : Outcome → Bool
-is_placed Placed = true
-is_placed (Same j) = false
-is_placed Blocked = false
 
 -- a record of a placed mark that the same worker handled in an earlier turn
 abbrev pub is_earlier_record : Record → Option Record → Bool

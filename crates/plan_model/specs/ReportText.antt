@@ -6,6 +6,7 @@ use Rattle.plan_model.specs.declared.scenes.Scene.{Scene}
 use Rattle.plan_model.specs.declared.records.Outcome.{Outcome}
 use Rattle.plan_model.specs.declared.records.Outcome.TheVariants.{Placed, Same, Blocked}
 use Rattle.plan_model.specs.declared.records.Record.{Record}
+use Rattle.plan_model.specs.Outcomes.{is_placed, is_same, is_blocked}
 use Rattle.plan_model.specs.PointsByNumber.{point_at, point_of, node_count}
 use Rattle.plan_model.specs.TreeStates.{TreeState, chain_in, sum_in}
 use Rattle.plan_model.specs.ClosedLaw.{outcome_count}
@@ -53,9 +54,9 @@ best_path state (Some n) = path_to state n
 abbrev pub counts_line : ℕ → TreeState → List ℕ
 counts_line limit state =
     line (
-    codes "nodes" ∷ decimal (node_count state.points) ∷ codes "placed" ∷ decimal (outcome_count state.record_of limit 0)
-    ∷ codes "same" ∷ decimal (outcome_count state.record_of limit 1)
-    ∷ codes "blocked" ∷ decimal (outcome_count state.record_of limit 2) ∷ []
+    codes "nodes" ∷ decimal (node_count state.points) ∷ codes "placed" ∷ decimal (outcome_count state.record_of limit is_placed)
+    ∷ codes "same" ∷ decimal (outcome_count state.record_of limit is_same)
+    ∷ codes "blocked" ∷ decimal (outcome_count state.record_of limit is_blocked) ∷ []
     )
 
 -- ---- nodes and marks

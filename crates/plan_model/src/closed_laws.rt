@@ -5,6 +5,7 @@ ghost use Rattle.plan_model.specs.Clearance.{ClearAt};
 ghost use Rattle.plan_model.specs.ClosedLaw.{IsClosed, mark_at, outcome_count};
 ghost use Rattle.plan_model.specs.HandledMarks.{IsHandledWhole, with_mark};
 ghost use Rattle.plan_model.specs.OrderLaw.{KeepsFirstCosts};
+ghost use Rattle.plan_model.specs.Outcomes.{is_blocked, is_placed, is_same};
 ghost use Rattle.plan_model.specs.PointsByNumber.{IsPresent, node_count};
 ghost use Rattle.plan_model.specs.Textbook.{IsTextbookRun, Nodes, Setup};
 ghost use Rattle.plan_model.specs.SameRuns.{IsOfTextbookRun};
@@ -44,11 +45,11 @@ pub fn costs_of_closed_runs_fall()
 pub fn marks_of_closed_runs_add_up()
     ensures outcomes { (setup : Setup) (marks : List Point) (limit : ℕ) (state : TreeState)
         → IsClosed setup marks limit state
-        → (outcome_count state.record_of limit 0 + outcome_count state.record_of limit 1) + outcome_count state.record_of limit 2
+        → (outcome_count state.record_of limit is_placed + outcome_count state.record_of limit is_same) + outcome_count state.record_of limit is_blocked
         ≡ limit }
     ensures nodes { (setup : Setup) (marks : List Point) (limit : ℕ) (state : TreeState)
         → IsClosed setup marks limit state
-        → node_count state.points ≡ suc (outcome_count state.record_of limit 0) }
+        → node_count state.points ≡ suc (outcome_count state.record_of limit is_placed) }
 {}
 
 /// If the next mark is handled whole by all that a closed run holds, the run with it is closed, and has grown: its nodes and

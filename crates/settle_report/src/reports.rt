@@ -2,6 +2,7 @@
 
 ghost use Rattle.std.specs.Prelude.{◌≡◌, ◌++◌, IfOk, IfSome, OnOk, string_bytes};
 ghost use Rattle.plan_model.specs.ClosedLaw.{outcome_count};
+ghost use Rattle.plan_model.specs.Outcomes.{is_blocked, is_placed, is_same};
 ghost use Rattle.plan_model.specs.PointsByNumber.{IsPresent};
 ghost use Rattle.plan_model.specs.ReportText as spec;
 ghost use Rattle.plan_model.specs.ReportText.{report_text, summary};
@@ -119,9 +120,9 @@ struct Counts {
 
 /// The outcomes of the marks below the limit, counted.
 fn counts_of(grown: &Grown) -> Counts
-    ensures placed { result.placed ≡ outcome_count (state_of_grown grown.now).record_of grown.now.limit 0 }
-    ensures same { result.same ≡ outcome_count (state_of_grown grown.now).record_of grown.now.limit 1 }
-    ensures blocked { result.blocked ≡ outcome_count (state_of_grown grown.now).record_of grown.now.limit 2 }
+    ensures placed { result.placed ≡ outcome_count (state_of_grown grown.now).record_of grown.now.limit is_placed }
+    ensures same { result.same ≡ outcome_count (state_of_grown grown.now).record_of grown.now.limit is_same }
+    ensures blocked { result.blocked ≡ outcome_count (state_of_grown grown.now).record_of grown.now.limit is_blocked }
 {
     let mut counts = Counts {
         placed: 0,

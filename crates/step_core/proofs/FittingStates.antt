@@ -12,6 +12,7 @@ use Rattle.plan_model.specs.declared.tasks.Task.{Task}
 use Rattle.plan_model.specs.Bounds.{IsBounded}
 use Rattle.plan_model.specs.Clearance.{ClearAt}
 use Rattle.plan_model.specs.ClosedLaw.{IsClosed, has_outcome, mark_at}
+use Rattle.plan_model.specs.Outcomes.{is_placed}
 use Rattle.plan_model.specs.ConfigurationSpace.{space_of}
 use Rattle.plan_model.specs.OrderLaw.{most_cost_of}
 use Rattle.plan_model.specs.Outcomes.{is_zero_unless_placed}
@@ -74,7 +75,7 @@ module _
       omega (
         arith,
         count,
-        count_by-le-length (λ k. has_outcome 0 (state.record_of k)) (range_with_len 0 limit),
+        count_by-le-length (λ k. has_outcome is_placed (state.record_of k)) (range_with_len 0 limit),
         length-range_with_len 0 limit,
         closed.within,
         length-marks task,

@@ -17,7 +17,7 @@ use Rattle.plan_model.specs.ClosedLaw.{IsClosed}
 use Rattle.plan_model.specs.Cost.{cost_of}
 use Rattle.plan_model.specs.HandledMarks.{is_among, with_outcome, with_mark}
 use Rattle.plan_model.specs.PointsByNumber.{point_at, StandsAt, IsPresent, point_of}
-use Rattle.plan_model.specs.RecordLaw.{is_placed}
+use Rattle.plan_model.specs.Outcomes.{is_placed}
 use Rattle.plan_model.specs.Textbook.{setup_of}
 use Rattle.plan_model.specs.TreeStates.{TreeState}
 use Rattle.plan_model.proofs.NewNodes.{IsPresent-stands, StandsAt-present, point_of-stands}

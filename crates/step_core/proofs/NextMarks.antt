@@ -16,7 +16,7 @@ use Rattle.plan_model.specs.ClosedLaw.{IsClosed}
 use Rattle.plan_model.specs.Cost.{cost_of}
 use Rattle.plan_model.specs.HandledMarks.{is_among, with_outcome, with_mark}
 use Rattle.plan_model.specs.PointsByNumber.{IsPresent}
-use Rattle.plan_model.specs.RecordLaw.{is_placed}
+use Rattle.plan_model.specs.Outcomes.{is_placed}
 use Rattle.plan_model.specs.Textbook.{setup_of}
 use Rattle.plan_model.specs.TreeStates.{TreeState, AreSameRuns}
 use Rattle.step_core.specs.WordPlaces.{Sizes, place_of_count, counter_place}

@@ -12,7 +12,7 @@ use Rattle.plan_model.specs.declared.trees.Knot.{Knot}
 use Rattle.plan_model.specs.declared.trees.Twig.{Twig}
 use Rattle.plan_model.specs.ClosedLaw.{IsClosed}
 use Rattle.plan_model.specs.PointsByNumber.{point_at, IsPresent}
-use Rattle.plan_model.specs.RecordLaw.{is_placed}
+use Rattle.plan_model.specs.Outcomes.{is_placed}
 use Rattle.plan_model.specs.Textbook.{setup_of}
 use Rattle.plan_model.specs.Trees.{points_of, parent_of, parent_or_zero, without_costs}
 use Rattle.plan_model.specs.TreeStates.{AreSameRuns}

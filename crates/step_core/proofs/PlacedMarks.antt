@@ -9,7 +9,7 @@ use Rattle.plan_model.specs.Bounds.{IsBounded}
 use Rattle.plan_model.specs.Cost.{cost_of}
 use Rattle.plan_model.specs.HandledMarks.{is_among}
 use Rattle.plan_model.specs.PointsByNumber.{point_at, IsPresent, point_of}
-use Rattle.plan_model.specs.RecordLaw.{is_placed}
+use Rattle.plan_model.specs.Outcomes.{is_placed}
 use Rattle.plan_model.specs.TreeStates.{TreeState, AreSameRuns}
 use Rattle.step_core.specs.WordPlaces.{Sizes, place_of_count, counter_place, point_place, child_place, tree_place, first_place, record_place}
 use Rattle.step_core.specs.Words.{parent_in, cost_in, point_word, point_of_word, point_in, tree_word}

@@ -5,7 +5,7 @@ use Rattle.std.proofs.lemmas.Bool.{cases_eq, cases_lt, eq-eqb, ne_eqb, lt-leb}
 use Rattle.std.proofs.lemmas.Option.{same_Some}
 use Rattle.plan_model.specs.declared.records.Record.{Record}
 use Rattle.plan_model.specs.MarkPoints.{quota_of}
-use Rattle.plan_model.specs.RecordLaw.{is_placed}
+use Rattle.plan_model.specs.Outcomes.{is_placed}
 use Rattle.plan_model.proofs.CountsBelow.{count-more}
 use Rattle.step_core.specs.WordPlaces.{Sizes, place_of_count, counter_place, point_place, child_place, tree_place, first_place, record_place}
 use Rattle.step_core.specs.Words.{record_of_word, record_word}

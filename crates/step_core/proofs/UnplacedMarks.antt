@@ -10,7 +10,7 @@ use Rattle.plan_model.specs.declared.tasks.Task.{Task}
 use Rattle.plan_model.specs.ClosedLaw.{IsClosed}
 use Rattle.plan_model.specs.HandledMarks.{with_record, with_outcome, with_mark}
 use Rattle.plan_model.specs.PointsByNumber.{point_at, IsPresent}
-use Rattle.plan_model.specs.RecordLaw.{is_placed}
+use Rattle.plan_model.specs.Outcomes.{is_placed}
 use Rattle.plan_model.specs.Textbook.{setup_of}
 use Rattle.plan_model.specs.TreeStates.{AreSameRuns}
 use Rattle.plan_model.proofs.NodeCounts.{node_count-same}

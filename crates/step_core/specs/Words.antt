@@ -6,7 +6,6 @@ use Rattle.plan_model.specs.declared.geometry.Point.{Point}
 use Rattle.plan_model.specs.declared.records.Outcome.{Outcome}
 use Rattle.plan_model.specs.declared.records.Outcome.TheVariants.{Placed, Same, Blocked}
 use Rattle.plan_model.specs.declared.records.Record.{Record}
-use Rattle.plan_model.specs.Outcomes.{number_of_outcome}
 
 -- a word holds its value once bit 63 is set, and nothing before
 abbrev pub if_written : {A : Type 0} → ℕ → A → Option A
@@ -51,6 +50,12 @@ abbrev pub last_field : Outcome → ℕ → ℕ
 last_field Placed class = class
 last_field (Same j) class = j
 last_field Blocked class = 0
+
+-- the number of an outcome
+abbrev pub number_of_outcome : Outcome → ℕ
+number_of_outcome Placed = 0
+number_of_outcome (Same j) = 1
+number_of_outcome Blocked = 2
 
 -- a record as a word, without its first parent and first cost
 abbrev pub record_word : Record → ℕ

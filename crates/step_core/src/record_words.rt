@@ -5,8 +5,7 @@
 //! The first parent and the first cost of a placed mark are not in it: they are in the first word of its node.
 
 ghost use Rattle.std.specs.Prelude.{◌≡◌, ◌<◌};
-ghost use Rattle.plan_model.specs.Outcomes.{number_of_outcome};
-ghost use Rattle.step_core.specs.Words.{FitsWord, last_field, record_of_word, record_word};
+ghost use Rattle.step_core.specs.Words.{FitsWord, last_field, number_of_outcome, record_of_word, record_word};
 ghost use Rattle.step_core.specs.Words.{blocked_in, last_in, nearest_in, placed_in, same_in, turn_in, worker_in};
 
 use crate::layout::{

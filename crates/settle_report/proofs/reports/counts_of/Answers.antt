@@ -1,5 +1,6 @@
 use Rattle.std.proofs.Common.{refl, arith, ap, ◌∙◌}
 use Rattle.plan_model.specs.declared.records.Outcome.TheVariants.{Placed, Same, Blocked}
+use Rattle.plan_model.specs.Outcomes.{is_placed, is_same, is_blocked}
 use Rattle.step_core.specs.GrownRuns.{state_of_grown}
 use Rattle.settle_report.proofs.CountedMarks.{counted-here, counted-elsewhere}
 use Rattle.settle_report.proofs.reports.counts_of.Goals as goal
@@ -13,21 +14,39 @@ loop-mark-preserved c =
     let before = c.loop-mark.invariant in
     elim c.match-record_of.branch [
       | in-Placed w ↦ record {
-        placed = ap (λ k. k.placed) w.counts-is ∙ counted-here records mark entry Placed c.record_of.ensures w.in-Placed.is 0 _ refl before.placed;
-        same = ap (λ k. k.same) w.counts-is ∙ counted-elsewhere records mark entry Placed c.record_of.ensures w.in-Placed.is 1 _ refl before.same;
-        blocked = ap (λ k. k.blocked) w.counts-is ∙ counted-elsewhere records mark entry Placed c.record_of.ensures w.in-Placed.is 2 _ refl before.blocked;
+        placed =
+            ap (λ k. k.placed) w.counts-is
+            ∙ counted-here records mark entry Placed c.record_of.ensures w.in-Placed.is is_placed _ refl before.placed;
+        same =
+            ap (λ k. k.same) w.counts-is
+            ∙ counted-elsewhere records mark entry Placed c.record_of.ensures w.in-Placed.is is_same _ refl before.same;
+        blocked =
+            ap (λ k. k.blocked) w.counts-is
+            ∙ counted-elsewhere records mark entry Placed c.record_of.ensures w.in-Placed.is is_blocked _ refl before.blocked;
         all = omega (arith, before.all, ap (λ k. k.placed) w.counts-is, ap (λ k. k.same) w.counts-is, ap (λ k. k.blocked) w.counts-is);
       }
       | in-Same w ↦ record {
-        placed = ap (λ k. k.placed) w.counts-is ∙ counted-elsewhere records mark entry (Same _) c.record_of.ensures w.in-Same.is 0 _ refl before.placed;
-        same = ap (λ k. k.same) w.counts-is ∙ counted-here records mark entry (Same _) c.record_of.ensures w.in-Same.is 1 _ refl before.same;
-        blocked = ap (λ k. k.blocked) w.counts-is ∙ counted-elsewhere records mark entry (Same _) c.record_of.ensures w.in-Same.is 2 _ refl before.blocked;
+        placed =
+            ap (λ k. k.placed) w.counts-is
+            ∙ counted-elsewhere records mark entry (Same _) c.record_of.ensures w.in-Same.is is_placed _ refl before.placed;
+        same =
+            ap (λ k. k.same) w.counts-is
+            ∙ counted-here records mark entry (Same _) c.record_of.ensures w.in-Same.is is_same _ refl before.same;
+        blocked =
+            ap (λ k. k.blocked) w.counts-is
+            ∙ counted-elsewhere records mark entry (Same _) c.record_of.ensures w.in-Same.is is_blocked _ refl before.blocked;
         all = omega (arith, before.all, ap (λ k. k.placed) w.counts-is, ap (λ k. k.same) w.counts-is, ap (λ k. k.blocked) w.counts-is);
       }
       | in-Blocked w ↦ record {
-        placed = ap (λ k. k.placed) w.counts-is ∙ counted-elsewhere records mark entry Blocked c.record_of.ensures w.in-Blocked.is 0 _ refl before.placed;
-        same = ap (λ k. k.same) w.counts-is ∙ counted-elsewhere records mark entry Blocked c.record_of.ensures w.in-Blocked.is 1 _ refl before.same;
-        blocked = ap (λ k. k.blocked) w.counts-is ∙ counted-here records mark entry Blocked c.record_of.ensures w.in-Blocked.is 2 _ refl before.blocked;
+        placed =
+            ap (λ k. k.placed) w.counts-is
+            ∙ counted-elsewhere records mark entry Blocked c.record_of.ensures w.in-Blocked.is is_placed _ refl before.placed;
+        same =
+            ap (λ k. k.same) w.counts-is
+            ∙ counted-elsewhere records mark entry Blocked c.record_of.ensures w.in-Blocked.is is_same _ refl before.same;
+        blocked =
+            ap (λ k. k.blocked) w.counts-is
+            ∙ counted-here records mark entry Blocked c.record_of.ensures w.in-Blocked.is is_blocked _ refl before.blocked;
         all = omega (arith, before.all, ap (λ k. k.placed) w.counts-is, ap (λ k. k.same) w.counts-is, ap (λ k. k.blocked) w.counts-is);
       }
     ]

@@ -1,13 +1,14 @@
 use Rattle.std.proofs.Common.{◌≡◌, ◌+◌}
 use Rattle.plan_model.specs.ClosedLaw.{outcome_count}
+use Rattle.plan_model.specs.Outcomes.{is_placed, is_same, is_blocked}
 use Rattle.step_core.specs.GrownRuns.{state_of_grown}
 use Rattle.settle_report.proofs.reports.counts_of.Given as goal
 
 -- the counts of the marks so far
 abbrev pub invariant-loop-mark : goal.invariant-loop-mark
 invariant-loop-mark l = record {
-  placed : l.counts.placed ≡ outcome_count (state_of_grown l.grown).record_of l.mark 0;
-  same : l.counts.same ≡ outcome_count (state_of_grown l.grown).record_of l.mark 1;
-  blocked : l.counts.blocked ≡ outcome_count (state_of_grown l.grown).record_of l.mark 2;
+  placed : l.counts.placed ≡ outcome_count (state_of_grown l.grown).record_of l.mark is_placed;
+  same : l.counts.same ≡ outcome_count (state_of_grown l.grown).record_of l.mark is_same;
+  blocked : l.counts.blocked ≡ outcome_count (state_of_grown l.grown).record_of l.mark is_blocked;
   all : (l.counts.placed + l.counts.same) + l.counts.blocked ≡ l.mark;
 }

@@ -1,5 +1,5 @@
 use Rattle.std.proofs.Common.{◌≡◌, ◌+◌, false}
-use Rattle.plan_model.specs.RecordLaw.{is_placed}
+use Rattle.plan_model.specs.Outcomes.{is_placed}
 use Rattle.step_core.specs.GrownWords.{words_of, sizes_of}
 use Rattle.step_core.specs.PlacesOfWords.{sizes_in}
 use Rattle.step_core.proofs.MarkStates.{unplaced-other}
