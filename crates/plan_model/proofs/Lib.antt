@@ -70,4 +70,8 @@ pub mod WayLaws
 pub mod WayLengths
 pub mod WayLinks
 pub mod SeenTreeLaws
-pub mod SeenThree
+pub mod SightLaws
+pub mod TrueSights
+pub mod SightsTogether
+pub mod SeenByOne
+pub mod SeenByTwo

@@ -29,6 +29,7 @@ pub mod RecordLaw
 pub mod ClosedLaw
 pub mod Ways
 pub mod SeenTrees
+pub mod Sights
 pub mod SameRuns
 pub mod ReportText
 pub mod TextLines

@@ -14,6 +14,7 @@ mod places;
 mod records;
 mod run_laws;
 mod scenes;
+mod seen_laws;
 mod sinks;
 mod sources;
 mod tasks;

@@ -117,7 +117,8 @@ pub fn ways()
     ensures { WayVectors }
 {}
 
-/// What a worker has seen of these three nodes before a call and after it, and points that the call has swept or not.
+/// What two workers have seen of five nodes, points that a call of the one has swept or not, and what it takes over from
+/// the other.
 pub fn seen_trees()
     ensures { SeenTreeVectors }
 {}

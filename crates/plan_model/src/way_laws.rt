@@ -2,7 +2,6 @@
 
 ghost use Rattle.std.specs.Prelude.{◌≡◌, ℕ, suc, ◌<◌, ◌⊎◌, Bool, Option, Some, None, List};
 ghost use Rattle.plan_model.specs.PointsByNumber.{AreDistinct, IsFree, IsPresent, StandsAt, node_count};
-ghost use Rattle.plan_model.specs.SeenTrees.{EndsSince, IsLater, IsSeen, IsSwept, KeepsSight, SeenTree};
 ghost use Rattle.plan_model.specs.Ways.{AddsPoint, Children, EndsBelow, FillsPlaces, FollowWays, IsOnWay, LinksAt, goes_right};
 ghost use Rattle.plan_model.specs.declared.geometry.Point.{Point};
 
@@ -57,21 +56,4 @@ pub fn links_keep_ways()
 pub fn ways_begin_at_node_0()
     ensures { (child : Children) (points : List (Option Point)) → ((n : ℕ) (side : Bool) → child n side ≡ None)
         → ((n : ℕ) (p : Point) → StandsAt points n p → n ≡ 0) → FollowWays child points }
-{}
-
-/// What a worker has seen of a tree stays seen, and what a call has swept stays swept. Each moment counts as later than
-/// itself, and what is later than a later moment is later.
-pub fn what_is_seen_stays_seen()
-    ensures itself { (seen : SeenTree) → IsLater seen seen }
-    ensures all_the_while { (one mid other : SeenTree) → IsLater one mid → IsLater mid other → IsLater one other }
-    ensures nodes { (before after : SeenTree) → IsLater before after → (n : ℕ) → IsSeen before n → IsSeen after n }
-    ensures swept { (before after : SeenTree) → IsLater before after → KeepsSight before
-        → (steps : ℕ) (q : Point) → IsSwept before steps q → IsSwept after steps q }
-{}
-
-/// If the way of a point comes to a place that a step since some moment found empty, no node was seen at the point at
-/// that moment.
-pub fn ways_that_end_miss_no_node()
-    ensures { (before after : SeenTree) → IsLater before after → KeepsSight before → KeepsSight after
-        → (q : Point) → EndsSince after before.steps q → IsFree before.points q }
 {}

@@ -1,10 +1,11 @@
 use Rattle.std.proofs.Common.{true, refl, inr}
-use Rattle.plan_model.proofs.SeenThree.{KeepsSight-return, not_seen_4, IsLater-return, swept_beside_node_1, swept_beside_node_0, found_before_6, none_after_8}
+use Rattle.plan_model.proofs.SeenByOne.{KeepsSight-return, not_seen_4, IsLaterMoment-return, swept_beside_node_1, swept_beside_node_0, found_before_6, none_after_8}
+use Rattle.plan_model.proofs.SeenByTwo.{true_now, true_before, not_true_yet, taken_over, later_for_one, more_for_other, not_later_for_other}
 use Rattle.plan_model.proofs.vectors.seen_trees.Goals as goal
 
 pub returns : goal.returns
 returns c = record {
-  later = IsLater-return;
+  later = IsLaterMoment-return;
   keeps = KeepsSight-return;
   seen = inr (1, true, refl);
   without_point = λ h. cc;
@@ -14,4 +15,11 @@ returns c = record {
   found_before = found_before_6;
   found_in_earlier_call = swept_beside_node_0;
   last_step = none_after_8;
+  true_now = true_now;
+  true_before = true_before;
+  not_true_yet = not_true_yet;
+  taken_over = taken_over;
+  later_for_one = later_for_one;
+  more_for_other = more_for_other;
+  not_later_for_other = not_later_for_other;
 }

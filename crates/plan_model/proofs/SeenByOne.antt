@@ -1,11 +1,12 @@
--- What a worker has seen of a kd-tree of three nodes, and which points a call has swept.
+-- What a worker has seen of a kd-tree of five nodes, and which points a call has swept.
 use Rattle.std.proofs.Common.{◌≡◌, ℕ, zero, suc, ◌<◌, ◌≤◌, Bool, true, false, Some, arith, refl, sym, ap, ◌∙◌, subst, inl, inr}
 use Rattle.std.specs.Prelude.{◌≢◌, ◌/◌, ◌%◌, ◌==◌, IsSome, unwrap_or}
 use Rattle.plan_model.specs.declared.geometry.Point.{Point}
 use Rattle.plan_model.specs.PointsByNumber.{point_at, StandsAt, IsPresent, IsFree}
 use Rattle.plan_model.specs.Ways.{goes_right, IsOnWay}
 use Rattle.plan_model.specs.Ways.IsOnWay.{begins, goes_on}
-use Rattle.plan_model.specs.SeenTrees.{IsSeen, HasSeenWay, KeepsSight, KeepsOrLowers, KeepsOrFindsEmpty, IsLater, IsSwept}
+use Rattle.plan_model.specs.SeenTrees.{IsSeen, HasSeenWay, KeepsOrLowers}
+use Rattle.plan_model.specs.Sights.{KeepsSight, KeepsOrFindsEmpty, IsLaterMoment, IsSwept}
 use Rattle.plan_model.specs.Vectors.Shapes.{at}
 use Rattle.plan_model.specs.Vectors.SeenTrees.{at_entry, at_return, four_children, found_at_return}
 use Rattle.plan_model.specs.Vectors.Ways.{three_points, three_children}
@@ -24,24 +25,24 @@ to_node_1 : (q : Point) → at 5 5 ≢ q → four_children 0 (goes_right 0 (at 5
 to_node_1 q other link = goes_on 0 0 1 (at 5 5) begins refl other link
 
 -- a node whose point is seen has its way
-has_way : (n depth : ℕ) (q : Point) → IsOnWay four_children three_points q depth n → StandsAt three_points n q → HasSeenWay at_return n
+has_way : (n depth : ℕ) (q : Point) → IsOnWay four_children three_points q depth n → StandsAt three_points n q → HasSeenWay at_return.seen n
 has_way n depth q way stands = record {
   point = q;
   own = λ p h. StandsAt-unique three_points n p q h stands;
   depth = depth;
-  on_way = over_seen_points at_return q depth n way;
+  on_way = over_seen_points at_return.seen q depth n way;
 }
 
-way_1 : HasSeenWay at_return 1
+way_1 : HasSeenWay at_return.seen 1
 way_1 = has_way 1 1 (at 5 3) (to_node_1 (at 5 3) (other_row (at 5 5) (at 5 3) (λ e. omega (arith, e))) refl) refl
 
-way_2 : HasSeenWay at_return 2
+way_2 : HasSeenWay at_return.seen 2
 way_2 =
     let above = to_node_1 (at 9 2) (other_row (at 5 5) (at 9 2) (λ e. omega (arith, e))) refl in
     has_way 2 2 (at 9 2) (goes_on 1 1 2 (at 5 3) above refl (other_row (at 5 3) (at 9 2) (λ e. omega (arith, e))) refl) refl
 
 -- node 3 is on the way of a point above node 1
-way_3 : HasSeenWay at_return 3
+way_3 : HasSeenWay at_return.seen 3
 way_3 =
     let above = to_node_1 (at 9 8) (other_row (at 5 5) (at 9 8) (λ e. omega (arith, e))) refl in
     record {
@@ -49,20 +50,20 @@ way_3 =
       own = λ p h. cc;
       depth = 2;
       on_way =
-          over_seen_points at_return (at 9 8) 2 3
+          over_seen_points at_return.seen (at 9 8) 2 3
           (goes_on 1 1 3 (at 5 3) above refl (other_row (at 5 3) (at 9 8) (λ e. omega (arith, e))) refl);
     }
 
-way_of_child : (n a : ℕ) (side : Bool) → four_children a side ≡ Some n → HasSeenWay at_return n
+way_of_child : (n a : ℕ) (side : Bool) → four_children a side ≡ Some n → HasSeenWay at_return.seen n
 way_of_child n zero false link = cc
-way_of_child n zero true link = subst (HasSeenWay at_return) (ap (λ o. unwrap_or o 0) link) way_1
-way_of_child n (suc zero) false link = subst (HasSeenWay at_return) (ap (λ o. unwrap_or o 0) link) way_2
-way_of_child n (suc zero) true link = subst (HasSeenWay at_return) (ap (λ o. unwrap_or o 0) link) way_3
+way_of_child n zero true link = subst (HasSeenWay at_return.seen) (ap (λ o. unwrap_or o 0) link) way_1
+way_of_child n (suc zero) false link = subst (HasSeenWay at_return.seen) (ap (λ o. unwrap_or o 0) link) way_2
+way_of_child n (suc zero) true link = subst (HasSeenWay at_return.seen) (ap (λ o. unwrap_or o 0) link) way_3
 way_of_child n (suc (suc a)) false link = cc
 way_of_child n (suc (suc a)) true link = cc
 
-ways : (n : ℕ) → IsSeen at_return n → HasSeenWay at_return n
-ways n (inl start) = subst (HasSeenWay at_return) (sym start) (has_way 0 0 (at 5 5) begins refl)
+ways : (n : ℕ) → IsSeen at_return.seen n → HasSeenWay at_return.seen n
+ways n (inl start) = subst (HasSeenWay at_return.seen) (sym start) (has_way 0 0 (at 5 5) begins refl)
 ways n (inr (a, side, link)) = way_of_child n a side link
 
 -- the place of a child by its number
@@ -84,13 +85,13 @@ place_is n (suc (suc a)) true link = cc
 
 -- ---- what is seen at the end
 
-points_seen : (n : ℕ) → IsPresent three_points n → IsSeen at_return n
+points_seen : (n : ℕ) → IsPresent three_points n → IsSeen at_return.seen n
 points_seen zero h = inl refl
 points_seen (suc zero) h = inr (0, true, refl)
 points_seen (suc (suc zero)) h = inr (1, false, refl)
 points_seen (suc (suc (suc n))) h = cc
 
-trees_seen : (n : ℕ) → IsSome (at_return.parent_and_cost n) → IsSeen at_return n
+trees_seen : (n : ℕ) → IsSome (at_return.seen.parent_and_cost n) → IsSeen at_return.seen n
 trees_seen zero h = inl refl
 trees_seen (suc zero) h = inr (0, true, refl)
 trees_seen (suc (suc zero)) h = inr (1, false, refl)
@@ -105,21 +106,27 @@ found_by_8 (suc zero) true = omega arith
 found_by_8 (suc (suc n)) false = omega arith
 found_by_8 (suc (suc n)) true = omega arith
 
+children_seen : (a n : ℕ) (side : Bool) → four_children a side ≡ Some n → IsSeen at_return.seen a
+children_seen zero n side link = inl refl
+children_seen (suc zero) n side link = inr (0, true, refl)
+children_seen (suc (suc a)) n false link = cc
+children_seen (suc (suc a)) n true link = cc
+
 pub KeepsSight-return : KeepsSight at_return
 KeepsSight-return = record {
-  start = refl;
-  ways = ways;
-  once = λ n a b left right one other.
-      let here = place_is n a left one in
-      let there = place_is n b right other in
-      (here.above ∙ sym there.above, here.right ∙ sym there.right);
-  root = λ a side link. omega (arith, (place_is 0 a side link).few.0);
-  points = points_seen;
-  trees = trees_seen;
+  rooted = record { start = refl; children = children_seen; points = points_seen; pairs = trees_seen };
+  ways = record {
+    ways = ways;
+    once = λ n a b left right one other.
+        let here = place_is n a left one in
+        let there = place_is n b right other in
+        (here.above ∙ sym there.above, here.right ∙ sym there.right);
+    root = λ a side link. omega (arith, (place_is 0 a side link).few.0);
+  };
   steps = λ n side. omega (arith, found_by_8 n side);
 }
 
-pub not_seen_4 : ¬ IsSeen at_return 4
+pub not_seen_4 : ¬ IsSeen at_return.seen 4
 not_seen_4 (inl start) = omega (arith, start)
 not_seen_4 (inr (a, side, link)) = omega (arith, (place_is 4 a side link).few.1)
 
@@ -133,7 +140,7 @@ children_stay (suc zero) m true h = cc
 children_stay (suc (suc n)) m false h = h
 children_stay (suc (suc n)) m true h = h
 
-trees_stay : (n : ℕ) → KeepsOrLowers at_entry at_return n
+trees_stay : (n : ℕ) → KeepsOrLowers at_entry.seen at_return.seen n
 trees_stay zero tree h = (tree, h, inl refl)
 trees_stay (suc zero) tree h = (tree, h, inl refl)
 trees_stay (suc (suc zero)) tree h =
@@ -149,13 +156,15 @@ empty_stays (suc zero) true = inr (omega arith, refl)
 empty_stays (suc (suc n)) false = inl refl
 empty_stays (suc (suc n)) true = inl refl
 
-pub IsLater-return : IsLater at_entry at_return
-IsLater-return = record {
-  places = record { children = children_stay; nodes = λ n p h. h };
-  trees = trees_stay;
-  records = λ k entry h. cc;
-  counters = λ strip. omega arith;
-  count = omega arith;
+pub IsLaterMoment-return : IsLaterMoment at_entry at_return
+IsLaterMoment-return = record {
+  seen = record {
+    places = record { children = children_stay; nodes = λ n p h. h };
+    pairs = trees_stay;
+    records = λ k entry h. cc;
+    counters = λ strip. omega arith;
+    count = omega arith;
+  };
   steps = omega arith;
   empty = empty_stays;
 }
