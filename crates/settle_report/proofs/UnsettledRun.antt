@@ -277,7 +277,7 @@ lawful (suc (suc (suc k))) entry h = cc
 
 -- ---- the closed law
 
-pub IsClosed-unsettled : ClearAt rrt_setup.space (at 0 0) → IsClosed rrt_setup (at 0 0) marks_to_rewire 3 unsettled
+pub IsClosed-unsettled : ClearAt rrt_setup.space (at 0 0) → IsClosed rrt_setup marks_to_rewire 3 unsettled
 IsClosed-unsettled clear =
     let textbook = IsClosed-textbook open_setup marks_to_rewire rewired_tree rewired_records clear rewired_run in
     record {

@@ -8,14 +8,13 @@ use Rattle.plan_model.specs.Textbook.{Setup}
 use Rattle.step_core.specs.PackedRuns.{state_of_lists}
 
 pub IsClosed-same_lists :
-    (setup of_setup : Setup) (start at : Point) (marks points : List Point) (knots nodes : List (Option Knot)) (records entries : List Record)
-    → setup ≡ of_setup → start ≡ at → marks ≡ points → knots ≡ nodes → records ≡ entries
-    → IsClosed of_setup at points (length entries) (state_of_lists nodes entries)
+    (setup of_setup : Setup) (marks points : List Point) (knots nodes : List (Option Knot)) (records entries : List Record)
+    → setup ≡ of_setup → marks ≡ points → knots ≡ nodes → records ≡ entries
+    → IsClosed of_setup points (length entries) (state_of_lists nodes entries)
     → IsClosed setup marks (length records) (state_of_lists knots records)
-IsClosed-same_lists setup of_setup start at marks points knots nodes records entries same_setup same_start same_marks same_knots same_records closed =
+IsClosed-same_lists setup of_setup marks points knots nodes records entries same_setup same_marks same_knots same_records closed =
     let state : state_of_lists nodes entries ≡ state_of_lists knots records = λ t. state_of_lists (sym same_knots t) (sym same_records t) in
-    subst (λ s. IsClosed s start marks (length records) (state_of_lists knots records)) (sym same_setup)
-    (subst (λ p. IsClosed of_setup p marks (length records) (state_of_lists knots records)) (sym same_start)
-    (subst (λ ps. IsClosed of_setup at ps (length records) (state_of_lists knots records)) (sym same_marks)
-    (subst (λ limit. IsClosed of_setup at points limit (state_of_lists knots records)) (ap length (sym same_records))
-    (subst (IsClosed of_setup at points (length entries)) state closed))))
+    subst (λ s. IsClosed s marks (length records) (state_of_lists knots records)) (sym same_setup)
+    (subst (λ ps. IsClosed of_setup ps (length records) (state_of_lists knots records)) (sym same_marks)
+    (subst (λ limit. IsClosed of_setup points limit (state_of_lists knots records)) (ap length (sym same_records))
+    (subst (IsClosed of_setup points (length entries)) state closed)))

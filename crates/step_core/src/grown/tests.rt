@@ -21,7 +21,7 @@ fn task_of(alloc: Global, side: u32, start: Point, marks: &[Point]) -> Result<Ta
     requires right { start.x ≤ side }
     requires top { start.y ≤ side }
     requires marks { IsTrue (is_plan (Listed marks.now)) }
-    ensures setup { IfOk result (λ task. setup_of task.scene ≡ record { space = empty_room (at side side); start = at 0 0; step = 50; gamma = 1000 }) }
+    ensures setup { IfOk result (λ task. setup_of task.scene ≡ record { space = empty_room (at side side); start = start; step = 50; gamma = 1000 }) }
     ensures start { IfOk result (λ task. task.scene.start ≡ start) }
     ensures marks { IfOk result (λ task. task.marks ≡ marks.now) }
     ensures clear { IfOk result (λ task. ClearAt (space_of task.scene) task.scene.start) }

@@ -23,9 +23,8 @@ pack-requires c =
     (subst (ClearAt (space_of task.scene)) c.in_ok-task.ensures.start c.in_ok-task.ensures.clear) in
     let nodes = c.from_vec-knots.result in
     let entries = c.from_vec-records.result in
-    subst (λ setup. IsClosed setup task.scene.start task.marks (length entries) (state_of_lists nodes entries)) (sym c.in_ok-task.ensures.setup)
-    (subst (λ start. IsClosed rrt_setup start task.marks (length entries) (state_of_lists nodes entries)) (sym c.in_ok-task.ensures.start)
-    (subst (λ marks. IsClosed rrt_setup (at 0 0) marks (length entries) (state_of_lists nodes entries)) (sym c.in_ok-task.ensures.marks)
-    (subst (λ list. IsClosed rrt_setup (at 0 0) marks_to_rewire (length list) (state_of_lists nodes list)) (sym records)
-    (subst (λ list. IsClosed rrt_setup (at 0 0) marks_to_rewire 3 (state_of_lists list unsettled_records)) (sym knots)
-    (IsClosed-unsettled clear)))))
+    subst (λ setup. IsClosed setup task.marks (length entries) (state_of_lists nodes entries)) (sym c.in_ok-task.ensures.setup)
+    (subst (λ marks. IsClosed rrt_setup marks (length entries) (state_of_lists nodes entries)) (sym c.in_ok-task.ensures.marks)
+    (subst (λ list. IsClosed rrt_setup marks_to_rewire (length list) (state_of_lists nodes list)) (sym records)
+    (subst (λ list. IsClosed rrt_setup marks_to_rewire 3 (state_of_lists list unsettled_records)) (sym knots)
+    (IsClosed-unsettled clear))))

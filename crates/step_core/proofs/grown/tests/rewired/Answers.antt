@@ -54,6 +54,6 @@ pack-requires c =
     let clear =
     subst (λ setup. ClearAt setup.space (at 0 0)) c.in_ok-task.ensures.setup
     (subst (ClearAt (space_of task.scene)) c.in_ok-task.ensures.start c.in_ok-task.ensures.clear) in
-    IsClosed-same_lists (setup_of task.scene) open_setup task.scene.start (at 0 0) task.marks marks_to_rewire c.from_vec-knots.result rewired_knots
-    c.from_vec-records.result rewired_records c.in_ok-task.ensures.setup c.in_ok-task.ensures.start c.in_ok-task.ensures.marks knots records
+    IsClosed-same_lists (setup_of task.scene) open_setup task.marks marks_to_rewire c.from_vec-knots.result rewired_knots
+    c.from_vec-records.result rewired_records c.in_ok-task.ensures.setup c.in_ok-task.ensures.marks knots records
     (closed clear)

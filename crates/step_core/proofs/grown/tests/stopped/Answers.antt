@@ -72,7 +72,7 @@ second_is_blocked clear =
     let in_room = AreInRoom-from_clear low_setup.space (at 0 0) (at 0 50) clear in
     absurd (omega (arith, in_room.last.vertical))
 
-run : IsTextbookRun low_setup (at 0 0) marks three entries
+run : IsTextbookRun low_setup marks three entries
 run = (
   two,
   record { point = at 0 0; steers = record { nearest = start_of_one (at 0 0); reached = refl }; stands = refl; recorded = refl; added = refl },
@@ -100,9 +100,9 @@ same_run = record { points = λ n. refl; parents = λ n h. refl; costs = costs; 
     costs (suc (suc (suc n))) h = cc
 
 -- so the run is closed
-closed : ClearAt low_setup.space (at 0 0) → IsClosed low_setup (at 0 0) marks 2 (state_of_lists knots entries)
+closed : ClearAt low_setup.space (at 0 0) → IsClosed low_setup marks 2 (state_of_lists knots entries)
 closed clear =
-    IsClosed-of_textbook low_setup (at 0 0) marks (state_of_lists knots entries) clear
+    IsClosed-of_textbook low_setup marks (state_of_lists knots entries) clear
     (record { nodes = three; records = entries; run = run; same = same_run })
 
 pub pack-requires : goal.pack-requires
@@ -115,6 +115,6 @@ pack-requires c =
     let clear =
     subst (λ setup. ClearAt setup.space (at 0 0)) c.in_ok-task.ensures.setup
     (subst (ClearAt (space_of task.scene)) c.in_ok-task.ensures.start c.in_ok-task.ensures.clear) in
-    IsClosed-same_lists (setup_of task.scene) low_setup task.scene.start (at 0 0) task.marks marks c.from_vec-knots.result knots
-    c.from_vec-records.result entries c.in_ok-task.ensures.setup c.in_ok-task.ensures.start c.in_ok-task.ensures.marks same_knots same_records
+    IsClosed-same_lists (setup_of task.scene) low_setup task.marks marks c.from_vec-knots.result knots
+    c.from_vec-records.result entries c.in_ok-task.ensures.setup c.in_ok-task.ensures.marks same_knots same_records
     (closed clear)
