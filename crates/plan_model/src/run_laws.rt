@@ -45,7 +45,7 @@ pub fn nodes_stand_apart()
         → IsTextbookRun setup marks tree records → AreDistinct (points_of tree) }
 {}
 
-/// The textbook run is one run: the same setup, start and marks give the same tree and the same records.
+/// The textbook run is one run: the same setup and marks give the same tree and the same records.
 pub fn textbook_run_is_unique()
     ensures tree { (setup : Setup) (marks : List Point) (one other : Nodes) (records entries : List Record)
         → IsTextbookRun setup marks one records → IsTextbookRun setup marks other entries

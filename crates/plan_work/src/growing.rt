@@ -9,7 +9,7 @@ ghost use Rattle.plan_model.specs.declared.records.Record.{Record};
 ghost use Rattle.step_core.specs.GrownRuns.{state_of_grown};
 
 use crate::gates::Gate;
-use crate::held::{Held, Job, Shared};
+use crate::held::{Held, Job, LockedRun};
 use crate::workers::run_workers;
 use plan_model::Memory;
 use std::alloc::Global;
@@ -78,7 +78,7 @@ fn grow_job<R: Threads + Sync + Wait, C: Clearing, G: Gate, N: Job + Send + Sync
         → (state_of_grown after).record_of k ≡ Some entry → grown.limit ≤ k → entry.worker < workers) }
 {
     let mut lists = node_lists(alloc, workers, grown.task().marks.len() + 1)?;
-    let shared = Shared::new(Held::<N>::new(grown));
+    let shared = LockedRun::new(Held::<N>::new(grown));
     run_workers(rt, &shared, hall, gate, limit, lists.as_mut_slice());
     // they stop if no mark is left, which no clause says of a lock's value
     Ok(shared.into_held().finish(hall, limit, &mut lists[0]))

@@ -130,14 +130,14 @@ fn no_turns() -> [u32; WORKERS]
 
 /// A run that the workers share: the one that has the lock handles its next mark.
 #[derive(Drop)]
-pub struct Shared<N: Job> {
+pub struct LockedRun<N: Job> {
     held: Mutex<Held<N>>,
 }
 
-impl<N: Job> Shared<N> {
+impl<N: Job> LockedRun<N> {
     /// The run, for the workers to share.
-    pub fn new(held: Held<N>) -> Shared<N> {
-        Shared {
+    pub fn new(held: Held<N>) -> LockedRun<N> {
+        LockedRun {
             held: Mutex::new(held),
         }
     }

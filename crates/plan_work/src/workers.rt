@@ -6,7 +6,7 @@ ghost use Rattle.plan_model.specs.declared.limits.TheConstants.{MOST_WORKERS};
 ghost use Rattle.plan_work.specs.Jobs.{HasRoom, IsSpaceOf};
 
 use crate::gates::Gate;
-use crate::held::{Job, Shared};
+use crate::held::{Job, LockedRun};
 use std::sync::Wait;
 use std::thread;
 use std::thread::Threads;
@@ -16,7 +16,7 @@ use swept_check::Clearing;
 /// thread can be made they run one after another.
 pub fn run_workers<R: Threads + Sync + Wait, C: Clearing, G: Gate, N: Job + Send + Sync>(
     rt: &R,
-    shared: &Shared<N>,
+    shared: &LockedRun<N>,
     hall: &C,
     gate: &G,
     limit: u32,
@@ -48,7 +48,7 @@ pub fn run_workers<R: Threads + Sync + Wait, C: Clearing, G: Gate, N: Job + Send
 /// each turn, and the lock is free while it is. `list` has room for every node.
 fn work<R: Wait, C: Clearing, G: Gate, N: Job>(
     rt: &R,
-    shared: &Shared<N>,
+    shared: &LockedRun<N>,
     hall: &C,
     gate: &G,
     worker: u32,
