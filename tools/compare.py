@@ -1,0 +1,93 @@
+#!/usr/bin/env python3
+"""Runs a built program against the programs of this folder on random scenes, and prints counts.
+
+Usage: compare.py PROGRAM [FIRST [COUNT]]. For each number from FIRST on (0 and 200 if left out):
+- `plain` and `plain full` write what textbook.py writes, and end with its status;
+- `plan 1 full` and `plan 4 full` write a report that judge.py finds lawful, with the same counts of marks;
+- `show` writes the canonical text, and for a text with faults the line and the kind of the first;
+- the judge refuses a report in which one number is changed, or the change is counted as one that is lawful too.
+
+It ends with 1 if there was any difference, and names the numbers.
+"""
+
+import random
+import re
+import subprocess
+import sys
+from collections import Counter
+
+from judge import verdict
+from make_scenes import scene_of, with_faults
+from scene import Fault, read
+from textbook import answer
+
+
+class Comparison:
+    """The program, and what was counted."""
+
+    def __init__(self, program):
+        self.program = program
+        self.counts = Counter()
+        self.differences = []
+
+    def run(self, words, text):
+        """What the program writes for these words, and its status."""
+        done = subprocess.run([self.program, *words.split()], input=text, capture_output=True, check=False, timeout=600)
+        return done.stdout.decode(), done.returncode
+
+    def note(self, number, what, same):
+        """Counts a comparison, and keeps it if the two differ."""
+        self.counts[what] += 1
+        if not same:
+            self.differences.append((number, what))
+
+    def compare_plans(self, number):
+        """Compares the planners on the scene of a number."""
+        scene = scene_of(number)
+        text = scene.text().encode()
+        for full in (False, True):
+            words = "plain full" if full else "plain"
+            self.note(number, words, self.run(words, text) == answer(text, full))
+        for workers in (1, 4):
+            words = f"plan {workers} full"
+            output, status = self.run(words, text)
+            if status > 1:
+                self.note(number, f"{words}, refused", (output, status) == answer(text, True))
+                continue
+            self.note(number, words, verdict(scene, output) == "lawful")
+            self.compare_mutant(number, scene, output)
+
+    def compare_mutant(self, number, scene, report):
+        """Changes one number of a report: the judge is to refuse it, unless it is lawful all the same."""
+        rng = random.Random(f"mutant {number}")
+        places = list(re.finditer(r"\d+", report))
+        place = rng.choice(places)
+        changed = report[: place.start()] + str(int(place[0]) + rng.choice([1, 1, 2, 64])) + report[place.end() :]
+        self.counts["mutant refused" if verdict(scene, changed) != "lawful" else "mutant lawful"] += 1
+
+    def compare_texts(self, number):
+        """Compares what is read of the scene of a number, and of a text with faults."""
+        for what, text in (("show", scene_of(number).text().encode()), ("show, with faults", with_faults(number))):
+            try:
+                wanted = read(text).text(), 0
+            except Fault as fault:
+                wanted = f"{fault}\n", 3
+            self.note(number, what, self.run("show", text) == wanted)
+
+
+def main(program, first=0, count=200):
+    """Compares on so many numbers, and gives the exit status."""
+    comparison = Comparison(program)
+    for number in range(int(first), int(first) + int(count)):
+        comparison.compare_plans(number)
+        comparison.compare_texts(number)
+    for what, times in sorted(comparison.counts.items()):
+        print(f"{what}: {times}")
+    for number, what in comparison.differences:
+        print(f"differs: scene {number}, {what}")
+    print(f"{len(comparison.differences)} differences")
+    return 1 if comparison.differences else 0
+
+
+if __name__ == "__main__":
+    sys.exit(main(*sys.argv[1:]))

@@ -1,0 +1,171 @@
+#!/usr/bin/env python3
+"""Judges a full report: whether it is the report of a lawful, settled run of its scene, whoever planned it.
+
+Usage: judge.py SCENE < REPORT. It writes `lawful`, or what is wrong first, and ends with 0 or 1.
+
+The order, from the rules of docs/planning.md: the form of each line; each node below its parent by a clear edge no
+longer than the step, at its sum; the turns of each worker from 0 without a gap or a repeat; a node for each placed mark
+and for no other; each record by what its worker must have known when it handled the mark; and the lines of the short
+report.
+"""
+
+import re
+import sys
+
+from geometry import Space, squared_distance
+from rules import class_of, cost, mark_points, radius_of_class, steer
+from scene import read
+from textbook import Record, Tree, head_lines
+
+MOST_WORKERS = 64
+N = r"(0|[1-9][0-9]*)"
+NODE = re.compile(f"node {N} at {N} {N} parent {N} cost {N}")
+MARK = re.compile(f"mark {N} worker {N} turn {N} nearest {N} (?:(placed) class {N} first {N} {N}|(same) {N}|(blocked))")
+
+
+class Broken(Exception):
+    """A report is not lawful, for this reason."""
+
+
+def need(holds, reason):
+    """Refuses the report unless the condition holds."""
+    if not holds:
+        raise Broken(reason)
+
+
+def record_of(match):
+    """The record of a mark's line."""
+    worker, turn, nearest = (int(match[i]) for i in (2, 3, 4))
+    if match[5]:
+        return Record(worker, turn, nearest, "placed", int(match[6]), int(match[7]), int(match[8]))
+    if match[9]:
+        return Record(worker, turn, nearest, "same", int(match[10]))
+    return Record(worker, turn, nearest, "blocked")
+
+
+class Judge:
+    """A report beside its scene."""
+
+    def __init__(self, scene, text):
+        self.scene = scene
+        self.space = Space(scene)
+        self.marks = mark_points(scene, self.space)
+        self.tree = Tree(scene.start)
+        self.costs = {}
+        self.parse(text)
+
+    def parse(self, text):
+        """Reads the lines; nothing is compared but their form and the numbers that come in order."""
+        need(text.endswith("\n"), "the last line has no line feed")
+        lines = text[:-1].split("\n")
+        first = next((i for i, line in enumerate(lines) if line.startswith("node ")), len(lines))
+        last = len(lines) - len(self.marks)
+        need(first < last, "there are lines missing")
+        self.head = lines[:first]
+        before = -1
+        for line in lines[first:last]:
+            match = NODE.fullmatch(line)
+            need(match, f"not the line of a node: {line}")
+            n, x, y, parent, kept = map(int, match.groups())
+            need(before < n <= len(self.marks), f"nodes are not in rising number at {n}")
+            before = n
+            self.tree.points[n], self.tree.parents[n], self.costs[n] = (x, y), parent, kept
+        self.records = []
+        for k, line in enumerate(lines[last:]):
+            match = MARK.fullmatch(line)
+            need(match and int(match[1]) == k, f"not the line of mark {k}: {line}")
+            self.records.append(record_of(match))
+
+    def check(self):
+        """Checks all laws in their order."""
+        self.check_nodes()
+        self.check_turns()
+        for k, record in enumerate(self.records):
+            need((record.outcome == "placed") == (k + 1 in self.tree.points), f"mark {k} and node {k + 1} do not agree")
+        for k, record in enumerate(self.records):
+            self.check_record(k, record)
+        need(self.head == head_lines(self.tree, self.records, self.scene.goal), "the short report is another one")
+
+    def edge(self, a, b, what):
+        """The cost of an edge that has to be clear and no longer than the step."""
+        need(squared_distance(a, b) <= self.scene.step**2, f"{what}: the edge is too long")
+        need(self.space.is_clear(a, b), f"{what}: the edge is not clear")
+        return cost(a, b)
+
+    def check_nodes(self):
+        """Each node hangs below its parent, and its cost is its parent's and the edge."""
+        points, parents = self.tree.points, self.tree.parents
+        need(points.get(0) == self.scene.start and parents[0] == 0 and self.costs.get(0) == 0, "node 0 is not the start")
+        need(len(set(points.values())) == len(points), "two nodes stand at one point")
+        for n in points:
+            if n != 0:
+                parent = parents[n]
+                need(parent in points and parent != n, f"node {n} has no parent")
+                edge = self.edge(points[parent], points[n], f"node {n}")
+                need(self.costs[n] == self.costs[parent] + edge, f"the cost of node {n} is not its sum")
+
+    def check_turns(self):
+        """The turns of each worker run from 0, with no gap and none twice."""
+        turns = {}
+        for record in self.records:
+            need(record.worker < MOST_WORKERS, "there are too many workers")
+            turns.setdefault(record.worker, []).append(record.turn)
+        for worker, own in turns.items():
+            need(sorted(own) == list(range(len(own))), f"worker {worker} leaves out a turn or has one twice")
+
+    def first_cost(self, n):
+        """What a node cost when it was placed."""
+        return 0 if n == 0 else self.records[n - 1].first_cost
+
+    def check_record(self, k, record):
+        """What the record of mark k says is borne out by the tree and the earlier nodes of its worker."""
+        points, mark, what = self.tree.points, self.marks[k], f"mark {k}"
+        m = record.nearest
+        own = lambda r: r.outcome == "placed" and r.worker == record.worker and r.turn < record.turn
+        earlier = [0] + [i + 1 for i, r in enumerate(self.records) if own(r)]
+        rank = lambda i: (squared_distance(points[i], mark), i)
+        need(m in points, f"{what}: there is no nearest node")
+        need(all(rank(m) <= rank(i) for i in earlier), f"{what}: an earlier node is nearer")
+        p = steer(points[m], mark, self.scene.step)
+        if record.outcome == "same":
+            need(points.get(record.other) == p, f"{what}: the node stands at another point")
+        elif record.outcome == "blocked":
+            need(not self.space.is_clear(points[m], p), f"{what}: the edge is clear")
+            need(all(points[i] != p for i in earlier), f"{what}: an earlier node stands there")
+        else:
+            self.check_placed(k, record, earlier, p)
+
+    def check_placed(self, k, record, earlier, p):
+        """What holds of a mark that was placed at p."""
+        points, costs, what = self.tree.points, self.costs, f"mark {k}"
+        m, f, c, digits = record.nearest, record.first_parent, record.first_cost, record.other
+        need(self.space.is_clear(points[m], p) and points[k + 1] == p, f"{what}: its node stands at another point")
+        need(class_of(len(earlier)) <= digits <= class_of(len(points)), f"{what}: it has another class")
+        need(f in points and k + 1 not in (m, f), f"{what}: it has no first parent")
+        edge = self.edge(points[f], p, what)
+        need(costs[f] + edge <= c <= self.first_cost(f) + edge, f"{what}: the first cost is not that of its parent")
+        need(c <= self.first_cost(m) + cost(points[m], p), f"{what}: the nearest node is a cheaper parent")
+        need(c <= 256 * self.scene.step * (len(points) - 1), f"{what}: the first cost is past the bound")
+        need(costs[k + 1] <= c, f"{what}: its node costs more than at first")
+        radius = radius_of_class(self.scene.step, self.scene.gamma, digits)
+        for i in earlier:
+            if squared_distance(points[i], p) <= radius * radius and self.space.is_clear(points[i], p):
+                near = cost(points[i], p)
+                need(c <= self.first_cost(i) + near, f"{what}: near node {i} is a cheaper parent")
+                need(costs[i] <= c + near, f"{what}: near node {i} was not rewired")
+
+
+def verdict(scene, text):
+    """`lawful`, or the reason why the report is not."""
+    try:
+        Judge(scene, text).check()
+    except Broken as broken:
+        return str(broken)
+    return "lawful"
+
+
+if __name__ == "__main__":
+    with open(sys.argv[1], "rb") as file:
+        answer = verdict(read(file.read()), sys.stdin.read())
+    print(answer)
+    sys.exit(0 if answer == "lawful" else 1)
