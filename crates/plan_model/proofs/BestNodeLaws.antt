@@ -1,11 +1,9 @@
 -- The best node of a tree is the goal node with the least pair of sum and number, and there is one if there is a goal node.
-use Rattle.std.proofs.Common.{◌≡◌, ℕ, ◌<◌, List, length, Option, Some, None, ap, inl, inr}
-use Rattle.std.proofs.lemmas.Bool.{cases_lt}
-use Rattle.std.proofs.lemmas.List.{get_or_past}
-use Rattle.std.specs.Prelude.{Bool}
+use Rattle.std.proofs.Common.{◌≡◌, ℕ, suc, ◌<◌, List, Option, Some, None, arith, refl}
+use Rattle.std.specs.Prelude.{Bool, IsTrue, IsSome}
 use Rattle.plan_model.specs.declared.geometry.Point.{Point}
 use Rattle.plan_model.specs.declared.scenes.Scene.{Scene}
-use Rattle.plan_model.specs.PointsByNumber.{point_at}
+use Rattle.plan_model.specs.PointsByNumber.{point_at, AreNumberedTo}
 use Rattle.plan_model.specs.TreeStates.{TreeState, sum_in}
 use Rattle.plan_model.specs.BestNode.{lies_in_goal, IsGoalNode, IsBestNode, best_node}
 use Rattle.plan_model.proofs.LeastPairLaws.{
@@ -17,43 +15,48 @@ use Rattle.plan_model.proofs.LeastPairLaws.{
   first_least-from_none,
 }
 
--- a number beyond the points is no goal node
-pub IsGoalNode-below : (scene : Scene) (points : List (Option Point)) (n : ℕ) → IsGoalNode scene points n → n < length points
-IsGoalNode-below scene points n h =
-    elim (cases_lt n (length points)) [
-      | inl below ↦ below
-      | inr past ↦ (let e = ap (lies_in_goal scene) (get_or_past points n None past) in cc)
-    ]
+-- a goal node is present
+pub IsPresent-goal : (scene : Scene) (o : Option Point) → IsTrue (lies_in_goal scene o) → IsSome o
+IsPresent-goal scene None h = cc
+IsPresent-goal scene (Some p) h = refl
+
+-- a goal node is among the numbers up to the limit, if all nodes are
+IsGoalNode-below :
+    (scene : Scene) (limit : ℕ) (points : List (Option Point)) (n : ℕ) → AreNumberedTo limit points → IsGoalNode scene points n → n < suc limit
+IsGoalNode-below scene limit points n numbered h = omega (arith, numbered n (IsPresent-goal scene (point_at points n) h))
 
 -- node n lies in the goal, as a test
 goal_test : Scene → TreeState → ℕ → Bool
 goal_test scene state n = lies_in_goal scene (point_at state.points n)
 
 -- the best node has the least pair among the goal nodes
-pub best_node-some : (scene : Scene) (state : TreeState) (n : ℕ) → best_node scene state ≡ Some n → IsBestNode scene state n
+pub best_node-some : (scene : Scene) (limit : ℕ) (state : TreeState) (n : ℕ) → AreNumberedTo limit state.points
+    → best_node scene limit state ≡ Some n → IsBestNode scene state n
 unfolding goal_test
-best_node-some scene state n e =
-    IsFirstLeast-among (sum_in state) (IsBelowPassing (goal_test scene state) (length state.points)) (IsGoalNode scene state.points) n
-    (λ i h. h.1) (λ i h. (IsGoalNode-below scene state.points i h, h))
-    (first_least-some (sum_in state) (goal_test scene state) (length state.points) n e)
+best_node-some scene limit state n numbered e =
+    IsFirstLeast-among (sum_in state) (IsBelowPassing (goal_test scene state) (suc limit)) (IsGoalNode scene state.points) n
+    (λ i h. h.1) (λ i h. (IsGoalNode-below scene limit state.points i numbered h, h))
+    (first_least-some (sum_in state) (goal_test scene state) (suc limit) n e)
 
 -- there is none only if no node lies in the goal
-pub best_node-none : (scene : Scene) (state : TreeState) → best_node scene state ≡ None → (n : ℕ) → ¬ IsGoalNode scene state.points n
+pub best_node-none : (scene : Scene) (limit : ℕ) (state : TreeState) → AreNumberedTo limit state.points
+    → best_node scene limit state ≡ None → (n : ℕ) → ¬ IsGoalNode scene state.points n
 unfolding goal_test
-best_node-none scene state e n h =
-    first_least-none (sum_in state) (goal_test scene state) (length state.points) e n (IsGoalNode-below scene state.points n h, h)
+best_node-none scene limit state numbered e n h =
+    first_least-none (sum_in state) (goal_test scene state) (suc limit) e n (IsGoalNode-below scene limit state.points n numbered h, h)
 
 -- the goal node with the least pair is the best node
-pub best_node-from_best : (scene : Scene) (state : TreeState) (n : ℕ) → IsBestNode scene state n → best_node scene state ≡ Some n
+pub best_node-from_best : (scene : Scene) (limit : ℕ) (state : TreeState) (n : ℕ) → AreNumberedTo limit state.points
+    → IsBestNode scene state n → best_node scene limit state ≡ Some n
 unfolding goal_test
-best_node-from_best scene state n h =
-    first_least-from_least (sum_in state) (goal_test scene state) (length state.points) n
-    (IsFirstLeast-among (sum_in state) (IsGoalNode scene state.points) (IsBelowPassing (goal_test scene state) (length state.points)) n
-    (λ i own. (IsGoalNode-below scene state.points i own, own)) (λ i own. own.1) h)
+best_node-from_best scene limit state n numbered h =
+    first_least-from_least (sum_in state) (goal_test scene state) (suc limit) n
+    (IsFirstLeast-among (sum_in state) (IsGoalNode scene state.points) (IsBelowPassing (goal_test scene state) (suc limit)) n
+    (λ i own. (IsGoalNode-below scene limit state.points i numbered own, own)) (λ i own. own.1) h)
 
 -- if no node lies in the goal, there is none
 pub best_node-from_none :
-    (scene : Scene) (state : TreeState) → ((n : ℕ) → ¬ IsGoalNode scene state.points n) → best_node scene state ≡ None
+    (scene : Scene) (limit : ℕ) (state : TreeState) → ((n : ℕ) → ¬ IsGoalNode scene state.points n) → best_node scene limit state ≡ None
 unfolding goal_test
-best_node-from_none scene state h =
-    first_least-from_none (sum_in state) (goal_test scene state) (length state.points) (λ n own. h n own.1)
+best_node-from_none scene limit state h =
+    first_least-from_none (sum_in state) (goal_test scene state) (suc limit) (λ n own. h n own.1)

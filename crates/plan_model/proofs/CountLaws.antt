@@ -8,7 +8,7 @@ use Rattle.plan_model.specs.declared.records.Outcome.{Outcome}
 use Rattle.plan_model.specs.declared.records.Outcome.TheVariants.{Placed, Same, Blocked}
 use Rattle.plan_model.specs.declared.records.Record.{Record}
 use Rattle.plan_model.specs.Outcomes.{is_placed, is_same, is_blocked}
-use Rattle.plan_model.specs.PointsByNumber.{point_at, IsPresent, node_count}
+use Rattle.plan_model.specs.PointsByNumber.{point_at, IsPresent, AreNumberedTo, node_count}
 use Rattle.plan_model.specs.TreeStates.{TreeState}
 use Rattle.plan_model.specs.ClosedLaw.{has_outcome, outcome_count, IsClosed}
 use Rattle.plan_model.specs.Textbook.{Setup}
@@ -92,3 +92,14 @@ module _ (setup : Setup) (marks : List Point) (limit : ℕ) (state : TreeState) 
       let nodes =
       count-next state.points placed n (start-present setup state closed.order) (omega arith) placed_present in
       omega (arith, nodes, count-longer placed limit n (omega arith) placed_below)
+
+  -- no node has a number past the limit
+  pub numbers-closed : AreNumberedTo limit state.points
+  numbers-closed zero h = omega arith
+  numbers-closed (suc k) h =
+      let own = (closed.placed k).0 h in
+      let found : state.record_of k ≡ Some own.0 = own.1 in
+      elim (cases_lt k limit) [
+        | inl below ↦ omega (arith, below)
+        | inr past ↦ (let none = closed.records.none_else k past in cc)
+      ]

@@ -59,6 +59,7 @@ pub mod WorkerTurns
 pub mod NextMarks
 pub mod OrderedTrees
 pub mod SameTrees
+pub mod SameReports
 pub mod TextbookStates
 pub mod NearNodes
 pub mod PlacedMarks

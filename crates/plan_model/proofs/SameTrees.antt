@@ -26,6 +26,17 @@ AreSameRuns-trans one other last same again =
       records = λ k. again.records k ∙ same.records k;
     }
 
+-- If one run is the same as another, that is the same as it.
+pub AreSameRuns-sym : (one other : TreeState) → AreSameRuns one other → AreSameRuns other one
+AreSameRuns-sym one other same =
+    let here : (n : ℕ) → IsPresent other.points n → IsPresent one.points n = λ n h. ap is_some (sym (same.points n)) ∙ h in
+    record {
+      points = λ n. sym (same.points n);
+      parents = λ n h. sym (same.parents n (here n h));
+      costs = λ n h. sym (same.costs n (here n h));
+      records = λ k. sym (same.records k);
+    }
+
 -- functions with the same values give the same list
 map-same : {A : Type 0} (f g : ℕ → A) → ((n : ℕ) → f n ≡ g n) → (ns : List ℕ) → map f ns ≡ map g ns
 map-same f g same [] = refl

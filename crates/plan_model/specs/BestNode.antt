@@ -1,5 +1,5 @@
 -- The best node of a tree: the cheapest of those that lie in the goal.
-use Rattle.std.specs.Prelude.{ℕ, ◌&&◌, nat_le, Bool, false, IsTrue, Option, Some, None, List, length, filter}
+use Rattle.std.specs.Prelude.{ℕ, suc, ◌&&◌, nat_le, Bool, false, IsTrue, Option, Some, None, List, filter}
 use Rattle.std.specs.List.{range_with_len}
 use Rattle.plan_model.specs.declared.geometry.Point.{Point}
 use Rattle.plan_model.specs.declared.geometry.Goal.{Goal}
@@ -26,10 +26,10 @@ IsGoalNode scene points n = IsTrue (lies_in_goal scene (point_at points n))
 abbrev pub IsBestNode : Scene → TreeState → ℕ → Type 0
 IsBestNode scene state n = IsFirstLeast (sum_in state) (IsGoalNode scene state.points) n
 
--- the nodes that lie in the goal, in rising number
-abbrev pub goal_nodes : Scene → List (Option Point) → List ℕ
-goal_nodes scene points = filter (λ n. lies_in_goal scene (point_at points n)) (range_with_len 0 (length points))
+-- the nodes from 0 to the limit that lie in the goal, in rising number
+abbrev pub goal_nodes : Scene → ℕ → List (Option Point) → List ℕ
+goal_nodes scene limit points = filter (λ n. lies_in_goal scene (point_at points n)) (range_with_len 0 (suc limit))
 
--- the best node, if there is one
-abbrev pub best_node : Scene → TreeState → Option ℕ
-best_node scene state = first_least (sum_in state) (goal_nodes scene state.points)
+-- the best of the nodes from 0 to the limit, if one lies in the goal
+abbrev pub best_node : Scene → ℕ → TreeState → Option ℕ
+best_node scene limit state = first_least (sum_in state) (goal_nodes scene limit state.points)

@@ -1,5 +1,5 @@
 -- Points by number: where each node of a tree stands. Node 0 is the start, node k + 1 belongs to mark k; a number without a node has no point.
-use Rattle.std.specs.Prelude.{◌≡◌, ℕ, Option, Some, None, IsSome, is_some, unwrap_or, List, count_by, slice_index_or}
+use Rattle.std.specs.Prelude.{◌≡◌, ◌≤◌, ℕ, Option, Some, None, IsSome, is_some, unwrap_or, List, count_by, slice_index_or}
 use Rattle.plan_model.specs.declared.geometry.Point.{Point}
 
 -- where node n stands, if it is present
@@ -25,6 +25,10 @@ IsFree points p = (j : ℕ) → ¬ StandsAt points j p
 -- no two nodes stand at the same point
 abbrev pub AreDistinct : List (Option Point) → Type 0
 AreDistinct points = (i j : ℕ) (p : Point) → StandsAt points i p → StandsAt points j p → i ≡ j
+
+-- no node has a number past the limit
+abbrev pub AreNumberedTo : ℕ → List (Option Point) → Type 0
+AreNumberedTo limit points = (n : ℕ) → IsPresent points n → n ≤ limit
 
 -- how many nodes are present
 abbrev pub node_count : List (Option Point) → ℕ

@@ -1,5 +1,5 @@
 -- The report of a run, as text: lines of words and decimal numbers, each ended by a line feed.
-use Rattle.std.specs.Prelude.{ℕ, Bool, true, false, Option, Some, None, List, [], ◌∷◌, ◌++◌, length, map, reverse, flat_map, codes, decimal}
+use Rattle.std.specs.Prelude.{ℕ, suc, Bool, true, false, Option, Some, None, List, [], ◌∷◌, ◌++◌, length, map, reverse, flat_map, codes, decimal}
 use Rattle.std.specs.List.{range_with_len, join_with_byte}
 use Rattle.plan_model.specs.declared.geometry.Point.{Point}
 use Rattle.plan_model.specs.declared.scenes.Scene.{Scene}
@@ -74,9 +74,9 @@ abbrev pub node_line_if_present : TreeState → ℕ → Option Point → List �
 node_line_if_present state n None = []
 node_line_if_present state n (Some p) = node_line state n p
 
--- a line for each node that is present
-abbrev pub node_lines : TreeState → List ℕ
-node_lines state = flat_map (λ n. node_line_if_present state n (point_at state.points n)) (range_with_len 0 (length state.points))
+-- a line for each node from 0 to the limit that is present
+abbrev pub node_lines : ℕ → TreeState → List ℕ
+node_lines limit state = flat_map (λ n. node_line_if_present state n (point_at state.points n)) (range_with_len 0 (suc limit))
 
 -- what became of a mark, in words
 abbrev pub outcome_words : Record → Outcome → List (List ℕ)
@@ -107,11 +107,11 @@ mark_lines limit state = flat_map (λ k. mark_line_if_recorded k (state.record_o
 -- The short report: the best path, or that there is none, and the counts.
 abbrev pub short_report : Scene → ℕ → TreeState → List ℕ
 short_report scene limit state =
-    (head_line state (best_node scene state) ++ point_lines (best_path state (best_node scene state))) ++ counts_line limit state
+    (head_line state (best_node scene limit state) ++ point_lines (best_path state (best_node scene limit state))) ++ counts_line limit state
 
 -- The full report: the short one, and then a line for each node that is present and for each mark.
 abbrev pub full_report : Scene → ℕ → TreeState → List ℕ
-full_report scene limit state = (short_report scene limit state ++ node_lines state) ++ mark_lines limit state
+full_report scene limit state = (short_report scene limit state ++ node_lines limit state) ++ mark_lines limit state
 
 -- the report, short or full
 abbrev pub report_text : Bool → Scene → ℕ → TreeState → List ℕ
@@ -120,4 +120,4 @@ report_text true scene limit state = full_report scene limit state
 
 -- the short report without the lines of its path's points
 abbrev pub summary : Scene → ℕ → TreeState → List ℕ
-summary scene limit state = head_line state (best_node scene state) ++ counts_line limit state
+summary scene limit state = head_line state (best_node scene limit state) ++ counts_line limit state

@@ -6,7 +6,7 @@ ghost use Rattle.plan_model.specs.ClosedLaw.{IsClosed, mark_at, outcome_count};
 ghost use Rattle.plan_model.specs.HandledMarks.{IsHandledWhole, with_mark};
 ghost use Rattle.plan_model.specs.OrderLaw.{KeepsFirstCosts};
 ghost use Rattle.plan_model.specs.Outcomes.{is_blocked, is_placed, is_same};
-ghost use Rattle.plan_model.specs.PointsByNumber.{IsPresent, node_count};
+ghost use Rattle.plan_model.specs.PointsByNumber.{AreNumberedTo, IsPresent, node_count};
 ghost use Rattle.plan_model.specs.Textbook.{IsTextbookRun, Nodes, Setup};
 ghost use Rattle.plan_model.specs.SameRuns.{IsOfTextbookRun};
 ghost use Rattle.plan_model.specs.TreeStates.{GrowsInto, IsSettled, TreeState, state_of};
@@ -40,8 +40,8 @@ pub fn costs_of_closed_runs_fall()
         → IsClosed setup marks limit state → KeepsFirstCosts setup state }
 {}
 
-/// In a closed run the placed, the same and the blocked marks add up to the limit, and there is a node for
-/// each placed mark beside the start.
+/// In a closed run the placed, the same and the blocked marks add up to the limit, there is a node for each placed mark beside
+/// the start, and no node has a number past the limit.
 pub fn marks_of_closed_runs_add_up()
     ensures outcomes { (setup : Setup) (marks : List Point) (limit : ℕ) (state : TreeState)
         → IsClosed setup marks limit state
@@ -50,6 +50,8 @@ pub fn marks_of_closed_runs_add_up()
     ensures nodes { (setup : Setup) (marks : List Point) (limit : ℕ) (state : TreeState)
         → IsClosed setup marks limit state
         → node_count state.points ≡ suc (outcome_count state.record_of limit is_placed) }
+    ensures numbers { (setup : Setup) (marks : List Point) (limit : ℕ) (state : TreeState)
+        → IsClosed setup marks limit state → AreNumberedTo limit state.points }
 {}
 
 /// If the next mark is handled whole by all that a closed run holds, the run with it is closed, and has grown: its nodes and

@@ -12,6 +12,7 @@ mod lists;
 mod memory_streams;
 mod places;
 mod records;
+mod report_laws;
 mod run_laws;
 mod scenes;
 mod seen_laws;

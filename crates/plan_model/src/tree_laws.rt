@@ -4,7 +4,7 @@ ghost use Rattle.std.specs.Prelude.{◌≡◌, ℕ, suc, ◌+◌, ◌<◌, ◌�
 ghost use Rattle.std.specs.List.{range_with_len};
 ghost use Rattle.plan_model.specs.BestNode.{IsBestNode, IsGoalNode, best_node};
 ghost use Rattle.plan_model.specs.LeastPairs.{IsFirstLeast, IsNotAbove, first_least};
-ghost use Rattle.plan_model.specs.PointsByNumber.{IsPresent};
+ghost use Rattle.plan_model.specs.PointsByNumber.{AreNumberedTo, IsPresent};
 ghost use Rattle.plan_model.specs.TreeStates.{TreeState};
 ghost use Rattle.plan_model.specs.Trees.{AreTightAlong, FallAlong, chain, chain_by, edge_by, sum_by, sum_of};
 ghost use Rattle.plan_model.specs.declared.geometry.Point.{Point};
@@ -38,14 +38,17 @@ pub fn first_least_is_least()
         → first_least key (filter p (range_with_len 0 n)) ≡ None }
 {}
 
-/// The best node is the goal node with the least pair of sum and number; there is none exactly if no node lies in the
-/// goal.
+/// If no node has a number past the limit, the best node is the goal node with the least pair of sum and number; there is none
+/// exactly if no node lies in the goal.
 pub fn best_node_is_best()
-    ensures some { (scene : Scene) (state : TreeState) (n : ℕ) → best_node scene state ≡ Some n → IsBestNode scene state n }
-    ensures from_best { (scene : Scene) (state : TreeState) (n : ℕ) → IsBestNode scene state n → best_node scene state ≡ Some n }
-    ensures none { (scene : Scene) (state : TreeState) → best_node scene state ≡ None → (n : ℕ) → ¬ IsGoalNode scene state.points n }
-    ensures from_none { (scene : Scene) (state : TreeState) → ((n : ℕ) → ¬ IsGoalNode scene state.points n)
-        → best_node scene state ≡ None }
+    ensures some { (scene : Scene) (limit : ℕ) (state : TreeState) (n : ℕ) → AreNumberedTo limit state.points
+        → best_node scene limit state ≡ Some n → IsBestNode scene state n }
+    ensures from_best { (scene : Scene) (limit : ℕ) (state : TreeState) (n : ℕ) → AreNumberedTo limit state.points
+        → IsBestNode scene state n → best_node scene limit state ≡ Some n }
+    ensures none { (scene : Scene) (limit : ℕ) (state : TreeState) → AreNumberedTo limit state.points
+        → best_node scene limit state ≡ None → (n : ℕ) → ¬ IsGoalNode scene state.points n }
+    ensures from_none { (scene : Scene) (limit : ℕ) (state : TreeState) → ((n : ℕ) → ¬ IsGoalNode scene state.points n)
+        → best_node scene limit state ≡ None }
 {}
 
 /// With kept costs that fall along parents, the chain of a node is the node and the chain of its parent.

@@ -27,7 +27,7 @@ use Rattle.planner_main.specs.Exchanges.{Reading, IsUnread}
 pub ReportsGrown-answer :
     (report : Report) (grown : Grown) (done : Done) (text : List ℕ) → grown.limit ≡ length (mark_points grown.task.scene)
     → IsSettled (state_of_grown grown) → done.run ≡ Some grown
-    → done.status ≡ status_of_report (is_some (best_node grown.task.scene (state_of_grown grown)))
+    → done.status ≡ status_of_report (is_some (best_node grown.task.scene grown.limit (state_of_grown grown)))
     → text ≡ report grown.task.scene grown.limit (state_of_grown grown) → ReportsGrown report grown.task.scene grown done text
 ReportsGrown-answer report grown done text whole settled given status written = record {
   given = given;

@@ -56,7 +56,7 @@ pub record ReportsGrown (report : Report) (scene : Scene) (grown : Grown) (done 
   pub whole : grown.limit ≡ length (mark_points scene)
   pub closed : ∥ IsClosed (setup_of scene) (mark_points scene) (length (mark_points scene)) (state_of_grown grown) ∥₁
   pub settled : IsSettled (state_of_grown grown)
-  pub best : done.status ≡ status_of_report (is_some (best_node scene (state_of_grown grown)))
+  pub best : done.status ≡ status_of_report (is_some (best_node scene grown.limit (state_of_grown grown)))
   pub written : text ≡ report scene grown.limit (state_of_grown grown)
 
 -- There is a run that is such a one and the textbook run of the scene.

@@ -253,7 +253,7 @@ fn summary_of(alloc: Global, grown: Grown) -> Result<Answer, Memory>
 /// The answer that a report of a settled run is.
 fn answer_of(grown: Grown, text: Vec<u8>) -> Answer
     requires { IsSettled (state_of_grown grown) }
-    ensures status { result.done.status ≡ status_of_report (is_some (best_node grown.task.scene (state_of_grown grown))) }
+    ensures status { result.done.status ≡ status_of_report (is_some (best_node grown.task.scene grown.limit (state_of_grown grown))) }
     ensures run { result.done.run ≡ Some grown }
     ensures text { result.text ≡ text }
 {

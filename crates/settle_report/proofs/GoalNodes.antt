@@ -1,5 +1,5 @@
 -- The best of the nodes from some number on, one number after another.
-use Rattle.std.proofs.Common.{◌≡◌, ℕ, suc, ◌+◌, true, false, length, filter, Option, Some, refl}
+use Rattle.std.proofs.Common.{◌≡◌, ℕ, suc, ◌+◌, true, false, filter, Option, Some, refl}
 use Rattle.std.specs.List.{range_with_len}
 use Rattle.plan_model.specs.declared.scenes.Scene.{Scene}
 use Rattle.plan_model.specs.BestNode.{best_node, lies_in_goal}
@@ -23,5 +23,5 @@ module _ (scene : Scene) (state : TreeState) where
   best_of-other k next count rest after one_more h = rw (after, one_more, h) refl
 
   -- the best of all numbers is the best node
-  pub best_of-all : (k count : ℕ) → k ≡ 0 → count ≡ length state.points → best_of k count ≡ best_node scene state
-  best_of-all k count first all = rw (first, all) refl
+  pub best_of-all : (limit k count : ℕ) → k ≡ 0 → count ≡ suc limit → best_of k count ≡ best_node scene limit state
+  best_of-all limit k count first all = rw (first, all) refl

@@ -10,19 +10,18 @@ ghost use Rattle.step_core.specs.GrownRuns.{state_of_grown};
 use step_core::Grown;
 
 /// The number of the goal node (a node whose point lies in the closed goal box) with the least cost-to-come, and of those with
-/// the same cost the least number; `None` exactly if no node lies in the goal. O(n) for n marks.
+/// the same cost the least number; `None` exactly if no node lies in the goal. O(n) for n marks below the limit.
 ///
 /// The run is settled, so each kept cost is the cost-to-come, and no path is walked. In a run that is not settled the node
 /// with the least kept cost need not be the best one.
 pub fn best(grown: &Grown) -> Option<u32>
     requires { IsSettled (state_of_grown grown.now) }
-    ensures value { result ≡ best_node grown.now.task.scene (state_of_grown grown.now) }
+    ensures value { result ≡ best_node grown.now.task.scene grown.now.limit (state_of_grown grown.now) }
     ensures present { IfSome result (IsPresent (state_of_grown grown.now).points) }
 {
-    let numbers = grown.task().marks.len() as u32 + 1;
     let mut best: Option<u32> = None;
     // from the last number down, so that of equal costs the lesser number stays
-    for node in (0..numbers).rev() {
+    for node in (0..grown.limit() + 1).rev() {
         if lies_in_goal(grown, node) {
             best = Some(better_node(grown, node, best));
         }

@@ -10,16 +10,17 @@ use plan_model::Point;
 use std::alloc::AllocError;
 use step_core::Grown;
 
-/// A line for each node that is present, in rising number: where it stands, its parent and its cost-to-come. O(n) for n marks.
+/// A line for each node that is present, in rising number: where it stands, its parent and its cost-to-come. O(n) for n marks
+/// below the limit.
 ///
 /// # Errors
 ///
 /// `AllocError` if out of memory for the text.
 pub(crate) fn push_node_lines(text: &mut String, grown: &Grown) -> Result<(), AllocError>
     requires { IsSettled (state_of_grown grown.now) }
-    ensures { OnOk result (string_bytes text.new ≡ string_bytes text.old ++ node_lines (state_of_grown grown.now)) }
+    ensures { OnOk result (string_bytes text.new ≡ string_bytes text.old ++ node_lines grown.now.limit (state_of_grown grown.now)) }
 {
-    for node in 0..grown.task().marks.len() as u32 + 1 {
+    for node in 0..grown.limit() + 1 {
         push_line_if_present(text, grown, node)?;
     }
     Ok(())

@@ -42,7 +42,9 @@ abbrev pub goal_point : Goal
 goal_point = record { low = at 30 40; high = at 30 40 }
 
 pub record ReportVectors : Type 0 where
-  pub best : (scene : Scene) → scene.goal ≡ goal_point → best_node scene (state_of two_nodes one_placed) ≡ Some 1
+  pub best : (scene : Scene) → scene.goal ≡ goal_point → best_node scene 1 (state_of two_nodes one_placed) ≡ Some 1
+  -- a number past the limit is not looked at
+  pub past_the_limit : (scene : Scene) → scene.goal ≡ goal_point → best_node scene 0 (state_of two_nodes one_placed) ≡ None
   pub report :
       (scene : Scene) → scene.goal ≡ goal_point → short_report scene 1 (state_of two_nodes one_placed)
       ≡ codes "path 2 cost 12800\n0 0\n30 40\nnodes 2 placed 1 same 0 blocked 0\n"
@@ -52,8 +54,8 @@ pub record ReportVectors : Type 0 where
   pub left_of_it : is_in_goal (box 1 2 3 4) (at 0 2) ≡ false
   pub above_it : is_in_goal (box 1 2 3 4) (at 3 5) ≡ false
   -- of two nodes with the same sum, the one with the lesser number
-  pub tied : (scene : Scene) → scene.goal ≡ box 30 30 40 40 → best_node scene (state_of two_branches []) ≡ Some 1
-  pub none_reached : (scene : Scene) → scene.goal ≡ box 41 41 50 50 → best_node scene (state_of two_branches []) ≡ None
+  pub tied : (scene : Scene) → scene.goal ≡ box 30 30 40 40 → best_node scene 3 (state_of two_branches []) ≡ Some 1
+  pub none_reached : (scene : Scene) → scene.goal ≡ box 41 41 50 50 → best_node scene 3 (state_of two_branches []) ≡ None
   pub no_path :
       (scene : Scene) → scene.goal ≡ box 41 41 50 50 → short_report scene 1 (state_of two_nodes one_placed)
       ≡ codes "no path\nnodes 2 placed 1 same 0 blocked 0\n"

@@ -11,6 +11,7 @@ pub returns : goal.returns
 unfolding digits
 returns c = record {
   best = λ scene e. rw e refl;
+  past_the_limit = λ scene e. rw e refl;
   report = λ scene e. rw (e, edge) refl;
   low_corner = refl;
   high_corner = refl;

@@ -1,35 +1,33 @@
-use Rattle.std.proofs.Common.{◌≡◌, ℕ, ◌+◌, ◌-◌, length, Some, arith, sym, ap, ◌∙◌}
-use Rattle.std.proofs.lemmas.List.FromFn.{length-map-range_with_len}
+use Rattle.std.proofs.Common.{◌≡◌, ℕ, ◌+◌, ◌-◌, Some, arith, sym, ap, ◌∙◌}
 use Rattle.plan_model.specs.LeastPairs.{lesser}
 use Rattle.plan_model.specs.TreeStates.{sum_in}
 use Rattle.plan_model.proofs.MarkBounds.{length-marks}
 use Rattle.step_core.specs.GrownRuns.{state_of_grown}
-use Rattle.step_core.specs.GrownWords.{node_point, sizes_of, words_of}
+use Rattle.step_core.specs.GrownWords.{words_of}
+use Rattle.step_core.proofs.HeldRuns.{limit-held}
 use Rattle.settle_report.proofs.GoalNodes.{best_of, best_of-goal_node, best_of-other, best_of-all}
 use Rattle.settle_report.proofs.best_node.best.Goals as goal
 
-pub overflow_cast-numbers : goal.overflow_cast-numbers
-overflow_cast-numbers c = omega (arith, length-marks c.task.result.now, c.len.ensures)
-
-pub overflow_add-numbers : goal.overflow_add-numbers
-overflow_add-numbers c = omega (arith, length-marks c.task.result.now, c.len.ensures)
+pub overflow_step-node : goal.overflow_step-node
+overflow_step-node c =
+    let grown = c.args.grown.now in
+    omega (arith, c.limit-node.ensures, limit-held grown.task grown.limit (words_of grown.words.items) grown.hold_run, length-marks grown.task)
 
 pub loop-node-init : goal.loop-node-init
 loop-node-init c =
     let grown = c.args.grown.now in
-    let none : length grown.task.marks + 1 - (c.len.result + 1) ≡ 0 = omega (arith, ap (λ task. length task.marks) c.task.ensures, c.len.ensures) in
-    record { least = sym (ap (best_of grown.task.scene (state_of_grown grown) (c.len.result + 1)) none); present = tt }
+    let none : grown.limit + 1 - (c.limit-node.result + 1) ≡ 0 = omega (arith, c.limit-node.ensures) in
+    record { least = sym (ap (best_of grown.task.scene (state_of_grown grown) (c.limit-node.result + 1)) none); present = tt }
 
 pub loop-node-preserved-then-lies_in_goal : goal.loop-node-preserved-then-lies_in_goal
 loop-node-preserved-then-lies_in_goal c =
     let grown = c.args.grown.now in
     let state = state_of_grown grown in
     let next = c.loop-node.node in
-    let all : ℕ = length grown.task.marks + 1 in
-    let same = ap (λ task. length task.marks) c.task.ensures in
+    let all : ℕ = grown.limit + 1 in
     let here =
     best_of-goal_node grown.task.scene state (next - 1) next (all - (next - 1)) (all - next) (omega arith)
-    (omega (arith, same, c.len.ensures)) (sym c.lies_in_goal.ensures.value ∙ c.if-lies_in_goal.true) in
+    (omega (arith, c.limit-node.ensures)) (sym c.lies_in_goal.ensures.value ∙ c.if-lies_in_goal.true) in
     record {
       least = ap Some (c.better_node.ensures.value ∙ ap (lesser (sum_in state) (next - 1)) c.loop-node.invariant.least) ∙ sym here;
       present = c.better_node.ensures.present;
@@ -39,20 +37,18 @@ pub loop-node-preserved : goal.loop-node-preserved
 loop-node-preserved c =
     let grown = c.args.grown.now in
     let next = c.loop-node.node in
-    let all : ℕ = length grown.task.marks + 1 in
-    let same = ap (λ task. length task.marks) c.task.ensures in
+    let all : ℕ = grown.limit + 1 in
     record {
       least =
           c.loop-node.invariant.least
           ∙ sym (best_of-other grown.task.scene (state_of_grown grown) (next - 1) next (all - (next - 1)) (all - next) (omega arith)
-          (omega (arith, same, c.len.ensures)) (sym c.lies_in_goal.ensures.value ∙ c.if-lies_in_goal.false));
+          (omega (arith, c.limit-node.ensures)) (sym c.lies_in_goal.ensures.value ∙ c.if-lies_in_goal.false));
       present = c.loop-node.invariant.present;
     }
 
 pub returns-clause-value : goal.returns-clause-value
 returns-clause-value c =
     let grown = c.args.grown.now in
-    let numbers = length-map-range_with_len (node_point (sizes_of grown.task) (words_of grown.words.items)) 0 (length grown.task.marks + 1) in
     c.loop-node.invariant.least
-    ∙ best_of-all grown.task.scene (state_of_grown grown) c.loop-node.node (length grown.task.marks + 1 - c.loop-node.node) (omega arith)
-    (omega (arith, numbers))
+    ∙ best_of-all grown.task.scene (state_of_grown grown) grown.limit c.loop-node.node (grown.limit + 1 - c.loop-node.node) (omega arith)
+    (omega arith)

@@ -1,19 +1,18 @@
-use Rattle.std.proofs.Common.{◌≡◌, ◌+◌, ◌++◌, length, string_bytes, arith, ap, ◌∙◌}
+use Rattle.std.proofs.Common.{◌≡◌, suc, ◌+◌, ◌++◌, string_bytes, arith, ap, ◌∙◌}
 use Rattle.std.specs.List.{range_with_len, flat_map}
-use Rattle.std.proofs.lemmas.List.FromFn.{length-map-range_with_len}
 use Rattle.plan_model.specs.PointsByNumber.{point_at}
 use Rattle.plan_model.specs.ReportText.{node_line_if_present}
 use Rattle.plan_model.proofs.MarkBounds.{length-marks}
 use Rattle.step_core.specs.GrownRuns.{state_of_grown}
-use Rattle.step_core.specs.GrownWords.{node_point, sizes_of, words_of}
+use Rattle.step_core.specs.GrownWords.{words_of}
+use Rattle.step_core.proofs.HeldRuns.{limit-held}
 use Rattle.settle_report.proofs.NumberedLines.{lines-pushed}
 use Rattle.settle_report.proofs.node_lines.push_node_lines.Goals as goal
 
-pub overflow_cast-node-end : goal.overflow_cast-node-end
-overflow_cast-node-end c = omega (arith, c.len.ensures, ap (λ t. length t.marks) c.task.ensures, length-marks c.args.grown.now.task)
-
 pub overflow_add-node-end : goal.overflow_add-node-end
-overflow_add-node-end c = omega (arith, c.len.ensures, ap (λ t. length t.marks) c.task.ensures, length-marks c.args.grown.now.task)
+overflow_add-node-end c =
+    let grown = c.args.grown.now in
+    omega (arith, c.limit-node-end.ensures, limit-held grown.task grown.limit (words_of grown.words.items) grown.hold_run, length-marks grown.task)
 
 pub loop-node-preserved : goal.loop-node-preserved
 loop-node-preserved c =
@@ -25,13 +24,7 @@ pub returns : goal.returns
 returns c =
     let grown = c.args.grown.now in
     let state = state_of_grown grown in
-    let all : c.loop-node.node ≡ length state.points =
-    omega (
-      arith,
-      c.len.ensures,
-      ap (λ t. length t.marks) c.task.ensures,
-      length-map-range_with_len (node_point (sizes_of grown.task) (words_of grown.words.items)) 0 (length grown.task.marks + 1),
-    ) in
+    let all : c.loop-node.node ≡ suc grown.limit = omega (arith, c.limit-node-end.ensures) in
     c.loop-node.invariant
     ∙ ap
     (λ n. string_bytes c.args.text.now ++ flat_map (λ n. node_line_if_present state n (point_at state.points n)) (range_with_len 0 n))
