@@ -7,11 +7,11 @@ use Rattle.plan_model.specs.declared.records.Record.{Record}
 use Rattle.plan_model.specs.Cost.{cost_of}
 use Rattle.plan_model.specs.PointsByNumber.{point_at, StandsAt, IsPresent, point_of, IsFree, AreDistinct, node_count}
 use Rattle.plan_model.specs.TreeStates.{TreeState, first_cost_of, GrowsInto}
-use Rattle.plan_model.specs.OrderLaw.{IsAllowedEdge, HangsBelow, most_cost_of, KeepsOrder, KeepsFirstCosts}
+use Rattle.plan_model.specs.OrderLaw.{Hangs, HangsBelow, most_cost_of, KeepsOrder, KeepsFirstCosts}
 use Rattle.plan_model.specs.Textbook.{Setup}
 use Rattle.plan_model.proofs.NewNodes.{IsPresent-stands, StandsAt-present, StandsAt-unique}
 use Rattle.plan_model.proofs.NodeCounts.{node_count-one_more}
-use Rattle.plan_model.proofs.OrderLaws.{most_cost_of-le, HangsBelow-at, start-present}
+use Rattle.plan_model.proofs.OrderLaws.{most_cost_of-le, Hangs-later, Hangs-grows, HangsBelow-at, start-present}
 
 -- all present nodes keep their points, parents, costs and first costs, and all records stand
 pub record KeepsPresent (before after : TreeState) : Type 0 where
@@ -20,18 +20,15 @@ pub record KeepsPresent (before after : TreeState) : Type 0 where
   pub first_costs : (i : ℕ) → IsPresent before.points i → first_cost_of after i ≡ first_cost_of before i
   pub records : (k : ℕ) (entry : Record) → before.record_of k ≡ Some entry → after.record_of k ≡ Some entry
 
--- Node n is added at p, a free point, below node f over an allowed edge. It is placed at a cost within the bound, which is at least
--- what node f costs and the edge.
+-- Node n is added at p, a free point, where it may hang below node f at its cost, which is within the bound.
 pub record AddsNode (setup : Setup) (before after : TreeState) (n f : ℕ) (p : Point) : Type 0 where
   pub kept : KeepsPresent before after
   pub elsewhere : (i : ℕ) → i ≢ n → point_at after.points i ≡ point_at before.points i
   pub absent : ¬ IsPresent before.points n
   pub stands : StandsAt after.points n p
   pub free : IsFree before.points p
-  pub parent_present : IsPresent before.points f
-  pub edge : IsAllowedEdge setup (point_of before.points f) p
   pub parent : after.parent n ≡ f
-  pub above : before.cost f + cost_of (point_of before.points f) p ≤ after.cost n
+  pub hangs : Hangs setup before n p f (after.cost n)
   pub within : after.cost n ≤ most_cost_of setup (suc (node_count before.points))
   pub first_cost : first_cost_of after n ≡ after.cost n
 
@@ -73,26 +70,18 @@ module _ (setup : Setup) (before after : TreeState) (n f : ℕ) (p : Point) (cha
   -- the new node hangs below its parent
   new_hangs : HangsBelow setup after n
   new_hangs =
-      HangsBelow-at setup after n f (point_of before.points f) p (record {
-        parent = change.parent;
-        above = still_stands f change.parent_present;
-        here = change.stands;
-        other = present_apart f change.parent_present;
-        edge = change.edge;
-        cost = omega (arith, change.kept.costs f change.parent_present, change.above);
-      })
+      HangsBelow-at setup after n p f change.stands change.parent
+      (Hangs-grows setup before after GrowsInto-adds n p f (after.cost n) change.hangs)
 
   -- and the others as before
   old_hangs : (i : ℕ) → IsPresent before.points i → HangsBelow setup before i → HangsBelow setup after i
   old_hangs i h old =
-      HangsBelow-at setup after i (before.parent i) (point_of before.points (before.parent i)) (point_of before.points i) (record {
-        parent = change.kept.parents i h;
-        above = still_stands (before.parent i) old.parent;
-        here = still_stands i h;
-        other = old.other;
-        edge = old.edge;
-        cost = omega (arith, change.kept.costs i h, change.kept.costs (before.parent i) old.parent, old.cost);
-      })
+      let m : ℕ = before.parent i in
+      let p : Point = point_of before.points i in
+      let enough : after.cost m + cost_of (point_of before.points m) p ≤ after.cost i =
+      omega (arith, change.kept.costs i h, change.kept.costs m old.present, old.above) in
+      HangsBelow-at setup after i p m (still_stands i h) (change.kept.parents i h)
+      (Hangs-later setup before after i p m (before.cost i) (after.cost i) (still_stands m old.present) enough old)
 
   -- the bound of the longer tree is no less
   bound_rises : most_cost_of setup (node_count before.points) ≤ most_cost_of setup (node_count after.points)

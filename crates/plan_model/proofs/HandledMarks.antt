@@ -14,7 +14,7 @@ use Rattle.plan_model.specs.Clearance.{Clear}
 use Rattle.plan_model.specs.Cost.{cost_of}
 use Rattle.plan_model.specs.PointsByNumber.{IsPresent, point_of}
 use Rattle.plan_model.specs.TreeStates.{TreeState, recorded_or, first_cost_of, GrowsInto}
-use Rattle.plan_model.specs.OrderLaw.{IsAllowedEdge}
+use Rattle.plan_model.specs.OrderLaw.{IsAllowedEdge, Hangs}
 use Rattle.plan_model.specs.Outcomes.{is_placed}
 use Rattle.plan_model.specs.ClosedLaw.{mark_at, IsClosed}
 use Rattle.plan_model.specs.HandledMarks.{with_record, with_node, is_among, with_moved, with_outcome, with_mark}
@@ -24,7 +24,7 @@ use Rattle.plan_model.proofs.CostLaws.{cost_of-swap}
 use Rattle.plan_model.proofs.SegmentLaws.{Clear-back}
 use Rattle.plan_model.proofs.NewNodes.{IsPresent-stands, point_of-stands}
 use Rattle.plan_model.proofs.TreeStateLaws.{point_of-grows, GrowsInto-trans}
-use Rattle.plan_model.proofs.OrderLaws.{cost-within_more}
+use Rattle.plan_model.proofs.OrderLaws.{Hangs-cheaper, cost-within_more}
 use Rattle.plan_model.proofs.AddedNodes.{AddsNode, GrowsInto-adds, KeepsOrder-adds, KeepsFirstCosts-adds}
 use Rattle.plan_model.proofs.LoweredCosts.{AddsRecord, LowersCosts, GrowsInto-lowered, KeepsOrder-lowered, KeepsFirstCosts-lowered}
 use Rattle.plan_model.proofs.MovedNodes.{MovesBelow, MovesNodes, LowersCosts-moves}
@@ -33,7 +33,7 @@ use Rattle.plan_model.proofs.ClosedLaws.{KeepsFirstCosts-closed}
 use Rattle.plan_model.proofs.NextRecords.{RecordsMark, still_recorded}
 use Rattle.plan_model.proofs.WorkerTurns.{turns_of-next, turns_of-other}
 use Rattle.plan_model.proofs.NextMarks.{EndsLawfully, record-absent, node-absent, IsClosed-next, EndsLawfully-unplaced}
-use Rattle.plan_model.proofs.PlacedMarks.{ChoosesParent, LeavesPlaced, parent-reachable, parent-allowed, EndsLawfully-placed}
+use Rattle.plan_model.proofs.PlacedMarks.{ChoosesParent, LeavesPlaced, parent-reachable, parent-allowed, parent-hangs, EndsLawfully-placed}
 
 -- ---- numbers of a list
 
@@ -120,10 +120,9 @@ module _
           absent = node-absent setup marks k state closed;
           stands = get_or-set_same state.points (suc k) (Some p) None room;
           free = placed.free;
-          parent_present = reachable.present;
-          edge = edge;
           parent = cond-true (eqb (suc k) (suc k)) f (state.parent (suc k)) (eq-eqb (suc k) (suc k) refl);
-          above = omega (arith, new_cost, placed.cost);
+          hangs =
+              subst (Hangs setup state (suc k) p f) (sym new_cost) (parent-hangs setup marks k state after mark entry p closed chooses);
           within = omega (arith, new_cost, placed.cost, cost-within_more setup state closed.order f p reachable.present edge);
           first_cost = ap (recorded_or (with_it.written_cost (suc k))) records.recorded ∙ sym new_cost;
         }
@@ -163,17 +162,20 @@ module _
         let from_p : IsAllowedEdge setup p (point_of state.points i) =
         record { clear = cheaper.clear; short = omega (arith, reachable.short, back) } in
         let to_it = subst (λ q. IsAllowedEdge setup p q) (sym same) from_p in
+        let less : after.cost i < with_it.cost i =
+        omega (arith, moved_cost i e reachable.present, cheaper.cheaper, adds.kept.costs i reachable.present) in
         record {
-          edge = subst (λ q. IsAllowedEdge setup q (point_of with_it.points i)) (sym new_point) to_it;
           parent = cond-true (is_among moved i) (suc k) (with_it.parent i) e;
-          above = omega (arith, moved_cost i e reachable.present, new_cost, new_edge i reachable.present);
-          cheaper = omega (arith, moved_cost i e reachable.present, cheaper.cheaper, adds.kept.costs i reachable.present);
+          hangs =
+              Hangs-cheaper setup with_it i (suc k) (after.cost i) (IsPresent-stands with_it.points (suc k) p adds.stands)
+              (subst (λ q. IsAllowedEdge setup q (point_of with_it.points i)) (sym new_point) to_it)
+              (omega (arith, moved_cost i e reachable.present, new_cost, new_edge i reachable.present)) less;
+          cheaper = less;
         }
 
     moves : MovesNodes setup with_it after (suc k) (λ i. is_among moved i)
     moves = record {
       still = record { points = λ n. refl; first_costs = first_costs; records = λ j own h. h };
-      present = IsPresent-stands with_it.points (suc k) p adds.stands;
       moves = λ i e. moves_below i e ((placed.moves i).0 (Contains-is_among moved i e));
       others = λ i e h. record { parent = cond-false (is_among moved i) (suc k) (with_it.parent i) e; cost = kept_cost i e };
     }

@@ -7,11 +7,11 @@ use Rattle.plan_model.specs.declared.records.Record.{Record}
 use Rattle.plan_model.specs.Cost.{cost_of}
 use Rattle.plan_model.specs.PointsByNumber.{point_at, StandsAt, IsPresent, point_of, node_count}
 use Rattle.plan_model.specs.TreeStates.{TreeState, recorded_or, first_cost_of, KeepsOrFalls, GrowsInto}
-use Rattle.plan_model.specs.OrderLaw.{IsAllowedEdge, HangsBelow, most_cost_of, KeepsOrder, KeepsFirstCosts}
+use Rattle.plan_model.specs.OrderLaw.{Hangs, HangsBelow, most_cost_of, KeepsOrder, KeepsFirstCosts}
 use Rattle.plan_model.specs.Textbook.{Setup}
 use Rattle.plan_model.proofs.NewNodes.{StandsAt-present}
 use Rattle.plan_model.proofs.NodeCounts.{node_count-same}
-use Rattle.plan_model.proofs.OrderLaws.{HangsBelow-at, start-present, KeepsOrder-falls}
+use Rattle.plan_model.proofs.OrderLaws.{Hangs-later, HangsBelow-at, start-present, KeepsOrder-falls}
 
 -- all nodes stay where they are with their first costs, and all records stand
 pub record StandsStill (before after : TreeState) : Type 0 where
@@ -35,6 +35,20 @@ pub record LowersCosts (setup : Setup) (before after : TreeState) : Type 0 where
   pub start : after.parent 0 ≡ before.parent 0
   pub none_rises : (n : ℕ) → IsPresent before.points n → after.cost n ≤ before.cost n
   pub nodes : (n : ℕ) → IsPresent before.points (suc n) → FallsWithParent before after (suc n) ⊎ HangsCheaper setup before after (suc n)
+
+-- where no node moves and no cost rises, a node hangs below its parent if it might have before, at its new cost
+pub HangsBelow-still :
+    (setup : Setup) (before after : TreeState) → StandsStill before after
+    → ((m : ℕ) → IsPresent before.points m → after.cost m ≤ before.cost m)
+    → (n parent : ℕ) → IsPresent before.points n → after.parent n ≡ parent
+    → Hangs setup before n (point_of before.points n) parent (after.cost n) → HangsBelow setup after n
+HangsBelow-still setup before after still none_rises n parent here e h =
+    let p : Point = point_of before.points n in
+    let there = still.points parent ∙ StandsAt-present before.points parent h.present in
+    let enough : after.cost parent + cost_of (point_of before.points parent) p ≤ after.cost n =
+    omega (arith, none_rises parent h.present, h.above) in
+    HangsBelow-at setup after n p parent (still.points n ∙ StandsAt-present before.points n here) e
+    (Hangs-later setup before after n p parent (after.cost n) (after.cost n) there enough h)
 
 -- ---- what stays while costs fall
 
@@ -76,14 +90,11 @@ module _ (setup : Setup) (before after : TreeState) (change : LowersCosts setup 
   -- what falls with its parent hangs below it as before
   hangs_falling : (n : ℕ) → IsPresent before.points n → HangsBelow setup before n → FallsWithParent before after n → HangsBelow setup after n
   hangs_falling n here old falls =
-      HangsBelow-at setup after n (before.parent n) (point_of before.points (before.parent n)) (point_of before.points n) (record {
-        parent = falls.parent;
-        above = still_stands (before.parent n) old.parent;
-        here = still_stands n here;
-        other = old.other;
-        edge = old.edge;
-        cost = omega (arith, old.cost, falls.falls);
-      })
+      let m : ℕ = before.parent n in
+      let p : Point = point_of before.points n in
+      let enough : after.cost m + cost_of (point_of before.points m) p ≤ after.cost n = omega (arith, old.above, falls.falls) in
+      HangsBelow-at setup after n p m (still_stands n here) falls.parent
+      (Hangs-later setup before after n p m (before.cost n) (after.cost n) (still_stands m old.present) enough old)
 
   -- the order law stays
   pub KeepsOrder-lowered : KeepsOrder setup before → KeepsOrder setup after
@@ -140,17 +151,14 @@ module _
     falls = omega (arith, others.costs n apart h, none_of_them_rises (before.parent n) parent);
   }
 
--- Node i alone is rewired: it gets node n as its parent over an allowed edge, and a strictly smaller cost that is at least what
--- node n costs and the edge.
+-- Node i alone is rewired: it gets node n as its parent, below which it may hang at its new cost, and that is strictly smaller.
 pub record RewiresNode (setup : Setup) (before after : TreeState) (i n : ℕ) : Type 0 where
   pub still : StandsStill before after
   pub others : KeepsOthers before after i
   pub present : IsPresent before.points i
-  pub parent : IsPresent before.points n
-  pub edge : IsAllowedEdge setup (point_of before.points n) (point_of before.points i)
   pub exchanged : after.parent i ≡ n
+  pub hangs : Hangs setup before i (point_of before.points i) n (after.cost i)
   pub cheaper : after.cost i < before.cost i
-  pub above : before.cost n + cost_of (point_of before.points n) (point_of before.points i) ≤ after.cost i
 
 -- Rewiring one node lowers costs.
 pub LowersCosts-rewires :
@@ -159,30 +167,22 @@ pub LowersCosts-rewires :
 LowersCosts-rewires setup before after i n order change = record {
   still = change.still;
   start = change.others.parents 0 (λ e. omega (arith, ap before.cost e, order.start_cost, change.cheaper)) (start-present setup before order);
-  none_rises = none_of_them_rises setup before after i change.others (λ h. omega (arith, change.cheaper));
+  none_rises = none_rises;
   nodes = λ j h.
       elim (cases_eq (suc j) i) [
         | inl e ↦ inr (subst (HangsCheaper setup before after) (sym e) rewired)
         | inr apart ↦ (
             inl
-            (others_fall setup before after i change.others (λ p. omega (arith, change.cheaper)) (suc j) apart h (order.hangs j h).parent))
+            (others_fall setup before after i change.others (λ p. omega (arith, change.cheaper)) (suc j) apart h (order.hangs j h).present))
       ];
 }
   where
-    other : n ≢ i
-    other e = omega (arith, ap before.cost e, change.above, change.cheaper)
+    none_rises : (m : ℕ) → IsPresent before.points m → after.cost m ≤ before.cost m
+    none_rises = none_of_them_rises setup before after i change.others (λ h. omega (arith, change.cheaper))
 
     rewired : HangsCheaper setup before after i
     rewired = record {
-      hangs =
-          HangsBelow-at setup after i n (point_of before.points n) (point_of before.points i) (record {
-            parent = change.exchanged;
-            above = change.still.points n ∙ StandsAt-present before.points n change.parent;
-            here = change.still.points i ∙ StandsAt-present before.points i change.present;
-            other = other;
-            edge = change.edge;
-            cost = omega (arith, change.others.costs n other change.parent, change.above);
-          });
+      hangs = HangsBelow-still setup before after change.still none_rises i n change.present change.exchanged change.hangs;
       cheaper = change.cheaper;
     }
 
@@ -206,7 +206,7 @@ LowersCosts-lowers setup before after i order change = record {
   nodes = λ j h.
       elim (cases_eq (suc j) i) [
         | inl e ↦ lowered j h e
-        | inr apart ↦ inl (others_fall setup before after i change.others (λ p. change.not_dearer) (suc j) apart h (order.hangs j h).parent)
+        | inr apart ↦ inl (others_fall setup before after i change.others (λ p. change.not_dearer) (suc j) apart h (order.hangs j h).present)
       ];
 }
   where
@@ -229,18 +229,11 @@ LowersCosts-lowers setup before after i order change = record {
     cheaper : (j : ℕ) → IsPresent before.points (suc j) → suc j ≡ i → after.cost (suc j) < before.cost (suc j) → HangsCheaper setup before after (suc j)
     cheaper j h e less =
         let old = order.hangs j h in
-        let m : ℕ = before.parent (suc j) in
-        let parent = none_of_them_rises setup before after i change.others (λ p. change.not_dearer) m old.parent in
+        let none_rises = none_of_them_rises setup before after i change.others (λ p. change.not_dearer) in
+        let at_less : Hangs setup before (suc j) (point_of before.points (suc j)) (before.parent (suc j)) (after.cost (suc j)) =
+        record { present = old.present; other = old.other; edge = old.edge; above = below j e } in
         record {
-          hangs =
-              HangsBelow-at setup after (suc j) m (point_of before.points m) (point_of before.points (suc j)) (record {
-                parent = same_parent (suc j) h;
-                above = change.still.points m ∙ StandsAt-present before.points m old.parent;
-                here = change.still.points (suc j) ∙ StandsAt-present before.points (suc j) h;
-                other = old.other;
-                edge = old.edge;
-                cost = omega (arith, parent, below j e);
-              });
+          hangs = HangsBelow-still setup before after change.still none_rises (suc j) (before.parent (suc j)) h (same_parent (suc j) h) at_less;
           cheaper = less;
         }
 
@@ -250,23 +243,21 @@ LowersCosts-lowers setup before after i order change = record {
           | inl less ↦ inr (cheaper j h e less)
           | inr same ↦ (
               let parent =
-              none_of_them_rises setup before after i change.others (λ p. change.not_dearer) (before.parent (suc j)) (order.hangs j h).parent in
+              none_of_them_rises setup before after i change.others (λ p. change.not_dearer) (before.parent (suc j)) (order.hangs j h).present in
               inl (record { parent = same_parent (suc j) h; falls = omega (arith, same, parent) }))
         ]
 
 -- ---- a branch
 
--- Node i is rewired with its branch: it gets node n as its parent and costs less by `fall`, and every other node less by as much as
--- its parent does.
+-- Node i is rewired with its branch: it gets node n as its parent, below which it may hang at its new cost, and costs less by `fall`,
+-- and every other node less by as much as its parent does.
 pub record RewiresBranch (setup : Setup) (before after : TreeState) (i n fall : ℕ) : Type 0 where
   pub still : StandsStill before after
   pub present : IsPresent before.points i
-  pub parent : IsPresent before.points n
-  pub edge : IsAllowedEdge setup (point_of before.points n) (point_of before.points i)
   pub exchanged : after.parent i ≡ n
+  pub hangs : Hangs setup before i (point_of before.points i) n (after.cost i)
   pub parents : (j : ℕ) → j ≢ i → IsPresent before.points j → after.parent j ≡ before.parent j
   pub some : 0 < fall
-  pub cost : fall + (before.cost n + cost_of (point_of before.points n) (point_of before.points i)) ≤ before.cost i
   pub top : after.cost i + fall ≡ before.cost i
   pub with_parent : (j : ℕ) → IsPresent before.points (suc j) → suc j ≢ i
       → after.cost (suc j) + before.cost (before.parent (suc j)) ≡ before.cost (suc j) + after.cost (before.parent (suc j))
@@ -287,20 +278,9 @@ LowersCosts-branch setup before after i n fall order change = record {
       ];
 }
   where
-    other : n ≢ i
-    other e = omega (arith, ap before.cost e, change.cost, change.some)
-
     rewired : HangsCheaper setup before after i
     rewired = record {
-      hangs =
-          HangsBelow-at setup after i n (point_of before.points n) (point_of before.points i) (record {
-            parent = change.exchanged;
-            above = change.still.points n ∙ StandsAt-present before.points n change.parent;
-            here = change.still.points i ∙ StandsAt-present before.points i change.present;
-            other = other;
-            edge = change.edge;
-            cost = omega (arith, change.none_rises n change.parent, change.cost, change.top);
-          });
+      hangs = HangsBelow-still setup before after change.still change.none_rises i n change.present change.exchanged change.hangs;
       cheaper = omega (arith, change.top, change.some);
     }
 
@@ -327,7 +307,7 @@ LowersCosts-adds_record setup before after k entry order change = record {
   none_rises = λ n h. omega (arith, change.costs n h);
   nodes = λ n h. inl (record {
     parent = change.parents (suc n) h;
-    falls = omega (arith, change.costs (suc n) h, change.costs (before.parent (suc n)) (order.hangs n h).parent);
+    falls = omega (arith, change.costs (suc n) h, change.costs (before.parent (suc n)) (order.hangs n h).present);
   });
 }
   where
@@ -378,7 +358,7 @@ LowersCosts-settles setup before after order change = record {
       elim (cases_lt (after.cost (suc n)) (before.cost (suc n))) [
         | inl less ↦ inr (cheaper n h less)
         | inr same ↦ (
-            let above = none_rises (before.cost (before.parent (suc n))) (before.parent (suc n)) (order.hangs n h).parent (omega arith) in
+            let above = none_rises (before.cost (before.parent (suc n))) (before.parent (suc n)) (order.hangs n h).present (omega arith) in
             inl (record { parent = change.parents (suc n) h; falls = omega (arith, same, above) }))
       ];
 }
@@ -388,23 +368,20 @@ LowersCosts-settles setup before after order change = record {
     none_rises zero (suc n) h l = absurd (omega (arith, KeepsOrder-falls setup before order n h, l))
     none_rises (suc most) (suc n) h l =
         let old = order.hangs n h in
-        let above = none_rises most (before.parent (suc n)) old.parent (omega (arith, KeepsOrder-falls setup before order n h, l)) in
-        omega (arith, above, change.edges n h, old.cost)
+        let above = none_rises most (before.parent (suc n)) old.present (omega (arith, KeepsOrder-falls setup before order n h, l)) in
+        omega (arith, above, change.edges n h, old.above)
 
     cheaper : (n : ℕ) → IsPresent before.points (suc n) → after.cost (suc n) < before.cost (suc n) → HangsCheaper setup before after (suc n)
     cheaper n h less =
         let m : ℕ = before.parent (suc n) in
+        let p : Point = point_of before.points (suc n) in
         let old = order.hangs n h in
+        let there = change.still.points m ∙ StandsAt-present before.points m old.present in
+        let enough : after.cost m + cost_of (point_of before.points m) p ≤ after.cost (suc n) = omega (arith, change.edges n h) in
         record {
           hangs =
-              HangsBelow-at setup after (suc n) m (point_of before.points m) (point_of before.points (suc n)) (record {
-                parent = change.parents (suc n) h;
-                above = change.still.points m ∙ StandsAt-present before.points m old.parent;
-                here = change.still.points (suc n) ∙ StandsAt-present before.points (suc n) h;
-                other = old.other;
-                edge = old.edge;
-                cost = omega (arith, change.edges n h);
-              });
+              HangsBelow-at setup after (suc n) p m (change.still.points (suc n) ∙ StandsAt-present before.points (suc n) h)
+              (change.parents (suc n) h) (Hangs-later setup before after (suc n) p m (before.cost (suc n)) (after.cost (suc n)) there enough old);
           cheaper = less;
         }
 
@@ -425,6 +402,6 @@ LowersCosts-same setup before after order same = record {
   none_rises = λ n h. omega (arith, same.costs n h);
   nodes = λ n h. inl (record {
     parent = same.parents (suc n) h;
-    falls = omega (arith, same.costs (suc n) h, same.costs (before.parent (suc n)) (order.hangs n h).parent);
+    falls = omega (arith, same.costs (suc n) h, same.costs (before.parent (suc n)) (order.hangs n h).present);
   });
 }

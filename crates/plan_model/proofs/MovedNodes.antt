@@ -1,21 +1,17 @@
 -- Several nodes move below one node at once, each at a strictly smaller cost: costs are lowered.
 use Rattle.std.proofs.Common.{◌≡◌, ℕ, suc, ◌+◌, ◌<◌, ◌≤◌, Bool, true, false, arith, ap, ◌∙◌, inl, inr}
 use Rattle.std.proofs.lemmas.Bool.{cases_Bool}
-use Rattle.plan_model.specs.declared.geometry.Point.{Point}
-use Rattle.plan_model.specs.Cost.{cost_of}
 use Rattle.plan_model.specs.PointsByNumber.{IsPresent, point_of}
 use Rattle.plan_model.specs.TreeStates.{TreeState}
-use Rattle.plan_model.specs.OrderLaw.{IsAllowedEdge, KeepsOrder}
+use Rattle.plan_model.specs.OrderLaw.{Hangs, KeepsOrder}
 use Rattle.plan_model.specs.Textbook.{Setup}
-use Rattle.plan_model.proofs.NewNodes.{StandsAt-present}
-use Rattle.plan_model.proofs.OrderLaws.{HangsBelow-at, start-present}
-use Rattle.plan_model.proofs.LoweredCosts.{StandsStill, FallsWithParent, HangsCheaper, LowersCosts}
+use Rattle.plan_model.proofs.OrderLaws.{start-present}
+use Rattle.plan_model.proofs.LoweredCosts.{StandsStill, FallsWithParent, HangsCheaper, LowersCosts, HangsBelow-still}
 
--- Node i gets node n as its parent over an allowed edge, and a strictly smaller cost that is at least what node n costs and the edge.
+-- Node i gets node n as its parent, below which it may hang at its new cost, and that is strictly smaller.
 pub record MovesBelow (setup : Setup) (before after : TreeState) (n i : ℕ) : Type 0 where
-  pub edge : IsAllowedEdge setup (point_of before.points n) (point_of before.points i)
   pub parent : after.parent i ≡ n
-  pub above : before.cost n + cost_of (point_of before.points n) (point_of before.points i) ≤ after.cost i
+  pub hangs : Hangs setup before i (point_of before.points i) n (after.cost i)
   pub cheaper : after.cost i < before.cost i
 
 -- node i keeps its parent and its cost
@@ -23,10 +19,9 @@ pub record StaysAsItWas (before after : TreeState) (i : ℕ) : Type 0 where
   pub parent : after.parent i ≡ before.parent i
   pub cost : after.cost i ≡ before.cost i
 
--- The nodes that pass the test move below node n, which is present, and the other nodes stay as they were.
+-- The nodes that pass the test move below node n, and the other nodes stay as they were.
 pub record MovesNodes (setup : Setup) (before after : TreeState) (n : ℕ) (moved : ℕ → Bool) : Type 0 where
   pub still : StandsStill before after
-  pub present : IsPresent before.points n
   pub moves : (i : ℕ) → moved i ≡ true → MovesBelow setup before after n i
   pub others : (i : ℕ) → moved i ≡ false → IsPresent before.points i → StaysAsItWas before after i
 
@@ -45,14 +40,7 @@ module _
   hangs_cheaper : (i : ℕ) → IsPresent before.points i → MovesBelow setup before after n i → HangsCheaper setup before after i
   hangs_cheaper i here moves = record {
     hangs =
-        HangsBelow-at setup after i n (point_of before.points n) (point_of before.points i) (record {
-          parent = moves.parent;
-          above = change.still.points n ∙ StandsAt-present before.points n change.present;
-          here = change.still.points i ∙ StandsAt-present before.points i here;
-          other = λ e. omega (arith, ap before.cost e, moves.above, moves.cheaper);
-          edge = moves.edge;
-          cost = omega (arith, none_rises n change.present, moves.above);
-        });
+        HangsBelow-still setup before after change.still none_rises i n here moves.parent moves.hangs;
     cheaper = moves.cheaper;
   }
 
@@ -76,6 +64,6 @@ module _
     nodes = λ j h.
         elim (cases_Bool (moved (suc j))) [
           | inl moves ↦ inr (hangs_cheaper (suc j) h (change.moves (suc j) moves))
-          | inr stays ↦ inl (falls_with_parent (suc j) (order.hangs j h).parent (change.others (suc j) stays h))
+          | inr stays ↦ inl (falls_with_parent (suc j) (order.hangs j h).present (change.others (suc j) stays h))
         ];
   }

@@ -6,12 +6,13 @@ use Rattle.plan_model.specs.declared.geometry.Point.{Point}
 use Rattle.plan_model.specs.Geometry.{squared_distance}
 use Rattle.plan_model.specs.Cost.{cost_of}
 use Rattle.plan_model.specs.PointsByNumber.{StandsAt, IsPresent, point_of, AreDistinct, node_count}
-use Rattle.plan_model.specs.TreeStates.{TreeState}
-use Rattle.plan_model.specs.OrderLaw.{IsAllowedEdge, HangsBelow, most_cost_of, KeepsOrder}
+use Rattle.plan_model.specs.TreeStates.{TreeState, GrowsInto}
+use Rattle.plan_model.specs.OrderLaw.{IsAllowedEdge, Hangs, HangsBelow, most_cost_of, KeepsOrder}
 use Rattle.plan_model.specs.Textbook.{Setup}
 use Rattle.plan_model.proofs.RootLaws.{root_ceiling-is}
 use Rattle.plan_model.proofs.KeptCosts.{cost_of-apart}
 use Rattle.plan_model.proofs.NewNodes.{IsPresent-stands, point_of-stands, StandsAt-present, node_count-some}
+use Rattle.plan_model.proofs.TreeStateLaws.{cost-grows}
 
 -- ---- edges
 
@@ -33,28 +34,49 @@ most_cost_of-more setup (suc n) h =
 
 -- ---- below a parent
 
--- Node n stands at b and hangs below node m, which stands at a.
-pub record HangsAt (setup : Setup) (state : TreeState) (n m : ℕ) (a b : Point) : Type 0 where
-  pub parent : state.parent n ≡ m
-  pub above : StandsAt state.points m a
-  pub here : StandsAt state.points n b
-  pub other : m ≢ n
-  pub edge : IsAllowedEdge setup a b
-  pub cost : state.cost m + cost_of a b ≤ state.cost n
-
--- such a node hangs below its parent
-pub HangsBelow-at : (setup : Setup) (state : TreeState) (n m : ℕ) (a b : Point) → HangsAt setup state n m a b → HangsBelow setup state n
-HangsBelow-at setup state n m a b h =
-    let up : point_of state.points (state.parent n) ≡ a = ap (point_of state.points) h.parent ∙ point_of-stands state.points m a h.above in
-    let own : point_of state.points n ≡ b = point_of-stands state.points n b h.here in
-    let edge = subst (λ q. IsAllowedEdge setup a q) (sym own) h.edge in
-    let price = ap (λ q. cost_of q (point_of state.points n)) up ∙ ap (cost_of a) own in
+-- What hangs below a parent still does in a tree where the parent stands where it did, at a cost that is enough there.
+pub Hangs-later :
+    (setup : Setup) (before after : TreeState) (n : ℕ) (p : Point) (parent cost later : ℕ)
+    → StandsAt after.points parent (point_of before.points parent)
+    → after.cost parent + cost_of (point_of before.points parent) p ≤ later
+    → Hangs setup before n p parent cost → Hangs setup after n p parent later
+Hangs-later setup before after n p parent cost later stands enough h =
+    let same = point_of-stands after.points parent (point_of before.points parent) stands in
     record {
-      parent = subst (IsPresent state.points) (sym h.parent) (IsPresent-stands state.points m a h.above);
-      other = λ e. h.other (sym h.parent ∙ e);
-      edge = subst (λ q. IsAllowedEdge setup q (point_of state.points n)) (sym up) edge;
-      cost = omega (arith, ap state.cost h.parent, price, h.cost);
+      present = IsPresent-stands after.points parent (point_of before.points parent) stands;
+      other = h.other;
+      edge = subst (λ a. IsAllowedEdge setup a p) (sym same) h.edge;
+      above = omega (arith, ap (λ a. cost_of a p) same, enough);
     }
+
+-- What was right by the costs at one moment is so ever after, since no cost rises.
+pub Hangs-grows :
+    (setup : Setup) (before after : TreeState) → GrowsInto before after
+    → (n : ℕ) (p : Point) (parent cost : ℕ) → Hangs setup before n p parent cost → Hangs setup after n p parent cost
+Hangs-grows setup before after grows n p parent cost h =
+    let stands = grows.nodes parent (point_of before.points parent) (StandsAt-present before.points parent h.present) in
+    Hangs-later setup before after n p parent cost cost stands (omega (arith, cost-grows before after grows parent h.present, h.above)) h
+
+-- where the cost is less than what node n costs, the parent is another node
+pub Hangs-cheaper :
+    (setup : Setup) (state : TreeState) (n parent cost : ℕ) → IsPresent state.points parent
+    → IsAllowedEdge setup (point_of state.points parent) (point_of state.points n)
+    → state.cost parent + cost_of (point_of state.points parent) (point_of state.points n) ≤ cost → cost < state.cost n
+    → Hangs setup state n (point_of state.points n) parent cost
+Hangs-cheaper setup state n parent cost present edge above cheaper = record {
+  present = present;
+  other = λ e. omega (arith, ap state.cost e, above, cheaper);
+  edge = edge;
+  above = above;
+}
+
+-- a node at p that has this parent, and costs so much, hangs below it
+pub HangsBelow-at :
+    (setup : Setup) (state : TreeState) (n : ℕ) (p : Point) (parent : ℕ) → StandsAt state.points n p → state.parent n ≡ parent
+    → Hangs setup state n p parent (state.cost n) → HangsBelow setup state n
+HangsBelow-at setup state n p parent here e h =
+    let at_p = subst (λ m. Hangs setup state n p m (state.cost n)) (sym e) h in
+    subst (λ q. Hangs setup state n q (state.parent n) (state.cost n)) (sym (point_of-stands state.points n p here)) at_p
 
 -- ---- costs fall along parents
 
@@ -63,7 +85,7 @@ apart_from_parent :
     (setup : Setup) (state : TreeState) (n : ℕ) → AreDistinct state.points → IsPresent state.points n → HangsBelow setup state n
     → point_of state.points (state.parent n) ≢ point_of state.points n
 apart_from_parent setup state n distinct here h e =
-    let above = StandsAt-present state.points (state.parent n) h.parent ∙ ap Some e in
+    let above = StandsAt-present state.points (state.parent n) h.present ∙ ap Some e in
     h.other (distinct (state.parent n) n (point_of state.points n) above (StandsAt-present state.points n here))
 
 -- so it costs strictly less
@@ -73,7 +95,7 @@ pub HangsBelow-falls :
 HangsBelow-falls setup state n distinct here h =
     let edge =
     cost_of-apart (point_of state.points (state.parent n)) (point_of state.points n) (apart_from_parent setup state n distinct here h) in
-    omega (arith, h.cost, edge)
+    omega (arith, h.above, edge)
 
 module _ (setup : Setup) (state : TreeState) (order : KeepsOrder setup state) where
   -- the start is present
@@ -91,7 +113,7 @@ module _ (setup : Setup) (state : TreeState) (order : KeepsOrder setup state) wh
   -- the parent of a present node is present
   pub parent-present : (n : ℕ) → IsPresent state.points n → IsPresent state.points (state.parent n)
   parent-present zero h = subst (IsPresent state.points) (sym order.start_parent) start-present
-  parent-present (suc n) h = (order.hangs n h).parent
+  parent-present (suc n) h = (order.hangs n h).present
 
   -- a node that is reached over an allowed edge costs within the bound of a node more
   pub cost-within_more :

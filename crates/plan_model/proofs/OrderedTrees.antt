@@ -15,7 +15,7 @@ module _ (setup : Setup) (state : TreeState) (order : KeepsOrder setup state) wh
   pub FallAlong-ordered : FallAlong state.cost state.points state.parent
   FallAlong-ordered = record {
     start = start-present setup state order;
-    parent = λ n h. (order.hangs n h).parent;
+    parent = λ n h. (order.hangs n h).present;
     falls = λ n h. KeepsOrder-falls setup state order n h;
   }
 
@@ -32,8 +32,8 @@ module _ (setup : Setup) (state : TreeState) (order : KeepsOrder setup state) wh
   sum_below zero (suc n) h l = absurd (omega (arith, KeepsOrder-falls setup state order n h, l))
   sum_below (suc most) (suc n) h l =
       let old = order.hangs n h in
-      let above = sum_below most (state.parent (suc n)) old.parent (omega (arith, KeepsOrder-falls setup state order n h, l)) in
-      omega (arith, above, sum_in-parent n h, old.cost)
+      let above = sum_below most (state.parent (suc n)) old.present (omega (arith, KeepsOrder-falls setup state order n h, l)) in
+      omega (arith, above, sum_in-parent n h, old.above)
 
   -- no node is kept at less than its sum
   pub sum_in-le_cost : (n : ℕ) → IsPresent state.points n → sum_in state n ≤ state.cost n
@@ -47,5 +47,5 @@ module _ (setup : Setup) (state : TreeState) (order : KeepsOrder setup state) wh
     still = still;
     parents = parents;
     start = sums 0 (start-present setup state order) ∙ sum_in-start;
-    edges = λ n h. omega (arith, sums (suc n) h, sums (state.parent (suc n)) (order.hangs n h).parent, sum_in-parent n h);
+    edges = λ n h. omega (arith, sums (suc n) h, sums (state.parent (suc n)) (order.hangs n h).present, sum_in-parent n h);
   }

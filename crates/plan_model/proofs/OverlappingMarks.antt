@@ -76,9 +76,9 @@ second_third = allowed (at 22 44) (at 40 30) (omega arith) (omega arith) (omega 
 -- ---- the order law
 
 hangs : (n : ℕ) → IsPresent overlapped.points (suc n) → HangsBelow open_setup overlapped (suc n)
-hangs zero h = record { parent = refl; other = λ e. absurd (omega (arith, e)); edge = start_first; cost = omega (arith, to_first) }
-hangs (suc zero) h = record { parent = refl; other = λ e. absurd (omega (arith, e)); edge = start_second; cost = omega (arith, to_second) }
-hangs (suc (suc zero)) h = record { parent = refl; other = λ e. absurd (omega (arith, e)); edge = start_third; cost = omega (arith, to_third) }
+hangs zero h = record { present = refl; other = λ e. absurd (omega (arith, e)); edge = start_first; above = omega (arith, to_first) }
+hangs (suc zero) h = record { present = refl; other = λ e. absurd (omega (arith, e)); edge = start_second; above = omega (arith, to_second) }
+hangs (suc (suc zero)) h = record { present = refl; other = λ e. absurd (omega (arith, e)); edge = start_third; above = omega (arith, to_third) }
 hangs (suc (suc (suc n))) h = cc
 
 bounded : (n : ℕ) → IsPresent overlapped.points n → overlapped.cost n ≤ most_cost_of open_setup (node_count overlapped.points)
@@ -206,11 +206,8 @@ law_1 = record {
     };
     by_tree = record {
       stands = refl;
-      parent = refl;
-      other = λ e. absurd (omega (arith, e));
+      first = record { present = refl; other = λ e. absurd (omega (arith, e)); edge = start_first; above = omega (arith, to_first) };
       nearest_other = λ e. absurd (omega (arith, e));
-      edge = start_first;
-      above_kept = omega (arith, to_first);
       below_first = omega (arith, to_first);
       below_nearest = omega (arith, to_first);
       bounded = omega arith;
@@ -229,11 +226,8 @@ placed_2 = record {
   };
   by_tree = record {
     stands = refl;
-    parent = refl;
-    other = λ e. absurd (omega (arith, e));
+    first = record { present = refl; other = λ e. absurd (omega (arith, e)); edge = start_second; above = omega (arith, to_second) };
     nearest_other = λ e. absurd (omega (arith, e));
-    edge = start_second;
-    above_kept = omega (arith, to_second);
     below_first = omega (arith, to_second);
     below_nearest = omega (arith, to_second);
     bounded = omega arith;
@@ -261,11 +255,8 @@ law_3 = record {
     };
     by_tree = record {
       stands = refl;
-      parent = refl;
-      other = λ e. absurd (omega (arith, e));
+      first = record { present = refl; other = λ e. absurd (omega (arith, e)); edge = start_third; above = omega (arith, to_third) };
       nearest_other = λ e. absurd (omega (arith, e));
-      edge = start_third;
-      above_kept = omega (arith, to_third);
       below_first = omega (arith, to_third);
       below_nearest = omega (arith, between);
       bounded = omega arith;

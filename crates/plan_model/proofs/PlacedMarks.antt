@@ -12,12 +12,13 @@ use Rattle.plan_model.specs.Nearness.{is_within}
 use Rattle.plan_model.specs.PointsByNumber.{point_at, StandsAt, IsPresent, point_of, node_count}
 use Rattle.plan_model.specs.Radius.{class_of, radius_of, radius_of_class}
 use Rattle.plan_model.specs.TreeStates.{TreeState, recorded_or, first_cost_of, GrowsInto}
-use Rattle.plan_model.specs.OrderLaw.{IsAllowedEdge, KeepsOrder, KeepsFirstCosts}
+use Rattle.plan_model.specs.OrderLaw.{IsAllowedEdge, Hangs, KeepsOrder, KeepsFirstCosts}
 use Rattle.plan_model.specs.RecordLaw.{earlier_count, IsNeighbour, first_cost_through, IsChosenLawfully, HangsLawfully, HasLawfulOutcome}
 use Rattle.plan_model.specs.ClosedLaw.{IsClosed}
 use Rattle.plan_model.specs.HandledMarks.{kept_cost_through}
 use Rattle.plan_model.specs.Textbook.{Setup, near_new, IsCandidate, SteersTo}
 use Rattle.plan_model.proofs.NewNodes.{IsPresent-stands}
+use Rattle.plan_model.proofs.OrderLaws.{Hangs-grows}
 use Rattle.plan_model.proofs.TreeStateLaws.{IsPresent-grows, point_at-grows, point_of-grows, cost-grows, node_count-grows}
 use Rattle.plan_model.proofs.ClosedLaws.{KeepsFirstCosts-closed}
 use Rattle.plan_model.proofs.RecordLaws.{class_of-le}
@@ -51,12 +52,24 @@ module _
   abbrev f : ℕ
   f = entry.first_parent
 
+  not_new : (i : ℕ) → IsPresent before.points i → i ≢ suc k
+  not_new i h e = node-absent setup marks k before closed (subst (IsPresent before.points) e h)
+
   -- the first parent is present, and its edge is allowed
   pub parent-reachable : IsReachable before.points p setup.step f
   parent-reachable = candidate-reachable setup before.points mark entry.nearest p f chooses.steers chooses.parent.member
 
   pub parent-allowed : IsAllowedEdge setup (point_of before.points f) p
   parent-allowed = record { clear = chooses.parent.member.clear; short = parent-reachable.short }
+
+  -- so the node may hang below it at its first cost
+  pub parent-hangs : Hangs setup before (suc k) p f entry.first_cost
+  parent-hangs = record {
+    present = parent-reachable.present;
+    other = not_new f parent-reachable.present;
+    edge = parent-allowed;
+    above = omega (arith, chooses.cost);
+  }
 
   module _ (leaves : LeavesPlaced setup before after k entry p) where
     early : (i : ℕ) → IsNeighbour setup after entry p i → IsPresent before.points i
@@ -123,9 +136,6 @@ module _
     own_first_cost : first_cost_of after (suc k) ≡ entry.first_cost
     own_first_cost = ap (recorded_or (after.written_cost (suc k))) leaves.records.recorded
 
-    not_new : (i : ℕ) → IsPresent before.points i → i ≢ suc k
-    not_new i h e = node-absent setup marks k before closed (subst (IsPresent before.points) e h)
-
     hangs_lawfully : HangsLawfully setup after k entry p
     hangs_lawfully =
         let m : ℕ = entry.nearest in
@@ -134,11 +144,8 @@ module _
         let own = IsPresent-stands after.points (suc k) p leaves.stands in
         record {
           stands = leaves.stands;
-          parent = IsPresent-grows before after leaves.grows f f_here;
-          other = not_new f f_here;
+          first = Hangs-grows setup before after leaves.grows (suc k) p f entry.first_cost parent-hangs;
           nearest_other = not_new m m_here;
-          edge = subst (λ a. IsAllowedEdge setup a p) (sym (same_point f f_here)) parent-allowed;
-          above_kept = omega (arith, cost-grows before after leaves.grows f f_here, same_edge f f_here, chooses.cost);
           below_first = below_candidate f f_here chooses.parent.member;
           below_nearest = below_candidate m m_here (record { among = (0, omega arith, refl); clear = chooses.clear });
           bounded = omega (arith, own_first_cost, leaves.firsts.bounded (suc k) own);

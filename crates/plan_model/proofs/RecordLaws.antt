@@ -15,14 +15,14 @@ use Rattle.plan_model.specs.PointsByNumber.{IsPresent, point_of, node_count}
 use Rattle.plan_model.specs.Radius.{class_of, radius_of_class}
 use Rattle.plan_model.specs.Steering.{steered}
 use Rattle.plan_model.specs.TreeStates.{TreeState, GrowsInto}
-use Rattle.plan_model.specs.OrderLaw.{IsAllowedEdge, most_cost_of}
+use Rattle.plan_model.specs.OrderLaw.{most_cost_of}
 use Rattle.plan_model.specs.RecordLaw.{IsEarlier, IsNeighbour, first_cost_through, IsChosenLawfully, HangsLawfully, IsBlockedLawfully}
 use Rattle.plan_model.specs.RecordLaw.{HasLawfulOutcome, IsLawfulRecord}
 use Rattle.plan_model.specs.Textbook.{Setup}
 use Rattle.plan_model.proofs.ClassLaws.{below_digits}
 use Rattle.plan_model.proofs.EarlierNodes.{HaveSameEarlier, earlier_count-same}
 use Rattle.plan_model.proofs.NewNodes.{IsPresent-stands}
-use Rattle.plan_model.proofs.OrderLaws.{most_cost_of-le}
+use Rattle.plan_model.proofs.OrderLaws.{most_cost_of-le, Hangs-grows}
 use Rattle.plan_model.proofs.TreeStateLaws.{IsPresent-grows, point_at-grows, point_of-grows, StandsAt-before, cost-grows, node_count-grows}
 
 -- more nodes have no smaller class
@@ -96,12 +96,9 @@ module _ (setup : Setup) (before after : TreeState) (grows : GrowsInto before af
       let own = IsPresent-stands before.points (suc k) p h.stands in
       record {
         stands = grows.nodes (suc k) p h.stands;
-        parent = IsPresent-grows before after grows f h.parent;
-        other = h.other;
+        first = Hangs-grows setup before after grows (suc k) p f entry.first_cost h.first;
         nearest_other = h.nearest_other;
-        edge = subst (λ a. IsAllowedEdge setup a p) (sym (same_point f h.parent)) h.edge;
-        above_kept = omega (arith, h.above_kept, cost-grows before after grows f h.parent, same_edge p f h.parent);
-        below_first = omega (arith, h.below_first, same_through p f h.parent);
+        below_first = omega (arith, h.below_first, same_through p f h.first.present);
         below_nearest = omega (arith, h.below_nearest, same_through p entry.nearest nearest);
         bounded = omega (arith, h.bounded, bound_rises);
         kept = omega (arith, h.kept, cost-grows before after grows (suc k) own);

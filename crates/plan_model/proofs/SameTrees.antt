@@ -48,7 +48,7 @@ module _ (setup : Setup) (one other : TreeState) (order : KeepsOrder setup one) 
   chain_within-same (suc most) zero h = refl
   chain_within-same (suc most) (suc n) h =
       ap (λ m. suc n ∷ chain_within most other.parent m) (same.parents (suc n) h)
-      ∙ ap (λ ns. suc n ∷ ns) (chain_within-same most (one.parent (suc n)) (order.hangs n h).parent)
+      ∙ ap (λ ns. suc n ∷ ns) (chain_within-same most (one.parent (suc n)) (order.hangs n h).present)
 
   pub chain_in-same : (n : ℕ) → IsPresent one.points n → chain_in other n ≡ chain_in one n
   chain_in-same n h =

@@ -11,13 +11,13 @@ use Rattle.plan_model.specs.Geometry.{squared_distance}
 use Rattle.plan_model.specs.PointsByNumber.{point_at, StandsAt, IsPresent, point_of}
 use Rattle.plan_model.specs.Trees.{points_of, parent_of, sum_of, edge_of, CostsFall, AreTight}
 use Rattle.plan_model.specs.TreeStates.{first_cost_of, GrowsInto, state_of}
-use Rattle.plan_model.specs.OrderLaw.{IsAllowedEdge, KeepsOrder, KeepsFirstCosts}
+use Rattle.plan_model.specs.OrderLaw.{IsAllowedEdge, Hangs, KeepsOrder, KeepsFirstCosts}
 use Rattle.plan_model.specs.Textbook.{Nodes, Setup, cost_through, IsCheaperThrough, with_parent, RewiresOne, Rewires}
 use Rattle.plan_model.proofs.ChainLaws.{AreTight-sums}
 use Rattle.plan_model.proofs.NewNodes.{StandsAt-present}
 use Rattle.plan_model.proofs.ParentChanges.{HasCheaperParent, points_of-cheaper_parent, IsPresent-cheaper_parent, parent_new, parent_kept, edge_from}
 use Rattle.plan_model.proofs.ParentChanges.{CostsFall-cheaper_parent}
-use Rattle.plan_model.proofs.OrderLaws.{HangsBelow-at}
+use Rattle.plan_model.proofs.OrderLaws.{Hangs-later, HangsBelow-at}
 use Rattle.plan_model.proofs.LoweredCosts.{FallsWithParent, HangsCheaper, LowersCosts, GrowsInto-lowered, KeepsOrder-lowered, KeepsFirstCosts-lowered}
 use Rattle.plan_model.proofs.TreeStateLaws.{cost-grows, GrowsInto-refl, GrowsInto-trans}
 use Rattle.plan_model.proofs.TextbookStates.{CostsFall-ordered, AreTight-ordered}
@@ -119,16 +119,20 @@ module _
       exchanged : (j : ℕ) → suc j ≡ i → IsPresent (points_of tree) (suc j) → HangsCheaper setup (state_of tree records) (state_of after records) (suc j)
       exchanged j e h =
           let here = ap (λ k. cost_of (point_of (points_of tree) n) (point_of (points_of tree) k)) e in
+          let p : Point = point_of (points_of tree) (suc j) in
+          let by_sum : Hangs setup (state_of tree records) (suc j) p n (sum_of tree n + cost_of (point_of (points_of tree) n) p) =
+          record {
+            present = change.parent;
+            other = λ f. new_edge_up (f ∙ e);
+            edge = subst (λ k. IsAllowedEdge setup (point_of (points_of tree) n) (point_of (points_of tree) k)) (sym e) edge;
+            above = omega arith;
+          } in
+          let enough : sum_of after n + cost_of (point_of (points_of tree) n) p ≤ sum_of after (suc j) = omega (arith, sum_exchanged j e h) in
           record {
             hangs =
-                HangsBelow-at setup (state_of after records) (suc j) n (point_of (points_of tree) n) (point_of (points_of tree) (suc j)) (record {
-                  parent = has_new_parent (suc j) e;
-                  above = stands n change.parent;
-                  here = stands (suc j) h;
-                  other = λ f. new_edge_up (f ∙ e);
-                  edge = subst (λ k. IsAllowedEdge setup (point_of (points_of tree) n) (point_of (points_of tree) k)) (sym e) edge;
-                  cost = omega (arith, sum_exchanged j e h);
-                });
+                HangsBelow-at setup (state_of after records) (suc j) p n (stands (suc j) h) (has_new_parent (suc j) e)
+                (Hangs-later setup (state_of tree records) (state_of after records) (suc j) p n
+                (sum_of tree n + cost_of (point_of (points_of tree) n) p) (sum_of after (suc j)) (stands n change.parent) enough by_sum);
             cheaper = omega (arith, sum_exchanged j e h, no_sum_rises n change.parent, here, change.cost, change.some, ap (sum_of tree) e);
           }
 

@@ -214,10 +214,13 @@ module _
     absent = node-absent tree records k entry next;
     stands = StandsAt-placed;
     free = places.free;
-    parent_present = places.parent;
-    edge = places.edge;
     parent = parent_of-new tree (suc k) node longer adds;
-    above = omega (arith, sum-placed);
+    hangs = record {
+      present = places.parent;
+      other = present_apart f places.parent;
+      edge = places.edge;
+      above = omega (arith, sum-placed);
+    };
     within = omega (arith, sum-placed, cost-within_more setup (state_of tree records) order f p places.parent places.edge);
     first_cost = ap (recorded_or 0) recorded_next.recorded ∙ places.cost ∙ sym sum-placed;
   }

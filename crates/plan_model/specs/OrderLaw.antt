@@ -13,12 +13,17 @@ pub record IsAllowedEdge (setup : Setup) (a b : Point) : Type 0 where
   pub clear : Clear setup.space a b
   pub short : squared_distance a b ≤ setup.step * setup.step
 
--- Node n hangs below its parent by an allowed edge, and costs at least what its parent costs and the edge.
-pub record HangsBelow (setup : Setup) (state : TreeState) (n : ℕ) : Type 0 where
-  pub parent : IsPresent state.points (state.parent n)
-  pub other : state.parent n ≢ n
-  pub edge : IsAllowedEdge setup (point_of state.points (state.parent n)) (point_of state.points n)
-  pub cost : state.cost (state.parent n) + cost_of (point_of state.points (state.parent n)) (point_of state.points n) ≤ state.cost n
+-- Node n may hang at p below this parent at this cost, whether it is present or not: the parent is another node that is present, the
+-- edge is allowed, and the cost is at least what the parent costs and the edge.
+pub record Hangs (setup : Setup) (state : TreeState) (n : ℕ) (p : Point) (parent cost : ℕ) : Type 0 where
+  pub present : IsPresent state.points parent
+  pub other : parent ≢ n
+  pub edge : IsAllowedEdge setup (point_of state.points parent) p
+  pub above : state.cost parent + cost_of (point_of state.points parent) p ≤ cost
+
+-- node n hangs below the parent that it has, at the cost that it is kept at
+abbrev pub HangsBelow : Setup → TreeState → ℕ → Type 0
+HangsBelow setup state n = Hangs setup state n (point_of state.points n) (state.parent n) (state.cost n)
 
 -- a bound on the costs of a tree with so many nodes: a longest edge for each node after the start
 abbrev pub most_cost_of : Setup → ℕ → ℕ

@@ -14,7 +14,7 @@ use Rattle.plan_model.specs.Radius.{class_of, radius_of_class}
 use Rattle.plan_model.specs.Steering.{steered}
 use Rattle.plan_model.specs.TreeStates.{TreeState, first_cost_of}
 use Rattle.plan_model.specs.Outcomes.{is_placed}
-use Rattle.plan_model.specs.OrderLaw.{IsAllowedEdge, most_cost_of}
+use Rattle.plan_model.specs.OrderLaw.{Hangs, most_cost_of}
 use Rattle.plan_model.specs.Textbook.{Setup}
 
 -- ---- the nodes that the same worker placed earlier
@@ -63,15 +63,12 @@ pub record IsChosenLawfully (setup : Setup) (state : TreeState) (entry : Record)
   pub chosen : (i : ℕ) → IsNeighbour setup state entry p i → entry.first_cost ≤ first_cost_through state p i
   pub rewired : (i : ℕ) → IsNeighbour setup state entry p i → state.cost i ≤ entry.first_cost + cost_of (point_of state.points i) p
 
--- What the tree knows of the node of mark k: it stands at p. The first cost is at least what the first parent costs now and the
--- edge, and at most what that parent, and what the nearest node, was placed at and the edge.
+-- What the tree knows of the node of mark k: it stands at p, and may hang below its first parent at its first cost. That is at most
+-- what this parent, and what the nearest node, was placed at and the edge, and the node costs no more now.
 pub record HangsLawfully (setup : Setup) (state : TreeState) (k : ℕ) (entry : Record) (p : Point) : Type 0 where
   pub stands : StandsAt state.points (suc k) p
-  pub parent : IsPresent state.points entry.first_parent
-  pub other : entry.first_parent ≢ suc k
+  pub first : Hangs setup state (suc k) p entry.first_parent entry.first_cost
   pub nearest_other : entry.nearest ≢ suc k
-  pub edge : IsAllowedEdge setup (point_of state.points entry.first_parent) p
-  pub above_kept : state.cost entry.first_parent + cost_of (point_of state.points entry.first_parent) p ≤ entry.first_cost
   pub below_first : entry.first_cost ≤ first_cost_through state p entry.first_parent
   pub below_nearest : entry.first_cost ≤ first_cost_through state p entry.nearest
   pub bounded : entry.first_cost ≤ most_cost_of setup (node_count state.points)

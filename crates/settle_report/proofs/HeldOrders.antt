@@ -28,7 +28,7 @@ module _ (task : Task) (limit : ℕ) (words : Words) (held : ∥ HoldRun task li
       + edge_by (state_of_words (sizes_of task) words).points (state_of_words (sizes_of task) words).parent n
       ≤ (state_of_words (sizes_of task) words).cost n
   edge-held zero other here = absurd (omega (arith, other))
-  edge-held (suc n) other here = ∥∥₁_elim held le_prop (λ h. (h.closed.order.hangs n here).cost)
+  edge-held (suc n) other here = ∥∥₁_elim held le_prop (λ h. (h.closed.order.hangs n here).above)
 
   -- it costs at least its sum
   pub sum-held :

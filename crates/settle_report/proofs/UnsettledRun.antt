@@ -92,9 +92,9 @@ third_second = allowed (at 40 30) (at 40 79) (omega arith) (omega arith) (omega 
 -- ---- the order law
 
 hangs : (n : ℕ) → IsPresent unsettled.points (suc n) → HangsBelow rrt_setup unsettled (suc n)
-hangs zero h = record { parent = refl; other = λ e. absurd (omega (arith, e)); edge = start_first; cost = omega (arith, from_start) }
-hangs (suc zero) h = record { parent = refl; other = λ e. absurd (omega (arith, e)); edge = third_second; cost = omega (arith, upwards) }
-hangs (suc (suc zero)) h = record { parent = refl; other = λ e. absurd (omega (arith, e)); edge = start_third; cost = omega (arith, to_third) }
+hangs zero h = record { present = refl; other = λ e. absurd (omega (arith, e)); edge = start_first; above = omega (arith, from_start) }
+hangs (suc zero) h = record { present = refl; other = λ e. absurd (omega (arith, e)); edge = third_second; above = omega (arith, upwards) }
+hangs (suc (suc zero)) h = record { present = refl; other = λ e. absurd (omega (arith, e)); edge = start_third; above = omega (arith, to_third) }
 hangs (suc (suc (suc n))) h = cc
 
 bounded : (n : ℕ) → IsPresent unsettled.points n → unsettled.cost n ≤ most_cost_of rrt_setup (node_count unsettled.points)
@@ -204,11 +204,8 @@ law_1 = record {
     };
     by_tree = record {
       stands = refl;
-      parent = refl;
-      other = λ e. absurd (omega (arith, e));
+      first = record { present = refl; other = λ e. absurd (omega (arith, e)); edge = start_first; above = omega (arith, from_start) };
       nearest_other = λ e. absurd (omega (arith, e));
-      edge = start_first;
-      above_kept = omega (arith, from_start);
       below_first = omega (arith, from_start);
       below_nearest = omega (arith, from_start);
       bounded = omega arith;
@@ -230,11 +227,8 @@ law_2 = record {
     };
     by_tree = record {
       stands = refl;
-      parent = refl;
-      other = λ e. absurd (omega (arith, e));
+      first = record { present = refl; other = λ e. absurd (omega (arith, e)); edge = first_second; above = omega (arith, to_second) };
       nearest_other = λ e. absurd (omega (arith, e));
-      edge = first_second;
-      above_kept = omega (arith, to_second);
       below_first = omega (arith, to_second);
       below_nearest = omega (arith, to_second);
       bounded = omega arith;
@@ -256,11 +250,8 @@ law_3 = record {
     };
     by_tree = record {
       stands = refl;
-      parent = refl;
-      other = λ e. absurd (omega (arith, e));
+      first = record { present = refl; other = λ e. absurd (omega (arith, e)); edge = first_third; above = omega (arith, between) };
       nearest_other = λ e. absurd (omega (arith, e));
-      edge = first_third;
-      above_kept = omega (arith, between);
       below_first = omega (arith, between);
       below_nearest = omega (arith, between);
       bounded = omega arith;

@@ -144,6 +144,6 @@ module _
       first : (o : Outcome) → entry.outcome ≡ o
           → HasLawfulOutcome (setup_of task.scene) state k entry (steered (point_of state.points entry.nearest) (mark_at task.marks k) task.scene.step) o
           → (entry.first_parent < 2 ^ 18) × (entry.first_cost < 2 ^ 44)
-      first Placed e h = (small_number entry.first_parent h.by_tree.parent, low_cost entry.first_cost h.by_tree.bounded)
+      first Placed e h = (small_number entry.first_parent h.by_tree.first.present, low_cost entry.first_cost h.by_tree.bounded)
       first (Same j) e h = zeros (λ placed. let gone = sym placed ∙ e in cc)
       first Blocked e h = zeros (λ placed. let gone = sym placed ∙ e in cc)
