@@ -95,7 +95,7 @@ module _ (tree : List (Option Twig)) (node fall : ℕ) (costs now times : ℕ �
         ]
 
     -- nothing is to be lowered any more: the node and its descendants are lowered, and all others keep their costs
-    pub IsBranchLowered-end : IsBranchLowered tree node fall costs now
+    pub IsBranchLowered-end : IsBranchLowered (points_of tree) (parent_of tree) node fall costs now
     IsBranchLowered-end = record {
       top = elim ends.top [ inl fell ↦ fell | inr waits ↦ absurd (omega (arith, waits, none node)) ];
       start = elim (ends.each 0) [ inl kept ↦ kept | inr fell ↦ absurd (omega (arith, (ends.lowered 0 fell).child)) ];

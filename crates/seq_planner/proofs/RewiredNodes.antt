@@ -8,7 +8,7 @@ use Rattle.plan_model.specs.Clearance.{Clear}
 use Rattle.plan_model.specs.ConfigurationSpace.{ConfigurationSpace}
 use Rattle.plan_model.specs.Cost.{cost_of}
 use Rattle.plan_model.specs.PointsByNumber.{IsPresent, point_of, AreDistinct}
-use Rattle.plan_model.specs.Trees.{points_of, sum_of}
+use Rattle.plan_model.specs.Trees.{points_of, parent_of, sum_of}
 use Rattle.plan_model.specs.Textbook.{Nodes, with_parent, cost_through, IsCheaperThrough}
 use Rattle.plan_model.proofs.ParentChanges.{HasCheaperParent, points_of-cheaper_parent, AreTight-cheaper_parent, CostsFall-lowered}
 use Rattle.seq_planner.specs.declared.placed_points.PlacedPoints.{PlacedPoints}
@@ -92,7 +92,7 @@ module _ (nodes : Nodes) (costs : List ℕ) (placed : PlacedPoints) (n i through
 pub IsSound-rewired :
     (nodes after : Nodes) (costs later : List ℕ) (placed : PlacedPoints) (n i fall : ℕ) → IsSound nodes costs placed
     → HasCheaperParent (λ m. get_or costs m 0) nodes i n fall after
-    → IsBranchLowered after i fall (λ m. get_or costs m 0) (λ m. get_or later m 0) → length later ≡ length costs → IsSound after later placed
+    → IsBranchLowered (points_of after) (parent_of after) i fall (λ m. get_or costs m 0) (λ m. get_or later m 0) → length later ≡ length costs → IsSound after later placed
 IsSound-rewired nodes after costs later placed n i fall h change lowered count =
     let before : ℕ → ℕ = λ m. get_or costs m 0 in
     let now : ℕ → ℕ = λ m. get_or later m 0 in

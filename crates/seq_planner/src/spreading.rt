@@ -2,7 +2,7 @@
 
 ghost use Rattle.std.specs.Prelude.{◌≡◌, ◌<◌, ◌≤◌, length, slice_index, OnOk};
 ghost use Rattle.plan_model.specs.PointsByNumber.{IsPresent};
-ghost use Rattle.plan_model.specs.Trees.{CostsFall, points_of};
+ghost use Rattle.plan_model.specs.Trees.{CostsFall, parent_of, points_of};
 ghost use Rattle.plan_model.specs.Branches.{IsBranchLowered};
 
 use crate::linked_tree::LinkedTree;
@@ -28,7 +28,8 @@ pub(crate) fn spread(
     requires falling { CostsFall (λ n. slice_index costs.old.items n) tree.now }
     requires some { 0 < fall }
     requires enough { fall ≤ slice_index costs.old.items node }
-    ensures lowered { OnOk result (IsBranchLowered tree.now node fall (λ n. slice_index costs.old.items n) (λ n. slice_index costs.new.items n)) }
+    ensures lowered { OnOk result (IsBranchLowered (points_of tree.now) (parent_of tree.now) node fall
+        (λ n. slice_index costs.old.items n) (λ n. slice_index costs.new.items n)) }
     ensures each { OnOk result (length costs.new.items ≡ length costs.old.items) }
 {
     pending.clear();
