@@ -1,5 +1,5 @@
 -- The nodes that the words of a run hold: each has a number up to that of the last mark, and stands where its point word says, within bounds.
-use Rattle.std.proofs.Common.{◌≡◌, ℕ, zero, suc, ◌+◌, ◌<◌, ◌≤◌, ◌^◌, Bool, true, false, Option, Some, None, refl, arith, sym, ap, ◌∙◌, inl, inr}
+use Rattle.std.proofs.Common.{◌≡◌, ℕ, zero, suc, ◌+◌, ◌<◌, ◌≤◌, ◌^◌, Bool, true, false, Option, Some, None, List, length, refl, arith, sym, ap, ◌∙◌, inl, inr}
 use Rattle.std.specs.Prelude.{is_some, nat_lt, unwrap_or, if◌then◌else◌}
 use Rattle.std.proofs.lemmas.Bool.{cases_lt, cases_Bool, le-ltb, lt-ltb}
 use Rattle.std.proofs.lemmas.List.{get_or_past}
@@ -9,9 +9,12 @@ use Rattle.plan_model.specs.declared.geometry.Point.{Point}
 use Rattle.plan_model.specs.Bounds.{IsBounded}
 use Rattle.plan_model.specs.PointsByNumber.{point_at, StandsAt, IsPresent, node_count}
 use Rattle.plan_model.proofs.NewNodes.{IsPresent-stands}
-use Rattle.step_core.specs.WordPlaces.{Sizes, record_place, first_place, point_place}
+use Rattle.step_core.specs.WordNames.{Words}
+use Rattle.step_core.specs.WordNames.Word.{PointOf, FirstOf, RecordOf}
+use Rattle.step_core.specs.WordPlaces.{Sizes, word_at}
 use Rattle.step_core.specs.Words.{record_of_word, point_in, point_of_word}
-use Rattle.step_core.specs.GrownWords.{Words, record_at, has_placed, has_node, node_point, points_of_words}
+use Rattle.step_core.specs.GrownWords.{record_at, has_placed, has_node, node_point, points_of_words}
+use Rattle.step_core.proofs.WordReads.{word_at-none}
 
 -- an absent point is none
 pub none_some : (o : Option Point) → is_some o ≡ false → o ≡ None
@@ -29,81 +32,95 @@ IsBounded-word word p h = by_test (nat_lt word (2 ^ 63)) h
         let top = ap (λ o. (unwrap_or {T = Point} o (record { x = 0; y = 0 })).y) e in
         record { right = omega (arith, right); top = omega (arith, top) }
 
-module _ (sizes : Sizes) (words : Words) where
-  -- ---- records
-
-  -- the record of a mark is what its two words hold
-  pub record_at-within : (k : ℕ) → k < sizes.marks
-      → record_at sizes words k ≡ record_of_word (words (record_place sizes k)) (words (first_place sizes (suc k)))
-  record_at-within k below =
-      ap
-      (λ b. if b then record_of_word (words (record_place sizes k)) (words (first_place sizes (suc k))) else None)
-      (lt-ltb k sizes.marks below)
-
-  -- a number past the marks has none
-  pub record_at-past : (k : ℕ) → sizes.marks ≤ k → record_at sizes words k ≡ None
-  record_at-past k past =
-      ap
-      (λ b. if b then record_of_word (words (record_place sizes k)) (words (first_place sizes (suc k))) else None)
-      (le-ltb k sizes.marks past)
-
-  -- ---- nodes
-
-  pub has_node-past : (n : ℕ) → sizes.marks < n → has_node sizes words n ≡ false
-  has_node-past zero past = absurd (omega (arith, past))
-  has_node-past (suc k) past = ap has_placed (record_at-past k (omega (arith, past)))
-
+module _ (words : Words) where
   -- an absent node has no point
-  pub node_point-absent : (n : ℕ) → has_node sizes words n ≡ false → node_point sizes words n ≡ None
-  node_point-absent n none = ap (λ b. if b then point_of_word (words (point_place sizes n)) else None) none
+  pub node_point-absent : (n : ℕ) → has_node words n ≡ false → node_point words n ≡ None
+  node_point-absent n none = ap (λ b. if b then point_of_word (words (PointOf n)) else None) none
 
   -- a present one has the point in its point word
-  pub node_point-here : (n : ℕ) → has_node sizes words n ≡ true → node_point sizes words n ≡ point_of_word (words (point_place sizes n))
-  node_point-here n here = ap (λ b. if b then point_of_word (words (point_place sizes n)) else None) here
+  pub node_point-here : (n : ℕ) → has_node words n ≡ true → node_point words n ≡ point_of_word (words (PointOf n))
+  node_point-here n here = ap (λ b. if b then point_of_word (words (PointOf n)) else None) here
+
+  -- a mark whose record is not written has none
+  pub record_at-unwritten : (k : ℕ) → words (RecordOf k) ≡ 0 → record_at words k ≡ None
+  record_at-unwritten k none = ap (λ word. record_of_word word (words (FirstOf (suc k)))) none
+
+module _ (sizes : Sizes) (words : Words) where
+  -- ---- nodes
+
+  length-points : length (points_of_words sizes words) ≡ sizes.marks + 1
+  length-points = length-map-range_with_len (node_point words) 0 (sizes.marks + 1)
 
   -- where a node stands
-  pub point_at-words : (n : ℕ) → point_at (points_of_words sizes words) n ≡ node_point sizes words n
-  point_at-words n =
-      elim (cases_lt n (sizes.marks + 1)) [
-        | inl below ↦ get_or-map-range_with_len (node_point sizes words) 0 (sizes.marks + 1) n n None below (omega arith)
-        | inr past ↦ (
-            get_or_past (points_of_words sizes words) n None
-            (omega (arith, past, length-map-range_with_len (node_point sizes words) 0 (sizes.marks + 1)))
-            ∙ sym (node_point-absent n (has_node-past n (omega (arith, past)))))
+  pub point_at-words : (n : ℕ) → n ≤ sizes.marks → point_at (points_of_words sizes words) n ≡ node_point words n
+  point_at-words n within = get_or-map-range_with_len (node_point words) 0 (sizes.marks + 1) n n None (omega (arith, within)) (omega arith)
+
+  -- a number past that of the last mark's is no node
+  pub point_at-past : (n : ℕ) → sizes.marks < n → point_at (points_of_words sizes words) n ≡ None
+  point_at-past n past = get_or_past (points_of_words sizes words) n None (omega (arith, past, length-points))
+
+  -- nor is one that is absent
+  pub point_at-absent : (n : ℕ) → has_node words n ≡ false → point_at (points_of_words sizes words) n ≡ None
+  point_at-absent n none =
+      elim (cases_lt sizes.marks n) [
+        | inl past ↦ point_at-past n past
+        | inr within ↦ point_at-words n within ∙ node_point-absent words n none
       ]
 
-  -- a node that is present
-  pub has_node-present : (n : ℕ) → IsPresent (points_of_words sizes words) n → has_node sizes words n ≡ true
-  has_node-present n h =
-      elim (cases_Bool (has_node sizes words n)) [
-        | inl here ↦ here
-        | inr none ↦ (let gone = sym h ∙ ap is_some (point_at-words n ∙ node_point-absent n none) in cc)
-      ]
-
-  -- has a number up to that of the last mark's
-  pub has_node-within : (n : ℕ) → has_node sizes words n ≡ true → n ≤ sizes.marks
-  has_node-within n here =
+  -- a node has a number up to that of the last mark's
+  pub present-within : (n : ℕ) → IsPresent (points_of_words sizes words) n → n ≤ sizes.marks
+  present-within n h =
       elim (cases_lt sizes.marks n) [
         | inr within ↦ within
-        | inl past ↦ (let gone = sym here ∙ has_node-past n past in cc)
+        | inl past ↦ (let gone = sym h ∙ ap is_some (point_at-past n past) in cc)
       ]
 
-  pub present-within : (n : ℕ) → IsPresent (points_of_words sizes words) n → n ≤ sizes.marks
-  present-within n h = has_node-within n (has_node-present n h)
+  -- and is present
+  pub has_node-present : (n : ℕ) → IsPresent (points_of_words sizes words) n → has_node words n ≡ true
+  has_node-present n h =
+      elim (cases_Bool (has_node words n)) [
+        | inl here ↦ here
+        | inr none ↦ (let gone = sym h ∙ ap is_some (point_at-absent n none) in cc)
+      ]
 
   -- so there are no more of them
   pub node_count-words : node_count (points_of_words sizes words) ≤ sizes.marks + 1
-  node_count-words =
-      omega (
-        arith,
-        count_by-le-length is_some (points_of_words sizes words),
-        length-map-range_with_len (node_point sizes words) 0 (sizes.marks + 1),
-      )
+  node_count-words = omega (arith, count_by-le-length is_some (points_of_words sizes words), length-points)
 
   -- ---- where they stand
 
-  -- a node stands within bounds
+  -- a node stands where its point word says
+  pub point_of_word-stands : (n : ℕ) (p : Point) → StandsAt (points_of_words sizes words) n p → point_of_word (words (PointOf n)) ≡ Some p
+  point_of_word-stands n p h =
+      let here = IsPresent-stands (points_of_words sizes words) n p h in
+      sym (node_point-here words n (has_node-present n here)) ∙ sym (point_at-words n (present-within n here)) ∙ h
+
+  -- within bounds
   pub IsBounded-stands : (n : ℕ) (p : Point) → StandsAt (points_of_words sizes words) n p → IsBounded p
-  IsBounded-stands n p h =
-      let here = has_node-present n (IsPresent-stands (points_of_words sizes words) n p h) in
-      IsBounded-word (words (point_place sizes n)) p (sym (node_point-here n here) ∙ sym (point_at-words n) ∙ h)
+  IsBounded-stands n p h = IsBounded-word (words (PointOf n)) p (point_of_word-stands n p h)
+
+-- Nodes stand where they did if their words say so.
+pub point_at-same :
+    (sizes : Sizes) (before after : Words) → ((n : ℕ) → n ≤ sizes.marks → node_point after n ≡ node_point before n)
+    → (n : ℕ) → point_at (points_of_words sizes after) n ≡ point_at (points_of_words sizes before) n
+point_at-same sizes before after same n =
+    elim (cases_lt sizes.marks n) [
+      | inl past ↦ point_at-past sizes after n past ∙ sym (point_at-past sizes before n past)
+      | inr within ↦ point_at-words sizes after n within ∙ same n within ∙ sym (point_at-words sizes before n within)
+    ]
+
+-- ---- in the list of a run's words
+
+-- a number past the marks has no record
+pub record_at-past : (sizes : Sizes) (items : List ℕ) (k : ℕ) → sizes.marks ≤ k → record_at (word_at sizes items) k ≡ None
+record_at-past sizes items k past =
+    record_at-unwritten (word_at sizes items) k (word_at-none sizes items (RecordOf k) (λ below. omega (arith, past, below)))
+
+-- nor a node
+pub has_node-within : (sizes : Sizes) (items : List ℕ) (n : ℕ) → has_node (word_at sizes items) n ≡ true → n ≤ sizes.marks
+has_node-within sizes items zero here = omega arith
+has_node-within sizes items (suc k) here =
+    elim (cases_lt k sizes.marks) [
+      | inl below ↦ omega (arith, below)
+      | inr past ↦ (let gone = sym here ∙ ap has_placed (record_at-past sizes items k past) in cc)
+    ]

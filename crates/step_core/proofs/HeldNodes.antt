@@ -1,4 +1,4 @@
--- The nodes of a finished run: the start is one, stands at its place below itself and costs nothing, and none is past the limit.
+-- The nodes of a closed run: the start is one, stands at its place below itself and costs nothing, and none is past the limit.
 use Rattle.std.proofs.Common.{◌≡◌, ℕ, ◌≤◌, Some, sym, ap, ◌∙◌, inl, inr}
 use Rattle.std.specs.Prelude.{Option, unwrap_or}
 use Rattle.std.proofs.Math.Bool.{Bool-set}
@@ -12,7 +12,8 @@ use Rattle.plan_model.specs.Nearness.{distance_to}
 use Rattle.plan_model.specs.PointsByNumber.{StandsAt, IsPresent, point_of, node_count}
 use Rattle.plan_model.proofs.NewNodes.{IsPresent-stands, StandsAt-present, point_of-stands, node_count-some}
 use Rattle.plan_model.proofs.SamePoints.{point_is}
-use Rattle.step_core.specs.GrownWords.{HoldRun, Words, points_of_words, sizes_of, state_of_words}
+use Rattle.step_core.specs.WordNames.{Words}
+use Rattle.step_core.specs.GrownWords.{HoldRun, points_of_words, sizes_of, state_of_words}
 use Rattle.step_core.proofs.GrownPoints.{has_node-present}
 use Rattle.step_core.proofs.HeldRuns.{none_past-held}
 

@@ -1,4 +1,4 @@
--- What the words of a finished run show: the count of its nodes, a record for each mark below its limit, counters and ways.
+-- What the words of a closed run show: the count of its nodes, a record for each mark below its limit, counters and ways.
 use Rattle.std.proofs.Common.{◌≡◌, ℕ, zero, suc, ◌<◌, ◌≤◌, false, length, arith, ap, ◌∙◌}
 use Rattle.std.specs.Prelude.{IsSome}
 use Rattle.std.proofs.Math.Logic.{∥∥₁_elim, ∥∥₁_map}
@@ -9,35 +9,36 @@ use Rattle.plan_model.specs.declared.tasks.Task.{Task}
 use Rattle.plan_model.specs.PointsByNumber.{IsPresent, node_count}
 use Rattle.plan_model.specs.MarkPoints.{quota_of}
 use Rattle.plan_model.specs.Ways.{FollowWays}
-use Rattle.step_core.specs.WordPlaces.{place_of_count, counter_place}
-use Rattle.step_core.specs.GrownWords.{Words, HoldRun, sizes_of, has_placed, has_node, record_at, points_of_words, children_of_words}
+use Rattle.step_core.specs.WordNames.{Words}
+use Rattle.step_core.specs.WordNames.Word.{Count, Counter}
+use Rattle.step_core.specs.GrownWords.{HoldRun, sizes_of, has_placed, has_node, record_at, points_of_words, children_of_words}
 use Rattle.step_core.proofs.KnownWays.{FollowWays-known}
 
 module _ (task : Task) (limit : ℕ) (words : Words) (held : ∥ HoldRun task limit words ∥₁) where
-  pub counted-held : words place_of_count ≡ node_count (points_of_words (sizes_of task) words)
+  pub counted-held : words Count ≡ node_count (points_of_words (sizes_of task) words)
   counted-held = ∥∥₁_elim held (ℕ_set _ _) (λ h. h.counted)
 
-  pub recorded-held : (k : ℕ) → k < limit → IsSome (record_at (sizes_of task) words k)
+  pub recorded-held : (k : ℕ) → k < limit → IsSome (record_at words k)
   recorded-held k below = ∥∥₁_elim held (Bool-set _ _) (λ h. h.closed.records.recorded k below)
 
   pub limit-held : limit ≤ length task.marks
   limit-held = ∥∥₁_elim held le_prop (λ h. h.closed.within)
 
-  -- what is read at the place of the count
-  pub counted-read : (count : ℕ) → count ≡ words place_of_count → count ≡ node_count (points_of_words (sizes_of task) words)
+  -- what is read as the count
+  pub counted-read : (count : ℕ) → count ≡ words Count → count ≡ node_count (points_of_words (sizes_of task) words)
   counted-read count read = read ∙ counted-held
 
   -- no node has a number past the limit
-  pub none_past-held : (n : ℕ) → limit < n → has_node (sizes_of task) words n ≡ false
+  pub none_past-held : (n : ℕ) → limit < n → has_node words n ≡ false
   none_past-held zero past = absurd (omega (arith, past))
   none_past-held (suc k) past = ∥∥₁_elim held (Bool-set _ _) (λ h. ap has_placed (h.closed.records.none_else k (omega (arith, past))))
 
-  pub claimed-held : (g : ℕ) → g < task.scene.strips → words (counter_place g) ≡ quota_of task.scene.strips g limit
+  pub claimed-held : (g : ℕ) → g < task.scene.strips → words (Counter g) ≡ quota_of task.scene.strips g limit
   claimed-held g below = ∥∥₁_elim held (ℕ_set _ _) (λ h. h.claimed g below)
 
   -- if the start is present, each node is where its way leads
   pub ways-held :
       IsPresent (points_of_words (sizes_of task) words) 0
-      → FollowWays (children_of_words (sizes_of task) words) (points_of_words (sizes_of task) words)
+      → FollowWays (children_of_words words) (points_of_words (sizes_of task) words)
   ways-held start =
-      FollowWays-known (children_of_words (sizes_of task) words) (points_of_words (sizes_of task) words) start (∥∥₁_map held (λ h. h.ways))
+      FollowWays-known (children_of_words words) (points_of_words (sizes_of task) words) start (∥∥₁_map held (λ h. h.ways))

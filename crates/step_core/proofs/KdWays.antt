@@ -1,6 +1,6 @@
 -- The way of a point over linked nodes, step by step: where it stands, and where it ends.
-use Rattle.std.proofs.Common.{◌≡◌, ℕ, zero, suc, ◌+◌, ◌-◌, ◌<◌, ◌≤◌, ◌^◌, Bool, true}
-use Rattle.std.proofs.Common.{false, Option, Some, None, arith, refl, sym, ap, ◌∙◌, subst, inl, inr}
+use Rattle.std.proofs.Common.{◌≡◌, ℕ, zero, suc, ◌+◌, ◌-◌, ◌<◌, ◌≤◌, ◌^◌, Bool, List, length}
+use Rattle.std.proofs.Common.{Option, Some, None, arith, refl, sym, ap, ◌∙◌, subst, inl, inr}
 use Rattle.std.specs.Prelude.{◌≢◌, nat_lt, is_some, if◌then◌else◌}
 use Rattle.std.proofs.lemmas.Bool.{cases_lt, cases_Bool, le-ltb, lt-ltb, le-leb}
 use Rattle.std.proofs.lemmas.List.{get_or_past}
@@ -13,11 +13,13 @@ use Rattle.plan_model.specs.Ways.{goes_right, IsOnWay}
 use Rattle.plan_model.specs.Ways.IsOnWay.{begins, goes_on}
 use Rattle.plan_model.proofs.NewNodes.{IsPresent-stands, StandsAt-present}
 use Rattle.plan_model.proofs.WayLengths.{depth_below}
-use Rattle.step_core.specs.WordPlaces.{Sizes, point_place, child_place, word_count}
+use Rattle.step_core.specs.WordNames.{Words}
+use Rattle.step_core.specs.WordNames.Word.{PointOf, ChildOf}
+use Rattle.step_core.specs.WordPlaces.{Sizes, place_of}
 use Rattle.step_core.specs.Words.{if_written, point_in}
-use Rattle.step_core.specs.GrownWords.{Words, node_point, points_of_words, child_of_word, children_of_words}
+use Rattle.step_core.specs.GrownWords.{node_point, points_of_words, child_of_word, children_of_words}
 use Rattle.step_core.specs.KdLinks.{points_below, AreLinkedBelow, IsFreeBelow, EndsAt}
-use Rattle.step_core.proofs.GrownPoints.{node_point-absent, node_point-here, has_node-past, has_node-present, point_at-words, present-within}
+use Rattle.step_core.proofs.GrownPoints.{point_at-words, point_at-past, point_of_word-stands, present-within}
 
 -- ---- words
 
@@ -33,51 +35,40 @@ pub child_of_word-some : (c : ℕ) → c ≢ 0 → child_of_word c ≡ Some c
 child_of_word-some zero other = absurd (other refl)
 child_of_word-some (suc c) other = refl
 
-either_none : {A : Type 0} → (b : Bool) (o : Option A) → o ≡ None → (if b then o else None) ≡ None
-either_none true o h = h
-either_none false o h = refl
-
 module _ (sizes : Sizes) (words : Words) where
   -- the point of a present node is in its word
-  pub point_in-stands : (n : ℕ) (p : Point) → StandsAt (points_of_words sizes words) n p → point_in (words (point_place sizes n)) ≡ p
-  point_in-stands n p h =
-      let here = has_node-present sizes words n (IsPresent-stands (points_of_words sizes words) n p h) in
-      if_written-is (words (point_place sizes n)) (point_in (words (point_place sizes n))) p
-      (sym (node_point-here sizes words n here) ∙ sym (point_at-words sizes words n) ∙ h)
-
-  -- a word of a node names its child
-  pub child-word :
-      (n c : ℕ) (side : Bool) → n ≤ sizes.marks → c ≡ words (child_place sizes n side) → children_of_words sizes words n side ≡ child_of_word c
-  child-word n c side within e =
-      ap (λ b. if b then child_of_word (words (child_place sizes n side)) else None) (le-leb n sizes.marks within) ∙ ap child_of_word (sym e)
-
--- a child word stands among the words
-pub child_place-within : (sizes : Sizes) (n : ℕ) (side : Bool) → n ≤ sizes.marks → child_place sizes n side < word_count sizes
-child_place-within sizes n false within = omega (arith, within)
-child_place-within sizes n true within = omega (arith, within)
+  pub point_in-stands : (n : ℕ) (p : Point) → StandsAt (points_of_words sizes words) n p → point_in (words (PointOf n)) ≡ p
+  point_in-stands n p h = if_written-is (words (PointOf n)) (point_in (words (PointOf n))) p (point_of_word-stands sizes words n p h)
 
 -- ---- nodes below a number
 
 module _ (sizes : Sizes) (words : Words) (m : ℕ) where
-  pub point_at-below : (n : ℕ) → point_at (points_below sizes words m) n ≡ (if nat_lt n m then node_point sizes words n else None)
-  point_at-below n =
-      elim (cases_lt n (sizes.marks + 1)) [
-        | inl below ↦ (
-            get_or-map-range_with_len (λ i. if nat_lt i m then node_point sizes words i else None) 0 (sizes.marks + 1) n n None below (omega arith))
-        | inr past ↦ (
-            let long = length-map-range_with_len (λ i. if nat_lt i m then node_point sizes words i else None) 0 (sizes.marks + 1) in
-            let none = node_point-absent sizes words n (has_node-past sizes words n (omega (arith, past))) in
-            get_or_past (points_below sizes words m) n None (omega (arith, past, long)) ∙ sym (either_none (nat_lt n m) (node_point sizes words n) none))
-      ]
+  length-below : length (points_below sizes words m) ≡ sizes.marks + 1
+  length-below = length-map-range_with_len (λ i. if nat_lt i m then node_point words i else None) 0 (sizes.marks + 1)
+
+  point_at-below : (n : ℕ) → n ≤ sizes.marks → point_at (points_below sizes words m) n ≡ (if nat_lt n m then node_point words n else None)
+  point_at-below n within =
+      get_or-map-range_with_len (λ i. if nat_lt i m then node_point words i else None) 0 (sizes.marks + 1) n n None (omega (arith, within)) (omega arith)
+
+  below_past : (n : ℕ) → sizes.marks < n → point_at (points_below sizes words m) n ≡ None
+  below_past n past = get_or_past (points_below sizes words m) n None (omega (arith, past, length-below))
 
   -- a lesser number stands as it does
   pub point_at-lesser : (n : ℕ) → n < m → point_at (points_below sizes words m) n ≡ point_at (points_of_words sizes words) n
   point_at-lesser n less =
-      point_at-below n ∙ ap (λ b. if b then node_point sizes words n else None) (lt-ltb n m less) ∙ sym (point_at-words sizes words n)
+      elim (cases_lt sizes.marks n) [
+        | inl past ↦ below_past n past ∙ sym (point_at-past sizes words n past)
+        | inr within ↦ (
+            point_at-below n within ∙ ap (λ b. if b then node_point words n else None) (lt-ltb n m less) ∙ sym (point_at-words sizes words n within))
+      ]
 
   -- a greater one is absent
   pub point_at-greater : (n : ℕ) → m ≤ n → point_at (points_below sizes words m) n ≡ None
-  point_at-greater n past = point_at-below n ∙ ap (λ b. if b then node_point sizes words n else None) (le-ltb n m past)
+  point_at-greater n past =
+      elim (cases_lt sizes.marks n) [
+        | inl beyond ↦ below_past n beyond
+        | inr within ↦ point_at-below n within ∙ ap (λ b. if b then node_point words n else None) (le-ltb n m past)
+      ]
 
   pub present-lesser : (n : ℕ) → IsPresent (points_below sizes words m) n → n < m
   present-lesser n h =
@@ -95,7 +86,7 @@ module _ (sizes : Sizes) (words : Words) (m : ℕ) where
   module _ (q : Point) (linked : AreLinkedBelow sizes words m) (free : IsFreeBelow sizes words m q) where
     pub here_stands :
         (n : ℕ) → IsPresent (points_below sizes words m) n
-        → StandsAt (points_below sizes words m) n (point_in (words (point_place sizes n)))
+        → StandsAt (points_below sizes words m) n (point_in (words (PointOf n)))
     here_stands n h =
         let p : Point = point_of (points_below sizes words m) n in
         let stands = StandsAt-present (points_below sizes words m) n h in
@@ -103,12 +94,12 @@ module _ (sizes : Sizes) (words : Words) (m : ℕ) where
 
     pub here_within : (n : ℕ) → IsPresent (points_below sizes words m) n → n ≤ sizes.marks
     here_within n h =
-        let p : Point = point_in (words (point_place sizes n)) in
+        let p : Point = point_in (words (PointOf n)) in
         present-within sizes words n (IsPresent-stands (points_of_words sizes words) n p (stands-lesser n p (here_stands n h)))
 
 -- Node n stands at this depth on the way of q, and not deeper than there are marks.
 pub record IsReached (sizes : Sizes) (words : Words) (m : ℕ) (q : Point) (depth n : ℕ) : Type 0 where
-  pub way : IsOnWay (children_of_words sizes words) (points_below sizes words m) q depth n
+  pub way : IsOnWay (children_of_words words) (points_below sizes words m) q depth n
   pub here : IsPresent (points_below sizes words m) n
   pub shallow : depth ≤ sizes.marks
 
@@ -117,39 +108,39 @@ module _
   pub IsReached-start : IsReached sizes words m q 0 0
   IsReached-start = record { way = begins; here = linked.start; shallow = omega arith }
 
-  module _ (depth n c : ℕ) (p : Point) (reached : IsReached sizes words m q depth n) (e : p ≡ point_in (words (point_place sizes n)))
-      (read : c ≡ words (child_place sizes n (goes_right depth p q))) where
+  module _ (depth n c : ℕ) (p : Point) (reached : IsReached sizes words m q depth n) (e : p ≡ point_in (words (PointOf n)))
+      (read : c ≡ words (ChildOf n (goes_right depth p q))) where
     stands : StandsAt (points_below sizes words m) n p
     stands = here_stands sizes words m q linked free n reached.here ∙ ap Some (sym e)
 
     apart : p ≢ q
     apart same = free n (stands ∙ ap Some same)
 
-    child_is : children_of_words sizes words n (goes_right depth p q) ≡ child_of_word c
-    child_is = child-word sizes words n c (goes_right depth p q) (here_within sizes words m q linked free n reached.here) read
+    child_is : children_of_words words n (goes_right depth p q) ≡ child_of_word c
+    child_is = ap child_of_word (sym read)
 
-    child_way : c ≢ 0 → IsOnWay (children_of_words sizes words) (points_below sizes words m) q (suc depth) c
+    child_way : c ≢ 0 → IsOnWay (children_of_words words) (points_below sizes words m) q (suc depth) c
     child_way other = goes_on depth n c p reached.way stands apart (child_is ∙ child_of_word-some c other)
 
     -- no way is longer than there are nodes
     pub shallow_child : c ≢ 0 → depth + 1 ≤ sizes.marks
     shallow_child other =
         let below =
-        depth_below (children_of_words sizes words) (points_below sizes words m) linked.ways linked.start q (suc depth) c (child_way other) in
+        depth_below (children_of_words words) (points_below sizes words m) linked.ways linked.start q (suc depth) c (child_way other) in
         omega (
           arith,
           below,
           count_by-le-length is_some (points_below sizes words m),
-          length-map-range_with_len (λ i. if nat_lt i m then node_point sizes words i else None) 0 (sizes.marks + 1),
+          length-below sizes words m,
         )
 
     -- its child is reached next
     pub IsReached-child : c ≢ 0 → IsReached sizes words m q (depth + 1) c
     IsReached-child other =
-        let step : children_of_words sizes words n (goes_right depth p q) ≡ Some c = child_is ∙ child_of_word-some c other in
+        let step : children_of_words words n (goes_right depth p q) ≡ Some c = child_is ∙ child_of_word-some c other in
         let deeper : suc depth ≡ depth + 1 = omega arith in
         record {
-          way = subst (λ d. IsOnWay (children_of_words sizes words) (points_below sizes words m) q d c) deeper (child_way other);
+          way = subst (λ d. IsOnWay (children_of_words words) (points_below sizes words m) q d c) deeper (child_way other);
           here = linked.ways.present n c (goes_right depth p q) step;
           shallow = shallow_child other;
         }
@@ -159,7 +150,7 @@ module _
     less_left other = omega (arith, shallow_child other)
 
     -- if it has none, the way ends there
-    pub EndsAt-here : (place : ℕ) → place ≡ child_place sizes n (goes_right depth p q) → c ≡ 0 → EndsAt sizes words m q place
+    pub EndsAt-here : (place : ℕ) → place ≡ place_of sizes (ChildOf n (goes_right depth p q)) → c ≡ 0 → EndsAt sizes words m q place
     EndsAt-here place found none = record {
       depth = depth;
       above = n;

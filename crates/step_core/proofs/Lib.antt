@@ -4,6 +4,8 @@ pub mod PackedWords
 pub mod PackedRecords
 pub mod GrownPoints
 pub mod WordReads
+pub mod WordKinds
+pub mod KeptWords
 pub mod HeldRuns
 pub mod HeldNodes
 pub mod LoweredWords
@@ -17,6 +19,7 @@ pub mod PackedLists
 pub mod FittingRuns
 pub mod ListedRuns
 pub mod MovedWords
+pub mod NewWords
 pub mod FittingStates
 pub mod KnownWays
 pub mod RecordedMarks

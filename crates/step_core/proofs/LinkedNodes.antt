@@ -8,28 +8,29 @@ use Rattle.plan_model.specs.Ways.{FollowWays}
 use Rattle.plan_model.proofs.NewNodes.{IsPresent-stands}
 use Rattle.plan_model.proofs.WayLinks.{FollowWays-same, FollowWays-start}
 use Rattle.step_core.specs.WordPlaces.{Sizes}
-use Rattle.step_core.specs.GrownWords.{Words, points_of_words, children_of_words}
+use Rattle.step_core.specs.WordNames.{Words}
+use Rattle.step_core.specs.GrownWords.{points_of_words, children_of_words}
 use Rattle.step_core.specs.KdLinks.{points_below, AreLinkedBelow, AreUnlinked, ChangesChildren, LinksRise, MayLink}
 use Rattle.step_core.proofs.GrownPoints.{none_some}
 use Rattle.step_core.proofs.KdWays.{point_at-lesser, point_at-greater, present-lesser}
-use Rattle.step_core.proofs.LinkedWords.{points-children}
+use Rattle.step_core.proofs.KeptWords.{KeepsNodes-children, point_at-kept}
 
 -- The nodes below number m are linked, each below one of a lesser number, and only child words changed so far.
 pub record LinksSoFar (sizes : Sizes) (has : ℕ → Bool) (before words : Words) (m : ℕ) : Type 0 where
   pub linked : AreLinkedBelow sizes words m
-  pub rise : LinksRise (children_of_words sizes words)
-  pub others : ChangesChildren sizes before words
+  pub rise : LinksRise (children_of_words words)
+  pub others : ChangesChildren before words
 
 module _ (sizes : Sizes) (has : ℕ → Bool) (before : Words) (unlinked : AreUnlinked sizes before has) where
   -- the start needs no link
   pub LinksSoFar-start : LinksSoFar sizes has before before 1
   LinksSoFar-start = record {
     linked = record {
-      ways = FollowWays-start (children_of_words sizes before) (points_below sizes before 1) unlinked.no_child alone;
+      ways = FollowWays-start (children_of_words before) (points_below sizes before 1) unlinked.no_child alone;
       start = ap is_some (point_at-lesser sizes before 1 0 (omega arith)) ∙ unlinked.start;
     };
     rise = λ n c side one. let gone = sym one ∙ unlinked.no_child n side in cc;
-    others = λ place apart. refl;
+    others = λ name other. refl;
   }
     where
       alone : (n : ℕ) (q : Point) → StandsAt (points_below sizes before 1) n q → n ≡ 0
@@ -38,7 +39,7 @@ module _ (sizes : Sizes) (has : ℕ → Bool) (before : Words) (unlinked : AreUn
 
   module _ (m : ℕ) (words : Words) (so_far : LinksSoFar sizes has before words m) where
     same_points : (n : ℕ) → point_at (points_of_words sizes words) n ≡ point_at (points_of_words sizes before) n
-    same_points n = ap (λ points. point_at points n) (points-children sizes before words so_far.others)
+    same_points = point_at-kept before words (KeepsNodes-children before words so_far.others) sizes
 
     -- a present node may be linked
     pub MayLink-present : 1 ≤ m → has m ≡ true → MayLink sizes words m
@@ -57,7 +58,7 @@ module _ (sizes : Sizes) (has : ℕ → Bool) (before : Words) (unlinked : AreUn
     LinksSoFar-absent none = record {
       linked = record {
         ways =
-            FollowWays-same (children_of_words sizes words) (children_of_words sizes words) (points_below sizes words m)
+            FollowWays-same (children_of_words words) (children_of_words words) (points_below sizes words m)
             (points_below sizes words (m + 1)) (λ n side. refl) same_below so_far.linked.ways;
         start = ap is_some (same_below 0) ∙ so_far.linked.start;
       };
@@ -78,9 +79,9 @@ module _ (sizes : Sizes) (has : ℕ → Bool) (before : Words) (unlinked : AreUn
             ]
 
     -- after the last number all nodes are linked
-    pub FollowWays-all : ((n : ℕ) → m ≤ n → has n ≡ false) → FollowWays (children_of_words sizes words) (points_of_words sizes words)
+    pub FollowWays-all : ((n : ℕ) → m ≤ n → has n ≡ false) → FollowWays (children_of_words words) (points_of_words sizes words)
     FollowWays-all none_more =
-        FollowWays-same (children_of_words sizes words) (children_of_words sizes words) (points_below sizes words m) (points_of_words sizes words)
+        FollowWays-same (children_of_words words) (children_of_words words) (points_below sizes words m) (points_of_words sizes words)
         (λ n side. refl) same_all so_far.linked.ways
       where
         same_all : (n : ℕ) → point_at (points_of_words sizes words) n ≡ point_at (points_below sizes words m) n
@@ -92,10 +93,10 @@ module _ (sizes : Sizes) (has : ℕ → Bool) (before : Words) (unlinked : AreUn
 
     -- a linked one is linked
     pub LinksSoFar-more :
-        (after : Words) → AreLinkedBelow sizes after (m + 1) → LinksRise (children_of_words sizes after) → ChangesChildren sizes words after
+        (after : Words) → AreLinkedBelow sizes after (m + 1) → LinksRise (children_of_words after) → ChangesChildren words after
         → LinksSoFar sizes has before after (m + 1)
     LinksSoFar-more after linked rise change = record {
       linked = linked;
       rise = rise;
-      others = λ place apart. change place apart ∙ so_far.others place apart;
+      others = λ name other. change name other ∙ so_far.others name other;
     }

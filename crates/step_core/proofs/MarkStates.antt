@@ -21,9 +21,11 @@ use Rattle.plan_model.specs.Outcomes.{is_placed}
 use Rattle.plan_model.specs.Textbook.{setup_of}
 use Rattle.plan_model.specs.TreeStates.{TreeState}
 use Rattle.plan_model.proofs.NewNodes.{IsPresent-stands, StandsAt-present, point_of-stands}
-use Rattle.step_core.specs.WordPlaces.{Sizes, point_place}
+use Rattle.step_core.specs.WordNames.{Words}
+use Rattle.step_core.specs.WordNames.Word.{PointOf}
+use Rattle.step_core.specs.WordPlaces.{Sizes}
 use Rattle.step_core.specs.Words.{point_in}
-use Rattle.step_core.specs.GrownWords.{Words, has_node, node_point, points_of_words, state_of_words, sizes_of}
+use Rattle.step_core.specs.GrownWords.{has_node, node_point, points_of_words, state_of_words, sizes_of}
 use Rattle.step_core.specs.MarkWrites.{cost_below}
 use Rattle.step_core.specs.PackedRuns.{FitsRecord}
 use Rattle.step_core.proofs.FittingStates.{FitsRecord-closed, IsBounded-closed, kept-low}
@@ -88,19 +90,19 @@ FitsRecord-marked task state k entry p moved closed =
 
 module _
     (sizes : Sizes) (before : Words) (k : ℕ) (entry : Record) (p : Point) (moved : List ℕ) (within : k < sizes.marks)
-    (absent : has_node sizes before (suc k) ≡ false)
+    (absent : has_node before (suc k) ≡ false)
     (nodes : (i : ℕ) → is_among moved i ≡ true → IsPresent (points_of_words sizes before) i) where
   abbrev placed : TreeState
   placed = with_placed (state_of_words sizes before) k entry p moved
 
   -- node k + 1 was no node
   pub other-present : (i : ℕ) → IsPresent (points_of_words sizes before) i → i ≢ suc k
-  other-present i h e = let gone = sym (has_node-present sizes before i h) ∙ ap (has_node sizes before) e ∙ absent in cc
+  other-present i h e = let gone = sym (has_node-present sizes before i h) ∙ ap (has_node before) e ∙ absent in cc
 
   pub StandsAt-placed : StandsAt placed.points (suc k) p
   StandsAt-placed =
       get_or-set_same (points_of_words sizes before) (suc k) (Some p) None
-      (omega (arith, within, length-map-range_with_len (node_point sizes before) 0 (sizes.marks + 1)))
+      (omega (arith, within, length-map-range_with_len (node_point before) 0 (sizes.marks + 1)))
 
   -- the others stand where they did
   pub point_at-others : (n : ℕ) → n ≢ suc k → point_at placed.points n ≡ point_at (points_of_words sizes before) n
@@ -110,12 +112,12 @@ module _
   present-still i h = ap is_some (point_at-others i (other-present i h)) ∙ h
 
   -- a moved node costs as much as the new one and the edge
-  pub cost-moved : (i : ℕ) → is_among moved i ≡ true → placed.cost i ≡ cost_below sizes before (knot_of entry p) i
+  pub cost-moved : (i : ℕ) → is_among moved i ≡ true → placed.cost i ≡ cost_below before (knot_of entry p) i
   cost-moved i among =
       let here = nodes i among in
       let q : Point = point_of (points_of_words sizes before) i in
       let stands = StandsAt-present (points_of_words sizes before) i here in
-      let word : point_in (before (point_place sizes i)) ≡ q = point_in-stands sizes before i q stands in
+      let word : point_in (before (PointOf i)) ≡ q = point_in-stands sizes before i q stands in
       let point : point_of placed.points i ≡ q = point_of-stands placed.points i q (point_at-others i (other-present i here) ∙ stands) in
       let own : point_of placed.points (suc k) ≡ p = point_of-stands placed.points (suc k) p StandsAt-placed in
       let kept : ℕ = (state_of_words sizes before).cost (suc k) in
@@ -132,7 +134,7 @@ module _
 
 module _
     (task : Task) (before : Words) (k : ℕ) (entry : Record) (p : Point) (moved : List ℕ) (within : k < length task.marks)
-    (absent : has_node (sizes_of task) before (suc k) ≡ false)
+    (absent : has_node before (suc k) ≡ false)
     (nodes : (i : ℕ) → is_among moved i ≡ true → IsPresent (points_of_words (sizes_of task) before) i)
     (closed :
     ∥ IsClosed (setup_of task.scene) task.marks (suc k) (with_placed (state_of_words (sizes_of task) before) k entry p moved) ∥₁) where
@@ -151,7 +153,7 @@ module _
       (IsBounded-closed task (suc k) after h (suc k) (IsPresent-stands after.points (suc k) p own_stands))))
 
   -- and so do the costs of moved nodes
-  pub cost_below-low : (i : ℕ) → is_among moved i ≡ true → cost_below (sizes_of task) before (knot_of entry p) i < 2 ^ 44
+  pub cost_below-low : (i : ℕ) → is_among moved i ≡ true → cost_below before (knot_of entry p) i < 2 ^ 44
   cost_below-low i among =
       ∥∥₁_elim closed le_prop (λ h.
       let low = kept-low task (suc k) after h i (present-still (sizes_of task) before k entry p moved within absent nodes i (nodes i among)) in

@@ -1,15 +1,14 @@
 -- The words of a run in which nodes are moved below another, one after another: their tree words change, and no other.
-use Rattle.std.proofs.Common.{◌≡◌, ℕ, ◌+◌, ◌<◌, ◌≤◌, Bool, true, false, List, length, take, get_or, arith, refl, sym, ap, ◌∙◌, inl, inr}
-use Rattle.std.specs.Prelude.{◌≢◌, ◌==◌, ◌||◌, slice_set}
+use Rattle.std.proofs.Common.{◌≡◌, ℕ, ◌+◌, ◌<◌, Bool, true, false, List, length, take, get_or, refl, sym, ap, ◌∙◌, subst, inl, inr}
+use Rattle.std.specs.Prelude.{◌≢◌, ◌==◌, ◌||◌}
 use Rattle.std.proofs.lemmas.Bool.{cases_eq, eq-eqb, ne_eqb}
 use Rattle.std.proofs.lemmas.List.Folds.{list_any_more, list_any_kept}
 use Rattle.plan_model.specs.declared.trees.Knot.{Knot}
 use Rattle.plan_model.specs.HandledMarks.{is_among}
-use Rattle.step_core.specs.WordPlaces.{Sizes, point_place, tree_place, word_count}
+use Rattle.step_core.specs.WordNames.{Word, Words, WritesWord}
+use Rattle.step_core.specs.WordNames.Word.{PointOf, TreeOf}
 use Rattle.step_core.specs.Words.{tree_word}
-use Rattle.step_core.specs.GrownWords.{Words, words_of}
-use Rattle.step_core.specs.MarkWrites.{cost_below, MovesNodes}
-use Rattle.step_core.proofs.WordReads.{word-set, word-other}
+use Rattle.step_core.specs.MarkWrites.{cost_below, IsMovedWord, MovesNodes}
 
 or_right : (a b : Bool) → b ≡ true → (a || b) ≡ true
 or_right true b h = refl
@@ -20,11 +19,11 @@ or_left true b h either = refl
 or_left false b h either = let gone = sym either ∙ h in cc
 
 module _
-    (sizes : Sizes) (n : ℕ) (knot : Knot) (moved : List ℕ) (m i : ℕ) (before : Words) (items : List ℕ)
-    (so_far : MovesNodes sizes n knot (take m moved) before (words_of items)) (less : m < length moved) (own : i ≡ get_or moved m 0) where
+    (n : ℕ) (knot : Knot) (moved : List ℕ) (m i : ℕ) (before mid : Words) (so_far : MovesNodes n knot (take m moved) before mid) (less : m < length moved)
+    (own : i ≡ get_or moved m 0) where
   -- a point word is as it was
-  pub point_word-moved : (j : ℕ) → words_of items (point_place sizes j) ≡ before (point_place sizes j)
-  point_word-moved j = so_far.others (point_place sizes j) (λ k among e. omega (arith, e))
+  pub point_word-moved : (j : ℕ) → mid (PointOf j) ≡ before (PointOf j)
+  point_word-moved j = so_far.others (PointOf j) (λ h. h)
 
   among-own : is_among (take (m + 1) moved) i ≡ true
   among-own =
@@ -38,20 +37,18 @@ module _
 
   -- one more is moved
   pub MovesNodes-more :
-      (place word : ℕ) → i ≤ sizes.marks → length items ≡ word_count sizes → place ≡ tree_place sizes i
-      → word ≡ tree_word n (cost_below sizes before knot i)
-      → MovesNodes sizes n knot (take (m + 1) moved) before (words_of (slice_set items place word))
-  MovesNodes-more place word within sized found is = record {
+      (after : Words) → WritesWord (TreeOf i) (tree_word n (cost_below before knot i)) mid after → MovesNodes n knot (take (m + 1) moved) before after
+  MovesNodes-more after writes = record {
     hang = λ k among.
         elim (cases_eq k i) [
           | inl e ↦ (
-              word-set items place (tree_place sizes k) word (omega (arith, within, sized, found)) (omega (arith, found, e)) ∙ is
-              ∙ ap (λ j. tree_word n (cost_below sizes before knot j)) (sym e))
-          | inr apart ↦ (
-              word-other items place (tree_place sizes k) word (λ e. apart (omega (arith, e, found)))
-              ∙ so_far.hang k (among-earlier k apart among))
+              ap (λ j. after (TreeOf j)) e ∙ writes.here ∙ ap (λ j. tree_word n (cost_below before knot j)) (sym e))
+          | inr apart ↦ writes.others (TreeOf k) (λ e. apart (cc)) ∙ so_far.hang k (among-earlier k apart among)
         ];
-    others = λ other apart.
-        word-other items place other word (λ e. apart i among-own (e ∙ found))
-        ∙ so_far.others other (λ k among. apart k (list_any_kept (λ j. j == k) moved m among));
+    others = λ name other. writes.others name (λ e. other (subst (IsMovedWord (take (m + 1) moved)) (sym e) among-own))
+        ∙ so_far.others name (λ is. other (still_moved name is));
   }
+    where
+      still_moved : (name : Word) → IsMovedWord (take m moved) name → IsMovedWord (take (m + 1) moved) name
+      still_moved (TreeOf k) among = list_any_kept (λ j. j == k) moved m among
+      still_moved _ h = absurd h

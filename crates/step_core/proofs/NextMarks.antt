@@ -1,5 +1,5 @@
--- The next mark of a finished run, from what is known of the run: that its fields fit their words, that its node may be linked, and
--- that the run with it is finished.
+-- The next mark of a closed run, from what is known of the run: that its fields fit their words, that its node may be linked, and
+-- that the run with it is closed.
 use Rattle.std.proofs.Common.{◌≡◌, ℕ, suc, ◌+◌, ◌<◌, ◌≤◌, ◌^◌, ◌%◌, true, false, List, length, get_or, refl, arith, sym, ap, ◌∙◌, subst}
 use Rattle.std.specs.Prelude.{All, ◌==◌}
 use Rattle.std.proofs.Math.Logic.{∥∥₁_map₂}
@@ -19,9 +19,11 @@ use Rattle.plan_model.specs.PointsByNumber.{IsPresent}
 use Rattle.plan_model.specs.Outcomes.{is_placed}
 use Rattle.plan_model.specs.Textbook.{setup_of}
 use Rattle.plan_model.specs.TreeStates.{TreeState, AreSameRuns}
-use Rattle.step_core.specs.WordPlaces.{Sizes, place_of_count, counter_place}
+use Rattle.step_core.specs.WordNames.{Words}
+use Rattle.step_core.specs.WordNames.Word.{Count, Counter, PointOf}
+use Rattle.step_core.specs.WordPlaces.{Sizes, word_at}
 use Rattle.step_core.specs.Words.{point_in}
-use Rattle.step_core.specs.GrownWords.{Words, has_node, points_of_words, state_of_words, children_of_words, sizes_of, HoldRun}
+use Rattle.step_core.specs.GrownWords.{has_node, points_of_words, state_of_words, child_of_word, children_of_words, run_words, sizes_of, HoldRun}
 use Rattle.step_core.specs.KdLinks.{AreLinkedBelow, ChangesChildren, KeepsChildren, MayLink}
 use Rattle.step_core.specs.MarkWrites.{MayMove, WritesNewNode}
 use Rattle.step_core.specs.PackedRuns.{FitsNode, FitsRecord}
@@ -31,18 +33,35 @@ use Rattle.step_core.proofs.LinkedMarks.{start_was, MayLink-placed, AreSameRuns-
 use Rattle.step_core.proofs.MarkStates.{knot_of, with_placed, other-present, FitsRecord-marked, IsBounded-placed, cost_below-low}
 use Rattle.step_core.proofs.PackedWritings.{quota_of-le}
 use Rattle.step_core.proofs.PlacedMarks.{PlacesMark, noded-point, child-placed}
-use Rattle.step_core.proofs.RecordedMarks.{RecordsMark, children-kept, count-unrecorded}
+use Rattle.step_core.proofs.RecordedMarks.{RecordsMark, count-unrecorded}
 use Rattle.step_core.proofs.UnplacedMarks.{AreSameRuns-unplaced, children-same, HoldRun-unplaced}
 
 next_number : (k : ℕ) → k + 1 ≡ suc k
 next_number k = omega arith
 
 module _
-    (task : Task) (k : ℕ) (entry : Record) (p : Point) (moved : List ℕ) (sizes : Sizes) (same : sizes ≡ sizes_of task) (before : Words)
-    (run : ∥ HoldRun task k before ∥₁) (left : k < length task.marks)
-    (nodes : All (IsPresent (points_of_words (sizes_of task) before)) moved)
-    (closed :
-    ∥ IsClosed (setup_of task.scene) task.marks (k + 1) (with_mark (state_of_words (sizes_of task) before) k entry p moved) ∥₁) where
+    (task : Task) (k : ℕ) (entry : Record) (p : Point) (moved : List ℕ) (sizes : Sizes) (same : sizes ≡ sizes_of task) (items : List ℕ)
+    (run_was : ∥ HoldRun task k (run_words task items) ∥₁) (left : k < length task.marks)
+    (nodes_were : All (IsPresent (points_of_words (sizes_of task) (run_words task items))) moved)
+    (closed_was :
+    ∥ IsClosed (setup_of task.scene) task.marks (k + 1)
+    (with_mark (state_of_words (sizes_of task) (run_words task items)) k entry p moved) ∥₁) where
+  -- the words by the sizes that the code has
+  abbrev before : Words
+  before = word_at sizes items
+
+  run : ∥ HoldRun task k (word_at sizes items) ∥₁
+  run = subst (λ s. ∥ HoldRun task k (word_at s items) ∥₁) (sym same) run_was
+
+  nodes : All (IsPresent (points_of_words (sizes_of task) (word_at sizes items))) moved
+  nodes = subst (λ s. All (IsPresent (points_of_words (sizes_of task) (word_at s items))) moved) (sym same) nodes_were
+
+  closed : ∥ IsClosed (setup_of task.scene) task.marks (k + 1) (with_mark (state_of_words (sizes_of task) (word_at sizes items)) k entry p moved) ∥₁
+  closed =
+      subst
+      (λ s. ∥ IsClosed (setup_of task.scene) task.marks (k + 1) (with_mark (state_of_words (sizes_of task) (word_at s items)) k entry p moved) ∥₁)
+      (sym same) closed_was
+
   closed_next : ∥ IsClosed (setup_of task.scene) task.marks (suc k) (with_mark (state_of_words (sizes_of task) before) k entry p moved) ∥₁
   closed_next =
       subst
@@ -56,9 +75,9 @@ module _
   FitsRecord-next = FitsRecord-marked task (state_of_words (sizes_of task) before) k entry p moved closed_next
 
   -- no counter stands above the number of marks
-  pub counter-next : before (counter_place (k % sizes.strips)) ≤ k
+  pub counter-next : before (Counter (k % sizes.strips)) ≤ k
   counter-next =
-      subst (λ (s : Sizes). before (counter_place (k % s.strips)) ≤ k) (sym same)
+      subst (λ (s : Sizes). before (Counter (k % s.strips)) ≤ k) (sym same)
       (omega (
         arith,
         claimed-held task k before run (k % task.scene.strips) strip,
@@ -70,17 +89,20 @@ module _
       All-contains (IsPresent (points_of_words (sizes_of task) before)) moved i nodes
       (Contains-from_any {eq = λ x y. y == x} (λ x y h. sym (eqb-true y x h)) i moved among)
 
-  module _ (recorded : Words) (records : RecordsMark sizes k entry before recorded) where
+  module _ (written : List ℕ) (records : RecordsMark sizes k entry (word_at sizes items) (word_at sizes written)) where
+    abbrev recorded : Words
+    recorded = word_at sizes written
+
     records_of_task : RecordsMark (sizes_of task) k entry before recorded
     records_of_task = subst (λ s. RecordsMark s k entry before recorded) same records
 
     -- there are no more nodes than numbers
-    pub count-next : recorded place_of_count ≤ sizes.marks + 1
+    pub count-next : word_at sizes written Count ≤ sizes.marks + 1
     count-next =
-        subst (λ (s : Sizes). recorded place_of_count ≤ s.marks + 1) (sym same)
+        subst (λ (s : Sizes). recorded Count ≤ s.marks + 1) (sym same)
         (omega (
           arith,
-          count-unrecorded (sizes_of task) k entry before recorded records_of_task strip left,
+          count-unrecorded (sizes_of task) k entry before recorded records_of_task,
           counted-held task k before run,
           node_count-words (sizes_of task) before,
         ))
@@ -88,24 +110,34 @@ module _
     -- ---- a mark that was not placed
 
     module _ (unplaced : is_placed entry.outcome ≡ false) where
-      pub AreSameRuns-next_unplaced : AreSameRuns (with_mark (state_of_words (sizes_of task) before) k entry p moved) (state_of_words (sizes_of task) recorded)
+      pub AreSameRuns-next_unplaced :
+          AreSameRuns (with_mark (state_of_words (sizes_of task) (run_words task items)) k entry p moved)
+          (state_of_words (sizes_of task) (run_words task written))
       AreSameRuns-next_unplaced =
-          AreSameRuns-unplaced (sizes_of task) k entry before recorded records_of_task strip left FitsRecord-next
-          (none_past-held task k before run (suc k) (omega arith)) unplaced p moved
+          subst
+          (λ s.
+          AreSameRuns (with_mark (state_of_words (sizes_of task) (word_at s items)) k entry p moved)
+          (state_of_words (sizes_of task) (word_at s written)))
+          same
+          (AreSameRuns-unplaced (sizes_of task) k entry before recorded records_of_task FitsRecord-next
+          (none_past-held task k before run (suc k) (omega arith)) unplaced p moved)
 
-      pub HoldRun-next_unplaced : ∥ HoldRun task (k + 1) recorded ∥₁
+      pub HoldRun-next_unplaced : ∥ HoldRun task (k + 1) (run_words task written) ∥₁
       HoldRun-next_unplaced =
-          subst (λ n. ∥ HoldRun task n recorded ∥₁) (sym (next_number k))
+          subst (λ s. ∥ HoldRun task (k + 1) (word_at s written) ∥₁) same
+          (subst (λ n. ∥ HoldRun task n recorded ∥₁) (sym (next_number k))
           (∥∥₁_map₂ closed_next run
-          (HoldRun-unplaced task k entry p moved before recorded records_of_task strip left FitsRecord-next
-          (none_past-held task k before run (suc k) (omega arith)) unplaced))
+          (HoldRun-unplaced task k entry p moved before recorded records_of_task FitsRecord-next
+          (none_past-held task k before run (suc k) (omega arith)) unplaced)))
 
       -- the kd-tree stays
-      pub KeepsChildren-next_unplaced : KeepsChildren (children_of_words (sizes_of task) before) (children_of_words (sizes_of task) recorded)
-      KeepsChildren-next_unplaced n c side h =
-          children-same (sizes_of task) k entry before recorded records_of_task strip left FitsRecord-next
+      pub KeepsChildren-next_unplaced : KeepsChildren (children_of_words (run_words task items)) (children_of_words (run_words task written))
+      KeepsChildren-next_unplaced =
+          subst (λ s. KeepsChildren (children_of_words (word_at s items)) (children_of_words (word_at s written))) same
+          (λ n c side h.
+          children-same (sizes_of task) k entry before recorded records_of_task FitsRecord-next
           (none_past-held task k before run (suc k) (omega arith)) unplaced n side
-          ∙ h
+          ∙ h)
 
   -- ---- a placed mark
 
@@ -119,7 +151,7 @@ module _
     closed_tree : ∥ IsClosed (setup_of task.scene) task.marks (suc k) tree ∥₁
     closed_tree = subst (λ state. ∥ IsClosed (setup_of task.scene) task.marks (suc k) state ∥₁) tree_is closed_next
 
-    absent : has_node (sizes_of task) before (suc k) ≡ false
+    absent : has_node before (suc k) ≡ false
     absent = none_past-held task k before run (suc k) (omega arith)
 
     pub IsBounded-next : IsBounded p
@@ -137,7 +169,7 @@ module _
 
     module _
         (recorded noded : Words) (records : RecordsMark sizes k entry before recorded)
-        (node : WritesNewNode sizes (k + 1) (knot_of entry p) recorded noded) where
+        (node : WritesNewNode (k + 1) (knot_of entry p) recorded noded) where
       may_move : (i : ℕ) → is_among moved i ≡ true → MayMove (sizes_of task) noded (knot_of entry p) i
       may_move i among =
           let here = present_among i among in
@@ -145,9 +177,7 @@ module _
           let other = other-present (sizes_of task) before k entry p moved left absent present_among i here in
           let point =
           noded-point (sizes_of task) k entry p before recorded noded (subst (λ s. RecordsMark s k entry before recorded) same records)
-          (subst (λ n. WritesNewNode (sizes_of task) n (knot_of entry p) recorded noded) (next_number k)
-          (subst (λ s. WritesNewNode s (k + 1) (knot_of entry p) recorded noded) same node))
-          strip left i other within in
+          (subst (λ n. WritesNewNode n (knot_of entry p) recorded noded) (next_number k) node) i other in
           record {
             within = within;
             cost =
@@ -169,40 +199,47 @@ module _
           subst (λ n. PlacesMark (sizes_of task) k n entry p moved before full) (next_number k)
           (subst (λ s. PlacesMark s k (k + 1) entry p moved before full) same writes)
 
-      none_past : (n : ℕ) → k < n → has_node (sizes_of task) before n ≡ false
+      none_past : (n : ℕ) → k < n → has_node before n ≡ false
       none_past = none_past-held task k before run
 
       -- The new node may be linked.
       pub MayLink-next : MayLink sizes full (k + 1)
       MayLink-next =
-          let start = start_was task k entry p moved before full writes_of_task strip left none_past present_among is closed_tree in
+          let start = start_was task k entry p moved before full writes_of_task left none_past present_among is closed_tree in
           subst (λ s. MayLink s full (k + 1)) (sym same)
           (subst (MayLink (sizes_of task) full) (sym (next_number k))
-          (MayLink-placed task k entry p moved before full writes_of_task strip left none_past present_among is closed_tree
+          (MayLink-placed task k entry p moved before full writes_of_task left none_past present_among is closed_tree
           (ways-held task k before run start)))
 
-      module _ (after : Words) (change : ChangesChildren sizes full after) (linked : AreLinkedBelow sizes after (k + 1 + 1)) where
-        change_of_task : ChangesChildren (sizes_of task) full after
-        change_of_task = subst (λ s. ChangesChildren s full after) same change
+      module _ (last : List ℕ) (change : ChangesChildren full (word_at sizes last)) (linked : AreLinkedBelow sizes (word_at sizes last) (k + 1 + 1)) where
+        abbrev after : Words
+        after = word_at sizes last
 
-        pub AreSameRuns-next_placed : AreSameRuns (with_mark (state_of_words (sizes_of task) before) k entry p moved) (state_of_words (sizes_of task) after)
+        pub AreSameRuns-next_placed :
+            AreSameRuns (with_mark (state_of_words (sizes_of task) (run_words task items)) k entry p moved)
+            (state_of_words (sizes_of task) (run_words task last))
         AreSameRuns-next_placed =
-            subst (λ state. AreSameRuns state (state_of_words (sizes_of task) after)) (sym tree_is)
-            (AreSameRuns-marked task k entry p moved before full writes_of_task strip left none_past present_among is closed_tree after change_of_task)
+            subst
+            (λ s.
+            AreSameRuns (with_mark (state_of_words (sizes_of task) (word_at s items)) k entry p moved) (state_of_words (sizes_of task) (word_at s last)))
+            same
+            (subst (λ state. AreSameRuns state (state_of_words (sizes_of task) after)) (sym tree_is)
+            (AreSameRuns-marked task k entry p moved before full writes_of_task left none_past present_among is closed_tree after change))
 
-        pub HoldRun-next_placed : ∥ HoldRun task (k + 1) after ∥₁
+        pub HoldRun-next_placed : ∥ HoldRun task (k + 1) (run_words task last) ∥₁
         HoldRun-next_placed =
-            subst (λ n. ∥ HoldRun task n after ∥₁) (sym (next_number k))
+            subst (λ s. ∥ HoldRun task (k + 1) (word_at s last) ∥₁) same
+            (subst (λ n. ∥ HoldRun task n after ∥₁) (sym (next_number k))
             (∥∥₁_map₂ closed_tree run
-            (HoldRun-placed task k entry p moved before full writes_of_task strip left none_past present_among is closed_tree after change_of_task
-            (k + 1 + 1) (omega arith) (subst (λ s. AreLinkedBelow s after (k + 1 + 1)) same linked)))
+            (HoldRun-placed task k entry p moved before full writes_of_task left none_past present_among is closed_tree after change
+            (k + 1 + 1) (omega arith) (subst (λ s. AreLinkedBelow s after (k + 1 + 1)) same linked))))
 
         -- If the link keeps each child, it is where it was before the mark.
         pub KeepsChildren-next_placed :
-            KeepsChildren (children_of_words sizes full) (children_of_words sizes after)
-            → KeepsChildren (children_of_words (sizes_of task) before) (children_of_words (sizes_of task) after)
-        KeepsChildren-next_placed keeps n c side h =
-            let still =
-            children-kept (sizes_of task) before full
-            (child-placed (sizes_of task) k entry p moved before full writes_of_task strip left absent present_among) n side in
-            subst (λ s. KeepsChildren (children_of_words s full) (children_of_words s after)) same keeps n c side (still ∙ h)
+            KeepsChildren (children_of_words full) (children_of_words (word_at sizes last))
+            → KeepsChildren (children_of_words (run_words task items)) (children_of_words (run_words task last))
+        KeepsChildren-next_placed keeps =
+            subst (λ s. KeepsChildren (children_of_words (word_at s items)) (children_of_words (word_at s last))) same
+            (λ n c side h.
+            let still = ap child_of_word (child-placed (sizes_of task) k entry p moved before full writes_of_task left absent present_among n side) in
+            keeps n c side (still ∙ h))

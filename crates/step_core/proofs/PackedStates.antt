@@ -1,4 +1,4 @@
--- The words that hold the lists of a closed run are those of a finished run, and have the same tree and records.
+-- The words that hold the lists of a closed run are those of a closed run, and have the same tree and records.
 use Rattle.std.proofs.Common.{◌≡◌, ℕ, zero, suc, true, List, Option, Some, None, length, arith, refl, sym, ap, ◌∙◌, subst, inl, inr}
 use Rattle.std.specs.Prelude.{is_some, option_map, slice_get, slice_index_or}
 use Rattle.std.proofs.lemmas.Bool.{cases_lt, cases_Bool, false_from_ne_true}
@@ -22,12 +22,14 @@ use Rattle.plan_model.proofs.NewNodes.{IsPresent-stands}
 use Rattle.plan_model.proofs.NodeCounts.{node_count-same}
 use Rattle.plan_model.proofs.SameTrees.{IsClosed-same_run}
 use Rattle.plan_model.proofs.TreeChanges.{point_at-points_of}
-use Rattle.step_core.specs.WordPlaces.{Sizes, tree_place, first_place}
+use Rattle.step_core.specs.WordNames.{Words}
+use Rattle.step_core.specs.WordNames.Word.{TreeOf, FirstOf}
+use Rattle.step_core.specs.WordPlaces.{Sizes}
 use Rattle.step_core.specs.Words.{parent_in, cost_in, point_of_word, record_of_word}
-use Rattle.step_core.specs.GrownWords.{Words, record_at, has_placed, has_node, points_of_words, state_of_words}
+use Rattle.step_core.specs.GrownWords.{record_at, has_placed, has_node, points_of_words, state_of_words}
 use Rattle.step_core.specs.GrownWords.{children_of_words, IsPointWord, IsTreeWord, IsWritten, sizes_of, HoldRun}
 use Rattle.step_core.specs.PackedRuns.{kept_cost_of, state_of_lists, IsKnot, FitWords, HoldLists}
-use Rattle.step_core.proofs.GrownPoints.{none_some, record_at-within, record_at-past, node_point-absent, node_point-here, point_at-words}
+use Rattle.step_core.proofs.GrownPoints.{none_some, record_at-unwritten, node_point-here, point_at-words, point_at-absent}
 use Rattle.step_core.proofs.PackedRecords.{record_of_word-packed}
 use Rattle.step_core.proofs.PackedWords.{parent_in-tree_word, cost_in-tree_word, point_of_word-packed, IsPointWord-packed}
 use Rattle.step_core.proofs.LoweredWords.{IsTreeWord-packed}
@@ -90,39 +92,31 @@ module _
 
   -- ---- records
 
-  record_at-packed : (k : ℕ) → record_at (sizes_of task) words k ≡ slice_get records k
+  record_at-packed : (k : ℕ) → record_at words k ≡ slice_get records k
   record_at-packed k =
       elim (slice_get_cases records k).1 [
         | inl some ↦ (
-            let entry = some.0 in
-            let is = some.2 in
             let fits = fit.records_fit k some.0 some.2 in
             let holds = held.entries k some.0 some.2 in
-            record_at-within sizes words k (omega (arith, some.1, fit.few))
-            ∙ ap (λ word. record_of_word word (words (first_place (sizes_of task) (suc k)))) holds.own
-            ∙ record_of_word-packed some.0 (words (first_place (sizes_of task) (suc k))) fits.word
+            ap (λ word. record_of_word word (words (FirstOf (suc k)))) holds.own
+            ∙ record_of_word-packed some.0 (words (FirstOf (suc k))) fits.word
             (record { word = holds.first; parent = fits.parent; cost = fits.cost })
-            ∙ sym is)
-        | inr none ↦ elim (cases_lt k (length task.marks)) [
-          | inl below ↦ (
-              record_at-within sizes words k below
-              ∙ ap (λ word. record_of_word word (words (first_place (sizes_of task) (suc k)))) (held.none_else k none.0 below) ∙ sym none.1)
-          | inr past ↦ record_at-past sizes words k past ∙ sym none.1
-        ]
+            ∙ sym some.2)
+        | inr none ↦ record_at-unwritten words k (held.none_else k none.0) ∙ sym none.1
       ]
 
   -- ---- nodes
 
-  has_node-packed : (n : ℕ) → IsPresent (points_of (without_costs knots)) n → has_node (sizes_of task) words n ≡ true
+  has_node-packed : (n : ℕ) → IsPresent (points_of (without_costs knots)) n → has_node words n ≡ true
   has_node-packed zero h = refl
   has_node-packed (suc k) h =
       let own = (closed.placed k).0 h in
       ap has_placed (record_at-packed k ∙ own.1) ∙ ap is_placed own.2
 
-  present_node : (n : ℕ) → has_node (sizes_of task) words n ≡ true → IsPresent (points_of (without_costs knots)) n
+  present_node : (n : ℕ) → has_node words n ≡ true → IsPresent (points_of (without_costs knots)) n
   present_node zero h = IsPresent-stands (points_of (without_costs knots)) 0 task.scene.start closed.order.start_stands
   present_node (suc k) h =
-      let own = placed_in (record_at (sizes_of task) words k) h in
+      let own = placed_in (record_at words k) h in
       (closed.placed k).1 (own.0, sym (record_at-packed k) ∙ own.1, own.2)
 
   pub points-packed : (n : ℕ) → point_at (points_of_words (sizes_of task) words) n ≡ point_at (points_of (without_costs knots)) n
@@ -131,18 +125,17 @@ module _
         | inl here ↦ (
             let own = HasKnot-present knots n here in
             let is = IsKnot-at knots n own.knot own.at in
-            point_at-words sizes words n ∙ node_point-here sizes words n (has_node-packed n here) ∙ ap point_of_word (held.nodes n own.knot is).point
+            point_at-words sizes words n (fit.nodes n own.knot is).within ∙ node_point-here words n (has_node-packed n here) ∙ ap point_of_word (held.nodes n own.knot is).point
             ∙ point_of_word-packed own.knot.point (fit.nodes n own.knot is).point
             ∙ sym (point_at-lists knots n ∙ ap (option_map (λ (knot : Knot). knot.point)) own.at))
         | inr none ↦ (
-            let absent = false_from_ne_true (has_node (sizes_of task) words n) (λ h. let gone = sym none ∙ present_node n h in cc) in
-            point_at-words sizes words n ∙ node_point-absent sizes words n absent
+            point_at-absent sizes words n (false_from_ne_true (has_node words n) (λ h. let gone = sym none ∙ present_node n h in cc))
             ∙ sym (none_some (point_at (points_of (without_costs knots)) n) none))
       ]
 
   parents :
       (n : ℕ) → IsPresent (points_of (without_costs knots)) n
-      → parent_in (words (tree_place (sizes_of task) n)) ≡ parent_of (without_costs knots) n
+      → parent_in (words (TreeOf n)) ≡ parent_of (without_costs knots) n
   parents n h =
       let own = HasKnot-present knots n h in
       let is = IsKnot-at knots n own.knot own.at in
@@ -150,7 +143,7 @@ module _
       ∙ sym (parent_of-lists knots n own.knot own.at)
 
   costs : (n : ℕ) → IsPresent (points_of (without_costs knots)) n
-      → cost_in (words (tree_place (sizes_of task) n)) ≡ kept_cost_of (slice_index_or knots n None)
+      → cost_in (words (TreeOf n)) ≡ kept_cost_of (slice_index_or knots n None)
   costs n h =
       let own = HasKnot-present knots n h in
       let is = IsKnot-at knots n own.knot own.at in
@@ -162,7 +155,7 @@ module _
 
   -- ---- words as they are packed
 
-  written : (n : ℕ) → IsPresent (points_of_words (sizes_of task) words) n → IsWritten (sizes_of task) words n
+  written : (n : ℕ) → IsPresent (points_of_words (sizes_of task) words) n → IsWritten words n
   written n h =
       let own = HasKnot-present knots n (ap is_some (sym (points-packed n)) ∙ h) in
       let is = IsKnot-at knots n own.knot own.at in
@@ -174,15 +167,15 @@ module _
         first = first_word n (ap is_some (sym (points-packed n)) ∙ h);
       }
     where
-      first_word : (n : ℕ) → IsPresent (points_of (without_costs knots)) n → IsTreeWord (words (first_place (sizes_of task) n))
+      first_word : (n : ℕ) → IsPresent (points_of (without_costs knots)) n → IsTreeWord (words (FirstOf n))
       first_word zero h = subst IsTreeWord (sym held.start) refl
       first_word (suc k) h =
           let own = (closed.placed k).0 h in
           let fits = fit.records_fit k own.0 own.1 in
           subst IsTreeWord (sym ((held.entries k own.0 own.1).first own.2)) (IsTreeWord-packed own.0.first_parent own.0.first_cost fits.parent fits.cost)
 
-  -- They are those of a finished run once their nodes are linked.
-  pub HoldRun-packed : FollowWays (children_of_words (sizes_of task) words) (points_of_words (sizes_of task) words) → HoldRun task (length records) words
+  -- They are those of a closed run once their nodes are linked.
+  pub HoldRun-packed : FollowWays (children_of_words words) (points_of_words (sizes_of task) words) → HoldRun task (length records) words
   HoldRun-packed ways = record {
     closed =
         IsClosed-same_run (setup_of task.scene) task.marks (length records) (state_of_lists knots records)

@@ -1,5 +1,5 @@
 -- Words of a run that are written one after another: nodes, records, and the counters of strips.
-use Rattle.std.proofs.Common.{◌≡◌, ℕ, suc, ◌+◌, ◌<◌, ◌≤◌, ◌%◌, List, Option, Some, None}
+use Rattle.std.proofs.Common.{◌≡◌, ℕ, zero, suc, ◌+◌, ◌<◌, ◌≤◌, ◌%◌, List, Option, Some, None}
 use Rattle.std.proofs.Common.{length, cond, arith, refl, sym, ap, ◌∙◌, subst, inl, inr}
 use Rattle.std.specs.Prelude.{◌≢◌, ◌==◌, slice_get, slice_set}
 use Rattle.std.specs.List.{range_with_len}
@@ -7,20 +7,53 @@ use Rattle.std.proofs.lemmas.Bool.{cases_eq, eq-eqb, ne_eqb}
 use Rattle.std.proofs.lemmas.List.FromFn.{length-range_with_len}
 use Rattle.std.proofs.lemmas.List.Sums.{count_by-le-length}
 use Rattle.std.proofs.lemmas.Option.{same_Some}
+use Rattle.plan_model.specs.declared.records.Outcome.TheVariants.{Placed}
 use Rattle.plan_model.specs.declared.records.Record.{Record}
 use Rattle.plan_model.specs.declared.trees.Knot.{Knot}
 use Rattle.plan_model.specs.MarkPoints.{quota_of}
 use Rattle.plan_model.proofs.CountsBelow.{count-more}
-use Rattle.step_core.specs.WordPlaces.{Sizes, counter_place, point_place, tree_place, first_place, record_place}
-use Rattle.step_core.specs.GrownWords.{Words, words_of}
-use Rattle.step_core.specs.PackedRuns.{IsKnot, HoldsNode, HoldsRecord, ChangesNode, ChangesRecord, WritesNodes, WritesRecords, CountsMarks}
-use Rattle.step_core.proofs.WordReads.{word-set, word-other}
+use Rattle.step_core.specs.WordNames.{Word, Words, WritesWord, ChangesOnly, IsCounter, IsKnotWord}
+use Rattle.step_core.specs.WordNames.Word.{Count, Counter, PointOf, ChildOf, TreeOf, FirstOf, RecordOf}
+use Rattle.step_core.specs.WordPlaces.{Sizes}
+use Rattle.step_core.specs.Words.{point_word, tree_word, record_word}
+use Rattle.step_core.specs.PackedRuns.{IsKnot, HoldsNode, HoldsRecord, HasKnot, IsRecordWord, IsWordOfRecords}
+use Rattle.step_core.specs.PackedRuns.{ChangesNode, ChangesRecord, WritesNodes, WritesRecords, CountsMarks}
+
+-- ---- one node or one record
+
+module _ (n : ℕ) (knot : Knot) (before mid after : Words) (point : WritesWord (PointOf n) (point_word knot.point) before mid)
+    (tree : WritesWord (TreeOf n) (tree_word knot.parent knot.cost) mid after) where
+  -- a node is written by its point and its tree word
+  pub HoldsNode-written : HoldsNode after n knot
+  HoldsNode-written = record { point = tree.others (PointOf n) (λ e. cc) ∙ point.here; tree = tree.here }
+
+  pub ChangesNode-written : ChangesNode n before after
+  ChangesNode-written name other =
+      tree.others name (λ e. other (subst (IsKnotWord (λ node. node ≡ n)) (sym e) refl))
+      ∙ point.others name (λ e. other (subst (IsKnotWord (λ node. node ≡ n)) (sym e) refl))
+
+module _ (k : ℕ) (entry : Record) (before mid : Words) (own : WritesWord (RecordOf k) (record_word entry) before mid) where
+  -- a record is written by its word, and if it is of a placed mark by the first word of its node
+  pub HoldsRecord-unplaced : (entry.outcome ≡ Placed → ⊥) → HoldsRecord mid k entry
+  HoldsRecord-unplaced other = record { own = own.here; first = λ placed. absurd (other placed) }
+
+  pub ChangesRecord-unplaced : ChangesRecord k entry before mid
+  ChangesRecord-unplaced name other = own.others name (λ e. other (subst (IsRecordWord k entry) (sym e) refl))
+
+  module _ (after : Words) (placed : entry.outcome ≡ Placed)
+      (first : WritesWord (FirstOf (suc k)) (tree_word entry.first_parent entry.first_cost) mid after) where
+    pub HoldsRecord-placed : HoldsRecord after k entry
+    HoldsRecord-placed = record { own = first.others (RecordOf k) (λ e. cc) ∙ own.here; first = λ is. first.here }
+
+    pub ChangesRecord-placed : ChangesRecord k entry before after
+    ChangesRecord-placed name other =
+        first.others name (λ e. other (subst (IsRecordWord k entry) (sym e) (refl, placed))) ∙ ChangesRecord-unplaced name other
 
 -- ---- nodes
 
-module _ (sizes : Sizes) (knots : List (Option Knot)) (m : ℕ) (before mid : Words) (so_far : WritesNodes sizes knots m before mid) where
+module _ (knots : List (Option Knot)) (m : ℕ) (before mid : Words) (so_far : WritesNodes knots m before mid) where
   -- an absent node needs no word
-  pub WritesNodes-absent : slice_get knots m ≡ Some None → WritesNodes sizes knots (m + 1) before mid
+  pub WritesNodes-absent : slice_get knots m ≡ Some None → WritesNodes knots (m + 1) before mid
   WritesNodes-absent none = record {
     hold = λ n knot below own.
         elim (cases_eq n m) [
@@ -30,55 +63,73 @@ module _ (sizes : Sizes) (knots : List (Option Knot)) (m : ℕ) (before mid : Wo
     others = so_far.others;
   }
 
-  module _ (after : Words) (knot : Knot) (own : IsKnot knots m knot) (within : m ≤ sizes.marks) (here : HoldsNode sizes after m knot)
-      (change : ChangesNode sizes m mid after) where
-    kept_node : (n : ℕ) (other : Knot) → n ≢ m → HoldsNode sizes mid n other → HoldsNode sizes after n other
+  module _ (after : Words) (knot : Knot) (own : IsKnot knots m knot) (here : HoldsNode after m knot) (change : ChangesNode m mid after) where
+    kept_node : (n : ℕ) (other : Knot) → n ≢ m → HoldsNode mid n other → HoldsNode after n other
     kept_node n other apart held = record {
-      point = change (point_place sizes n) (λ e. apart (omega (arith, e))) (λ e. omega (arith, e)) ∙ held.point;
-      tree = change (tree_place sizes n) (λ e. omega (arith, e)) (λ e. apart (omega (arith, e))) ∙ held.tree;
+      point = change (PointOf n) apart ∙ held.point;
+      tree = change (TreeOf n) apart ∙ held.tree;
     }
 
     same_knot : (n : ℕ) (other : Knot) → n ≡ m → IsKnot knots n other → knot ≡ other
     same_knot n other e is =
         let found : Some (Some knot) ≡ Some (Some other) = sym own ∙ ap (slice_get knots) (sym e) ∙ is in cc
 
+    -- its words are words of the list
+    of_list : (name : Word) → IsKnotWord (λ node. node ≡ m) name → IsKnotWord (HasKnot knots) name
+    of_list (PointOf n) e = subst (HasKnot knots) (sym e) (knot, own)
+    of_list (TreeOf n) e = subst (HasKnot knots) (sym e) (knot, own)
+    of_list _ h = absurd h
+
     -- a present one is written
-    pub WritesNodes-more : WritesNodes sizes knots (m + 1) before after
+    pub WritesNodes-more : WritesNodes knots (m + 1) before after
     WritesNodes-more = record {
       hold = λ n other below is.
           elim (cases_eq n m) [
             | inl e ↦ (
-                subst (λ i. HoldsNode sizes after i other) (sym e) (subst (HoldsNode sizes after m) (same_knot n other e is) here))
+                subst (λ i. HoldsNode after i other) (sym e) (subst (HoldsNode after m) (same_knot n other e is) here))
             | inr apart ↦ kept_node n other apart (so_far.hold n other (omega (arith, below, apart)) is)
           ];
-      others = λ place apart. let own_apart = apart m within in change place own_apart.0 own_apart.1 ∙ so_far.others place apart;
+      others = λ name other. change name (λ is. other (of_list name is)) ∙ so_far.others name other;
     }
 
 -- ---- records
 
 module _
-    (sizes : Sizes) (records : List Record) (m : ℕ) (before mid after : Words) (so_far : WritesRecords sizes records m before mid) (entry : Record)
-    (own : slice_get records m ≡ Some entry) (within : m < sizes.marks) (here : HoldsRecord sizes after m entry)
-    (change : ChangesRecord sizes m mid after) where
-  kept_record : (k : ℕ) (other : Record) → k < m → HoldsRecord sizes mid k other → HoldsRecord sizes after k other
+    (records : List Record) (m : ℕ) (before mid after : Words) (so_far : WritesRecords records m before mid) (entry : Record)
+    (own : slice_get records m ≡ Some entry) (here : HoldsRecord after m entry) (change : ChangesRecord m entry mid after) where
+  kept_record : (k : ℕ) (other : Record) → k < m → HoldsRecord mid k other → HoldsRecord after k other
   kept_record k other less held = record {
-    own = change (record_place sizes k) (λ e. omega (arith, e, less)) (λ e. omega (arith, e, less, within)) ∙ held.own;
-    first = λ placed. change (first_place sizes (suc k)) (λ e. omega (arith, e, less, within)) (λ e. omega (arith, e, less)) ∙ held.first placed;
+    own = change (RecordOf k) (λ e. omega (arith, e, less)) ∙ held.own;
+    first = λ placed. change (FirstOf (suc k)) (λ is. omega (arith, is.0, less)) ∙ held.first placed;
   }
 
   same_record : (k : ℕ) (other : Record) → k ≡ m → slice_get records k ≡ Some other → entry ≡ other
   same_record k other e is = same_Some entry other (sym own ∙ ap (slice_get records) (sym e) ∙ is)
 
-  pub WritesRecords-more : WritesRecords sizes records (m + 1) before after
+  -- its words are words of the records up to this one
+  own_word : (name : Word) → IsRecordWord m entry name → IsWordOfRecords records (m + 1) name
+  own_word (RecordOf k) e = omega (arith, e)
+  own_word (FirstOf zero) is = omega (arith, is.0)
+  own_word (FirstOf (suc k)) is =
+      let same : k ≡ m = omega (arith, is.0) in
+      (omega (arith, same), entry, ap (slice_get records) same ∙ own, is.1)
+  own_word _ h = absurd h
+
+  -- and so are those of the earlier ones
+  earlier_word : (name : Word) → IsWordOfRecords records m name → IsWordOfRecords records (m + 1) name
+  earlier_word (RecordOf k) less = omega (arith, less)
+  earlier_word (FirstOf zero) h = absurd h
+  earlier_word (FirstOf (suc k)) is = (omega (arith, is.0), is.1, is.2, is.3)
+  earlier_word _ h = absurd h
+
+  pub WritesRecords-more : WritesRecords records (m + 1) before after
   WritesRecords-more = record {
     hold = λ k other below is.
         elim (cases_eq k m) [
-          | inl e ↦ subst (λ i. HoldsRecord sizes after i other) (sym e) (subst (HoldsRecord sizes after m) (same_record k other e is) here)
+          | inl e ↦ subst (λ i. HoldsRecord after i other) (sym e) (subst (HoldsRecord after m) (same_record k other e is) here)
           | inr apart ↦ kept_record k other (omega (arith, below, apart)) (so_far.hold k other (omega (arith, below, apart)) is)
         ];
-    others = λ place apart.
-        let own_apart = apart m (omega arith) in
-        change place own_apart.0 own_apart.1 ∙ so_far.others place (λ k less. apart k (omega (arith, less)));
+    others = λ name other. change name (λ is. other (own_word name is)) ∙ so_far.others name (λ is. other (earlier_word name is));
   }
 
 -- ---- counters
@@ -87,12 +138,8 @@ pub quota_of-le : (strips g n : ℕ) → quota_of strips g n ≤ n
 quota_of-le strips g n = omega (arith, count_by-le-length (λ k. k % strips == g) (range_with_len 0 n), length-range_with_len 0 n)
 
 module _
-    (sizes : Sizes) (m : ℕ) (before : Words) (items : List ℕ) (place value : ℕ) (so_far : CountsMarks sizes m before (words_of items))
-    (strip : m % sizes.strips < sizes.strips) (within : place < length items) (found : place ≡ counter_place (m % sizes.strips))
-    (more : value ≡ words_of items place + 1) where
-  abbrev after : Words
-  after = words_of (slice_set items place value)
-
+    (sizes : Sizes) (m : ℕ) (before mid after : Words) (so_far : CountsMarks sizes m before mid) (strip : m % sizes.strips < sizes.strips)
+    (more : WritesWord (Counter (m % sizes.strips)) (mid (Counter (m % sizes.strips)) + 1) mid after) where
   own_more : quota_of sizes.strips (m % sizes.strips) (m + 1) ≡ quota_of sizes.strips (m % sizes.strips) m + 1
   own_more =
       let test = eq-eqb (m % sizes.strips) (m % sizes.strips) refl in
@@ -112,18 +159,16 @@ module _
       omega (arith, fails, step, same)
 
   -- mark m is counted in its strip
-  pub CountsMarks-more : CountsMarks sizes (m + 1) before (words_of (slice_set items place value))
+  pub CountsMarks-more : CountsMarks sizes (m + 1) before after
   CountsMarks-more = record {
     counted = λ g below.
         elim (cases_eq g (m % sizes.strips)) [
           | inl e ↦ (
-              subst (λ h. words_of (slice_set items place value) (counter_place h) ≡ before (counter_place h) + quota_of sizes.strips h (m + 1)) (sym e)
-              (let now = word-set items place (counter_place (m % sizes.strips)) value within found in
-              let was = ap (words_of items) found in
-              omega (arith, now, was, more, so_far.counted (m % sizes.strips) strip, own_more)))
+              subst (λ h. after (Counter h) ≡ before (Counter h) + quota_of sizes.strips h (m + 1)) (sym e)
+              (omega (arith, more.here, so_far.counted (m % sizes.strips) strip, own_more)))
           | inr apart ↦ (
-              let now = word-other items place (counter_place g) value (λ e. apart (omega (arith, e, found))) in
+              let now = more.others (Counter g) (λ e. apart (cc)) in
               omega (arith, now, so_far.counted g below, other_more g apart))
         ];
-    others = λ other apart. word-other items place other value (λ e. apart (m % sizes.strips) strip (e ∙ found)) ∙ so_far.others other apart;
+    others = λ name other. more.others name (λ e. other (subst IsCounter (sym e) tt)) ∙ so_far.others name other;
   }

@@ -1,4 +1,4 @@
--- The next mark of a run is recorded, and no node was placed: the tree stays, and the run is finished with the mark.
+-- The next mark of a run is recorded, and no node was placed: the tree stays, and the run is closed with the mark.
 use Rattle.std.proofs.Common.{◌≡◌, ℕ, suc, ◌<◌, ◌≤◌, ◌%◌, Bool, false, List, None, length, sym, ap, ◌∙◌, subst, inl, inr}
 use Rattle.std.specs.Prelude.{◌≢◌, is_some, if◌then◌else◌}
 use Rattle.std.proofs.lemmas.Bool.{cases_eq, cases_lt}
@@ -16,59 +16,51 @@ use Rattle.plan_model.specs.TreeStates.{AreSameRuns}
 use Rattle.plan_model.proofs.NodeCounts.{node_count-same}
 use Rattle.plan_model.proofs.SameTrees.{IsClosed-same_run}
 use Rattle.plan_model.proofs.WayLinks.{FollowWays-same}
-use Rattle.step_core.specs.WordPlaces.{Sizes, point_place, tree_place}
+use Rattle.step_core.specs.WordNames.{Words}
+use Rattle.step_core.specs.WordNames.Word.{PointOf, TreeOf}
+use Rattle.step_core.specs.WordPlaces.{Sizes}
 use Rattle.step_core.specs.Words.{parent_in, cost_in, point_of_word}
-use Rattle.step_core.specs.GrownWords.{Words, has_node, node_point, points_of_words, state_of_words, children_of_words}
+use Rattle.step_core.specs.GrownWords.{has_node, node_point, child_of_word, points_of_words, state_of_words, children_of_words}
 use Rattle.step_core.specs.GrownWords.{IsPointWord, IsTreeWord, IsWritten, sizes_of, HoldRun}
 use Rattle.step_core.specs.PackedRuns.{FitsRecord}
-use Rattle.step_core.proofs.GrownPoints.{has_node-past, has_node-present, node_point-absent, point_at-words, present-within}
-use Rattle.step_core.proofs.RecordedMarks.{RecordsMark, HoldsMark, children-kept, HoldsMark-recorded}
+use Rattle.step_core.proofs.GrownPoints.{has_node-present, point_at-same}
+use Rattle.step_core.proofs.RecordedMarks.{RecordsMark, HoldsMark, HoldsMark-recorded}
 use Rattle.step_core.proofs.RecordedMarks.{count-unrecorded, point-unrecorded, tree-unrecorded, child-unrecorded}
 use Rattle.step_core.proofs.RecordedMarks.{record_at-marked, has_node-own, has_node-other, quota-marked}
 use Rattle.step_core.proofs.RecordedMarks.{recorded-marked, unrecorded-marked, start_first-marked}
 
 module _
     (sizes : Sizes) (k : ℕ) (entry : Record) (before after : Words) (writes : RecordsMark sizes k entry before after)
-    (strip : k % sizes.strips < sizes.strips) (within : k < sizes.marks) (fits : FitsRecord entry)
-    (absent : has_node sizes before (suc k) ≡ false) (unplaced : is_placed entry.outcome ≡ false) where
+    (fits : FitsRecord entry) (absent : has_node before (suc k) ≡ false) (unplaced : is_placed entry.outcome ≡ false) where
   held : HoldsMark sizes k entry before after
-  held = HoldsMark-recorded sizes k entry before after writes strip within
+  held = HoldsMark-recorded sizes k entry before after writes
 
-  point_word : (n : ℕ) → n ≤ sizes.marks → after (point_place sizes n) ≡ before (point_place sizes n)
-  point_word = point-unrecorded sizes k entry before after writes strip within
+  point_word : (n : ℕ) → after (PointOf n) ≡ before (PointOf n)
+  point_word = point-unrecorded sizes k entry before after writes
 
-  tree_word-same : (n : ℕ) → n ≤ sizes.marks → after (tree_place sizes n) ≡ before (tree_place sizes n)
-  tree_word-same = tree-unrecorded sizes k entry before after writes strip within
+  tree_word-same : (n : ℕ) → after (TreeOf n) ≡ before (TreeOf n)
+  tree_word-same = tree-unrecorded sizes k entry before after writes
 
   -- ---- the same tree
 
-  has_node-same : (n : ℕ) → has_node sizes after n ≡ has_node sizes before n
+  has_node-same : (n : ℕ) → has_node after n ≡ has_node before n
   has_node-same n =
       elim (cases_eq n (suc k)) [
         | inl e ↦ (
-            ap (has_node sizes after) e ∙ has_node-own sizes k entry before after held within fits ∙ unplaced ∙ sym absent
-            ∙ ap (has_node sizes before) (sym e))
-        | inr apart ↦ has_node-other sizes k entry before after held within fits n apart
+            ap (has_node after) e ∙ has_node-own sizes k entry before after held fits ∙ unplaced ∙ sym absent
+            ∙ ap (has_node before) (sym e))
+        | inr apart ↦ has_node-other sizes k entry before after held fits n apart
       ]
 
   points-same : (n : ℕ) → point_at (points_of_words sizes after) n ≡ point_at (points_of_words sizes before) n
-  points-same n = point_at-words sizes after n ∙ by_number ∙ sym (point_at-words sizes before n)
-    where
-      by_number : node_point sizes after n ≡ node_point sizes before n
-      by_number =
-          elim (cases_lt sizes.marks n) [
-            | inl past ↦ (
-                node_point-absent sizes after n (has_node-past sizes after n past)
-                ∙ sym (node_point-absent sizes before n (has_node-past sizes before n past)))
-            | inr low ↦ (λ t. if has_node-same n t then point_of_word (point_word n low t) else None)
-          ]
+  points-same = point_at-same sizes before after (λ n low t. if has_node-same n t then point_of_word (point_word n t) else None)
 
   pub AreSameRuns-recorded : AreSameRuns (with_record (state_of_words sizes before) k entry) (state_of_words sizes after)
   AreSameRuns-recorded = record {
     points = points-same;
-    parents = λ n h. ap parent_in (tree_word-same n (present-within sizes before n h));
-    costs = λ n h. ap cost_in (tree_word-same n (present-within sizes before n h));
-    records = record_at-marked sizes k entry before after held within fits;
+    parents = λ n h. ap parent_in (tree_word-same n);
+    costs = λ n h. ap cost_in (tree_word-same n);
+    records = record_at-marked sizes k entry before after held fits;
   }
 
   -- It is the run with the mark.
@@ -82,50 +74,48 @@ module _
       by_outcome (Same j) h = AreSameRuns-recorded
       by_outcome Blocked h = AreSameRuns-recorded
 
-  pub children-same : (n : ℕ) (side : Bool) → children_of_words sizes after n side ≡ children_of_words sizes before n side
-  children-same = children-kept sizes before after (child-unrecorded sizes k entry before after writes strip within)
+  pub children-same : (n : ℕ) (side : Bool) → children_of_words after n side ≡ children_of_words before n side
+  children-same n side = ap child_of_word (child-unrecorded sizes k entry before after writes n side)
 
-  pub written-same : (n : ℕ) → IsPresent (points_of_words sizes before) n → IsWritten sizes before n → IsWritten sizes after n
+  pub written-same : (n : ℕ) → IsPresent (points_of_words sizes before) n → IsWritten before n → IsWritten after n
   written-same n h written =
-      let low = present-within sizes before n h in
-      let other : n ≢ suc k = λ e. let gone = sym (has_node-present sizes before n h) ∙ ap (has_node sizes before) e ∙ absent in cc in
+      let other : n ≢ suc k = λ e. let gone = sym (has_node-present sizes before n h) ∙ ap (has_node before) e ∙ absent in cc in
       record {
-        point = subst IsPointWord (sym (point_word n low)) written.point;
-        tree = subst IsTreeWord (sym (tree_word-same n low)) written.tree;
-        first = subst IsTreeWord (sym (held.firsts n other low)) written.first;
+        point = subst IsPointWord (sym (point_word n)) written.point;
+        tree = subst IsTreeWord (sym (tree_word-same n)) written.tree;
+        first = subst IsTreeWord (sym (held.firsts n other)) written.first;
       }
 
 module _
     (task : Task) (k : ℕ) (entry : Record) (p : Point) (moved : List ℕ) (before after : Words)
-    (writes : RecordsMark (sizes_of task) k entry before after) (strip : k % task.scene.strips < task.scene.strips) (within : k < length task.marks)
-    (fits : FitsRecord entry) (absent : has_node (sizes_of task) before (suc k) ≡ false) (unplaced : is_placed entry.outcome ≡ false)
+    (writes : RecordsMark (sizes_of task) k entry before after) (fits : FitsRecord entry) (absent : has_node before (suc k) ≡ false) (unplaced : is_placed entry.outcome ≡ false)
     (closed : IsClosed (setup_of task.scene) task.marks (suc k) (with_mark (state_of_words (sizes_of task) before) k entry p moved)) where
   abbrev sizes : Sizes
   sizes = sizes_of task
 
   same_points : (n : ℕ) → point_at (points_of_words sizes after) n ≡ point_at (points_of_words sizes before) n
-  same_points = points-same sizes k entry before after writes strip within fits absent unplaced
+  same_points = points-same sizes k entry before after writes fits absent unplaced
 
   marked : HoldsMark sizes k entry before after
-  marked = HoldsMark-recorded sizes k entry before after writes strip within
+  marked = HoldsMark-recorded sizes k entry before after writes
 
-  -- A finished run in which such a mark is recorded is one.
+  -- A closed run in which such a mark is recorded is one.
   pub HoldRun-unplaced : HoldRun task k before → HoldRun task (suc k) after
   HoldRun-unplaced run = record {
     closed =
         IsClosed-same_run (setup_of task.scene) task.marks (suc k) (with_mark (state_of_words sizes before) k entry p moved)
-        (state_of_words sizes after) closed (AreSameRuns-unplaced sizes k entry before after writes strip within fits absent unplaced p moved);
+        (state_of_words sizes after) closed (AreSameRuns-unplaced sizes k entry before after writes fits absent unplaced p moved);
     ways =
-        FollowWays-same (children_of_words sizes before) (children_of_words sizes after) (points_of_words sizes before) (points_of_words sizes after)
-        (children-same sizes k entry before after writes strip within fits absent unplaced) same_points run.ways;
+        FollowWays-same (children_of_words before) (children_of_words after) (points_of_words sizes before) (points_of_words sizes after)
+        (children-same sizes k entry before after writes fits absent unplaced) same_points run.ways;
     counted =
-        count-unrecorded sizes k entry before after writes strip within
+        count-unrecorded sizes k entry before after writes
         ∙ run.counted ∙ sym (node_count-same (points_of_words sizes before) (points_of_words sizes after) same_points);
-    claimed = λ g below. quota-marked sizes k entry before after marked within fits g below (run.claimed g below);
+    claimed = λ g below. quota-marked sizes k entry before after marked fits g (run.claimed g below);
     written = λ n h.
         let was = ap is_some (sym (same_points n)) ∙ h in
-        written-same sizes k entry before after writes strip within fits absent unplaced n was (run.written n was);
-    recorded = recorded-marked sizes k entry before after marked within fits run.recorded;
-    unrecorded = unrecorded-marked sizes k entry before after marked within fits run.unrecorded;
-    start_first = start_first-marked sizes k entry before after marked within fits ∙ run.start_first;
+        written-same sizes k entry before after writes fits absent unplaced n was (run.written n was);
+    recorded = recorded-marked sizes k entry before after marked fits run.recorded;
+    unrecorded = unrecorded-marked sizes k entry before after marked fits run.unrecorded;
+    start_first = start_first-marked sizes k entry before after marked fits ∙ run.start_first;
   }

@@ -1,19 +1,24 @@
--- What a finished run shows of its words, and how one lowered cost changes it.
+-- What a closed run shows of its words, and how one lowered cost changes it.
 use Rattle.std.specs.Prelude.{◌≡◌, ◌≢◌, ℕ, ◌+◌, ◌≤◌}
 use Rattle.plan_model.specs.Cost.{cost_of}
 use Rattle.plan_model.specs.PointsByNumber.{point_of}
 use Rattle.plan_model.specs.TreeStates.{TreeState}
 use Rattle.plan_model.specs.Ways.{Children}
 use Rattle.step_core.specs.declared.grown.Grown.{Grown}
-use Rattle.step_core.specs.GrownWords.{words_of, sizes_of, state_of_words, children_of_words}
+use Rattle.step_core.specs.GrownWords.{run_words, sizes_of, state_of_words, children_of_words}
+use Rattle.step_core.specs.WordNames.{Words}
 
--- the tree of a finished run, with its costs and its records
+-- its words by their names
+abbrev pub words_of_grown : Grown → Words
+words_of_grown grown = run_words grown.task grown.words.items
+
+-- the tree of a closed run, with its costs and its records
 abbrev pub state_of_grown : Grown → TreeState
-state_of_grown grown = state_of_words (sizes_of grown.task) (words_of grown.words.items)
+state_of_grown grown = state_of_words (sizes_of grown.task) (words_of_grown grown)
 
 -- the children of its kd-tree
 abbrev pub children_of_grown : Grown → Children
-children_of_grown grown = children_of_words (sizes_of grown.task) (words_of grown.words.items)
+children_of_grown grown = children_of_words (words_of_grown grown)
 
 -- node n may cost as little: that is at least what its parent costs and the edge
 abbrev pub MayCost : TreeState → ℕ → ℕ → Type 0

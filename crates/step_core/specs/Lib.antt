@@ -1,4 +1,6 @@
 pub mod Words
+pub mod WordNames
+pub mod WordKinds
 pub mod WordPlaces
 pub mod GrownWords
 pub mod GrownRuns

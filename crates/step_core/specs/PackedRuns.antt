@@ -1,5 +1,5 @@
 -- A run that is given by lists of nodes and of records, and its words.
-use Rattle.std.specs.Prelude.{◌≡◌, ◌≢◌, ℕ, suc, ◌+◌, ◌<◌, ◌≤◌, ◌^◌, Option, Some, None, List, length, slice_get, slice_index_or}
+use Rattle.std.specs.Prelude.{◌≡◌, ℕ, zero, suc, ◌+◌, ◌<◌, ◌≤◌, ◌^◌, Option, Some, None, List, length, slice_get, slice_index_or}
 use Rattle.plan_model.specs.declared.records.Outcome.TheVariants.{Placed}
 use Rattle.plan_model.specs.declared.records.Record.{Record}
 use Rattle.plan_model.specs.declared.trees.Knot.{Knot}
@@ -8,9 +8,10 @@ use Rattle.plan_model.specs.MarkPoints.{quota_of}
 use Rattle.plan_model.specs.PointsByNumber.{node_count}
 use Rattle.plan_model.specs.Trees.{points_of, parent_of, without_costs}
 use Rattle.plan_model.specs.TreeStates.{TreeState}
-use Rattle.step_core.specs.WordPlaces.{Sizes, place_of_count, counter_place, point_place, tree_place, first_place, record_place}
+use Rattle.step_core.specs.WordNames.{Word, Words, ChangesOnly, IsCounter, IsKnotWord}
+use Rattle.step_core.specs.WordNames.Word.{Count, Counter, PointOf, TreeOf, FirstOf, RecordOf}
+use Rattle.step_core.specs.WordPlaces.{Sizes}
 use Rattle.step_core.specs.Words.{FitsWord, point_word, tree_word, record_word}
-use Rattle.step_core.specs.GrownWords.{Words}
 
 -- ---- lists
 
@@ -58,45 +59,60 @@ pub record FitWords (sizes : Sizes) (knots : List (Option Knot)) (records : List
 -- ---- what words hold
 
 -- the point and the tree word of node n
-pub record HoldsNode (sizes : Sizes) (words : Words) (n : ℕ) (knot : Knot) : Type 0 where
-  pub point : words (point_place sizes n) ≡ point_word knot.point
-  pub tree : words (tree_place sizes n) ≡ tree_word knot.parent knot.cost
+pub record HoldsNode (words : Words) (n : ℕ) (knot : Knot) : Type 0 where
+  pub point : words (PointOf n) ≡ point_word knot.point
+  pub tree : words (TreeOf n) ≡ tree_word knot.parent knot.cost
 
 -- the record of mark k, and of a placed one the first word of its node
-pub record HoldsRecord (sizes : Sizes) (words : Words) (k : ℕ) (entry : Record) : Type 0 where
-  pub own : words (record_place sizes k) ≡ record_word entry
-  pub first : entry.outcome ≡ Placed → words (first_place sizes (suc k)) ≡ tree_word entry.first_parent entry.first_cost
+pub record HoldsRecord (words : Words) (k : ℕ) (entry : Record) : Type 0 where
+  pub own : words (RecordOf k) ≡ record_word entry
+  pub first : entry.outcome ≡ Placed → words (FirstOf (suc k)) ≡ tree_word entry.first_parent entry.first_cost
 
 -- no word changes but the point and the tree word of node n
-abbrev pub ChangesNode : Sizes → ℕ → Words → Words → Type 0
-ChangesNode sizes n before after = (place : ℕ) → place ≢ point_place sizes n → place ≢ tree_place sizes n → after place ≡ before place
+abbrev pub ChangesNode : ℕ → Words → Words → Type 0
+ChangesNode n = ChangesOnly (IsKnotWord (λ node. node ≡ n))
 
--- no word changes but the record of mark k and the first word of its node
-abbrev pub ChangesRecord : Sizes → ℕ → Words → Words → Type 0
-ChangesRecord sizes k before after = (place : ℕ) → place ≢ record_place sizes k → place ≢ first_place sizes (suc k) → after place ≡ before place
+-- the word of the record of mark k, and of a placed one the first word of its node
+abbrev pub IsRecordWord : ℕ → Record → Word → Type 0
+IsRecordWord k entry (RecordOf mark) = mark ≡ k
+IsRecordWord k entry (FirstOf node) = (node ≡ suc k) × (entry.outcome ≡ Placed)
+IsRecordWord k entry _ = ⊥
+
+-- no word changes but these
+abbrev pub ChangesRecord : ℕ → Record → Words → Words → Type 0
+ChangesRecord k entry = ChangesOnly (IsRecordWord k entry)
+
+-- node n is one of the list
+abbrev pub HasKnot : List (Option Knot) → ℕ → Type 0
+HasKnot knots n = (knot : Knot) × IsKnot knots n knot
 
 -- the nodes below number m are written, and nothing else changed
-pub record WritesNodes (sizes : Sizes) (knots : List (Option Knot)) (m : ℕ) (before after : Words) : Type 0 where
-  pub hold : (n : ℕ) (knot : Knot) → n < m → IsKnot knots n knot → HoldsNode sizes after n knot
-  pub others :
-      (place : ℕ) → ((n : ℕ) → n ≤ sizes.marks → (place ≢ point_place sizes n) × (place ≢ tree_place sizes n)) → after place ≡ before place
+pub record WritesNodes (knots : List (Option Knot)) (m : ℕ) (before after : Words) : Type 0 where
+  pub hold : (n : ℕ) (knot : Knot) → n < m → IsKnot knots n knot → HoldsNode after n knot
+  pub others : ChangesOnly (IsKnotWord (HasKnot knots)) before after
+
+-- the words of the records below mark m
+abbrev pub IsWordOfRecords : List Record → ℕ → Word → Type 0
+IsWordOfRecords records m (RecordOf mark) = mark < m
+IsWordOfRecords records m (FirstOf zero) = ⊥
+IsWordOfRecords records m (FirstOf (suc k)) = (k < m) × (entry : Record) × (slice_get records k ≡ Some entry) × (entry.outcome ≡ Placed)
+IsWordOfRecords records m _ = ⊥
 
 -- the records below mark m are written, and nothing else changed
-pub record WritesRecords (sizes : Sizes) (records : List Record) (m : ℕ) (before after : Words) : Type 0 where
-  pub hold : (k : ℕ) (entry : Record) → k < m → slice_get records k ≡ Some entry → HoldsRecord sizes after k entry
-  pub others :
-      (place : ℕ) → ((k : ℕ) → k < m → (place ≢ record_place sizes k) × (place ≢ first_place sizes (suc k))) → after place ≡ before place
+pub record WritesRecords (records : List Record) (m : ℕ) (before after : Words) : Type 0 where
+  pub hold : (k : ℕ) (entry : Record) → k < m → slice_get records k ≡ Some entry → HoldsRecord after k entry
+  pub others : ChangesOnly (IsWordOfRecords records m) before after
 
--- the marks below m are counted in the counters of their strips, which were 0, and nothing else changed
+-- the marks below m are counted in the counters of their strips, and nothing else changed
 pub record CountsMarks (sizes : Sizes) (m : ℕ) (before after : Words) : Type 0 where
-  pub counted : (g : ℕ) → g < sizes.strips → after (counter_place g) ≡ before (counter_place g) + quota_of sizes.strips g m
-  pub others : (place : ℕ) → ((g : ℕ) → g < sizes.strips → place ≢ counter_place g) → after place ≡ before place
+  pub counted : (g : ℕ) → g < sizes.strips → after (Counter g) ≡ before (Counter g) + quota_of sizes.strips g m
+  pub others : ChangesOnly IsCounter before after
 
 -- The words hold these nodes and records, their count, and the counters of the strips.
 pub record HoldLists (sizes : Sizes) (knots : List (Option Knot)) (records : List Record) (words : Words) : Type 0 where
-  pub count : words place_of_count ≡ node_count (points_of (without_costs knots))
-  pub counters : (g : ℕ) → g < sizes.strips → words (counter_place g) ≡ quota_of sizes.strips g (length records)
-  pub start : words (first_place sizes 0) ≡ tree_word 0 0
-  pub nodes : (n : ℕ) (knot : Knot) → IsKnot knots n knot → HoldsNode sizes words n knot
-  pub entries : (k : ℕ) (entry : Record) → slice_get records k ≡ Some entry → HoldsRecord sizes words k entry
-  pub none_else : (k : ℕ) → length records ≤ k → k < sizes.marks → words (record_place sizes k) ≡ 0
+  pub count : words Count ≡ node_count (points_of (without_costs knots))
+  pub counters : (g : ℕ) → g < sizes.strips → words (Counter g) ≡ quota_of sizes.strips g (length records)
+  pub start : words (FirstOf 0) ≡ tree_word 0 0
+  pub nodes : (n : ℕ) (knot : Knot) → IsKnot knots n knot → HoldsNode words n knot
+  pub entries : (k : ℕ) (entry : Record) → slice_get records k ≡ Some entry → HoldsRecord words k entry
+  pub none_else : (k : ℕ) → length records ≤ k → words (RecordOf k) ≡ 0

@@ -1,40 +1,53 @@
--- Where each word of a run stands: the count of nodes, a counter for each strip, five words for each node, a word for each record.
-use Rattle.std.specs.Prelude.{ℕ, ◌+◌, ◌*◌, Bool, true, false}
+-- The place of each word in the list of a run's words: the count of nodes, a counter for each strip, five words for each node, a word
+-- for each record.
+use Rattle.std.specs.Prelude.{ℕ, ◌+◌, ◌*◌, ◌<◌, ◌≤◌, nat_lt, nat_le, Bool, true, false, List, slice_index, if◌then◌else◌}
+use Rattle.step_core.specs.WordNames.{Word, Words}
+use Rattle.step_core.specs.WordNames.Word.{Count, Counter, PointOf, ChildOf, TreeOf, FirstOf, RecordOf}
 
 -- how many strips and how many marks a run has; it has a number more for nodes than for marks
 pub record Sizes : Type 0 where
   pub strips : ℕ
   pub marks : ℕ
 
--- the word that counts the nodes
-abbrev pub place_of_count : ℕ
-place_of_count = 0
+-- the place of the first word of a node
+abbrev pub node_place : Sizes → ℕ → ℕ
+node_place sizes node = (sizes.strips + 1) + 5 * node
 
--- the word that counts the claimed marks of strip g
-abbrev pub counter_place : ℕ → ℕ
-counter_place g = g + 1
-
--- the words of node n begin with its point
-abbrev pub point_place : Sizes → ℕ → ℕ
-point_place sizes n = (sizes.strips + 1) + 5 * n
-
--- then come its left child and its right child
-abbrev pub child_place : Sizes → ℕ → Bool → ℕ
-child_place sizes n false = point_place sizes n + 1
-child_place sizes n true = point_place sizes n + 2
-
--- then the tree word: its parent and its kept cost
-abbrev pub tree_place : Sizes → ℕ → ℕ
-tree_place sizes n = point_place sizes n + 3
-
--- and the first word: what it was placed with
-abbrev pub first_place : Sizes → ℕ → ℕ
-first_place sizes n = point_place sizes n + 4
-
--- after the words of all nodes comes the record of each mark
-abbrev pub record_place : Sizes → ℕ → ℕ
-record_place sizes k = point_place sizes (sizes.marks + 1) + k
+-- the place of a word
+abbrev pub place_of : Sizes → Word → ℕ
+place_of sizes Count = 0
+place_of sizes (Counter strip) = strip + 1
+place_of sizes (PointOf node) = node_place sizes node
+place_of sizes (ChildOf node false) = node_place sizes node + 1
+place_of sizes (ChildOf node true) = node_place sizes node + 2
+place_of sizes (TreeOf node) = node_place sizes node + 3
+place_of sizes (FirstOf node) = node_place sizes node + 4
+place_of sizes (RecordOf mark) = node_place sizes (sizes.marks + 1) + mark
 
 -- how many words there are
 abbrev pub word_count : Sizes → ℕ
-word_count sizes = record_place sizes sizes.marks
+word_count sizes = node_place sizes (sizes.marks + 1) + sizes.marks
+
+-- a run of these sizes has this word
+abbrev pub HasWord : Sizes → Word → Type 0
+HasWord sizes Count = Unit {0}
+HasWord sizes (Counter strip) = strip < sizes.strips
+HasWord sizes (PointOf node) = node ≤ sizes.marks
+HasWord sizes (ChildOf node side) = node ≤ sizes.marks
+HasWord sizes (TreeOf node) = node ≤ sizes.marks
+HasWord sizes (FirstOf node) = node ≤ sizes.marks
+HasWord sizes (RecordOf mark) = mark < sizes.marks
+
+-- the same as a test
+abbrev pub has_word : Sizes → Word → Bool
+has_word sizes Count = true
+has_word sizes (Counter strip) = nat_lt strip sizes.strips
+has_word sizes (PointOf node) = nat_le node sizes.marks
+has_word sizes (ChildOf node side) = nat_le node sizes.marks
+has_word sizes (TreeOf node) = nat_le node sizes.marks
+has_word sizes (FirstOf node) = nat_le node sizes.marks
+has_word sizes (RecordOf mark) = nat_lt mark sizes.marks
+
+-- the word of this name in the list of a run's words; 0 if the run has none
+unfoldable pub word_at : Sizes → List ℕ → Words
+word_at sizes items name = if has_word sizes name then slice_index items (place_of sizes name) else 0

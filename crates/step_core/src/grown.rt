@@ -1,4 +1,4 @@
-//! A finished run: a task, a limit, and the words of the tree and the records that its marks below the limit have led to.
+//! A closed run: a task, a limit, and the words of the tree and the records that its marks below the limit have led to.
 
 ghost use Rattle.std.specs.Prelude.{◌≡◌, ◌<◌, ◌≤◌, ◌+◌, ℕ, All, Bool, [], length, IfOk, IsTrue, Some};
 ghost use Rattle.plan_model.specs.Clearance.{ClearAt};
@@ -7,11 +7,12 @@ ghost use Rattle.plan_model.specs.ConfigurationSpace.{space_of};
 ghost use Rattle.plan_model.specs.HandledMarks.{with_mark};
 ghost use Rattle.plan_model.specs.PointsByNumber.{IsPresent, node_count, point_at};
 ghost use Rattle.plan_model.specs.Textbook.{setup_of, start_alone};
-ghost use Rattle.step_core.specs.GrownWords.{HoldRun, has_node, record_at, sizes_of, words_of};
+ghost use Rattle.step_core.specs.GrownWords.{HoldRun, has_node, record_at, run_words, sizes_of};
 ghost use Rattle.plan_model.specs.TreeStates.{AreSameRuns, state_of};
 ghost use Rattle.step_core.specs.KdLinks.{KeepsChildren, LinksRise};
 ghost use Rattle.step_core.specs.PackedRuns.{state_of_lists};
-ghost use Rattle.step_core.specs.WordPlaces.{tree_place, word_count};
+ghost use Rattle.step_core.specs.WordNames.Word.{TreeOf};
+ghost use Rattle.step_core.specs.WordPlaces.{word_count};
 
 use crate::mark_writes::write_mark;
 use crate::packed_runs::write_run;
@@ -33,11 +34,11 @@ pub struct Grown {
     limit: u32,
     words: Vec<u64>,
     ghost sized: { length words.items ≡ word_count (sizes_of task) },
-    ghost hold_run: { ∥ HoldRun task limit (words_of words.items) ∥₁ },
+    ghost hold_run: { ∥ HoldRun task limit (run_words task words.items) ∥₁ },
 }
 
 impl Grown {
-    ghost use Rattle.step_core.specs.GrownRuns.{CostsInstead, MayCost, children_of_grown, state_of_grown};
+    ghost use Rattle.step_core.specs.GrownRuns.{CostsInstead, MayCost, children_of_grown, state_of_grown, words_of_grown};
 
     /// The run that has handled no mark: the start alone, at limit 0. O(n) for n marks.
     ///
@@ -187,14 +188,14 @@ impl Grown {
     /// The word of a node's parent and kept cost.
     fn tree_word(&self, node: u32) -> u64
         requires { IsPresent (state_of_grown self.now).points node }
-        ensures { result ≡ words_of self.now.words.items (tree_place (sizes_of self.now.task) node) }
+        ensures { result ≡ words_of_grown self.now (TreeOf node) }
     {
         self.words[WordPlaces::of(&self.task).tree(node as usize)]
     }
 
     /// The record of a mark, if it was handled.
     fn record_at(&self, mark: u32) -> Option<Record>
-        ensures { result ≡ record_at (sizes_of self.now.task) (words_of self.now.words.items) mark }
+        ensures { result ≡ record_at (words_of_grown self.now) mark }
     {
         let places = WordPlaces::of(&self.task);
         let mark = mark as usize;
@@ -209,7 +210,7 @@ impl Grown {
 
     /// Whether a node is present.
     fn has_node(&self, node: u32) -> bool
-        ensures { result ≡ has_node (sizes_of self.now.task) (words_of self.now.words.items) node }
+        ensures { result ≡ has_node (words_of_grown self.now) node }
     {
         if node == 0 {
             return true;

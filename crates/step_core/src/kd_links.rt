@@ -3,10 +3,10 @@
 
 ghost use Rattle.std.specs.Prelude.{◌≡◌, ◌≤◌, ◌+◌, None, is_some, length, slice_index_or};
 ghost use Rattle.plan_model.specs.Ways.{FollowWays, goes_right};
-ghost use Rattle.step_core.specs.GrownWords.{children_of_words, points_of_words, words_of};
+ghost use Rattle.step_core.specs.GrownWords.{children_of_words, points_of_words};
 ghost use Rattle.step_core.specs.KdLinks.{AreLinkedBelow, AreUnlinked, ChangesChildren, EndsAt, IsFreeBelow, KeepsChildren, LinksRise, MayLink};
-ghost use Rattle.step_core.specs.PlacesOfWords.{sizes_in};
-ghost use Rattle.step_core.specs.WordPlaces.{point_place, word_count};
+ghost use Rattle.step_core.specs.PlacesOfWords.{sizes_in, words_in};
+ghost use Rattle.step_core.specs.WordPlaces.{word_count};
 ghost use Rattle.step_core.specs.Words.{point_in};
 
 use crate::point_words::point_in;
@@ -16,10 +16,10 @@ use plan_model::{Knot, Point};
 /// Links all nodes that are present, in rising number. O(n * d) for n nodes, d of them on the longest way.
 pub(crate) fn link_all(words: &mut [u64], places: WordPlaces, knots: &[Option<Knot>])
     requires sized { length words.old ≡ word_count (sizes_in places) }
-    requires unlinked { AreUnlinked (sizes_in places) (words_of words.old) (λ n. is_some (slice_index_or knots.now n None)) }
-    ensures ways { FollowWays (children_of_words (sizes_in places) (words_of words.new)) (points_of_words (sizes_in places) (words_of words.new)) }
-    ensures links { LinksRise (children_of_words (sizes_in places) (words_of words.new)) }
-    ensures others { ChangesChildren (sizes_in places) (words_of words.old) (words_of words.new) }
+    requires unlinked { AreUnlinked (sizes_in places) (words_in places words.old) (λ n. is_some (slice_index_or knots.now n None)) }
+    ensures ways { FollowWays (children_of_words (words_in places words.new)) (points_of_words (sizes_in places) (words_in places words.new)) }
+    ensures links { LinksRise (children_of_words (words_in places words.new)) }
+    ensures others { ChangesChildren (words_in places words.old) (words_in places words.new) }
 {
     for node in 1..knots.len() {
         if knots[node].is_some() {
@@ -31,11 +31,11 @@ pub(crate) fn link_all(words: &mut [u64], places: WordPlaces, knots: &[Option<Kn
 /// Links a node that is present, after those of lesser numbers. O(n) for n nodes on its way.
 pub(crate) fn link(words: &mut [u64], places: WordPlaces, node: usize)
     requires sized { length words.old ≡ word_count (sizes_in places) }
-    requires may_link { MayLink (sizes_in places) (words_of words.old) node }
-    ensures linked { AreLinkedBelow (sizes_in places) (words_of words.new) (node + 1) }
-    ensures children { KeepsChildren (children_of_words (sizes_in places) (words_of words.old)) (children_of_words (sizes_in places) (words_of words.new)) }
-    ensures rise { LinksRise (children_of_words (sizes_in places) (words_of words.old)) → LinksRise (children_of_words (sizes_in places) (words_of words.new)) }
-    ensures others { ChangesChildren (sizes_in places) (words_of words.old) (words_of words.new) }
+    requires may_link { MayLink (sizes_in places) (words_in places words.old) node }
+    ensures linked { AreLinkedBelow (sizes_in places) (words_in places words.new) (node + 1) }
+    ensures children { KeepsChildren (children_of_words (words_in places words.old)) (children_of_words (words_in places words.new)) }
+    ensures rise { LinksRise (children_of_words (words_in places words.old)) → LinksRise (children_of_words (words_in places words.new)) }
+    ensures others { ChangesChildren (words_in places words.old) (words_in places words.new) }
 {
     let point = point_in(words[places.point(node)]);
     let place = end_of_way(words, places, node, point);
@@ -45,9 +45,9 @@ pub(crate) fn link(words: &mut [u64], places: WordPlaces, node: usize)
 /// The place of the empty child word at which the way of a point ends.
 fn end_of_way(words: &[u64], places: WordPlaces, node: usize, point: Point) -> usize
     requires sized { length words.now ≡ word_count (sizes_in places) }
-    requires linked { AreLinkedBelow (sizes_in places) (words_of words.now) node }
-    requires free { IsFreeBelow (sizes_in places) (words_of words.now) node point }
-    ensures { EndsAt (sizes_in places) (words_of words.now) node point result }
+    requires linked { AreLinkedBelow (sizes_in places) (words_in places words.now) node }
+    requires free { IsFreeBelow (sizes_in places) (words_in places words.now) node point }
+    ensures { EndsAt (sizes_in places) (words_in places words.now) node point result }
 {
     let mut above = 0;
     let mut depth = 0;

@@ -5,6 +5,9 @@ ghost use Rattle.std.specs.Int.{bit_at};
 ghost use Rattle.plan_model.specs.Bounds.{IsBounded};
 ghost use Rattle.plan_model.specs.declared.geometry.Point.{Point};
 ghost use Rattle.plan_model.specs.declared.records.Record.{Record};
+ghost use Rattle.step_core.specs.WordKinds.{AreBehind};
+ghost use Rattle.step_core.specs.WordNames.{Word, Words};
+ghost use Rattle.step_core.specs.WordPlaces.{HasWord, Sizes, place_of, word_count};
 ghost use Rattle.step_core.specs.Words.{FitsWord, IsFirstWord, point_of_word, point_word, record_of_word, record_word, tree_of_word, tree_word};
 
 /// What is packed is read again: a point, a parent with its cost, and a whole record with the first word of its node.
@@ -43,4 +46,17 @@ pub fn words_without_bit_63_hold_nothing()
 /// A lower cost has a lower word, whichever the parents are.
 pub fn lower_costs_have_lower_words()
     ensures { (parent other cost more : ℕ) → parent < 2 ^ 18 → cost < more → tree_word parent cost < tree_word other more }
+{}
+
+/// Words of different names have different places, each among the words of the run.
+pub fn words_have_their_own_places()
+    ensures once { (sizes : Sizes) (name other : Word) → HasWord sizes name → HasWord sizes other → place_of sizes name ≡ place_of sizes other
+        → name ≡ other }
+    ensures within { (sizes : Sizes) (name : Word) → HasWord sizes name → place_of sizes name < word_count sizes }
+{}
+
+/// Each word may stay as it is, and what may become of words in two steps may become of them in one.
+pub fn words_go_on()
+    ensures stay { (words : Words) → AreBehind words words }
+    ensures go_on { (words later last : Words) → AreBehind words later → AreBehind later last → AreBehind words last }
 {}

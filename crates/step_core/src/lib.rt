@@ -4,9 +4,10 @@
 //! 0 is a word that is not written yet. `docs/words.md` has the layout, and `layout` has it as constants. The contracts
 //! say what a word is as a number: a sum of products for what is packed, quotients and remainders for what is read.
 //!
-//! [`Grown`] is a finished run: a task, and a table of such words with the count of nodes, a counter for each strip, the
+//! [`Grown`] is a closed run: a task, and a table of such words with the count of nodes, a counter for each strip, the
 //! nodes, and a record for each mark. Its type keeps the closed law (`plan_model/specs/ClosedLaw`), and its nodes are linked
-//! to a kd-tree. `word_places` alone knows the order of the words; `specs/GrownWords` says what tree they stand for.
+//! to a kd-tree. `word_places` alone knows the order of the words; contracts call them by their names
+//! (`specs/WordNames`), and `specs/GrownWords` says what tree they stand for.
 #![tactic(auto)]
 
 mod grown;

@@ -8,12 +8,13 @@ ghost use Rattle.plan_model.specs.HandledMarks.{with_mark};
 ghost use Rattle.plan_model.specs.PointsByNumber.{IsPresent};
 ghost use Rattle.plan_model.specs.Textbook.{setup_of};
 ghost use Rattle.plan_model.specs.TreeStates.{AreSameRuns};
-ghost use Rattle.step_core.specs.GrownWords.{HoldRun, children_of_words, points_of_words, sizes_of, state_of_words, words_of};
+ghost use Rattle.step_core.specs.GrownWords.{HoldRun, children_of_words, points_of_words, run_words, sizes_of, state_of_words};
 ghost use Rattle.step_core.specs.KdLinks.{KeepsChildren};
 ghost use Rattle.step_core.specs.MarkWrites.{CountsMark, MayMove, MovesNodes, WritesNewNode};
 ghost use Rattle.step_core.specs.PackedRuns.{FitsNode};
-ghost use Rattle.step_core.specs.PlacesOfWords.{sizes_in};
-ghost use Rattle.step_core.specs.WordPlaces.{counter_place, place_of_count, word_count};
+ghost use Rattle.step_core.specs.PlacesOfWords.{sizes_in, words_in};
+ghost use Rattle.step_core.specs.WordNames.Word.{Count, Counter};
+ghost use Rattle.step_core.specs.WordPlaces.{word_count};
 
 use crate::kd_links::link;
 use crate::packed_runs::{write_node, write_record};
@@ -34,16 +35,16 @@ pub(crate) fn write_mark(
     moved: &[u32],
 )
     requires sized { length words.old ≡ word_count (sizes_of task.now) }
-    requires run { ∥ HoldRun task.now mark (words_of words.old) ∥₁ }
+    requires run { ∥ HoldRun task.now mark (run_words task.now words.old) ∥₁ }
     requires left { mark < length task.now.marks }
-    requires nodes { All (IsPresent (points_of_words (sizes_of task.now) (words_of words.old))) moved.now }
+    requires nodes { All (IsPresent (points_of_words (sizes_of task.now) (run_words task.now words.old))) moved.now }
     requires closed { ∥ IsClosed (setup_of task.now.scene) task.now.marks (mark + 1)
-        (with_mark (state_of_words (sizes_of task.now) (words_of words.old)) mark entry.now p moved.now) ∥₁ }
-    ensures run { ∥ HoldRun task.now (mark + 1) (words_of words.new) ∥₁ }
-    ensures state { AreSameRuns (with_mark (state_of_words (sizes_of task.now) (words_of words.old)) mark entry.now p moved.now)
-        (state_of_words (sizes_of task.now) (words_of words.new)) }
-    ensures children { KeepsChildren (children_of_words (sizes_of task.now) (words_of words.old))
-        (children_of_words (sizes_of task.now) (words_of words.new)) }
+        (with_mark (state_of_words (sizes_of task.now) (run_words task.now words.old)) mark entry.now p moved.now) ∥₁ }
+    ensures run { ∥ HoldRun task.now (mark + 1) (run_words task.now words.new) ∥₁ }
+    ensures state { AreSameRuns (with_mark (state_of_words (sizes_of task.now) (run_words task.now words.old)) mark entry.now p moved.now)
+        (state_of_words (sizes_of task.now) (run_words task.now words.new)) }
+    ensures children { KeepsChildren (children_of_words (run_words task.now words.old))
+        (children_of_words (run_words task.now words.new)) }
 {
     let places = WordPlaces::of(task);
     count_mark(words, places, mark);
@@ -66,8 +67,8 @@ fn count_mark(words: &mut [u64], places: WordPlaces, mark: usize)
     requires sized { length words.old ≡ word_count (sizes_in places) }
     requires strips { 0 < places.strips }
     requires within { mark < places.marks }
-    requires low { words_of words.old (counter_place (mark % places.strips)) ≤ mark }
-    ensures { CountsMark (sizes_in places) mark (words_of words.old) (words_of words.new) }
+    requires low { words_in places words.old (Counter (mark % places.strips)) ≤ mark }
+    ensures { CountsMark (sizes_in places) mark (words_in places words.old) (words_in places words.new) }
 {
     words[places.counter(mark % places.strips())] += 1;
 }
@@ -75,9 +76,9 @@ fn count_mark(words: &mut [u64], places: WordPlaces, mark: usize)
 /// Counts a new node, and writes its point, its parent and its cost.
 fn write_new_node(words: &mut [u64], places: WordPlaces, node: usize, knot: Knot)
     requires sized { length words.old ≡ word_count (sizes_in places) }
-    requires few { words_of words.old place_of_count ≤ places.marks + 1 }
+    requires few { words_in places words.old Count ≤ places.marks + 1 }
     requires fits { FitsNode (sizes_in places) node knot }
-    ensures { WritesNewNode (sizes_in places) node knot (words_of words.old) (words_of words.new) }
+    ensures { WritesNewNode node knot (words_in places words.old) (words_in places words.new) }
 {
     words[places.count()] += 1;
     write_node(words, places, node, knot);
@@ -88,8 +89,8 @@ fn move_nodes(words: &mut [u64], places: WordPlaces, node: usize, knot: Knot, mo
     requires sized { length words.old ≡ word_count (sizes_in places) }
     requires within { node ≤ places.marks }
     requires bounded { IsBounded knot.point }
-    requires fit { All (MayMove (sizes_in places) (words_of words.old) knot) moved.now }
-    ensures { MovesNodes (sizes_in places) node knot moved.now (words_of words.old) (words_of words.new) }
+    requires fit { All (MayMove (sizes_in places) (words_in places words.old) knot) moved.now }
+    ensures { MovesNodes node knot moved.now (words_in places words.old) (words_in places words.new) }
 {
     for &other in moved {
         let other = other as usize;

@@ -5,13 +5,15 @@ ghost use Rattle.plan_model.specs.ClosedLaw.{IsClosed};
 ghost use Rattle.plan_model.specs.Textbook.{setup_of};
 ghost use Rattle.plan_model.specs.declared.trees.Knot.{Knot};
 ghost use Rattle.plan_model.specs.declared.records.Record.{Record};
-ghost use Rattle.step_core.specs.GrownWords.{HoldRun, children_of_words, sizes_of, state_of_words, words_of};
+ghost use Rattle.step_core.specs.GrownWords.{HoldRun, children_of_words, run_words, sizes_of, state_of_words};
 ghost use Rattle.step_core.specs.KdLinks.{LinksRise};
 ghost use Rattle.plan_model.specs.TreeStates.{AreSameRuns};
 ghost use Rattle.step_core.specs.PackedRuns.{ChangesNode, ChangesRecord, CountsMarks, FitWords, FitsNode, FitsRecord, HoldLists};
 ghost use Rattle.step_core.specs.PackedRuns.{HoldsNode, HoldsRecord, IsKnot, WritesNodes, WritesRecords, state_of_lists};
-ghost use Rattle.step_core.specs.PlacesOfWords.{sizes_in};
-ghost use Rattle.step_core.specs.WordPlaces.{child_place, word_count};
+ghost use Rattle.step_core.specs.PlacesOfWords.{sizes_in, words_in};
+ghost use Rattle.step_core.specs.WordNames.{Word};
+ghost use Rattle.step_core.specs.WordNames.Word.{ChildOf, Counter};
+ghost use Rattle.step_core.specs.WordPlaces.{word_count};
 
 use crate::kd_links::link_all;
 use crate::point_words::pack_point;
@@ -20,14 +22,14 @@ use crate::tree_words::pack_tree;
 use crate::word_places::WordPlaces;
 use plan_model::{Knot, Outcome, Record, Task};
 
-/// Writes the words of a finished run with these nodes and records.
+/// Writes the words of a closed run with these nodes and records.
 pub(crate) fn write_run(words: &mut [u64], task: &Task, knots: &[Option<Knot>], records: &[Record])
     requires sized { length words.old ≡ word_count (sizes_of task.now) }
-    requires zeros { (place : ℕ) → words_of words.old place ≡ 0 }
+    requires zeros { (name : Word) → run_words task.now words.old name ≡ 0 }
     requires closed { IsClosed (setup_of task.now.scene) task.now.marks (length records.now) (state_of_lists knots.now records.now) }
-    ensures run { HoldRun task.now (length records.now) (words_of words.new) }
-    ensures state { AreSameRuns (state_of_lists knots.now records.now) (state_of_words (sizes_of task.now) (words_of words.new)) }
-    ensures links { LinksRise (children_of_words (sizes_of task.now) (words_of words.new)) }
+    ensures run { HoldRun task.now (length records.now) (run_words task.now words.new) }
+    ensures state { AreSameRuns (state_of_lists knots.now records.now) (state_of_words (sizes_of task.now) (run_words task.now words.new)) }
+    ensures links { LinksRise (children_of_words (run_words task.now words.new)) }
 {
     let places = WordPlaces::of(task);
     write_lists(words, places, knots, records);
@@ -38,10 +40,10 @@ pub(crate) fn write_run(words: &mut [u64], task: &Task, knots: &[Option<Knot>], 
 fn write_lists(words: &mut [u64], places: WordPlaces, knots: &[Option<Knot>], records: &[Record])
     requires sized { length words.old ≡ word_count (sizes_in places) }
     requires strips { 0 < places.strips }
-    requires zeros { (place : ℕ) → words_of words.old place ≡ 0 }
+    requires zeros { (name : Word) → words_in places words.old name ≡ 0 }
     requires fit { FitWords (sizes_in places) knots.now records.now }
-    ensures lists { HoldLists (sizes_in places) knots.now records.now (words_of words.new) }
-    ensures children { (n : ℕ) (side : Bool) → n ≤ places.marks → words_of words.new (child_place (sizes_in places) n side) ≡ 0 }
+    ensures lists { HoldLists (sizes_in places) knots.now records.now (words_in places words.new) }
+    ensures children { (n : ℕ) (side : Bool) → words_in places words.new (ChildOf n side) ≡ 0 }
 {
     count_marks(words, places, records.len());
     words[places.count()] = count_nodes(knots) as u64;
@@ -61,9 +63,9 @@ fn count_nodes(knots: &[Option<Knot>]) -> usize
 fn count_marks(words: &mut [u64], places: WordPlaces, limit: usize)
     requires sized { length words.old ≡ word_count (sizes_in places) }
     requires strips { 0 < places.strips }
-    requires zeros { (g : ℕ) → g < places.strips → words_of words.old (g + 1) ≡ 0 }
+    requires zeros { (g : ℕ) → g < places.strips → words_in places words.old (Counter g) ≡ 0 }
     requires limit { limit ≤ places.marks }
-    ensures { CountsMarks (sizes_in places) limit (words_of words.old) (words_of words.new) }
+    ensures { CountsMarks (sizes_in places) limit (words_in places words.old) (words_in places words.new) }
 {
     for mark in 0..limit {
         words[places.counter(mark % places.strips())] += 1;
@@ -74,7 +76,7 @@ fn count_marks(words: &mut [u64], places: WordPlaces, limit: usize)
 fn write_nodes(words: &mut [u64], places: WordPlaces, knots: &[Option<Knot>])
     requires sized { length words.old ≡ word_count (sizes_in places) }
     requires fit { (n : ℕ) (knot : Knot) → IsKnot knots.now n knot → FitsNode (sizes_in places) n knot }
-    ensures { WritesNodes (sizes_in places) knots.now (length knots.now) (words_of words.old) (words_of words.new) }
+    ensures { WritesNodes knots.now (length knots.now) (words_in places words.old) (words_in places words.new) }
 {
     for (node, knot) in knots.iter().enumerate() {
         if let Some(knot) = knot {
@@ -87,8 +89,8 @@ fn write_nodes(words: &mut [u64], places: WordPlaces, knots: &[Option<Knot>])
 pub(crate) fn write_node(words: &mut [u64], places: WordPlaces, node: usize, knot: Knot)
     requires sized { length words.old ≡ word_count (sizes_in places) }
     requires fits { FitsNode (sizes_in places) node knot }
-    ensures hold { HoldsNode (sizes_in places) (words_of words.new) node knot }
-    ensures others { ChangesNode (sizes_in places) node (words_of words.old) (words_of words.new) }
+    ensures hold { HoldsNode (words_in places words.new) node knot }
+    ensures others { ChangesNode node (words_in places words.old) (words_in places words.new) }
 {
     words[places.point(node)] = pack_point(knot.point);
     words[places.tree(node)] = pack_tree(knot.parent, knot.cost);
@@ -99,7 +101,7 @@ fn write_records(words: &mut [u64], places: WordPlaces, records: &[Record])
     requires sized { length words.old ≡ word_count (sizes_in places) }
     requires few { length records.now ≤ places.marks }
     requires fit { (k : ℕ) (entry : Record) → slice_get records.now k ≡ Some entry → FitsRecord entry }
-    ensures { WritesRecords (sizes_in places) records.now (length records.now) (words_of words.old) (words_of words.new) }
+    ensures { WritesRecords records.now (length records.now) (words_in places words.old) (words_in places words.new) }
 {
     for (mark, entry) in records.iter().enumerate() {
         write_record(words, places, mark, entry);
@@ -111,11 +113,11 @@ pub(crate) fn write_record(words: &mut [u64], places: WordPlaces, mark: usize, e
     requires sized { length words.old ≡ word_count (sizes_in places) }
     requires within { mark < places.marks }
     requires fits { FitsRecord entry.now }
-    ensures hold { HoldsRecord (sizes_in places) (words_of words.new) mark entry.now }
-    ensures others { ChangesRecord (sizes_in places) mark (words_of words.old) (words_of words.new) }
+    ensures hold { HoldsRecord (words_in places words.new) mark entry.now }
+    ensures others { ChangesRecord mark entry.now (words_in places words.old) (words_in places words.new) }
 {
     words[places.record(mark)] = pack_mark(entry);
-    if entry.outcome == Outcome::Placed {
+    if let Outcome::Placed = entry.outcome {
         words[places.first(mark + 1)] = pack_tree(entry.first_parent, entry.first_cost);
     }
 }

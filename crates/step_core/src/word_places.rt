@@ -5,9 +5,10 @@
 //!     word    count     counters   point  left  right  tree  first  ..        records
 //! ```
 
-ghost use Rattle.std.specs.Prelude.{◌≡◌, ◌≤◌, ◌<◌, length};
+ghost use Rattle.std.specs.Prelude.{◌≡◌, ◌≤◌, ◌<◌};
 ghost use Rattle.plan_model.specs.declared.limits.TheConstants.{MOST_MARKS, MOST_STRIPS};
-ghost use Rattle.step_core.specs.WordPlaces.{child_place, counter_place, first_place, place_of_count, point_place, record_place, tree_place, word_count};
+ghost use Rattle.step_core.specs.WordNames.Word.{ChildOf, Count, Counter, FirstOf, PointOf, RecordOf, TreeOf};
+ghost use Rattle.step_core.specs.WordPlaces.{place_of, word_count};
 
 use plan_model::Task;
 
@@ -21,12 +22,12 @@ pub(crate) struct WordPlaces {
 }
 
 impl WordPlaces {
+    ghost use Rattle.step_core.specs.GrownWords.{sizes_of};
     ghost use Rattle.step_core.specs.PlacesOfWords.{sizes_in};
 
     /// The places of the words of a task's run.
     pub(crate) fn of(task: &Task) -> WordPlaces
-        ensures strips { result.strips ≡ task.now.scene.strips }
-        ensures marks { result.marks ≡ length task.now.marks }
+        ensures { sizes_in result ≡ sizes_of task.now }
     {
         WordPlaces {
             strips: task.scene.strips as usize,
@@ -57,7 +58,7 @@ impl WordPlaces {
 
     /// The count of nodes.
     pub(crate) fn count(self) -> usize
-        ensures { result ≡ place_of_count }
+        ensures { result ≡ place_of (sizes_in self) Count }
     {
         0
     }
@@ -65,7 +66,7 @@ impl WordPlaces {
     /// The counter of a strip.
     pub(crate) fn counter(self, strip: usize) -> usize
         requires { strip < (sizes_in self).strips }
-        ensures { result ≡ counter_place strip }
+        ensures { result ≡ place_of (sizes_in self) (Counter strip) }
     {
         strip + 1
     }
@@ -73,7 +74,7 @@ impl WordPlaces {
     /// The point of a node, and the first of its words.
     pub(crate) fn point(self, node: usize) -> usize
         requires { node ≤ (sizes_in self).marks }
-        ensures { result ≡ point_place (sizes_in self) node }
+        ensures { result ≡ place_of (sizes_in self) (PointOf node) }
     {
         self.strips + 1 + 5 * node
     }
@@ -81,7 +82,7 @@ impl WordPlaces {
     /// The left or the right child of a node.
     pub(crate) fn child(self, node: usize, right: bool) -> usize
         requires { node ≤ (sizes_in self).marks }
-        ensures { result ≡ child_place (sizes_in self) node right }
+        ensures { result ≡ place_of (sizes_in self) (ChildOf node right) }
     {
         if right {
             self.point(node) + 2
@@ -93,7 +94,7 @@ impl WordPlaces {
     /// The parent and the kept cost of a node.
     pub(crate) fn tree(self, node: usize) -> usize
         requires { node ≤ (sizes_in self).marks }
-        ensures { result ≡ tree_place (sizes_in self) node }
+        ensures { result ≡ place_of (sizes_in self) (TreeOf node) }
     {
         self.point(node) + 3
     }
@@ -101,7 +102,7 @@ impl WordPlaces {
     /// The first parent and the first cost of a node.
     pub(crate) fn first(self, node: usize) -> usize
         requires { node ≤ (sizes_in self).marks }
-        ensures { result ≡ first_place (sizes_in self) node }
+        ensures { result ≡ place_of (sizes_in self) (FirstOf node) }
     {
         self.point(node) + 4
     }
@@ -109,7 +110,7 @@ impl WordPlaces {
     /// The record of a mark.
     pub(crate) fn record(self, mark: usize) -> usize
         requires { mark ≤ (sizes_in self).marks }
-        ensures { result ≡ record_place (sizes_in self) mark }
+        ensures { result ≡ place_of (sizes_in self) (RecordOf mark) }
     {
         self.point(self.marks) + 5 + mark
     }

@@ -1,7 +1,6 @@
 use Rattle.std.proofs.Common.{◌≡◌, ◌+◌, false}
 use Rattle.plan_model.specs.Outcomes.{is_placed}
-use Rattle.step_core.specs.GrownWords.{words_of, sizes_of}
-use Rattle.step_core.specs.PlacesOfWords.{sizes_in}
+use Rattle.step_core.specs.PlacesOfWords.{sizes_in, words_in}
 use Rattle.step_core.proofs.MarkStates.{unplaced-other}
 use Rattle.step_core.proofs.PlacedMarks.{PlacesMark}
 use Rattle.step_core.proofs.RecordedMarks.{RecordsMark}
@@ -12,26 +11,23 @@ use Rattle.step_core.proofs.mark_writes.write_mark.Goals as goal
 
 pub count_mark-requires-clause-low : goal.count_mark-requires-clause-low
 count_mark-requires-clause-low c =
-    let same : sizes_in c.of-places.result ≡ sizes_of c.args.task.now =
-    λ t. record { strips = c.of-places.ensures.strips t; marks = c.of-places.ensures.marks t } in
-    counter-next c.args.task.now c.args.mark c.args.entry.now c.args.p c.args.moved.now (sizes_in c.of-places.result) same (words_of c.args.words.now)
+    let same = c.of-places.ensures in
+    counter-next c.args.task.now c.args.mark c.args.entry.now c.args.p c.args.moved.now (sizes_in c.of-places.result) same c.args.words.now
     c.requires.run c.requires.left c.requires.nodes c.requires.closed
 
 pub write_record-requires-clause-fits : goal.write_record-requires-clause-fits
 write_record-requires-clause-fits c =
-    let same : sizes_in c.of-places.result ≡ sizes_of c.args.task.now =
-    λ t. record { strips = c.of-places.ensures.strips t; marks = c.of-places.ensures.marks t } in
-    FitsRecord-next c.args.task.now c.args.mark c.args.entry.now c.args.p c.args.moved.now (sizes_in c.of-places.result) same (words_of c.args.words.now)
+    let same = c.of-places.ensures in
+    FitsRecord-next c.args.task.now c.args.mark c.args.entry.now c.args.p c.args.moved.now (sizes_in c.of-places.result) same c.args.words.now
     c.requires.run c.requires.left c.requires.nodes c.requires.closed
 
 pub write_new_node-requires-clause-few : goal.write_new_node-requires-clause-few
 write_new_node-requires-clause-few c =
-    let same : sizes_in c.of-places.result ≡ sizes_of c.args.task.now =
-    λ t. record { strips = c.of-places.ensures.strips t; marks = c.of-places.ensures.marks t } in
-    count-next c.args.task.now c.args.mark c.args.entry.now c.args.p c.args.moved.now (sizes_in c.of-places.result) same (words_of c.args.words.now)
-    c.requires.run c.requires.left c.requires.nodes c.requires.closed (words_of c.write_record.new.words)
+    let same = c.of-places.ensures in
+    count-next c.args.task.now c.args.mark c.args.entry.now c.args.p c.args.moved.now (sizes_in c.of-places.result) same c.args.words.now
+    c.requires.run c.requires.left c.requires.nodes c.requires.closed c.write_record.new.words
     (record {
-      counted = words_of c.count_mark.new.words;
+      counted = words_in c.of-places.result c.count_mark.new.words;
       counts = c.count_mark.ensures;
       hold = c.write_record.ensures.hold;
       others = c.write_record.ensures.others;
@@ -39,27 +35,24 @@ write_new_node-requires-clause-few c =
 
 pub write_new_node-requires-clause-fits : goal.write_new_node-requires-clause-fits
 write_new_node-requires-clause-fits c =
-    let same : sizes_in c.of-places.result ≡ sizes_of c.args.task.now =
-    λ t. record { strips = c.of-places.ensures.strips t; marks = c.of-places.ensures.marks t } in
-    FitsNode-next c.args.task.now c.args.mark c.args.entry.now c.args.p c.args.moved.now (sizes_in c.of-places.result) same (words_of c.args.words.now)
+    let same = c.of-places.ensures in
+    FitsNode-next c.args.task.now c.args.mark c.args.entry.now c.args.p c.args.moved.now (sizes_in c.of-places.result) same c.args.words.now
     c.requires.run c.requires.left c.requires.nodes c.requires.closed c.in-Placed.is
 
 pub move_nodes-requires-clause-bounded : goal.move_nodes-requires-clause-bounded
 move_nodes-requires-clause-bounded c =
-    let same : sizes_in c.of-places.result ≡ sizes_of c.args.task.now =
-    λ t. record { strips = c.of-places.ensures.strips t; marks = c.of-places.ensures.marks t } in
-    IsBounded-next c.args.task.now c.args.mark c.args.entry.now c.args.p c.args.moved.now (sizes_in c.of-places.result) same (words_of c.args.words.now)
+    let same = c.of-places.ensures in
+    IsBounded-next c.args.task.now c.args.mark c.args.entry.now c.args.p c.args.moved.now (sizes_in c.of-places.result) same c.args.words.now
     c.requires.run c.requires.left c.requires.nodes c.requires.closed c.in-Placed.is
 
 pub move_nodes-requires-clause-fit : goal.move_nodes-requires-clause-fit
 move_nodes-requires-clause-fit c =
-    let same : sizes_in c.of-places.result ≡ sizes_of c.args.task.now =
-    λ t. record { strips = c.of-places.ensures.strips t; marks = c.of-places.ensures.marks t } in
-    MayMove-next c.args.task.now c.args.mark c.args.entry.now c.args.p c.args.moved.now (sizes_in c.of-places.result) same (words_of c.args.words.now)
-    c.requires.run c.requires.left c.requires.nodes c.requires.closed c.in-Placed.is (words_of c.write_record.new.words)
-    (words_of c.write_new_node.new.words)
+    let same = c.of-places.ensures in
+    MayMove-next c.args.task.now c.args.mark c.args.entry.now c.args.p c.args.moved.now (sizes_in c.of-places.result) same c.args.words.now
+    c.requires.run c.requires.left c.requires.nodes c.requires.closed c.in-Placed.is (words_in c.of-places.result c.write_record.new.words)
+    (words_in c.of-places.result c.write_new_node.new.words)
     (record {
-      counted = words_of c.count_mark.new.words;
+      counted = words_in c.of-places.result c.count_mark.new.words;
       counts = c.count_mark.ensures;
       hold = c.write_record.ensures.hold;
       others = c.write_record.ensures.others;
@@ -68,15 +61,14 @@ move_nodes-requires-clause-fit c =
 
 pub link-requires-clause-may_link : goal.link-requires-clause-may_link
 link-requires-clause-may_link c =
-    let same : sizes_in c.of-places.result ≡ sizes_of c.args.task.now =
-    λ t. record { strips = c.of-places.ensures.strips t; marks = c.of-places.ensures.marks t } in
-    MayLink-next c.args.task.now c.args.mark c.args.entry.now c.args.p c.args.moved.now (sizes_in c.of-places.result) same (words_of c.args.words.now)
-    c.requires.run c.requires.left c.requires.nodes c.requires.closed c.in-Placed.is (words_of c.move_nodes.new.words)
+    let same = c.of-places.ensures in
+    MayLink-next c.args.task.now c.args.mark c.args.entry.now c.args.p c.args.moved.now (sizes_in c.of-places.result) same c.args.words.now
+    c.requires.run c.requires.left c.requires.nodes c.requires.closed c.in-Placed.is (words_in c.of-places.result c.move_nodes.new.words)
     (record {
-      recorded = words_of c.write_record.new.words;
-      noded = words_of c.write_new_node.new.words;
+      recorded = words_in c.of-places.result c.write_record.new.words;
+      noded = words_in c.of-places.result c.write_new_node.new.words;
       records = record {
-        counted = words_of c.count_mark.new.words;
+        counted = words_in c.of-places.result c.count_mark.new.words;
         counts = c.count_mark.ensures;
         hold = c.write_record.ensures.hold;
         others = c.write_record.ensures.others;
@@ -87,15 +79,14 @@ link-requires-clause-may_link c =
 
 pub returns-in-Placed : goal.returns-in-Placed
 returns-in-Placed c =
-    let same : sizes_in c.of-places.result ≡ sizes_of c.args.task.now =
-    λ t. record { strips = c.of-places.ensures.strips t; marks = c.of-places.ensures.marks t } in
+    let same = c.of-places.ensures in
     let writes : PlacesMark (sizes_in c.of-places.result) c.args.mark (c.args.mark + 1) c.args.entry.now c.args.p c.args.moved.now
-    (words_of c.args.words.now) (words_of c.move_nodes.new.words) =
+    (words_in c.of-places.result c.args.words.now) (words_in c.of-places.result c.move_nodes.new.words) =
     record {
-      recorded = words_of c.write_record.new.words;
-      noded = words_of c.write_new_node.new.words;
+      recorded = words_in c.of-places.result c.write_record.new.words;
+      noded = words_in c.of-places.result c.write_new_node.new.words;
       records = record {
-        counted = words_of c.count_mark.new.words;
+        counted = words_in c.of-places.result c.count_mark.new.words;
         counts = c.count_mark.ensures;
         hold = c.write_record.ensures.hold;
         others = c.write_record.ensures.others;
@@ -106,25 +97,24 @@ returns-in-Placed c =
     record {
       run =
           HoldRun-next_placed c.args.task.now c.args.mark c.args.entry.now c.args.p c.args.moved.now (sizes_in c.of-places.result) same
-          (words_of c.args.words.now) c.requires.run c.requires.left c.requires.nodes c.requires.closed c.in-Placed.is (words_of c.move_nodes.new.words)
-          writes (words_of c.link.new.words) c.link.ensures.others c.link.ensures.linked;
+          c.args.words.now c.requires.run c.requires.left c.requires.nodes c.requires.closed c.in-Placed.is (words_in c.of-places.result c.move_nodes.new.words)
+          writes c.link.new.words c.link.ensures.others c.link.ensures.linked;
       state =
           AreSameRuns-next_placed c.args.task.now c.args.mark c.args.entry.now c.args.p c.args.moved.now (sizes_in c.of-places.result) same
-          (words_of c.args.words.now) c.requires.run c.requires.left c.requires.nodes c.requires.closed c.in-Placed.is (words_of c.move_nodes.new.words)
-          writes (words_of c.link.new.words) c.link.ensures.others c.link.ensures.linked;
+          c.args.words.now c.requires.run c.requires.left c.requires.nodes c.requires.closed c.in-Placed.is (words_in c.of-places.result c.move_nodes.new.words)
+          writes c.link.new.words c.link.ensures.others c.link.ensures.linked;
       children =
           KeepsChildren-next_placed c.args.task.now c.args.mark c.args.entry.now c.args.p c.args.moved.now (sizes_in c.of-places.result) same
-          (words_of c.args.words.now) c.requires.run c.requires.left c.requires.nodes c.requires.closed c.in-Placed.is (words_of c.move_nodes.new.words)
-          writes (words_of c.link.new.words) c.link.ensures.others c.link.ensures.linked c.link.ensures.children;
+          c.args.words.now c.requires.run c.requires.left c.requires.nodes c.requires.closed c.in-Placed.is (words_in c.of-places.result c.move_nodes.new.words)
+          writes c.link.new.words c.link.ensures.others c.link.ensures.linked c.link.ensures.children;
     }
 
 pub returns-in_default : goal.returns-in_default
 returns-in_default c =
-    let same : sizes_in c.of-places.result ≡ sizes_of c.args.task.now =
-    λ t. record { strips = c.of-places.ensures.strips t; marks = c.of-places.ensures.marks t } in
-    let records : RecordsMark (sizes_in c.of-places.result) c.args.mark c.args.entry.now (words_of c.args.words.now) (words_of c.write_record.new.words) =
+    let same = c.of-places.ensures in
+    let records : RecordsMark (sizes_in c.of-places.result) c.args.mark c.args.entry.now (words_in c.of-places.result c.args.words.now) (words_in c.of-places.result c.write_record.new.words) =
     record {
-      counted = words_of c.count_mark.new.words;
+      counted = words_in c.of-places.result c.count_mark.new.words;
       counts = c.count_mark.ensures;
       hold = c.write_record.ensures.hold;
       others = c.write_record.ensures.others;
@@ -133,14 +123,14 @@ returns-in_default c =
     record {
       run =
           HoldRun-next_unplaced c.args.task.now c.args.mark c.args.entry.now c.args.p c.args.moved.now (sizes_in c.of-places.result) same
-          (words_of c.args.words.now) c.requires.run c.requires.left c.requires.nodes c.requires.closed (words_of c.write_record.new.words) records
+          c.args.words.now c.requires.run c.requires.left c.requires.nodes c.requires.closed c.write_record.new.words records
           unplaced;
       state =
           AreSameRuns-next_unplaced c.args.task.now c.args.mark c.args.entry.now c.args.p c.args.moved.now (sizes_in c.of-places.result) same
-          (words_of c.args.words.now) c.requires.run c.requires.left c.requires.nodes c.requires.closed (words_of c.write_record.new.words) records
+          c.args.words.now c.requires.run c.requires.left c.requires.nodes c.requires.closed c.write_record.new.words records
           unplaced;
       children =
           KeepsChildren-next_unplaced c.args.task.now c.args.mark c.args.entry.now c.args.p c.args.moved.now (sizes_in c.of-places.result) same
-          (words_of c.args.words.now) c.requires.run c.requires.left c.requires.nodes c.requires.closed (words_of c.write_record.new.words) records
+          c.args.words.now c.requires.run c.requires.left c.requires.nodes c.requires.closed c.write_record.new.words records
           unplaced;
     }

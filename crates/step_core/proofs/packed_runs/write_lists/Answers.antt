@@ -1,30 +1,35 @@
-use Rattle.std.proofs.Common.{arith}
+use Rattle.std.proofs.Common.{◌≡◌, length, arith, refl, ◌∙◌}
 use Rattle.std.proofs.Math.ListN.{length-set}
-use Rattle.step_core.specs.GrownWords.{words_of}
-use Rattle.step_core.specs.PlacesOfWords.{sizes_in}
-use Rattle.step_core.specs.WordPlaces.{place_of_count, first_place}
-use Rattle.step_core.specs.Words.{tree_word}
 use Rattle.std.specs.Prelude.{count_by, is_some, slice_set}
-use Rattle.step_core.proofs.PackedLists.{WritesWord-set, HoldLists-written}
+use Rattle.step_core.specs.PackedRuns.{HoldLists}
+use Rattle.step_core.specs.PlacesOfWords.{sizes_in, words_in}
+use Rattle.step_core.specs.WordNames.{WritesWord}
+use Rattle.step_core.specs.WordNames.Word.{Count, FirstOf}
+use Rattle.step_core.specs.WordPlaces.{word_count}
+use Rattle.step_core.specs.Words.{tree_word}
+use Rattle.step_core.proofs.PackedLists.{HoldLists-written, child-written}
+use Rattle.step_core.proofs.WordReads.{WritesWord-set}
 use Rattle.step_core.proofs.packed_runs.write_lists.Goals as goal
 
-pub returns-clause-lists : goal.returns-clause-lists
-returns-clause-lists c =
+pub returns : goal.returns
+returns c =
     let sizes = sizes_in c.args.places in
     let knots = c.args.knots.now in
+    let long : length c.count_marks.new.words ≡ word_count (sizes_in c.args.places) = c.count_marks.auto.words ∙ c.requires.sized in
     let number =
-    WritesWord-set c.count_marks.new.words c.count.result place_of_count (count_by is_some c.args.knots.now) c.count_nodes.result
-    (omega (arith, c.count.ensures, c.requires.sized, c.count_marks.auto.words)) c.count.ensures c.count_nodes.ensures in
+    WritesWord-set (sizes_in c.args.places) c.count_marks.new.words c.count.result c.count_nodes.result (count_by is_some c.args.knots.now) Count long tt
+    c.count.ensures c.count_nodes.ensures in
     let first =
-    WritesWord-set (slice_set c.count_marks.new.words c.count.result c.count_nodes.result) c.first.result (first_place (sizes_in c.args.places) 0)
-    (tree_word 0 0) c.pack_tree.result
-    (omega (
-      arith,
-      c.first.ensures,
-      c.requires.sized,
-      c.count_marks.auto.words,
-      length-set c.count_marks.new.words c.count.result c.count_nodes.result,
-    ))
-    c.first.ensures c.pack_tree.ensures in
-    HoldLists-written sizes knots c.args.records.now (words_of c.args.words.now) (words_of c.count_marks.new.words) _ _ (words_of c.write_nodes.new.words)
-    (words_of c.write_records.new.words) c.requires.fit c.requires.zeros c.count_marks.ensures number first c.write_nodes.ensures c.write_records.ensures
+    WritesWord-set (sizes_in c.args.places) (slice_set c.count_marks.new.words c.count.result c.count_nodes.result) c.first.result c.pack_tree.result
+    (tree_word 0 0) (FirstOf 0) (length-set c.count_marks.new.words c.count.result c.count_nodes.result ∙ long) (omega arith) c.first.ensures
+    c.pack_tree.ensures in
+    record {
+      lists =
+          HoldLists-written sizes knots c.args.records.now (words_in c.args.places c.args.words.now) (words_in c.args.places c.count_marks.new.words) _ _
+          (words_in c.args.places c.write_nodes.new.words) (words_in c.args.places c.write_records.new.words) c.requires.zeros c.count_marks.ensures number
+          first c.write_nodes.ensures c.write_records.ensures;
+      children =
+          child-written sizes knots c.args.records.now (words_in c.args.places c.args.words.now) (words_in c.args.places c.count_marks.new.words) _ _
+          (words_in c.args.places c.write_nodes.new.words) (words_in c.args.places c.write_records.new.words) c.requires.zeros c.count_marks.ensures number
+          first c.write_nodes.ensures c.write_records.ensures;
+    }

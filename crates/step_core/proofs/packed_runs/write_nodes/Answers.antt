@@ -1,16 +1,14 @@
 use Rattle.std.proofs.Common.{◌+◌, sym, ap, ◌∙◌, subst}
 use Rattle.std.specs.Prelude.{Some, None}
 use Rattle.std.proofs.lemmas.Option.{slice_get-get_or}
-use Rattle.step_core.specs.GrownWords.{words_of}
 use Rattle.step_core.specs.PackedRuns.{WritesNodes}
-use Rattle.step_core.specs.PlacesOfWords.{sizes_in}
+use Rattle.step_core.specs.PlacesOfWords.{words_in}
 use Rattle.step_core.proofs.PackedWritings.{WritesNodes-absent, WritesNodes-more}
 use Rattle.step_core.proofs.packed_runs.write_nodes.Goals as goal
 use Rattle.step_core.proofs.packed_runs.write_nodes.Goals.{in-Some, in_default}
 
 pub loop-node-preserved : goal.loop-node-preserved
 loop-node-preserved c =
-    let sizes = sizes_in c.args.places in
     let knots = c.args.knots.now in
     let m = c.loop-node.node in
     let read = slice_get-get_or c.args.knots.now c.loop-node.node None c.loop-node-test.true in
@@ -18,13 +16,13 @@ loop-node-preserved c =
       | in-Some w ↦ (
           let own = read ∙ ap Some w.in-Some.is in
           let more =
-          WritesNodes-more sizes knots m (words_of c.args.words.now) (words_of c.loop-node.words) c.loop-node.invariant (words_of w.write_node.new.words)
-          w.in-Some.knot own (c.requires.fit m w.in-Some.knot own).within w.write_node.ensures.hold w.write_node.ensures.others in
-          subst (λ words. WritesNodes (sizes_in c.args.places) c.args.knots.now (c.loop-node.node + 1) (words_of c.args.words.now) (words_of words))
+          WritesNodes-more knots m (words_in c.args.places c.args.words.now) (words_in c.args.places c.loop-node.words) c.loop-node.invariant (words_in c.args.places w.write_node.new.words)
+          w.in-Some.knot own w.write_node.ensures.hold w.write_node.ensures.others in
+          subst (λ words. WritesNodes c.args.knots.now (c.loop-node.node + 1) (words_in c.args.places c.args.words.now) (words_in c.args.places words))
           (sym w.words-is) more)
       | in_default w ↦ (
           let more =
-          WritesNodes-absent sizes knots m (words_of c.args.words.now) (words_of c.loop-node.words) c.loop-node.invariant (read ∙ ap Some w.in_default.is) in
-          subst (λ words. WritesNodes (sizes_in c.args.places) c.args.knots.now (c.loop-node.node + 1) (words_of c.args.words.now) (words_of words))
+          WritesNodes-absent knots m (words_in c.args.places c.args.words.now) (words_in c.args.places c.loop-node.words) c.loop-node.invariant (read ∙ ap Some w.in_default.is) in
+          subst (λ words. WritesNodes c.args.knots.now (c.loop-node.node + 1) (words_in c.args.places c.args.words.now) (words_in c.args.places words))
           (sym w.words-is) more)
     ]

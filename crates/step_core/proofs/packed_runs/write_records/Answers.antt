@@ -1,8 +1,7 @@
 use Rattle.std.proofs.Common.{◌≡◌, length, refl, arith, subst}
 use Rattle.std.proofs.lemmas.Option.{slice_get_read}
-use Rattle.step_core.specs.GrownWords.{words_of}
 use Rattle.step_core.specs.PackedRuns.{WritesRecords}
-use Rattle.step_core.specs.PlacesOfWords.{sizes_in}
+use Rattle.step_core.specs.PlacesOfWords.{words_in}
 use Rattle.step_core.proofs.PackedWritings.{WritesRecords-more}
 use Rattle.step_core.proofs.packed_runs.write_records.Goals as goal
 
@@ -13,15 +12,14 @@ write_record-requires-clause-fits c = c.requires.fit c.loop-mark.mark c.index-re
 
 pub loop-mark-preserved : goal.loop-mark-preserved
 loop-mark-preserved c =
-    WritesRecords-more (sizes_in c.args.places) c.args.records.now c.loop-mark.mark (words_of c.args.words.now) (words_of c.loop-mark.words)
-    (words_of c.write_record.new.words) c.loop-mark.invariant c.index-records-mark.result
+    WritesRecords-more c.args.records.now c.loop-mark.mark (words_in c.args.places c.args.words.now) (words_in c.args.places c.loop-mark.words)
+    (words_in c.args.places c.write_record.new.words) c.loop-mark.invariant c.index-records-mark.result
     (slice_get_read c.args.records.now (length c.args.records.now) c.loop-mark.mark c.index-records-mark.result refl
     c.loop-mark-test.true c.index-records-mark.is)
-    (omega (arith, c.loop-mark-test.true, c.requires.few))
     c.write_record.ensures.hold c.write_record.ensures.others
 
 pub returns : goal.returns
 returns c =
     let all : c.loop-mark.mark ≡ length c.args.records.now = omega (arith, c.loop-mark-test.false, c.loop-mark.auto.mark-end) in
-    subst (λ m. WritesRecords (sizes_in c.args.places) c.args.records.now m (words_of c.args.words.now) (words_of c.loop-mark.words)) all
+    subst (λ m. WritesRecords c.args.records.now m (words_in c.args.places c.args.words.now) (words_in c.args.places c.loop-mark.words)) all
     c.loop-mark.invariant

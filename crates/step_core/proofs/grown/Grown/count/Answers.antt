@@ -1,7 +1,9 @@
-use Rattle.std.proofs.Common.{arith}
+use Rattle.std.proofs.Common.{arith, ap, ◌∙◌}
 use Rattle.plan_model.proofs.MarkBounds.{length-marks}
-use Rattle.step_core.specs.GrownWords.{sizes_of, words_of}
-use Rattle.step_core.specs.WordPlaces.{place_of_count}
+use Rattle.step_core.specs.GrownRuns.{words_of_grown}
+use Rattle.step_core.specs.GrownWords.{sizes_of}
+use Rattle.step_core.specs.WordNames.Word.{Count}
+use Rattle.step_core.specs.WordPlaces.{place_of}
 use Rattle.step_core.proofs.GrownPoints.{node_count-words}
 use Rattle.step_core.proofs.HeldRuns.{counted-read}
 use Rattle.step_core.proofs.WordReads.{word-read}
@@ -10,13 +12,14 @@ use Rattle.step_core.proofs.grown.Grown.count.Goals as goal
 pub overflow_cast-result : goal.overflow_cast-result
 overflow_cast-result c =
     let grown = c.args.self.now in
-    let words = words_of grown.words.items in
-    let read = word-read grown.words.items c.count.result place_of_count c.index.result.now c.index.ensures (omega (arith, grown.sized)) c.count.ensures in
-    let counted = counted-read grown.task grown.limit words grown.hold_run c.index.result.now read in
-    omega (arith, counted, node_count-words (sizes_of grown.task) words, length-marks grown.task)
+    let found = c.count.ensures ∙ ap (λ s. place_of s Count) c.of.ensures in
+    let read = word-read (sizes_of grown.task) grown.words.items c.count.result c.index.result.now Count grown.sized tt found c.index.ensures in
+    let counted = counted-read grown.task grown.limit (words_of_grown grown) grown.hold_run c.index.result.now read in
+    omega (arith, counted, node_count-words (sizes_of grown.task) (words_of_grown grown), length-marks grown.task)
 
 pub returns : goal.returns
 returns c =
     let grown = c.args.self.now in
-    let read = word-read grown.words.items c.count.result place_of_count c.index.result.now c.index.ensures (omega (arith, grown.sized)) c.count.ensures in
-    counted-read grown.task grown.limit (words_of grown.words.items) grown.hold_run c.index.result.now read
+    let found = c.count.ensures ∙ ap (λ s. place_of s Count) c.of.ensures in
+    let read = word-read (sizes_of grown.task) grown.words.items c.count.result c.index.result.now Count grown.sized tt found c.index.ensures in
+    counted-read grown.task grown.limit (words_of_grown grown) grown.hold_run c.index.result.now read

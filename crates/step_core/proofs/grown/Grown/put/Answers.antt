@@ -7,14 +7,14 @@ use Rattle.plan_model.specs.PointsByNumber.{IsPresent}
 use Rattle.plan_model.specs.Textbook.{setup_of}
 use Rattle.plan_model.specs.TreeStates.{AreSameRuns}
 use Rattle.plan_model.proofs.MarkBounds.{length-marks}
-use Rattle.step_core.specs.GrownWords.{children_of_words, points_of_words, sizes_of, state_of_words, words_of}
+use Rattle.step_core.specs.GrownWords.{children_of_words, points_of_words, run_words, sizes_of, state_of_words}
 use Rattle.step_core.specs.KdLinks.{KeepsChildren}
 use Rattle.step_core.proofs.grown.Grown.put.Goals as goal
 
 pub write_mark-requires-clause-nodes : goal.write_mark-requires-clause-nodes
 write_mark-requires-clause-nodes c =
     let old = c.args.self.now in
-    subst (λ items. All (IsPresent (points_of_words (sizes_of old.task) (words_of items))) c.args.moved.now) (sym c.deref_mut.ensures.value)
+    subst (λ items. All (IsPresent (points_of_words (sizes_of old.task) (run_words old.task items))) c.args.moved.now) (sym c.deref_mut.ensures.value)
     c.requires.nodes
 
 pub write_mark-requires-clause-closed : goal.write_mark-requires-clause-closed
@@ -23,7 +23,7 @@ write_mark-requires-clause-closed c =
     subst
     (λ items.
     ∥ IsClosed (setup_of old.task.scene) old.task.marks (old.limit + 1)
-    (with_mark (state_of_words (sizes_of old.task) (words_of items)) old.limit c.args.entry.now c.args.p c.args.moved.now) ∥₁)
+    (with_mark (state_of_words (sizes_of old.task) (run_words old.task items)) old.limit c.args.entry.now c.args.p c.args.moved.now) ∥₁)
     (sym c.deref_mut.ensures.value) c.requires.closed
 
 pub overflow_add-self : goal.overflow_add-self
@@ -37,13 +37,13 @@ returns-clause-state c =
     let items = with_items_is old.words c.write_mark.new.words long in
     subst
     (λ list.
-    AreSameRuns (with_mark (state_of_words sizes (words_of old.words.items)) old.limit c.args.entry.now c.args.p c.args.moved.now)
-    (state_of_words sizes (words_of list)))
+    AreSameRuns (with_mark (state_of_words sizes (run_words old.task old.words.items)) old.limit c.args.entry.now c.args.p c.args.moved.now)
+    (state_of_words sizes (run_words old.task list)))
     (sym items)
     (subst
     (λ list.
-    AreSameRuns (with_mark (state_of_words sizes (words_of list)) old.limit c.args.entry.now c.args.p c.args.moved.now)
-    (state_of_words sizes (words_of c.write_mark.new.words)))
+    AreSameRuns (with_mark (state_of_words sizes (run_words old.task list)) old.limit c.args.entry.now c.args.p c.args.moved.now)
+    (state_of_words sizes (run_words old.task c.write_mark.new.words)))
     c.deref_mut.ensures.value c.write_mark.ensures.state)
 
 pub returns-clause-children : goal.returns-clause-children
@@ -51,7 +51,7 @@ returns-clause-children c =
     let old = c.args.self.now in
     let sizes = sizes_of c.args.self.now.task in
     let long : length c.write_mark.new.words ≡ old.words.len = c.write_mark.auto.words ∙ c.deref_mut.ensures.len in
-    subst (λ list. KeepsChildren (children_of_words sizes (words_of old.words.items)) (children_of_words sizes (words_of list)))
+    subst (λ list. KeepsChildren (children_of_words (run_words old.task old.words.items)) (children_of_words (run_words old.task list)))
     (sym (with_items_is old.words c.write_mark.new.words long))
-    (subst (λ list. KeepsChildren (children_of_words sizes (words_of list)) (children_of_words sizes (words_of c.write_mark.new.words)))
+    (subst (λ list. KeepsChildren (children_of_words (run_words old.task list)) (children_of_words (run_words old.task c.write_mark.new.words)))
     c.deref_mut.ensures.value c.write_mark.ensures.children)

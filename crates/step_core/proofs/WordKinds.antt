@@ -1,0 +1,30 @@
+-- A word may stay as it is, and what may become of it in two steps may become of it in one.
+use Rattle.std.proofs.Common.{◌≡◌, ℕ, ◌<◌, ◌≤◌, ◌^◌, arith, refl, sym, subst, inl, inr}
+use Rattle.step_core.specs.Words.{cost_in}
+use Rattle.step_core.specs.WordNames.{Word, Words}
+use Rattle.step_core.specs.WordKinds.{WordKind, kind_of, MayBecome, AreBehind}
+use Rattle.step_core.specs.WordKinds.WordKind.{Rising, Once, Falling}
+
+pub MayBecome-refl : (kind : WordKind) (word : ℕ) → MayBecome kind word word
+MayBecome-refl Rising word = omega arith
+MayBecome-refl Once word = inr refl
+MayBecome-refl Falling word = inr (inl refl)
+
+pub MayBecome-trans : (kind : WordKind) (word later last : ℕ) → MayBecome kind word later → MayBecome kind later last → MayBecome kind word last
+MayBecome-trans Rising word later last first next = omega (arith, first, next)
+MayBecome-trans Once word later last (inl none) next = inl none
+MayBecome-trans Once word later last (inr same) next = subst (λ w. MayBecome Once w last) (sym same) next
+MayBecome-trans Falling word later last (inl none) next = inl none
+MayBecome-trans Falling word later last (inr (inl same)) next = subst (λ w. MayBecome Falling w last) (sym same) next
+MayBecome-trans Falling word later last (inr (inr lower)) (inl none) = absurd (omega (arith, lower.0, none))
+MayBecome-trans Falling word later last (inr (inr lower)) (inr (inl same)) =
+    inr (inr (subst (λ w. (2 ^ 63 ≤ w) × (cost_in w < cost_in word)) same lower))
+MayBecome-trans Falling word later last (inr (inr lower)) (inr (inr lowest)) = inr (inr (lowest.0, omega (arith, lowest.1, lower.1)))
+
+-- so it is with all words
+pub AreBehind-refl : (words : Words) → AreBehind words words
+AreBehind-refl words name = MayBecome-refl (kind_of name) (words name)
+
+pub AreBehind-trans : (words later last : Words) → AreBehind words later → AreBehind later last → AreBehind words last
+AreBehind-trans words later last first next name =
+    MayBecome-trans (kind_of name) (words name) (later name) (last name) (first name) (next name)

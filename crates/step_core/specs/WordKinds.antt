@@ -1,0 +1,36 @@
+-- What may become of a word, by its kind: what was seen against what is so now, now against later, and the entry of a call against its
+-- return are all compared so.
+use Rattle.std.specs.Prelude.{◌≡◌, ℕ, ◌<◌, ◌≤◌, ◌^◌, ◌⊎◌}
+use Rattle.step_core.specs.Words.{cost_in}
+use Rattle.step_core.specs.WordNames.{Word, Words}
+use Rattle.step_core.specs.WordNames.Word.{Count, Counter, PointOf, ChildOf, TreeOf, FirstOf, RecordOf}
+
+-- a number that only rises; a word that is written or filled once; a pair of a parent and a cost that only falls
+pub data WordKind : Type 0 where
+  Rising : WordKind
+  Once : WordKind
+  Falling : WordKind
+
+-- counts rise; points, children, first words and records are there once and stay; the costs of tree words fall
+abbrev pub kind_of : Word → WordKind
+kind_of Count = Rising
+kind_of (Counter strip) = Rising
+kind_of (PointOf node) = Once
+kind_of (ChildOf node side) = Once
+kind_of (TreeOf node) = Falling
+kind_of (FirstOf node) = Once
+kind_of (RecordOf mark) = Once
+
+-- a pair stays, or gives way to one of a lower cost, whatever its parent
+abbrev pub Falls : ℕ → ℕ → Type 0
+Falls word later = (word ≡ later) ⊎ ((2 ^ 63 ≤ later) × (cost_in later < cost_in word))
+
+-- what a word of this kind may become; 0 is no word yet, but of a number
+abbrev pub MayBecome : WordKind → ℕ → ℕ → Type 0
+MayBecome Rising word later = word ≤ later
+MayBecome Once word later = (word ≡ 0) ⊎ (word ≡ later)
+MayBecome Falling word later = (word ≡ 0) ⊎ Falls word later
+
+-- each word may become the one that stands there in the other table
+abbrev pub AreBehind : Words → Words → Type 0
+AreBehind words later = (name : Word) → MayBecome (kind_of name) (words name) (later name)
