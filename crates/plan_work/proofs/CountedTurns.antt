@@ -15,8 +15,8 @@ use Rattle.plan_model.specs.TreeStates.{TreeState}
 use Rattle.plan_model.proofs.CountsBelow.{count-same}
 use Rattle.plan_model.proofs.HandledMarks.{turns_of-handled, turns_of-handled_by_other}
 use Rattle.step_core.specs.declared.grown.Grown.{Grown}
-use Rattle.step_core.specs.GrownRuns.{state_of_grown}
-use Rattle.step_core.specs.GrownWords.{node_point, sizes_of, words_of}
+use Rattle.step_core.specs.GrownRuns.{state_of_grown, words_of_grown}
+use Rattle.step_core.specs.GrownWords.{node_point}
 use Rattle.plan_work.specs.Extensions.{HandlesNext}
 
 -- no worker has handled more than all marks
@@ -33,7 +33,7 @@ module _
 
   room : suc before.limit < length (state_of_grown before).points
   room =
-      omega (arith, left, length-map-range_with_len (node_point (sizes_of before.task) (words_of before.words.items)) 0 (length before.task.marks + 1))
+      omega (arith, left, length-map-range_with_len (node_point (words_of_grown before)) 0 (length before.task.marks + 1))
 
   same-turns : (worker : ℕ) → turns_of (state_of_grown after).record_of after.limit worker ≡ turns_of handled.record_of (suc before.limit) worker
   same-turns worker =

@@ -9,22 +9,21 @@ use Rattle.plan_model.specs.PointsByNumber.{StandsAt, IsPresent}
 use Rattle.plan_model.specs.TreeStates.{GrowsInto, first_cost_of, KeepsOrFalls}
 use Rattle.plan_model.proofs.NewNodes.{IsPresent-stands}
 use Rattle.step_core.specs.declared.grown.Grown.{Grown}
-use Rattle.step_core.specs.GrownRuns.{state_of_grown}
-use Rattle.step_core.specs.GrownWords.{words_of}
+use Rattle.step_core.specs.GrownRuns.{state_of_grown, words_of_grown}
 use Rattle.step_core.proofs.HeldNodes.{start_stands-held, start_parent-held, start_cost-held, node-held}
 
 module _ (grown : Grown) where
   -- the start stands at its place
   StandsAt-start : StandsAt (state_of_grown grown).points 0 grown.task.scene.start
-  StandsAt-start = start_stands-held grown.task grown.limit (words_of grown.words.items) grown.hold_run
+  StandsAt-start = start_stands-held grown.task grown.limit (words_of_grown grown) grown.hold_run
 
   -- it is its own parent
   parent-start : (state_of_grown grown).parent 0 ≡ 0
-  parent-start = start_parent-held grown.task grown.limit (words_of grown.words.items) grown.hold_run
+  parent-start = start_parent-held grown.task grown.limit (words_of_grown grown) grown.hold_run
 
   -- and costs nothing
   cost-start : (state_of_grown grown).cost 0 ≡ 0
-  cost-start = start_cost-held grown.task grown.limit (words_of grown.words.items) grown.hold_run
+  cost-start = start_cost-held grown.task grown.limit (words_of_grown grown) grown.hold_run
 
   -- ---- before its first mark
 
@@ -39,7 +38,7 @@ module _ (grown : Grown) where
   -- and the start alone is present
   start_alone-first : grown.limit ≡ 0 → (n : ℕ) → IsPresent (state_of_grown grown).points n → n ≡ 0
   start_alone-first fresh n here =
-      omega (arith, fresh, node-held grown.task grown.limit (words_of grown.words.items) grown.hold_run n here)
+      omega (arith, fresh, node-held grown.task grown.limit (words_of_grown grown) grown.hold_run n here)
 
 -- ---- from it to a later run
 

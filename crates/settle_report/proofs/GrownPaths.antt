@@ -12,15 +12,14 @@ use Rattle.plan_model.specs.TreeStates.{TreeState, chain_in}
 use Rattle.plan_model.proofs.ChainLaws.{chain-start, chain-parent}
 use Rattle.plan_model.proofs.OrderLaws.{KeepsOrder-falls}
 use Rattle.step_core.specs.declared.grown.Grown.{Grown}
-use Rattle.step_core.specs.GrownRuns.{state_of_grown}
-use Rattle.step_core.specs.GrownWords.{words_of}
+use Rattle.step_core.specs.GrownRuns.{state_of_grown, words_of_grown}
 use Rattle.step_core.proofs.HeldNodes.{start_present-held}
 use Rattle.settle_report.proofs.HeldOrders.{parent-held}
 
 -- kept costs fall along the parents of a finished run
 pub FallAlong-grown : (grown : Grown) → FallAlong (state_of_grown grown).cost (state_of_grown grown).points (state_of_grown grown).parent
 FallAlong-grown grown =
-    let words = words_of grown.words.items in
+    let words = words_of_grown grown in
     record {
       start = start_present-held grown.task grown.limit words grown.hold_run;
       parent = λ n here. parent-held grown.task grown.limit words grown.hold_run (suc n) here;

@@ -10,7 +10,8 @@ use Rattle.plan_model.specs.Trees.{edge_by}
 use Rattle.plan_model.specs.TreeStates.{sum_in}
 use Rattle.plan_model.proofs.OrderLaws.{parent-present}
 use Rattle.plan_model.proofs.OrderedTrees.{sum_in-le_cost}
-use Rattle.step_core.specs.GrownWords.{HoldRun, Words, sizes_of, state_of_words}
+use Rattle.step_core.specs.WordNames.{Words}
+use Rattle.step_core.specs.GrownWords.{HoldRun, sizes_of, state_of_words}
 
 module _ (task : Task) (limit : ℕ) (words : Words) (held : ∥ HoldRun task limit words ∥₁) where
   -- the parent of a node is present

@@ -1,4 +1,4 @@
-//! The words of a finished run in which its next mark is recorded: its record, the counter of its strip, and if it was placed
+//! The words of a closed run in which its next mark is recorded: its record, the counter of its strip, and if it was placed
 //! its node, which is linked to the kd-tree, and the nodes that are moved below it.
 
 ghost use Rattle.std.specs.Prelude.{◌≡◌, ◌<◌, ◌≤◌, ◌+◌, ◌%◌, All, length};

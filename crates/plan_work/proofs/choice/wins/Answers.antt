@@ -3,8 +3,8 @@ use Rattle.std.proofs.lemmas.Bool.{cases_lt}
 use Rattle.plan_model.specs.Cost.{cost_of}
 use Rattle.plan_model.specs.HandledMarks.{kept_cost_through}
 use Rattle.plan_model.proofs.ParentChoices.{IsLimit, IsNotAbove-wins, IsNotAbove-loses}
-use Rattle.step_core.specs.GrownRuns.{state_of_grown}
-use Rattle.step_core.specs.GrownWords.{sizes_of, words_of}
+use Rattle.step_core.specs.GrownRuns.{state_of_grown, words_of_grown}
+use Rattle.step_core.specs.GrownWords.{sizes_of}
 use Rattle.step_core.proofs.GrownPoints.{IsBounded-stands}
 use Rattle.plan_work.proofs.ReadCosts.{through-read}
 use Rattle.plan_work.proofs.choice.wins.Goals as goal
@@ -40,7 +40,7 @@ through c =
 pub costs_less-requires-clause-from : goal.costs_less-requires-clause-from
 costs_less-requires-clause-from c =
     let grown = c.args.grown.now in
-    IsBounded-stands (sizes_of grown.task) (words_of grown.words.items) c.args.number c.unwrap-from.result (sym c.point.ensures ∙ c.unwrap-from.ensures)
+    IsBounded-stands (sizes_of grown.task) (words_of_grown grown) c.args.number c.unwrap-from.result (sym c.point.ensures ∙ c.unwrap-from.ensures)
 
 pub returns-then-kept-limit-clause-wins : goal.returns-then-kept-limit-clause-wins
 returns-then-kept-limit-clause-wins c =

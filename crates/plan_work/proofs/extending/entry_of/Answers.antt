@@ -16,8 +16,7 @@ use Rattle.plan_model.proofs.DistinctPoints.{near-present}
 use Rattle.plan_model.proofs.NewNodes.{point_of-stands}
 use Rattle.plan_model.proofs.SamePoints.{same_point-false}
 use Rattle.plan_model.proofs.SteeredNodes.{IsFree-steered}
-use Rattle.step_core.specs.GrownRuns.{state_of_grown}
-use Rattle.step_core.specs.GrownWords.{words_of}
+use Rattle.step_core.specs.GrownRuns.{state_of_grown, words_of_grown}
 use Rattle.step_core.proofs.HeldNodes.{some-held}
 use Rattle.plan_work.proofs.SteeredMarks.{IsHandledWhole-by}
 use Rattle.plan_work.proofs.extending.entry_of.Goals as goal
@@ -64,7 +63,7 @@ place-parent-requires-clause-clear g c κs within =
 pub class-requires : goal.class-requires
 class-requires g c =
     let grown = c.args.grown.now in
-    omega (arith, c.from.ensures, c.count.ensures, some-held grown.task grown.limit (words_of grown.words.items) grown.hold_run)
+    omega (arith, c.from.ensures, c.count.ensures, some-held grown.task grown.limit (words_of_grown grown) grown.hold_run)
 
 pub returns-clause-handled : goal.returns-clause-handled
 returns-clause-handled g c =

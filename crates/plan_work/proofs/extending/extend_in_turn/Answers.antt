@@ -6,8 +6,8 @@ use Rattle.plan_model.specs.ClosedLaw.{IsClosed}
 use Rattle.plan_model.specs.HandledMarks.{with_mark}
 use Rattle.plan_model.specs.Textbook.{setup_of}
 use Rattle.plan_model.specs.TreeStates.{AreSameRuns}
-use Rattle.step_core.specs.GrownRuns.{state_of_grown}
-use Rattle.step_core.specs.GrownWords.{node_point, sizes_of, words_of}
+use Rattle.step_core.specs.GrownRuns.{state_of_grown, words_of_grown}
+use Rattle.step_core.specs.GrownWords.{node_point}
 use Rattle.plan_work.proofs.GrownMarks.{GrowsInto-put, IsClosed-put}
 use Rattle.plan_work.proofs.extending.extend_in_turn.Goals as goal
 
@@ -19,7 +19,7 @@ put-requires-clause-closed g c =
     let entry = c.entry_of-entry.result in
     let p = c.steer_next-steering.result.point in
     let room : suc grown.limit < length state.points =
-    omega (arith, c.requires.left, length-map-range_with_len (node_point (sizes_of grown.task) (words_of grown.words.items)) 0 (length grown.task.marks + 1)) in
+    omega (arith, c.requires.left, length-map-range_with_len (node_point (words_of_grown grown)) 0 (length grown.task.marks + 1)) in
     let few : entry.worker < MOST_WORKERS = omega (arith, c.requires.worker, c.entry_of-entry.ensures.worker) in
     subst (λ (moved : List ℕ). ∥ IsClosed setup grown.task.marks (grown.limit + 1) (with_mark state grown.limit entry p moved) ∥₁)
     (sym c.deref.ensures.value)
@@ -34,7 +34,7 @@ returns-clause-grows g c =
     let entry = c.entry_of-entry.result in
     let p = c.steer_next-steering.result.point in
     let room : suc grown.limit < length state.points =
-    omega (arith, c.requires.left, length-map-range_with_len (node_point (sizes_of grown.task) (words_of grown.words.items)) 0 (length grown.task.marks + 1)) in
+    omega (arith, c.requires.left, length-map-range_with_len (node_point (words_of_grown grown)) 0 (length grown.task.marks + 1)) in
     let few : entry.worker < MOST_WORKERS = omega (arith, c.requires.worker, c.entry_of-entry.ensures.worker) in
     let run = subst (λ (moved : List ℕ). AreSameRuns (with_mark state grown.limit entry p moved) (state_of_grown c.put.new.self)) c.deref.ensures.value
     c.put.ensures.state in

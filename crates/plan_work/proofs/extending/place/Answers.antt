@@ -11,15 +11,15 @@ use Rattle.plan_model.specs.Textbook.{IsCandidate, near_new, setup_of}
 use Rattle.plan_model.proofs.DistinctPoints.{near-present}
 use Rattle.plan_model.proofs.LeastPairLaws.{IsFirstLeast-among}
 use Rattle.plan_model.proofs.MarkBounds.{length-marks}
-use Rattle.step_core.specs.GrownRuns.{state_of_grown}
-use Rattle.step_core.specs.GrownWords.{sizes_of, words_of}
+use Rattle.step_core.specs.GrownRuns.{state_of_grown, words_of_grown}
+use Rattle.step_core.specs.GrownWords.{sizes_of}
 use Rattle.step_core.proofs.GrownPoints.{node_count-words}
 use Rattle.plan_work.proofs.extending.place.Goals as goal
 
 pub at-requires-clause-most : goal.at-requires-clause-most
 at-requires-clause-most g c =
     let grown = c.args.grown.now in
-    omega (arith, c.from.ensures, c.count.ensures, node_count-words (sizes_of grown.task) (words_of grown.words.items), length-marks grown.task)
+    omega (arith, c.from.ensures, c.count.ensures, node_count-words (sizes_of grown.task) (words_of_grown grown), length-marks grown.task)
 
 pub choose-parent-requires-clause-near : goal.choose-parent-requires-clause-near
 choose-parent-requires-clause-near g c κs within =

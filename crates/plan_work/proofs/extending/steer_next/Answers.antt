@@ -3,7 +3,8 @@ use Rattle.plan_model.specs.declared.geometry.Point.{Point}
 use Rattle.plan_model.specs.declared.tasks.Task.{Task}
 use Rattle.plan_model.specs.Bounds.{IsBounded}
 use Rattle.plan_model.proofs.MarkBounds.{All-task_marks_within}
-use Rattle.step_core.specs.GrownWords.{sizes_of, words_of}
+use Rattle.step_core.specs.GrownRuns.{words_of_grown}
+use Rattle.step_core.specs.GrownWords.{sizes_of}
 use Rattle.step_core.proofs.GrownPoints.{IsBounded-stands}
 use Rattle.plan_work.proofs.extending.steer_next.Goals as goal
 
@@ -21,7 +22,7 @@ nearest-nearest-requires c =
 pub steer-point-requires-clause-from : goal.steer-point-requires-clause-from
 steer-point-requires-clause-from c =
     let grown = c.args.grown.now in
-    IsBounded-stands (sizes_of grown.task) (words_of grown.words.items) c.nearest-nearest.result c.unwrap-from.result
+    IsBounded-stands (sizes_of grown.task) (words_of_grown grown) c.nearest-nearest.result c.unwrap-from.result
     (sym c.point.ensures ∙ c.unwrap-from.ensures)
 
 pub steer-point-requires-clause-to : goal.steer-point-requires-clause-to
@@ -32,7 +33,7 @@ steer-point-requires-clause-to c =
 pub returns-clause-bounded : goal.returns-clause-bounded
 returns-clause-bounded c =
     let grown = c.args.grown.now in
-    let from = IsBounded-stands (sizes_of grown.task) (words_of grown.words.items) c.nearest-nearest.result c.unwrap-from.result
+    let from = IsBounded-stands (sizes_of grown.task) (words_of_grown grown) c.nearest-nearest.result c.unwrap-from.result
     (sym c.point.ensures ∙ c.unwrap-from.ensures) in
     let mark = mark_bounded grown.task c.as_slice.result.now c.limit.result (record { x = 0; y = 0 })
     (c.as_slice.ensures ∙ ap (λ (task : Task). task.marks) c.task.ensures) (omega (arith, c.requires, c.limit.ensures)) in

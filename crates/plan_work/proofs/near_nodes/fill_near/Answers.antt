@@ -9,8 +9,8 @@ use Rattle.plan_model.specs.PointsByNumber.{point_at}
 use Rattle.plan_model.proofs.DistinctPoints.{within_present}
 use Rattle.plan_model.proofs.FreePoints.{filter-none, is_near_free}
 use Rattle.plan_model.proofs.MarkBounds.{length-marks}
-use Rattle.step_core.specs.GrownRuns.{state_of_grown}
-use Rattle.step_core.specs.GrownWords.{node_point, sizes_of, words_of}
+use Rattle.step_core.specs.GrownRuns.{state_of_grown, words_of_grown}
+use Rattle.step_core.specs.GrownWords.{node_point}
 use Rattle.step_core.proofs.HeldRuns.{limit-held}
 use Rattle.step_core.proofs.HeldNodes.{node-held}
 use Rattle.plan_work.proofs.NumberScans.{filter-more, filter-longer}
@@ -29,7 +29,7 @@ returns-then-radius-eq0-clause-near c =
 pub overflow_add-numbers : goal.overflow_add-numbers
 overflow_add-numbers c =
     let grown = c.args.grown.now in
-    omega (arith, c.limit-numbers.ensures, limit-held grown.task grown.limit (words_of grown.words.items) grown.hold_run, length-marks grown.task)
+    omega (arith, c.limit-numbers.ensures, limit-held grown.task grown.limit (words_of_grown grown) grown.hold_run, length-marks grown.task)
 
 pub loop-node-preserved : goal.loop-node-preserved
 loop-node-preserved c =
@@ -58,12 +58,12 @@ loop-node-preserved c =
 pub returns-clause-near : goal.returns-clause-near
 returns-clause-near c =
     let grown = c.args.grown.now in
-    let words = words_of grown.words.items in
+    let words = words_of_grown grown in
     let points = (state_of_grown grown).points in
     let test : ℕ → Bool = λ i. is_within c.args.point c.args.radius (point_at points i) in
     let node = c.loop-node.node in
     let long : length points ≡ length grown.task.marks + 1 =
-    length-map-range_with_len (node_point (sizes_of grown.task) words) 0 (length grown.task.marks + 1) in
+    length-map-range_with_len (node_point words) 0 (length grown.task.marks + 1) in
     let within = limit-held grown.task grown.limit words grown.hold_run in
     let fail : (i : ℕ) → node ≤ i → test i ≡ false =
     λ i past. elim (cases_Bool (test i)) [

@@ -8,8 +8,8 @@ use Rattle.plan_model.proofs.LeastScans.{IsFirstLeastBelow-first, IsFirstLeastBe
 use Rattle.plan_model.proofs.LeastScans.{IsFirstLeastBelow-takes, IsFirstLeast-scanned}
 use Rattle.plan_model.proofs.MarkBounds.{length-marks}
 use Rattle.plan_model.proofs.NewNodes.{IsPresent-stands, point_of-stands}
-use Rattle.step_core.specs.GrownRuns.{state_of_grown}
-use Rattle.step_core.specs.GrownWords.{sizes_of, words_of}
+use Rattle.step_core.specs.GrownRuns.{state_of_grown, words_of_grown}
+use Rattle.step_core.specs.GrownWords.{sizes_of}
 use Rattle.step_core.proofs.HeldRuns.{limit-held}
 use Rattle.step_core.proofs.GrownPoints.{IsBounded-stands}
 use Rattle.step_core.proofs.HeldNodes.{node-held, start_distance-held, start_present-held}
@@ -19,12 +19,12 @@ use Rattle.plan_work.proofs.nearest_node.nearest.Goals.{in-Some+then-distance-le
 pub overflow_add-numbers : goal.overflow_add-numbers
 overflow_add-numbers c =
     let grown = c.args.grown.now in
-    omega (arith, c.limit-numbers.ensures, limit-held grown.task grown.limit (words_of grown.words.items) grown.hold_run, length-marks grown.task)
+    omega (arith, c.limit-numbers.ensures, limit-held grown.task grown.limit (words_of_grown grown) grown.hold_run, length-marks grown.task)
 
 pub loop-node-init : goal.loop-node-init
 loop-node-init c =
     let grown = c.args.grown.now in
-    let words = words_of grown.words.items in
+    let words = words_of_grown grown in
     let points = (state_of_grown grown).points in
     let start = start_present-held grown.task grown.limit words grown.hold_run in
     record {
@@ -40,7 +40,7 @@ loop-node-init c =
 pub squared_distance-distance-requires-clause-from : goal.squared_distance-distance-requires-clause-from
 squared_distance-distance-requires-clause-from c =
     let grown = c.args.grown.now in
-    IsBounded-stands (sizes_of grown.task) (words_of grown.words.items) c.loop-node.node c.in-Some.point (sym c.point.ensures ∙ c.in-Some.is)
+    IsBounded-stands (sizes_of grown.task) (words_of_grown grown) c.loop-node.node c.in-Some.point (sym c.point.ensures ∙ c.in-Some.is)
 
 pub loop-node-preserved : goal.loop-node-preserved
 loop-node-preserved c =
@@ -83,7 +83,7 @@ loop-node-preserved c =
 pub returns : goal.returns
 returns c =
     let grown = c.args.grown.now in
-    let words = words_of grown.words.items in
+    let words = words_of_grown grown in
     let points = (state_of_grown grown).points in
     let l = c.loop-node in
     IsFirstLeast-scanned (distance_to c.args.mark points) (IsPresent points) l.node l.best l.invariant.scanned

@@ -4,8 +4,8 @@ use Rattle.plan_model.specs.Clearance.{Clear}
 use Rattle.plan_model.specs.Cost.{cost_of}
 use Rattle.plan_model.specs.declared.geometry.Point.{Point}
 use Rattle.plan_model.proofs.NewNodes.{IsPresent-stands, point_of-stands}
-use Rattle.step_core.specs.GrownRuns.{state_of_grown}
-use Rattle.step_core.specs.GrownWords.{sizes_of, words_of}
+use Rattle.step_core.specs.GrownRuns.{state_of_grown, words_of_grown}
+use Rattle.step_core.specs.GrownWords.{sizes_of}
 use Rattle.step_core.proofs.GrownPoints.{IsBounded-stands}
 use Rattle.plan_work.proofs.rewiring.is_cheaper.Goals as goal
 use Rattle.plan_work.proofs.rewiring.is_cheaper.Goals.{then-cost-kept_cost, else-cost-kept_cost}
@@ -16,7 +16,7 @@ never e = cc
 pub costs_less-requires-clause-to : goal.costs_less-requires-clause-to
 costs_less-requires-clause-to g c =
     let grown = c.args.grown.now in
-    IsBounded-stands (sizes_of grown.task) (words_of grown.words.items) c.args.near_node c.in-Some.to (sym c.point.ensures ∙ c.in-Some.is)
+    IsBounded-stands (sizes_of grown.task) (words_of_grown grown) c.args.near_node c.in-Some.to (sym c.point.ensures ∙ c.in-Some.is)
 
 pub returns-then-costs_less : goal.returns-then-costs_less
 returns-then-costs_less g c =

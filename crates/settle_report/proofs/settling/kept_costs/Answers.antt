@@ -1,8 +1,7 @@
 use Rattle.std.proofs.Common.{◌+◌, [], ◌∷◌, ◌++◌, arith, refl, sym, ap, ◌∙◌, subst}
 use Rattle.std.specs.Prelude.{is_some}
 use Rattle.plan_model.proofs.MarkBounds.{length-marks}
-use Rattle.step_core.specs.GrownRuns.{state_of_grown}
-use Rattle.step_core.specs.GrownWords.{words_of}
+use Rattle.step_core.specs.GrownRuns.{state_of_grown, words_of_grown}
 use Rattle.step_core.proofs.HeldRuns.{limit-held}
 use Rattle.step_core.proofs.HeldNodes.{node-held}
 use Rattle.settle_report.specs.CostOrders.{IsKeptCost}
@@ -15,7 +14,7 @@ overflow_add-node-end c =
     let grown = c.args.grown.now in
     omega (
       arith,
-      limit-held grown.task grown.limit (words_of grown.words.items) grown.hold_run,
+      limit-held grown.task grown.limit (words_of_grown grown) grown.hold_run,
       length-marks grown.task,
       c.limit-node-end.ensures,
     )
@@ -46,4 +45,4 @@ pub returns : goal.returns
 returns c =
     let grown = c.args.grown.now in
     AreKeptCosts-below (state_of_grown grown) c.loop-node.costs.items c.loop-node.node c.loop-node.invariant (λ n here.
-    omega (arith, c.limit-node-end.ensures, node-held grown.task grown.limit (words_of grown.words.items) grown.hold_run n here))
+    omega (arith, c.limit-node-end.ensures, node-held grown.task grown.limit (words_of_grown grown) grown.hold_run n here))

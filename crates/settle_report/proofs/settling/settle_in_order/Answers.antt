@@ -3,8 +3,7 @@ use Rattle.std.proofs.Math.Logic.{∥∥₁_elim}
 use Rattle.std.proofs.Math.Nat.{ℕ_set}
 use Rattle.plan_model.specs.PointsByNumber.{IsPresent}
 use Rattle.plan_model.specs.Textbook.{setup_of}
-use Rattle.step_core.specs.GrownRuns.{state_of_grown}
-use Rattle.step_core.specs.GrownWords.{words_of}
+use Rattle.step_core.specs.GrownRuns.{state_of_grown, words_of_grown}
 use Rattle.step_core.proofs.HeldNodes.{start_cost-held}
 use Rattle.settle_report.proofs.SettlingSteps.{AreSettledBelow, AreSettledBelow-more, ChangesCosts-more, all-settled, sum_in-changed}
 use Rattle.settle_report.proofs.settling.settle_in_order.Goals as goal
@@ -15,7 +14,7 @@ loop-node-preserved c =
     let now = c.loop-node.grown in
     let after = c.settle_node.new.grown in
     let i : ℕ = c.loop-node.node-index in
-    let zero_cost = start_cost-held now.task now.limit (words_of now.words.items) now.hold_run in
+    let zero_cost = start_cost-held now.task now.limit (words_of_grown now) now.hold_run in
     record {
       task = c.settle_node.ensures.task ∙ c.loop-node.invariant.task;
       limit = c.settle_node.ensures.limit ∙ c.loop-node.invariant.limit;
@@ -34,7 +33,7 @@ returns-clause-settled c = λ n here.
     let old = c.args.grown.now in
     let now = c.loop-node.grown in
     let change = c.loop-node.invariant.costs_alone in
-    let zero_cost = start_cost-held now.task now.limit (words_of now.words.items) now.hold_run in
+    let zero_cost = start_cost-held now.task now.limit (words_of_grown now) now.hold_run in
     let all : c.loop-node.node-index ≡ length c.args.order.now = omega arith in
     let settled = subst (AreSettledBelow (state_of_grown old) (state_of_grown now) c.args.order.now) all c.loop-node.invariant.settled in
     ∥∥₁_elim old.hold_run (ℕ_set _ _) (λ h.
