@@ -74,5 +74,6 @@ pub mod SeenTreeLaws
 pub mod SightLaws
 pub mod TrueSights
 pub mod SightsTogether
+pub mod SeenParentLaws
 pub mod SeenByOne
 pub mod SeenByTwo

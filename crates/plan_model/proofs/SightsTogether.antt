@@ -70,7 +70,8 @@ cheaper_second (Some own) (Some also) pair agree h =
           | inr above ↦ (own, refl, inl (one_parent (omega (arith, above, ltb-false also.1 own.1 e))))
         ]
 
-cheaper_either : (one other : Option (ℕ × ℕ)) (pair : ℕ × ℕ) → cheaper_of one other ≡ Some pair → (one ≡ Some pair) ⊎ (other ≡ Some pair)
+-- what is there was in the first or in the second
+pub cheaper_either : (one other : Option (ℕ × ℕ)) (pair : ℕ × ℕ) → cheaper_of one other ≡ Some pair → (one ≡ Some pair) ⊎ (other ≡ Some pair)
 cheaper_either None other pair h = inr h
 cheaper_either (Some own) None pair h = inl h
 cheaper_either (Some own) (Some also) pair h = pick (nat_lt also.1 own.1) h

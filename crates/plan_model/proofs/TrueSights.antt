@@ -26,11 +26,11 @@ pub whole_pair : (tree : SharedTree) (n : ℕ) → IsPresent tree.state.points n
 whole_pair tree n h = ap (option_map (λ p. (tree.state.parent n, tree.state.cost n))) (StandsAt-present tree.state.points n h)
 
 -- and of no other number
-record IsWholePair (tree : SharedTree) (n : ℕ) (pair : ℕ × ℕ) : Type 0 where
-  present : IsPresent tree.state.points n
-  same : pair ≡ (tree.state.parent n, tree.state.cost n)
+pub record IsWholePair (tree : SharedTree) (n : ℕ) (pair : ℕ × ℕ) : Type 0 where
+  pub present : IsPresent tree.state.points n
+  pub same : pair ≡ (tree.state.parent n, tree.state.cost n)
 
-whole_pair-present : (tree : SharedTree) (n : ℕ) (pair : ℕ × ℕ) → (seen_whole tree).parent_and_cost n ≡ Some pair → IsWholePair tree n pair
+pub whole_pair-present : (tree : SharedTree) (n : ℕ) (pair : ℕ × ℕ) → (seen_whole tree).parent_and_cost n ≡ Some pair → IsWholePair tree n pair
 whole_pair-present tree n pair h = by_point (point_at tree.state.points n) refl h
   where
     by_point : (o : Option Point) → point_at tree.state.points n ≡ o

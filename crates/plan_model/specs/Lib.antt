@@ -30,6 +30,7 @@ pub mod ClosedLaw
 pub mod Ways
 pub mod SeenTrees
 pub mod Sights
+pub mod SeenParents
 pub mod SameRuns
 pub mod ReportText
 pub mod TextLines

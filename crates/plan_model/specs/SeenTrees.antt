@@ -1,10 +1,10 @@
 -- What is seen of a tree to which others add, and when that is true of the tree.
 --
---     seen by a worker         the tree now
---            0                      0           a node without a child beside it was not looked at there
---           / \                    / \          -  this place was found empty
---          -   1                  4   1         node 2 was seen below node 1 at cost 1568,
---             /                      / \        and hangs below node 0 at cost 1280 by now
+--     seen by a worker         the tree now       (both as kd-trees)
+--            0                      0             -  a step of the worker found this place empty;
+--           / \                    / \               to the right of node 1 it has not looked.
+--          -   1                  4   1           It has seen node 2 at cost 1568 below node 1;
+--             /                      / \          node 2 costs 1280 now, below node 0.
 --            2                      2   3
 use Rattle.std.specs.Prelude.{◌≡◌, ◌≢◌, ◌⊎◌, ℕ, suc, ◌<◌, ◌≤◌, Bool, IsSome, option_map, Option, Some, List}
 use Rattle.plan_model.specs.declared.geometry.Point.{Point}

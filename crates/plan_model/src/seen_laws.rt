@@ -1,9 +1,13 @@
 //! Laws of what workers have seen of a tree, each the contract of a function that does nothing.
 
 ghost use Rattle.std.specs.Prelude.{◌≡◌, ℕ, ◌≤◌, Some};
+ghost use Rattle.plan_model.specs.OrderLaw.{KeepsFirstCosts, KeepsOrder};
 ghost use Rattle.plan_model.specs.PointsByNumber.{AreDistinct, IsFree, IsPresent};
-ghost use Rattle.plan_model.specs.SeenTrees.{FollowSeenWays, HasSeenAtLeast, IsOnSeenWay, IsRooted, IsSeen, IsTrueOf, SeenTree, SharedTree, TreeGrows};
+ghost use Rattle.plan_model.specs.SeenParents.{AreSeenLawfully};
+ghost use Rattle.plan_model.specs.SeenTrees.{seen_whole, FollowSeenWays, HasSeenAtLeast, IsOnSeenWay, IsRooted, IsSeen, IsTrueOf, SeenTree, SharedTree, TreeGrows};
 ghost use Rattle.plan_model.specs.Sights.{AgreeOnParents, EndsSince, IsLaterMoment, IsSwept, KeepsSight, Sight, TakesOver};
+ghost use Rattle.plan_model.specs.Textbook.{Setup};
+ghost use Rattle.plan_model.specs.TreeStates.{GrowsInto, TreeState};
 ghost use Rattle.plan_model.specs.Ways.{FollowWays, IsOnWay};
 ghost use Rattle.plan_model.specs.declared.geometry.Point.{Point};
 
@@ -62,4 +66,15 @@ pub fn what_is_taken_over_is_seen()
         → KeepsSight before → IsRooted other → KeepsSight after }
     ensures agree { (before after : Sight) (other third : SeenTree) → TakesOver before other after
         → AgreeOnParents before.seen third → AgreeOnParents other third → AgreeOnParents after.seen third }
+{}
+
+/// Parents and costs that are seen of a tree which keeps the order law are lawful. They stay so while the tree grows, and
+/// if a worker takes over what another has seen.
+pub fn seen_parents_stay_lawful()
+    ensures whole { (setup : Setup) (tree : SharedTree) → KeepsOrder setup tree.state → KeepsFirstCosts setup tree.state
+        → AreSeenLawfully setup (seen_whole tree) tree.state }
+    ensures grows { (setup : Setup) (seen : SeenTree) (before after : TreeState) → GrowsInto before after
+        → AreSeenLawfully setup seen before → AreSeenLawfully setup seen after }
+    ensures taken_over { (setup : Setup) (before after : Sight) (other : SeenTree) (state : TreeState) → TakesOver before other after
+        → AreSeenLawfully setup before.seen state → AreSeenLawfully setup other state → AreSeenLawfully setup after.seen state }
 {}
