@@ -1,3 +1,4 @@
+pub mod CostBounds
 pub mod CostLimits
 pub mod RadiusFromRoot
 pub mod RootBounds

@@ -1,29 +1,39 @@
-//! Costs of edges against a limit.
+//! Costs by way of a node, against a limit.
 
-ghost use Rattle.std.specs.Prelude.{◌↔◌, ◌<◌, IsTrue};
+ghost use Rattle.std.specs.Prelude.{◌↔◌, ◌+◌, ◌<◌, ◌≤◌, IsTrue};
 ghost use Rattle.plan_model.specs.Cost.{cost_of};
 ghost use Rattle.plan_model.specs.Bounds.{IsBounded};
 
 use crate::costs::SQUARED_UNITS;
 use plan_model::Point;
 
-/// Every cost is below it, in 256ths of a lattice step.
+/// Every cost of an edge is below it, in 256ths of a lattice step.
 const COST_BOUND: u64 = 536_870_912;
 
-/// Whether the edge from `a` to `b` costs less than `limit`: the same as `cost(a, b) < limit`, without a root.
+/// The question of rewiring: whether a node at `to` that is kept at `kept_cost` costs strictly less through a node at
+/// `from` that costs `cost_to_come`. The same as `cost_to_come + cost(from, to) < kept_cost`, without a root.
 ///
-/// The limit is in 256ths of a lattice step, and any number. O(1).
-pub fn costs_less(a: Point, b: Point, limit: u64) -> bool
-    requires from { IsBounded a }
-    requires to { IsBounded b }
-    ensures { IsTrue result ↔ cost_of a b < limit }
+/// Costs are in 256ths of a lattice step, and any numbers. O(1).
+pub fn costs_less_through(cost_to_come: u64, from: Point, to: Point, kept_cost: u64) -> bool
+    requires from { IsBounded from }
+    requires to { IsBounded to }
+    ensures { IsTrue result ↔ cost_to_come + cost_of from to < kept_cost }
 {
-    if limit == 0 {
+    kept_cost > 0 && costs_at_most_through(cost_to_come, from, to, kept_cost - 1)
+}
+
+/// The same with a limit that may be reached: whether `cost_to_come + cost(from, to) <= limit`.
+pub(crate) fn costs_at_most_through(cost_to_come: u64, from: Point, to: Point, limit: u64) -> bool
+    requires from { IsBounded from }
+    requires to { IsBounded to }
+    ensures { IsTrue result ↔ cost_to_come + cost_of from to ≤ limit }
+{
+    if limit < cost_to_come {
         return false;
     }
-    // all limits above the bound have the same answer, and the square of the bound fits
-    let most = (limit - 1).min(COST_BOUND);
-    SQUARED_UNITS * a.squared_distance(b) <= most * most
+    // all limits of an edge above the bound have the same answer, and the square of the bound fits
+    let most = (limit - cost_to_come).min(COST_BOUND);
+    SQUARED_UNITS * from.squared_distance(to) <= most * most
 }
 
 #[cfg(test)]
@@ -32,23 +42,32 @@ mod tests {
     use crate::bounded;
 
     #[test]
-    fn compares_costs_with_limits(rt: HostRuntime) {
-        for (a, b, limit, want) in [
-            ((5, 5), (5, 5), 0, false),
-            ((5, 5), (5, 5), 1, true),
-            ((0, 0), (30, 40), 0, false),
-            ((0, 0), (30, 40), 12_799, false),
-            ((0, 0), (30, 40), 12_800, false),
-            ((0, 0), (30, 40), 12_801, true),
-            ((1, 1), (0, 0), 362, false),
-            ((1, 1), (0, 0), 363, false),
-            ((1, 1), (0, 0), 364, true),
-            ((0, 0), (65_535, 65_535), 23_726_205, false),
-            ((0, 0), (65_535, 65_535), 23_726_206, true),
-            ((0, 0), (65_535, 65_535), u64::MAX, true),
+    fn compares_costs_through_a_node_with_kept_costs(rt: HostRuntime) {
+        for (cost_to_come, from, to, kept_cost, want) in [
+            (0, (5, 5), (5, 5), 0, false),
+            (0, (5, 5), (5, 5), 1, true),
+            (700, (5, 5), (5, 5), 700, false),
+            (700, (5, 5), (5, 5), 701, true),
+            (0, (0, 0), (30, 40), 0, false),
+            (0, (0, 0), (30, 40), 12_800, false),
+            (0, (0, 0), (30, 40), 12_801, true),
+            (200, (0, 0), (30, 40), 12_999, false),
+            (200, (0, 0), (30, 40), 13_000, false),
+            (200, (0, 0), (30, 40), 13_001, true),
+            (13_000, (0, 0), (30, 40), 12_801, false),
+            (0, (1, 1), (0, 0), 363, false),
+            (0, (1, 1), (0, 0), 364, true),
+            (0, (0, 0), (65_535, 65_535), 23_726_205, false),
+            (0, (0, 0), (65_535, 65_535), 23_726_206, true),
+            (0, (0, 0), (65_535, 65_535), u64::MAX, true),
+            (u64::MAX, (0, 0), (65_535, 65_535), u64::MAX, false),
         ] {
-            let less = costs_less(bounded(a), bounded(b), limit);
-            assert_eq!(rt; less, want, "from {a:?} to {b:?} below {limit}");
+            let less = costs_less_through(cost_to_come, bounded(from), bounded(to), kept_cost);
+            assert_eq!(rt;
+                less,
+                want,
+                "{cost_to_come} and from {from:?} to {to:?} below {kept_cost}"
+            );
         }
     }
 }

@@ -1,6 +1,7 @@
 //! The parts of RRT* (Karaman and Frazzoli, Sampling-based Algorithms for Optimal Motion Planning, IJRR 2011)
-//! that need no obstacles, in whole numbers: what an edge of the tree costs, whether it costs less than a limit,
-//! how a node steers towards a mark, the class of a number of nodes, and the rewiring radius of each class.
+//! that need no obstacles, in whole numbers: what an edge of the tree costs, which of two nodes is the better parent,
+//! whether a node costs less through another, how a node steers towards a mark, the class of a number of nodes, and the
+//! rewiring radius of each class.
 //!
 //! Each function returns exactly what the definitions of `plan_model` say, for all points whose distances fit
 //! 64 bits. An edge that is steered is no longer than the step.
@@ -12,13 +13,15 @@ ghost use Rattle.plan_model.specs.Bounds.{IsBounded};
 mod classes;
 mod cost_limits;
 mod costs;
+mod parents;
 mod radii;
 mod roots;
 mod steering;
 
 pub use classes::class;
-pub use cost_limits::costs_less;
+pub use cost_limits::costs_less_through;
 pub use costs::cost;
+pub use parents::Parent;
 pub use radii::Radii;
 pub use steering::steer;
 

@@ -1,39 +1,15 @@
 -- The choice of a parent: the least pair of cost and number among the nodes that were looked at.
-use Rattle.std.proofs.Common.{◌≡◌, ℕ, ◌+◌, ◌<◌, ◌≤◌, List, [], ◌∷◌, ◌++◌, Option}
+use Rattle.std.proofs.Common.{◌≡◌, ℕ, List, [], ◌∷◌, ◌++◌, Option}
 use Rattle.std.proofs.Common.{arith, refl, sym, subst, inl, inr, ◌⊎◌}
 use Rattle.std.specs.Prelude.{Contains}
 use Rattle.std.proofs.lemmas.List.Elements.{Contains-append_left, Contains-push, Contains-push_cases}
-use Rattle.std.proofs.lemmas.Bool.{cases_lt}
 use Rattle.plan_model.specs.declared.geometry.Point.{Point}
 use Rattle.plan_model.specs.Clearance.{Clear}
 use Rattle.plan_model.specs.ConfigurationSpace.{ConfigurationSpace}
 use Rattle.plan_model.specs.LeastPairs.{IsNotAbove, IsFirstLeast}
 use Rattle.plan_model.specs.OpenNodes.{IsOpenTo}
 use Rattle.plan_model.specs.PointsByNumber.{point_of}
-use Rattle.plan_model.proofs.LeastPairLaws.{IsNotAbove-refl, IsNotAbove-lesser, IsNotAbove-trans}
-
--- ---- who wins
-
--- what the key of n must be below to win against the best: at equal keys the lesser number wins
-pub record IsLimit (best_key n best limit : ℕ) : Type 0 where
-  pub lesser : n < best → limit ≡ best_key + 1
-  pub other : best ≤ n → limit ≡ best_key
-
--- a key below the limit wins
-pub IsNotAbove-wins : (key : ℕ → ℕ) (n best limit : ℕ) → IsLimit (key best) n best limit → key n < limit → IsNotAbove key n best
-IsNotAbove-wins key n best limit h below = elim (cases_lt n best) [
-  | inl less ↦ record { least = omega (arith, below, h.lesser less); first = λ e. omega (arith, less) }
-  | inr other ↦ IsNotAbove-lesser key n best (omega (arith, below, h.other other))
-]
-
--- and any other loses
-pub IsNotAbove-loses : (key : ℕ → ℕ) (n best limit : ℕ) → IsLimit (key best) n best limit → limit ≤ key n → IsNotAbove key best n
-IsNotAbove-loses key n best limit h above = elim (cases_lt n best) [
-  | inl less ↦ IsNotAbove-lesser key best n (omega (arith, above, h.lesser less))
-  | inr other ↦ record { least = omega (arith, above, h.other other); first = λ e. other }
-]
-
--- ---- the best of the nodes that are open
+use Rattle.plan_model.proofs.LeastPairLaws.{IsNotAbove-refl, IsNotAbove-trans}
 
 module _ (space : ConfigurationSpace) (points : List (Option Point)) (p : Point) where
   -- an open node of one number more was open before, or has that number

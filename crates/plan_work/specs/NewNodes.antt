@@ -1,19 +1,11 @@
--- A new node beside those that are present: its parent, and the nodes that are cheaper by way of it.
-use Rattle.std.specs.Prelude.{◌≡◌, ℕ, ◌+◌, ◌<◌, ◌^◌}
+-- The nodes that are cheaper by way of a new one.
+use Rattle.std.specs.Prelude.{ℕ, ◌+◌, ◌<◌}
 use Rattle.plan_model.specs.declared.geometry.Point.{Point}
 use Rattle.plan_model.specs.Clearance.{Clear}
 use Rattle.plan_model.specs.ConfigurationSpace.{ConfigurationSpace}
 use Rattle.plan_model.specs.Cost.{cost_of}
-use Rattle.plan_model.specs.HandledMarks.{kept_cost_through}
 use Rattle.plan_model.specs.PointsByNumber.{IsPresent, point_of}
 use Rattle.plan_model.specs.TreeStates.{TreeState}
-use Rattle.plan_work.specs.declared.choice.Parent.{Parent}
-
--- a present node, and the kept cost of reaching p through it, which is within 63 bits
-pub record IsParentOf (state : TreeState) (p : Point) (parent : Parent) : Type 0 where
-  pub present : IsPresent state.points parent.number
-  pub cost : parent.cost ≡ kept_cost_through state p parent.number
-  pub cost_bound : parent.cost < 2 ^ 63
 
 -- Node i is present, and strictly cheaper by way of a node at p that costs so much, over a clear edge.
 pub record CostsLessBy (space : ConfigurationSpace) (state : TreeState) (p : Point) (cost i : ℕ) : Type 0 where

@@ -15,12 +15,12 @@ ghost use Rattle.plan_model.specs.declared.limits.TheConstants.{MOST_WORKERS};
 ghost use Rattle.plan_work.specs.Extensions.{AreRadiiOf, HandlesNext};
 ghost use Rattle.step_core.specs.GrownRuns.{state_of_grown};
 
-use crate::choice::{Parent, choose};
+use crate::choice::choose;
 use crate::near_nodes::fill_near;
 use crate::nearest_node::nearest;
 use crate::rewiring::keep_cheaper;
 use crate::turns::turns_of;
-use edge_cost::{Radii, class, steer};
+use edge_cost::{Parent, Radii, class, steer};
 use plan_model::{Outcome, Point, Record};
 use step_core::Grown;
 use swept_check::Clearing;
@@ -161,7 +161,7 @@ fn entry_of<C: Clearing>(
         turn,
         nearest,
         outcome: Outcome::Placed,
-        first_parent: parent.number,
+        first_parent: parent.node,
         first_cost: parent.cost,
         class: class(u64::from(grown.count())),
     }
@@ -184,8 +184,8 @@ fn place<C: Clearing>(
     requires radii { AreRadiiOf grown.now.task.scene radii.now }
     requires spare { grown.now.limit + 1 ≤ vec_capacity list.old }
     ensures parent { IsFirstLeast (kept_cost_through (state_of_grown grown.now) point)
-        (IsCandidate (setup_of grown.now.task.scene) (state_of_grown grown.now).points nearest point) result.number }
-    ensures cost { result.cost ≡ kept_cost_through (state_of_grown grown.now) point result.number }
+        (IsCandidate (setup_of grown.now.task.scene) (state_of_grown grown.now).points nearest point) result.node }
+    ensures cost { result.cost ≡ kept_cost_through (state_of_grown grown.now) point result.node }
     ensures moves { (i : ℕ) → Contains list.new.items i
         ↔ IsCheaperBy (setup_of grown.now.task.scene) (state_of_grown grown.now) point result.cost i }
     ensures spare { vec_capacity list.new ≡ vec_capacity list.old }

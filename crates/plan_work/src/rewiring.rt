@@ -9,7 +9,7 @@ ghost use Rattle.plan_model.specs.Textbook.{near_new, setup_of};
 ghost use Rattle.plan_work.specs.NewNodes.{CostsLessBy};
 ghost use Rattle.step_core.specs.GrownRuns.{state_of_grown};
 
-use edge_cost::costs_less;
+use edge_cost::costs_less_through;
 use plan_model::Point;
 use step_core::Grown;
 use swept_check::Clearing;
@@ -49,7 +49,6 @@ fn is_cheaper<C: Clearing>(grown: &Grown, hall: &C, point: Point, cost: u64, nea
     let Some(to) = grown.point(near_node) else {
         return false;
     };
-    let kept_cost = grown.cost(near_node);
-    // a root is taken, and an edge tested, only for what wins
-    cost < kept_cost && costs_less(point, to, kept_cost - cost) && hall.clear(point, to)
+    // an edge is tested only for what wins
+    costs_less_through(cost, point, to, grown.cost(near_node)) && hall.clear(point, to)
 }

@@ -1,8 +1,8 @@
 -- What a mark adds to a sound tree handles it, by its outcome.
-use Rattle.std.proofs.Common.{◌≡◌, ℕ, suc, ◌+◌, List, [], ◌∷◌, ◌++◌, length, Option, Some, None, arith, refl, sym, ap, ◌∙◌, subst}
+use Rattle.std.proofs.Common.{◌≡◌, ℕ, suc, ◌+◌, ◌*◌, ◌^◌, ◌≤◌, List, [], ◌∷◌, ◌++◌, length, Option, Some, None, arith, refl, sym, ap, ◌∙◌, subst}
 use Rattle.std.specs.Prelude.{All, ◌≢◌}
 use Rattle.std.specs.List.Sorted.{IsStrictlyIncreasing}
-use Rattle.std.proofs.lemmas.List.Elements.{All-nil}
+use Rattle.std.proofs.lemmas.List.Elements.{All-cons, All-contains, All-nil}
 use Rattle.plan_model.specs.declared.geometry.Point.{Point}
 use Rattle.plan_model.specs.declared.trees.Twig.{Twig}
 use Rattle.plan_model.specs.declared.scenes.Scene.{Scene}
@@ -25,9 +25,10 @@ use Rattle.plan_model.proofs.SteeredNodes.{IsFree-steered}
 use Rattle.plan_model.proofs.DistinctPoints.{near-present}
 use Rattle.plan_model.proofs.NewNodes.{StandsAt-present}
 use Rattle.seq_planner.specs.declared.extensions.Extension.{Extension}
-use Rattle.seq_planner.specs.declared.choice.Parent.{Parent}
+use Rattle.edge_cost.specs.LeastParents.{IsLeastParent}
+use Rattle.edge_cost.specs.declared.parents.Parent.{Parent}
 use Rattle.seq_planner.specs.declared.search_tree.SearchTree.{SearchTree}
-use Rattle.seq_planner.specs.SearchTrees.{IsParentOf, IsExtensionOf, Fits}
+use Rattle.seq_planner.specs.SearchTrees.{IsExtensionOf, Fits}
 use Rattle.seq_planner.proofs.ScannedLists.{near-rising}
 use Rattle.seq_planner.proofs.SoundTrees.{IsBounded-in_room}
 
@@ -134,35 +135,35 @@ pub record IsPlaced
     (scene : Scene) (tree : SearchTree) (extension : Extension) (k nearest : ℕ) (point : Point) (ns : List ℕ) (parent : Parent) (class : ℕ)
     : Type 0 where
   pub are_near : ns ≡ near_new (setup_of scene) (points_of tree.nodes) point
-  pub best : IsFirstLeast (cost_through tree.nodes point) (IsOpenTo (space_of scene) (points_of tree.nodes) point (nearest ∷ ns)) parent.number
-  pub is_parent : IsParentOf tree.nodes point parent
+  pub best : IsLeastParent (cost_through tree.nodes point) (IsOpenTo (space_of scene) (points_of tree.nodes) point (nearest ∷ ns)) parent
+  pub bound : (i : ℕ) → IsPresent (points_of tree.nodes) i → cost_through tree.nodes point i ≤ node_count (points_of tree.nodes) * 2 ^ 29
   pub class_is : class ≡ class_of (node_count (points_of tree.nodes))
-  pub node : extension.node ≡ Some (record { point = point; parent = parent.number })
+  pub node : extension.node ≡ Some (record { point = point; parent = parent.node })
   pub cost : extension.cost ≡ parent.cost
-  pub entry : extension.entry ≡ placed_record k nearest parent.number parent.cost class
+  pub entry : extension.entry ≡ placed_record k nearest parent.node parent.cost class
 
 module _ (scene : Scene) (tree : SearchTree) (mark : Point) (k nearest : ℕ) (from point : Point) (h : Steers scene tree mark k nearest from point)
     (extension : Extension) (ns : List ℕ) (parent : Parent) (class : ℕ) (own : IsPlaced scene tree extension k nearest point ns parent class)
     (apart : point ≢ from) (clear : Clear (space_of scene) from point) where
   abbrev new_node : Twig
-  new_node = record { point = point; parent = parent.number }
+  new_node = record { point = point; parent = parent.node }
 
   -- it is the best of the candidates
-  best_parent : IsBestParent (setup_of scene) tree.nodes nearest point parent.number
+  best_parent : IsBestParent (setup_of scene) tree.nodes nearest point parent.node
   best_parent =
       let among : List ℕ → ℕ → Type 0 = IsOpenTo (space_of scene) (points_of tree.nodes) point in
-      let L : List ℕ → Type 0 = λ is. IsFirstLeast (cost_through tree.nodes point) (among (nearest ∷ is)) parent.number in
+      let L : List ℕ → Type 0 = λ is. IsFirstLeast (cost_through tree.nodes point) (among (nearest ∷ is)) parent.node in
       IsFirstLeast-among (cost_through tree.nodes point) (among (nearest ∷ near_new (setup_of scene) (points_of tree.nodes) point))
-      (IsCandidate (setup_of scene) (points_of tree.nodes) nearest point) parent.number
+      (IsCandidate (setup_of scene) (points_of tree.nodes) nearest point) parent.node
       (λ i o. record { among = o.one_of; clear = o.clear }) (λ i o. record { one_of = o.among; clear = o.clear })
-      (subst L own.are_near own.best)
+      (subst L own.are_near own.best.least)
 
   -- the record that the definition gives is that of the extension
   is_recorded :
-      placed_record k nearest parent.number (cost_through tree.nodes point parent.number) (class_of (node_count (points_of tree.nodes))) ≡ extension.entry
+      placed_record k nearest parent.node (cost_through tree.nodes point parent.node) (class_of (node_count (points_of tree.nodes))) ≡ extension.entry
   is_recorded =
-      ap (λ sum. placed_record k nearest parent.number sum (class_of (node_count (points_of tree.nodes)))) (sym own.is_parent.cost)
-      ∙ ap (placed_record k nearest parent.number parent.cost) (sym own.class_is)
+      ap (λ sum. placed_record k nearest parent.node sum (class_of (node_count (points_of tree.nodes)))) (sym own.best.cost)
+      ∙ ap (placed_record k nearest parent.node parent.cost) (sym own.class_is)
       ∙ sym own.entry
 
   handles_placed :
@@ -172,7 +173,7 @@ module _ (scene : Scene) (tree : SearchTree) (mark : Point) (k nearest : ℕ) (f
       let Q : Point → Type 0 = λ p. Clear (space_of scene) p point in
       let R : List ℕ → Type 0 = λ is. Rewires (space_of scene) (tree.nodes ++ Some new_node ∷ []) (suc k) is after in
       let entry : Record =
-      placed_record k nearest parent.number (cost_through tree.nodes point parent.number) (class_of (node_count (points_of tree.nodes))) in
+      placed_record k nearest parent.node (cost_through tree.nodes point parent.node) (class_of (node_count (points_of tree.nodes))) in
       let ends : EndsPlaced (setup_of scene) tree.nodes k mark entry after = record {
         point = point;
         steers = steers_to scene tree mark k nearest from point h;
@@ -184,14 +185,23 @@ module _ (scene : Scene) (tree : SearchTree) (mark : Point) (k nearest : ℕ) (f
       } in
       subst (λ (r : Record). Handles (setup_of scene) tree.nodes k mark r after) is_recorded ends
 
+  -- the best parent is one of nodes that are present
+  is_present : IsPresent (points_of tree.nodes) parent.node
+  is_present =
+      let points : List (Option Point) = points_of tree.nodes in
+      let near_ones : All (IsPresent points) ns =
+      subst (All (IsPresent points)) (sym own.are_near) (near-present points point (radius_of scene.step scene.gamma (node_count points))) in
+      All-contains (IsPresent points) (nearest ∷ ns) parent.node (All-cons (IsPresent points) nearest ns h.is_nearest.member near_ones)
+      own.best.least.member.one_of
+
   fits_new : Fits tree.nodes (Some new_node) extension.cost
   fits_new =
       let in_room = IsInRoom-reached scene tree mark k nearest from point h clear in (
-        own.is_parent.present,
+        is_present,
         is_free scene tree mark k nearest from point h apart,
         IsBounded-in_room scene point in_room,
-        own.cost ∙ own.is_parent.cost,
-        omega (arith, own.cost, own.is_parent.cost_bound),
+        own.cost ∙ own.best.cost,
+        omega (arith, own.cost, own.best.cost, own.bound parent.node is_present),
       )
 
   -- a node is placed at the point

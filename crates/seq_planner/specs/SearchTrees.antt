@@ -13,7 +13,6 @@ use Rattle.plan_model.specs.PointsByNumber.{StandsAt, IsPresent, IsFree, AreDist
 use Rattle.plan_model.specs.Trees.{points_of, CostsFall, AreTight}
 use Rattle.plan_model.specs.Textbook.{Nodes, setup_of, cost_through, Rewires, Handles}
 use Rattle.seq_planner.specs.declared.extensions.Extension.{Extension}
-use Rattle.seq_planner.specs.declared.choice.Parent.{Parent}
 use Rattle.seq_planner.specs.declared.placed_points.PlacedPoints.{PlacedPoints}
 use Rattle.seq_planner.specs.declared.search_tree.SearchTree.{SearchTree}
 use Rattle.seq_planner.specs.PlacedLists.{ArePlaced}
@@ -40,12 +39,6 @@ pub record IsSound (nodes : Nodes) (costs : List ℕ) (placed : PlacedPoints) : 
 -- a search tree with its lists
 abbrev pub IsSoundTree : SearchTree → Type 0
 IsSoundTree tree = IsSound tree.nodes tree.costs.items tree.placed
-
--- the cost of reaching p through a present node, as the node's parent-to-be keeps it
-pub record IsParentOf (nodes : Nodes) (p : Point) (parent : Parent) : Type 0 where
-  pub present : IsPresent (points_of nodes) parent.number
-  pub cost : parent.cost ≡ cost_through nodes p parent.number
-  pub cost_bound : parent.cost ≤ node_count (points_of nodes) * 2 ^ 29
 
 -- a node, if it is present, with its kept cost
 abbrev pub with_cost : Option Twig → ℕ → Option Knot

@@ -3,7 +3,7 @@
 ghost use Rattle.std.specs.Prelude.{◌≡◌, Some, None};
 ghost use Rattle.plan_model.specs.Textbook.{blocked_record, placed_record, same_record};
 
-use crate::choice::Parent;
+use edge_cost::Parent;
 use plan_model::{Outcome, Point, Record, Twig};
 
 /// What a mark (a sample) adds to a search tree.
@@ -52,14 +52,14 @@ impl Extension {
         parent: Parent,
         class: u32,
     ) -> Extension
-        ensures node { result.node ≡ Some (record { point = point; parent = parent.number }) }
+        ensures node { result.node ≡ Some (record { point = point; parent = parent.node }) }
         ensures cost { result.cost ≡ parent.cost }
-        ensures entry { result.entry ≡ placed_record turn nearest parent.number parent.cost class }
+        ensures entry { result.entry ≡ placed_record turn nearest parent.node parent.cost class }
     {
         Extension {
             node: Some(Twig {
                 point,
-                parent: parent.number,
+                parent: parent.node,
             }),
             cost: parent.cost,
             entry: Record {
@@ -67,7 +67,7 @@ impl Extension {
                 turn,
                 nearest,
                 outcome: Outcome::Placed,
-                first_parent: parent.number,
+                first_parent: parent.node,
                 first_cost: parent.cost,
                 class,
             },

@@ -11,7 +11,7 @@ ghost use Rattle.seq_planner.specs.SearchTrees.{IsSoundTree};
 
 use crate::search_tree::SearchTree;
 use crate::spreading::spread;
-use edge_cost::costs_less;
+use edge_cost::costs_less_through;
 use plan_model::Memory;
 use swept_check::Clearing;
 
@@ -88,8 +88,8 @@ impl SearchTree {
         let from = self.nodes.point(new_node);
         let to = self.nodes.point(near_node);
         let new_cost = self.costs[new_node as usize];
-        let kept = self.costs[near_node as usize];
-        // a root is taken, and an edge tested, only for what wins
-        new_cost < kept && costs_less(from, to, kept - new_cost) && hall.clear(from, to)
+        let kept_cost = self.costs[near_node as usize];
+        // an edge is tested only for what wins
+        costs_less_through(new_cost, from, to, kept_cost) && hall.clear(from, to)
     }
 }

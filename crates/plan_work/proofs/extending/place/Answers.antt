@@ -41,7 +41,7 @@ returns-clause-parent g c =
     let are_near : c.deref.result.now ≡ near_new (setup_of scene) points p =
     c.deref.ensures.value ∙ c.fill_near.ensures.near ∙ ap (near points p) radius in
     IsFirstLeast-among (kept_cost_through state p) (IsOpenTo (g.C.Clearing.space c.args.hall.now) points p (c.args.nearest ∷ c.deref.result.now))
-    (IsCandidate (setup_of scene) points c.args.nearest p) c.choose-parent.result.number
+    (IsCandidate (setup_of scene) points c.args.nearest p) c.choose-parent.result.node
     (λ i o. record {
       among = subst (λ ns. Contains (c.args.nearest ∷ ns) i) are_near o.one_of;
       clear = subst (λ (space : ConfigurationSpace). Clear space (point_of points i) p) c.requires.hall o.clear;
@@ -50,4 +50,4 @@ returns-clause-parent g c =
       one_of = subst (λ ns. Contains (c.args.nearest ∷ ns) i) (sym are_near) o.among;
       clear = subst (λ (space : ConfigurationSpace). Clear space (point_of points i) p) (sym c.requires.hall) o.clear;
     })
-    c.choose-parent.ensures.best
+    c.choose-parent.ensures.least

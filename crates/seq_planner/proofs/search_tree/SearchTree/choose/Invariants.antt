@@ -1,14 +1,12 @@
 use Rattle.std.proofs.Common.{◌∷◌, take}
-use Rattle.plan_model.specs.LeastPairs.{IsFirstLeast}
+use Rattle.edge_cost.specs.LeastParents.{IsLeastParent}
 use Rattle.plan_model.specs.OpenNodes.{IsOpenTo}
 use Rattle.plan_model.specs.Textbook.{cost_through}
 use Rattle.plan_model.specs.Trees.{points_of}
-use Rattle.seq_planner.specs.SearchTrees.{IsParentOf}
 use Rattle.seq_planner.proofs.search_tree.SearchTree.choose.Given as goal
 
+-- the best so far is that of the nearest node and the earlier near ones
 abbrev pub invariant-loop-number : goal.invariant-loop-number
-invariant-loop-number g l = record {
-  best : IsFirstLeast (cost_through l.self.nodes l.point)
-      (IsOpenTo (g.C.Clearing.space l.hall) (points_of l.self.nodes) l.point (l.nearest ∷ take l.number-index l.near)) l.best.number;
-  parent : IsParentOf l.self.nodes l.point l.best;
-}
+invariant-loop-number g l =
+    IsLeastParent (cost_through l.self.nodes l.point)
+    (IsOpenTo (g.C.Clearing.space l.hall) (points_of l.self.nodes) l.point (l.nearest ∷ take l.number-index l.near)) l.best

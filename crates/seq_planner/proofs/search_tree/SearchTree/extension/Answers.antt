@@ -2,8 +2,9 @@ use Rattle.std.proofs.Common.{◌≡◌, ℕ, List, ◌∷◌, true, arith, rule
 use Rattle.std.specs.Prelude.{All}
 use Rattle.plan_model.specs.declared.geometry.Point.{Point}
 use Rattle.plan_model.specs.ConfigurationSpace.{ConfigurationSpace, space_of}
+use Rattle.plan_model.specs.Bounds.{IsBounded}
 use Rattle.plan_model.specs.Clearance.{Clear}
-use Rattle.plan_model.specs.LeastPairs.{IsFirstLeast}
+use Rattle.edge_cost.specs.LeastParents.{IsLeastParent}
 use Rattle.plan_model.specs.Nearness.{near}
 use Rattle.plan_model.specs.OpenNodes.{IsOpenTo}
 use Rattle.plan_model.specs.PointsByNumber.{IsPresent, node_count}
@@ -13,6 +14,7 @@ use Rattle.plan_model.specs.Trees.{points_of}
 use Rattle.plan_model.proofs.DistinctPoints.{near-present}
 use Rattle.plan_model.proofs.SamePoints.{same_point-true, same_point-false}
 use Rattle.seq_planner.proofs.PlacedLists.{ArePlaced-bounded}
+use Rattle.seq_planner.proofs.ReadCosts.{through-bound}
 use Rattle.seq_planner.proofs.SoundTrees.{IsBounded-present, some_present}
 use Rattle.seq_planner.proofs.MarkExtensions.{Steers, is_free, IsExtensionOf-same, IsExtensionOf-blocked, IsExtensionOf-placed}
 use Rattle.seq_planner.proofs.search_tree.SearchTree.extension.Goals as goal
@@ -135,17 +137,23 @@ returns g c =
     let are_near : c.near.new.found.items ≡ near_new (setup_of scene) points c.steer-point.result =
     c.in_ok-near.ensures points c.requires.sound.are_placed free ∙ ap (near points c.steer-point.result) radius in
     let S : ConfigurationSpace → List ℕ → Type 0 =
-    λ space ns. IsFirstLeast (cost_through tree.nodes c.steer-point.result) (IsOpenTo space points c.steer-point.result (c.nearest-nearest.result ∷ ns))
-    c.choose-parent.result.number in
+    λ space ns. IsLeastParent (cost_through tree.nodes c.steer-point.result) (IsOpenTo space points c.steer-point.result (c.nearest-nearest.result ∷ ns))
+    c.choose-parent.result in
     let best : S (space_of scene) c.near.new.found.items =
     subst (λ (space : ConfigurationSpace). S space c.near.new.found.items) c.requires.hall
-    (subst (S (g.C.Clearing.space c.args.hall.now)) c.deref.ensures.value c.choose-parent.ensures.best) in
+    (subst (S (g.C.Clearing.space c.args.hall.now)) c.deref.ensures.value c.choose-parent.ensures) in
+    let from = IsBounded-present tree.nodes tree.costs.items tree.placed c.nearest-nearest.result c.point-from.result c.requires.sound
+    steers.is_nearest.member c.point-from.ensures in
+    let bounded : IsBounded c.steer-point.result = record {
+      right = omega (arith, c.steer-point.ensures.right, from.right, c.requires.bounded.right);
+      top = omega (arith, c.steer-point.ensures.top, from.top, c.requires.bounded.top);
+    } in
     IsExtensionOf-placed scene tree c.args.mark c.len-turn.result c.nearest-nearest.result c.point-from.result c.steer-point.result steers
     c.placed.result c.near.new.found.items c.choose-parent.result c.class.result
     (record {
       are_near = are_near;
       best = best;
-      is_parent = c.choose-parent.ensures.parent;
+      bound = λ i own. through-bound tree.nodes tree.costs.items tree.placed i c.steer-point.result c.requires.sound own bounded;
       class_is = c.class.ensures.value ∙ ap class_of count;
       node = c.placed.ensures.node;
       cost = c.placed.ensures.cost;

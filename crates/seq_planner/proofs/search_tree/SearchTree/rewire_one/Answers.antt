@@ -16,8 +16,7 @@ overflow_sub-fall g c =
       arith,
       cheaper.cheaper,
       kept,
-      c.parent-cost_through.ensures.parent.cost,
-      ap (cost_through tree.nodes c.point.result) c.parent-cost_through.ensures.number,
+      c.parent-cost_through.ensures.cost,
       ap (λ p. cost_through tree.nodes p c.args.new_node) c.point.ensures,
     )
 
@@ -26,8 +25,7 @@ set_parent-requires-clause-child g c =
     let tree = c.args.self.now in
     let cheaper = c.is_cheaper.ensures.0 c.if-not-is_cheaper.false in
     let through : c.parent-cost_through.result.cost ≡ cost_through tree.nodes (point_of (points_of tree.nodes) c.args.near_node) c.args.new_node =
-    c.parent-cost_through.ensures.parent.cost ∙ ap (cost_through tree.nodes c.point.result) c.parent-cost_through.ensures.number
-    ∙ ap (λ p. cost_through tree.nodes p c.args.new_node) c.point.ensures in
+    c.parent-cost_through.ensures.cost ∙ ap (λ p. cost_through tree.nodes p c.args.new_node) c.point.ensures in
     let kept = sum-read tree.nodes tree.costs.items tree.placed c.args.near_node c.index.result.now c.requires.sound c.requires.near c.index.ensures in
     let is : IsCheaper tree.nodes tree.costs.items tree.placed c.args.new_node c.args.near_node c.parent-cost_through.result.cost c.index.result.now = record {
       sound = c.requires.sound;
@@ -44,8 +42,7 @@ spread-requires-clause-child g c =
     let tree = c.args.self.now in
     let cheaper = c.is_cheaper.ensures.0 c.if-not-is_cheaper.false in
     let through : c.parent-cost_through.result.cost ≡ cost_through tree.nodes (point_of (points_of tree.nodes) c.args.near_node) c.args.new_node =
-    c.parent-cost_through.ensures.parent.cost ∙ ap (cost_through tree.nodes c.point.result) c.parent-cost_through.ensures.number
-    ∙ ap (λ p. cost_through tree.nodes p c.args.new_node) c.point.ensures in
+    c.parent-cost_through.ensures.cost ∙ ap (λ p. cost_through tree.nodes p c.args.new_node) c.point.ensures in
     let kept = sum-read tree.nodes tree.costs.items tree.placed c.args.near_node c.index.result.now c.requires.sound c.requires.near c.index.ensures in
     let is : IsCheaper tree.nodes tree.costs.items tree.placed c.args.new_node c.args.near_node c.parent-cost_through.result.cost c.index.result.now = record {
       sound = c.requires.sound;
@@ -62,8 +59,7 @@ spread-requires-clause-present g c =
     let tree = c.args.self.now in
     let cheaper = c.is_cheaper.ensures.0 c.if-not-is_cheaper.false in
     let through : c.parent-cost_through.result.cost ≡ cost_through tree.nodes (point_of (points_of tree.nodes) c.args.near_node) c.args.new_node =
-    c.parent-cost_through.ensures.parent.cost ∙ ap (cost_through tree.nodes c.point.result) c.parent-cost_through.ensures.number
-    ∙ ap (λ p. cost_through tree.nodes p c.args.new_node) c.point.ensures in
+    c.parent-cost_through.ensures.cost ∙ ap (λ p. cost_through tree.nodes p c.args.new_node) c.point.ensures in
     let kept = sum-read tree.nodes tree.costs.items tree.placed c.args.near_node c.index.result.now c.requires.sound c.requires.near c.index.ensures in
     let is : IsCheaper tree.nodes tree.costs.items tree.placed c.args.new_node c.args.near_node c.parent-cost_through.result.cost c.index.result.now = record {
       sound = c.requires.sound;
@@ -84,8 +80,7 @@ spread-requires-clause-falling g c =
     let tree = c.args.self.now in
     let cheaper = c.is_cheaper.ensures.0 c.if-not-is_cheaper.false in
     let through : c.parent-cost_through.result.cost ≡ cost_through tree.nodes (point_of (points_of tree.nodes) c.args.near_node) c.args.new_node =
-    c.parent-cost_through.ensures.parent.cost ∙ ap (cost_through tree.nodes c.point.result) c.parent-cost_through.ensures.number
-    ∙ ap (λ p. cost_through tree.nodes p c.args.new_node) c.point.ensures in
+    c.parent-cost_through.ensures.cost ∙ ap (λ p. cost_through tree.nodes p c.args.new_node) c.point.ensures in
     let kept = sum-read tree.nodes tree.costs.items tree.placed c.args.near_node c.index.result.now c.requires.sound c.requires.near c.index.ensures in
     let is : IsCheaper tree.nodes tree.costs.items tree.placed c.args.new_node c.args.near_node c.parent-cost_through.result.cost c.index.result.now = record {
       sound = c.requires.sound;
@@ -106,8 +101,7 @@ spread-requires-clause-some g c =
     let tree = c.args.self.now in
     let cheaper = c.is_cheaper.ensures.0 c.if-not-is_cheaper.false in
     let through : c.parent-cost_through.result.cost ≡ cost_through tree.nodes (point_of (points_of tree.nodes) c.args.near_node) c.args.new_node =
-    c.parent-cost_through.ensures.parent.cost ∙ ap (cost_through tree.nodes c.point.result) c.parent-cost_through.ensures.number
-    ∙ ap (λ p. cost_through tree.nodes p c.args.new_node) c.point.ensures in
+    c.parent-cost_through.ensures.cost ∙ ap (λ p. cost_through tree.nodes p c.args.new_node) c.point.ensures in
     let kept = sum-read tree.nodes tree.costs.items tree.placed c.args.near_node c.index.result.now c.requires.sound c.requires.near c.index.ensures in
     let is : IsCheaper tree.nodes tree.costs.items tree.placed c.args.new_node c.args.near_node c.parent-cost_through.result.cost c.index.result.now = record {
       sound = c.requires.sound;
@@ -124,8 +118,7 @@ returns-clause-sound g c =
     let tree = c.args.self.now in
     let cheaper = c.is_cheaper.ensures.0 c.if-not-is_cheaper.false in
     let through : c.parent-cost_through.result.cost ≡ cost_through tree.nodes (point_of (points_of tree.nodes) c.args.near_node) c.args.new_node =
-    c.parent-cost_through.ensures.parent.cost ∙ ap (cost_through tree.nodes c.point.result) c.parent-cost_through.ensures.number
-    ∙ ap (λ p. cost_through tree.nodes p c.args.new_node) c.point.ensures in
+    c.parent-cost_through.ensures.cost ∙ ap (λ p. cost_through tree.nodes p c.args.new_node) c.point.ensures in
     let kept = sum-read tree.nodes tree.costs.items tree.placed c.args.near_node c.index.result.now c.requires.sound c.requires.near c.index.ensures in
     let is : IsCheaper tree.nodes tree.costs.items tree.placed c.args.new_node c.args.near_node c.parent-cost_through.result.cost c.index.result.now = record {
       sound = c.requires.sound;
@@ -149,8 +142,7 @@ returns-clause-points g c =
     let tree = c.args.self.now in
     let cheaper = c.is_cheaper.ensures.0 c.if-not-is_cheaper.false in
     let through : c.parent-cost_through.result.cost ≡ cost_through tree.nodes (point_of (points_of tree.nodes) c.args.near_node) c.args.new_node =
-    c.parent-cost_through.ensures.parent.cost ∙ ap (cost_through tree.nodes c.point.result) c.parent-cost_through.ensures.number
-    ∙ ap (λ p. cost_through tree.nodes p c.args.new_node) c.point.ensures in
+    c.parent-cost_through.ensures.cost ∙ ap (λ p. cost_through tree.nodes p c.args.new_node) c.point.ensures in
     let kept = sum-read tree.nodes tree.costs.items tree.placed c.args.near_node c.index.result.now c.requires.sound c.requires.near c.index.ensures in
     let is : IsCheaper tree.nodes tree.costs.items tree.placed c.args.new_node c.args.near_node c.parent-cost_through.result.cost c.index.result.now = record {
       sound = c.requires.sound;
