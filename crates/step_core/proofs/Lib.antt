@@ -28,3 +28,6 @@ pub mod MarkStates
 pub mod PlacedMarks
 pub mod LinkedMarks
 pub mod NextMarks
+pub mod SeenWords
+pub mod TrueWords
+pub mod Looks

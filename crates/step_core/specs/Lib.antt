@@ -8,3 +8,5 @@ pub mod PlacesOfWords
 pub mod KdLinks
 pub mod PackedRuns
 pub mod MarkWrites
+pub mod SharedWords
+pub mod SeenWords

@@ -18,6 +18,7 @@ mod mark_writes;
 mod packed_runs;
 mod point_words;
 mod record_words;
+mod seen_laws;
 mod tree_words;
 mod word_places;
 

@@ -1,0 +1,128 @@
+-- What was seen of words, each of which may become the word now, is true of the tree in the words now.
+use Rattle.std.proofs.Common.{◌≡◌, ℕ, zero, suc, ◌+◌, ◌≤◌, ◌^◌, Bool, true, false, Some, None, refl, arith, sym, ap, ◌∙◌, subst, inl, inr}
+use Rattle.std.specs.Prelude.{◌||◌, ◌==◌, is_some, nat_lt, unwrap_or, cond, if◌then◌else◌}
+use Rattle.std.specs.List.{range_with_len, list_any}
+use Rattle.std.proofs.lemmas.Bool.{cases_lt, eq-eqb}
+use Rattle.std.proofs.lemmas.List.{get_or_past}
+use Rattle.std.proofs.lemmas.List.Folds.{list_any_at}
+use Rattle.std.proofs.lemmas.List.FromFn.{get_or-range_with_len, length-range_with_len, get_or-map-range_with_len, length-map-range_with_len}
+use Rattle.plan_model.specs.declared.geometry.Point.{Point}
+use Rattle.plan_model.specs.PointsByNumber.{point_of, StandsAt, IsPresent}
+use Rattle.plan_model.specs.SeenTrees.{IsSeen, IsRooted, KeepsOrLowers, seen_whole, IsTrueOf}
+use Rattle.plan_model.specs.Ways.{FollowWays}
+use Rattle.plan_model.proofs.NewNodes.{IsPresent-stands, StandsAt-present}
+use Rattle.plan_model.proofs.TrueSights.{whole_pair}
+use Rattle.plan_model.proofs.WayLaws.{not_empty}
+use Rattle.step_core.specs.GrownWords.{child_of_word, children_of_words}
+use Rattle.step_core.specs.SeenWords.{seen_tree_of_words}
+use Rattle.step_core.specs.SharedWords.{is_child_of, is_linked, linked_point, linked_points, shared_tree_of_words}
+use Rattle.step_core.specs.WordKinds.{AreBehind}
+use Rattle.step_core.specs.WordNames.{Words}
+use Rattle.step_core.specs.WordNames.Word.{Count, Counter, PointOf, ChildOf, TreeOf}
+use Rattle.step_core.specs.WordPlaces.{Sizes}
+use Rattle.step_core.specs.Words.{point_of_word, parent_in, cost_in, tree_of_word, record_of_word}
+use Rattle.step_core.proofs.SeenWords.{seen-within, child_says, point_says, pair_says, record_stays, record_says}
+
+-- ---- links
+
+child_names : (word n : ℕ) → child_of_word word ≡ Some n → word ≡ n
+child_names zero n h = cc
+child_names (suc m) n h = ap (λ o. unwrap_or {T = ℕ} o n) h
+
+or_left : (a b : Bool) → a ≡ true → (a || b) ≡ true
+or_left true b h = refl
+or_left false b h = cc
+
+or_right : (a b : Bool) → b ≡ true → (a || b) ≡ true
+or_right true b h = refl
+or_right false b h = h
+
+module _ (sizes : Sizes) (words : Words) where
+  is_child : (m n : ℕ) (side : Bool) → words (ChildOf m side) ≡ n → is_child_of words n m ≡ true
+  is_child m n false h = or_left (words (ChildOf m false) == n) (words (ChildOf m true) == n) (eq-eqb (words (ChildOf m false)) n h)
+  is_child m n true h = or_right (words (ChildOf m false) == n) (words (ChildOf m true) == n) (eq-eqb (words (ChildOf m true)) n h)
+
+  -- node 0 is linked
+  pub is_linked-start : is_linked sizes words 0 ≡ true
+  is_linked-start = refl
+
+  -- and so is each child
+  pub is_linked-child : (m n : ℕ) (side : Bool) → m ≤ sizes.marks → children_of_words words m side ≡ Some n → is_linked sizes words n ≡ true
+  is_linked-child m n side within h =
+      or_right (n == 0) (list_any (is_child_of words n) (range_with_len 0 (sizes.marks + 1)))
+      (list_any_at (is_child_of words n) (range_with_len 0 (sizes.marks + 1)) m 0
+      (omega (arith, within, length-range_with_len 0 (sizes.marks + 1)))
+      (ap (is_child_of words n) (get_or-range_with_len 0 (sizes.marks + 1) m 0 (omega (arith, within)) ∙ omega arith)
+      ∙ is_child m n side (child_names (words (ChildOf m side)) n h)))
+
+  -- no node stands past the last mark
+  linked-within : (n : ℕ) → IsPresent (linked_points sizes words) n → n ≤ sizes.marks
+  linked-within n h =
+      elim (cases_lt sizes.marks n) [
+        | inr within ↦ within
+        | inl past ↦ (
+            let none = get_or_past (linked_points sizes words) n None
+            (omega (arith, past, length-map-range_with_len (linked_point sizes words) 0 (sizes.marks + 1))) in
+            let gone = sym h ∙ ap is_some none in
+            cc)
+      ]
+
+-- ---- true of the tree
+
+module _ (sizes : Sizes) (seen words : Words) (behind : AreBehind seen words) (rooted : IsRooted (seen_tree_of_words sizes seen))
+    (follow : FollowWays (children_of_words words) (linked_points sizes words)) where
+  -- a node that has a child is one of the run's
+  above-within : (a n : ℕ) (side : Bool) → children_of_words words a side ≡ Some n → a ≤ sizes.marks
+  above-within a n side h =
+      elim (cases_lt sizes.marks a) [
+        | inr within ↦ within
+        | inl past ↦
+            absurd (not_empty (children_of_words words) a n side (follow.empty a side (λ p. omega (arith, past, linked-within sizes words a p))) h)
+      ]
+
+  -- a node that was seen is linked now
+  linked_now : (n : ℕ) → IsSeen (seen_tree_of_words sizes seen) n → is_linked sizes words n ≡ true
+  linked_now n (inl start) = ap (is_linked sizes words) start ∙ is_linked-start sizes words
+  linked_now n (inr (a, side, link)) =
+      let here = child_says sizes seen words behind a n side link in
+      is_linked-child sizes words a n side (above-within a n side here) here
+
+  -- where a node was seen, it stands
+  stands_now : (n : ℕ) (p : Point) → StandsAt (seen_tree_of_words sizes seen).points n p → StandsAt (linked_points sizes words) n p
+  stands_now n p h =
+      get_or-map-range_with_len (linked_point sizes words) 0 (sizes.marks + 1) n n None
+      (omega (arith, seen-within sizes seen n (ap is_some h))) (omega arith)
+      ∙ ap (λ b. if b then point_of_word (words (PointOf n)) else None) (linked_now n (rooted.points n (ap is_some h)))
+      ∙ point_says sizes seen words behind n p h
+
+  -- a node that was seen is present, whether or not its point was seen
+  present_now : (n : ℕ) → IsSeen (seen_tree_of_words sizes seen) n → IsPresent (linked_points sizes words) n
+  present_now n (inl start) =
+      let p : Point = point_of (seen_tree_of_words sizes seen).points 0 in
+      subst (IsPresent (linked_points sizes words)) (sym start)
+      (IsPresent-stands (linked_points sizes words) 0 p
+      (stands_now 0 p (StandsAt-present (seen_tree_of_words sizes seen).points 0 rooted.start)))
+  present_now n (inr (a, side, link)) = follow.present a n side (child_says sizes seen words behind a n side link)
+
+  pair_now : (n : ℕ) → KeepsOrLowers (seen_tree_of_words sizes seen) (seen_whole (shared_tree_of_words sizes words)) n
+  pair_now n pair h =
+      let now = pair_says sizes seen words behind n pair h in
+      let whole = whole_pair (shared_tree_of_words sizes words) n (present_now n (rooted.pairs n (ap is_some h))) in
+      (now.0, whole ∙ ap Some (fields (words (TreeOf n)) now.0 now.1), now.2)
+    where
+      fields : (word : ℕ) (pair : ℕ × ℕ) → tree_of_word word ≡ Some pair → (parent_in word, cost_in word) ≡ pair
+      fields word pair e = by_test (nat_lt word (2 ^ 63)) e
+        where
+          by_test : (b : Bool) → cond b None (Some (parent_in word, cost_in word)) ≡ Some pair → (parent_in word, cost_in word) ≡ pair
+          by_test true e = cc
+          by_test false e = cc
+
+  -- What was seen is true of the tree in the words now.
+  pub IsTrueOf-words : IsTrueOf (seen_tree_of_words sizes seen) (shared_tree_of_words sizes words)
+  IsTrueOf-words = record {
+    places = record { children = child_says sizes seen words behind; nodes = stands_now };
+    pairs = pair_now;
+    records = record_stays sizes seen words behind record_of_word record_says;
+    counters = λ strip. behind (Counter strip);
+    count = behind Count;
+  }
