@@ -1,14 +1,26 @@
 -- The marks that are drawn lie in the columns of their strips and in the rows, so in the room of configurations.
 use Rattle.std.proofs.Common.{ℕ, ◌+◌, ◌*◌, ◌/◌, ◌%◌, ◌^◌, ◌<◌, arith}
-use Rattle.std.proofs.lemmas.Nat.{mul-le, mod_below, div_below, pow_pos}
+use Rattle.std.specs.Prelude.{bit_xor}
+use Rattle.std.proofs.Math.Nat.{div-le_self}
+use Rattle.std.proofs.lemmas.Nat.{mul-le, xor_lt, mod_below, div_below, pow_pos}
 use Rattle.plan_model.specs.declared.scenes.Scene.{Scene}
 use Rattle.plan_model.specs.ConfigurationSpace.{space_of}
 use Rattle.plan_model.specs.RoomOfConfigurations.{at_lattice, InRoom}
-use Rattle.plan_model.specs.MarkPoints.{IsInSpan, strip, picked, first_word, second_word, next_state, drawn_mark, columns, rows, BodyFits}
-use Rattle.plan_model.specs.declared.places.Span.{Span}
-use Rattle.plan_model.proofs.MarkBounds.{word_below}
-use Rattle.plan_model.proofs.SpanLaws.{InRoom-from_place}
+use Rattle.plan_model.specs.MarkPoints.{IsInSpan, strip, picked, mixed, word_of_state, first_word, second_word, next_state, strip_of_mark, drawn_mark, columns, rows, BodyFits}
+use Rattle.plan_model.specs.declared.spans.Span.{Span}
+use Rattle.plan_model.proofs.SpanLaws.{InRoom-from_spans}
 use Rattle.plan_model.proofs.StripLaws.{strip-some, strip-within}
+
+-- ---- words
+
+-- a number below 2 ^ 64 stays below it if it is mixed with itself shifted
+mixed_below : (z shift : ℕ) → z < 2 ^ 64 → bit_xor z (z / shift) < 2 ^ 64
+mixed_below z shift h = xor_lt 64 z (z / shift) h (omega (arith, div-le_self z shift))
+
+pub word_below : (state : ℕ) → word_of_state state < 2 ^ 64
+word_below state = mixed_below (mixed 27 0x94D049BB133111EB (mixed 30 0xBF58476D1CE4E5B9 state)) (2 ^ 31) (mod_below _ (2 ^ 64) (pow_pos 64))
+
+-- ---- coordinates
 
 share_below : (word count m : ℕ) → 0 < m → word < m * m → 0 < count → ((word / m) * count) / m < count
 share_below word count m some small columns =
@@ -23,23 +35,23 @@ picked-within span word some small =
 
 -- the column and the row of a drawn mark
 pub drawn_mark-column :
-    (scene : Scene) (k : ℕ) → BodyFits (space_of scene) → IsInSpan (strip (columns (space_of scene)) scene.strips (k % scene.strips)) (drawn_mark scene k).x
+    (scene : Scene) (k : ℕ) → BodyFits scene.room scene.body → IsInSpan (strip (columns scene.room scene.body) scene.strips (strip_of_mark scene.strips k)) (drawn_mark scene k).x
 drawn_mark-column scene k fits =
-    let all = columns (space_of scene) in
-    let own : k % scene.strips < scene.strips = mod_below k scene.strips (omega (arith, scene.strips_low)) in
+    let all = columns scene.room scene.body in
+    let own : strip_of_mark scene.strips k < scene.strips = mod_below k scene.strips (omega (arith, scene.strips_low)) in
     let state : ℕ = (scene.seed + k) % 2 ^ 64 in
-    picked-within (strip all scene.strips (k % scene.strips)) (first_word state) (strip-some all scene.strips (k % scene.strips) fits.some_column own)
+    picked-within (strip all scene.strips (strip_of_mark scene.strips k)) (first_word state) (strip-some all scene.strips (strip_of_mark scene.strips k) fits.some_column own)
     (word_below (next_state state))
 
-pub drawn_mark-row : (scene : Scene) (k : ℕ) → BodyFits (space_of scene) → IsInSpan (rows (space_of scene)) (drawn_mark scene k).y
+pub drawn_mark-row : (scene : Scene) (k : ℕ) → BodyFits scene.room scene.body → IsInSpan (rows scene.room scene.body) (drawn_mark scene k).y
 drawn_mark-row scene k fits =
     let state : ℕ = (scene.seed + k) % 2 ^ 64 in
-    picked-within (rows (space_of scene)) (second_word state) fits.some_row (word_below (next_state (next_state state)))
+    picked-within (rows scene.room scene.body) (second_word state) fits.some_row (word_below (next_state (next_state state)))
 
 -- a drawn mark is in the room of configurations
-pub drawn_mark-in_room : (scene : Scene) (k : ℕ) → BodyFits (space_of scene) → InRoom (space_of scene) (at_lattice (drawn_mark scene k))
+pub drawn_mark-in_room : (scene : Scene) (k : ℕ) → BodyFits scene.room scene.body → InRoom (space_of scene) (at_lattice (drawn_mark scene k))
 drawn_mark-in_room scene k fits =
-    let all = columns (space_of scene) in
-    let own : k % scene.strips < scene.strips = mod_below k scene.strips (omega (arith, scene.strips_low)) in
-    let column = strip-within all scene.strips (k % scene.strips) (drawn_mark scene k).x own (drawn_mark-column scene k fits) in
-    InRoom-from_place (space_of scene) (drawn_mark scene k) (record { column = column; row = drawn_mark-row scene k fits })
+    let all = columns scene.room scene.body in
+    let own : strip_of_mark scene.strips k < scene.strips = mod_below k scene.strips (omega (arith, scene.strips_low)) in
+    let column = strip-within all scene.strips (strip_of_mark scene.strips k) (drawn_mark scene k).x own (drawn_mark-column scene k fits) in
+    InRoom-from_spans (space_of scene) (drawn_mark scene k) (record { column = column; row = drawn_mark-row scene k fits })

@@ -12,13 +12,13 @@ use Rattle.plan_model.specs.declared.text_terms.Key.TheVariants as keys
 use Rattle.plan_model.specs.declared.text_terms.Kind.{Kind}
 use Rattle.plan_model.specs.declared.text_terms.Kind.TheVariants as kinds
 use Rattle.plan_model.specs.Limits.{is_obstacle, are_obstacles}
-use Rattle.plan_model.specs.declared.limits.TheConstants.{MOST_GAMMA, MOST_OBSTACLES, MOST_STRIPS}
+use Rattle.plan_model.specs.declared.limits.TheConstants.{MOST_GAMMA, MOST_OBSTACLES, MOST_SEED, MOST_STRIPS}
 use Rattle.plan_model.specs.TextLines.{lines_of, statements_of}
 use Rattle.plan_model.specs.LineChecks.{Given, is_inhabited, stands, corners_from, fault_at_end, MayStand, AllMayStand}
 use Rattle.plan_model.specs.SceneGrammar.{first_of, point_from, goal_from, number_or, body_from, plan_from, is_version_read, given_after_version}
 use Rattle.plan_model.specs.SceneGrammar.{fault_of_line, fault_of_end, IsSoundBelow, HasFields, Spells, Refused}
 use Rattle.plan_model.proofs.SoundStatements.{IsSoundGiven-text}
-use Rattle.plan_model.proofs.SceneParts.{IsWithin, room-within, start-within, goal-within, step-within, gamma-within, strips-within, body-within}
+use Rattle.plan_model.proofs.SceneParts.{IsWithin, room-within, start-within, goal-within, step-within, gamma-within, seed-within, strips-within, body-within}
 use Rattle.plan_model.proofs.SceneParts.{obstacles-within, plan-within}
 
 -- ---- the scene that lines give
@@ -44,6 +44,11 @@ gamma-given : (lists : List (List ℤ)) → All (MayStand keys.Gamma) lists → 
 gamma-given [] all = omega arith
 gamma-given (zs ∷ lists) all =
     gamma-within zs (All-head (MayStand keys.Gamma) zs lists all)
+
+seed-given : (lists : List (List ℤ)) → All (MayStand keys.Seed) lists → number_or 0 (first_of lists) ≤ MOST_SEED
+seed-given [] all = omega arith
+seed-given (zs ∷ lists) all =
+    seed-within zs (All-head (MayStand keys.Seed) zs lists all)
 
 strips-given : (lists : List (List ℤ)) → All (MayStand keys.Strips) lists → IsWithin 1 MOST_STRIPS (number_or 1 (first_of lists))
 strips-given [] all = record { above = omega arith; below = omega arith }
@@ -82,6 +87,7 @@ scene-given given h needed =
       step_low = step.above;
       step_high = step.below;
       gamma_high = gamma-given (given keys.Gamma) (h.stand keys.Gamma);
+      seed_high = seed-given (given keys.Seed) (h.stand keys.Seed);
       strips_low = strips.above;
       strips_high = strips.below;
       plan_within = plan-within (given keys.Marks) (given keys.Mark) (h.stand keys.Marks) (h.stand keys.Mark) (h.few keys.Mark);

@@ -7,7 +7,7 @@ use Rattle.plan_model.specs.declared.geometry.Goal.{Goal}
 use Rattle.plan_model.specs.declared.scenes.Scene.{Scene}
 use Rattle.plan_model.specs.declared.text_terms.Key.{Key}
 use Rattle.plan_model.specs.Limits.{IsBetween, IsGoal, is_body, are_obstacles, is_plan}
-use Rattle.plan_model.specs.declared.limits.TheConstants.{LEAST_SIDE, LEAST_STEP, MOST_GAMMA, MOST_SIDE, MOST_STEP, MOST_STRIPS}
+use Rattle.plan_model.specs.declared.limits.TheConstants.{LEAST_SIDE, LEAST_STEP, MOST_GAMMA, MOST_SEED, MOST_SIDE, MOST_STEP, MOST_STRIPS}
 use Rattle.plan_model.specs.LineChecks.{Given}
 use Rattle.plan_model.specs.SceneGrammar.{HasFields, Spells}
 
@@ -62,6 +62,7 @@ same_fields given one other a b =
       step_low = is_prop→PathP (λ j. LEAST_STEP ≤ step j) (λ j. le-prop LEAST_STEP (step j)) one.step_low other.step_low i;
       step_high = is_prop→PathP (λ j. step j ≤ MOST_STEP) (λ j. le-prop (step j) MOST_STEP) one.step_high other.step_high i;
       gamma_high = is_prop→PathP (λ j. gamma j ≤ MOST_GAMMA) (λ j. le-prop (gamma j) MOST_GAMMA) one.gamma_high other.gamma_high i;
+      seed_high = is_prop→PathP (λ j. seed j ≤ MOST_SEED) (λ j. le-prop (seed j) MOST_SEED) one.seed_high other.seed_high i;
       strips_low = is_prop→PathP (λ j. 1 ≤ strips j) (λ j. le-prop 1 (strips j)) one.strips_low other.strips_low i;
       strips_high = is_prop→PathP (λ j. strips j ≤ MOST_STRIPS) (λ j. le-prop (strips j) MOST_STRIPS) one.strips_high other.strips_high i;
       plan_within = is_prop→PathP (λ j. IsTrue (is_plan (plan j))) (λ j. test-prop (is_plan (plan j))) one.plan_within other.plan_within i;

@@ -9,7 +9,7 @@ use Rattle.plan_model.specs.declared.text_terms.Key.TheVariants as keys
 use Rattle.plan_model.specs.Convexity.{is_strictly_convex}
 use Rattle.plan_model.specs.Limits.{IsBetween, IsGoal, is_corner_between, is_body, is_obstacle, is_mark, is_plan}
 use Rattle.plan_model.specs.declared.limits.TheConstants.{LEAST_BODY_COORDINATE, LEAST_OBSTACLE_COORDINATE, LEAST_SIDE, LEAST_STEP}
-use Rattle.plan_model.specs.declared.limits.TheConstants.{MOST_BODY_COORDINATE, MOST_BODY_CORNERS, MOST_GAMMA, MOST_MARKS}
+use Rattle.plan_model.specs.declared.limits.TheConstants.{MOST_BODY_COORDINATE, MOST_BODY_CORNERS, MOST_GAMMA, MOST_MARKS, MOST_SEED}
 use Rattle.plan_model.specs.declared.limits.TheConstants.{MOST_OBSTACLE_COORDINATE, MOST_OBSTACLE_CORNERS, MOST_SIDE, MOST_STEP, MOST_STRIPS}
 use Rattle.plan_model.specs.LineChecks.{are_between, corners_from, MayStand}
 use Rattle.plan_model.specs.SceneGrammar.{point_from, goal_from, number_or, body_from, plan_from}
@@ -95,6 +95,9 @@ step-within zs h = single LEAST_STEP MOST_STEP 0 zs h.count h.ranged
 
 pub gamma-within : (zs : List ℤ) → MayStand keys.Gamma zs → number_or 0 zs ≤ MOST_GAMMA
 gamma-within zs h = (single 0 MOST_GAMMA 0 zs h.count h.ranged).below
+
+pub seed-within : (zs : List ℤ) → MayStand keys.Seed zs → number_or 0 zs ≤ MOST_SEED
+seed-within zs h = (single 0 MOST_SEED 0 zs h.count h.ranged).below
 
 pub strips-within : (zs : List ℤ) → MayStand keys.Strips zs → IsWithin 1 MOST_STRIPS (number_or 1 zs)
 strips-within zs h = single 1 MOST_STRIPS 1 zs h.count h.ranged

@@ -8,7 +8,7 @@ use Rattle.plan_model.specs.declared.geometry.Point.{Point}
 use Rattle.plan_model.specs.ConfigurationSpace.{ConfigurationSpace}
 use Rattle.plan_model.specs.RoomOfConfigurations.{at_lattice, InRoom}
 use Rattle.plan_model.specs.MarkPoints.{below_zero, above_zero, reach, IsInSpan, span_within, columns, rows, BodyFits}
-use Rattle.plan_model.specs.declared.places.Span.{Span}
+use Rattle.plan_model.specs.declared.spans.Span.{Span}
 
 -- ---- how far a body reaches, seen from a bound of it
 pub record IsReachBounded (extent : Vertex → ℕ) (far : ℕ) (body : List Vertex) (n : ℕ) : Type 0 where
@@ -87,12 +87,12 @@ fits_span side coordinate body n h =
     }
 
 -- ---- both coordinates
-pub record HasPlace (space : ConfigurationSpace) (p : Point) : Type 0 where
-  pub column : IsInSpan (columns space) p.x
-  pub row : IsInSpan (rows space) p.y
+pub record IsInSpans (space : ConfigurationSpace) (p : Point) : Type 0 where
+  pub column : IsInSpan (columns space.room space.body) p.x
+  pub row : IsInSpan (rows space.room space.body) p.y
 
-pub HasPlace-from_in_room : (space : ConfigurationSpace) (p : Point) → InRoom space (at_lattice p) → HasPlace space p
-HasPlace-from_in_room space p h =
+pub IsInSpans-from_in_room : (space : ConfigurationSpace) (p : Point) → InRoom space (at_lattice p) → IsInSpans space p
+IsInSpans-from_in_room space p h =
     let right = h.here.right in
     let top = h.here.top in
     let across : p.x ≤ space.room.x = omega (arith, ints) in
@@ -108,8 +108,8 @@ HasPlace-from_in_room space p h =
       });
     }
 
-pub InRoom-from_place : (space : ConfigurationSpace) (p : Point) → HasPlace space p → InRoom space (at_lattice p)
-InRoom-from_place space p h =
+pub InRoom-from_spans : (space : ConfigurationSpace) (p : Point) → IsInSpans space p → InRoom space (at_lattice p)
+InRoom-from_spans space p h =
     let x = fits_span space.room.x (λ v. v.x) space.body p.x h.column in
     let y = fits_span space.room.y (λ v. v.y) space.body p.y h.row in
     let across = x.inside in
@@ -123,11 +123,11 @@ InRoom-from_place space p h =
     }
 
 -- a room of configurations with a lattice point has a column and a row
-pub BodyFits-from_in_room : (space : ConfigurationSpace) (p : Point) → InRoom space (at_lattice p) → BodyFits space
+pub BodyFits-from_in_room : (space : ConfigurationSpace) (p : Point) → InRoom space (at_lattice p) → BodyFits space.room space.body
 BodyFits-from_in_room space p h =
-    let place = HasPlace-from_in_room space p h in
-    let left = place.column.low in
-    let right = place.column.high in
-    let bottom = place.row.low in
-    let top = place.row.high in
+    let own = IsInSpans-from_in_room space p h in
+    let left = own.column.low in
+    let right = own.column.high in
+    let bottom = own.row.low in
+    let top = own.row.high in
     record { some_column = omega arith; some_row = omega arith }

@@ -4,7 +4,7 @@ use Rattle.plan_model.specs.declared.text_terms.Key.{Key}
 use Rattle.plan_model.specs.declared.text_terms.Key.TheVariants as keys
 use Rattle.plan_model.specs.declared.limits.TheConstants.{LEAST_BODY_COORDINATE, LEAST_CORNERS, LEAST_OBSTACLE_COORDINATE, LEAST_SIDE, LEAST_STEP, LEAST_STRIPS}
 use Rattle.plan_model.specs.declared.limits.TheConstants.{MOST_BODY_COORDINATE, MOST_BODY_CORNERS, MOST_GAMMA, MOST_MARKS, MOST_OBSTACLE_COORDINATE}
-use Rattle.plan_model.specs.declared.limits.TheConstants.{MOST_OBSTACLE_CORNERS, MOST_OBSTACLES, MOST_SIDE, MOST_STEP, MOST_STRIPS}
+use Rattle.plan_model.specs.declared.limits.TheConstants.{MOST_OBSTACLE_CORNERS, MOST_OBSTACLES, MOST_SEED, MOST_SIDE, MOST_STEP, MOST_STRIPS}
 
 -- ---- names
 
@@ -94,13 +94,13 @@ least_of keys.Step = pos LEAST_STEP
 least_of keys.Strips = pos LEAST_STRIPS
 least_of key = pos 0
 
--- the greatest number that may stand after the key; a seed has 64 bits
+-- the greatest number that may stand after the key
 abbrev pub most_of : Key → ℤ
 most_of keys.Body = MOST_BODY_COORDINATE
 most_of keys.Obstacle = MOST_OBSTACLE_COORDINATE
 most_of keys.Step = pos MOST_STEP
 most_of keys.Gamma = pos MOST_GAMMA
-most_of keys.Seed = pos 0xFFFF_FFFF_FFFF_FFFF
+most_of keys.Seed = pos MOST_SEED
 most_of keys.Strips = pos MOST_STRIPS
 most_of keys.Marks = pos MOST_MARKS
 most_of key = pos MOST_SIDE

@@ -13,7 +13,7 @@ pub mod Cost
 pub mod Steering
 pub mod Radius
 pub mod MarkPoints
-pub mod PlacesOfRooms
+pub mod SpansOfRooms
 pub mod PointsByNumber
 pub mod LeastPairs
 pub mod Nearness

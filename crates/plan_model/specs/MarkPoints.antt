@@ -3,11 +3,10 @@ use Rattle.std.specs.Prelude.{ℕ, ◌+◌, ◌-◌, ◌*◌, ◌/◌, ◌%◌, 
 use Rattle.std.specs.List.{range_with_len}
 use Rattle.plan_model.specs.declared.geometry.Point.{Point}
 use Rattle.plan_model.specs.declared.geometry.Vertex.{Vertex}
-use Rattle.plan_model.specs.declared.places.Span.{Span}
+use Rattle.plan_model.specs.declared.spans.Span.{Span}
 use Rattle.plan_model.specs.declared.scenes.Scene.{Scene}
 use Rattle.plan_model.specs.declared.scenes.Marks.{Marks}
 use Rattle.plan_model.specs.declared.scenes.Marks.TheVariants.{Drawn, Listed}
-use Rattle.plan_model.specs.ConfigurationSpace.{ConfigurationSpace, space_of}
 
 -- SplitMix64 (Steele, Lea and Flood, OOPSLA 2014): the state that follows a state
 abbrev pub next_state : ℕ → ℕ
@@ -54,19 +53,17 @@ abbrev pub span_within : ℕ → ℕ → ℕ → Span
 span_within side back forth = record { first = back; count = (side + 1) - (back + forth) }
 
 -- the columns of the room of configurations
-abbrev pub columns : ConfigurationSpace → Span
-columns space =
-    span_within space.room.x (reach (λ v. below_zero v.x) space.body) (reach (λ v. above_zero v.x) space.body)
+abbrev pub columns : Point → List Vertex → Span
+columns room body = span_within room.x (reach (λ v. below_zero v.x) body) (reach (λ v. above_zero v.x) body)
 
 -- the rows of the room of configurations
-abbrev pub rows : ConfigurationSpace → Span
-rows space =
-    span_within space.room.y (reach (λ v. below_zero v.y) space.body) (reach (λ v. above_zero v.y) space.body)
+abbrev pub rows : Point → List Vertex → Span
+rows room body = span_within room.y (reach (λ v. below_zero v.y) body) (reach (λ v. above_zero v.y) body)
 
 -- the body fits into the room: there is a column for it, and a row
-pub record BodyFits (space : ConfigurationSpace) : Type 0 where
-  pub some_column : 0 < (columns space).count
-  pub some_row : 0 < (rows space).count
+pub record BodyFits (room : Point) (body : List Vertex) : Type 0 where
+  pub some_column : 0 < (columns room body).count
+  pub some_row : 0 < (rows room body).count
 
 -- Strip g of the strips that the columns are cut into; if there are fewer columns than strips, all columns.
 abbrev pub strip : Span → ℕ → ℕ → Span
@@ -77,16 +74,20 @@ strip all strips g =
       count = ((g + 1) * all.count) / strips - (g * all.count) / strips;
     }
 
--- the place in a span that the upper half of a word picks
+-- the coordinate of a span that the upper half of a word picks
 abbrev pub picked : Span → ℕ → ℕ
 picked span word = span.first + ((word / 2 ^ 32) * span.count) / 2 ^ 32
+
+-- the strip that mark k belongs to: the strips take turns
+abbrev pub strip_of_mark : ℕ → ℕ → ℕ
+strip_of_mark strips k = k % strips
 
 -- drawn mark k: a column of its strip by the first word, a row by the second
 abbrev pub drawn_mark : Scene → ℕ → Point
 drawn_mark scene k =
     let state = (scene.seed + k) % 2 ^ 64 in
-    let own_strip = strip (columns (space_of scene)) scene.strips (k % scene.strips) in
-    record { x = picked own_strip (first_word state); y = picked (rows (space_of scene)) (second_word state) }
+    let own_strip = strip (columns scene.room scene.body) scene.strips (strip_of_mark scene.strips k) in
+    record { x = picked own_strip (first_word state); y = picked (rows scene.room scene.body) (second_word state) }
 
 -- the points of listed marks, and of marks that are drawn
 abbrev pub points_of : Scene → Marks → List Point
@@ -99,4 +100,4 @@ mark_points scene = points_of scene scene.plan
 
 -- how many marks below the limit belong to strip g
 abbrev pub quota_of : ℕ → ℕ → ℕ → ℕ
-quota_of strips g limit = count_by (λ k. k % strips == g) (range_with_len 0 limit)
+quota_of strips g limit = count_by (λ k. strip_of_mark strips k == g) (range_with_len 0 limit)

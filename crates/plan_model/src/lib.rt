@@ -10,7 +10,6 @@ mod laws;
 mod limits;
 mod lists;
 mod memory_streams;
-mod places;
 mod records;
 mod report_laws;
 mod run_laws;
@@ -18,6 +17,8 @@ mod scenes;
 mod seen_laws;
 mod sinks;
 mod sources;
+mod spans;
+mod strips;
 mod tasks;
 mod text_terms;
 mod tree_laws;
@@ -31,16 +32,18 @@ pub use limits::{
     LEAST_BODY_COORDINATE, LEAST_CORNER_COORDINATE, LEAST_CORNERS, LEAST_OBSTACLE_COORDINATE,
     LEAST_SIDE, LEAST_STEP, LEAST_STRIPS, LEAST_SUMMAND_COORDINATE, MOST_BODY_COORDINATE,
     MOST_BODY_CORNERS, MOST_COORDINATE, MOST_CORNER_COORDINATE, MOST_GAMMA, MOST_MARKS, MOST_NODES,
-    MOST_OBSTACLE_COORDINATE, MOST_OBSTACLE_CORNERS, MOST_OBSTACLES, MOST_SIDE, MOST_STEERING_STEP,
-    MOST_STEP, MOST_STRIPS, MOST_SUMMAND_COORDINATE, MOST_TEXT_BYTES, MOST_WORKERS,
+    MOST_OBSTACLE_COORDINATE, MOST_OBSTACLE_CORNERS, MOST_OBSTACLES, MOST_SEED, MOST_SIDE,
+    MOST_STEERING_STEP, MOST_STEP, MOST_STRIPS, MOST_SUMMAND_COORDINATE, MOST_TEXT_BYTES,
+    MOST_WORKERS,
 };
 pub use lists::Sequence;
 pub use memory_streams::{MemSink, MemSource, SureSource};
-pub use places::{Places, Span};
 pub use records::{Outcome, Record, Records};
 pub use scenes::{Marks, Points, Poly, Polys, Scene};
 pub use sinks::Sink;
 pub use sources::Source;
+pub use spans::{RoomSpans, Span};
+pub use strips::strip_of_mark;
 pub use tasks::Task;
 pub use text_terms::{Key, Kind};
 pub use trees::{Knot, Knots, Twig};

@@ -45,6 +45,9 @@ pub const MOST_STEP: u32 = 4_096;
 /// The greatest factor of the rewiring radius.
 pub const MOST_GAMMA: u32 = 16_777_215;
 
+/// The greatest seed of drawn marks: a seed has 64 bits.
+pub const MOST_SEED: u64 = u64::MAX;
+
 /// The least coordinate of a body's corner, in lattice steps.
 pub const LEAST_BODY_COORDINATE: i32 = -4_096;
 

@@ -2,7 +2,7 @@
 
 ghost use Rattle.std.specs.Prelude.{◌≡◌, ◌≤◌, IsTrue};
 ghost use Rattle.plan_model.specs.Limits.{IsBetween, IsGoal, is_body, are_obstacles, is_plan};
-ghost use Rattle.plan_model.specs.declared.limits.TheConstants.{LEAST_SIDE, LEAST_STEP, LEAST_STRIPS, MOST_GAMMA, MOST_SIDE, MOST_STEP, MOST_STRIPS};
+ghost use Rattle.plan_model.specs.declared.limits.TheConstants.{LEAST_SIDE, LEAST_STEP, LEAST_STRIPS, MOST_GAMMA, MOST_SEED, MOST_SIDE, MOST_STEP, MOST_STRIPS};
 
 use crate::geometry::{Goal, Point, Vertex};
 use crate::lists::Sequence;
@@ -46,7 +46,7 @@ pub struct Scene {
     pub step: u32,
     /// The factor of the rewiring radius, 0 to 16,777,215; with 0 nothing is rewired.
     pub gamma: u32,
-    /// The seed of drawn marks.
+    /// The seed of drawn marks, 0 to 2^64 - 1.
     pub seed: u64,
     /// Into how many strips the room is cut for drawn marks, 1 to 64.
     pub strips: u32,
@@ -61,6 +61,7 @@ pub struct Scene {
     ghost step_low: { LEAST_STEP ≤ step },
     ghost step_high: { step ≤ MOST_STEP },
     ghost gamma_high: { gamma ≤ MOST_GAMMA },
+    ghost seed_high: { seed ≤ MOST_SEED },
     ghost strips_low: { LEAST_STRIPS ≤ strips },
     ghost strips_high: { strips ≤ MOST_STRIPS },
     ghost plan_within: { IsTrue (is_plan plan) },

@@ -4,7 +4,7 @@ ghost use Rattle.plan_model.specs.Vectors.Handled.{HandledMarkVectors};
 ghost use Rattle.plan_model.specs.Vectors.Clearances.{ClearanceVectors};
 ghost use Rattle.plan_model.specs.Vectors.Costs.{CostVectors};
 ghost use Rattle.plan_model.specs.Vectors.Drawn.{DrawnVectors};
-ghost use Rattle.plan_model.specs.Vectors.Limits.{LimitVectors};
+ghost use Rattle.plan_model.specs.Vectors.Limits.{ConstantVectors, LimitVectors};
 ghost use Rattle.plan_model.specs.Vectors.Meetings.{MeetingVectors};
 ghost use Rattle.plan_model.specs.Vectors.Overlaps.{OverlapVectors};
 ghost use Rattle.plan_model.specs.Vectors.Polygons.{ConvexityVectors};
@@ -95,6 +95,11 @@ pub fn polygon_spelling()
 /// A text that gives every field of a scene.
 pub fn field_spelling()
     ensures { FieldSpellingVector }
+{}
+
+/// The limits, each as a number.
+pub fn constants()
+    ensures { ConstantVectors }
 {}
 
 /// Lines at the limits of the grammar.

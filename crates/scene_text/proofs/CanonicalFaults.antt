@@ -111,8 +111,8 @@ abbrev prefix_of : Scene → List (List (List ℕ))
 prefix_of scene =
     statement keys.Room (point_numbers scene.room) ∷ statement keys.Body (corner_numbers scene.body) ∷ map obstacle_statement scene.obstacles
 
-sound-task : (scene : Scene) → scene.seed < 2 ^ 64 → AreSound (version_statement ∷ prefix_of scene) (task_statements scene)
-sound-task scene short =
+sound-task : (scene : Scene) → AreSound (version_statement ∷ prefix_of scene) (task_statements scene)
+sound-task scene =
     let start = statement keys.Start (point_numbers scene.start) in
     let goal = statement keys.Goal (goal_numbers scene.goal) in
     let step = statement keys.Step (pos scene.step ∷ []) in
@@ -138,7 +138,7 @@ sound-task scene short =
             fault-once keys.Gamma (pos scene.gamma ∷ []) fourth (once keys.Gamma refl refl) (fit-gamma scene.gamma scene.gamma_high) refl
                 (none-more keys.Gamma third step (none-more keys.Gamma second goal (none-more keys.Gamma first start (none_1 keys.Gamma refl) refl) refl) refl),
             (
-              fault-once keys.Seed (pos scene.seed ∷ []) fifth (once keys.Seed refl refl) (fit-seed scene.seed short) refl
+              fault-once keys.Seed (pos scene.seed ∷ []) fifth (once keys.Seed refl refl) (fit-seed scene.seed scene.seed_high) refl
                   (none-more keys.Seed fourth gamma (none-more keys.Seed third step
                   (none-more keys.Seed second goal (none-more keys.Seed first start (none_1 keys.Seed refl) refl) refl) refl) refl),
               (
@@ -160,18 +160,18 @@ obstacles-within scene =
     let parts = and_parts (leb (length scene.obstacles) MOST_OBSTACLES) (list_all is_obstacle scene.obstacles) scene.obstacles_within in
     (grind (arith, nat_tests), parts.1)
 
-sound-after : (scene : Scene) → scene.seed < 2 ^ 64 → AreSound (version_statement ∷ prefix_of scene) (task_statements scene ++ plan_statements scene.plan)
-sound-after scene short =
+sound-after : (scene : Scene) → AreSound (version_statement ∷ prefix_of scene) (task_statements scene ++ plan_statements scene.plan)
+sound-after scene =
     let none : (key : Key) → begins_with key (name_of keys.Obstacle ∷ []) ≡ false → given_by (task_statements scene) key ≡ []
     → given_by (prefix_of scene) key ≡ given_by (map obstacle_statement scene.obstacles) key
     → given_by (prefix_of scene ++ task_statements scene) key
     ≡ [] = λ key e f g. none-append key (prefix_of scene) (task_statements scene) (g ∙ none-obstacles key scene.obstacles e) f in
-    AreSound-append (version_statement ∷ prefix_of scene) (task_statements scene) (plan_statements scene.plan) (sound-task scene short)
+    AreSound-append (version_statement ∷ prefix_of scene) (task_statements scene) (plan_statements scene.plan) (sound-task scene)
     (sound-plan (prefix_of scene ++ task_statements scene) scene.plan scene.plan_within (none keys.Marks refl refl refl) (none keys.Mark refl refl refl))
 
 -- no statement of a scene has a fault
-pub sound-canonical : (scene : Scene) → scene.seed < 2 ^ 64 → AreSound [] (canonical_statements scene)
-sound-canonical scene short =
+pub sound-canonical : (scene : Scene) → AreSound [] (canonical_statements scene)
+sound-canonical scene =
     let room = statement keys.Room (point_numbers scene.room) in
     let body = statement keys.Body (corner_numbers scene.body) in
     let within = obstacles-within scene in (
@@ -183,7 +183,7 @@ sound-canonical scene short =
               (few-body scene.body scene.body_within) refl,
           AreSound-append (version_statement ∷ room ∷ body ∷ []) (map obstacle_statement scene.obstacles)
               (task_statements scene ++ plan_statements scene.plan)
-              (sound-obstacles (room ∷ body ∷ []) scene.obstacles within.1 (let few = within.0 in omega arith)) (sound-after scene short),
+              (sound-obstacles (room ∷ body ∷ []) scene.obstacles within.1 (let few = within.0 in omega arith)) (sound-after scene),
         ),
       ),
     )
@@ -209,22 +209,22 @@ clean-plan (Listed points) h = clean-marks points (and_parts (leb (length points
 clean-append : (xs ys : List (List (List ℕ))) → list_all is_clean xs ≡ true → list_all is_clean ys ≡ true → list_all is_clean (xs ++ ys) ≡ true
 clean-append xs ys e f = list_all-append is_clean xs ys ∙ rw (e, f) refl
 
-clean-task : (scene : Scene) → scene.seed < 2 ^ 64 → list_all is_clean (task_statements scene) ≡ true
-clean-task scene short =
+clean-task : (scene : Scene) → list_all is_clean (task_statements scene) ≡ true
+clean-task scene =
     let start = is_clean-statement keys.Start (point_numbers scene.start) (fit-start scene.start scene.start_within) in
     let goal = is_clean-statement keys.Goal (goal_numbers scene.goal) (fit-goal scene.goal scene.goal_within) in
     let step = is_clean-statement keys.Step (pos scene.step ∷ []) (fit-step scene.step scene.step_low scene.step_high) in
     let gamma = is_clean-statement keys.Gamma (pos scene.gamma ∷ []) (fit-gamma scene.gamma scene.gamma_high) in
-    let seed = is_clean-statement keys.Seed (pos scene.seed ∷ []) (fit-seed scene.seed short) in
+    let seed = is_clean-statement keys.Seed (pos scene.seed ∷ []) (fit-seed scene.seed scene.seed_high) in
     let strips = is_clean-statement keys.Strips (pos scene.strips ∷ []) (fit-strips scene.strips scene.strips_low scene.strips_high) in
     rw (start, goal, step, gamma, seed, strips) refl
 
 -- the words of a scene's statements are words
-pub clean-canonical : (scene : Scene) → scene.seed < 2 ^ 64 → list_all is_clean (canonical_statements scene) ≡ true
-clean-canonical scene short =
+pub clean-canonical : (scene : Scene) → list_all is_clean (canonical_statements scene) ≡ true
+clean-canonical scene =
     let room = is_clean-statement keys.Room (point_numbers scene.room) (fit-room scene.room scene.room_within) in
     let body = is_clean-statement keys.Body (corner_numbers scene.body) (fit-body scene.body scene.body_within) in
-    let rest = clean-append (task_statements scene) (plan_statements scene.plan) (clean-task scene short) (clean-plan scene.plan scene.plan_within) in
+    let rest = clean-append (task_statements scene) (plan_statements scene.plan) (clean-task scene) (clean-plan scene.plan scene.plan_within) in
     let after = clean-append (map obstacle_statement scene.obstacles) (task_statements scene ++ plan_statements scene.plan)
     (clean-obstacles scene.obstacles (obstacles-within scene).1) rest in
     rw (room, body, after) refl

@@ -97,8 +97,8 @@ obstacles-again scene =
     ∙ ap (λ lists. given_by (map obstacle_statement scene.obstacles) keys.Obstacle ++ lists) (obstacles-of-plan scene.plan)
     ∙ append-nil (given_by (map obstacle_statement scene.obstacles) keys.Obstacle)) ∙ given-obstacles scene.obstacles within
 
-HasFields-canonical : (scene : Scene) → scene.seed < 2 ^ 64 → HasFields (given_after_version (canonical_statements scene)) scene
-HasFields-canonical scene short = record {
+HasFields-canonical : (scene : Scene) → HasFields (given_after_version (canonical_statements scene)) scene
+HasFields-canonical scene = record {
   version = scene.version_is_one;
   room = sym (ap point_from (values-fit keys.Room (point_numbers scene.room) (fit-room scene.room scene.room_within)));
   body = sym (ap corners_from (values-fit keys.Body (corner_numbers scene.body) (fit-body scene.body scene.body_within)) ∙ corners_from-numbers scene.body);
@@ -112,7 +112,7 @@ HasFields-canonical scene short = record {
   gamma = sym (ap (λ lists. number_or 0 (first_of lists)) (given-rest keys.Gamma scene refl)
       ∙ ap (number_or 0) (values-fit keys.Gamma (pos scene.gamma ∷ []) (fit-gamma scene.gamma scene.gamma_high)));
   seed = sym (ap (λ lists. number_or 0 (first_of lists)) (given-rest keys.Seed scene refl)
-      ∙ ap (number_or 0) (values-fit keys.Seed (pos scene.seed ∷ []) (fit-seed scene.seed short)));
+      ∙ ap (number_or 0) (values-fit keys.Seed (pos scene.seed ∷ []) (fit-seed scene.seed scene.seed_high)));
   strips = sym (ap (λ lists. number_or 1 (first_of lists)) (given-rest keys.Strips scene refl)
       ∙ ap (number_or 1) (values-fit keys.Strips (pos scene.strips ∷ []) (fit-strips scene.strips scene.strips_low scene.strips_high)));
   plan = sym (ap (λ lists. plan_from lists (given_by (map obstacle_statement scene.obstacles ++ rest_of scene) keys.Mark))
@@ -125,17 +125,17 @@ whole-canonical scene =
     rw (stands-rest keys.Start scene refl refl, stands-rest keys.Goal scene refl refl, stands-rest keys.Step scene refl refl) refl
 
 -- the statements of the text are those of the scene
-statements-canonical : (scene : Scene) → scene.seed < 2 ^ 64 → statements_of (lines_of (canonical_text scene)) ≡ canonical_statements scene
-statements-canonical scene short =
-    let clean = clean-canonical scene short in
+statements-canonical : (scene : Scene) → statements_of (lines_of (canonical_text scene)) ≡ canonical_statements scene
+statements-canonical scene =
+    let clean = clean-canonical scene in
     ap statements_of (lines_of-text (canonical_statements scene) clean) ∙ statements_of-lines (canonical_statements scene) clean
 
 -- a text that is the canonical one spells the scene
-pub Spells-canonical : (scene : Scene) (text : List ℕ) → scene.seed < 2 ^ 64 → text ≡ canonical_text scene → Spells supported text scene
-Spells-canonical scene text short same =
-    let statements = statements-canonical scene short in
+pub Spells-canonical : (scene : Scene) (text : List ℕ) → text ≡ canonical_text scene → Spells supported text scene
+Spells-canonical scene text same =
+    let statements = statements-canonical scene in
     subst (λ t. Spells supported t scene) (sym same) (record {
-      sound = IsSoundBelow-text (canonical_statements scene) (clean-canonical scene short) (sound-canonical scene short);
+      sound = IsSoundBelow-text (canonical_statements scene) (clean-canonical scene) (sound-canonical scene);
       whole = ap fault_of_end statements ∙ whole-canonical scene;
-      fields = subst (λ sts. HasFields (given_after_version sts) scene) (sym statements) (HasFields-canonical scene short);
+      fields = subst (λ sts. HasFields (given_after_version sts) scene) (sym statements) (HasFields-canonical scene);
     })

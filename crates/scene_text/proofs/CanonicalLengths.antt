@@ -117,15 +117,15 @@ length-once key zs statements most fit rest =
     let more = length-more (statement key zs) statements in
     omega arith
 
-length-task : (scene : Scene) → scene.seed < 2 ^ 64 → length (flat_map line (task_statements scene)) ≤ 300
-length-task scene short =
+length-task : (scene : Scene) → length (flat_map line (task_statements scene)) ≤ 300
+length-task scene =
     let last = statement keys.Strips (pos scene.strips ∷ []) ∷ [] in
     let fifth = statement keys.Seed (pos scene.seed ∷ []) ∷ last in
     let fourth = statement keys.Gamma (pos scene.gamma ∷ []) ∷ fifth in
     let third = statement keys.Step (pos scene.step ∷ []) ∷ fourth in
     let second = statement keys.Goal (goal_numbers scene.goal) ∷ third in
     let strips = length-once keys.Strips (pos scene.strips ∷ []) [] 0 (fit-strips scene.strips scene.strips_low scene.strips_high) (omega arith) in
-    let seed = length-once keys.Seed (pos scene.seed ∷ []) last _ (fit-seed scene.seed short) strips in
+    let seed = length-once keys.Seed (pos scene.seed ∷ []) last _ (fit-seed scene.seed scene.seed_high) strips in
     let gamma = length-once keys.Gamma (pos scene.gamma ∷ []) fifth _ (fit-gamma scene.gamma scene.gamma_high) seed in
     let step = length-once keys.Step (pos scene.step ∷ []) fourth _ (fit-step scene.step scene.step_low scene.step_high) gamma in
     let goal = length-once keys.Goal (goal_numbers scene.goal) third _ (fit-goal scene.goal scene.goal_within) step in
@@ -133,31 +133,30 @@ length-task scene short =
     omega (arith, start)
 
 -- the lines after the body
-length-after : (scene : Scene) → scene.seed < 2 ^ 64
-    → length (flat_map line (map obstacle_statement scene.obstacles ++ (task_statements scene ++ plan_statements scene.plan)))
+length-after : (scene : Scene) → length (flat_map line (map obstacle_statement scene.obstacles ++ (task_statements scene ++ plan_statements scene.plan)))
     ≤ 2825 * MOST_OBSTACLES + (300 + 49 * MOST_MARKS)
-length-after scene short =
+length-after scene =
     let parts = and_parts (leb (length scene.obstacles) MOST_OBSTACLES) (list_all is_obstacle scene.obstacles) scene.obstacles_within in
     let few : length scene.obstacles ≤ MOST_OBSTACLES = grind (arith, nat_tests) in
     let obstacles = length-obstacles scene.obstacles parts.1 in
-    let task = length-task scene short in
+    let task = length-task scene in
     let plan = length-plan scene.plan scene.plan_within in
     let outer = length-both (map obstacle_statement scene.obstacles) (task_statements scene ++ plan_statements scene.plan) in
     let inner = length-both (task_statements scene) (plan_statements scene.plan) in
     omega arith
 
 -- the text is not too long
-pub length-canonical : (scene : Scene) → scene.seed < 2 ^ 64 → length (canonical_text scene) ≤ MOST_TEXT_BYTES
-length-canonical scene short =
+pub length-canonical : (scene : Scene) → length (canonical_text scene) ≤ MOST_TEXT_BYTES
+length-canonical scene =
     let few = few-body scene.body scene.body_within in
     let count : length (corner_numbers scene.body) ≤ 2 * MOST_BODY_CORNERS = grind (arith, nat_tests) in
     let after = map obstacle_statement scene.obstacles ++ (task_statements scene ++ plan_statements scene.plan) in
     let below = statement keys.Body (corner_numbers scene.body) ∷ after in
-    let body = length-once keys.Body (corner_numbers scene.body) after _ (fit-body scene.body scene.body_within) (length-after scene short) in
+    let body = length-once keys.Body (corner_numbers scene.body) after _ (fit-body scene.body scene.body_within) (length-after scene) in
     let room = length-once keys.Room (point_numbers scene.room) below _ (fit-room scene.room scene.room_within) body in
     let version = length-more version_statement (statement keys.Room (point_numbers scene.room) ∷ below) in
     omega (arith, room, version)
 
 -- a text that is the canonical one is not too long
-pub length-written : (scene : Scene) (text : List ℕ) → scene.seed < 2 ^ 64 → text ≡ canonical_text scene → length text ≤ MOST_TEXT_BYTES
-length-written scene text short same = subst (λ t. length t ≤ MOST_TEXT_BYTES) (sym same) (length-canonical scene short)
+pub length-written : (scene : Scene) (text : List ℕ) → text ≡ canonical_text scene → length text ≤ MOST_TEXT_BYTES
+length-written scene text same = subst (λ t. length t ≤ MOST_TEXT_BYTES) (sym same) (length-canonical scene)

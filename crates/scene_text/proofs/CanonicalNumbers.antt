@@ -12,7 +12,7 @@ use Rattle.plan_model.specs.Convexity.{is_strictly_convex}
 use Rattle.plan_model.specs.Limits.{IsBetween, IsGoal, is_body, is_obstacle, is_mark}
 use Rattle.plan_model.specs.declared.limits.TheConstants.{LEAST_BODY_COORDINATE, LEAST_CORNERS, LEAST_OBSTACLE_COORDINATE, LEAST_SIDE, LEAST_STEP}
 use Rattle.plan_model.specs.declared.limits.TheConstants.{MOST_BODY_COORDINATE, MOST_BODY_CORNERS, MOST_GAMMA, MOST_MARKS, MOST_OBSTACLE_COORDINATE}
-use Rattle.plan_model.specs.declared.limits.TheConstants.{MOST_OBSTACLE_CORNERS, MOST_SIDE, MOST_STEP, MOST_STRIPS}
+use Rattle.plan_model.specs.declared.limits.TheConstants.{MOST_OBSTACLE_CORNERS, MOST_SEED, MOST_SIDE, MOST_STEP, MOST_STRIPS}
 use Rattle.plan_model.specs.LineChecks.{corners_from}
 use Rattle.plan_model.specs.CanonicalText.{point_numbers, goal_numbers, corner_numbers}
 use Rattle.scene_text.proofs.CanonicalWords.{IsFit}
@@ -31,8 +31,8 @@ fit-step n low high = record { words = refl; ranged = single LEAST_STEP MOST_STE
 pub fit-gamma : (n : ℕ) → n ≤ MOST_GAMMA → IsFit keys.Gamma (pos n ∷ [])
 fit-gamma n high = record { words = refl; ranged = single 0 MOST_GAMMA n (omega arith) high; convex = refl }
 
-pub fit-seed : (n : ℕ) → n < 2 ^ 64 → IsFit keys.Seed (pos n ∷ [])
-fit-seed n high = record { words = refl; ranged = single 0 0xFFFF_FFFF_FFFF_FFFF n (omega arith) (omega arith); convex = refl }
+pub fit-seed : (n : ℕ) → n ≤ MOST_SEED → IsFit keys.Seed (pos n ∷ [])
+fit-seed n high = record { words = refl; ranged = single 0 MOST_SEED n (omega arith) high; convex = refl }
 
 pub fit-strips : (n : ℕ) → 1 ≤ n → n ≤ MOST_STRIPS → IsFit keys.Strips (pos n ∷ [])
 fit-strips n low high = record { words = refl; ranged = single 1 MOST_STRIPS n low high; convex = refl }

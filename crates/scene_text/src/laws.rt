@@ -1,6 +1,6 @@
 //! Laws of the reader and the writer together, each the contract of a function that does nothing.
 
-ghost use Rattle.std.specs.Prelude.{◌≡◌, ℕ, ◌<◌, ◌≤◌, ◌^◌, length};
+ghost use Rattle.std.specs.Prelude.{◌≡◌, ℕ, ◌≤◌, length};
 ghost use Rattle.plan_model.specs.declared.scenes.Scene.{Scene};
 ghost use Rattle.plan_model.specs.CanonicalText.{canonical_text};
 ghost use Rattle.plan_model.specs.declared.text_terms.Kind.{Kind};
@@ -8,12 +8,11 @@ ghost use Rattle.plan_model.specs.SceneGrammar.{Spells, Refused, supported};
 ghost use Rattle.plan_model.specs.declared.limits.TheConstants.{MOST_TEXT_BYTES};
 
 /// What is written for a scene is read as the same scene: its canonical text spells this scene and no other, is never
-/// refused, and is never too long to be read. So two scenes with the same canonical text are the same. A seed has 64 bits.
+/// refused, and is never too long to be read. So two scenes with the same canonical text are the same.
 pub fn written_scenes_are_read_again()
-    ensures spells { (scene : Scene) → scene.seed < 2 ^ 64 → Spells supported (canonical_text scene) scene }
-    ensures alone { (scene other : Scene) → scene.seed < 2 ^ 64 → Spells supported (canonical_text scene) other → other ≡ scene }
-    ensures sound { (scene : Scene) (number : ℕ) (kind : Kind) → scene.seed < 2 ^ 64 → ¬ Refused supported (canonical_text scene) number kind }
-    ensures distinct { (scene other : Scene) → scene.seed < 2 ^ 64 → other.seed < 2 ^ 64
-        → canonical_text scene ≡ canonical_text other → scene ≡ other }
-    ensures fits { (scene : Scene) → scene.seed < 2 ^ 64 → length (canonical_text scene) ≤ MOST_TEXT_BYTES }
+    ensures spells { (scene : Scene) → Spells supported (canonical_text scene) scene }
+    ensures alone { (scene other : Scene) → Spells supported (canonical_text scene) other → other ≡ scene }
+    ensures sound { (scene : Scene) (number : ℕ) (kind : Kind) → ¬ Refused supported (canonical_text scene) number kind }
+    ensures distinct { (scene other : Scene) → canonical_text scene ≡ canonical_text other → scene ≡ other }
+    ensures fits { (scene : Scene) → length (canonical_text scene) ≤ MOST_TEXT_BYTES }
 {}

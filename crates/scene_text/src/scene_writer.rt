@@ -1,6 +1,6 @@
 //! The writer of a scene's canonical text.
 
-ghost use Rattle.std.specs.Prelude.{◌≡◌, ◌<◌, ◌≤◌, ◌^◌, ◌∷◌, ◌++◌, length, map, flat_map, string_bytes, IfOk, OnOk};
+ghost use Rattle.std.specs.Prelude.{◌≡◌, ◌≤◌, ◌∷◌, ◌++◌, length, map, flat_map, string_bytes, IfOk, OnOk};
 ghost use Rattle.std.specs.Fmt.{signed_decimal};
 ghost use Rattle.plan_model.specs.CanonicalText.{canonical_text, corner_numbers, obstacle_statement, mark_statement, plan_statements, task_statements};
 ghost use Rattle.plan_model.specs.ReportText.{line};
@@ -66,16 +66,13 @@ fn push_obstacles(text: &mut String, obstacles: &[Poly]) -> Result<(), AllocErro
 
 /// The lines of what is to be planned in the room.
 fn push_task(text: &mut String, scene: &Scene) -> Result<(), AllocError>
-    ensures text { OnOk result (string_bytes text.new ≡ string_bytes text.old ++ flat_map line (task_statements scene.now)) }
-    // what the type of the seed says, for callers that do not read it
-    ensures seed { OnOk result (scene.now.seed < 2 ^ 64) }
+    ensures { OnOk result (string_bytes text.new ≡ string_bytes text.old ++ flat_map line (task_statements scene.now)) }
 {
     let (low, high) = (scene.goal.low, scene.goal.high);
-    let seed = scene.seed;
     write!(text, "start {} {}\n", scene.start.x, scene.start.y)?;
     write!(text, "goal {} {} {} {}\n", low.x, low.y, high.x, high.y)?;
     write!(text, "step {}\ngamma {}\n", scene.step, scene.gamma)?;
-    write!(text, "seed {seed}\nstrips {}\n", scene.strips)
+    write!(text, "seed {}\nstrips {}\n", scene.seed, scene.strips)
 }
 
 /// The line of how many marks are drawn, or those of the listed marks.

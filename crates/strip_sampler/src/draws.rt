@@ -2,25 +2,25 @@
 
 ghost use Rattle.std.specs.Prelude.{◌≡◌, ◌+◌, ◌%◌, ◌^◌, ◌≤◌};
 ghost use Rattle.plan_model.specs.MarkPoints.{drawn_mark, first_word, picked, second_word};
-ghost use Rattle.plan_model.specs.PlacesOfRooms.{ArePlacesOf};
+ghost use Rattle.plan_model.specs.SpansOfRooms.{AreSpansOf};
 ghost use Rattle.plan_model.specs.declared.limits.TheConstants.{MOST_SIDE};
 
-use crate::strips::strip_of;
-use plan_model::{Places, Point, Scene, Span};
+use crate::strips::columns_of_strip;
+use plan_model::{Point, RoomSpans, Scene, Span, strip_of_mark};
 use rand_core::{Rng, SeedableRng};
 use rand_xoshiro::SplitMix64;
 
 /// Mark `k` of the plan of a scene, whatever its length: a column of its strip and a row, by the two words of its own
 /// generator. O(1).
-pub(crate) fn drawn(scene: &Scene, places: Places, k: u32) -> Point
-    requires { ArePlacesOf scene.now.room scene.now.body places }
+pub(crate) fn drawn(scene: &Scene, spans: RoomSpans, k: u32) -> Point
+    requires { AreSpansOf scene.now.room scene.now.body spans }
     ensures { result ≡ drawn_mark scene.now k }
 {
-    let strip = strip_of(places.columns, scene.strips, k % scene.strips);
+    let strip = columns_of_strip(spans.columns, scene.strips, strip_of_mark(scene.strips, k));
     let (first, second) = drawn_words(scene.seed, k);
     Point {
         x: picked(strip, first),
-        y: picked(places.rows, second),
+        y: picked(spans.rows, second),
     }
 }
 
@@ -37,7 +37,7 @@ pub fn drawn_words(seed: u64, k: u32) -> (u64, u64)
     (first, second)
 }
 
-/// The place in a span that the upper half of a word picks: the span's count times that half, as a fraction of 2^32.
+/// The coordinate of a span that the upper half of a word picks: the span's count times that half, as a fraction of 2^32.
 fn picked(span: Span, word: u64) -> u32
     requires { span.first + span.count ≤ MOST_SIDE + 1 }
     ensures { result ≡ picked span word }
@@ -61,7 +61,7 @@ mod tests {
     }
 
     #[test]
-    fn picks_places_of_a_span(rt: HostRuntime) {
+    fn picks_coordinates_of_a_span(rt: HostRuntime) {
         let span = Span {
             first: 5,
             count: 10,

@@ -7,7 +7,7 @@ ghost use Rattle.plan_model.specs.RoomOfConfigurations.{InRoom, at_lattice};
 ghost use Rattle.plan_model.specs.declared.scenes.Marks.TheVariants.{Drawn};
 
 use crate::draws::drawn;
-use plan_model::{Marks, Memory, Places, Points, Scene, Sequence};
+use plan_model::{Marks, Memory, Points, RoomSpans, Scene, Sequence};
 use std::alloc::Global;
 
 /// The mark points (the samples) of a scene, in the order of their numbers: the listed ones as they stand, or the drawn ones.
@@ -18,7 +18,7 @@ use std::alloc::Global;
 ///
 /// `Memory` if out of memory for the points.
 pub fn marks(alloc: Global, scene: &Scene) -> Result<Points, Memory>
-    requires fits { (n : ℕ) → scene.now.plan ≡ Drawn n → BodyFits (space_of scene.now) }
+    requires fits { (n : ℕ) → scene.now.plan ≡ Drawn n → BodyFits scene.now.room scene.now.body }
     ensures value { IfOk result (λ points. points ≡ mark_points scene.now) }
     ensures in_room { (n : ℕ) → scene.now.plan ≡ Drawn n
         → IfOk result (λ points. All (λ p. InRoom (space_of scene.now) (at_lattice p)) points) }
@@ -31,14 +31,14 @@ pub fn marks(alloc: Global, scene: &Scene) -> Result<Points, Memory>
 
 /// So many drawn marks of a scene.
 fn drawn_points(alloc: Global, scene: &Scene, count: u32) -> Result<Points, Memory>
-    requires { BodyFits (space_of scene.now) }
+    requires { BodyFits scene.now.room scene.now.body }
     ensures value { IfOk result (λ points. points ≡ points_of scene.now (Drawn count)) }
     ensures in_room { IfOk result (λ points. All (λ p. InRoom (space_of scene.now) (at_lattice p)) points) }
 {
-    let places = Places::new(scene.room, scene.body.as_slice());
+    let spans = RoomSpans::new(scene.room, scene.body.as_slice());
     let mut points = Vec::with_capacity(alloc, count as usize)?;
     for k in 0..count {
-        points.push(drawn(scene, places, k))?;
+        points.push(drawn(scene, spans, k))?;
     }
     Ok(Sequence::from_vec(points))
 }

@@ -13,7 +13,7 @@ use plan_model::Span;
 ///     columns      0 .. 32   33 .. 65   66 .. 99      100 columns, 3 strips
 ///     strip           0         1          2
 /// ```
-pub(crate) fn strip_of(columns: Span, strips: u32, strip: u32) -> Span
+pub(crate) fn columns_of_strip(columns: Span, strips: u32, strip: u32) -> Span
     requires strip { strip < strips }
     requires few { strips ≤ MOST_STRIPS }
     requires end { columns.first + columns.count ≤ MOST_SIDE + 1 }
@@ -45,7 +45,7 @@ mod tests {
             (7, 2, 3, 2, (7, 2)),
             (0, 65_536, 64, 63, (64_512, 1_024)),
         ] {
-            let got = strip_of(Span { first, count }, strips, strip);
+            let got = columns_of_strip(Span { first, count }, strips, strip);
             assert_eq!(rt;
                 (got.first, got.count),
                 want,

@@ -7,9 +7,9 @@ use Rattle.plan_model.specs.ConfigurationSpace.{ConfigurationSpace}
 use Rattle.plan_model.specs.RoomOfConfigurations.{InRoom, at_lattice}
 use Rattle.plan_model.specs.Clearance.{on_the_way}
 use Rattle.plan_model.specs.MarkPoints.{IsInSpan}
-use Rattle.plan_model.proofs.SpanLaws.{HasPlace-from_in_room, InRoom-from_place}
-use Rattle.plan_model.specs.declared.places.Places.{Places}
-use Rattle.plan_model.specs.PlacesOfRooms.{ArePlacesOf}
+use Rattle.plan_model.proofs.SpanLaws.{IsInSpans-from_in_room, InRoom-from_spans}
+use Rattle.plan_model.specs.declared.spans.RoomSpans.{RoomSpans}
+use Rattle.plan_model.specs.SpansOfRooms.{AreSpansOf}
 use Rattle.swept_check.proofs.LinearValues.{IsAdmitted-inside}
 use Rattle.convex_sets.proofs.Ring.{var, plus, minus, times, same}
 
@@ -89,16 +89,16 @@ InRoom-on_the_way space a b s d p l f g =
           record { left = across.low; right = across.high; bottom = up.low; top = up.high });
     }
 
--- the places say which lattice points are in the room
-pub in_room_of_places : (space : ConfigurationSpace) (places : Places) (p : Point) → ArePlacesOf space.room space.body places
-    → IsInSpan places.columns p.x → IsInSpan places.rows p.y → InRoom space (at_lattice p)
-in_room_of_places space places p h f g =
-    InRoom-from_place space p (record { column = rw h.columns at f; row = rw h.rows at g })
+-- the columns and rows say which lattice points are in the room
+pub in_room_of_spans : (space : ConfigurationSpace) (spans : RoomSpans) (p : Point) → AreSpansOf space.room space.body spans
+    → IsInSpan spans.columns p.x → IsInSpan spans.rows p.y → InRoom space (at_lattice p)
+in_room_of_spans space spans p h f g =
+    InRoom-from_spans space p (record { column = rw h.columns at f; row = rw h.rows at g })
 
-pub columns_of_in_room : (space : ConfigurationSpace) (places : Places) (p : Point) → ArePlacesOf space.room space.body places
-    → InRoom space (at_lattice p) → IsInSpan places.columns p.x
-columns_of_in_room space places p h room = rw h.columns (HasPlace-from_in_room space p room).column
+pub columns_of_in_room : (space : ConfigurationSpace) (spans : RoomSpans) (p : Point) → AreSpansOf space.room space.body spans
+    → InRoom space (at_lattice p) → IsInSpan spans.columns p.x
+columns_of_in_room space spans p h room = rw h.columns (IsInSpans-from_in_room space p room).column
 
-pub rows_of_in_room : (space : ConfigurationSpace) (places : Places) (p : Point) → ArePlacesOf space.room space.body places
-    → InRoom space (at_lattice p) → IsInSpan places.rows p.y
-rows_of_in_room space places p h room = rw h.rows (HasPlace-from_in_room space p room).row
+pub rows_of_in_room : (space : ConfigurationSpace) (spans : RoomSpans) (p : Point) → AreSpansOf space.room space.body spans
+    → InRoom space (at_lattice p) → IsInSpan spans.rows p.y
+rows_of_in_room space spans p h room = rw h.rows (IsInSpans-from_in_room space p room).row

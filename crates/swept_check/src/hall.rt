@@ -7,7 +7,7 @@ ghost use Rattle.plan_model.specs.RoomOfConfigurations.{InRoom, at_lattice};
 use crate::clearing::Clearing;
 use crate::zone_crossings::crosses_none;
 use convex_sets::Zone;
-use plan_model::{Memory, Places, Point, Poly, Polys, Scene, Sequence};
+use plan_model::{Memory, Point, Poly, Polys, RoomSpans, Scene, Sequence};
 use std::alloc::Global;
 use std::marker::Model;
 
@@ -31,14 +31,14 @@ pub struct Hall {
     body: Poly,
     obstacles: Polys,
     zones: Vec<Zone>,
-    places: Places,
+    spans: RoomSpans,
 }
 
 impl Model for Hall {
     ghost use Rattle.plan_model.specs.ConfigurationSpace.{ConfigurationSpace};
     ghost use Rattle.plan_model.specs.declared.limits.TheConstants.{MOST_SIDE};
     ghost use Rattle.swept_check.specs.Halls.{AreZonesOf};
-    ghost use Rattle.plan_model.specs.PlacesOfRooms.{ArePlacesOf};
+    ghost use Rattle.plan_model.specs.SpansOfRooms.{AreSpansOf};
     ghost use Rattle.std.specs.Prelude.{◌≤◌};
 
     ghost Value = { ConfigurationSpace };
@@ -47,7 +47,7 @@ impl Model for Hall {
 
     ghost invariant = { λ h. record {
       zones : AreZonesOf h.body h.obstacles h.zones.items;
-      places : ArePlacesOf h.room h.body h.places;
+      spans : AreSpansOf h.room h.body h.spans;
       right : h.room.x ≤ MOST_SIDE;
       top : h.room.y ≤ MOST_SIDE;
     } };
@@ -76,7 +76,7 @@ impl Hall {
             body: copied(alloc, &scene.body)?,
             obstacles: Sequence::from_vec(obstacles),
             zones,
-            places: Places::new(scene.room, scene.body.as_slice()),
+            spans: RoomSpans::new(scene.room, scene.body.as_slice()),
         })
     }
 
@@ -92,7 +92,7 @@ impl Hall {
     fn is_in_room(&self, p: Point) -> bool
         ensures { IsTrue result ↔ InRoom self.now (at_lattice p) }
     {
-        self.places.contains(p)
+        self.spans.contains(p)
     }
 
     /// The zones, one for each obstacle, in the scene's order. O(1); no memory.

@@ -1,12 +1,46 @@
--- Lines after the version at the limits of the grammar, and just beyond them.
-use Rattle.std.specs.Prelude.{◌≡◌, ℕ, true, false, Option, Some, None, List, [], codes, replicate, ◌∷◌}
+-- The limits as numbers; lines after the version at the limits of the grammar, and just beyond them.
+use Rattle.std.specs.Prelude.{◌≡◌, ℕ, pos, neg_ℤ, true, false, Option, Some, None, List, [], codes, replicate, ◌∷◌}
 use Rattle.plan_model.specs.declared.text_terms.Key.TheVariants as keys
 use Rattle.plan_model.specs.declared.text_terms.Kind.{Kind}
 use Rattle.plan_model.specs.declared.text_terms.Kind.TheVariants as kinds
+use Rattle.plan_model.specs.declared.limits.TheConstants.{LEAST_BODY_COORDINATE, LEAST_CORNER_COORDINATE, LEAST_CORNERS, LEAST_OBSTACLE_COORDINATE}
+use Rattle.plan_model.specs.declared.limits.TheConstants.{LEAST_SIDE, LEAST_STEP, LEAST_STRIPS, LEAST_SUMMAND_COORDINATE, MOST_BODY_COORDINATE}
+use Rattle.plan_model.specs.declared.limits.TheConstants.{MOST_BODY_CORNERS, MOST_COORDINATE, MOST_CORNER_COORDINATE, MOST_GAMMA, MOST_MARKS, MOST_NODES}
+use Rattle.plan_model.specs.declared.limits.TheConstants.{MOST_OBSTACLE_COORDINATE, MOST_OBSTACLE_CORNERS, MOST_OBSTACLES, MOST_SEED, MOST_SIDE}
+use Rattle.plan_model.specs.declared.limits.TheConstants.{MOST_STEERING_STEP, MOST_STEP, MOST_STRIPS, MOST_SUMMAND_COORDINATE, MOST_TEXT_BYTES, MOST_WORKERS}
 use Rattle.plan_model.specs.TextLines.{words_of}
 use Rattle.plan_model.specs.Keys.{most_lines}
 use Rattle.plan_model.specs.LineChecks.{given_by, fault_of_statement, is_too_many}
 use Rattle.plan_model.specs.SceneGrammar.{supported}
+
+-- each limit as a number, so that a constant cannot change without its value here
+pub record ConstantVectors : Type 0 where
+  pub text_bytes : MOST_TEXT_BYTES ≡ 16777216
+  pub marks : MOST_MARKS ≡ 262143
+  pub nodes : MOST_NODES ≡ 262144
+  pub workers : MOST_WORKERS ≡ 64
+  pub fewest_strips : LEAST_STRIPS ≡ 1
+  pub strips : MOST_STRIPS ≡ 64
+  pub obstacles : MOST_OBSTACLES ≡ 1024
+  pub fewest_corners : LEAST_CORNERS ≡ 3
+  pub obstacle_corners : MOST_OBSTACLE_CORNERS ≡ 64
+  pub body_corners : MOST_BODY_CORNERS ≡ 16
+  pub least_side : LEAST_SIDE ≡ 1
+  pub side : MOST_SIDE ≡ 65535
+  pub least_step : LEAST_STEP ≡ 4
+  pub step : MOST_STEP ≡ 4096
+  pub gamma : MOST_GAMMA ≡ 16777215
+  pub seed : MOST_SEED ≡ 18446744073709551615
+  pub least_body_coordinate : LEAST_BODY_COORDINATE ≡ neg_ℤ (pos 4096)
+  pub body_coordinate : MOST_BODY_COORDINATE ≡ pos 4096
+  pub least_obstacle_coordinate : LEAST_OBSTACLE_COORDINATE ≡ neg_ℤ (pos 131072)
+  pub obstacle_coordinate : MOST_OBSTACLE_COORDINATE ≡ pos 131071
+  pub least_corner_coordinate : LEAST_CORNER_COORDINATE ≡ neg_ℤ (pos 4194304)
+  pub corner_coordinate : MOST_CORNER_COORDINATE ≡ pos 4194304
+  pub least_summand_coordinate : LEAST_SUMMAND_COORDINATE ≡ neg_ℤ (pos 2097152)
+  pub summand_coordinate : MOST_SUMMAND_COORDINATE ≡ pos 2097152
+  pub coordinate : MOST_COORDINATE ≡ 1048575
+  pub steering_step : MOST_STEERING_STEP ≡ 65536
 
 -- the fault of a line right after the version
 abbrev pub fault_alone : List ℕ → Option Kind

@@ -1,20 +1,22 @@
 -- Columns cut into three strips, the quotas of three strips, and the columns in which a body fits.
-use Rattle.std.specs.Prelude.{◌≡◌, [], ◌∷◌}
-use Rattle.plan_model.specs.ConfigurationSpace.{ConfigurationSpace}
-use Rattle.plan_model.specs.MarkPoints.{IsInSpan, strip, quota_of, span_within, columns, rows, reach, below_zero, above_zero}
-use Rattle.plan_model.specs.declared.places.Span.{Span}
+use Rattle.std.specs.Prelude.{◌≡◌, List, [], ◌∷◌}
+use Rattle.plan_model.specs.MarkPoints.{IsInSpan, strip, strip_of_mark, quota_of, span_within, columns, rows, reach, below_zero, above_zero}
+use Rattle.plan_model.specs.declared.geometry.Vertex.{Vertex}
+use Rattle.plan_model.specs.declared.spans.Span.{Span}
 use Rattle.plan_model.specs.Vectors.Shapes.{at, corner, corner_below}
 
 abbrev pub hundred : Span
 hundred = record { first = 0; count = 100 }
 
-abbrev pub kite_in_room : ConfigurationSpace
-kite_in_room = record { room = at 10 20; body = corner_below 3 0 ∷ corner 4 0 ∷ corner 0 5 ∷ []; obstacles = [] }
+abbrev pub kite : List Vertex
+kite = corner_below 3 0 ∷ corner 4 0 ∷ corner 0 5 ∷ []
 
 pub record StripVectors : Type 0 where
   pub left : strip hundred 3 0 ≡ record { first = 0; count = 33 }
   pub middle : strip hundred 3 1 ≡ record { first = 33; count = 33 }
   pub right : strip hundred 3 2 ≡ record { first = 66; count = 34 }
+  pub next_after_last : strip_of_mark 3 3 ≡ 0
+  pub only_strip : strip_of_mark 1 7 ≡ 0
   pub first_quota : quota_of 3 0 7 ≡ 3
   pub second_quota : quota_of 3 1 7 ≡ 2
   pub third_quota : quota_of 3 2 7 ≡ 2
@@ -38,9 +40,9 @@ pub record StripVectors : Type 0 where
   pub after_span : ¬ IsInSpan (record { first = 4; count = 2 }) 6
   pub empty_span : ¬ IsInSpan (record { first = 5; count = 0 }) 5
   -- the columns and the rows of a body that is wider than high, in a room that is higher than wide
-  pub columns_of_room : columns kite_in_room ≡ record { first = 3; count = 4 }
-  pub rows_of_room : rows kite_in_room ≡ record { first = 0; count = 16 }
+  pub columns_of_room : columns (at 10 20) kite ≡ record { first = 3; count = 4 }
+  pub rows_of_room : rows (at 10 20) kite ≡ record { first = 0; count = 16 }
   -- a body reaches from its origin, also if all corners are on one side of it
-  pub reaches_back : reach (λ v. below_zero v.x) (corner_below 3 0 ∷ corner 4 0 ∷ corner 0 5 ∷ []) ≡ 3
-  pub reaches_forth : reach (λ v. above_zero v.x) (corner_below 3 0 ∷ corner 4 0 ∷ corner 0 5 ∷ []) ≡ 4
+  pub reaches_back : reach (λ v. below_zero v.x) kite ≡ 3
+  pub reaches_forth : reach (λ v. above_zero v.x) kite ≡ 4
   pub reaches_none_back : reach (λ v. below_zero v.x) (corner 2 0 ∷ corner 4 0 ∷ corner 3 1 ∷ []) ≡ 0

@@ -1,9 +1,9 @@
 //! Laws of strips, quotas, and marks that are drawn.
 
-ghost use Rattle.std.specs.Prelude.{◌≡◌, ℕ, ◌+◌, ◌*◌, ◌%◌, ◌<◌, ◌≤◌, ◌↔◌};
+ghost use Rattle.std.specs.Prelude.{◌≡◌, ℕ, ◌+◌, ◌*◌, ◌<◌, ◌≤◌, ◌↔◌};
 ghost use Rattle.plan_model.specs.ConfigurationSpace.{space_of};
-ghost use Rattle.plan_model.specs.MarkPoints.{BodyFits, IsInSpan, columns, drawn_mark, quota_of, rows, strip};
-ghost use Rattle.plan_model.specs.declared.places.Span.{Span};
+ghost use Rattle.plan_model.specs.MarkPoints.{BodyFits, IsInSpan, columns, drawn_mark, quota_of, rows, strip, strip_of_mark};
+ghost use Rattle.plan_model.specs.declared.spans.Span.{Span};
 ghost use Rattle.plan_model.specs.RoomOfConfigurations.{InRoom, at_lattice};
 ghost use Rattle.plan_model.specs.declared.scenes.Scene.{Scene};
 
@@ -23,10 +23,10 @@ pub fn strips_have_columns_of_the_span()
 
 /// A mark is drawn from the columns of its strip and from the rows, so it is in the room of configurations.
 pub fn marks_are_drawn_in_the_room()
-    ensures column { (scene : Scene) (k : ℕ) → BodyFits (space_of scene)
-        → IsInSpan (strip (columns (space_of scene)) scene.strips (k % scene.strips)) (drawn_mark scene k).x }
-    ensures row { (scene : Scene) (k : ℕ) → BodyFits (space_of scene) → IsInSpan (rows (space_of scene)) (drawn_mark scene k).y }
-    ensures in_room { (scene : Scene) (k : ℕ) → BodyFits (space_of scene) → InRoom (space_of scene) (at_lattice (drawn_mark scene k)) }
+    ensures column { (scene : Scene) (k : ℕ) → BodyFits scene.room scene.body
+        → IsInSpan (strip (columns scene.room scene.body) scene.strips (strip_of_mark scene.strips k)) (drawn_mark scene k).x }
+    ensures row { (scene : Scene) (k : ℕ) → BodyFits scene.room scene.body → IsInSpan (rows scene.room scene.body) (drawn_mark scene k).y }
+    ensures in_room { (scene : Scene) (k : ℕ) → BodyFits scene.room scene.body → InRoom (space_of scene) (at_lattice (drawn_mark scene k)) }
 {}
 
 /// The c-th mark of a strip is below a limit exactly if c is below the quota of the strip.

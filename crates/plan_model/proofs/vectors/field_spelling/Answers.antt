@@ -31,6 +31,7 @@ the_scene = record {
   step_low = omega arith;
   step_high = omega arith;
   gamma_high = omega arith;
+  seed_high = omega arith;
   strips_low = omega arith;
   strips_high = omega arith;
   plan_within = refl;

@@ -6,8 +6,8 @@ use Rattle.scene_text.proofs.scene_writer.write_scene.Goals as goal
 
 pub returns-clause-spells : goal.returns-clause-spells
 returns-clause-spells c =
-    Spells-canonical c.args.scene.now c.into_bytes.result.items c.in_ok-push_task.ensures.seed (grind (arith, common_steps))
+    Spells-canonical c.args.scene.now c.into_bytes.result.items (grind (arith, common_steps))
 
 pub returns-clause-fits : goal.returns-clause-fits
 returns-clause-fits c =
-    length-written c.args.scene.now c.into_bytes.result.items c.in_ok-push_task.ensures.seed (grind (arith, common_steps))
+    length-written c.args.scene.now c.into_bytes.result.items (grind (arith, common_steps))

@@ -1,14 +1,14 @@
 use Rattle.plan_model.specs.ConfigurationSpace.{ConfigurationSpace}
-use Rattle.swept_check.proofs.RoomLaws.{in_room_of_places, columns_of_in_room, rows_of_in_room}
+use Rattle.swept_check.proofs.RoomLaws.{in_room_of_spans, columns_of_in_room, rows_of_in_room}
 use Rattle.swept_check.proofs.hall.Hall.is_in_room.Goals as goal
 
 pub returns : goal.returns
 returns c =
     let h = c.self.inside in
     let p = c.args.p in
-    let places = c.self.invariant.places in
+    let spans = c.self.invariant.spans in
     let space : ConfigurationSpace = record { room = h.room; body = h.body; obstacles = h.obstacles } in
     rw (← c.self.view_is) (
-      λ t. (let parts = c.contains.ensures.0 t in in_room_of_places space h.places p places parts.0 parts.1),
-      λ room. c.contains.ensures.1 (columns_of_in_room space h.places p places room, rows_of_in_room space h.places p places room),
+      λ t. (let parts = c.contains.ensures.0 t in in_room_of_spans space h.spans p spans parts.0 parts.1),
+      λ room. c.contains.ensures.1 (columns_of_in_room space h.spans p spans room, rows_of_in_room space h.spans p spans room),
     )

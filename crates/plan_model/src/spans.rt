@@ -2,7 +2,7 @@
 
 ghost use Rattle.std.specs.Prelude.{◌≡◌, ◌↔◌, ◌≤◌, IsTrue, List};
 ghost use Rattle.plan_model.specs.MarkPoints.{IsInSpan, above_zero, below_zero, reach, span_within};
-ghost use Rattle.plan_model.specs.PlacesOfRooms.{ArePlacesOf};
+ghost use Rattle.plan_model.specs.SpansOfRooms.{AreSpansOf};
 ghost use Rattle.plan_model.specs.declared.limits.TheConstants.{MOST_SIDE};
 
 use crate::geometry::{Point, Vertex};
@@ -50,23 +50,23 @@ impl Span {
 ///
 /// If the body does not fit into the room, one of the spans is empty.
 #[derive(Clone, Copy, Debug, PartialEq, Eq)]
-pub struct Places {
+pub struct RoomSpans {
     /// The columns that the body's origin may stand in.
     pub columns: Span,
     /// The rows that the body's origin may stand in.
     pub rows: Span,
 }
 
-impl Places {
+impl RoomSpans {
     /// The columns and rows of a body in a room, by the room's upper right corner and the body's corners. O(n) for n corners;
     /// no memory.
-    pub fn new(room: Point, body: &[Vertex]) -> Places
+    pub fn new(room: Point, body: &[Vertex]) -> RoomSpans
         requires right { room.x ≤ MOST_SIDE }
         requires top { room.y ≤ MOST_SIDE }
-        ensures { ArePlacesOf room body.now result }
+        ensures { AreSpansOf room body.now result }
     {
         let reach = Reach::of(body);
-        Places {
+        RoomSpans {
             columns: Span::within(room.x, reach.left, reach.right),
             rows: Span::within(room.y, reach.down, reach.up),
         }
@@ -142,7 +142,7 @@ mod tests {
 
     #[test]
     fn body_keeps_from_the_walls(rt: HostRuntime) -> Result<(), Fail> {
-        let places = Places::new(
+        let spans = RoomSpans::new(
             Point { x: 7, y: 5 },
             &[
                 Vertex { x: -2, y: -1 },
@@ -150,19 +150,19 @@ mod tests {
                 Vertex { x: 0, y: 1 },
             ],
         );
-        assert_eq!(rt; places.columns, Span { first: 2, count: 3 });
-        assert_eq!(rt; places.rows, Span { first: 1, count: 4 });
-        assert!(rt; places.contains(Point { x: 4, y: 4 }));
-        assert!(rt; !places.contains(Point { x: 5, y: 4 }));
-        assert!(rt; !places.contains(Point { x: 4, y: 0 }));
+        assert_eq!(rt; spans.columns, Span { first: 2, count: 3 });
+        assert_eq!(rt; spans.rows, Span { first: 1, count: 4 });
+        assert!(rt; spans.contains(Point { x: 4, y: 4 }));
+        assert!(rt; !spans.contains(Point { x: 5, y: 4 }));
+        assert!(rt; !spans.contains(Point { x: 4, y: 0 }));
         Ok(())
     }
 
     #[test]
     fn great_body_has_no_column(rt: HostRuntime) -> Result<(), Fail> {
-        let places = Places::new(Point { x: 7, y: 5 }, &[Vertex { x: 8, y: 0 }]);
-        assert_eq!(rt; places.columns, Span { first: 0, count: 0 });
-        assert!(rt; !places.columns.contains(0));
+        let spans = RoomSpans::new(Point { x: 7, y: 5 }, &[Vertex { x: 8, y: 0 }]);
+        assert_eq!(rt; spans.columns, Span { first: 0, count: 0 });
+        assert!(rt; !spans.columns.contains(0));
         Ok(())
     }
 }
