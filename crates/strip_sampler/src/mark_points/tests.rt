@@ -6,7 +6,7 @@ ghost use Rattle.plan_model.specs.declared.scenes.Marks.TheVariants.{Drawn};
 ghost use Rattle.plan_model.specs.declared.limits.TheConstants.{LEAST_SIDE, LEAST_STRIPS, MOST_SIDE, MOST_STRIPS};
 
 use super::*;
-use plan_model::{Goal, MOST_MARKS, Point, Vertex};
+use plan_model::{Goal, MOST_MARKS, Point, SmallScene, Vertex};
 
 /// A scene without obstacles.
 fn open_scene(
@@ -26,11 +26,8 @@ fn open_scene(
     ensures body { IfOk result (λ scene. scene.body ≡ body.now) }
     ensures plan { IfOk result (λ scene. scene.plan ≡ plan) }
 {
-    Ok(Scene {
-        version: 1,
+    let small = SmallScene {
         room,
-        body: Sequence::from_vec(body.to_vec(alloc)?),
-        obstacles: Sequence::from_vec(Vec::new(alloc)),
         start: Point { x: 0, y: 0 },
         goal: Goal {
             low: Point { x: 0, y: 0 },
@@ -40,8 +37,9 @@ fn open_scene(
         gamma: 0,
         seed,
         strips,
-        plan,
-    })
+    };
+    let body = Sequence::from_vec(body.to_vec(alloc)?);
+    Ok(small.scene(body, Sequence::from_vec(Vec::new(alloc)), plan))
 }
 
 /// So many marks of a point body, drawn in a room whose sides are as long as each other.

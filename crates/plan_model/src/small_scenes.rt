@@ -1,0 +1,146 @@
+//! Small scenes for tests and examples, of this crate and of those above it.
+
+ghost use Rattle.std.specs.Prelude.{◌≡◌, ◌≤◌, IfOk, IsTrue};
+ghost use Rattle.plan_model.specs.Clearance.{ClearAt};
+ghost use Rattle.plan_model.specs.ConfigurationSpace.{space_of};
+ghost use Rattle.plan_model.specs.EmptyRooms.{IsInRoom, empty_room};
+ghost use Rattle.plan_model.specs.Limits.{IsBetween, IsGoal, are_obstacles, is_body, is_plan};
+ghost use Rattle.plan_model.specs.Textbook.{setup_of};
+ghost use Rattle.plan_model.specs.declared.scenes.Marks.TheVariants.{Listed};
+ghost use Rattle.plan_model.specs.declared.limits.TheConstants.{LEAST_SIDE, LEAST_STEP, LEAST_STRIPS, MOST_GAMMA, MOST_SEED, MOST_SIDE, MOST_STEP, MOST_STRIPS};
+
+use crate::errors::Memory;
+use crate::geometry::{Goal, Point, Vertex};
+use crate::lists::Sequence;
+use crate::scenes::{Marks, Poly, Polys, Scene};
+use crate::tasks::Task;
+use std::alloc::Global;
+
+/// A small scene for tests and examples: all of a scene but its body, its obstacles and its marks.
+///
+/// ```text
+/// let task = SmallScene {
+///     room: Point { x: 100, y: 100 },
+///     start: Point { x: 0, y: 0 },
+///     goal: Goal { low: Point { x: 90, y: 90 }, high: Point { x: 99, y: 99 } },
+///     step: 50,
+///     gamma: 1000,
+///     seed: 0,
+///     strips: 1,
+/// }
+/// .task(alloc, &[Point { x: 30, y: 40 }])?;
+/// ```
+#[derive(Clone, Copy, Debug)]
+pub struct SmallScene {
+    /// The upper right corner of the room.
+    pub room: Point,
+    /// Where the tree begins, in the room.
+    pub start: Point,
+    /// The closed box that is to be reached.
+    pub goal: Goal,
+    /// The longest edge of the tree.
+    pub step: u32,
+    /// The factor of the rewiring radius.
+    pub gamma: u32,
+    /// The seed of drawn marks.
+    pub seed: u64,
+    /// Into how many strips the room is cut for drawn marks.
+    pub strips: u32,
+    ghost room_within: { IsBetween LEAST_SIDE MOST_SIDE room },
+    ghost start_within: { IsInRoom room start },
+    ghost goal_within: { IsGoal goal },
+    ghost step_low: { LEAST_STEP ≤ step },
+    ghost step_high: { step ≤ MOST_STEP },
+    ghost gamma_high: { gamma ≤ MOST_GAMMA },
+    ghost seed_high: { seed ≤ MOST_SEED },
+    ghost strips_low: { LEAST_STRIPS ≤ strips },
+    ghost strips_high: { strips ≤ MOST_STRIPS },
+}
+
+impl SmallScene {
+    /// The scene with this body, these obstacles and this plan of marks.
+    pub fn scene(self, body: Poly, obstacles: Polys, plan: Marks) -> Scene
+        requires body { IsTrue (is_body body) }
+        requires obstacles { IsTrue (are_obstacles obstacles) }
+        requires plan { IsTrue (is_plan plan) }
+        ensures setup { setup_of result ≡ record {
+          space = record { room = self.room; body = body; obstacles = obstacles };
+          start = self.start;
+          step = self.step;
+          gamma = self.gamma;
+        } }
+        ensures goal { result.goal ≡ self.goal }
+        ensures seed { result.seed ≡ self.seed }
+        ensures strips { result.strips ≡ self.strips }
+        ensures plan { result.plan ≡ plan }
+    {
+        Scene {
+            version: 1,
+            room: self.room,
+            body,
+            obstacles,
+            start: self.start,
+            goal: self.goal,
+            step: self.step,
+            gamma: self.gamma,
+            seed: self.seed,
+            strips: self.strips,
+            plan,
+        }
+    }
+
+    /// The task of these listed marks for a point body in the empty room.
+    ///
+    /// # Errors
+    ///
+    /// `Memory` if out of memory.
+    pub fn task(self, alloc: Global, marks: &[Point]) -> Result<Task, Memory>
+        requires { IsTrue (is_plan (Listed marks.now)) }
+        ensures setup { IfOk result (λ task. setup_of task.scene ≡ record {
+          space = empty_room self.room;
+          start = self.start;
+          step = self.step;
+          gamma = self.gamma;
+        }) }
+        ensures goal { IfOk result (λ task. task.scene.goal ≡ self.goal) }
+        ensures strips { IfOk result (λ task. task.scene.strips ≡ self.strips) }
+        ensures marks { IfOk result (λ task. task.marks ≡ marks.now) }
+        ensures clear { IfOk result (λ task. ClearAt (space_of task.scene) task.scene.start) }
+    {
+        let body = Sequence::from_vec(vec![in alloc; Vertex { x: 0, y: 0 }]?);
+        let obstacles = Sequence::from_vec(Vec::new(alloc));
+        let plan = Marks::Listed(Sequence::from_vec(Vec::from_slice(alloc, marks)?));
+        Ok(Task {
+            scene: self.scene(body, obstacles, plan),
+            marks: Sequence::from_vec(Vec::from_slice(alloc, marks)?),
+        })
+    }
+}
+
+#[cfg(test)]
+mod tests {
+    use super::*;
+    use std::test::Fail;
+
+    #[test]
+    fn makes_the_task_of_an_empty_room(rt: HostRuntime) -> Result<(), Fail> {
+        let corner = Point { x: 9, y: 9 };
+        let small = SmallScene {
+            room: corner,
+            start: Point { x: 0, y: 0 },
+            goal: Goal {
+                low: corner,
+                high: corner,
+            },
+            step: 5,
+            gamma: 0,
+            seed: 0,
+            strips: 1,
+        };
+        let task = small.task(rt.alloc(), &[corner])?;
+        assert_eq!(rt; task.marks.as_slice(), [corner].as_slice());
+        assert_eq!(rt; task.scene.obstacles.len(), 0);
+        assert_eq!(rt; (task.scene.room, task.scene.goal.low), (corner, corner));
+        Ok(())
+    }
+}
