@@ -28,7 +28,8 @@ KeepsOrFindsEmpty before after n side =
     (after.found_empty n side ≡ before.found_empty n side)
     ⊎ ((before.steps < after.found_empty n side) × (before.seen.child n side ≡ None))
 
--- The second is a later moment of the same worker: it has seen at least as much, and has made more steps, which alone found places empty.
+-- The second is a later moment of the same worker, or the same: it has seen at least as much, and made no fewer steps, and these alone
+-- found places empty.
 pub record IsLaterMoment (before after : Sight) : Type 0 where
   pub seen : HasSeenAtLeast before.seen after.seen
   pub steps : before.steps ≤ after.steps
