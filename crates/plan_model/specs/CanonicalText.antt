@@ -1,5 +1,5 @@
 -- The canonical text of a scene: a line for each field and each mark, in one order, also if the value is the one that holds without the line.
-use Rattle.std.specs.Prelude.{ℕ, ℤ, pos, List, [], ◌∷◌, ◌++◌, map, flat_map, codes}
+use Rattle.std.specs.Prelude.{ℕ, ℤ, pos, List, [], ◌∷◌, ◌++◌, map, flat_map}
 use Rattle.std.specs.Fmt.{signed_decimal}
 use Rattle.plan_model.specs.declared.geometry.Point.{Point}
 use Rattle.plan_model.specs.declared.geometry.Vertex.{Vertex}
@@ -10,7 +10,7 @@ use Rattle.plan_model.specs.declared.scenes.Marks.TheVariants.{Drawn, Listed}
 use Rattle.plan_model.specs.declared.text_terms.Key.{Key}
 use Rattle.plan_model.specs.declared.text_terms.Key.TheVariants as keys
 use Rattle.plan_model.specs.ReportText.{line}
-use Rattle.plan_model.specs.Keys.{name_of}
+use Rattle.plan_model.specs.Keys.{format_name, format_version, name_of}
 
 -- ---- the numbers of the parts of a scene
 
@@ -34,7 +34,7 @@ statement key numbers = name_of key ∷ map signed_decimal numbers
 
 -- the words of the first line
 abbrev pub version_statement : List (List ℕ)
-version_statement = codes "prrt" ∷ codes "1" ∷ []
+version_statement = format_name ∷ format_version ∷ []
 
 -- the words of an obstacle's line
 abbrev pub obstacle_statement : List Vertex → List (List ℕ)

@@ -8,6 +8,14 @@ use Rattle.plan_model.specs.declared.limits.TheConstants.{MOST_OBSTACLE_CORNERS,
 
 -- ---- names
 
+-- the word that a scene text begins with
+abbrev pub format_name : List ℕ
+format_name = codes "prrt"
+
+-- the second word, the version of the format
+abbrev pub format_version : List ℕ
+format_version = codes "1"
+
 -- the word that a key is written as
 abbrev pub name_of : Key → List ℕ
 name_of keys.Room = codes "room"

@@ -1,6 +1,6 @@
 -- The checks of a line, over the numbers that the lines before it give.
 use Rattle.std.specs.Prelude.{◌≡◌, ℕ, ◌≤◌, ◌*◌, ◌==◌, nat_lt, nat_le, ◌&&◌, ◌||◌, not, Bool, true, false, ℤ, int_le, Option, Some, None, List, [], ◌∷◌}
-use Rattle.std.specs.Prelude.{◌++◌, length, map, drop, filter, All, bytes_eq, codes, if◌then◌else◌}
+use Rattle.std.specs.Prelude.{◌++◌, length, map, drop, filter, All, bytes_eq, if◌then◌else◌}
 use Rattle.std.specs.List.{list_all}
 use Rattle.plan_model.specs.declared.geometry.Vertex.{Vertex}
 use Rattle.plan_model.specs.declared.text_terms.Key.{Key}
@@ -10,7 +10,7 @@ use Rattle.plan_model.specs.declared.text_terms.Kind.TheVariants as kinds
 use Rattle.plan_model.specs.Convexity.{is_strictly_convex}
 use Rattle.plan_model.specs.TextLines.{is_skipped}
 use Rattle.plan_model.specs.TextNumbers.{is_number, value_of}
-use Rattle.plan_model.specs.Keys.{name_of, key_of, fits_words, most_corners, most_lines, rival_of, least_of, most_of}
+use Rattle.plan_model.specs.Keys.{format_name, format_version, name_of, key_of, fits_words, most_corners, most_lines, rival_of, least_of, most_of}
 
 -- ---- the numbers that lines give
 
@@ -121,7 +121,7 @@ fault_of_statement built given (word ∷ words) = fault_at_key built given (key_
 
 -- the first statement
 abbrev pub is_version : List (List ℕ) → Bool
-is_version (first ∷ second ∷ []) = bytes_eq first (codes "prrt") && bytes_eq second (codes "1")
+is_version (first ∷ second ∷ []) = bytes_eq first format_name && bytes_eq second format_version
 is_version words = false
 
 -- the fault of a line that is not skipped, after the version or as the first

@@ -12,13 +12,13 @@ ghost use Rattle.scene_text.specs.Drafts.{line_numbers, amount_numbers};
 ghost use Rattle.scene_text.specs.Refusals.{IsLineRefusal};
 
 use crate::field_words::{read_amount, read_body, read_goal, read_obstacle, read_point};
-use crate::key_words::{fits_words, is_supported, key_of, most_corners, most_lines, rival_of};
+use crate::key_words::{
+    FORMAT_NAME, FORMAT_VERSION, fits_words, is_supported, key_of, most_corners, most_lines,
+    rival_of,
+};
 use crate::line_words::{are_numbers, count_words, next_word};
 use crate::refusals::LineRefusal;
-use plan_model::{
-    Goal, Key, Kind, LEAST_SIDE, LEAST_STEP, LEAST_STRIPS, MOST_GAMMA, MOST_MARKS, MOST_STEP,
-    MOST_STRIPS, Marks, Point, Points, Poly, Polys, Scene, Vertex,
-};
+use plan_model::{Goal, Key, Kind, Marks, Point, Points, Poly, Polys, Scene, Vertex};
 use std::alloc::{AllocError, Global};
 
 /// What the lines so far give: a field for each key.
@@ -45,10 +45,12 @@ pub(crate) struct Draft {
 fn is_version(word: &[u8], words: &[u8]) -> bool
     ensures { result ≡ is_version (word.now ∷ words_of words.now) }
 {
-    match (word, next_word(words)) {
-        (b"prrt", Some((b"1", rest))) => next_word(rest).is_none(),
-        _ => false,
-    }
+    let Some((version, rest)) = next_word(words) else {
+        return false;
+    };
+    word == FORMAT_NAME.as_bytes()
+        && version == FORMAT_VERSION.as_bytes()
+        && next_word(rest).is_none()
 }
 
 /// The body, or without a line for it the point at the origin.
@@ -176,21 +178,17 @@ impl Draft {
         ensures refused { IfErr result (IsLineRefusal (first_failing (number_checks key (map value_of (words_of words.now))))) }
     {
         match key {
-            Key::Room => self.room = Some(read_point(words, LEAST_SIDE)?),
+            Key::Room => self.room = Some(read_point(words, key)?),
             Key::Body => self.body = Some(read_body(alloc, words)?),
             Key::Obstacle => self.obstacles.push(read_obstacle(alloc, words)?)?,
-            Key::Start => self.start = Some(read_point(words, 0)?),
+            Key::Start => self.start = Some(read_point(words, key)?),
             Key::Goal => self.goal = Some(read_goal(words)?),
-            Key::Step => self.step = Some(
-                read_amount(words, LEAST_STEP.into(), MOST_STEP.into())? as u32,
-            ),
-            Key::Gamma => self.gamma = Some(read_amount(words, 0, MOST_GAMMA.into())? as u32),
-            Key::Seed => self.seed = Some(read_amount(words, 0, u64::MAX)?),
-            Key::Strips => self.strips = Some(
-                read_amount(words, LEAST_STRIPS.into(), MOST_STRIPS.into())? as u32,
-            ),
-            Key::Marks => self.drawn = Some(read_amount(words, 0, MOST_MARKS.into())? as u32),
-            Key::Mark => self.marks.push(read_point(words, 0)?)?,
+            Key::Step => self.step = Some(read_amount(words, key)? as u32),
+            Key::Gamma => self.gamma = Some(read_amount(words, key)? as u32),
+            Key::Seed => self.seed = Some(read_amount(words, key)?),
+            Key::Strips => self.strips = Some(read_amount(words, key)? as u32),
+            Key::Marks => self.drawn = Some(read_amount(words, key)? as u32),
+            Key::Mark => self.marks.push(read_point(words, key)?)?,
         }
         Ok(())
     }

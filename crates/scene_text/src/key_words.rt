@@ -1,12 +1,22 @@
 //! The keys of lines, and the tables of what may stand after each key, and how often.
 
-ghost use Rattle.std.specs.Prelude.{◌≡◌};
-ghost use Rattle.plan_model.specs.Keys.{key_of, fits_words, most_corners, most_lines, rival_of};
+ghost use Rattle.std.specs.Prelude.{◌≡◌, pos};
+ghost use Rattle.plan_model.specs.Keys.{key_of, fits_words, least_of, most_corners, most_lines, most_of, rival_of};
 ghost use Rattle.plan_model.specs.SceneGrammar.{supported};
 
+use crate::number_words::Range;
 use plan_model::{
-    Key, LEAST_CORNERS, MOST_BODY_CORNERS, MOST_MARKS, MOST_OBSTACLE_CORNERS, MOST_OBSTACLES,
+    Key, LEAST_BODY_COORDINATE, LEAST_CORNERS, LEAST_OBSTACLE_COORDINATE, LEAST_SIDE, LEAST_STEP,
+    LEAST_STRIPS, MOST_BODY_COORDINATE, MOST_BODY_CORNERS, MOST_GAMMA, MOST_MARKS,
+    MOST_OBSTACLE_COORDINATE, MOST_OBSTACLE_CORNERS, MOST_OBSTACLES, MOST_SEED, MOST_SIDE,
+    MOST_STEP, MOST_STRIPS,
 };
+
+/// The word that a scene text begins with.
+pub(crate) const FORMAT_NAME: &str = "prrt";
+
+/// The second word, the version of the format.
+pub(crate) const FORMAT_VERSION: &str = "1";
 
 /// The key that a word names.
 pub(crate) fn key_of(word: &[u8]) -> Option<Key>
@@ -90,5 +100,46 @@ pub(crate) fn rival_of(key: Key) -> Option<Key>
         Key::Marks => Some(Key::Mark),
         Key::Mark => Some(Key::Marks),
         _ => None,
+    }
+}
+
+/// The numbers that may stand after the key.
+pub(crate) fn range_of(key: Key) -> Range
+    ensures least { result.least ≡ least_of key }
+    ensures most { pos result.most ≡ most_of key }
+{
+    Range {
+        least: least_of(key),
+        most: most_of(key),
+    }
+}
+
+/// The least number that may stand after the key.
+fn least_of(key: Key) -> i32
+    ensures { result ≡ least_of key }
+{
+    match key {
+        Key::Room => LEAST_SIDE as i32,
+        Key::Body => LEAST_BODY_COORDINATE,
+        Key::Obstacle => LEAST_OBSTACLE_COORDINATE,
+        Key::Step => LEAST_STEP as i32,
+        Key::Strips => LEAST_STRIPS as i32,
+        _ => 0,
+    }
+}
+
+/// The greatest number that may stand after the key.
+fn most_of(key: Key) -> u64
+    ensures { pos result ≡ most_of key }
+{
+    match key {
+        Key::Body => MOST_BODY_COORDINATE as u64,
+        Key::Obstacle => MOST_OBSTACLE_COORDINATE as u64,
+        Key::Step => u64::from(MOST_STEP),
+        Key::Gamma => u64::from(MOST_GAMMA),
+        Key::Seed => MOST_SEED,
+        Key::Strips => u64::from(MOST_STRIPS),
+        Key::Marks => u64::from(MOST_MARKS),
+        _ => u64::from(MOST_SIDE),
     }
 }

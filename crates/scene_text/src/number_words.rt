@@ -47,27 +47,36 @@ pub fn natural(word: &[u8], least: u64, most: u64) -> Option<u64>
     (least <= number && number <= most).then_some(number)
 }
 
-/// The whole number that a word stands for, if it is one from `least` to `most`.
-pub(crate) fn integer(word: &[u8], least: i32, most: i32) -> Option<i32>
-    requires { IsTrue (is_number_word word.now) }
-    ensures value { IfSome result (λ z. value_of word.now ≡ z) }
-    ensures within { IfSome result (λ z. IsTrue (int_le least z && int_le z most)) }
-    ensures outside { IfNone result ((int_le least (value_of word.now) && int_le (value_of word.now) most) ≡ false) }
-{
-    let number = i32::try_from(signed(word)?).ok()?;
-    (least <= number && number <= most).then_some(number)
+/// Whole numbers from the least to the greatest.
+#[derive(Clone, Copy)]
+pub(crate) struct Range {
+    /// The least.
+    pub(crate) least: i32,
+    /// The greatest, which is none below 0.
+    pub(crate) most: u64,
 }
 
-/// The whole number that a word stands for, if its magnitude is below 2^63.
-fn signed(word: &[u8]) -> Option<i64>
+/// The whole number that a word stands for, if it is in the range.
+pub(crate) fn integer(word: &[u8], range: Range) -> Option<i128>
     requires { IsTrue (is_number_word word.now) }
     ensures value { IfSome result (λ z. value_of word.now ≡ z) }
-    ensures large { IfNone result (2 ^ 63 ≤ unsigned_abs (value_of word.now)) }
+    ensures within { IfSome result (λ z. IsTrue (int_le range.least z && int_le z (pos range.most))) }
+    ensures outside { IfNone result ((int_le range.least (value_of word.now) && int_le (value_of word.now) (pos range.most)) ≡ false) }
+{
+    let number = signed(word)?;
+    (i128::from(range.least) <= number && number <= i128::from(range.most)).then_some(number)
+}
+
+/// The whole number that a word stands for, if its magnitude is below 2^64.
+fn signed(word: &[u8]) -> Option<i128>
+    requires { IsTrue (is_number_word word.now) }
+    ensures value { IfSome result (λ z. value_of word.now ≡ z) }
+    ensures large { IfNone result (2 ^ 64 ≤ unsigned_abs (value_of word.now)) }
 {
     if let [b'-', digits @ ..] = word {
-        return Some(-i64::try_from(decimal(digits)?).ok()?);
+        return Some(-i128::from(decimal(digits)?));
     }
-    i64::try_from(decimal(word)?).ok()
+    Some(i128::from(decimal(word)?))
 }
 
 /// The number that digits stand for, if it is below 2^64.

@@ -7,6 +7,7 @@ ghost use Rattle.plan_model.specs.ReportText.{line};
 ghost use Rattle.plan_model.specs.SceneGrammar.{Spells, supported};
 ghost use Rattle.plan_model.specs.declared.limits.TheConstants.{MOST_TEXT_BYTES};
 
+use crate::key_words::{FORMAT_NAME, FORMAT_VERSION};
 use plan_model::{Marks, Memory, Point, Poly, Scene, Vertex};
 use std::alloc::{AllocError, Global};
 
@@ -23,7 +24,12 @@ pub fn write_scene(alloc: Global, scene: &Scene) -> Result<Vec<u8>, Memory>
     ensures fits { IfOk result (λ text. length text.items ≤ MOST_TEXT_BYTES) }
 {
     let mut text = String::new(alloc);
-    write!(text, "prrt 1\nroom {} {}\n", scene.room.x, scene.room.y)?;
+    let room = scene.room;
+    write!(
+        text,
+        "{FORMAT_NAME} {FORMAT_VERSION}\nroom {} {}\n",
+        room.x, room.y
+    )?;
     push_polygon(&mut text, "body", scene.body.as_slice())?;
     push_obstacles(&mut text, scene.obstacles.as_slice())?;
     push_task(&mut text, scene)?;
