@@ -8,7 +8,7 @@ use Rattle.std.proofs.Math.Seq.{get_or-append_seam}
 use Rattle.plan_model.specs.declared.geometry.Vertex.{Vertex}
 use Rattle.plan_model.specs.Convexity.{corner_at}
 use Rattle.convex_sets.specs.Edges.{cross, from_to}
-use Rattle.convex_sets.specs.Outlines.{both, edge_at, start, rise, IsOutline, IsSum, IsStep}
+use Rattle.convex_sets.specs.Outlines.{both, edge_at, start, rise, IsOutline, IsSum, IsMergeStep}
 use Rattle.convex_sets.proofs.Corners.{same_vector}
 use Rattle.convex_sets.proofs.Ring.{var, plus, minus, times, same}
 use Rattle.convex_sets.proofs.MergeSteps.{IsAhead, IsAt, IsNext, Step, take_first, take_second, take_both}
@@ -205,7 +205,7 @@ IsMergedTo-start a b first second =
       long_b = omega arith;
     }
 
-pub IsMergedTo-step : (a b corners more : List Vertex) (i j k l : ℕ) → IsMergedTo a b corners i j → IsOutline a → IsOutline b → IsStep a b i j k l
+pub IsMergedTo-step : (a b corners more : List Vertex) (i j k l : ℕ) → IsMergedTo a b corners i j → IsOutline a → IsOutline b → IsMergeStep a b i j k l
     → more ≡ corners ++ both (corner_at a i) (corner_at b j) ∷ [] → IsMergedTo a b more k l
 IsMergedTo-step a b corners more i j k l m first second (inl s) e =
     rw (e, s.first, s.second) (step_first a b corners i j m first second s.more s.turns_left)
@@ -214,11 +214,11 @@ IsMergedTo-step a b corners more i j k l m first second (inr (inl s)) e =
 IsMergedTo-step a b corners more i j k l m first second (inr (inr s)) e =
     rw (e, s.first, s.second) (step_both a b corners i j m first second s.more_first s.more_second s.parallel)
 
-pub IsStep-goes_on : (a b : List Vertex) (i j k l : ℕ) → IsStep a b i j k l → (i < length a) → (j < length b)
+pub IsMergeStep-goes_on : (a b : List Vertex) (i j k l : ℕ) → IsMergeStep a b i j k l → (i < length a) → (j < length b)
     → (length a - k) + (length b - l) < (length a - i) + (length b - j)
-IsStep-goes_on a b i j k l (inl s) p q = let f = s.first in let g = s.second in omega arith
-IsStep-goes_on a b i j k l (inr (inl s)) p q = let f = s.first in let g = s.second in omega arith
-IsStep-goes_on a b i j k l (inr (inr s)) p q = let f = s.first in let g = s.second in omega arith
+IsMergeStep-goes_on a b i j k l (inl s) p q = let f = s.first in let g = s.second in omega arith
+IsMergeStep-goes_on a b i j k l (inr (inl s)) p q = let f = s.first in let g = s.second in omega arith
+IsMergeStep-goes_on a b i j k l (inr (inr s)) p q = let f = s.first in let g = s.second in omega arith
 
 pub pushed_is : (corners more : List Vertex) (u v : Vertex) → more ≡ corners ++ u ∷ [] → u.x ≡ v.x → u.y ≡ v.y → more ≡ corners ++ v ∷ []
 pushed_is corners more u v e f g = e ∙ ap (λ (w : Vertex). corners ++ w ∷ []) (same_vector u v f g)

@@ -75,8 +75,8 @@ pub record StepsBoth (a b : List Vertex) (i j k l : ℕ) : Type 0 where
   pub parallel : cross (edge_at a i) (edge_at b j) ≡ pos 0
 
 -- One step of merging goes from the corners i and j to the corners k and l.
-abbrev pub IsStep : List Vertex → List Vertex → ℕ → ℕ → ℕ → ℕ → Type 0
-IsStep a b i j k l = StepsFirst a b i j k l ⊎ StepsFirst b a j i l k ⊎ StepsBoth a b i j k l
+abbrev pub IsMergeStep : List Vertex → List Vertex → ℕ → ℕ → ℕ → ℕ → Type 0
+IsMergeStep a b i j k l = StepsFirst a b i j k l ⊎ StepsFirst b a j i l k ⊎ StepsBoth a b i j k l
 
 -- the number of the corner k places after corner i of n
 abbrev pub places_after : ℕ → ℕ → ℕ → ℕ

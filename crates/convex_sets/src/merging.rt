@@ -2,7 +2,7 @@
 
 ghost use Rattle.std.specs.Prelude.{◌≡◌, ◌+◌, ◌<◌, ◌≤◌, ◌⊎◌, IfOk, length};
 ghost use Rattle.convex_sets.specs.Bounds.{AreBoundedCorners};
-ghost use Rattle.convex_sets.specs.Outlines.{IsMerged, IsOutline, IsStep};
+ghost use Rattle.convex_sets.specs.Outlines.{IsMerged, IsOutline, IsMergeStep};
 
 use crate::orientations::{cross, edge};
 use plan_model::{Memory, Vertex};
@@ -36,7 +36,7 @@ fn step(a: &[Vertex], b: &[Vertex], i: usize, j: usize) -> (usize, usize)
     requires more { (i + 1 < length a.now) ⊎ (j + 1 < length b.now) }
     requires first_bounded { AreBoundedCorners a.now }
     requires second_bounded { AreBoundedCorners b.now }
-    ensures { IsStep a.now b.now i j result.0 result.1 }
+    ensures { IsMergeStep a.now b.now i j result.0 result.1 }
 {
     if j + 1 == b.len() {
         return (i + 1, j);

@@ -8,7 +8,7 @@ use Rattle.std.proofs.lemmas.List.Elements.{All-cons, All-nil}
 use Rattle.plan_model.specs.declared.geometry.Vertex.{Vertex}
 use Rattle.plan_model.specs.declared.geometry.Point.{Point}
 use Rattle.plan_model.specs.ConfigurationSpace.{ConfigurationSpace}
-use Rattle.plan_model.specs.RoomOfConfigurations.{Rational, moved_by, IsInBox}
+use Rattle.plan_model.specs.RoomOfConfigurations.{Rational, moved_by, IsBetweenWalls}
 use Rattle.plan_model.specs.Meeting.{Meets}
 use Rattle.plan_model.specs.Clearance.{IsClear, ClearAt, on_the_way, Clear}
 use Rattle.plan_model.specs.EmptyRooms.{empty_room, IsInRoom}
@@ -27,7 +27,7 @@ way_on_side s d a b w h p q =
     record { low = omega (arith, ints); high = omega (arith, ints) }
 
 -- the only corner of a point body moves nothing
-pub corner_in_box : (room : Point) (q : Rational) → IsInBox room q → IsInBox room (moved_by q (record { x = pos 0; y = pos 0 }))
+pub corner_in_box : (room : Point) (q : Rational) → IsBetweenWalls room q → IsBetweenWalls room (moved_by q (record { x = pos 0; y = pos 0 }))
 corner_in_box room q h = record {
   left = omega (arith, ints, h.left);
   right = omega (arith, ints, h.right);
@@ -36,9 +36,9 @@ corner_in_box room q h = record {
 }
 
 -- in an empty room a point within the box of the room is clear
-IsClear-from_box : (room : Point) (q : Rational) → IsInBox room q → IsClear (empty_room room) q
+IsClear-from_box : (room : Point) (q : Rational) → IsBetweenWalls room q → IsClear (empty_room room) q
 IsClear-from_box room q h =
-    let P : Vertex → Type 0 = λ corner. IsInBox room (moved_by q corner) in
+    let P : Vertex → Type 0 = λ corner. IsBetweenWalls room (moved_by q corner) in
     let Q : List Vertex → Type 0 = λ obstacle. ¬ Meets (empty_room room).body q obstacle in
     record {
       in_room = record { here = h; corners = All-cons P _ [] (corner_in_box room q h) (All-nil P) };

@@ -9,7 +9,7 @@ use borrow.Author.Differences.{up, down, sum_is_lem, product_is}
 use Rattle.plan_model.specs.declared.geometry.Vertex.{Vertex}
 use Rattle.plan_model.specs.declared.geometry.Point.{Point}
 use Rattle.plan_model.specs.ConfigurationSpace.{ConfigurationSpace}
-use Rattle.plan_model.specs.RoomOfConfigurations.{Rational, IsSamePoint, scaled, moved_by, IsInBox, InRoom}
+use Rattle.plan_model.specs.RoomOfConfigurations.{Rational, IsSamePoint, scaled, moved_by, IsBetweenWalls, InRoom}
 use Rattle.plan_model.specs.Meeting.{weighted, Meets}
 use Rattle.plan_model.specs.Clearance.{IsClear}
 
@@ -72,19 +72,19 @@ IsSamePoint-moved q r corner h = record {
   vertical = moved_same q.y r.y corner.y q.over r.over h.vertical;
 }
 
-IsInBox-same : (room : Point) (q r : Rational) → IsSamePoint q r → IsInBox room q → IsInBox room r
-IsInBox-same room q r h own =
+IsBetweenWalls-same : (room : Point) (q r : Rational) → IsSamePoint q r → IsBetweenWalls room q → IsBetweenWalls room r
+IsBetweenWalls-same room q r h own =
     let x = on_side q.x r.x q.over r.over room.x q.positive r.positive h.horizontal (record { low = own.left; high = own.right }) in
     let y = on_side q.y r.y q.over r.over room.y q.positive r.positive h.vertical (record { low = own.bottom; high = own.top }) in
     record { left = x.low; right = x.high; bottom = y.low; top = y.high }
 
 pub InRoom-same : (space : ConfigurationSpace) (q r : Rational) → IsSamePoint q r → InRoom space q → InRoom space r
 InRoom-same space q r h own =
-    let P : Vertex → Type 0 = λ corner. IsInBox space.room (moved_by q corner) in
-    let Q : Vertex → Type 0 = λ corner. IsInBox space.room (moved_by r corner) in
+    let P : Vertex → Type 0 = λ corner. IsBetweenWalls space.room (moved_by q corner) in
+    let Q : Vertex → Type 0 = λ corner. IsBetweenWalls space.room (moved_by r corner) in
     let step : (corner : Vertex) → P corner → Q corner =
-    λ corner. IsInBox-same space.room (moved_by q corner) (moved_by r corner) (IsSamePoint-moved q r corner h) in
-    record { here = IsInBox-same space.room q r h own.here; corners = All-weaker P Q step space.body own.corners }
+    λ corner. IsBetweenWalls-same space.room (moved_by q corner) (moved_by r corner) (IsSamePoint-moved q r corner h) in
+    record { here = IsBetweenWalls-same space.room q r h own.here; corners = All-weaker P Q step space.body own.corners }
 
 -- if m parts of a difference are t parts of x, and x / m is z / n, then n parts of it are t parts of z
 crossed : (m n t : ℕ) (w x z : ℤ) → 0 < m → IsSame x m z n → pos m *ℤ w ≡ pos t *ℤ x → pos n *ℤ w ≡ pos t *ℤ z

@@ -37,7 +37,7 @@ moved_by q corner =
     }
 
 -- a point whose coordinates lie between 0 and the room's sides
-pub record IsInBox (room : Point) (q : Rational) : Type 0 where
+pub record IsBetweenWalls (room : Point) (q : Rational) : Type 0 where
   pub left : pos 0 ≤ℤ q.x
   pub right : q.x ≤ℤ pos (q.over * room.x)
   pub bottom : pos 0 ≤ℤ q.y
@@ -45,5 +45,5 @@ pub record IsInBox (room : Point) (q : Rational) : Type 0 where
 
 -- The room of configurations: the point itself, and each corner of the body moved by it, lie in the room.
 pub record InRoom (space : ConfigurationSpace) (q : Rational) : Type 0 where
-  pub here : IsInBox space.room q
-  pub corners : All (λ corner. IsInBox space.room (moved_by q corner)) space.body
+  pub here : IsBetweenWalls space.room q
+  pub corners : All (λ corner. IsBetweenWalls space.room (moved_by q corner)) space.body

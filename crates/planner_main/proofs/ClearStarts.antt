@@ -9,7 +9,7 @@ use Rattle.std.proofs.lemmas.List.Elements.{All-from_recursion, All-head, All-ta
 use Rattle.plan_model.specs.declared.geometry.Point.{Point}
 use Rattle.plan_model.specs.declared.geometry.Vertex.{Vertex}
 use Rattle.plan_model.specs.Meeting.{Meets, weighted}
-use Rattle.plan_model.specs.RoomOfConfigurations.{at_lattice, moved_by, IsInBox, InRoom}
+use Rattle.plan_model.specs.RoomOfConfigurations.{at_lattice, moved_by, IsBetweenWalls, InRoom}
 use Rattle.plan_model.specs.ConfigurationSpace.{ConfigurationSpace}
 use Rattle.plan_model.specs.Clearance.{ClearAt}
 use Rattle.planner_main.specs.GeneratedScenes.{corner, square, triangle, place_in_cell, side_by, obstacle_by, generated_obstacle, generated_obstacles}
@@ -99,7 +99,7 @@ body_left = All-from_recursion (λ v. v.x ≤ℤ pos 20) body (omega (arith, int
 abbrev room : Point
 room = record { x = 9999; y = 9999 }
 
-corner_in_room : (x y : ℕ) → x ≤ 20 → y ≤ 20 → IsInBox room (moved_by (at_lattice start) (corner x y))
+corner_in_room : (x y : ℕ) → x ≤ 20 → y ≤ 20 → IsBetweenWalls room (moved_by (at_lattice start) (corner x y))
 corner_in_room x y f g = record {
   left = omega (arith, ints);
   right = omega (arith, ints);
@@ -114,7 +114,7 @@ space number = record { room = room; body = body; obstacles = generated_obstacle
 start_in_room : (number : ℕ) → InRoom (space number) (at_lattice start)
 start_in_room number = record {
   here = record { left = omega (arith, ints); right = omega (arith, ints); bottom = omega (arith, ints); top = omega (arith, ints) };
-  corners = All-from_recursion (λ corner. IsInBox room (moved_by (at_lattice start) corner)) body (
+  corners = All-from_recursion (λ corner. IsBetweenWalls room (moved_by (at_lattice start) corner)) body (
     corner_in_room 0 0 (omega arith) (omega arith),
     (
       corner_in_room 20 0 (omega arith) (omega arith),

@@ -12,7 +12,7 @@ use Rattle.plan_model.proofs.SoundStatements.{IsSoundGiven-text}
 use Rattle.scene_text.specs.declared.drafts.Draft.{Draft}
 use Rattle.scene_text.specs.declared.refusals.LineRefusal.{LineRefusal}
 use Rattle.scene_text.specs.declared.refusals.LineRefusal.TheVariants as line_refusal
-use Rattle.scene_text.specs.Refusals.{refusal_at, IsLineRefusal, IsRefusal}
+use Rattle.scene_text.specs.Refusals.{refusal_at, IsLineRefusal, IsSceneRefusal}
 use Rattle.scene_text.specs.Drafts.{given_by_draft, given_after, TakesLine}
 
 -- ---- what a draft stands for
@@ -114,7 +114,7 @@ Reads-more text number rest old new line after h split shorter takes =
 pub Reads-refused : (text : List ℕ) (number : ℕ) (rest : List ℕ) (draft : Draft) (line after : List ℕ) (refusal : LineRefusal)
     → Reads text number rest draft → lines_of rest ≡ line ∷ lines_of after
     → IsLineRefusal (fault_of_words supported draft.version_read (given_by_draft draft) (words_of line)) refusal
-    → IsRefusal text (refusal_at (number + 1) refusal)
+    → IsSceneRefusal text (refusal_at (number + 1) refusal)
 Reads-refused text number rest draft line after (line_refusal.Fault kind) h split fault =
     let next = IsNext-from_drop (lines_of text) number line (lines_of after) (h.left ∙ split) in
     (number, refl, h.sound, inl (next.within, fault-next draft (lines_of text) number line h.stands next.here ∙ fault))
@@ -152,7 +152,7 @@ fault_of_end-draft draft statements h =
 
 -- what is missing refuses the text after its last line
 pub Reads-missing : (text : List ℕ) (number : ℕ) (draft : Draft) (refusal : LineRefusal) → Reads text number [] draft
-    → IsLineRefusal (fault_at_end draft.version_read (given_by_draft draft)) refusal → IsRefusal text (refusal_at (number + 1) refusal)
+    → IsLineRefusal (fault_at_end draft.version_read (given_by_draft draft)) refusal → IsSceneRefusal text (refusal_at (number + 1) refusal)
 Reads-missing text number draft (line_refusal.Fault kind) h fault =
     let all = ReadsAll-from_end text number draft h in
     (number, refl, h.sound, inr (all.all, fault_of_end-draft draft (statements_of (lines_of text)) all.stands ∙ fault))

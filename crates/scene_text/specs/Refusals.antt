@@ -20,9 +20,9 @@ IsLineRefusal fault (line.Fault kind) = fault ≡ Some kind
 IsLineRefusal fault line.Memory = Unit {0}
 
 -- a text is refused at its first line with a fault, for the first check that the line fails, or the program is out of memory
-abbrev pub IsRefusal : List ℕ → SceneRefusal → Type 0
-IsRefusal text (scene.Fault fault) = Refused supported text fault.line fault.kind
-IsRefusal text scene.Memory = Unit {0}
+abbrev pub IsSceneRefusal : List ℕ → SceneRefusal → Type 0
+IsSceneRefusal text (scene.Fault fault) = Refused supported text fault.line fault.kind
+IsSceneRefusal text scene.Memory = Unit {0}
 
 -- how a fault is shown: the words that name it, with a space between two
 abbrev pub fault_text : ℕ → Kind → List ℕ

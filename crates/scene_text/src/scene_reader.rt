@@ -2,7 +2,7 @@
 
 ghost use Rattle.std.specs.Prelude.{◌<◌, length, IfOk, IfErr};
 ghost use Rattle.plan_model.specs.SceneGrammar.{Spells, supported};
-ghost use Rattle.scene_text.specs.Refusals.{IsRefusal};
+ghost use Rattle.scene_text.specs.Refusals.{IsSceneRefusal};
 
 use crate::drafts::Draft;
 use crate::line_words::next_line;
@@ -21,7 +21,7 @@ pub fn read_scene(alloc: Global, text: &[u8]) -> Result<Scene, SceneRefusal>
     requires { length text.now < u32.MAX }
     ensures scene { IfOk result (λ scene. Spells supported text.now scene) }
     // with the number of the line and the kind of the first check that fails
-    ensures fault { IfErr result (IsRefusal text.now) }
+    ensures fault { IfErr result (IsSceneRefusal text.now) }
 {
     let mut draft = Draft::new(alloc);
     let mut rest = text;

@@ -2,7 +2,7 @@ use Rattle.std.proofs.Common.{inl, inr, arith}
 use Rattle.std.proofs.lemmas.Int.{ints}
 use Rattle.plan_model.specs.Convexity.{corner_at}
 use Rattle.convex_sets.proofs.Corners.{bounded_corner, bounded_at}
-use Rattle.convex_sets.proofs.MergedPaths.{IsMergedTo-start, IsMergedTo-step, IsStep-goes_on, pushed_is}
+use Rattle.convex_sets.proofs.MergedPaths.{IsMergedTo-start, IsMergedTo-step, IsMergeStep-goes_on, pushed_is}
 use Rattle.convex_sets.proofs.ClosedPaths.{IsMerged-closed}
 use Rattle.convex_sets.proofs.merging.merged.Goals as goal
 use Rattle.convex_sets.proofs.merging.merged.Goals.{then-place-a, else-place-a+then-place-b}
@@ -59,5 +59,5 @@ returns c =
 pub loop-place-smaller : goal.loop-place-smaller
 loop-place-smaller c =
     let at = c.loop-place.invariant.at in
-    IsStep-goes_on c.args.a.now c.args.b.now c.loop-place.place.0 c.loop-place.place.1 c.step-place.result.0 c.step-place.result.1
+    IsMergeStep-goes_on c.args.a.now c.args.b.now c.loop-place.place.0 c.loop-place.place.1 c.step-place.result.0 c.step-place.result.1
     c.step-place.ensures at.within_a at.within_b

@@ -5,7 +5,7 @@ use Rattle.std.proofs.lemmas.Nat.{mul-le}
 use Rattle.std.proofs.lemmas.List.Elements.{All-cons, All-nil}
 use Rattle.plan_model.specs.declared.geometry.Vertex.{Vertex}
 use Rattle.plan_model.specs.declared.geometry.Point.{Point}
-use Rattle.plan_model.specs.RoomOfConfigurations.{Rational, IsSamePoint, at_lattice, moved_by, IsInBox}
+use Rattle.plan_model.specs.RoomOfConfigurations.{Rational, IsSamePoint, at_lattice, moved_by, IsBetweenWalls}
 use Rattle.plan_model.specs.Meeting.{weighted, Meets}
 use Rattle.plan_model.specs.Clearance.{IsClear, on_the_way, Clear}
 use Rattle.plan_model.specs.Vectors.Shapes.{at, corner, two_is_positive}
@@ -60,9 +60,9 @@ apart_below x y n positive less m =
 clear_apart :
     (x y n : ℕ) (positive : 0 < n) → x ≤ n * 30 → y ≤ n * 30 → ¬ Meets point (fraction x y n positive) square → IsClear beside_square (fraction x y n positive)
 clear_apart x y n positive h k apart =
-    let P : Vertex → Type 0 = λ v. IsInBox (at 30 30) (moved_by (fraction x y n positive) v) in
+    let P : Vertex → Type 0 = λ v. IsBetweenWalls (at 30 30) (moved_by (fraction x y n positive) v) in
     let Q : List Vertex → Type 0 = λ obstacle. ¬ Meets point (fraction x y n positive) obstacle in
-    let box : IsInBox (at 30 30) (fraction x y n positive) =
+    let box : IsBetweenWalls (at 30 30) (fraction x y n positive) =
     record { left = omega (arith, ints); right = omega (arith, ints); bottom = omega (arith, ints); top = omega (arith, ints) } in
     record {
       in_room = record { here = box; corners = All-cons P (corner 0 0) [] (corner_in_box (at 30 30) (fraction x y n positive) box) (All-nil P) };

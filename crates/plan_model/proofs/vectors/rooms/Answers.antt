@@ -4,17 +4,17 @@ use Rattle.std.proofs.Math.Bridge.{le_prop}
 use Rattle.std.proofs.lemmas.Int.{ints}
 use Rattle.std.proofs.lemmas.List.Elements.{All-cons, All-nil}
 use Rattle.plan_model.specs.declared.geometry.Vertex.{Vertex}
-use Rattle.plan_model.specs.RoomOfConfigurations.{Rational, at_lattice, moved_by, IsInBox, InRoom}
+use Rattle.plan_model.specs.RoomOfConfigurations.{Rational, at_lattice, moved_by, IsBetweenWalls, InRoom}
 use Rattle.plan_model.specs.Vectors.Rooms.{triangle, ten_by_ten}
 use Rattle.plan_model.specs.Vectors.Shapes.{at, corner, halves}
 use Rattle.plan_model.proofs.vectors.rooms.Goals as goal
 
 -- the triangle is in the room if its corners are
 triangle_in_room :
-    (q : Rational) → IsInBox (at 10 10) q → IsInBox (at 10 10) (moved_by q (corner 0 0)) → IsInBox (at 10 10) (moved_by q (corner 4 0))
-    → IsInBox (at 10 10) (moved_by q (corner 0 4)) → InRoom (ten_by_ten triangle) q
+    (q : Rational) → IsBetweenWalls (at 10 10) q → IsBetweenWalls (at 10 10) (moved_by q (corner 0 0)) → IsBetweenWalls (at 10 10) (moved_by q (corner 4 0))
+    → IsBetweenWalls (at 10 10) (moved_by q (corner 0 4)) → InRoom (ten_by_ten triangle) q
 triangle_in_room q here first second third =
-    let P : Vertex → Type 0 = λ v. IsInBox (at 10 10) (moved_by q v) in
+    let P : Vertex → Type 0 = λ v. IsBetweenWalls (at 10 10) (moved_by q v) in
     record {
       here = here;
       corners = All-cons P (corner 0 0) (corner 4 0 ∷ corner 0 4 ∷ []) first
