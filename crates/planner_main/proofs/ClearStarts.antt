@@ -12,7 +12,7 @@ use Rattle.plan_model.specs.Meeting.{Meets, weighted}
 use Rattle.plan_model.specs.RoomOfConfigurations.{at_lattice, moved_by, IsBetweenWalls, InRoom}
 use Rattle.plan_model.specs.ConfigurationSpace.{ConfigurationSpace}
 use Rattle.plan_model.specs.Clearance.{ClearAt}
-use Rattle.planner_main.specs.GeneratedScenes.{corner, square, triangle, place_in_cell, side_by, obstacle_by, generated_obstacle, generated_obstacles}
+use Rattle.planner_main.specs.GeneratedScenes.{lattice_corner, square_at, triangle_at, place_in_cell, side_by, obstacle_by, generated_obstacle, generated_obstacles}
 
 times_at_least : (w n : ℕ) (z : ℤ) → pos n ≤ℤ z → pos (w * n) ≤ℤ (pos w *ℤ z)
 times_at_least w n (pos m) h = let low = mul-le w n w m (omega arith) (omega (arith, ints)) in omega (arith, ints)
@@ -60,12 +60,12 @@ not_met p reach begin body obstacle left right apart m =
 
 -- ---- generated obstacles begin at 200
 
-right_of : (x y : ℕ) → 200 ≤ x → pos 200 ≤ℤ (corner x y).x
+right_of : (x y : ℕ) → 200 ≤ x → pos 200 ≤ℤ (lattice_corner x y).x
 right_of x y h = omega (arith, ints)
 
-square_right : (at : Point) (side : ℕ) → 200 ≤ at.x → All (λ v. pos 200 ≤ℤ v.x) (square at side)
+square_right : (at : Point) (side : ℕ) → 200 ≤ at.x → All (λ v. pos 200 ≤ℤ v.x) (square_at at side)
 square_right at side h =
-    All-from_recursion (λ v. pos 200 ≤ℤ v.x) (square at side) (
+    All-from_recursion (λ v. pos 200 ≤ℤ v.x) (square_at at side) (
       right_of at.x at.y h,
       (
         right_of (at.x + side) at.y (omega arith),
@@ -73,9 +73,9 @@ square_right at side h =
       ),
     )
 
-triangle_right : (at : Point) (side : ℕ) → 200 ≤ at.x → All (λ v. pos 200 ≤ℤ v.x) (triangle at side)
+triangle_right : (at : Point) (side : ℕ) → 200 ≤ at.x → All (λ v. pos 200 ≤ℤ v.x) (triangle_at at side)
 triangle_right at side h =
-    All-from_recursion (λ v. pos 200 ≤ℤ v.x) (triangle at side)
+    All-from_recursion (λ v. pos 200 ≤ℤ v.x) (triangle_at at side)
     (right_of at.x at.y h, (right_of (at.x + side) at.y (omega arith), (right_of at.x (at.y + side) h, tt)))
 
 obstacle_right : (cell u v : ℕ) → All (λ c. pos 200 ≤ℤ c.x) (obstacle_by cell u v)
@@ -91,7 +91,7 @@ abbrev start : Point
 start = record { x = 100; y = 100 }
 
 abbrev body : List Vertex
-body = square (record { x = 0; y = 0 }) 20
+body = square_at (record { x = 0; y = 0 }) 20
 
 body_left : All (λ v. v.x ≤ℤ pos 20) body
 body_left = All-from_recursion (λ v. v.x ≤ℤ pos 20) body (omega (arith, ints), (omega (arith, ints), (omega (arith, ints), (omega (arith, ints), tt))))
@@ -99,7 +99,7 @@ body_left = All-from_recursion (λ v. v.x ≤ℤ pos 20) body (omega (arith, int
 abbrev room : Point
 room = record { x = 9999; y = 9999 }
 
-corner_in_room : (x y : ℕ) → x ≤ 20 → y ≤ 20 → IsBetweenWalls room (moved_by (at_lattice start) (corner x y))
+corner_in_room : (x y : ℕ) → x ≤ 20 → y ≤ 20 → IsBetweenWalls room (moved_by (at_lattice start) (lattice_corner x y))
 corner_in_room x y f g = record {
   left = omega (arith, ints);
   right = omega (arith, ints);

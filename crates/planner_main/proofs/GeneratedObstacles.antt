@@ -16,7 +16,7 @@ use Rattle.plan_model.specs.Limits.{is_corner_between, is_obstacle, are_obstacle
 use Rattle.plan_model.specs.declared.limits.TheConstants.{LEAST_OBSTACLE_COORDINATE, MOST_OBSTACLE_COORDINATE, MOST_OBSTACLES}
 use Rattle.convex_sets.proofs.Tests.{true_of_below}
 use Rattle.convex_sets.proofs.Ring.{Read, var, minus, times}
-use Rattle.planner_main.specs.GeneratedScenes.{corner, square, triangle, place_in_cell, side_by, obstacle_by, generated_obstacle, generated_obstacles}
+use Rattle.planner_main.specs.GeneratedScenes.{lattice_corner, square_at, triangle_at, place_in_cell, side_by, obstacle_by, generated_obstacle, generated_obstacles}
 
 -- the area that a turn spans, as a difference
 abbrev turn : (a b c : Vertex) → Read (orientation a b c)
@@ -28,12 +28,12 @@ turns_left : (a b c : Vertex) (area : ℕ) → 0 < area → (turn a b c).gain �
 turns_left a b c area some e =
     let positive : pos 0 <ℤ orientation a b c = omega (arith, ints, e, (turn a b c).is) in grind (arith, ints)
 
-convex_square : (at : Point) (side : ℕ) → 0 < side → is_strictly_convex (square at side) ≡ true
+convex_square : (at : Point) (side : ℕ) → 0 < side → is_strictly_convex (square_at at side) ≡ true
 convex_square at side some =
-    let a = corner at.x at.y in
-    let b = corner (at.x + side) at.y in
-    let c = corner (at.x + side) (at.y + side) in
-    let d = corner at.x (at.y + side) in
+    let a = lattice_corner at.x at.y in
+    let b = lattice_corner (at.x + side) at.y in
+    let c = lattice_corner (at.x + side) (at.y + side) in
+    let d = lattice_corner at.x (at.y + side) in
     let area = side * side in
     let positive : 0 < area = mul-pos some some in
     rw (
@@ -47,11 +47,11 @@ convex_square at side some =
       turns_left d a c area positive (omega arith),
     ) refl
 
-convex_triangle : (at : Point) (side : ℕ) → 0 < side → is_strictly_convex (triangle at side) ≡ true
+convex_triangle : (at : Point) (side : ℕ) → 0 < side → is_strictly_convex (triangle_at at side) ≡ true
 convex_triangle at side some =
-    let a = corner at.x at.y in
-    let b = corner (at.x + side) at.y in
-    let c = corner at.x (at.y + side) in
+    let a = lattice_corner at.x at.y in
+    let b = lattice_corner (at.x + side) at.y in
+    let c = lattice_corner at.x (at.y + side) in
     let area = side * side in
     let positive : 0 < area = mul-pos some some in
     rw (
@@ -66,10 +66,10 @@ record IsPlaced (at : Point) (side : ℕ) : Type 0 where
   top : at.y + side ≤ 9999
   some : 0 < side
 
-in_range : (x y : ℕ) → x ≤ 9999 → y ≤ 9999 → is_corner_between LEAST_OBSTACLE_COORDINATE MOST_OBSTACLE_COORDINATE (corner x y) ≡ true
+in_range : (x y : ℕ) → x ≤ 9999 → y ≤ 9999 → is_corner_between LEAST_OBSTACLE_COORDINATE MOST_OBSTACLE_COORDINATE (lattice_corner x y) ≡ true
 in_range x y f g = grind (arith, ints)
 
-is_obstacle-square : (at : Point) (side : ℕ) → IsPlaced at side → is_obstacle (square at side) ≡ true
+is_obstacle-square : (at : Point) (side : ℕ) → IsPlaced at side → is_obstacle (square_at at side) ≡ true
 is_obstacle-square at side h =
     let right = h.right in
     let top = h.top in
@@ -81,7 +81,7 @@ is_obstacle-square at side h =
       in_range at.x (at.y + side) (omega arith) (omega arith),
     ) refl
 
-is_obstacle-triangle : (at : Point) (side : ℕ) → IsPlaced at side → is_obstacle (triangle at side) ≡ true
+is_obstacle-triangle : (at : Point) (side : ℕ) → IsPlaced at side → is_obstacle (triangle_at at side) ≡ true
 is_obstacle-triangle at side h =
     let right = h.right in
     let top = h.top in

@@ -9,21 +9,21 @@ use Rattle.plan_model.specs.declared.scenes.Marks.TheVariants.{Drawn}
 use Rattle.plan_model.specs.MarkPoints.{first_word, second_word}
 
 -- the corner with these coordinates
-abbrev pub corner : ℕ → ℕ → Vertex
-corner x y = record { x = pos x; y = pos y }
+abbrev pub lattice_corner : ℕ → ℕ → Vertex
+lattice_corner x y = record { x = pos x; y = pos y }
 
 -- the square with this lower left corner
-abbrev pub square : Point → ℕ → List Vertex
-square at side =
-    corner at.x at.y
-    ∷ corner (at.x + side) at.y
-    ∷ corner (at.x + side) (at.y + side)
-    ∷ corner at.x (at.y + side)
+abbrev pub square_at : Point → ℕ → List Vertex
+square_at at side =
+    lattice_corner at.x at.y
+    ∷ lattice_corner (at.x + side) at.y
+    ∷ lattice_corner (at.x + side) (at.y + side)
+    ∷ lattice_corner at.x (at.y + side)
     ∷ []
 
 -- the lower left half of that square
-abbrev pub triangle : Point → ℕ → List Vertex
-triangle at side = corner at.x at.y ∷ corner (at.x + side) at.y ∷ corner at.x (at.y + side) ∷ []
+abbrev pub triangle_at : Point → ℕ → List Vertex
+triangle_at at side = lattice_corner at.x at.y ∷ lattice_corner (at.x + side) at.y ∷ lattice_corner at.x (at.y + side) ∷ []
 
 -- The lower left corner of an obstacle: the cells are 1,250 wide and high and are numbered row by row, and in its cell the
 -- corner stands at 200 and as much as two words say, up to 511.
@@ -38,16 +38,16 @@ side_by u = 100 + (u / 512) % 256
 -- the obstacle of a cell by two words: a square in a cell of even number, a triangle in one of odd number
 abbrev pub obstacle_by : ℕ → ℕ → ℕ → List Vertex
 obstacle_by cell u v =
-    if cell % 2 == 0 then square (place_in_cell cell u v) (side_by u) else triangle (place_in_cell cell u v) (side_by u)
+    if cell % 2 == 0 then square_at (place_in_cell cell u v) (side_by u) else triangle_at (place_in_cell cell u v) (side_by u)
 
 -- the state of the generator that an obstacle is drawn from
-abbrev pub state_of : ℕ → ℕ → ℕ
-state_of number cell = 64 * number + cell
+abbrev pub generator_state : ℕ → ℕ → ℕ
+generator_state number cell = 64 * number + cell
 
 -- the obstacle of a cell
 abbrev pub generated_obstacle : ℕ → ℕ → List Vertex
 generated_obstacle number cell =
-    obstacle_by cell (first_word (state_of number cell)) (second_word (state_of number cell))
+    obstacle_by cell (first_word (generator_state number cell)) (second_word (generator_state number cell))
 
 -- the obstacles, in the order of the cells
 abbrev pub generated_obstacles : ℕ → List (List Vertex)
@@ -57,7 +57,7 @@ generated_obstacles number = map (generated_obstacle number) (range_with_len 0 6
 pub record IsGenerated (number : ℕ) (scene : Scene) : Type 0 where
   pub version : scene.version ≡ 1
   pub room : scene.room ≡ record { x = 9999; y = 9999 }
-  pub body : scene.body ≡ square (record { x = 0; y = 0 }) 20
+  pub body : scene.body ≡ square_at (record { x = 0; y = 0 }) 20
   pub obstacles : scene.obstacles ≡ generated_obstacles number
   pub start : scene.start ≡ record { x = 100; y = 100 }
   pub goal : scene.goal ≡ record { low = record { x = 9700; y = 9700 }; high = record { x = 9900; y = 9900 } }

@@ -8,21 +8,21 @@ use Rattle.planner_main.specs.declared.refusals.Refusal.TheVariants as refusals
 use Rattle.planner_main.specs.declared.statuses.TheConstants.{WORDS_REFUSED, TEXT_REFUSED, START_BLOCKED, READ_FAULT, NO_MEMORY}
 
 -- the words that the program writes in place of a report
-abbrev pub words_of : Refusal → List (List ℕ)
-words_of refusals.Words = codes "words" ∷ codes "refused" ∷ []
-words_of refusals.TooLong = codes "text" ∷ codes "too" ∷ codes "long" ∷ []
-words_of (refusals.Text number kind) = fault_words number kind
-words_of refusals.StartBlocked = codes "start" ∷ codes "blocked" ∷ []
-words_of refusals.ReadFault = codes "read" ∷ codes "fault" ∷ []
-words_of refusals.Memory = codes "no" ∷ codes "memory" ∷ []
+abbrev pub words_of_refusal : Refusal → List (List ℕ)
+words_of_refusal refusals.Words = codes "words" ∷ codes "refused" ∷ []
+words_of_refusal refusals.TooLong = codes "text" ∷ codes "too" ∷ codes "long" ∷ []
+words_of_refusal (refusals.Text number kind) = fault_words number kind
+words_of_refusal refusals.StartBlocked = codes "start" ∷ codes "blocked" ∷ []
+words_of_refusal refusals.ReadFault = codes "read" ∷ codes "fault" ∷ []
+words_of_refusal refusals.Memory = codes "no" ∷ codes "memory" ∷ []
 
 -- a refusal in words, without a line feed
 abbrev pub message_of : Refusal → List ℕ
-message_of refusal = join_with_byte 32 (words_of refusal)
+message_of refusal = join_with_byte 32 (words_of_refusal refusal)
 
 -- the line that the program writes
 abbrev pub line_of : Refusal → List ℕ
-line_of refusal = line (words_of refusal)
+line_of refusal = line (words_of_refusal refusal)
 
 -- the status that the program ends with
 abbrev pub status_of : Refusal → ℕ

@@ -58,14 +58,14 @@ pub fn exit_code<R: Threads + Sync + Wait, S: Source, K: Sink>(
     ensures within { ReadsWithin (S.bytes_left source.old) (S.bytes_left source.new) }
     ensures no_words { IsOutOfMemory args → exit_status result ≡ NO_MEMORY }
 {
-    match words_of(alloc, args) {
+    match words_after_name(alloc, args) {
         Ok(words) => ExitCode::from(run(rt, alloc, &words, source, sink, &NoGate).status),
         Err(_) => ExitCode::from(NO_MEMORY),
     }
 }
 
 /// The words after the program's name: none if the arguments are no text.
-fn words_of(alloc: Global, args: io::Result<Args>) -> Result<Vec<String>, Memory>
+fn words_after_name(alloc: Global, args: io::Result<Args>) -> Result<Vec<String>, Memory>
     ensures words { IfOk result (λ words. words.items ≡ given args) }
     ensures no_memory { IsOutOfMemory args → IsErr result }
 {

@@ -36,7 +36,7 @@ pub fn gen_scene(alloc: Global, number: u32) -> Result<Scene, Memory>
     Ok(Scene {
         version: 1,
         room: Point { x: 9_999, y: 9_999 },
-        body: square(alloc, Point { x: 0, y: 0 }, 20)?,
+        body: square_at(alloc, Point { x: 0, y: 0 }, 20)?,
         obstacles: obstacles(alloc, number)?,
         start: Point { x: 100, y: 100 },
         goal: Goal {
@@ -70,52 +70,52 @@ fn obstacle(alloc: Global, number: u32, cell: u32) -> Result<Poly, Memory>
     ensures { IfOk result (λ corners. corners ≡ spec.generated_obstacle number cell) }
 {
     let (first, second) = drawn_words(64 * u64::from(number), cell);
-    let corner = Point {
+    let low = Point {
         x: 1_250 * (cell % 8) + 200 + (first % 512) as u32,
         y: 1_250 * (cell / 8) + 200 + (second % 512) as u32,
     };
     let side = 100 + (first / 512 % 256) as u32;
     if cell % 2 == 0 {
-        square(alloc, corner, side)
+        square_at(alloc, low, side)
     } else {
-        triangle(alloc, corner, side)
+        triangle_at(alloc, low, side)
     }
 }
 
 /// The square with this lower left corner.
-fn square(alloc: Global, at: Point, side: u32) -> Result<Poly, Memory>
+fn square_at(alloc: Global, at: Point, side: u32) -> Result<Poly, Memory>
     requires right { at.x + side < 2 ^ 31 }
     requires top { at.y + side < 2 ^ 31 }
-    ensures { IfOk result (λ corners. corners ≡ spec.square at side) }
+    ensures { IfOk result (λ corners. corners ≡ spec.square_at at side) }
 {
     let (right, top) = (at.x + side, at.y + side);
     let corners = vec![in alloc;
-        corner(at.x, at.y),
-        corner(right, at.y),
-        corner(right, top),
-        corner(at.x, top),
+        lattice_corner(at.x, at.y),
+        lattice_corner(right, at.y),
+        lattice_corner(right, top),
+        lattice_corner(at.x, top),
     ]?;
     Ok(Poly::from_vec(corners))
 }
 
 /// The lower left half of that square.
-fn triangle(alloc: Global, at: Point, side: u32) -> Result<Poly, Memory>
+fn triangle_at(alloc: Global, at: Point, side: u32) -> Result<Poly, Memory>
     requires right { at.x + side < 2 ^ 31 }
     requires top { at.y + side < 2 ^ 31 }
-    ensures { IfOk result (λ corners. corners ≡ spec.triangle at side) }
+    ensures { IfOk result (λ corners. corners ≡ spec.triangle_at at side) }
 {
     let corners = vec![in alloc;
-        corner(at.x, at.y),
-        corner(at.x + side, at.y),
-        corner(at.x, at.y + side),
+        lattice_corner(at.x, at.y),
+        lattice_corner(at.x + side, at.y),
+        lattice_corner(at.x, at.y + side),
     ]?;
     Ok(Poly::from_vec(corners))
 }
 
-fn corner(x: u32, y: u32) -> Vertex
+fn lattice_corner(x: u32, y: u32) -> Vertex
     requires x { x < 2 ^ 31 }
     requires y { y < 2 ^ 31 }
-    ensures { result ≡ spec.corner x y }
+    ensures { result ≡ spec.lattice_corner x y }
 {
     Vertex {
         x: x as i32,

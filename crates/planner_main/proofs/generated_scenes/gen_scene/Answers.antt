@@ -10,7 +10,7 @@ pub invariant_of-result-clause-obstacles_within : goal.invariant_of-result-claus
 invariant_of-result-clause-obstacles_within c = rw c.in_ok-obstacles.ensures (are_obstacles-generated c.args.number)
 
 pub returns-clause-start : goal.returns-clause-start
-returns-clause-start c = rw (c.in_ok-square.ensures, c.in_ok-obstacles.ensures) (ClearAt-start c.args.number)
+returns-clause-start c = rw (c.in_ok-square_at.ensures, c.in_ok-obstacles.ensures) (ClearAt-start c.args.number)
 
 pub invariant_of-result-clause-plan_within : goal.invariant_of-result-clause-plan_within
 invariant_of-result-clause-plan_within c =

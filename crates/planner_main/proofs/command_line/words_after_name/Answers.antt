@@ -3,7 +3,7 @@ use Rattle.std.specs.Iterator.Adapters.{skip_source}
 use Rattle.std.specs.Vec.Iter.{into_iter_items}
 use Rattle.std.proofs.lemmas.Iterator.{items_from_collect}
 use Rattle.std.proofs.lemmas.Iterator.Adapters.{YieldsList-from_vec, YieldsList-from_skip}
-use Rattle.planner_main.proofs.command_line.words_of.Goals as goal
+use Rattle.planner_main.proofs.command_line.words_after_name.Goals as goal
 
 pub returns-in_ok-collect-in-Ok-clause-words : goal.returns-in_ok-collect-in-Ok-clause-words
 returns-in_ok-collect-in-Ok-clause-words c =
