@@ -63,7 +63,7 @@ pub mod SameReports
 pub mod TextbookStates
 pub mod NearNodes
 pub mod PlacedMarks
-pub mod HandledMarks
+pub mod MarksHandledWhole
 pub mod TextbookRewiring
 pub mod TextbookMarks
 pub mod TextbookRuns

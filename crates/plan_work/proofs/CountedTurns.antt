@@ -13,7 +13,7 @@ use Rattle.plan_model.specs.HandledMarks.{is_of_worker, turns_of, with_mark}
 use Rattle.plan_model.specs.Textbook.{setup_of}
 use Rattle.plan_model.specs.TreeStates.{TreeState}
 use Rattle.plan_model.proofs.CountsBelow.{count-same}
-use Rattle.plan_model.proofs.HandledMarks.{turns_of-handled, turns_of-handled_by_other}
+use Rattle.plan_model.proofs.MarksHandledWhole.{turns_of-handled, turns_of-handled_by_other}
 use Rattle.step_core.specs.declared.grown.Grown.{Grown}
 use Rattle.step_core.specs.GrownRuns.{state_of_grown, words_of_grown}
 use Rattle.step_core.specs.GrownWords.{node_point}

@@ -15,7 +15,7 @@ use Rattle.plan_model.specs.HandledMarks.{with_outcome, with_mark, IsHandledWhol
 use Rattle.plan_model.specs.PointsByNumber.{point_at, StandsAt, IsPresent}
 use Rattle.plan_model.specs.Textbook.{Setup}
 use Rattle.plan_model.specs.TreeStates.{TreeState, AreSameRuns, GrowsInto}
-use Rattle.plan_model.proofs.HandledMarks.{IsClosed-handled, GrowsInto-handled}
+use Rattle.plan_model.proofs.MarksHandledWhole.{IsClosed-handled, GrowsInto-handled}
 use Rattle.plan_model.proofs.NewNodes.{IsPresent-stands}
 use Rattle.plan_model.proofs.NextMarks.{node-absent, record-absent}
 use Rattle.plan_model.proofs.SameTrees.{GrowsInto-same_run}

@@ -1,5 +1,5 @@
 pub mod Causes
-pub mod Decisions
+pub mod DecidedStatuses
 pub mod Successes
 pub mod GeneratedObstacles
 pub mod ClearStarts

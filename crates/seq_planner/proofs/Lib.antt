@@ -1,11 +1,11 @@
-pub mod PlacedLists
+pub mod PresentNumbers
 pub mod ScannedLists
 pub mod GreatestAndLeast
 pub mod ChildLists
 pub mod LinkedChild
 pub mod UnlinkedChild
 pub mod AddedChildren
-pub mod LinkedTrees
+pub mod ChangedLinks
 pub mod Children
 pub mod LoweredBranches
 pub mod LoweringTurns
@@ -17,6 +17,6 @@ pub mod MarkExtensions
 pub mod NewLeaves
 pub mod RewiredNodes
 pub mod RewiredLists
-pub mod HandledMarks
+pub mod PutNodes
 pub mod RunsSoFar
 pub mod KeptNodes

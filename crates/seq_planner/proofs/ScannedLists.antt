@@ -21,7 +21,7 @@ use Rattle.plan_model.proofs.NearNodes.{Contains-filter}
 use Rattle.plan_model.proofs.NewNodes.{IsPresent-stands, point_of-stands, StandsAt-present}
 use Rattle.seq_planner.specs.PlacedLists.{present_numbers, ArePlaced}
 use Rattle.seq_planner.specs.declared.placed_points.PlacedPoints.{PlacedPoints}
-use Rattle.seq_planner.proofs.PlacedLists.{ArePlaced-numbered, present_numbers-present, present_numbers-rising, IsStrictlyIncreasing-range_with_len}
+use Rattle.seq_planner.proofs.PresentNumbers.{ArePlaced-numbered, present_numbers-present, present_numbers-rising, IsStrictlyIncreasing-range_with_len}
 
 -- ---- places
 

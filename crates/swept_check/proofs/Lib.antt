@@ -2,7 +2,7 @@ pub mod Parameters
 pub mod LinearValues
 pub mod ClippedParts
 pub mod SideValues
-pub mod Crossings
+pub mod CommonParameters
 pub mod RoomLaws
 pub mod BoxRejects
 pub mod HallLaws

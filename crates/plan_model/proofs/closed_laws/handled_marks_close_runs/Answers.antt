@@ -1,4 +1,4 @@
-use Rattle.plan_model.proofs.HandledMarks.{IsClosed-handled, GrowsInto-handled}
+use Rattle.plan_model.proofs.MarksHandledWhole.{IsClosed-handled, GrowsInto-handled}
 use Rattle.plan_model.proofs.closed_laws.handled_marks_close_runs.Goals as goal
 
 pub returns-clause-closed : goal.returns-clause-closed

@@ -1,6 +1,6 @@
 use Rattle.std.proofs.Common.{inr, arith}
 use Rattle.planner_main.specs.Exchanges.{reading_of}
-use Rattle.planner_main.proofs.Decisions.{IsSuccess-low, success_decided, refusal_decided}
+use Rattle.planner_main.proofs.DecidedStatuses.{IsSuccess-low, success_decided, refusal_decided}
 use Rattle.planner_main.proofs.top_call.run.Goals as goal
 
 -- no success ends with the status of a sink that failed

@@ -3,7 +3,7 @@ use Rattle.std.proofs.lemmas.Int.{ints}
 use Rattle.std.specs.Prelude.{◌↔◌}
 use Rattle.swept_check.specs.Clipping.{IsAdmitted, IsBetweenFractions}
 use Rattle.convex_sets.specs.Boxes.{corner_of}
-use Rattle.swept_check.proofs.Crossings.{IsAdmittedAt, IsAdmittedBelow, one_more, crosses_between, not_crossing}
+use Rattle.swept_check.proofs.CommonParameters.{IsAdmittedAt, IsAdmittedBelow, one_more, crosses_between, not_crossing}
 use Rattle.swept_check.proofs.clipping.crosses.Goals as goal
 
 pub returns-in-None : goal.returns-in-None

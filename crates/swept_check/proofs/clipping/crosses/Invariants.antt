@@ -1,6 +1,6 @@
 use Rattle.std.proofs.Common.{ℕ, ◌<◌, ◌≤◌, ◌↔◌}
 use Rattle.swept_check.specs.Clipping.{IsBetweenFractions}
-use Rattle.swept_check.proofs.Crossings.{IsAdmittedBelow}
+use Rattle.swept_check.proofs.CommonParameters.{IsAdmittedBelow}
 use Rattle.swept_check.proofs.clipping.crosses.Given as goal
 
 abbrev pub invariant-loop-i : goal.invariant-loop-i

@@ -3,7 +3,7 @@ use Rattle.std.proofs.Common.{◌≡◌, ◌<◌, length, sym, ap, subst, arith}
 use Rattle.plan_model.specs.PointsByNumber.{IsPresent}
 use Rattle.plan_model.specs.Trees.{points_of}
 use Rattle.seq_planner.specs.LinkedTrees.{MayJoin, parent_if_child}
-use Rattle.seq_planner.proofs.LinkedTrees.{AreLinked-push_absent, MayLink-push, ChangesOne-push, AreLinked-push, HavePlaces-present}
+use Rattle.seq_planner.proofs.ChangedLinks.{AreLinked-push_absent, MayLink-push, ChangesOne-push, AreLinked-push, HavePlaces-present}
 use Rattle.seq_planner.proofs.linked_tree.LinkedTree.push.Goals as goal
 
 pub invariant_of-self : goal.invariant_of-self

@@ -6,7 +6,7 @@ use Rattle.plan_model.specs.PointsByNumber.{IsPresent}
 use Rattle.plan_model.specs.Trees.{points_of}
 use Rattle.plan_model.proofs.NewNodes.{present_below}
 use Rattle.seq_planner.specs.LinkedTrees.{parent_if_child, is_child_of}
-use Rattle.seq_planner.proofs.LinkedTrees.{without, MayLink-unlinked, ChangesOne-replace, AreLinked-replace, HavePlaces-present}
+use Rattle.seq_planner.proofs.ChangedLinks.{without, MayLink-unlinked, ChangesOne-replace, AreLinked-replace, HavePlaces-present}
 use Rattle.seq_planner.proofs.linked_tree.LinkedTree.set_parent.Goals as goal
 
 pub link-requires-clause-parent : goal.link-requires-clause-parent

@@ -1,5 +1,5 @@
 use Rattle.std.proofs.Common.{◌∙◌}
-use Rattle.seq_planner.proofs.PlacedLists.{ArePlaced-count}
+use Rattle.seq_planner.proofs.PresentNumbers.{ArePlaced-count}
 use Rattle.seq_planner.proofs.placed_points.PlacedPoints.count.Goals as goal
 
 pub returns : goal.returns

@@ -1,5 +1,5 @@
 use Rattle.std.proofs.Common.{◌∙◌, ap, ◌++◌, ◌∷◌, [], ℕ}
-use Rattle.seq_planner.proofs.PlacedLists.{ArePlaced-push}
+use Rattle.seq_planner.proofs.PresentNumbers.{ArePlaced-push}
 use Rattle.seq_planner.proofs.placed_points.PlacedPoints.push.Goals as goal
 
 pub returns : goal.returns

@@ -5,7 +5,7 @@ use Rattle.std.proofs.lemmas.List.Elements.{All-from_recursion, All-same}
 use Rattle.plan_model.specs.Bounds.{IsBounded}
 use Rattle.plan_model.specs.declared.geometry.Point.{Point}
 use Rattle.seq_planner.specs.PlacedLists.{ArePlaced}
-use Rattle.seq_planner.proofs.PlacedLists.{ArePlaced-absent, ArePlaced-numbered, ArePlaced-some}
+use Rattle.seq_planner.proofs.PresentNumbers.{ArePlaced-absent, ArePlaced-numbered, ArePlaced-some}
 use Rattle.seq_planner.proofs.placed_points.tests.four_points.Goals as goal
 
 abbrev at : ℕ → ℕ → Point

@@ -13,7 +13,7 @@ use Rattle.plan_model.specs.Textbook.{setup_of, near_new, cost_through}
 use Rattle.plan_model.specs.Trees.{points_of}
 use Rattle.plan_model.proofs.DistinctPoints.{near-present}
 use Rattle.plan_model.proofs.SamePoints.{same_point-true, same_point-false}
-use Rattle.seq_planner.proofs.PlacedLists.{ArePlaced-bounded}
+use Rattle.seq_planner.proofs.PresentNumbers.{ArePlaced-bounded}
 use Rattle.seq_planner.proofs.ReadCosts.{through-bound}
 use Rattle.seq_planner.proofs.SoundTrees.{IsBounded-present, some_present}
 use Rattle.seq_planner.proofs.MarkExtensions.{Steers, is_free, IsExtensionOf-same, IsExtensionOf-blocked, IsExtensionOf-placed}

@@ -4,7 +4,7 @@ use Rattle.plan_model.specs.ConfigurationSpace.{ConfigurationSpace, space_of}
 use Rattle.plan_model.specs.PointsByNumber.{IsPresent}
 use Rattle.plan_model.specs.Trees.{points_of}
 use Rattle.plan_model.specs.Textbook.{Nodes, Rewires}
-use Rattle.seq_planner.proofs.HandledMarks.{present-put, no_child-put, none-put, HandlesNext-put}
+use Rattle.seq_planner.proofs.PutNodes.{present-put, no_child-put, none-put, HandlesNext-put}
 use Rattle.seq_planner.proofs.search_tree.SearchTree.handle.Goals as goal
 
 pub rewire-requires-clause-near : goal.rewire-requires-clause-near

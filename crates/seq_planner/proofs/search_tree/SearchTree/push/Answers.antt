@@ -6,7 +6,7 @@ use Rattle.plan_model.specs.declared.trees.Twig.{Twig}
 use Rattle.plan_model.specs.Trees.{points_of}
 use Rattle.plan_model.proofs.TreeChanges.{points_of-push}
 use Rattle.seq_planner.specs.PlacedLists.{ArePlaced}
-use Rattle.seq_planner.proofs.PlacedLists.{ArePlaced-absent}
+use Rattle.seq_planner.proofs.PresentNumbers.{ArePlaced-absent}
 use Rattle.seq_planner.proofs.SoundTrees.{IsSound-put, IsSound-same}
 use Rattle.seq_planner.proofs.search_tree.SearchTree.push.Goals as goal
 
