@@ -17,7 +17,7 @@ use Rattle.plan_model.specs.declared.spans.Span.{Span}
 use Rattle.plan_model.specs.declared.tasks.Task.{Task}
 use Rattle.plan_model.specs.declared.limits.TheConstants.{LEAST_BODY_COORDINATE, MOST_BODY_COORDINATE, MOST_MARKS, MOST_SIDE}
 use Rattle.plan_model.specs.Limits.{IsBetween, is_corner_between, is_mark, is_plan}
-use Rattle.plan_model.specs.MarkPoints.{mark_points, points_of, drawn_mark, strip_of_mark, first_word, second_word, next_state}
+use Rattle.plan_model.specs.MarkPoints.{mark_points, points_of_marks, drawn_mark, strip_of_mark, first_word, second_word, next_state}
 use Rattle.plan_model.specs.MarkPoints.{IsInSpan, below_zero, above_zero, reach, span_within, columns, rows, strip, picked}
 use Rattle.plan_model.proofs.SpanLaws.{reach-bounded}
 use Rattle.plan_model.proofs.StripLaws.{strip-some, strip-within}
@@ -134,21 +134,21 @@ listed_within p h =
     }
 
 -- no coordinate of a mark is above the greatest side of a room
-pub All-marks_within : (scene : Scene) (plan : Marks) → IsTrue (is_plan plan) → All (IsBetween 0 MOST_SIDE) (points_of scene plan)
+pub All-marks_within : (scene : Scene) (plan : Marks) → IsTrue (is_plan plan) → All (IsBetween 0 MOST_SIDE) (points_of_marks scene plan)
 All-marks_within scene (Drawn n) h =
     All-map (IsBetween 0 MOST_SIDE) (drawn_mark scene) (range_with_len 0 n) (λ k d l. drawn_within scene _)
 All-marks_within scene (Listed points) h =
     All-weaker (λ p. is_mark p ≡ true) (IsBetween 0 MOST_SIDE) listed_within points (AllPass-from_list_all is_mark points (second_true _ _ h))
 
 -- there are not too many marks
-pub length-points_of : (scene : Scene) (plan : Marks) → IsTrue (is_plan plan) → length (points_of scene plan) ≤ MOST_MARKS
-length-points_of scene (Drawn n) h =
+pub length-points_of_marks : (scene : Scene) (plan : Marks) → IsTrue (is_plan plan) → length (points_of_marks scene plan) ≤ MOST_MARKS
+length-points_of_marks scene (Drawn n) h =
     omega (arith, length-map (range_with_len 0 n) (drawn_mark scene), length-range_with_len 0 n, leb-true n MOST_MARKS h)
-length-points_of scene (Listed points) h = leb-true (length points) MOST_MARKS (first_true _ _ h)
+length-points_of_marks scene (Listed points) h = leb-true (length points) MOST_MARKS (first_true _ _ h)
 
 -- the marks of a task
 pub length-marks : (task : Task) → length task.marks ≤ MOST_MARKS
-length-marks task = omega (arith, ap length task.of_scene, length-points_of task.scene task.scene.plan task.scene.plan_within)
+length-marks task = omega (arith, ap length task.of_scene, length-points_of_marks task.scene task.scene.plan task.scene.plan_within)
 
 pub All-task_marks_within : (task : Task) → All (IsBetween 0 MOST_SIDE) task.marks
 All-task_marks_within task =

@@ -90,13 +90,13 @@ drawn_mark scene k =
     record { x = picked own_strip (first_word state); y = picked (rows scene.room scene.body) (second_word state) }
 
 -- the points of listed marks, and of marks that are drawn
-abbrev pub points_of : Scene → Marks → List Point
-points_of scene (Listed points) = points
-points_of scene (Drawn n) = map (drawn_mark scene) (range_with_len 0 n)
+abbrev pub points_of_marks : Scene → Marks → List Point
+points_of_marks scene (Listed points) = points
+points_of_marks scene (Drawn n) = map (drawn_mark scene) (range_with_len 0 n)
 
 -- the mark points of a scene, in the order of their numbers
 abbrev pub mark_points : Scene → List Point
-mark_points scene = points_of scene scene.plan
+mark_points scene = points_of_marks scene scene.plan
 
 -- how many marks below the limit belong to strip g
 abbrev pub quota_of : ℕ → ℕ → ℕ → ℕ

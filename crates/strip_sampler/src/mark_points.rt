@@ -2,7 +2,7 @@
 
 ghost use Rattle.std.specs.Prelude.{◌≡◌, ℕ, All, IfOk};
 ghost use Rattle.plan_model.specs.ConfigurationSpace.{space_of};
-ghost use Rattle.plan_model.specs.MarkPoints.{BodyFits, mark_points, points_of};
+ghost use Rattle.plan_model.specs.MarkPoints.{BodyFits, mark_points, points_of_marks};
 ghost use Rattle.plan_model.specs.RoomOfConfigurations.{InRoom, at_lattice};
 ghost use Rattle.plan_model.specs.declared.scenes.Marks.TheVariants.{Drawn};
 
@@ -31,8 +31,13 @@ pub fn marks(alloc: Global, scene: &Scene) -> Result<Points, Memory>
 
 /// So many drawn marks of a scene.
 fn drawn_points(alloc: Global, scene: &Scene, count: u32) -> Result<Points, Memory>
+<<<<<<< HEAD
     requires { BodyFits scene.now.room scene.now.body }
     ensures value { IfOk result (λ points. points ≡ points_of scene.now (Drawn count)) }
+=======
+    requires { BodyFits (space_of scene.now) }
+    ensures value { IfOk result (λ points. points ≡ points_of_marks scene.now (Drawn count)) }
+>>>>>>> 2361e6d (The points of marks are points_of_marks: points_of is where the nodes of a tree stand)
     ensures in_room { IfOk result (λ points. All (λ p. InRoom (space_of scene.now) (at_lattice p)) points) }
 {
     let spans = RoomSpans::new(scene.room, scene.body.as_slice());
