@@ -12,11 +12,7 @@ use Rattle.plan_model.specs.RoomOfConfigurations.{InRoom, at_lattice}
 use Rattle.plan_model.proofs.DrawnMarks.{drawn_mark-in_room}
 
 pub All-drawn_in_room :
-<<<<<<< HEAD
-    (scene : Scene) (points : List Point) (n : ℕ) → BodyFits scene.room scene.body → points ≡ points_of scene (Drawn n)
-=======
-    (scene : Scene) (points : List Point) (n : ℕ) → BodyFits (space_of scene) → points ≡ points_of_marks scene (Drawn n)
->>>>>>> 2361e6d (The points of marks are points_of_marks: points_of is where the nodes of a tree stand)
+    (scene : Scene) (points : List Point) (n : ℕ) → BodyFits scene.room scene.body → points ≡ points_of_marks scene (Drawn n)
     → All (λ p. InRoom (space_of scene) (at_lattice p)) points
 All-drawn_in_room scene points n fits are =
     rw are (All-map (λ p. InRoom (space_of scene) (at_lattice p)) (drawn_mark scene) (range_with_len 0 n) (λ k d l. drawn_mark-in_room scene _ fits))

@@ -31,13 +31,8 @@ pub fn marks(alloc: Global, scene: &Scene) -> Result<Points, Memory>
 
 /// So many drawn marks of a scene.
 fn drawn_points(alloc: Global, scene: &Scene, count: u32) -> Result<Points, Memory>
-<<<<<<< HEAD
     requires { BodyFits scene.now.room scene.now.body }
-    ensures value { IfOk result (λ points. points ≡ points_of scene.now (Drawn count)) }
-=======
-    requires { BodyFits (space_of scene.now) }
     ensures value { IfOk result (λ points. points ≡ points_of_marks scene.now (Drawn count)) }
->>>>>>> 2361e6d (The points of marks are points_of_marks: points_of is where the nodes of a tree stand)
     ensures in_room { IfOk result (λ points. All (λ p. InRoom (space_of scene.now) (at_lattice p)) points) }
 {
     let spans = RoomSpans::new(scene.room, scene.body.as_slice());

@@ -1,5 +1,5 @@
 use Rattle.std.proofs.Common.{length, ap, sym, ◌∙◌, arith}
-use Rattle.plan_model.proofs.MarkBounds.{length-points_of}
+use Rattle.plan_model.proofs.MarkBounds.{length-points_of_marks}
 use Rattle.plan_model.proofs.SpanLaws.{BodyFits-from_in_room}
 use Rattle.plan_model.specs.ConfigurationSpace.{space_of}
 use Rattle.planner_main.proofs.answers.run_by_workers.Goals as goal
@@ -10,7 +10,7 @@ marks-requires g c = record { fits = λ n drawn. BodyFits-from_in_room (space_of
 
 pub overflow_cast-limit : goal.overflow_cast-limit
 overflow_cast-limit g c =
-    let few = length-points_of c.args.scene c.args.scene.plan c.args.scene.plan_within in
+    let few = length-points_of_marks c.args.scene c.args.scene.plan c.args.scene.plan_within in
     omega (arith, few, ap length c.in_ok-marks.ensures.value, c.len-limit.ensures)
 
 -- settling keeps the records
