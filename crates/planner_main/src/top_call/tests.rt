@@ -316,7 +316,7 @@ fn plans_past_an_obstacle(rt: HostRuntime) -> Result<(), Fail> {
         },
         Case {
             shows: "an edge one step above it",
-            scene: "prrt 1\nroom 100 100\nobstacle 40 0 60 0 60 60 40 60\nstart 30 61\ngoal 70 61 70 61\nstep 100\nmark 70 61\n",
+            scene: "prrt 1\nroom 100 100\nobstacle 40 0 60 0 60 60 40 60\nstart 30 61\ngoal 70 60 70 61\nstep 100\nmark 70 61\n",
             status: 0,
             text: "path 2 cost 10240\n30 61\n70 61\nnodes 2 placed 1 same 0 blocked 0\n",
         },
