@@ -27,7 +27,7 @@ pub struct Radii {
 }
 
 impl Radii {
-    /// The radii for a step, in lattice steps, and a gamma. With a gamma of 0 all are 0.
+    /// The radii for a step, in lattice steps, and a gamma. With a gamma of 0 all are 0. O(1), a root for each class.
     pub fn new(step: u32, gamma: u32) -> Radii
         requires { gamma ≤ MOST_GAMMA }
         ensures step { result.step ≡ step }
@@ -44,7 +44,7 @@ impl Radii {
         }
     }
 
-    /// The radius at `n` nodes: from the table, without a root.
+    /// The radius at `n` nodes: from the table, without a root. O(1).
     pub fn at(&self, n: u64) -> u32
         requires some { 1 ≤ n }
         requires most { n ≤ MOST_NODES }

@@ -6,7 +6,8 @@ ghost use Rattle.seq_planner.specs.LinkedTrees.{AreChildLists, ChangesOne, HaveP
 use plan_model::Memory;
 use std::alloc::Global;
 
-/// The children of each node, by number.
+/// The children of each node, by number: first child and next sibling (Knuth, The Art of Computer Programming, volume 1,
+/// section 2.3.2), with the sibling before besides.
 ///
 /// The children of a node stand in falling number: the node names the first of them, the one with the greatest number,
 /// and each child names the next one and the one before it. So a child leaves its list, or joins another in front, in
