@@ -10,7 +10,8 @@ use Rattle.plan_model.specs.Steering.{steered}
 use Rattle.plan_model.specs.TreeStates.{TreeState, recorded_or, first_cost_of}
 use Rattle.plan_model.specs.OrderLaw.{most_cost_of, KeepsFirstCosts}
 use Rattle.plan_model.specs.RecordLaw.{HasLawfulOutcome, HangsLawfully}
-use Rattle.plan_model.specs.ClosedLaw.{mark_at, IsClosed}
+use Rattle.plan_model.specs.ClosedLaw.{mark_at, has_outcome, IsClosed}
+use Rattle.plan_model.specs.Outcomes.{is_placed}
 use Rattle.plan_model.specs.Textbook.{Setup}
 use Rattle.plan_model.proofs.TreeStateLaws.{IsPresent-grows}
 use Rattle.plan_model.proofs.OrderLaws.{start-present}
@@ -25,6 +26,8 @@ use Rattle.plan_model.proofs.LoweredCosts.{
 }
 use Rattle.plan_model.proofs.EarlierNodes.{earlier-present, HaveSameEarlier, is_earlier-same_records}
 use Rattle.plan_model.proofs.RecordLaws.{IsLawfulRecord-grows}
+use Rattle.plan_model.proofs.PlacedNodes.{record-of_present}
+use Rattle.plan_model.proofs.WorkerTurns.{AreTurns-same}
 
 -- ---- lowered costs
 
@@ -49,20 +52,10 @@ module _
           none_else = λ k past. same k ∙ closed.records.none_else k past;
         };
         workers = λ k entry h. closed.workers k entry (sym (same k) ∙ h);
-        turns = record {
-          once = λ j k one other f g. closed.turns.once j k one other (sym (same j) ∙ f) (sym (same k) ∙ g);
-          no_gap = λ k turn entry h e.
-              let found = closed.turns.no_gap k turn entry (sym (same k) ∙ h) e in
-              (found.0, found.1, same found.0 ∙ found.2, found.3, found.4);
-        };
+        turns = AreTurns-same before.record_of after.record_of limit (λ k low. same k) closed.turns;
         lawful = λ k entry h.
             IsLawfulRecord-grows setup before after grows entry (same_earlier entry) k (mark_at marks k) (closed.lawful k entry (sym (same k) ∙ h));
-        placed = λ k. (
-          (λ h.
-              let old = (closed.placed k).0 (ap is_some (sym (lowers.still.points (suc k))) ∙ h) in
-              (old.0, same k ∙ old.1, old.2)),
-          (λ own. IsPresent-grows before after grows (suc k) ((closed.placed k).1 (own.0, sym (same k) ∙ own.1, own.2))),
-        );
+        placed = λ k. ap is_some (lowers.still.points (suc k)) ∙ closed.placed k ∙ sym (ap (has_outcome is_placed) (same k));
       }
 
   -- so is one whose costs are settled
@@ -98,11 +91,11 @@ module _ (setup : Setup) (marks : List Point) (limit : ℕ) (state : TreeState) 
       kept : (n : ℕ) → IsPresent state.points n → state.cost n ≤ first_cost_of state n
       kept zero h = omega (arith, closed.order.start_cost)
       kept (suc k) h =
-          let own = (closed.placed k).0 h in
+          let own = record-of_present state closed.placed k h in
           omega (arith, (HangsLawfully-closed k own.0 own.1 own.2).kept, first_cost_is k own.0 own.1)
 
       bounded : (n : ℕ) → IsPresent state.points n → first_cost_of state n ≤ most_cost_of setup (node_count state.points)
       bounded zero h = omega arith
       bounded (suc k) h =
-          let own = (closed.placed k).0 h in
+          let own = record-of_present state closed.placed k h in
           omega (arith, (HangsLawfully-closed k own.0 own.1 own.2).bounded, first_cost_is k own.0 own.1)

@@ -1,21 +1,23 @@
 -- In a closed run each mark below the limit was placed, ended on a node, or was blocked, so these add up to the limit.
 use Rattle.std.proofs.Common.{◌≡◌, ℕ, zero, suc, ◌+◌, ◌<◌, Bool, true, false, cond, List, length, Option, Some, None}
 use Rattle.std.proofs.Common.{arith, refl, sym, ap, ◌∙◌, inl, inr}
-use Rattle.std.specs.Prelude.{IsSome, is_some}
-use Rattle.std.proofs.lemmas.Bool.{cases_lt, true≢false, false_from_ne_true}
+use Rattle.std.specs.Prelude.{IsSome}
+use Rattle.std.proofs.lemmas.Bool.{cases_lt, true≢false}
 use Rattle.plan_model.specs.declared.geometry.Point.{Point}
 use Rattle.plan_model.specs.declared.records.Outcome.{Outcome}
 use Rattle.plan_model.specs.declared.records.Outcome.TheVariants.{Placed, Same, Blocked}
 use Rattle.plan_model.specs.declared.records.Record.{Record}
 use Rattle.plan_model.specs.Outcomes.{is_placed, is_same, is_blocked}
-use Rattle.plan_model.specs.PointsByNumber.{point_at, IsPresent, AreNumberedTo, node_count}
+use Rattle.plan_model.specs.PointsByNumber.{AreNumberedTo, node_count}
 use Rattle.plan_model.specs.TreeStates.{TreeState}
 use Rattle.plan_model.specs.ClosedLaw.{has_outcome, outcome_count, IsClosed}
 use Rattle.plan_model.specs.Textbook.{Setup}
-use Rattle.plan_model.proofs.CountsBelow.{count-more, count-longer}
-use Rattle.plan_model.proofs.EarlierNodes.{is_placed-true}
+use Rattle.plan_model.proofs.CountsBelow.{count-more, count-longer, count-one_more}
 use Rattle.plan_model.proofs.NodeCounts.{count-next}
+use Rattle.plan_model.proofs.NextRecords.{RecordsMark}
 use Rattle.plan_model.proofs.OrderLaws.{start-present}
+use Rattle.plan_model.proofs.PlacedNodes.{record-of_present}
+use Rattle.plan_model.proofs.WorkerTurns.{count_still}
 
 one_outcome : (outcome : Outcome)
     → (cond (is_placed outcome) 1 0 + cond (is_same outcome) 1 0) + cond (is_blocked outcome) 1 0 ≡ 1
@@ -51,30 +53,24 @@ pub outcomes-closed :
     → (outcome_count state.record_of limit is_placed + outcome_count state.record_of limit is_same) + outcome_count state.record_of limit is_blocked ≡ limit
 outcomes-closed setup marks limit state closed = outcomes-add_up state.record_of limit closed.records.recorded
 
--- ---- nodes
+-- ---- any mark is recorded
 
--- a mark that counts as placed has a record of that
-placed_record : (o : Option Record) → has_outcome is_placed o ≡ true → (entry : Record) × (o ≡ Some entry) × (entry.outcome ≡ Placed)
-placed_record None h = cc
-placed_record (Some entry) h = (entry, refl, is_placed-true entry.outcome h)
+module _ (before after : ℕ → Option Record) (k : ℕ) (entry : Record) (change : RecordsMark before after k entry) (limit : ℕ) (below : k < limit) where
+  -- A new record of an outcome that passes the test counts as one more,
+  pub outcome_count-recorded : (test : Outcome → Bool) → test entry.outcome ≡ true → outcome_count after limit test ≡ suc (outcome_count before limit test)
+  outcome_count-recorded test passes =
+      count-one_more (λ j. has_outcome test (before j)) (λ j. has_outcome test (after j)) limit k below
+      (ap (has_outcome test) change.absent) (ap (has_outcome test) change.recorded ∙ passes) (λ j apart. ap (has_outcome test) (change.others j apart))
+
+  -- and one that does not adds nothing.
+  pub outcome_count-unchanged : (test : Outcome → Bool) → test entry.outcome ≡ false → outcome_count after limit test ≡ outcome_count before limit test
+  outcome_count-unchanged test fails = count_still before after k entry change limit below (has_outcome test) refl fails
+
+-- ---- nodes
 
 module _ (setup : Setup) (marks : List Point) (limit : ℕ) (state : TreeState) (closed : IsClosed setup marks limit state) where
   placed : ℕ → Bool
   placed k = has_outcome is_placed (state.record_of k)
-
-  -- a mark counts as placed exactly if its node is present
-  placed_present : (k : ℕ) → placed k ≡ is_some (point_at state.points (suc k))
-  unfolding placed
-  placed_present k = by_test (has_outcome is_placed (state.record_of k)) refl
-    where
-      by_test : (b : Bool) → has_outcome is_placed (state.record_of k) ≡ b → b ≡ is_some (point_at state.points (suc k))
-      by_test true e = sym ((closed.placed k).1 (placed_record (state.record_of k) e))
-      by_test false e = sym (false_from_ne_true (is_some (point_at state.points (suc k))) absent)
-        where
-          absent : ¬ IsPresent state.points (suc k)
-          absent h =
-              let own = (closed.placed k).0 h in
-              true≢false (sym (ap (has_outcome is_placed) own.1 ∙ ap is_placed own.2) ∙ e)
 
   placed_below : (k : ℕ) → placed k ≡ true → k < limit
   unfolding placed
@@ -90,14 +86,14 @@ module _ (setup : Setup) (marks : List Point) (limit : ℕ) (state : TreeState) 
   node_count-closed =
       let n : ℕ = limit + length state.points in
       let nodes =
-      count-next state.points placed n (start-present setup state closed.order) (omega arith) placed_present in
+      count-next state.points placed n (start-present setup state closed.order) (omega arith) (λ k. sym (closed.placed k)) in
       omega (arith, nodes, count-longer placed limit n (omega arith) placed_below)
 
   -- no node has a number past the limit
   pub numbers-closed : AreNumberedTo limit state.points
   numbers-closed zero h = omega arith
   numbers-closed (suc k) h =
-      let own = (closed.placed k).0 h in
+      let own = record-of_present state closed.placed k h in
       let found : state.record_of k ≡ Some own.0 = own.1 in
       elim (cases_lt k limit) [
         | inl below ↦ omega (arith, below)

@@ -1,8 +1,8 @@
 -- The numbers below a limit, and how many of them pass a test.
-use Rattle.std.proofs.Common.{◌≡◌, ℕ, zero, suc, ◌+◌, ◌-◌, ◌<◌, ◌≤◌, Bool, true, false, cond, [], ◌∷◌, ◌++◌, arith, refl, sym, ap, ◌∙◌, inl, inr}
+use Rattle.std.proofs.Common.{◌≡◌, ℕ, zero, suc, ◌+◌, ◌-◌, ◌<◌, ◌≤◌, Bool, true, false, cond, eqb, [], ◌∷◌, ◌++◌, arith, refl, sym, ap, ◌∙◌, inl, inr}
 use Rattle.std.specs.Prelude.{◌≢◌, count_by}
 use Rattle.std.specs.List.{range_with_len, sum_by}
-use Rattle.std.proofs.lemmas.Bool.{cases_eq, cases_lt, cases_Bool}
+use Rattle.std.proofs.lemmas.Bool.{cases_eq, cases_lt, cases_Bool, cond-true, cond-false, eq-eqb, ne_eqb}
 use Rattle.std.proofs.lemmas.List.{map-id}
 use Rattle.std.proofs.lemmas.List.FromFn.{map-range_with_len_more}
 use Rattle.std.proofs.lemmas.List.Sums.{sum_by_push}
@@ -127,4 +127,56 @@ count-less one other (suc n) less =
       | inr no_fewer ↦ (
           let here = fails_and_passes (one n) (other n) (omega (arith, count-more one n, count-more other n, less, no_fewer)) in
           record { number = n; below = omega arith; fails = here.0; passes = here.1 })
+    ]
+
+-- ---- none, one, and several
+
+-- none count if all below the limit fail
+pub count-none : (test : ℕ → Bool) (n : ℕ) → ((i : ℕ) → i < n → test i ≡ false) → count_by test (range_with_len 0 n) ≡ 0
+count-none test zero fail = refl
+count-none test (suc n) fail =
+    let here : ◌≡◌ {A = ℕ} (cond (test n) 1 0) 0 = ap (λ b. cond {A = ℕ} b 1 0) (fail n (omega arith)) in
+    omega (arith, count-more test n, count-none test n (λ i below. fail i (omega arith)), here)
+
+-- one counts if it alone passes
+pub count-single :
+    (test : ℕ → Bool) (n j : ℕ) → j < n → test j ≡ true → ((i : ℕ) → i ≢ j → test i ≡ false) → count_by test (range_with_len 0 n) ≡ 1
+count-single test n j below passes alone =
+    count-one_more (λ i. false) test n j below refl passes alone ∙ ap suc (count-none (λ i. false) n (λ i low. refl))
+
+-- the test, with number j left out
+except : ℕ → (ℕ → Bool) → ℕ → Bool
+except j test i = cond (eqb i j) false (test i)
+
+except-left_out : (j : ℕ) (test : ℕ → Bool) → except j test j ≡ false
+unfolding except
+except-left_out j test = cond-true (eqb j j) false (test j) (eq-eqb j j refl)
+
+except-other : (j : ℕ) (test : ℕ → Bool) (i : ℕ) → i ≢ j → test i ≡ except j test i
+unfolding except
+except-other j test i apart = sym (cond-false (eqb i j) false (test i) (ne_eqb i j apart))
+
+-- a number that passes counts beside the others
+count_others :
+    (test : ℕ → Bool) (n j : ℕ) → j < n → test j ≡ true
+    → count_by test (range_with_len 0 n) ≡ suc (count_by (except j test) (range_with_len 0 n))
+count_others test n j below passes = count-one_more (except j test) test n j below (except-left_out j test) passes (except-other j test)
+
+-- some count if one passes
+pub count-some : (test : ℕ → Bool) (n j : ℕ) → j < n → test j ≡ true → 0 < count_by test (range_with_len 0 n)
+count-some test n j below passes = omega (arith, count_others test n j below passes)
+
+-- and one passes if some count
+pub count-found : (test : ℕ → Bool) (n : ℕ) → 0 < count_by test (range_with_len 0 n) → TellsApart (λ i. false) test n
+count-found test n some = count-less (λ i. false) test n (omega (arith, some, count-none (λ i. false) n (λ i low. refl)))
+
+-- at most one passes if no more count
+pub count-unique :
+    (test : ℕ → Bool) (n j k : ℕ) → j < n → k < n → test j ≡ true → test k ≡ true → count_by test (range_with_len 0 n) ≤ 1 → j ≡ k
+count-unique test n j k low also one other most =
+    elim (cases_eq j k) [
+      | inl e ↦ e
+      | inr apart ↦ (
+          let passes = sym (except-other j test k (λ e. apart (sym e))) ∙ other in
+          absurd (omega (arith, count_others test n j low one, count-some (except j test) n k also passes, most)))
     ]

@@ -4,8 +4,7 @@ use Rattle.std.specs.Prelude.{◌≢◌, ◌⊎◌, ◌&&◌, IsTrue}
 use Rattle.std.specs.List.{range_with_len}
 use Rattle.std.proofs.lemmas.Bool.{cases_eq, and_parts, and_left, and_right, ne_eqb, le-ltb}
 use Rattle.std.proofs.lemmas.List.Sums.{length-filter}
-use Rattle.plan_model.specs.declared.records.Outcome.{Outcome}
-use Rattle.plan_model.specs.declared.records.Outcome.TheVariants.{Placed, Same, Blocked}
+use Rattle.plan_model.specs.declared.records.Outcome.TheVariants.{Placed}
 use Rattle.plan_model.specs.declared.records.Record.{Record}
 use Rattle.plan_model.specs.PointsByNumber.{IsPresent}
 use Rattle.plan_model.specs.TreeStates.{TreeState, GrowsInto}
@@ -15,15 +14,10 @@ use Rattle.plan_model.specs.ClosedLaw.{ArePlacedMarks}
 use Rattle.plan_model.proofs.CountsBelow.{count-same, count-limits}
 use Rattle.plan_model.proofs.DistinctPoints.{IsPresent-below}
 use Rattle.plan_model.proofs.NextRecords.{RecordsMark}
+use Rattle.plan_model.proofs.PlacedNodes.{is_placed-true, present-of_record}
 use Rattle.plan_model.proofs.TreeStateLaws.{IsPresent-grows}
 
 -- ---- earlier nodes are present
-
--- an outcome that counts as placed is
-pub is_placed-true : (outcome : Outcome) → is_placed outcome ≡ true → outcome ≡ Placed
-is_placed-true Placed h = refl
-is_placed-true (Same j) h = cc
-is_placed-true Blocked h = cc
 
 -- the record of an earlier mark is that of a placed one
 earlier_placed : (entry : Record) (o : Option Record) → IsTrue (is_earlier_record entry o) → (other : Record) × (o ≡ Some other) × (other.outcome ≡ Placed)
@@ -38,7 +32,7 @@ pub earlier-present :
 earlier-present state entry start placed zero h = start
 earlier-present state entry start placed (suc k) h =
     let own = earlier_placed entry (state.record_of k) h in
-    (placed k).1 own
+    present-of_record state placed k own.0 own.1 own.2
 
 -- ---- the same earlier nodes
 

@@ -41,6 +41,7 @@ pub mod SegmentLaws
 pub mod SpanLaws
 pub mod CountsBelow
 pub mod QuotaLaws
+pub mod StripMarks
 pub mod DrawnMarks
 pub mod ParentChoices
 pub mod ParentChanges
@@ -56,6 +57,10 @@ pub mod CountLaws
 pub mod ClosedLaws
 pub mod NextRecords
 pub mod WorkerTurns
+pub mod TurnsFromZero
+pub mod PlacedNodes
+pub mod ClosedProps
+pub mod WayProps
 pub mod NextMarks
 pub mod OrderedTrees
 pub mod SameTrees

@@ -18,7 +18,7 @@ use Rattle.plan_model.specs.OrderLaw.{IsAllowedEdge, Hangs}
 use Rattle.plan_model.specs.Outcomes.{is_placed}
 use Rattle.plan_model.specs.ClosedLaw.{mark_at, IsClosed}
 use Rattle.plan_model.specs.HandledMarks.{with_record, with_node, is_among, with_moved, with_outcome, with_mark}
-use Rattle.plan_model.specs.HandledMarks.{IsCheaperBy, IsPlacedWhole, EndsBy, turns_of, IsHandledWhole}
+use Rattle.plan_model.specs.HandledMarks.{IsCheaperBy, IsPlacedWhole, EndsBy, IsHandledWhole}
 use Rattle.plan_model.specs.Textbook.{Setup, near_new, SteersTo}
 use Rattle.plan_model.proofs.CostLaws.{cost_of-swap}
 use Rattle.plan_model.proofs.SegmentLaws.{Clear-back}
@@ -31,9 +31,10 @@ use Rattle.plan_model.proofs.MovedNodes.{MovesBelow, MovesNodes, LowersCosts-mov
 use Rattle.plan_model.proofs.NearNodes.{squared_distance-swap, IsReachable, near_new-reachable, Contains-after}
 use Rattle.plan_model.proofs.ClosedLaws.{KeepsFirstCosts-closed}
 use Rattle.plan_model.proofs.NextRecords.{RecordsMark, still_recorded}
-use Rattle.plan_model.proofs.WorkerTurns.{turns_of-next, turns_of-other}
-use Rattle.plan_model.proofs.NextMarks.{EndsLawfully, record-absent, node-absent, IsClosed-next, EndsLawfully-unplaced}
+use Rattle.plan_model.proofs.WorkerTurns.{turns_of-next, turns_of-next_by_other}
+use Rattle.plan_model.proofs.NextMarks.{EndsLawfully, recorded_below, record-absent, node-absent, IsClosed-next, EndsLawfully-unplaced}
 use Rattle.plan_model.proofs.PlacedMarks.{ChoosesParent, LeavesPlaced, parent-reachable, parent-allowed, parent-hangs, EndsLawfully-placed}
+use Rattle.plan_model.specs.Turns.{turns_of}
 
 -- ---- numbers of a list
 
@@ -251,10 +252,14 @@ module _
 
     -- Its worker has one record more,
     pub turns_of-handled : turns_of (with_mark state k entry p moved).record_of (suc k) entry.worker ≡ suc (turns_of state.record_of k entry.worker)
-    turns_of-handled = turns_of-next state.record_of (with_mark state k entry p moved).record_of k entry EndsLawfully-handled.records
+    turns_of-handled =
+        turns_of-next state.record_of (with_mark state k entry p moved).record_of k entry EndsLawfully-handled.records
+        (recorded_below setup marks k state closed)
 
     -- and another worker as many as before.
     pub turns_of-handled_by_other :
         (worker : ℕ) → entry.worker ≢ worker
         → turns_of (with_mark state k entry p moved).record_of (suc k) worker ≡ turns_of state.record_of k worker
-    turns_of-handled_by_other = turns_of-other state.record_of (with_mark state k entry p moved).record_of k entry EndsLawfully-handled.records
+    turns_of-handled_by_other =
+        turns_of-next_by_other state.record_of (with_mark state k entry p moved).record_of k entry EndsLawfully-handled.records
+        (recorded_below setup marks k state closed)

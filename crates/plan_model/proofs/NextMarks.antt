@@ -17,16 +17,18 @@ use Rattle.plan_model.specs.OrderLaw.{KeepsOrder}
 use Rattle.plan_model.specs.Outcomes.{is_placed}
 use Rattle.plan_model.specs.RecordLaw.{is_earlier, IsEarlier, earlier_count, IsBlockedLawfully, HasLawfulOutcome, IsLawfulRecord}
 use Rattle.plan_model.specs.ClosedLaw.{mark_at, IsClosed}
-use Rattle.plan_model.specs.HandledMarks.{IsBlockedWhole, EndsBy, turns_of}
+use Rattle.plan_model.specs.HandledMarks.{IsBlockedWhole, EndsBy}
 use Rattle.plan_model.specs.Textbook.{Setup, SteersTo}
+use Rattle.plan_model.specs.Turns.{turns_of}
 use Rattle.plan_model.proofs.NodeCounts.{count-le_node_count}
 use Rattle.plan_model.proofs.TreeStateLaws.{IsPresent-grows, point_of-grows, StandsAt-before}
 use Rattle.plan_model.proofs.OrderLaws.{start-present}
 use Rattle.plan_model.proofs.LoweredCosts.{AddsRecord, LowersCosts, LowersCosts-adds_record, GrowsInto-lowered, KeepsOrder-lowered}
 use Rattle.plan_model.proofs.EarlierNodes.{earlier-present, HaveSameEarlier, is_earlier-same}
+use Rattle.plan_model.proofs.PlacedNodes.{record-of_present, present-of_record, ArePlacedMarks-from}
 use Rattle.plan_model.proofs.RecordLaws.{IsNotAbove-grows, IsLawfulRecord-grows}
 use Rattle.plan_model.proofs.NextRecords.{RecordsMark, new_or_recorded, AreRecordedBelow-next}
-use Rattle.plan_model.proofs.WorkerTurns.{turn-new, AreTurns-next}
+use Rattle.plan_model.proofs.WorkerTurns.{turn-below, AreTurns-next}
 
 -- What the end of mark k leaves: the tree has grown in the order law, and the new record is lawful. If it was placed its node is
 -- there, and no other node is new.
@@ -53,7 +55,7 @@ module _ (setup : Setup) (marks : List Point) (k : ℕ) (before : TreeState) (cl
 
   pub node-absent : ¬ IsPresent before.points (suc k)
   node-absent h =
-      let own = (closed.placed k).0 h in
+      let own = record-of_present before closed.placed k h in
       let none = sym record-absent ∙ own.1 in
       cc
 
@@ -61,6 +63,12 @@ module _ (setup : Setup) (marks : List Point) (k : ℕ) (before : TreeState) (cl
     -- ---- closing
 
     module _ (ends : EndsLawfully setup before after k (mark_at marks k) entry) (turn : entry.turn ≡ turns_of before.record_of k entry.worker) where
+      -- no other record of the worker has the turn
+      turn_is_new : (j : ℕ) (own : Record) → before.record_of j ≡ Some own → own.worker ≡ entry.worker → own.turn < entry.turn
+      turn_is_new j own h worker =
+          let below = turn-below before.record_of k closed.turns j own (recorded_below j own h) h in
+          omega (arith, below, turn, ap (turns_of before.record_of k) worker)
+
       -- the earlier nodes of the other records stay the same
       same_earlier : (j : ℕ) (own : Record) → before.record_of j ≡ Some own → HaveSameEarlier before after own
       same_earlier j own h = record {
@@ -73,7 +81,7 @@ module _ (setup : Setup) (marks : List Point) (k : ℕ) (before : TreeState) (cl
           later =
               elim (cases_eq entry.worker own.worker) [
                 | inl e ↦ (
-                    let less = turn-new before.record_of after.record_of k entry ends.records closed.turns recorded_below turn j own h (sym e) in
+                    let less = turn_is_new j own h (sym e) in
                     inr (omega (arith, less)))
                 | inr apart ↦ inl apart
               ]
@@ -105,7 +113,7 @@ module _ (setup : Setup) (marks : List Point) (k : ℕ) (before : TreeState) (cl
               ends.own.0 (subst (λ n. IsPresent after.points (suc n)) e h),
             )
             | inr apart ↦ (
-                let old = (closed.placed j).0 (ends.others j apart h) in
+                let old = record-of_present before closed.placed j (ends.others j apart h) in
                 (old.0, ends.records.others j apart ∙ old.1, old.2))
           ]
 
@@ -115,7 +123,7 @@ module _ (setup : Setup) (marks : List Point) (k : ℕ) (before : TreeState) (cl
             | inl new ↦ (
                 let present = ends.own.1 (sym (ap (λ r. r.outcome) new.1) ∙ placed) in
                 subst (λ n. IsPresent after.points (suc n)) (sym new.0) present)
-            | inr old ↦ IsPresent-grows before after ends.grows (suc j) ((closed.placed j).1 (own, old, placed))
+            | inr old ↦ IsPresent-grows before after ends.grows (suc j) (present-of_record before closed.placed j own old placed)
           ]
 
       -- A closed run whose next mark ends lawfully is closed at the next limit.
@@ -125,9 +133,9 @@ module _ (setup : Setup) (marks : List Point) (k : ℕ) (before : TreeState) (cl
         within = below;
         records = AreRecordedBelow-next before.record_of after.record_of k entry ends.records closed.records;
         workers = worker_next few;
-        turns = AreTurns-next before.record_of after.record_of k entry ends.records closed.turns recorded_below turn;
+        turns = AreTurns-next before.record_of after.record_of k entry ends.records recorded_below closed.turns turn;
         lawful = lawful_next;
-        placed = λ j. (placed_to j, placed_from j);
+        placed = ArePlacedMarks-from after (λ j. (placed_to j, placed_from j));
       }
 
     -- ---- the new record

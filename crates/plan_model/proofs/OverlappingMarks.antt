@@ -1,9 +1,10 @@
 -- The run of two workers whose first marks overlap is closed, and mark 0 was not handled whole in it.
 use Rattle.std.proofs.Common.{◌≡◌, ℕ, zero, suc, ◌+◌, ◌*◌, ◌<◌, ◌≤◌, Some, None, List, [], ◌∷◌, arith, refl, sym, ap, ◌∙◌, subst}
-use Rattle.std.specs.Prelude.{IsSome, ◌/◌, unwrap_or}
+use Rattle.std.specs.Prelude.{◌↔◌, IsSome, ◌/◌, unwrap_or}
 use Rattle.plan_model.specs.declared.geometry.Point.{Point}
+use Rattle.plan_model.specs.declared.records.Outcome.TheVariants.{Placed}
 use Rattle.plan_model.specs.declared.records.Record.{Record}
-use Rattle.plan_model.specs.ClosedLaw.{ArePlacedMarks, IsClosed, mark_at}
+use Rattle.plan_model.specs.ClosedLaw.{IsClosed, mark_at}
 use Rattle.plan_model.specs.Cost.{cost_of}
 use Rattle.plan_model.specs.Geometry.{squared_distance}
 use Rattle.plan_model.specs.HandledMarks.{IsHandledWhole}
@@ -27,6 +28,9 @@ use Rattle.plan_model.proofs.RecordLaws.{class_of-le}
 use Rattle.plan_model.proofs.RootLaws.{root_ceiling-from_squares}
 use Rattle.plan_model.proofs.SegmentLaws.{Clear-first}
 use Rattle.plan_model.proofs.TreeStateLaws.{IsPresent-grows, point_of-grows, StandsAt-before}
+use Rattle.plan_model.specs.Turns.{RunFromZero}
+use Rattle.plan_model.proofs.PlacedNodes.{ArePlacedMarks-from}
+use Rattle.plan_model.proofs.TurnsFromZero.{AreTurns-counted}
 
 abbrev second : Record
 second = placed_by 1 0 0 0 12594 1
@@ -133,7 +137,10 @@ no_gap k turn entry h e =
     let most = few_marks k entry h in
     (0, early_record, refl, omega (arith, own, most, e), omega (arith, own, most, e))
 
-placed : ArePlacedMarks overlapped
+run : RunFromZero overlapped.record_of
+run = record { once = λ j k one other p q worker turn. omega (arith, mark_is j one p, mark_is k other q, worker, turn); no_gap = no_gap }
+
+placed : (k : ℕ) → IsPresent overlapped.points (suc k) ↔ ((entry : Record) × (overlapped.record_of k ≡ Some entry) × (entry.outcome ≡ Placed))
 placed zero = ((λ h. (early_record, refl, refl)), λ h. refl)
 placed (suc zero) = ((λ h. (second, refl, refl)), λ h. refl)
 placed (suc (suc zero)) = ((λ h. (third, refl, refl)), λ h. refl)
@@ -287,12 +294,9 @@ IsClosed-overlapped = record {
   within = omega arith;
   records = record { recorded = recorded; none_else = none_else };
   workers = λ k entry h. omega (arith, mark_is k entry h, few_marks k entry h);
-  turns = record {
-    once = λ j k one other p q worker turn. omega (arith, mark_is j one p, mark_is k other q, worker, turn);
-    no_gap = no_gap;
-  };
+  turns = AreTurns-counted overlapped.record_of run 3 (λ k entry h. omega (arith, few_marks k entry h));
   lawful = lawful;
-  placed = placed;
+  placed = ArePlacedMarks-from overlapped placed;
 }
 
 -- ---- mark 0 was not handled whole

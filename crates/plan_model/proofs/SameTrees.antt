@@ -14,6 +14,7 @@ use Rattle.plan_model.proofs.NodeCounts.{node_count-same}
 use Rattle.plan_model.proofs.LoweredCosts.{HaveSameTree}
 use Rattle.plan_model.proofs.ClosedLaws.{IsClosed-same}
 use Rattle.plan_model.proofs.TextbookRuns.{IsClosed-textbook}
+use Rattle.plan_model.proofs.PlacedNodes.{record-of_present}
 
 -- If one run is the same as another, and that is the same as a last one, the first is the same as the last.
 pub AreSameRuns-trans : (one other last : TreeState) → AreSameRuns one other → AreSameRuns other last → AreSameRuns one last
@@ -79,7 +80,7 @@ HaveSameTree-runs setup marks limit one other closed same = record {
     first_costs : (n : ℕ) → IsPresent one.points n → first_cost_of other n ≡ first_cost_of one n
     first_costs zero h = refl
     first_costs (suc k) h =
-        let own = (closed.placed k).0 h in
+        let own = record-of_present one closed.placed k h in
         ap (recorded_or (other.written_cost (suc k))) (same.records k ∙ own.1) ∙ sym (ap (recorded_or (one.written_cost (suc k))) own.1)
 
 -- a run that is the same as a closed one is closed

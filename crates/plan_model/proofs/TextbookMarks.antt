@@ -21,7 +21,7 @@ use Rattle.plan_model.specs.TreeStates.{TreeState, GrowsInto, state_of}
 use Rattle.plan_model.specs.OrderLaw.{KeepsOrder}
 use Rattle.plan_model.specs.Outcomes.{is_placed}
 use Rattle.plan_model.specs.ClosedLaw.{mark_at, IsClosed}
-use Rattle.plan_model.specs.HandledMarks.{EndsBy, is_of_worker, turns_of}
+use Rattle.plan_model.specs.HandledMarks.{EndsBy}
 use Rattle.plan_model.specs.Textbook.{Nodes, Setup, near_new, SteersTo, EndsPlaced, Ends}
 use Rattle.plan_model.proofs.CostLaws.{cost_of-swap}
 use Rattle.plan_model.proofs.SegmentLaws.{Clear-back}
@@ -36,6 +36,7 @@ use Rattle.plan_model.proofs.NextMarks.{EndsLawfully, IsClosed-next, EndsLawfull
 use Rattle.plan_model.proofs.PlacedMarks.{ChoosesParent, LeavesPlaced, parent-reachable, parent-allowed, EndsLawfully-placed}
 use Rattle.plan_model.proofs.TextbookStates.{RecordsNext, RecordsMark-push, AddsRecord-unplaced, PlacesNode, sum-placed, AddsNode-placed}
 use Rattle.plan_model.proofs.TextbookRewiring.{MayRewire, IsReached, Relaxes, Relaxes-all, AreReached-all}
+use Rattle.plan_model.specs.Turns.{is_of_worker, turns_of}
 
 -- ---- runs so far
 

@@ -1,7 +1,7 @@
 -- The state of a tree and the records of its marks, as in a textbook run: its costs, the start alone, and one number more.
 use Rattle.std.proofs.Common.{◌≡◌, ℕ, zero, suc, ◌≤◌, eqb, cond, List, [], ◌∷◌, ◌++◌, length, Some, None, arith, refl, sym, ap, ◌∙◌, subst}
 use Rattle.std.specs.Prelude.{◌≢◌, slice_get}
-use Rattle.std.proofs.lemmas.Bool.{cond-true, cond-false, eq-eqb, ne_eqb}
+use Rattle.std.proofs.lemmas.Bool.{cond-true, cond-false, eq-eqb, ne_eqb, le-ltb}
 use Rattle.std.proofs.lemmas.Option.{slice_get_past}
 use Rattle.plan_model.specs.declared.geometry.Point.{Point}
 use Rattle.plan_model.specs.declared.records.Record.{Record}
@@ -35,6 +35,8 @@ use Rattle.plan_model.proofs.LoweredCosts.{AddsRecord}
 use Rattle.plan_model.proofs.OrderedTrees.{FallAlong-ordered}
 use Rattle.plan_model.proofs.AddedNodes.{AddsNode}
 use Rattle.plan_model.proofs.NextRecords.{RecordsMark, still_recorded}
+use Rattle.plan_model.specs.Turns.{once_if}
+use Rattle.plan_model.proofs.PlacedNodes.{ArePlacedMarks-from}
 
 -- ---- the start alone
 
@@ -67,9 +69,9 @@ IsClosed-start setup marks clear = record {
   within = omega arith;
   records = record { recorded = λ k below. absurd (omega arith); none_else = λ k above. refl };
   workers = λ k entry h. cc;
-  turns = record { once = λ j k one other f g worker turn. cc; no_gap = λ k turn entry h e. cc };
+  turns = record { each = λ worker turn. sym (ap once_if (le-ltb turn 0 (omega arith))) };
   lawful = λ k entry h. cc;
-  placed = λ k. ((λ h. absurd (no_other setup.start k h)), (λ h. let e = h.1 in cc));
+  placed = ArePlacedMarks-from (state_of (start_alone setup.start) []) (λ k. ((λ h. absurd (no_other setup.start k h)), (λ h. let e = h.1 in cc)));
 }
 
 -- ---- costs

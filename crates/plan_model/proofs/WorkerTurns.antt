@@ -1,21 +1,17 @@
 -- The turns of a worker are exactly the numbers below the number of its records, so that number is its next turn.
-use Rattle.std.proofs.Common.{◌≡◌, ℕ, zero, suc, ◌<◌, ◌≤◌, Bool, true, false, cond, eqb, ltb, Option, Some, None}
+use Rattle.std.proofs.Common.{◌≡◌, ℕ, suc, ◌<◌, ◌≤◌, Bool, true, false, cond, eqb, ltb, Option, Some, None}
 use Rattle.std.proofs.Common.{arith, refl, sym, ap, ◌∙◌, subst, inl, inr}
-use Rattle.std.specs.Prelude.{◌≢◌, ◌&&◌, count_by}
+use Rattle.std.specs.Prelude.{◌≢◌, count_by}
 use Rattle.std.specs.List.{range_with_len}
-use Rattle.std.proofs.lemmas.Bool.{cases_eq, cases_lt, and_parts, and_from, and_left, and_right, eq-eqb, eqb-true, ne_eqb, ltb-true, lt-ltb, le-ltb, true≢false}
+use Rattle.std.proofs.lemmas.Bool.{cases_eq, cases_lt, cases_Bool, and_parts, and_from, and_left, and_right, eq-eqb, eqb-true, ne_eqb, lt-ltb, le-ltb}
 use Rattle.std.proofs.lemmas.List.FromFn.{length-range_with_len}
 use Rattle.std.proofs.lemmas.List.Sums.{count_by-le-length}
 use Rattle.plan_model.specs.declared.records.Record.{Record}
-use Rattle.plan_model.specs.ClosedLaw.{AreTurns}
-use Rattle.plan_model.specs.HandledMarks.{is_of_worker, turns_of}
-use Rattle.plan_model.proofs.CountsBelow.{count-more, count-same, count-longer, count-wider, count-one_more, count-less}
-use Rattle.plan_model.proofs.NextRecords.{RecordsMark, new_or_recorded, still_recorded}
+use Rattle.plan_model.specs.Turns.{is_of_worker, turns_of, is_of_turn, times_of, once_if, AreTurns}
+use Rattle.plan_model.proofs.CountsBelow.{count-same, count-longer, count-one_more, count-some, count-found, count-unique}
+use Rattle.plan_model.proofs.NextRecords.{RecordsMark}
 
--- a record of this worker with a turn below a number
-abbrev is_turn_below : ℕ → ℕ → Option Record → Bool
-is_turn_below worker t None = false
-is_turn_below worker t (Some entry) = eqb entry.worker worker && ltb entry.turn t
+-- ---- single records
 
 -- there is a record of this worker with this turn
 pub record HasTurn (record_of : ℕ → Option Record) (worker t : ℕ) : Type 0 where
@@ -25,187 +21,220 @@ pub record HasTurn (record_of : ℕ → Option Record) (worker t : ℕ) : Type 0
   pub own : entry.worker ≡ worker
   pub turn : entry.turn ≡ t
 
+-- a record that is there, with its worker and its turn
+pub record IsOfTurn (o : Option Record) (worker t : ℕ) : Type 0 where
+  pub entry : Record
+  pub is : o ≡ Some entry
+  pub own : entry.worker ≡ worker
+  pub turn : entry.turn ≡ t
+
+pub is_of_turn-own : (worker t : ℕ) (entry : Record) → entry.worker ≡ worker → entry.turn ≡ t → is_of_turn worker t (Some entry) ≡ true
+is_of_turn-own worker t entry own turn = and_from (eqb entry.worker worker) (eqb entry.turn t) (eq-eqb entry.worker worker own) (eq-eqb entry.turn t turn)
+
+-- a record of another turn is not of this one
+is_of_turn-other : (worker t : ℕ) (entry : Record) → entry.turn ≢ t → is_of_turn worker t (Some entry) ≡ false
+is_of_turn-other worker t entry apart = and_right (eqb entry.worker worker) (eqb entry.turn t) (ne_eqb entry.turn t apart)
+
+-- nor is one of another worker
+is_of_turn-foreign : (worker t : ℕ) (entry : Record) → entry.worker ≢ worker → is_of_turn worker t (Some entry) ≡ false
+is_of_turn-foreign worker t entry apart = and_left (eqb entry.worker worker) (eqb entry.turn t) (ne_eqb entry.worker worker apart)
+
+pub turn_of_record : (worker t : ℕ) (o : Option Record) → is_of_turn worker t o ≡ true → IsOfTurn o worker t
+turn_of_record worker t None h = cc
+turn_of_record worker t (Some entry) h =
+    let parts = and_parts (eqb entry.worker worker) (eqb entry.turn t) h in
+    record { entry = entry; is = refl; own = eqb-true entry.worker worker parts.0; turn = eqb-true entry.turn t parts.1 }
+
 -- a bound of one more makes no difference to another number
-ltb-next : (a n : ℕ) → a ≢ n → ltb a (suc n) ≡ ltb a n
+pub ltb-next : (a n : ℕ) → a ≢ n → ltb a (suc n) ≡ ltb a n
 ltb-next a n apart =
     elim (cases_lt a n) [
       | inl less ↦ lt-ltb a (suc n) (omega (arith, less)) ∙ sym (lt-ltb a n less)
       | inr more ↦ le-ltb a (suc n) (omega (arith, more, apart)) ∙ sym (le-ltb a n more)
     ]
 
-none_below_zero : (worker : ℕ) (o : Option Record) → ¬ (is_turn_below worker 0 o ≡ true)
-none_below_zero worker None h = cc
-none_below_zero worker (Some entry) h =
-    let parts = and_parts (eqb entry.worker worker) (ltb entry.turn 0) h in
-    omega (arith, ltb-true entry.turn 0 parts.1)
+pub once_if-below : (t n : ℕ) → t < n → once_if (ltb t n) ≡ 1
+once_if-below t n below = ap once_if (lt-ltb t n below)
 
-turn_of_worker : (worker t : ℕ) (o : Option Record) → is_turn_below worker t o ≡ true → is_of_worker worker o ≡ true
-turn_of_worker worker t None h = cc
-turn_of_worker worker t (Some entry) h = (and_parts (eqb entry.worker worker) (ltb entry.turn t) h).0
+pub once_if-past : (t n : ℕ) → n ≤ t → once_if (ltb t n) ≡ 0
+once_if-past t n past = ap once_if (le-ltb t n past)
 
-module _ (record_of : ℕ → Option Record) (turns : AreTurns record_of) where
-  -- all turns before a worker's turn are there
-  pub HasTurn-before : (t k : ℕ) (entry : Record) → record_of k ≡ Some entry → entry.turn ≡ t → (s : ℕ) → s ≤ t → HasTurn record_of entry.worker s
-  HasTurn-before zero k entry is turn s below =
-      record { mark = k; entry = entry; recorded = is; own = refl; turn = omega (arith, turn, below) }
-  HasTurn-before (suc t) k entry is turn s below =
-      elim (cases_eq s (suc t)) [
-        | inl e ↦ record { mark = k; entry = entry; recorded = is; own = refl; turn = turn ∙ sym e }
-        | inr apart ↦ (
-            let earlier = turns.no_gap k t entry is turn in
-            let found = HasTurn-before t earlier.0 earlier.1 earlier.2 earlier.4 s (omega (arith, below, apart)) in
-            record { mark = found.mark; entry = found.entry; recorded = found.recorded; own = found.own ∙ earlier.3; turn = found.turn })
+-- ---- turns that are each counted once
+
+module _ (record_of : ℕ → Option Record) (limit : ℕ) (turns : AreTurns limit record_of) where
+  -- a turn is counted at most once
+  times_at_most : (worker t : ℕ) → times_of record_of limit worker t ≤ 1
+  times_at_most worker t =
+      elim (cases_lt t (turns_of record_of limit worker)) [
+        | inl below ↦ omega (arith, turns.each worker t, once_if-below t (turns_of record_of limit worker) below)
+        | inr past ↦ omega (arith, turns.each worker t, once_if-past t (turns_of record_of limit worker) past)
       ]
 
-  module _ (limit : ℕ) (within : (k : ℕ) (entry : Record) → record_of k ≡ Some entry → k < limit) (worker : ℕ) where
-    abbrev test : ℕ → ℕ → Bool
-    test t j = is_turn_below worker t (record_of j)
+  -- so two marks with one worker and turn are one
+  pub times-once :
+      (worker t j k : ℕ) (one other : Record) → j < limit → k < limit → record_of j ≡ Some one → record_of k ≡ Some other
+      → one.worker ≡ worker → one.turn ≡ t → other.worker ≡ worker → other.turn ≡ t → j ≡ k
+  times-once worker t j k one other low also f g own turn too again =
+      count-unique (λ i. is_of_turn worker t (record_of i)) limit j k low also
+      (ap (is_of_turn worker t) f ∙ is_of_turn-own worker t one own turn)
+      (ap (is_of_turn worker t) g ∙ is_of_turn-own worker t other too again) (times_at_most worker t)
 
-    -- a bound of one more passes the record with that turn, and no other
-    same_test : (t i : ℕ) (o : Option Record) (found : HasTurn record_of worker t) → record_of i ≡ o → i ≢ found.mark
-        → is_turn_below worker (suc t) o ≡ is_turn_below worker t o
-    same_test t i None found e apart = refl
-    same_test t i (Some entry) found e apart =
-        elim (cases_eq entry.worker worker) [
-          | inl own ↦ (
-              let other : entry.turn ≢ t =
-              λ same. apart (turns.once i found.mark entry found.entry e found.recorded (own ∙ sym found.own) (same ∙ sym found.turn)) in
-              ap (λ b. eqb entry.worker worker && b) (ltb-next entry.turn t other))
-          | inr other ↦ (
-              let no = ne_eqb entry.worker worker other in
-              and_left (eqb entry.worker worker) (ltb entry.turn (suc t)) no ∙ sym (and_left (eqb entry.worker worker) (ltb entry.turn t) no))
-        ]
+  -- A worker's turn is below the number of its records.
+  pub turn-below : (k : ℕ) (entry : Record) → k < limit → record_of k ≡ Some entry → entry.turn < turns_of record_of limit entry.worker
+  turn-below k entry low is =
+      let own : ℕ = entry.worker in
+      let some =
+      count-some (λ j. is_of_turn entry.worker entry.turn (record_of j)) limit k low
+      (ap (is_of_turn entry.worker entry.turn) is ∙ is_of_turn-own entry.worker entry.turn entry refl refl) in
+      elim (cases_lt entry.turn (turns_of record_of limit entry.worker)) [
+        | inl below ↦ below
+        | inr past ↦
+            absurd (omega (arith, some, turns.each entry.worker entry.turn, once_if-past entry.turn (turns_of record_of limit entry.worker) past))
+      ]
 
-    -- if all turns below a number are there, they are as many
-    counted : (t : ℕ) → ((s : ℕ) → s < t → HasTurn record_of worker s) → count_by (test t) (range_with_len 0 limit) ≡ t
-    counted zero all = count-longer (test 0) 0 limit (omega arith) (λ i h. absurd (none_below_zero worker (record_of i) h))
-    counted (suc t) all =
-        let before = counted t (λ s low. all s (omega (arith, low))) in
-        let found = all t (omega arith) in
-        let fails =
-        ap (is_turn_below worker t) found.recorded
-        ∙ and_right (eqb found.entry.worker worker) (ltb found.entry.turn t) (le-ltb found.entry.turn t (omega (arith, found.turn))) in
-        let passes =
-        ap (is_turn_below worker (suc t)) found.recorded
-        ∙ and_from (eqb found.entry.worker worker) (ltb found.entry.turn (suc t)) (eq-eqb found.entry.worker worker found.own)
-        (lt-ltb found.entry.turn (suc t) (omega (arith, found.turn))) in
-        let more =
-        count-one_more (test t) (test (suc t)) limit found.mark (within found.mark found.entry found.recorded) fails passes
-        (λ i apart. same_test t i (record_of i) found refl apart) in
-        omega (arith, more, before)
+  -- so it is below the limit
+  pub turn-below_limit : (k : ℕ) (entry : Record) → k < limit → record_of k ≡ Some entry → entry.turn < limit
+  turn-below_limit k entry low is =
+      omega (
+        arith,
+        turn-below k entry low is,
+        count_by-le-length (λ j. is_of_worker entry.worker (record_of j)) (range_with_len 0 limit),
+        length-range_with_len 0 limit,
+      )
 
-    -- A worker's turn is below the number of its records.
-    pub turn-below : (k : ℕ) (entry : Record) → record_of k ≡ Some entry → entry.worker ≡ worker → entry.turn < turns_of record_of limit worker
-    turn-below k entry is own =
-        let all : (s : ℕ) → s < suc entry.turn → HasTurn record_of worker s =
-        λ s low. subst (λ w. HasTurn record_of w s) own (HasTurn-before entry.turn k entry is refl s (omega (arith, low))) in
-        let some =
-        count-wider (test (suc entry.turn)) (λ j. is_of_worker worker (record_of j)) limit
-        (λ i h. turn_of_worker worker (suc entry.turn) (record_of i) h) in
-        omega (arith, counted (suc entry.turn) all, some)
+  -- Each number below that of its records is a turn of the worker.
+  pub HasTurn-below : (worker t : ℕ) → t < turns_of record_of limit worker → HasTurn record_of worker t
+  HasTurn-below worker t below =
+      let found =
+      count-found (λ j. is_of_turn worker t (record_of j)) limit
+      (omega (arith, turns.each worker t, once_if-below t (turns_of record_of limit worker) below)) in
+      let own = turn_of_record worker t (record_of found.number) found.passes in
+      record { mark = found.number; entry = own.entry; recorded = own.is; own = own.own; turn = own.turn }
 
-    -- so it is below the limit
-    pub turn-below_limit : (k : ℕ) (entry : Record) → record_of k ≡ Some entry → entry.worker ≡ worker → entry.turn < limit
-    turn-below_limit k entry is own =
-        omega (
-          arith,
-          turn-below k entry is own,
-          count_by-le-length (λ j. is_of_worker worker (record_of j)) (range_with_len 0 limit),
-          length-range_with_len 0 limit,
-        )
+-- the same records have the same turns
+pub AreTurns-same :
+    (before after : ℕ → Option Record) (limit : ℕ) → ((k : ℕ) → k < limit → after k ≡ before k) → AreTurns limit before → AreTurns limit after
+AreTurns-same before after limit same turns = record { each = each }
+  where
+    each : (worker t : ℕ) → times_of after limit worker t ≡ once_if (ltb t (turns_of after limit worker))
+    each worker t =
+        let times =
+        count-same (λ j. is_of_turn worker t (after j)) (λ j. is_of_turn worker t (before j)) limit (λ j low. ap (is_of_turn worker t) (same j low)) in
+        let own =
+        count-same (λ j. is_of_worker worker (after j)) (λ j. is_of_worker worker (before j)) limit (λ j low. ap (is_of_worker worker) (same j low)) in
+        times ∙ turns.each worker t ∙ sym (ap (λ n. once_if (ltb t n)) own)
 
-    -- a record of the worker that has no turn below a number shows that this turn is there
-    by_later : (t j : ℕ) (o : Option Record) → record_of j ≡ o → is_turn_below worker t o ≡ false → is_of_worker worker o ≡ true
-        → HasTurn record_of worker t
-    by_later t j None e fails passes = cc
-    by_later t j (Some entry) e fails passes =
-        elim (cases_lt entry.turn t) [
-          | inl less ↦
-              absurd
-              (true≢false (sym (and_from (eqb entry.worker worker) (ltb entry.turn t) passes (lt-ltb entry.turn t less)) ∙ fails))
-          | inr past ↦
-              subst (λ w. HasTurn record_of w t) (eqb-true entry.worker worker passes) (HasTurn-before entry.turn j entry e refl t past)
-        ]
+-- ---- a higher limit
 
-    -- each number up to that of its records is a turn of the worker
-    turns_up_to : (t : ℕ) → t ≤ turns_of record_of limit worker → (s : ℕ) → s < t → HasTurn record_of worker s
-    turns_up_to zero most s low = absurd (omega (arith, low))
-    turns_up_to (suc t) most s low =
-        let before = turns_up_to t (omega (arith, most)) in
-        elim (cases_lt s t) [
-          | inl less ↦ before s less
-          | inr last ↦ (
-              let found = count-less (test t) (λ j. is_of_worker worker (record_of j)) limit (omega (arith, counted t before, most)) in
-              let e : t ≡ s = omega (arith, low, last) in
-              subst (HasTurn record_of worker) e (by_later t found.number (record_of found.number) refl found.fails found.passes))
-        ]
+module _
+    (record_of : ℕ → Option Record) (limit higher : ℕ) (order : limit ≤ higher)
+    (within : (k : ℕ) (entry : Record) → record_of k ≡ Some entry → k < limit) where
+  worker_within : (worker j : ℕ) (o : Option Record) → record_of j ≡ o → is_of_worker worker o ≡ true → j < limit
+  worker_within worker j None e h = cc
+  worker_within worker j (Some entry) e h = within j entry e
 
-    -- Each number below that of its records is a turn of the worker.
-    pub HasTurn-below : (t : ℕ) → t < turns_of record_of limit worker → HasTurn record_of worker t
-    HasTurn-below t below = turns_up_to (suc t) below t (omega arith)
+  turn_within : (worker t j : ℕ) → is_of_turn worker t (record_of j) ≡ true → j < limit
+  turn_within worker t j h = let own = turn_of_record worker t (record_of j) h in within j own.entry own.is
 
--- ---- the next turn
+  -- marks without a record add no turns
+  pub turns_of-longer : (worker : ℕ) → turns_of record_of higher worker ≡ turns_of record_of limit worker
+  turns_of-longer worker = count-longer (λ j. is_of_worker worker (record_of j)) limit higher order (λ j h. worker_within worker j (record_of j) refl h)
 
-module _ (before after : ℕ → Option Record) (k : ℕ) (entry : Record) (change : RecordsMark before after k entry) where
+  -- and leave them as they are
+  pub AreTurns-longer : AreTurns limit record_of → AreTurns higher record_of
+  AreTurns-longer turns = record {
+    each = λ worker t.
+        count-longer (λ j. is_of_turn worker t (record_of j)) limit higher order (turn_within worker t)
+        ∙ turns.each worker t ∙ sym (ap (λ n. once_if (ltb t n)) (turns_of-longer worker));
+  }
+
+-- ---- any mark is recorded
+
+module _ (before after : ℕ → Option Record) (k : ℕ) (entry : Record) (change : RecordsMark before after k entry) (limit : ℕ) (below : k < limit) where
   -- The worker of a new record has one record more.
-  pub turns_of-next : turns_of after (suc k) entry.worker ≡ suc (turns_of before k entry.worker)
-  turns_of-next =
-      let own : ℕ → Bool = λ j. is_of_worker entry.worker (before j) in
-      let later : ℕ → Bool = λ j. is_of_worker entry.worker (after j) in
-      let same = count-same later own k (λ i low. ap (is_of_worker entry.worker) (change.others i (λ e. omega (arith, low, e)))) in
-      let passes : later k ≡ true = ap (is_of_worker entry.worker) change.recorded ∙ eq-eqb entry.worker entry.worker refl in
-      let one : ◌≡◌ {A = ℕ} (cond (later k) 1 0) 1 = ap (λ b. cond {A = ℕ} b 1 0) passes in
-      omega (arith, count-more later k, same, one)
+  pub turns_of-recorded : turns_of after limit entry.worker ≡ suc (turns_of before limit entry.worker)
+  turns_of-recorded =
+      count-one_more (λ j. is_of_worker entry.worker (before j)) (λ j. is_of_worker entry.worker (after j)) limit k below
+      (ap (is_of_worker entry.worker) change.absent)
+      (ap (is_of_worker entry.worker) change.recorded ∙ eq-eqb entry.worker entry.worker refl)
+      (λ j apart. ap (is_of_worker entry.worker) (change.others j apart))
 
-  -- and another worker as many as before
-  pub turns_of-other : (worker : ℕ) → entry.worker ≢ worker → turns_of after (suc k) worker ≡ turns_of before k worker
-  turns_of-other worker apart =
-      let own : ℕ → Bool = λ j. is_of_worker worker (before j) in
-      let later : ℕ → Bool = λ j. is_of_worker worker (after j) in
-      let same = count-same later own k (λ i low. ap (is_of_worker worker) (change.others i (λ e. omega (arith, low, e)))) in
-      let fails : later k ≡ false = ap (is_of_worker worker) change.recorded ∙ ne_eqb entry.worker worker apart in
-      let none : ◌≡◌ {A = ℕ} (cond (later k) 1 0) 0 = ap (λ b. cond {A = ℕ} b 1 0) fails in
-      omega (arith, count-more later k, same, none)
+  -- a test that fails where there is no record, and at the new one, counts as many as before
+  pub count_still :
+      (test : Option Record → Bool) → test None ≡ false → test (Some entry) ≡ false
+      → count_by (λ j. test (after j)) (range_with_len 0 limit) ≡ count_by (λ j. test (before j)) (range_with_len 0 limit)
+  count_still test none fails =
+      count-same (λ j. test (after j)) (λ j. test (before j)) limit
+      (λ j low. elim (cases_eq j k) [
+        | inl e ↦ ap test (ap after e ∙ change.recorded) ∙ fails ∙ sym (ap test (ap before e ∙ change.absent) ∙ none)
+        | inr apart ↦ ap test (change.others j apart)
+      ])
 
-  module _
-      (turns : AreTurns before) (within : (j : ℕ) (own : Record) → before j ≡ Some own → j < k)
-      (turn : entry.turn ≡ turns_of before k entry.worker) where
+  -- and another worker has as many as before
+  pub turns_of-recorded_by_other : (worker : ℕ) → entry.worker ≢ worker → turns_of after limit worker ≡ turns_of before limit worker
+  turns_of-recorded_by_other worker apart = count_still (is_of_worker worker) refl (ne_eqb entry.worker worker apart)
+
+  module _ (turns : AreTurns limit before) (turn : entry.turn ≡ turns_of before limit entry.worker) where
     -- no other record of the worker has the turn
-    pub turn-new : (j : ℕ) (own : Record) → before j ≡ Some own → own.worker ≡ entry.worker → own.turn < entry.turn
-    turn-new j own h worker = omega (arith, turn, turn-below before turns k within entry.worker j own h worker)
+    pub turn-new : (j : ℕ) (own : Record) → j < limit → before j ≡ Some own → own.worker ≡ entry.worker → own.turn < entry.turn
+    turn-new j own low h worker =
+        omega (arith, turn, turn-below before limit turns j own low h, ap (turns_of before limit) worker)
 
-    -- A record whose turn is the number of the worker's records is its next.
-    pub AreTurns-next : AreTurns after
-    AreTurns-next = record { once = once; no_gap = no_gap }
-      where
-        once : (i j : ℕ) (one other : Record) → after i ≡ Some one → after j ≡ Some other → one.worker ≡ other.worker → one.turn ≡ other.turn
-            → i ≡ j
-        once i j one other f g worker same =
-            elim (new_or_recorded before after k entry change i one f) [
-              | inl new ↦ elim (new_or_recorded before after k entry change j other g) [
-                | inl also ↦ new.0 ∙ sym also.0
-                | inr old ↦ (
-                    let less = turn-new j other old (sym worker ∙ ap (λ r. r.worker) new.1) in
-                    absurd (omega (arith, less, same, ap (λ r. r.turn) new.1)))
-              ]
-              | inr old ↦ elim (new_or_recorded before after k entry change j other g) [
-                | inl new ↦ (
-                    let less = turn-new i one old (worker ∙ ap (λ r. r.worker) new.1) in
-                    absurd (omega (arith, less, same, ap (λ r. r.turn) new.1)))
-                | inr also ↦ turns.once i j one other old also worker same
-              ]
-            ]
+    -- its turn is counted once more, which is once
+    times_new : times_of after limit entry.worker entry.turn ≡ 1
+    times_new =
+        let more =
+        count-one_more (λ j. is_of_turn entry.worker entry.turn (before j)) (λ j. is_of_turn entry.worker entry.turn (after j)) limit k below
+        (ap (is_of_turn entry.worker entry.turn) change.absent)
+        (ap (is_of_turn entry.worker entry.turn) change.recorded ∙ is_of_turn-own entry.worker entry.turn entry refl refl)
+        (λ j apart. ap (is_of_turn entry.worker entry.turn) (change.others j apart)) in
+        let past = once_if-past entry.turn (turns_of before limit entry.worker) (omega (arith, turn)) in
+        omega (arith, more, turns.each entry.worker entry.turn, past)
 
-        no_gap : (j t : ℕ) (own : Record) → after j ≡ Some own → own.turn ≡ suc t
-            → (i : ℕ) × (earlier : Record) × (after i ≡ Some earlier) × (earlier.worker ≡ own.worker) × (earlier.turn ≡ t)
-        no_gap j t own h e =
-            elim (new_or_recorded before after k entry change j own h) [
-              | inl new ↦ (
-                  let below : t < turns_of before k entry.worker = omega (arith, ap (λ r. r.turn) new.1, e, turn) in
-                  let found = HasTurn-below before turns k within entry.worker t below in
-                  let stands = still_recorded before after k entry change found.mark found.entry found.recorded in
-                  (found.mark, found.entry, stands, found.own ∙ sym (ap (λ r. r.worker) new.1), found.turn))
-              | inr old ↦ (
-                  let found = turns.no_gap j t own old e in
-                  (found.0, found.1, still_recorded before after k entry change found.0 found.1 found.2, found.3, found.4))
-            ]
+    -- each turn of its worker is counted once
+    own_turns : (t : ℕ) → times_of after limit entry.worker t ≡ once_if (ltb t (turns_of after limit entry.worker))
+    own_turns t =
+        elim (cases_eq t entry.turn) [
+          | inl e ↦ (
+              let here : times_of after limit entry.worker t ≡ 1 = ap (times_of after limit entry.worker) e ∙ times_new in
+              here ∙ sym (once_if-below t (turns_of after limit entry.worker) (omega (arith, e, turn, turns_of-recorded))))
+          | inr apart ↦ (
+              let still = count_still (is_of_turn entry.worker t) refl (is_of_turn-other entry.worker t entry (λ e. apart (sym e))) in
+              let bound =
+              ap (λ n. once_if (ltb t n)) turns_of-recorded
+              ∙ ap once_if (ltb-next t (turns_of before limit entry.worker) (λ e. apart (e ∙ sym turn))) in
+              still ∙ turns.each entry.worker t ∙ sym bound)
+        ]
+
+    -- A record whose turn is the number of its worker's records keeps that each turn is counted once, whichever mark it is of.
+    pub AreTurns-recorded : AreTurns limit after
+    AreTurns-recorded = record {
+      each = λ worker t.
+          elim (cases_eq entry.worker worker) [
+            | inl e ↦ subst (λ w. times_of after limit w t ≡ once_if (ltb t (turns_of after limit w))) e (own_turns t)
+            | inr apart ↦ (
+                count_still (is_of_turn worker t) refl (is_of_turn-foreign worker t entry apart)
+                ∙ turns.each worker t ∙ sym (ap (λ n. once_if (ltb t n)) (turns_of-recorded_by_other worker apart)))
+          ];
+    }
+
+-- ---- the next mark is recorded
+
+module _
+    (before after : ℕ → Option Record) (k : ℕ) (entry : Record) (change : RecordsMark before after k entry)
+    (within : (j : ℕ) (own : Record) → before j ≡ Some own → j < k) where
+  -- the same at the next limit
+  turns_of-no_more : (worker : ℕ) → turns_of before (suc k) worker ≡ turns_of before k worker
+  turns_of-no_more = turns_of-longer before k (suc k) (omega arith) within
+
+  pub turns_of-next : turns_of after (suc k) entry.worker ≡ suc (turns_of before k entry.worker)
+  turns_of-next = turns_of-recorded before after k entry change (suc k) (omega arith) ∙ ap suc (turns_of-no_more entry.worker)
+
+  pub turns_of-next_by_other : (worker : ℕ) → entry.worker ≢ worker → turns_of after (suc k) worker ≡ turns_of before k worker
+  turns_of-next_by_other worker apart =
+      turns_of-recorded_by_other before after k entry change (suc k) (omega arith) worker apart ∙ turns_of-no_more worker
+
+  pub AreTurns-next : AreTurns k before → entry.turn ≡ turns_of before k entry.worker → AreTurns (suc k) after
+  AreTurns-next turns turn =
+      AreTurns-recorded before after k entry change (suc k) (omega arith) (AreTurns-longer before k (suc k) (omega arith) within turns)
+      (turn ∙ sym (turns_of-no_more entry.worker))

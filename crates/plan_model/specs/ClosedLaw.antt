@@ -1,16 +1,17 @@
 -- The closed law: what a run has when no mark is being handled. Each mark below its limit has one record, and each record is lawful.
-use Rattle.std.specs.Prelude.{◌≡◌, ◌↔◌, ℕ, suc, ◌<◌, ◌≤◌, Bool, false, IsSome, Option, Some, None, List, length, count_by, slice_index_or}
+use Rattle.std.specs.Prelude.{◌≡◌, ℕ, suc, ◌<◌, ◌≤◌, Bool, false, IsSome, is_some, Option, Some, None, List, length, count_by, slice_index_or}
 use Rattle.std.specs.List.{range_with_len}
 use Rattle.plan_model.specs.declared.geometry.Point.{Point}
 use Rattle.plan_model.specs.declared.limits.TheConstants.{MOST_WORKERS}
 use Rattle.plan_model.specs.declared.records.Outcome.{Outcome}
-use Rattle.plan_model.specs.declared.records.Outcome.TheVariants.{Placed}
 use Rattle.plan_model.specs.declared.records.Record.{Record}
-use Rattle.plan_model.specs.PointsByNumber.{IsPresent}
+use Rattle.plan_model.specs.Outcomes.{is_placed}
+use Rattle.plan_model.specs.PointsByNumber.{point_at}
 use Rattle.plan_model.specs.TreeStates.{TreeState}
 use Rattle.plan_model.specs.OrderLaw.{KeepsOrder}
 use Rattle.plan_model.specs.RecordLaw.{IsLawfulRecord}
 use Rattle.plan_model.specs.Textbook.{Setup}
+use Rattle.plan_model.specs.Turns.{AreTurns}
 
 -- the point of mark k (asked only of marks below the limit)
 abbrev pub mark_at : List Point → ℕ → Point
@@ -21,17 +22,14 @@ pub record AreRecordedBelow (limit : ℕ) (record_of : ℕ → Option Record) : 
   pub recorded : (k : ℕ) → k < limit → IsSome (record_of k)
   pub none_else : (k : ℕ) → limit ≤ k → record_of k ≡ None
 
--- The turns of each worker run from 0, with no gap and none twice.
-pub record AreTurns (record_of : ℕ → Option Record) : Type 0 where
-  pub once : (j k : ℕ) (one other : Record) → record_of j ≡ Some one → record_of k ≡ Some other
-      → one.worker ≡ other.worker → one.turn ≡ other.turn → j ≡ k
-  pub no_gap : (k turn : ℕ) (entry : Record) → record_of k ≡ Some entry → entry.turn ≡ suc turn
-      → (j : ℕ) × (before : Record) × (record_of j ≡ Some before) × (before.worker ≡ entry.worker) × (before.turn ≡ turn)
+-- whether a mark has a record with an outcome that passes the test
+abbrev pub has_outcome : (Outcome → Bool) → Option Record → Bool
+has_outcome test None = false
+has_outcome test (Some entry) = test entry.outcome
 
 -- node k + 1 is present exactly if mark k was placed
 abbrev pub ArePlacedMarks : TreeState → Type 0
-ArePlacedMarks state =
-    (k : ℕ) → IsPresent state.points (suc k) ↔ ((entry : Record) × (state.record_of k ≡ Some entry) × (entry.outcome ≡ Placed))
+ArePlacedMarks state = (k : ℕ) → is_some (point_at state.points (suc k)) ≡ has_outcome is_placed (state.record_of k)
 
 -- A run over these marks that was closed at this limit.
 pub record IsClosed (setup : Setup) (marks : List Point) (limit : ℕ) (state : TreeState) : Type 0 where
@@ -39,16 +37,11 @@ pub record IsClosed (setup : Setup) (marks : List Point) (limit : ℕ) (state : 
   pub within : limit ≤ length marks
   pub records : AreRecordedBelow limit state.record_of
   pub workers : (k : ℕ) (entry : Record) → state.record_of k ≡ Some entry → entry.worker < MOST_WORKERS
-  pub turns : AreTurns state.record_of
+  pub turns : AreTurns limit state.record_of
   pub lawful : (k : ℕ) (entry : Record) → state.record_of k ≡ Some entry → IsLawfulRecord setup state k (mark_at marks k) entry
   pub placed : ArePlacedMarks state
 
 -- ---- counts
-
--- whether a mark has a record with an outcome that passes the test
-abbrev pub has_outcome : (Outcome → Bool) → Option Record → Bool
-has_outcome test None = false
-has_outcome test (Some entry) = test entry.outcome
 
 -- how many marks below the limit have an outcome that passes the test
 abbrev pub outcome_count : (ℕ → Option Record) → ℕ → (Outcome → Bool) → ℕ

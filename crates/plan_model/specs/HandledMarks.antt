@@ -12,6 +12,7 @@ use Rattle.plan_model.specs.PointsByNumber.{StandsAt, IsFree, point_of, node_cou
 use Rattle.plan_model.specs.Radius.{class_of}
 use Rattle.plan_model.specs.TreeStates.{TreeState}
 use Rattle.plan_model.specs.Textbook.{Setup, SteersTo, IsCandidate, near_new}
+use Rattle.plan_model.specs.Turns.{turns_of}
 
 -- ---- the tree with the mark
 
@@ -95,15 +96,6 @@ abbrev pub EndsBy : Setup → TreeState → Record → Point → List ℕ → Ou
 EndsBy setup state entry p moved Placed = IsPlacedWhole setup state entry p moved
 EndsBy setup state entry p moved (Same j) = StandsAt state.points j p
 EndsBy setup state entry p moved Blocked = IsBlockedWhole setup state entry p
-
--- the record is there, and is this worker's
-abbrev pub is_of_worker : ℕ → Option Record → Bool
-is_of_worker worker None = false
-is_of_worker worker (Some entry) = entry.worker == worker
-
--- how many marks below the limit this worker has handled
-abbrev pub turns_of : (ℕ → Option Record) → ℕ → ℕ → ℕ
-turns_of record_of limit worker = count_by (λ k. is_of_worker worker (record_of k)) (range_with_len 0 limit)
 
 -- The next mark k is handled whole: the nearest of all nodes steers to p, the outcome is what it says, and the turn is the worker's next.
 pub record IsHandledWhole (setup : Setup) (state : TreeState) (k : ℕ) (mark : Point) (entry : Record) (p : Point) (moved : List ℕ) : Type 0 where

@@ -26,6 +26,7 @@ pub mod Textbook
 pub mod TreeStates
 pub mod OrderLaw
 pub mod RecordLaw
+pub mod Turns
 pub mod ClosedLaw
 pub mod Ways
 pub mod SeenTrees

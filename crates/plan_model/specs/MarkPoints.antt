@@ -1,5 +1,5 @@
 -- The mark points (the samples) of a scene.
-use Rattle.std.specs.Prelude.{ℕ, ◌+◌, ◌-◌, ◌*◌, ◌/◌, ◌%◌, ◌^◌, ◌==◌, ◌<◌, ◌≤◌, nat_lt, ℤ, pos, negsuc, max, bit_xor, List, map, fold, count_by, if◌then◌else◌}
+use Rattle.std.specs.Prelude.{◌≡◌, ℕ, ◌+◌, ◌-◌, ◌*◌, ◌/◌, ◌%◌, ◌^◌, ◌==◌, ◌<◌, ◌≤◌, nat_lt, ℤ, pos, negsuc, max, bit_xor, Bool, List, map, fold, count_by, if◌then◌else◌}
 use Rattle.std.specs.List.{range_with_len}
 use Rattle.plan_model.specs.declared.geometry.Point.{Point}
 use Rattle.plan_model.specs.declared.geometry.Vertex.{Vertex}
@@ -101,3 +101,13 @@ mark_points scene = points_of_marks scene scene.plan
 -- how many marks below the limit belong to strip g
 abbrev pub quota_of : ℕ → ℕ → ℕ → ℕ
 quota_of strips g limit = count_by (λ k. strip_of_mark strips k == g) (range_with_len 0 limit)
+
+-- Mark k is number c * strips + g, which is the c-th of strip g, and c is below the quota of the strip.
+pub record IsMarkOf (strips limit k g c : ℕ) : Type 0 where
+  pub strip : g < strips
+  pub below : c < quota_of strips g limit
+  pub number : k ≡ c * strips + g
+
+-- mark k is claimed where each strip has a counter of those of its marks that are
+abbrev pub is_claimed : ℕ → (ℕ → ℕ) → ℕ → Bool
+is_claimed strips counters k = nat_lt (k / strips) (counters (strip_of_mark strips k))

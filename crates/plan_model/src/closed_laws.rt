@@ -1,6 +1,6 @@
 //! Laws of closed runs, each the contract of a function that does nothing.
 
-ghost use Rattle.std.specs.Prelude.{◌≡◌, ℕ, suc, ◌+◌, ◌<◌, List, length};
+ghost use Rattle.std.specs.Prelude.{◌≡◌, ℕ, suc, ◌+◌, ◌<◌, List, Option, Some, length};
 ghost use Rattle.plan_model.specs.Clearance.{ClearAt};
 ghost use Rattle.plan_model.specs.ClosedLaw.{IsClosed, mark_at, outcome_count};
 ghost use Rattle.plan_model.specs.HandledMarks.{IsHandledWhole, with_mark};
@@ -10,6 +10,7 @@ ghost use Rattle.plan_model.specs.PointsByNumber.{AreNumberedTo, IsPresent, node
 ghost use Rattle.plan_model.specs.Textbook.{IsTextbookRun, Nodes, Setup};
 ghost use Rattle.plan_model.specs.SameRuns.{IsOfTextbookRun};
 ghost use Rattle.plan_model.specs.TreeStates.{GrowsInto, IsSettled, TreeState, state_of};
+ghost use Rattle.plan_model.specs.Turns.{AreTurns, RunFromZero};
 ghost use Rattle.plan_model.specs.declared.geometry.Point.{Point};
 ghost use Rattle.plan_model.specs.declared.limits.TheConstants.{MOST_WORKERS};
 ghost use Rattle.plan_model.specs.declared.records.Record.{Record};
@@ -65,4 +66,20 @@ pub fn handled_marks_close_runs()
         → IsClosed setup marks k state → k < length marks → suc k < length state.points → entry.worker < MOST_WORKERS
         → IsHandledWhole setup state k (mark_at marks k) entry p moved
         → GrowsInto state (with_mark state k entry p moved) }
+{}
+
+/// Turns of which each is counted once run from 0, with no gap and none twice, and such turns are counted once each.
+pub fn counted_turns_run_from_0()
+    ensures run { (record_of : ℕ → Option Record) (limit : ℕ)
+        → ((k : ℕ) (entry : Record) → record_of k ≡ Some entry → k < limit)
+        → AreTurns limit record_of → RunFromZero record_of }
+    ensures counted { (record_of : ℕ → Option Record) (limit : ℕ)
+        → ((k : ℕ) (entry : Record) → record_of k ≡ Some entry → k < limit)
+        → RunFromZero record_of → AreTurns limit record_of }
+{}
+
+/// The closed law has one proof at most: what is only known of it is so.
+pub fn closed_law_has_one_proof()
+    ensures { (setup : Setup) (marks : List Point) (limit : ℕ) (state : TreeState)
+        → IsProp (IsClosed setup marks limit state) }
 {}

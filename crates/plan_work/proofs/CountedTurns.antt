@@ -9,7 +9,8 @@ use Rattle.std.proofs.lemmas.List.{get_or-set_same, get_or-set_other}
 use Rattle.std.proofs.lemmas.List.FromFn.{length-map-range_with_len, length-range_with_len}
 use Rattle.std.proofs.lemmas.List.Sums.{count_by-le-length}
 use Rattle.plan_model.specs.declared.records.Record.{Record}
-use Rattle.plan_model.specs.HandledMarks.{is_of_worker, turns_of, with_mark}
+use Rattle.plan_model.specs.HandledMarks.{with_mark}
+use Rattle.plan_model.specs.Turns.{is_of_worker, turns_of}
 use Rattle.plan_model.specs.Textbook.{setup_of}
 use Rattle.plan_model.specs.TreeStates.{TreeState}
 use Rattle.plan_model.proofs.CountsBelow.{count-same}

@@ -3,7 +3,8 @@ use Rattle.std.proofs.Common.{◌≡◌, ℕ, List, sym, ap, ◌∙◌, subst}
 use Rattle.plan_model.specs.declared.geometry.Point.{Point}
 use Rattle.plan_model.specs.declared.records.Outcome.{Outcome}
 use Rattle.plan_model.specs.declared.records.Record.{Record}
-use Rattle.plan_model.specs.HandledMarks.{EndsBy, IsHandledWhole, turns_of}
+use Rattle.plan_model.specs.HandledMarks.{EndsBy, IsHandledWhole}
+use Rattle.plan_model.specs.Turns.{turns_of}
 use Rattle.plan_model.specs.Textbook.{Setup, SteersTo}
 use Rattle.plan_model.specs.TreeStates.{TreeState}
 

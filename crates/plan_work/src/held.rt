@@ -2,7 +2,7 @@
 
 ghost use Rattle.std.specs.Prelude.{◌≡◌, ◌+◌, ◌<◌, ◌≤◌, ℕ, Option, Some, None, IsFalse, IsTrue, length, slice_index};
 ghost use Rattle.std.specs.Vec.{vec_capacity};
-ghost use Rattle.plan_model.specs.HandledMarks.{turns_of};
+ghost use Rattle.plan_model.specs.Turns.{turns_of};
 ghost use Rattle.plan_model.specs.TreeStates.{GrowsInto};
 ghost use Rattle.plan_model.specs.declared.limits.TheConstants.{MOST_WORKERS};
 ghost use Rattle.plan_model.specs.declared.records.Record.{Record};

@@ -1,7 +1,7 @@
 //! The turns of a worker.
 
 ghost use Rattle.std.specs.Prelude.{◌≡◌};
-ghost use Rattle.plan_model.specs.HandledMarks.{turns_of};
+ghost use Rattle.plan_model.specs.Turns.{turns_of};
 ghost use Rattle.step_core.specs.GrownRuns.{state_of_grown};
 
 use step_core::Grown;

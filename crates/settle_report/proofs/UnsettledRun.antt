@@ -1,12 +1,13 @@
 -- A run that is closed and not settled: node 3 was rewired to the start and node 2 to node 3, and both are kept at more than their
 -- costs-to-come. With gamma 0 no node is a neighbour, so no record says that they were lowered.
 use Rattle.std.proofs.Common.{◌≡◌, ℕ, zero, suc, ◌<◌, ◌≤◌, Option, Some, None, List, [], ◌∷◌, arith, refl, sym, ap, ◌∙◌, subst}
-use Rattle.std.specs.Prelude.{IsSome, unwrap_or}
+use Rattle.std.specs.Prelude.{◌↔◌, IsSome, unwrap_or}
 use Rattle.plan_model.specs.declared.geometry.Point.{Point}
+use Rattle.plan_model.specs.declared.records.Outcome.TheVariants.{Placed}
 use Rattle.plan_model.specs.declared.records.Record.{Record}
 use Rattle.plan_model.specs.declared.trees.Knot.{Knot}
 use Rattle.plan_model.specs.Clearance.{ClearAt}
-use Rattle.plan_model.specs.ClosedLaw.{ArePlacedMarks, IsClosed, mark_at}
+use Rattle.plan_model.specs.ClosedLaw.{IsClosed, mark_at}
 use Rattle.plan_model.specs.Cost.{cost_of}
 use Rattle.plan_model.specs.EmptyRooms.{empty_room}
 use Rattle.plan_model.specs.Geometry.{squared_distance}
@@ -25,6 +26,9 @@ use Rattle.plan_model.proofs.OpenRoomMarks.{cost_2000, cost_2401, cost_2441, cos
 use Rattle.plan_model.proofs.RewiredRun.{rewired_run}
 use Rattle.plan_model.proofs.TextbookRuns.{IsClosed-textbook}
 use Rattle.step_core.specs.PackedRuns.{state_of_lists}
+use Rattle.plan_model.specs.Turns.{RunFromZero}
+use Rattle.plan_model.proofs.PlacedNodes.{ArePlacedMarks-from}
+use Rattle.plan_model.proofs.TurnsFromZero.{AreTurns-counted}
 
 abbrev pub rrt_setup : Setup
 rrt_setup = record { space = empty_room (at 100 100); start = at 0 0; step = 50; gamma = 0 }
@@ -137,7 +141,16 @@ no_gap (suc zero) turn entry h e = (0, first, refl, sym (worker_is 1 entry h), o
 no_gap (suc (suc zero)) turn entry h e = (1, second, refl, sym (worker_is 2 entry h), omega (arith, turn_is 2 entry h, e))
 no_gap (suc (suc (suc k))) turn entry h e = cc
 
-placed : ArePlacedMarks unsettled
+run : RunFromZero unsettled.record_of
+run = record { once = λ j k one other p q worker turn. sym (turn_is j one p) ∙ turn ∙ turn_is k other q; no_gap = no_gap }
+
+few_marks : (k : ℕ) (entry : Record) → unsettled.record_of k ≡ Some entry → k < 3
+few_marks zero entry h = omega arith
+few_marks (suc zero) entry h = omega arith
+few_marks (suc (suc zero)) entry h = omega arith
+few_marks (suc (suc (suc k))) entry h = cc
+
+placed : (k : ℕ) → IsPresent unsettled.points (suc k) ↔ ((entry : Record) × (unsettled.record_of k ≡ Some entry) × (entry.outcome ≡ Placed))
 placed zero = ((λ h. (first, refl, refl)), λ h. refl)
 placed (suc zero) = ((λ h. (second, refl, refl)), λ h. refl)
 placed (suc (suc zero)) = ((λ h. (third, refl, refl)), λ h. refl)
@@ -285,11 +298,7 @@ IsClosed-unsettled clear =
       within = omega arith;
       records = record { recorded = recorded; none_else = none_else };
       workers = λ k entry h. omega (arith, worker_is k entry h);
-      turns =
-          record {
-            once = λ j k one other p q worker turn. sym (turn_is j one p) ∙ turn ∙ turn_is k other q;
-            no_gap = no_gap;
-          };
+      turns = AreTurns-counted unsettled.record_of run 3 few_marks;
       lawful = lawful;
-      placed = placed;
+      placed = ArePlacedMarks-from unsettled placed;
     }

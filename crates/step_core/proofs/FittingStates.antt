@@ -33,6 +33,7 @@ use Rattle.plan_model.proofs.SegmentLaws.{Clear-last}
 use Rattle.plan_model.proofs.WorkerTurns.{turn-below_limit}
 use Rattle.step_core.specs.Words.{last_field}
 use Rattle.step_core.specs.PackedRuns.{FitsRecord}
+use Rattle.plan_model.proofs.PlacedNodes.{record-of_present}
 
 zero_unless_placed :
     (o : Outcome) (parent cost class : ℕ) → (o ≡ Placed → ⊥) → is_zero_unless_placed o parent cost class ≡ true → (parent ≡ 0) × (cost ≡ 0)
@@ -61,7 +62,7 @@ module _
   pub present-closed : (n : ℕ) → IsPresent state.points n → n ≤ length task.marks
   present-closed zero h = omega arith
   present-closed (suc k) h =
-      let own = (closed.placed k).0 h in
+      let own = record-of_present state closed.placed k h in
       omega (arith, recorded-below k own.0 own.1, closed.within)
 
   pub small_number : (n : ℕ) → IsPresent state.points n → n < 2 ^ 18
@@ -121,7 +122,7 @@ module _
   FitsRecord-closed k entry is = record {
     word = record {
       worker = closed.workers k entry is;
-      turn = omega (arith, turn-below_limit state.record_of closed.turns limit recorded-below entry.worker k entry is refl, closed.within, length-marks task);
+      turn = omega (arith, turn-below_limit state.record_of limit closed.turns k entry (recorded-below k entry is) is, closed.within, length-marks task);
       nearest = small_number entry.nearest (closed.lawful k entry is).present;
       last = last entry.outcome refl (closed.lawful k entry is).outcome;
     };

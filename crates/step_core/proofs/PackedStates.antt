@@ -17,7 +17,7 @@ use Rattle.plan_model.specs.Textbook.{setup_of}
 use Rattle.plan_model.specs.Trees.{points_of, parent_of, parent_or_zero, without_costs}
 use Rattle.plan_model.specs.TreeStates.{AreSameRuns}
 use Rattle.plan_model.specs.Ways.{FollowWays}
-use Rattle.plan_model.proofs.EarlierNodes.{is_placed-true}
+use Rattle.plan_model.proofs.PlacedNodes.{is_placed-true}
 use Rattle.plan_model.proofs.NewNodes.{IsPresent-stands}
 use Rattle.plan_model.proofs.NodeCounts.{node_count-same}
 use Rattle.plan_model.proofs.SameTrees.{IsClosed-same_run}
@@ -33,6 +33,7 @@ use Rattle.step_core.proofs.GrownPoints.{none_some, record_at-unwritten, node_po
 use Rattle.step_core.proofs.PackedRecords.{record_of_word-packed}
 use Rattle.step_core.proofs.PackedWords.{parent_in-tree_word, cost_in-tree_word, point_of_word-packed, IsPointWord-packed}
 use Rattle.step_core.proofs.LoweredWords.{IsTreeWord-packed}
+use Rattle.plan_model.proofs.PlacedNodes.{record-of_present, present-of_record}
 
 -- ---- lists
 
@@ -110,14 +111,14 @@ module _
   has_node-packed : (n : ℕ) → IsPresent (points_of (without_costs knots)) n → has_node words n ≡ true
   has_node-packed zero h = refl
   has_node-packed (suc k) h =
-      let own = (closed.placed k).0 h in
+      let own = record-of_present (state_of_lists knots records) closed.placed k h in
       ap has_placed (record_at-packed k ∙ own.1) ∙ ap is_placed own.2
 
   present_node : (n : ℕ) → has_node words n ≡ true → IsPresent (points_of (without_costs knots)) n
   present_node zero h = IsPresent-stands (points_of (without_costs knots)) 0 task.scene.start closed.order.start_stands
   present_node (suc k) h =
       let own = placed_in (record_at words k) h in
-      (closed.placed k).1 (own.0, sym (record_at-packed k) ∙ own.1, own.2)
+      present-of_record (state_of_lists knots records) closed.placed k own.0 (sym (record_at-packed k) ∙ own.1) own.2
 
   pub points-packed : (n : ℕ) → point_at (points_of_words (sizes_of task) words) n ≡ point_at (points_of (without_costs knots)) n
   points-packed n =
@@ -170,7 +171,7 @@ module _
       first_word : (n : ℕ) → IsPresent (points_of (without_costs knots)) n → IsTreeWord (words (FirstOf n))
       first_word zero h = subst IsTreeWord (sym held.start) refl
       first_word (suc k) h =
-          let own = (closed.placed k).0 h in
+          let own = record-of_present (state_of_lists knots records) closed.placed k h in
           let fits = fit.records_fit k own.0 own.1 in
           subst IsTreeWord (sym ((held.entries k own.0 own.1).first own.2)) (IsTreeWord-packed own.0.first_parent own.0.first_cost fits.parent fits.cost)
 

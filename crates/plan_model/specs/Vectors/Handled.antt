@@ -4,9 +4,10 @@ use Rattle.plan_model.specs.declared.records.Outcome.TheVariants.{Placed, Same}
 use Rattle.plan_model.specs.declared.records.Record.{Record}
 use Rattle.plan_model.specs.PointsByNumber.{point_at}
 use Rattle.plan_model.specs.TreeStates.{TreeState, first_cost_of}
-use Rattle.plan_model.specs.HandledMarks.{with_mark, turns_of, IsHandledWhole}
+use Rattle.plan_model.specs.HandledMarks.{with_mark, IsHandledWhole}
 use Rattle.plan_model.specs.Vectors.Shapes.{at}
 use Rattle.plan_model.specs.Vectors.Runs.{open_setup}
+use Rattle.plan_model.specs.Turns.{turns_of}
 
 -- the record of a mark that this worker placed in this turn
 abbrev pub placed_by : ℕ → ℕ → ℕ → ℕ → ℕ → ℕ → Record

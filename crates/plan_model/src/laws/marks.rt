@@ -1,8 +1,9 @@
 //! Laws of strips, quotas, and marks that are drawn.
 
-ghost use Rattle.std.specs.Prelude.{◌≡◌, ℕ, ◌+◌, ◌*◌, ◌<◌, ◌≤◌, ◌↔◌};
+ghost use Rattle.std.specs.Prelude.{◌≡◌, ℕ, ◌+◌, ◌*◌, ◌/◌, ◌<◌, ◌≤◌, ◌↔◌};
+ghost use Rattle.std.specs.List.{range_with_len, sum_by};
 ghost use Rattle.plan_model.specs.ConfigurationSpace.{space_of};
-ghost use Rattle.plan_model.specs.MarkPoints.{BodyFits, IsInSpan, columns, drawn_mark, quota_of, rows, strip, strip_of_mark};
+ghost use Rattle.plan_model.specs.MarkPoints.{BodyFits, IsInSpan, IsMarkOf, columns, drawn_mark, quota_of, rows, strip, strip_of_mark};
 ghost use Rattle.plan_model.specs.declared.spans.Span.{Span};
 ghost use Rattle.plan_model.specs.RoomOfConfigurations.{InRoom, at_lattice};
 ghost use Rattle.plan_model.specs.declared.scenes.Scene.{Scene};
@@ -32,4 +33,18 @@ pub fn marks_are_drawn_in_the_room()
 /// The c-th mark of a strip is below a limit exactly if c is below the quota of the strip.
 pub fn quotas_count_the_marks_of_a_strip()
     ensures { (strips g limit c : ℕ) → g < strips → (c * strips + g < limit) ↔ (c < quota_of strips g limit) }
+{}
+
+/// Each mark below a limit is number c * strips + g, for one strip g and one c, which is below the quota of the strip; and
+/// each such number is below the limit.
+pub fn marks_are_in_one_strip_each()
+    ensures some { (strips limit k : ℕ) → 0 < strips → k < limit → IsMarkOf strips limit k (strip_of_mark strips k) (k / strips) }
+    ensures strip { (strips limit k g c : ℕ) → IsMarkOf strips limit k g c → g ≡ strip_of_mark strips k }
+    ensures place { (strips limit k g c : ℕ) → IsMarkOf strips limit k g c → c ≡ k / strips }
+    ensures below { (strips limit k g c : ℕ) → IsMarkOf strips limit k g c → k < limit }
+{}
+
+/// The quotas of all strips add up to the limit.
+pub fn quotas_add_up_to_the_limit()
+    ensures { (strips limit : ℕ) → 0 < strips → sum_by (λ g. quota_of strips g limit) (range_with_len 0 strips) ≡ limit }
 {}

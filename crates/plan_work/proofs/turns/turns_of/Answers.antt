@@ -2,7 +2,7 @@ use Rattle.std.proofs.Common.{◌≡◌, ℕ, suc, ◌+◌, Bool, true, false, c
 use Rattle.std.specs.Prelude.{◌==◌}
 use Rattle.std.proofs.lemmas.Bool.{eq-eqb, ne_eqb}
 use Rattle.plan_model.specs.declared.records.Record.{Record}
-use Rattle.plan_model.specs.HandledMarks.{is_of_worker, turns_of}
+use Rattle.plan_model.specs.Turns.{is_of_worker, turns_of}
 use Rattle.plan_model.proofs.CountsBelow.{count-more}
 use Rattle.step_core.specs.GrownRuns.{state_of_grown}
 use Rattle.plan_work.proofs.turns.turns_of.Goals as goal

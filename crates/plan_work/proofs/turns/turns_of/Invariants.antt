@@ -1,5 +1,5 @@
 use Rattle.std.proofs.Common.{◌≡◌, ◌≤◌}
-use Rattle.plan_model.specs.HandledMarks.{turns_of}
+use Rattle.plan_model.specs.Turns.{turns_of}
 use Rattle.step_core.specs.GrownRuns.{state_of_grown}
 use Rattle.plan_work.proofs.turns.turns_of.Given as goal
 

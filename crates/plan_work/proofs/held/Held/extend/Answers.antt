@@ -1,5 +1,5 @@
 use Rattle.std.proofs.Common.{◌≡◌, ◌<◌, length, slice_index, arith}
-use Rattle.plan_model.specs.HandledMarks.{turns_of}
+use Rattle.plan_model.specs.Turns.{turns_of}
 use Rattle.plan_model.specs.declared.limits.TheConstants.{MOST_WORKERS}
 use Rattle.plan_model.proofs.MarkBounds.{length-marks}
 use Rattle.step_core.specs.GrownRuns.{state_of_grown}

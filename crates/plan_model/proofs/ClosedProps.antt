@@ -1,0 +1,44 @@
+-- Each fact of the closed law has one proof at most, so a value may keep it as it is.
+use Rattle.std.specs.Prelude.{◌≡◌, ℕ, List, Option, Some}
+use Rattle.std.proofs.Props.{props}
+use Rattle.plan_model.specs.declared.geometry.Point.{Point}
+use Rattle.plan_model.specs.declared.records.Outcome.{Outcome}
+use Rattle.plan_model.specs.declared.records.Outcome.TheVariants.{Placed, Same, Blocked}
+use Rattle.plan_model.specs.declared.records.Record.{Record}
+use Rattle.plan_model.specs.Clearance.{Clear, ClearAt, IsClear}
+use Rattle.plan_model.specs.ConfigurationSpace.{ConfigurationSpace}
+use Rattle.plan_model.specs.PointsByNumber.{StandsAt}
+use Rattle.plan_model.specs.RoomOfConfigurations.{Rational}
+use Rattle.plan_model.specs.TreeStates.{TreeState}
+use Rattle.plan_model.specs.OrderLaw.{IsAllowedEdge, Hangs, KeepsOrder}
+use Rattle.plan_model.specs.RecordLaw.{IsPlacedLawfully, IsBlockedLawfully, HasLawfulOutcome, IsLawfulRecord}
+use Rattle.plan_model.specs.ClosedLaw.{IsClosed}
+use Rattle.plan_model.specs.Textbook.{Setup}
+
+IsClear-prop : (space : ConfigurationSpace) (q : Rational) → IsProp (IsClear space q)
+IsClear-prop space q = hlevel props
+
+StandsAt-prop : (points : List (Option Point)) (n : ℕ) (p : Point) → IsProp (StandsAt points n p)
+StandsAt-prop points n p = hlevel props
+
+KeepsOrder-prop : (setup : Setup) (state : TreeState) → IsProp (KeepsOrder setup state)
+KeepsOrder-prop setup state = hlevel (props, IsClear-prop)
+
+IsPlacedLawfully-prop : (setup : Setup) (state : TreeState) (k : ℕ) (entry : Record) (p : Point) → IsProp (IsPlacedLawfully setup state k entry p)
+IsPlacedLawfully-prop setup state k entry p = hlevel (props, IsClear-prop)
+
+IsBlockedLawfully-prop : (setup : Setup) (state : TreeState) (entry : Record) (p : Point) → IsProp (IsBlockedLawfully setup state entry p)
+IsBlockedLawfully-prop setup state entry p = hlevel props
+
+HasLawfulOutcome-prop :
+    (setup : Setup) (state : TreeState) (k : ℕ) (entry : Record) (p : Point) (outcome : Outcome) → IsProp (HasLawfulOutcome setup state k entry p outcome)
+HasLawfulOutcome-prop setup state k entry p Placed = IsPlacedLawfully-prop setup state k entry p
+HasLawfulOutcome-prop setup state k entry p (Same j) = StandsAt-prop state.points j p
+HasLawfulOutcome-prop setup state k entry p Blocked = IsBlockedLawfully-prop setup state entry p
+
+IsLawfulRecord-prop : (setup : Setup) (state : TreeState) (k : ℕ) (mark : Point) (entry : Record) → IsProp (IsLawfulRecord setup state k mark entry)
+IsLawfulRecord-prop setup state k mark entry = hlevel (props, HasLawfulOutcome-prop)
+
+-- The closed law has one proof at most.
+pub IsClosed-prop : (setup : Setup) (marks : List Point) (limit : ℕ) (state : TreeState) → IsProp (IsClosed setup marks limit state)
+IsClosed-prop setup marks limit state = hlevel (props, KeepsOrder-prop, IsLawfulRecord-prop)
