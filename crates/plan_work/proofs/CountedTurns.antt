@@ -48,8 +48,7 @@ module _
       omega (
         arith,
         same-turns entry.worker,
-        ∥∥₁_elim before.hold_run (ℕ_set _ _)
-            (λ h. turns_of-handled (setup_of before.task.scene) before.task.marks before.limit (state_of_grown before) entry
+        (let h = before.hold_run in turns_of-handled (setup_of before.task.scene) before.task.marks before.limit (state_of_grown before) entry
             next.point next.moved h.closed room next.handled),
       )
 
@@ -57,8 +56,7 @@ module _
       → turns_of (state_of_grown after).record_of after.limit worker ≡ turns_of (state_of_grown before).record_of before.limit worker
   turns-other worker apart =
       same-turns worker
-      ∙ ∥∥₁_elim before.hold_run (ℕ_set _ _)
-      (λ h. turns_of-handled_by_other (setup_of before.task.scene) before.task.marks before.limit (state_of_grown before)
+      ∙ (let h = before.hold_run in turns_of-handled_by_other (setup_of before.task.scene) before.task.marks before.limit (state_of_grown before)
       entry next.point next.moved h.closed room next.handled worker apart)
 
   -- so a list of them stays right if the worker's number in it rises by one

@@ -30,7 +30,7 @@ module _ (grown : Grown) where
   -- no mark has a record
   record_of-first : grown.limit ≡ 0 → (k : ℕ) → is_some ((state_of_grown grown).record_of k) ≡ false
   record_of-first fresh k =
-      ∥∥₁_elim grown.hold_run (Bool-set _ _) (λ h. ap is_some (h.closed.records.none_else k (omega (arith, fresh))))
+      (ap is_some (grown.hold_run.closed.records.none_else k (omega (arith, fresh))))
 
   pub no_record-first : grown.limit ≡ 0 → (k : ℕ) (entry : Record) → ¬ ((state_of_grown grown).record_of k ≡ Some entry)
   no_record-first fresh k entry is = let none = sym (record_of-first fresh k) ∙ ap is_some is in cc

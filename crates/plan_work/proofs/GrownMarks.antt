@@ -23,15 +23,14 @@ use Rattle.plan_model.proofs.TreeStateLaws.{GrowsInto-trans}
 
 module _
     (setup : Setup) (marks : List Point) (k : ℕ) (state : TreeState) (entry : Record) (p : Point) (moved : List ℕ)
-    (closed : ∥ IsClosed setup marks k state ∥₁) (room : suc k < length state.points) (below : k < length marks)
+    (closed : IsClosed setup marks k state) (room : suc k < length state.points) (below : k < length marks)
     (few : entry.worker < MOST_WORKERS) (handled : IsHandledWhole setup state k (mark_at marks k) entry p moved) where
   -- the run with the mark is closed
-  pub IsClosed-put : ∥ IsClosed setup marks (k + 1) (with_mark state k entry p moved) ∥₁
+  pub IsClosed-put : IsClosed setup marks (k + 1) (with_mark state k entry p moved)
   IsClosed-put =
       let next : suc k ≡ k + 1 = omega arith in
-      ∥∥₁_map closed (λ h.
-      subst (λ limit. IsClosed setup marks limit (with_mark state k entry p moved)) next
-      (IsClosed-handled setup marks k state entry p moved h room handled below few))
+      (subst (λ limit. IsClosed setup marks limit (with_mark state k entry p moved)) next
+      (IsClosed-handled setup marks k state entry p moved closed room handled below few))
 
   -- other nodes stand where they stood
   points-kept : (outcome : Outcome) (n : ℕ) → n ≢ suc k → point_at (with_outcome state k entry p moved outcome).points n ≡ point_at state.points n
@@ -56,15 +55,13 @@ module _
     pub GrowsInto-put : GrowsInto state after
     GrowsInto-put = record {
       nodes = λ n q own. same.points n ∙ points-kept entry.outcome n (apart n q own) ∙ own;
-      first_costs = λ n here. ∥∥₁_elim closed (ℕ_set _ _) (λ h. (grows h).first_costs n here);
+      first_costs = λ n here. ((grows closed).first_costs n here);
       trees = λ n here.
           elim (cases_lt (after.cost n) (state.cost n)) [
             | inl fell ↦ inr fell
             | inr stays ↦ inl (
-              ∥∥₁_elim closed (ℕ_set _ _)
-                  (λ h. elim ((grows h).trees n here) [ inl kept ↦ kept.0 | inr less ↦ absurd (omega (arith, less, stays)) ]),
-              ∥∥₁_elim closed (ℕ_set _ _)
-                  (λ h. elim ((grows h).trees n here) [ inl kept ↦ kept.1 | inr less ↦ absurd (omega (arith, less, stays)) ]),
+              (elim ((grows closed).trees n here) [ inl kept ↦ kept.0 | inr less ↦ absurd (omega (arith, less, stays)) ]),
+              (elim ((grows closed).trees n here) [ inl kept ↦ kept.1 | inr less ↦ absurd (omega (arith, less, stays)) ]),
             )
           ];
       records = λ j own h. same.records j ∙ records-kept entry.outcome j (other j own h) ∙ h;
@@ -72,10 +69,8 @@ module _
       where
         apart : (n : ℕ) (q : Point) → StandsAt state.points n q → n ≢ suc k
         apart n q own e =
-            ∥∥₁_elim closed (λ x y. absurd x)
-            (λ h. node-absent setup marks k state h (subst (IsPresent state.points) e (IsPresent-stands state.points n q own)))
+            (node-absent setup marks k state closed (subst (IsPresent state.points) e (IsPresent-stands state.points n q own)))
 
         other : (j : ℕ) (own : Record) → state.record_of j ≡ Some own → j ≢ k
         other j own h e =
-            ∥∥₁_elim closed (λ x y. absurd x)
-            (λ c. (let none = sym (record-absent setup marks k state c) ∙ sym (ap state.record_of e) ∙ h in cc))
+            ((let none = sym (record-absent setup marks k state closed) ∙ sym (ap state.record_of e) ∙ h in cc))

@@ -33,10 +33,9 @@ ReportsGrown-answer report grown done text whole settled given status written = 
   given = given;
   of_scene = refl;
   whole = whole;
-  closed = ∥∥₁_map grown.hold_run (λ h.
-      subst (λ (marks : List Point). IsClosed (setup_of scene) marks (length (mark_points scene)) (state_of_grown grown))
+  closed = (subst (λ (marks : List Point). IsClosed (setup_of scene) marks (length (mark_points scene)) (state_of_grown grown))
       grown.task.of_scene
-      (subst (λ (limit : ℕ). IsClosed (setup_of scene) grown.task.marks limit (state_of_grown grown)) whole h.closed));
+      (subst (λ (limit : ℕ). IsClosed (setup_of scene) grown.task.marks limit (state_of_grown grown)) whole grown.hold_run.closed));
   settled = settled;
   best = status;
   written = written;

@@ -54,7 +54,7 @@ pub record ReportsGrown (report : Report) (scene : Scene) (grown : Grown) (done 
   pub given : done.run ≡ Some grown
   pub of_scene : grown.task.scene ≡ scene
   pub whole : grown.limit ≡ length (mark_points scene)
-  pub closed : ∥ IsClosed (setup_of scene) (mark_points scene) (length (mark_points scene)) (state_of_grown grown) ∥₁
+  pub closed : IsClosed (setup_of scene) (mark_points scene) (length (mark_points scene)) (state_of_grown grown)
   pub settled : IsSettled (state_of_grown grown)
   pub best : done.status ≡ status_of_report (is_some (best_node scene grown.limit (state_of_grown grown)))
   pub written : text ≡ report scene grown.limit (state_of_grown grown)

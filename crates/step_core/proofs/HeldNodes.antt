@@ -24,11 +24,11 @@ x_of o = (unwrap_or o (record { x = 0; y = 0 })).x
 abbrev y_of : Option Point → ℕ
 y_of o = (unwrap_or o (record { x = 0; y = 0 })).y
 
-module _ (task : Task) (limit : ℕ) (words : Words) (held : ∥ HoldRun task limit words ∥₁) where
+module _ (task : Task) (limit : ℕ) (words : Words) (held : HoldRun task limit words) where
   -- the start is present
   pub start_present-held : IsPresent (points_of_words (sizes_of task) words) 0
   start_present-held =
-      ∥∥₁_elim held (Bool-set _ _) (λ h. IsPresent-stands (points_of_words (sizes_of task) words) 0 task.scene.start h.closed.order.start_stands)
+      (let h = held in IsPresent-stands (points_of_words (sizes_of task) words) 0 task.scene.start h.closed.order.start_stands)
 
   -- so there is a node
   pub some-held : 1 ≤ node_count (points_of_words (sizes_of task) words)
@@ -38,8 +38,8 @@ module _ (task : Task) (limit : ℕ) (words : Words) (held : ∥ HoldRun task li
   pub start_stands-held : StandsAt (points_of_words (sizes_of task) words) 0 task.scene.start
   start_stands-held =
       let points = points_of_words (sizes_of task) words in
-      let right : (point_of points 0).x ≡ task.scene.start.x = ∥∥₁_elim held (ℕ_set _ _) (λ h. ap x_of h.closed.order.start_stands) in
-      let top : (point_of points 0).y ≡ task.scene.start.y = ∥∥₁_elim held (ℕ_set _ _) (λ h. ap y_of h.closed.order.start_stands) in
+      let right : (point_of points 0).x ≡ task.scene.start.x = (ap x_of held.closed.order.start_stands) in
+      let top : (point_of points 0).y ≡ task.scene.start.y = (ap y_of held.closed.order.start_stands) in
       StandsAt-present points 0 start_present-held ∙ ap Some (point_is (point_of points 0) task.scene.start right top)
 
   -- so node 0 is as near to a point as the start is
@@ -49,11 +49,11 @@ module _ (task : Task) (limit : ℕ) (words : Words) (held : ∥ HoldRun task li
 
   -- it is its own parent
   pub start_parent-held : (state_of_words (sizes_of task) words).parent 0 ≡ 0
-  start_parent-held = ∥∥₁_elim held (ℕ_set _ _) (λ h. h.closed.order.start_parent)
+  start_parent-held = held.closed.order.start_parent
 
   -- and costs nothing
   pub start_cost-held : (state_of_words (sizes_of task) words).cost 0 ≡ 0
-  start_cost-held = ∥∥₁_elim held (ℕ_set _ _) (λ h. h.closed.order.start_cost)
+  start_cost-held = held.closed.order.start_cost
 
   -- a node's number is at most the limit
   pub node-held : (n : ℕ) → IsPresent (points_of_words (sizes_of task) words) n → n ≤ limit

@@ -12,17 +12,16 @@ use Rattle.plan_model.specs.Ways.{FollowWays}
 use Rattle.step_core.specs.WordNames.{Words}
 use Rattle.step_core.specs.WordNames.Word.{Count, Counter}
 use Rattle.step_core.specs.GrownWords.{HoldRun, sizes_of, has_placed, has_node, record_at, points_of_words, children_of_words}
-use Rattle.step_core.proofs.KnownWays.{FollowWays-known}
 
-module _ (task : Task) (limit : ℕ) (words : Words) (held : ∥ HoldRun task limit words ∥₁) where
+module _ (task : Task) (limit : ℕ) (words : Words) (held : HoldRun task limit words) where
   pub counted-held : words Count ≡ node_count (points_of_words (sizes_of task) words)
-  counted-held = ∥∥₁_elim held (ℕ_set _ _) (λ h. h.counted)
+  counted-held = held.counted
 
   pub recorded-held : (k : ℕ) → k < limit → IsSome (record_at words k)
-  recorded-held k below = ∥∥₁_elim held (Bool-set _ _) (λ h. h.closed.records.recorded k below)
+  recorded-held k below = (held.closed.records.recorded k below)
 
   pub limit-held : limit ≤ length task.marks
-  limit-held = ∥∥₁_elim held le_prop (λ h. h.closed.within)
+  limit-held = held.closed.within
 
   -- what is read as the count
   pub counted-read : (count : ℕ) → count ≡ words Count → count ≡ node_count (points_of_words (sizes_of task) words)
@@ -31,14 +30,7 @@ module _ (task : Task) (limit : ℕ) (words : Words) (held : ∥ HoldRun task li
   -- no node has a number past the limit
   pub none_past-held : (n : ℕ) → limit < n → has_node words n ≡ false
   none_past-held zero past = absurd (omega (arith, past))
-  none_past-held (suc k) past = ∥∥₁_elim held (Bool-set _ _) (λ h. ap has_placed (h.closed.records.none_else k (omega (arith, past))))
+  none_past-held (suc k) past = (ap has_placed (held.closed.records.none_else k (omega (arith, past))))
 
   pub claimed-held : (g : ℕ) → g < task.scene.strips → words (Counter g) ≡ quota_of task.scene.strips g limit
-  claimed-held g below = ∥∥₁_elim held (ℕ_set _ _) (λ h. h.claimed g below)
-
-  -- if the start is present, each node is where its way leads
-  pub ways-held :
-      IsPresent (points_of_words (sizes_of task) words) 0
-      → FollowWays (children_of_words words) (points_of_words (sizes_of task) words)
-  ways-held start =
-      FollowWays-known (children_of_words words) (points_of_words (sizes_of task) words) start (∥∥₁_map held (λ h. h.ways))
+  claimed-held g below = (held.claimed g below)

@@ -21,7 +21,6 @@ pub mod ListedRuns
 pub mod MovedWords
 pub mod NewWords
 pub mod FittingStates
-pub mod KnownWays
 pub mod RecordedMarks
 pub mod UnplacedMarks
 pub mod MarkStates

@@ -32,7 +32,7 @@ use Rattle.step_core.proofs.FittingStates.{FitsRecord-closed}
 use Rattle.step_core.proofs.GrownPoints.{point_at-absent}
 use Rattle.step_core.proofs.KdWays.{point_at-lesser, point_at-greater}
 use Rattle.step_core.proofs.KeptWords.{KeepsNodes-children, record_at-kept, point_at-kept}
-use Rattle.step_core.proofs.MarkStates.{knot_of, with_placed, point_at-others, FitsRecord-known, IsBounded-placed, cost_below-low}
+use Rattle.step_core.proofs.MarkStates.{knot_of, with_placed, point_at-others, IsBounded-placed, cost_below-low}
 use Rattle.step_core.proofs.PlacedMarks.{PlacesMark, HoldsMark-placed, count-placed, child-placed, point_at-own, point_at-other}
 use Rattle.step_core.proofs.PlacedMarks.{AreSameRuns-placed, written-own, written-other}
 use Rattle.step_core.proofs.RecordedMarks.{HoldsMark, HoldsMark-later, quota-marked}
@@ -64,7 +64,7 @@ module _
     (none_past : (n : ℕ) → k < n → has_node before n ≡ false)
     (nodes : (i : ℕ) → is_among moved i ≡ true → IsPresent (points_of_words (sizes_of task) before) i) (is : entry.outcome ≡ Placed)
     (closed :
-    ∥ IsClosed (setup_of task.scene) task.marks (suc k) (with_placed (state_of_words (sizes_of task) before) k entry p moved) ∥₁) where
+    IsClosed (setup_of task.scene) task.marks (suc k) (with_placed (state_of_words (sizes_of task) before) k entry p moved)) where
   abbrev sizes : Sizes
   sizes = sizes_of task
 
@@ -76,10 +76,8 @@ module _
 
   fits : FitsRecord entry
   fits =
-      FitsRecord-known entry
-      (∥∥₁_map closed (λ h.
-      FitsRecord-closed task (suc k) tree h k entry
-      (ap (λ b. if b then Some entry else (state_of_words (sizes_of task) before).record_of k) (eq-eqb k k refl))))
+      FitsRecord-closed task (suc k) tree closed k entry
+      (ap (λ b. if b then Some entry else (state_of_words (sizes_of task) before).record_of k) (eq-eqb k k refl))
 
   small : suc k < 2 ^ 18
   small = omega (arith, within, length-marks task)
@@ -117,8 +115,7 @@ module _
 
   pub start_was : IsPresent (points_of_words (sizes_of task) before) 0
   start_was =
-      ∥∥₁_elim closed (Bool-set _ _) (λ h.
-      ap is_some (sym (point_at-others sizes before k entry p moved within absent nodes 0 (λ e. omega (arith, e))) ∙ h.order.start_stands))
+      (ap is_some (sym (point_at-others sizes before k entry p moved within absent nodes 0 (λ e. omega (arith, e))) ∙ closed.order.start_stands))
 
   -- The new node may be linked.
   pub MayLink-placed : FollowWays (children_of_words before) (points_of_words (sizes_of task) before) → MayLink (sizes_of task) full (suc k)
@@ -132,7 +129,7 @@ module _
     present = ap is_some own_point;
     later = omega arith;
     distinct = λ i j q one other.
-        ∥∥₁_elim closed (ℕ_set _ _) (λ h. h.order.distinct i j q (sym (same_run.points i) ∙ one) (sym (same_run.points j) ∙ other));
+        (closed.order.distinct i j q (sym (same_run.points i) ∙ one) (sym (same_run.points j) ∙ other));
   }
 
   -- ---- after the link

@@ -59,32 +59,12 @@ record_of-with_mark state k entry p moved = by_outcome entry.outcome
     by_outcome (Same j) = own
     by_outcome Blocked = own
 
--- that a record fits its words, and that a point is within bounds, are known if they are so at all
-pub FitsRecord-known : (entry : Record) → ∥ FitsRecord entry ∥₁ → FitsRecord entry
-FitsRecord-known entry fits = record {
-  word = record {
-    worker = ∥∥₁_elim fits le_prop (λ h. h.word.worker);
-    turn = ∥∥₁_elim fits le_prop (λ h. h.word.turn);
-    nearest = ∥∥₁_elim fits le_prop (λ h. h.word.nearest);
-    last = ∥∥₁_elim fits le_prop (λ h. h.word.last);
-  };
-  parent = ∥∥₁_elim fits le_prop (λ h. h.parent);
-  cost = ∥∥₁_elim fits le_prop (λ h. h.cost);
-}
-
-IsBounded-known : (p : Point) → ∥ IsBounded p ∥₁ → IsBounded p
-IsBounded-known p bounded = record {
-  right = ∥∥₁_elim bounded le_prop (λ h. h.right);
-  top = ∥∥₁_elim bounded le_prop (λ h. h.top);
-}
-
 -- The record of a mark in a closed run fits its words.
 pub FitsRecord-marked :
     (task : Task) (state : TreeState) (k : ℕ) (entry : Record) (p : Point) (moved : List ℕ)
-    → ∥ IsClosed (setup_of task.scene) task.marks (suc k) (with_mark state k entry p moved) ∥₁ → FitsRecord entry
+    → IsClosed (setup_of task.scene) task.marks (suc k) (with_mark state k entry p moved) → FitsRecord entry
 FitsRecord-marked task state k entry p moved closed =
-    FitsRecord-known entry
-    (∥∥₁_map closed (λ h. FitsRecord-closed task (suc k) (with_mark state k entry p moved) h k entry (record_of-with_mark state k entry p moved)))
+    FitsRecord-closed task (suc k) (with_mark state k entry p moved) closed k entry (record_of-with_mark state k entry p moved)
 
 -- ---- a placed mark
 
@@ -137,7 +117,7 @@ module _
     (absent : has_node before (suc k) ≡ false)
     (nodes : (i : ℕ) → is_among moved i ≡ true → IsPresent (points_of_words (sizes_of task) before) i)
     (closed :
-    ∥ IsClosed (setup_of task.scene) task.marks (suc k) (with_placed (state_of_words (sizes_of task) before) k entry p moved) ∥₁) where
+    IsClosed (setup_of task.scene) task.marks (suc k) (with_placed (state_of_words (sizes_of task) before) k entry p moved)) where
   abbrev after : TreeState
   after = with_placed (state_of_words (sizes_of task) before) k entry p moved
 
@@ -147,14 +127,12 @@ module _
   -- it stands at a point that fits its word
   pub IsBounded-placed : IsBounded p
   IsBounded-placed =
-      IsBounded-known p
-      (∥∥₁_map closed (λ h.
-      subst IsBounded (point_of-stands after.points (suc k) p own_stands)
-      (IsBounded-closed task (suc k) after h (suc k) (IsPresent-stands after.points (suc k) p own_stands))))
+      
+      ((subst IsBounded (point_of-stands after.points (suc k) p own_stands)
+      (IsBounded-closed task (suc k) after closed (suc k) (IsPresent-stands after.points (suc k) p own_stands))))
 
   -- and so do the costs of moved nodes
   pub cost_below-low : (i : ℕ) → is_among moved i ≡ true → cost_below before (knot_of entry p) i < 2 ^ 44
   cost_below-low i among =
-      ∥∥₁_elim closed le_prop (λ h.
-      let low = kept-low task (suc k) after h i (present-still (sizes_of task) before k entry p moved within absent nodes i (nodes i among)) in
+      (let low = kept-low task (suc k) after closed i (present-still (sizes_of task) before k entry p moved within absent nodes i (nodes i among)) in
       omega (arith, low, cost-moved (sizes_of task) before k entry p moved within absent nodes i among))

@@ -28,7 +28,7 @@ use Rattle.step_core.specs.KdLinks.{AreLinkedBelow, ChangesChildren, KeepsChildr
 use Rattle.step_core.specs.MarkWrites.{MayMove, WritesNewNode}
 use Rattle.step_core.specs.PackedRuns.{FitsNode, FitsRecord}
 use Rattle.step_core.proofs.GrownPoints.{node_count-words, present-within}
-use Rattle.step_core.proofs.HeldRuns.{counted-held, none_past-held, claimed-held, ways-held}
+use Rattle.step_core.proofs.HeldRuns.{counted-held, none_past-held, claimed-held}
 use Rattle.step_core.proofs.LinkedMarks.{start_was, MayLink-placed, AreSameRuns-marked, HoldRun-placed}
 use Rattle.step_core.proofs.MarkStates.{knot_of, with_placed, other-present, FitsRecord-marked, IsBounded-placed, cost_below-low}
 use Rattle.step_core.proofs.PackedWritings.{quota_of-le}
@@ -41,31 +41,31 @@ next_number k = omega arith
 
 module _
     (task : Task) (k : ℕ) (entry : Record) (p : Point) (moved : List ℕ) (sizes : Sizes) (same : sizes ≡ sizes_of task) (items : List ℕ)
-    (run_was : ∥ HoldRun task k (run_words task items) ∥₁) (left : k < length task.marks)
+    (run_was : HoldRun task k (run_words task items)) (left : k < length task.marks)
     (nodes_were : All (IsPresent (points_of_words (sizes_of task) (run_words task items))) moved)
     (closed_was :
-    ∥ IsClosed (setup_of task.scene) task.marks (k + 1)
-    (with_mark (state_of_words (sizes_of task) (run_words task items)) k entry p moved) ∥₁) where
+    IsClosed (setup_of task.scene) task.marks (k + 1)
+    (with_mark (state_of_words (sizes_of task) (run_words task items)) k entry p moved)) where
   -- the words by the sizes that the code has
   abbrev before : Words
   before = word_at sizes items
 
-  run : ∥ HoldRun task k (word_at sizes items) ∥₁
-  run = subst (λ s. ∥ HoldRun task k (word_at s items) ∥₁) (sym same) run_was
+  run : HoldRun task k (word_at sizes items)
+  run = subst (λ s. HoldRun task k (word_at s items)) (sym same) run_was
 
   nodes : All (IsPresent (points_of_words (sizes_of task) (word_at sizes items))) moved
   nodes = subst (λ s. All (IsPresent (points_of_words (sizes_of task) (word_at s items))) moved) (sym same) nodes_were
 
-  closed : ∥ IsClosed (setup_of task.scene) task.marks (k + 1) (with_mark (state_of_words (sizes_of task) (word_at sizes items)) k entry p moved) ∥₁
+  closed : IsClosed (setup_of task.scene) task.marks (k + 1) (with_mark (state_of_words (sizes_of task) (word_at sizes items)) k entry p moved)
   closed =
       subst
-      (λ s. ∥ IsClosed (setup_of task.scene) task.marks (k + 1) (with_mark (state_of_words (sizes_of task) (word_at s items)) k entry p moved) ∥₁)
+      (λ s. IsClosed (setup_of task.scene) task.marks (k + 1) (with_mark (state_of_words (sizes_of task) (word_at s items)) k entry p moved))
       (sym same) closed_was
 
-  closed_next : ∥ IsClosed (setup_of task.scene) task.marks (suc k) (with_mark (state_of_words (sizes_of task) before) k entry p moved) ∥₁
+  closed_next : IsClosed (setup_of task.scene) task.marks (suc k) (with_mark (state_of_words (sizes_of task) before) k entry p moved)
   closed_next =
       subst
-      (λ n. ∥ IsClosed (setup_of task.scene) task.marks n (with_mark (state_of_words (sizes_of task) before) k entry p moved) ∥₁)
+      (λ n. IsClosed (setup_of task.scene) task.marks n (with_mark (state_of_words (sizes_of task) before) k entry p moved))
       (next_number k) closed
 
   strip : k % task.scene.strips < task.scene.strips
@@ -122,13 +122,12 @@ module _
           (AreSameRuns-unplaced (sizes_of task) k entry before recorded records_of_task FitsRecord-next
           (none_past-held task k before run (suc k) (omega arith)) unplaced p moved)
 
-      pub HoldRun-next_unplaced : ∥ HoldRun task (k + 1) (run_words task written) ∥₁
+      pub HoldRun-next_unplaced : HoldRun task (k + 1) (run_words task written)
       HoldRun-next_unplaced =
-          subst (λ s. ∥ HoldRun task (k + 1) (word_at s written) ∥₁) same
-          (subst (λ n. ∥ HoldRun task n recorded ∥₁) (sym (next_number k))
-          (∥∥₁_map₂ closed_next run
+          subst (λ s. HoldRun task (k + 1) (word_at s written)) same
+          (subst (λ n. HoldRun task n recorded) (sym (next_number k))
           (HoldRun-unplaced task k entry p moved before recorded records_of_task FitsRecord-next
-          (none_past-held task k before run (suc k) (omega arith)) unplaced)))
+          (none_past-held task k before run (suc k) (omega arith)) unplaced closed_next run))
 
       -- the kd-tree stays
       pub KeepsChildren-next_unplaced : KeepsChildren (children_of_words (run_words task items)) (children_of_words (run_words task written))
@@ -148,8 +147,8 @@ module _
     tree_is : with_mark (state_of_words (sizes_of task) before) k entry p moved ≡ tree
     tree_is = ap (with_outcome (state_of_words (sizes_of task) before) k entry p moved) is
 
-    closed_tree : ∥ IsClosed (setup_of task.scene) task.marks (suc k) tree ∥₁
-    closed_tree = subst (λ state. ∥ IsClosed (setup_of task.scene) task.marks (suc k) state ∥₁) tree_is closed_next
+    closed_tree : IsClosed (setup_of task.scene) task.marks (suc k) tree
+    closed_tree = subst (λ state. IsClosed (setup_of task.scene) task.marks (suc k) state) tree_is closed_next
 
     absent : has_node before (suc k) ≡ false
     absent = none_past-held task k before run (suc k) (omega arith)
@@ -205,11 +204,10 @@ module _
       -- The new node may be linked.
       pub MayLink-next : MayLink sizes full (k + 1)
       MayLink-next =
-          let start = start_was task k entry p moved before full writes_of_task left none_past present_among is closed_tree in
           subst (λ s. MayLink s full (k + 1)) (sym same)
           (subst (MayLink (sizes_of task) full) (sym (next_number k))
           (MayLink-placed task k entry p moved before full writes_of_task left none_past present_among is closed_tree
-          (ways-held task k before run start)))
+          run.ways))
 
       module _ (last : List ℕ) (change : ChangesChildren full (word_at sizes last)) (linked : AreLinkedBelow sizes (word_at sizes last) (k + 1 + 1)) where
         abbrev after : Words
@@ -226,13 +224,12 @@ module _
             (subst (λ state. AreSameRuns state (state_of_words (sizes_of task) after)) (sym tree_is)
             (AreSameRuns-marked task k entry p moved before full writes_of_task left none_past present_among is closed_tree after change))
 
-        pub HoldRun-next_placed : ∥ HoldRun task (k + 1) (run_words task last) ∥₁
+        pub HoldRun-next_placed : HoldRun task (k + 1) (run_words task last)
         HoldRun-next_placed =
-            subst (λ s. ∥ HoldRun task (k + 1) (word_at s last) ∥₁) same
-            (subst (λ n. ∥ HoldRun task n after ∥₁) (sym (next_number k))
-            (∥∥₁_map₂ closed_tree run
+            subst (λ s. HoldRun task (k + 1) (word_at s last)) same
+            (subst (λ n. HoldRun task n after) (sym (next_number k))
             (HoldRun-placed task k entry p moved before full writes_of_task left none_past present_among is closed_tree after change
-            (k + 1 + 1) (omega arith) (subst (λ s. AreLinkedBelow s after (k + 1 + 1)) same linked))))
+            (k + 1 + 1) (omega arith) (subst (λ s. AreLinkedBelow s after (k + 1 + 1)) same linked) closed_tree run))
 
         -- If the link keeps each child, it is where it was before the mark.
         pub KeepsChildren-next_placed :

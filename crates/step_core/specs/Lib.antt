@@ -3,6 +3,7 @@ pub mod WordNames
 pub mod WordKinds
 pub mod WordPlaces
 pub mod GrownWords
+pub mod HoldRunProps
 pub mod GrownRuns
 pub mod PlacesOfWords
 pub mod KdLinks

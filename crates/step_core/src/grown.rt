@@ -7,6 +7,7 @@ ghost use Rattle.plan_model.specs.ConfigurationSpace.{space_of};
 ghost use Rattle.plan_model.specs.HandledMarks.{with_mark};
 ghost use Rattle.plan_model.specs.PointsByNumber.{IsPresent, node_count, point_at};
 ghost use Rattle.plan_model.specs.Textbook.{setup_of, start_alone};
+ghost use Rattle.step_core.specs.HoldRunProps.{HoldRun-prop};
 ghost use Rattle.step_core.specs.GrownWords.{HoldRun, has_node, record_at, run_words, sizes_of};
 ghost use Rattle.plan_model.specs.TreeStates.{AreSameRuns, state_of};
 ghost use Rattle.step_core.specs.KdLinks.{KeepsChildren, LinksRise};
@@ -34,7 +35,7 @@ pub struct Grown {
     limit: u32,
     words: Vec<u64>,
     ghost sized: { length words.items ≡ word_count (sizes_of task) },
-    ghost hold_run: { ∥ HoldRun task limit (run_words task words.items) ∥₁ },
+    ghost hold_run: { HoldRun task limit (run_words task words.items) } by { HoldRun-prop task limit (run_words task words.items) },
 }
 
 impl Grown {
@@ -166,8 +167,8 @@ impl Grown {
     pub fn put(&mut self, entry: &Record, p: Point, moved: &[u32])
         requires left { self.old.limit < length self.old.task.marks }
         requires nodes { All (IsPresent (state_of_grown self.old).points) moved.now }
-        requires closed { ∥ IsClosed (setup_of self.old.task.scene) self.old.task.marks (self.old.limit + 1)
-            (with_mark (state_of_grown self.old) self.old.limit entry.now p moved.now) ∥₁ }
+        requires closed { IsClosed (setup_of self.old.task.scene) self.old.task.marks (self.old.limit + 1)
+            (with_mark (state_of_grown self.old) self.old.limit entry.now p moved.now) }
         ensures task { self.new.task ≡ self.old.task }
         ensures limit { self.new.limit ≡ self.old.limit + 1 }
         ensures state { AreSameRuns (with_mark (state_of_grown self.old) self.old.limit entry.now p moved.now) (state_of_grown self.new) }

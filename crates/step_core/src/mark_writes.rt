@@ -35,12 +35,12 @@ pub(crate) fn write_mark(
     moved: &[u32],
 )
     requires sized { length words.old ≡ word_count (sizes_of task.now) }
-    requires run { ∥ HoldRun task.now mark (run_words task.now words.old) ∥₁ }
+    requires run { HoldRun task.now mark (run_words task.now words.old) }
     requires left { mark < length task.now.marks }
     requires nodes { All (IsPresent (points_of_words (sizes_of task.now) (run_words task.now words.old))) moved.now }
-    requires closed { ∥ IsClosed (setup_of task.now.scene) task.now.marks (mark + 1)
-        (with_mark (state_of_words (sizes_of task.now) (run_words task.now words.old)) mark entry.now p moved.now) ∥₁ }
-    ensures run { ∥ HoldRun task.now (mark + 1) (run_words task.now words.new) ∥₁ }
+    requires closed { IsClosed (setup_of task.now.scene) task.now.marks (mark + 1)
+        (with_mark (state_of_words (sizes_of task.now) (run_words task.now words.old)) mark entry.now p moved.now) }
+    ensures run { HoldRun task.now (mark + 1) (run_words task.now words.new) }
     ensures state { AreSameRuns (with_mark (state_of_words (sizes_of task.now) (run_words task.now words.old)) mark entry.now p moved.now)
         (state_of_words (sizes_of task.now) (run_words task.now words.new)) }
     ensures children { KeepsChildren (children_of_words (run_words task.now words.old))

@@ -21,10 +21,10 @@ put-requires-clause-closed g c =
     let room : suc grown.limit < length state.points =
     omega (arith, c.requires.left, length-map-range_with_len (node_point (words_of_grown grown)) 0 (length grown.task.marks + 1)) in
     let few : entry.worker < MOST_WORKERS = omega (arith, c.requires.worker, c.entry_of-entry.ensures.worker) in
-    subst (λ (moved : List ℕ). ∥ IsClosed setup grown.task.marks (grown.limit + 1) (with_mark state grown.limit entry p moved) ∥₁)
+    subst (λ (moved : List ℕ). IsClosed setup grown.task.marks (grown.limit + 1) (with_mark state grown.limit entry p moved))
     (sym c.deref.ensures.value)
     (IsClosed-put setup grown.task.marks grown.limit state entry p c.entry_of-entry.new.list.items
-    (∥∥₁_map grown.hold_run (λ h. h.closed)) room c.requires.left few c.entry_of-entry.ensures.handled)
+    (grown.hold_run.closed) room c.requires.left few c.entry_of-entry.ensures.handled)
 
 pub returns-clause-grows : goal.returns-clause-grows
 returns-clause-grows g c =
@@ -39,7 +39,7 @@ returns-clause-grows g c =
     let run = subst (λ (moved : List ℕ). AreSameRuns (with_mark state grown.limit entry p moved) (state_of_grown c.put.new.self)) c.deref.ensures.value
     c.put.ensures.state in
     GrowsInto-put setup grown.task.marks grown.limit state entry p c.entry_of-entry.new.list.items
-    (∥∥₁_map grown.hold_run (λ h. h.closed)) room c.requires.left few c.entry_of-entry.ensures.handled (state_of_grown c.put.new.self) run
+    (grown.hold_run.closed) room c.requires.left few c.entry_of-entry.ensures.handled (state_of_grown c.put.new.self) run
 
 pub returns-clause-handled : goal.returns-clause-handled
 returns-clause-handled g c =

@@ -22,7 +22,7 @@ loop-node-preserved c =
       costs_alone =
           ChangesCosts-more (state_of_grown old) (state_of_grown now) (state_of_grown after) _ _ c.loop-node.invariant.costs_alone c.settle_node.ensures.state;
       settled = λ k d l.
-          ∥∥₁_elim old.hold_run (ℕ_set _ _) (λ h.
+          (let h = old.hold_run in
           AreSettledBelow-more (setup_of old.task.scene) (state_of_grown old) h.closed.order c.args.order.now c.requires
           (state_of_grown now) zero_cost (state_of_grown after) i _ (0, 0) (omega arith) c.loop-node.invariant.costs_alone c.settle_node.ensures.state refl
           c.loop-node.invariant.settled k d l);
@@ -36,7 +36,7 @@ returns-clause-settled c = λ n here.
     let zero_cost = start_cost-held now.task now.limit (words_of_grown now) now.hold_run in
     let all : c.loop-node.node-index ≡ length c.args.order.now = omega arith in
     let settled = subst (AreSettledBelow (state_of_grown old) (state_of_grown now) c.args.order.now) all c.loop-node.invariant.settled in
-    ∥∥₁_elim old.hold_run (ℕ_set _ _) (λ h.
+    (let h = old.hold_run in
     all-settled (setup_of old.task.scene) (state_of_grown old) h.closed.order c.args.order.now c.requires
     (state_of_grown now) zero_cost settled n (subst (λ points. IsPresent points n) change.points here))
     ∙ sym (sum_in-changed (state_of_grown old) (state_of_grown now) change n)

@@ -42,9 +42,8 @@ invariant_of-self c =
     record {
       sized = length-set old.words.items c.tree.result c.pack_tree-word.result ∙ old.sized;
       hold_run =
-          ∥∥₁_map old.hold_run
-          (HoldRun-lowered old.task old.limit (words_of_grown old) _ c.args.node c.args.cost
-          (record { writes = writes; low = omega (arith, c.requires.not_above) }) c.requires.not_above c.requires.above_parent);
+          ((HoldRun-lowered old.task old.limit (words_of_grown old) _ c.args.node c.args.cost
+          (record { writes = writes; low = omega (arith, c.requires.not_above) }) c.requires.not_above c.requires.above_parent) old.hold_run);
     }
 
 pub returns-clause-state : goal.returns-clause-state

@@ -22,9 +22,9 @@ invariant_of-result c =
           length-start_words sizes c.in_ok-words.words.items c.count.result c.point.result c.tree.result c.first.result 1 c.pack_point.result
           c.pack_tree.result c.pack_tree-2.result places;
       hold_run =
-          ∣ HoldRun-start c.args.task _ c.requires
+          HoldRun-start c.args.task _ c.requires
           (HoldStart-set sizes c.in_ok-words.words.items c.count.result c.point.result c.tree.result c.first.result 1 c.pack_point.result
-          c.pack_tree.result c.pack_tree-2.result places c.args.task.scene.start refl c.pack_point.ensures c.pack_tree.ensures c.pack_tree-2.ensures) ∣₁;
+          c.pack_tree.result c.pack_tree-2.result places c.args.task.scene.start refl c.pack_point.ensures c.pack_tree.ensures c.pack_tree-2.ensures);
     }
 
 pub returns-clause-state : goal.returns-clause-state

@@ -23,8 +23,8 @@ invariant_of-result c =
           ap length items
           ∙ omega (arith, long, c.in_ok-words.ensures.len, c.len.ensures ∙ ap word_count c.of.ensures);
       hold_run =
-          ∣ subst (λ list. HoldRun c.args.task c.len-2.result (run_words c.args.task list)) (sym items)
-          (subst (λ n. HoldRun c.args.task n (run_words c.args.task c.write_run.new.words)) limit c.write_run.ensures.run) ∣₁;
+          subst (λ list. HoldRun c.args.task c.len-2.result (run_words c.args.task list)) (sym items)
+          (subst (λ n. HoldRun c.args.task n (run_words c.args.task c.write_run.new.words)) limit c.write_run.ensures.run);
     }
 
 pub returns-clause-state : goal.returns-clause-state

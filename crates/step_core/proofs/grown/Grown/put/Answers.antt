@@ -22,8 +22,8 @@ write_mark-requires-clause-closed c =
     let old = c.args.self.now in
     subst
     (λ items.
-    ∥ IsClosed (setup_of old.task.scene) old.task.marks (old.limit + 1)
-    (with_mark (state_of_words (sizes_of old.task) (run_words old.task items)) old.limit c.args.entry.now c.args.p c.args.moved.now) ∥₁)
+    IsClosed (setup_of old.task.scene) old.task.marks (old.limit + 1)
+    (with_mark (state_of_words (sizes_of old.task) (run_words old.task items)) old.limit c.args.entry.now c.args.p c.args.moved.now))
     (sym c.deref_mut.ensures.value) c.requires.closed
 
 pub overflow_add-self : goal.overflow_add-self
