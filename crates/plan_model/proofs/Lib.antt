@@ -60,6 +60,7 @@ pub mod WorkerTurns
 pub mod TurnsFromZero
 pub mod PlacedNodes
 pub mod ClosedProps
+pub mod ClearPathLaws
 pub mod WayProps
 pub mod NextMarks
 pub mod OrderedTrees

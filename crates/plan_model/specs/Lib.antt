@@ -22,6 +22,7 @@ pub mod Trees
 pub mod Branches
 pub mod Outcomes
 pub mod BestNode
+pub mod ClearPaths
 pub mod Textbook
 pub mod TreeStates
 pub mod OrderLaw

@@ -1,12 +1,15 @@
 //! Laws of closed runs, each the contract of a function that does nothing.
 
 ghost use Rattle.std.specs.Prelude.{◌≡◌, ℕ, suc, ◌+◌, ◌<◌, List, Option, Some, length};
+ghost use Rattle.plan_model.specs.BestNode.{best_node};
 ghost use Rattle.plan_model.specs.Clearance.{ClearAt};
+ghost use Rattle.plan_model.specs.ClearPaths.{IsClearPath};
 ghost use Rattle.plan_model.specs.ClosedLaw.{IsClosed, mark_at, outcome_count};
 ghost use Rattle.plan_model.specs.HandledMarks.{IsHandledWhole, with_mark};
 ghost use Rattle.plan_model.specs.OrderLaw.{KeepsFirstCosts};
 ghost use Rattle.plan_model.specs.Outcomes.{is_blocked, is_placed, is_same};
 ghost use Rattle.plan_model.specs.PointsByNumber.{AreNumberedTo, IsPresent, node_count};
+ghost use Rattle.plan_model.specs.ReportText.{best_path, path_to};
 ghost use Rattle.plan_model.specs.Textbook.{IsTextbookRun, Nodes, Setup};
 ghost use Rattle.plan_model.specs.SameRuns.{IsOfTextbookRun};
 ghost use Rattle.plan_model.specs.TreeStates.{GrowsInto, IsSettled, TreeState, state_of};
@@ -14,6 +17,7 @@ ghost use Rattle.plan_model.specs.Turns.{AreTurns, RunFromZero};
 ghost use Rattle.plan_model.specs.declared.geometry.Point.{Point};
 ghost use Rattle.plan_model.specs.declared.limits.TheConstants.{MOST_WORKERS};
 ghost use Rattle.plan_model.specs.declared.records.Record.{Record};
+ghost use Rattle.plan_model.specs.declared.scenes.Scene.{Scene};
 
 /// A textbook run from a clear start is closed at the number of its marks.
 pub fn textbook_run_is_closed()
@@ -82,4 +86,13 @@ pub fn counted_turns_run_from_0()
 pub fn closed_law_has_one_proof()
     ensures { (setup : Setup) (marks : List Point) (limit : ℕ) (state : TreeState)
         → IsProp (IsClosed setup marks limit state) }
+{}
+
+/// In a closed run each edge of the path to a node is clear, and so is each edge of the best path.
+pub fn paths_of_closed_runs_are_clear()
+    ensures path { (setup : Setup) (marks : List Point) (limit : ℕ) (state : TreeState)
+        → IsClosed setup marks limit state → (n : ℕ) → IsPresent state.points n → IsClearPath setup.space (path_to state n) }
+    ensures best { (setup : Setup) (marks : List Point) (limit : ℕ) (state : TreeState)
+        → IsClosed setup marks limit state
+        → (scene : Scene) → IsClearPath setup.space (best_path state (best_node scene limit state)) }
 {}
