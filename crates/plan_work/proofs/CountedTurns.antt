@@ -48,16 +48,16 @@ module _
       omega (
         arith,
         same-turns entry.worker,
-        (let h = before.hold_run in turns_of-handled (setup_of before.task.scene) before.task.marks before.limit (state_of_grown before) entry
-            next.point next.moved h.closed room next.handled),
+        (turns_of-handled (setup_of before.task.scene) before.task.marks before.limit (state_of_grown before) entry
+            next.point next.moved before.hold_run.closed room next.handled),
       )
 
   turns-other : (worker : ℕ) → entry.worker ≢ worker
       → turns_of (state_of_grown after).record_of after.limit worker ≡ turns_of (state_of_grown before).record_of before.limit worker
   turns-other worker apart =
       same-turns worker
-      ∙ (let h = before.hold_run in turns_of-handled_by_other (setup_of before.task.scene) before.task.marks before.limit (state_of_grown before)
-      entry next.point next.moved h.closed room next.handled worker apart)
+      ∙ (turns_of-handled_by_other (setup_of before.task.scene) before.task.marks before.limit (state_of_grown before)
+      entry next.point next.moved before.hold_run.closed room next.handled worker apart)
 
   -- so a list of them stays right if the worker's number in it rises by one
   pub turns-counted : (turns : List ℕ) (most worker turn : ℕ) → entry.worker ≡ worker → worker < length turns

@@ -10,7 +10,7 @@ use Rattle.plan_model.specs.TreeStates.{GrowsInto, first_cost_of, KeepsOrFalls}
 use Rattle.plan_model.proofs.NewNodes.{IsPresent-stands}
 use Rattle.step_core.specs.declared.grown.Grown.{Grown}
 use Rattle.step_core.specs.GrownRuns.{state_of_grown, words_of_grown}
-use Rattle.step_core.proofs.HeldNodes.{start_stands-held, start_parent-held, start_cost-held, node-held}
+use Rattle.step_core.proofs.HeldNodes.{start_stands-held, node-held}
 
 module _ (grown : Grown) where
   -- the start stands at its place
@@ -19,18 +19,18 @@ module _ (grown : Grown) where
 
   -- it is its own parent
   parent-start : (state_of_grown grown).parent 0 ≡ 0
-  parent-start = start_parent-held grown.task grown.limit (words_of_grown grown) grown.hold_run
+  parent-start = grown.hold_run.closed.order.start_parent
 
   -- and costs nothing
   cost-start : (state_of_grown grown).cost 0 ≡ 0
-  cost-start = start_cost-held grown.task grown.limit (words_of_grown grown) grown.hold_run
+  cost-start = grown.hold_run.closed.order.start_cost
 
   -- ---- before its first mark
 
   -- no mark has a record
   record_of-first : grown.limit ≡ 0 → (k : ℕ) → is_some ((state_of_grown grown).record_of k) ≡ false
   record_of-first fresh k =
-      (ap is_some (grown.hold_run.closed.records.none_else k (omega (arith, fresh))))
+      ap is_some (grown.hold_run.closed.records.none_else k (omega (arith, fresh)))
 
   pub no_record-first : grown.limit ≡ 0 → (k : ℕ) (entry : Record) → ¬ ((state_of_grown grown).record_of k ≡ Some entry)
   no_record-first fresh k entry is = let none = sym (record_of-first fresh k) ∙ ap is_some is in cc

@@ -23,8 +23,7 @@ FallAlong-grown grown =
     record {
       start = start_present-held grown.task grown.limit words grown.hold_run;
       parent = λ n here. parent-held grown.task grown.limit words grown.hold_run (suc n) here;
-      falls = λ n here.
-          (let h = grown.hold_run in KeepsOrder-falls (setup_of grown.task.scene) (state_of_grown grown) h.closed.order n here);
+      falls = λ n here. KeepsOrder-falls (setup_of grown.task.scene) (state_of_grown grown) grown.hold_run.closed.order n here;
     }
 
 -- the points of a node's chain: from the node up to the start

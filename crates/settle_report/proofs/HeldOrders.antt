@@ -19,7 +19,7 @@ module _ (task : Task) (limit : ℕ) (words : Words) (held : HoldRun task limit 
       (n : ℕ) → IsPresent (state_of_words (sizes_of task) words).points n
       → IsPresent (state_of_words (sizes_of task) words).points ((state_of_words (sizes_of task) words).parent n)
   parent-held n here =
-      (let h = held in parent-present (setup_of task.scene) (state_of_words (sizes_of task) words) h.closed.order n here)
+      parent-present (setup_of task.scene) (state_of_words (sizes_of task) words) held.closed.order n here
 
   -- a node but the start costs at least what its parent costs and the edge
   pub edge-held :
@@ -28,11 +28,11 @@ module _ (task : Task) (limit : ℕ) (words : Words) (held : HoldRun task limit 
       + edge_by (state_of_words (sizes_of task) words).points (state_of_words (sizes_of task) words).parent n
       ≤ (state_of_words (sizes_of task) words).cost n
   edge-held zero other here = absurd (omega (arith, other))
-  edge-held (suc n) other here = ((held.closed.order.hangs n here).above)
+  edge-held (suc n) other here = (held.closed.order.hangs n here).above
 
   -- it costs at least its sum
   pub sum-held :
       (n : ℕ) → IsPresent (state_of_words (sizes_of task) words).points n
       → sum_in (state_of_words (sizes_of task) words) n ≤ (state_of_words (sizes_of task) words).cost n
   sum-held n here =
-      (let h = held in sum_in-le_cost (setup_of task.scene) (state_of_words (sizes_of task) words) h.closed.order n here)
+      sum_in-le_cost (setup_of task.scene) (state_of_words (sizes_of task) words) held.closed.order n here

@@ -28,7 +28,7 @@ use Rattle.step_core.specs.KdLinks.{AreLinkedBelow, ChangesChildren, KeepsChildr
 use Rattle.step_core.specs.MarkWrites.{MayMove, WritesNewNode}
 use Rattle.step_core.specs.PackedRuns.{FitsNode, FitsRecord}
 use Rattle.step_core.proofs.GrownPoints.{node_count-words, present-within}
-use Rattle.step_core.proofs.HeldRuns.{counted-held, none_past-held, claimed-held}
+use Rattle.step_core.proofs.HeldRuns.{none_past-held}
 use Rattle.step_core.proofs.LinkedMarks.{start_was, MayLink-placed, AreSameRuns-marked, HoldRun-placed}
 use Rattle.step_core.proofs.MarkStates.{knot_of, with_placed, other-present, FitsRecord-marked, IsBounded-placed, cost_below-low}
 use Rattle.step_core.proofs.PackedWritings.{quota_of-le}
@@ -80,7 +80,7 @@ module _
       subst (λ (s : Sizes). before (Counter (k % s.strips)) ≤ k) (sym same)
       (omega (
         arith,
-        claimed-held task k before run (k % task.scene.strips) strip,
+        run.claimed (k % task.scene.strips) strip,
         quota_of-le task.scene.strips (k % task.scene.strips) k,
       ))
 
@@ -103,7 +103,7 @@ module _
         (omega (
           arith,
           count-unrecorded (sizes_of task) k entry before recorded records_of_task,
-          counted-held task k before run,
+          run.counted,
           node_count-words (sizes_of task) before,
         ))
 

@@ -1,13 +1,20 @@
 //! Laws of the words, each the contract of a function that does nothing.
 
-ghost use Rattle.std.specs.Prelude.{◌≡◌, ℕ, ◌<◌, ◌^◌, ◌↔◌, Option, Some, None};
+ghost use Rattle.std.specs.Prelude.{◌≡◌, ℕ, ◌<◌, ◌^◌, ◌↔◌, List, Option, Some, None, length};
 ghost use Rattle.std.specs.Int.{bit_at};
 ghost use Rattle.plan_model.specs.Bounds.{IsBounded};
+ghost use Rattle.plan_model.specs.ClosedLaw.{IsClosed};
+ghost use Rattle.plan_model.specs.Textbook.{setup_of};
+ghost use Rattle.plan_model.specs.TreeStates.{AreSameRuns};
 ghost use Rattle.plan_model.specs.declared.geometry.Point.{Point};
 ghost use Rattle.plan_model.specs.declared.records.Record.{Record};
+ghost use Rattle.plan_model.specs.declared.trees.Knot.{Knot};
+ghost use Rattle.step_core.specs.GrownRuns.{state_of_grown};
+ghost use Rattle.step_core.specs.PackedRuns.{state_of_lists};
 ghost use Rattle.step_core.specs.WordKinds.{AreBehind};
 ghost use Rattle.step_core.specs.WordNames.{Word, Words};
 ghost use Rattle.step_core.specs.WordPlaces.{HasWord, Sizes, place_of, word_count};
+ghost use Rattle.step_core.specs.declared.grown.Grown.{Grown};
 ghost use Rattle.step_core.specs.Words.{FitsWord, IsFirstWord, point_of_word, point_word, record_of_word, record_word, tree_of_word, tree_word};
 
 /// What is packed is read again: a point, a parent with its cost, and a whole record with the first word of its node.
@@ -59,4 +66,12 @@ pub fn words_have_their_own_places()
 pub fn words_go_on()
     ensures stay { (words : Words) → AreBehind words words }
     ensures go_on { (words later last : Words) → AreBehind words later → AreBehind later last → AreBehind words last }
+{}
+
+/// A run is closed by its type, and so is each run that is given by lists and is the same: it may be packed.
+pub fn runs_may_be_packed_again()
+    ensures closed { (grown : Grown) → IsClosed (setup_of grown.task.scene) grown.task.marks grown.limit (state_of_grown grown) }
+    ensures again { (grown : Grown) (knots : List (Option Knot)) (records : List Record)
+        → AreSameRuns (state_of_grown grown) (state_of_lists knots records) → length records ≡ grown.limit
+        → IsClosed (setup_of grown.task.scene) grown.task.marks (length records) (state_of_lists knots records) }
 {}

@@ -11,7 +11,6 @@ use Rattle.plan_model.proofs.FreePoints.{filter-none, is_near_free}
 use Rattle.plan_model.proofs.MarkBounds.{length-marks}
 use Rattle.step_core.specs.GrownRuns.{state_of_grown, words_of_grown}
 use Rattle.step_core.specs.GrownWords.{node_point}
-use Rattle.step_core.proofs.HeldRuns.{limit-held}
 use Rattle.step_core.proofs.HeldNodes.{node-held}
 use Rattle.plan_work.proofs.NumberScans.{filter-more, filter-longer}
 use Rattle.plan_work.proofs.near_nodes.fill_near.Goals as goal
@@ -29,7 +28,7 @@ returns-then-radius-eq0-clause-near c =
 pub overflow_add-numbers : goal.overflow_add-numbers
 overflow_add-numbers c =
     let grown = c.args.grown.now in
-    omega (arith, c.limit-numbers.ensures, limit-held grown.task grown.limit (words_of_grown grown) grown.hold_run, length-marks grown.task)
+    omega (arith, c.limit-numbers.ensures, grown.hold_run.closed.within, length-marks grown.task)
 
 pub loop-node-preserved : goal.loop-node-preserved
 loop-node-preserved c =
@@ -64,7 +63,7 @@ returns-clause-near c =
     let node = c.loop-node.node in
     let long : length points ≡ length grown.task.marks + 1 =
     length-map-range_with_len (node_point words) 0 (length grown.task.marks + 1) in
-    let within = limit-held grown.task grown.limit words grown.hold_run in
+    let within = grown.hold_run.closed.within in
     let fail : (i : ℕ) → node ≤ i → test i ≡ false =
     λ i past. elim (cases_Bool (test i)) [
       | inl passes ↦ (

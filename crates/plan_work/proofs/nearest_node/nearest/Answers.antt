@@ -10,7 +10,6 @@ use Rattle.plan_model.proofs.MarkBounds.{length-marks}
 use Rattle.plan_model.proofs.NewNodes.{IsPresent-stands, point_of-stands}
 use Rattle.step_core.specs.GrownRuns.{state_of_grown, words_of_grown}
 use Rattle.step_core.specs.GrownWords.{sizes_of}
-use Rattle.step_core.proofs.HeldRuns.{limit-held}
 use Rattle.step_core.proofs.GrownPoints.{IsBounded-stands}
 use Rattle.step_core.proofs.HeldNodes.{node-held, start_distance-held, start_present-held}
 use Rattle.plan_work.proofs.nearest_node.nearest.Goals as goal
@@ -19,7 +18,7 @@ use Rattle.plan_work.proofs.nearest_node.nearest.Goals.{in-Some+then-distance-le
 pub overflow_add-numbers : goal.overflow_add-numbers
 overflow_add-numbers c =
     let grown = c.args.grown.now in
-    omega (arith, c.limit-numbers.ensures, limit-held grown.task grown.limit (words_of_grown grown) grown.hold_run, length-marks grown.task)
+    omega (arith, c.limit-numbers.ensures, grown.hold_run.closed.within, length-marks grown.task)
 
 pub loop-node-init : goal.loop-node-init
 loop-node-init c =

@@ -3,14 +3,13 @@ use Rattle.plan_model.specs.LeastPairs.{lesser}
 use Rattle.plan_model.specs.TreeStates.{sum_in}
 use Rattle.plan_model.proofs.MarkBounds.{length-marks}
 use Rattle.step_core.specs.GrownRuns.{state_of_grown, words_of_grown}
-use Rattle.step_core.proofs.HeldRuns.{limit-held}
 use Rattle.settle_report.proofs.GoalNodes.{best_of, best_of-goal_node, best_of-other, best_of-all}
 use Rattle.settle_report.proofs.best_node.best.Goals as goal
 
 pub overflow_step-node : goal.overflow_step-node
 overflow_step-node c =
     let grown = c.args.grown.now in
-    omega (arith, c.limit-node.ensures, limit-held grown.task grown.limit (words_of_grown grown) grown.hold_run, length-marks grown.task)
+    omega (arith, c.limit-node.ensures, grown.hold_run.closed.within, length-marks grown.task)
 
 pub loop-node-init : goal.loop-node-init
 loop-node-init c =

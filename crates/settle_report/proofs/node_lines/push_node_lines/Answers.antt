@@ -4,14 +4,13 @@ use Rattle.plan_model.specs.PointsByNumber.{point_at}
 use Rattle.plan_model.specs.ReportText.{node_line_if_present}
 use Rattle.plan_model.proofs.MarkBounds.{length-marks}
 use Rattle.step_core.specs.GrownRuns.{state_of_grown, words_of_grown}
-use Rattle.step_core.proofs.HeldRuns.{limit-held}
 use Rattle.settle_report.proofs.NumberedLines.{lines-pushed}
 use Rattle.settle_report.proofs.node_lines.push_node_lines.Goals as goal
 
 pub overflow_add-node-end : goal.overflow_add-node-end
 overflow_add-node-end c =
     let grown = c.args.grown.now in
-    omega (arith, c.limit-node-end.ensures, limit-held grown.task grown.limit (words_of_grown grown) grown.hold_run, length-marks grown.task)
+    omega (arith, c.limit-node-end.ensures, grown.hold_run.closed.within, length-marks grown.task)
 
 pub loop-node-preserved : goal.loop-node-preserved
 loop-node-preserved c =

@@ -2,7 +2,6 @@ use Rattle.std.proofs.Common.{◌+◌, [], ◌∷◌, ◌++◌, arith, refl, sym
 use Rattle.std.specs.Prelude.{is_some}
 use Rattle.plan_model.proofs.MarkBounds.{length-marks}
 use Rattle.step_core.specs.GrownRuns.{state_of_grown, words_of_grown}
-use Rattle.step_core.proofs.HeldRuns.{limit-held}
 use Rattle.step_core.proofs.HeldNodes.{node-held}
 use Rattle.settle_report.specs.CostOrders.{IsKeptCost}
 use Rattle.settle_report.proofs.CostOrderLaws.{AreKeptCostsBelow, AreKeptCostsBelow-push, AreKeptCostsBelow-skip, AreKeptCosts-below}
@@ -14,7 +13,7 @@ overflow_add-node-end c =
     let grown = c.args.grown.now in
     omega (
       arith,
-      limit-held grown.task grown.limit (words_of_grown grown) grown.hold_run,
+      grown.hold_run.closed.within,
       length-marks grown.task,
       c.limit-node-end.ensures,
     )

@@ -5,7 +5,6 @@ use Rattle.step_core.specs.GrownWords.{sizes_of}
 use Rattle.step_core.specs.WordNames.Word.{Count}
 use Rattle.step_core.specs.WordPlaces.{place_of}
 use Rattle.step_core.proofs.GrownPoints.{node_count-words}
-use Rattle.step_core.proofs.HeldRuns.{counted-read}
 use Rattle.step_core.proofs.WordReads.{word-read}
 use Rattle.step_core.proofs.grown.Grown.count.Goals as goal
 
@@ -14,7 +13,7 @@ overflow_cast-result c =
     let grown = c.args.self.now in
     let found = c.count.ensures ∙ ap (λ s. place_of s Count) c.of.ensures in
     let read = word-read (sizes_of grown.task) grown.words.items c.count.result c.index.result.now Count grown.sized tt found c.index.ensures in
-    let counted = counted-read grown.task grown.limit (words_of_grown grown) grown.hold_run c.index.result.now read in
+    let counted = read ∙ grown.hold_run.counted in
     omega (arith, counted, node_count-words (sizes_of grown.task) (words_of_grown grown), length-marks grown.task)
 
 pub returns : goal.returns
@@ -22,4 +21,4 @@ returns c =
     let grown = c.args.self.now in
     let found = c.count.ensures ∙ ap (λ s. place_of s Count) c.of.ensures in
     let read = word-read (sizes_of grown.task) grown.words.items c.count.result c.index.result.now Count grown.sized tt found c.index.ensures in
-    counted-read grown.task grown.limit (words_of_grown grown) grown.hold_run c.index.result.now read
+    read ∙ grown.hold_run.counted

@@ -1,13 +1,12 @@
 use Rattle.std.proofs.Common.{sym, ap, ◌∙◌}
 use Rattle.std.specs.Prelude.{is_some}
 use Rattle.step_core.specs.GrownRuns.{words_of_grown}
-use Rattle.step_core.proofs.HeldRuns.{recorded-held}
 use Rattle.step_core.proofs.grown.Grown.record_of.Goals as goal
 
 pub unwrap-requires : goal.unwrap-requires
 unwrap-requires c =
     let grown = c.args.self.now in
-    ap is_some c.record_at.ensures ∙ recorded-held grown.task grown.limit (words_of_grown grown) grown.hold_run c.args.mark c.requires
+    ap is_some c.record_at.ensures ∙ grown.hold_run.closed.records.recorded c.args.mark c.requires
 
 pub returns : goal.returns
 returns c = sym c.record_at.ensures ∙ c.unwrap.ensures
