@@ -11,6 +11,7 @@ pub mod HeldNodes
 pub mod LoweredWords
 pub mod StartWords
 pub mod KdWays
+pub mod LinkedPresence
 pub mod LinkedWords
 pub mod PackedWritings
 pub mod LinkedNodes
@@ -20,6 +21,7 @@ pub mod FittingRuns
 pub mod ListedRuns
 pub mod MovedWords
 pub mod NewWords
+pub mod ClearedWords
 pub mod FittingStates
 pub mod RecordedMarks
 pub mod UnplacedMarks

@@ -24,17 +24,17 @@ use Rattle.step_core.specs.WordNames.Word.{Count, Counter, PointOf, TreeOf, Firs
 use Rattle.step_core.specs.WordPlaces.{Sizes}
 use Rattle.step_core.specs.Words.{parent_in, cost_in}
 use Rattle.step_core.specs.GrownWords.{has_node, points_of_words, state_of_words, child_of_word, children_of_words}
-use Rattle.step_core.specs.GrownWords.{IsPointWord, IsTreeWord, IsWritten, sizes_of, HoldRun}
+use Rattle.step_core.specs.GrownWords.{IsPointWord, IsTreeWord, IsWritten, IsBlank, sizes_of, HoldRun}
 use Rattle.step_core.specs.KdLinks.{points_below, AreLinkedBelow, ChangesChildren, MayLink}
 use Rattle.step_core.specs.MarkWrites.{cost_below}
 use Rattle.step_core.specs.PackedRuns.{FitsRecord}
 use Rattle.step_core.proofs.FittingStates.{FitsRecord-closed}
 use Rattle.step_core.proofs.GrownPoints.{point_at-absent}
 use Rattle.step_core.proofs.KdWays.{point_at-lesser, point_at-greater}
-use Rattle.step_core.proofs.KeptWords.{KeepsNodes-children, record_at-kept, point_at-kept}
+use Rattle.step_core.proofs.KeptWords.{KeepsNodes-children, has_node-kept, record_at-kept, point_at-kept}
 use Rattle.step_core.proofs.MarkStates.{knot_of, with_placed, point_at-others, IsBounded-placed, cost_below-low}
 use Rattle.step_core.proofs.PlacedMarks.{PlacesMark, HoldsMark-placed, count-placed, child-placed, point_at-own, point_at-other}
-use Rattle.step_core.proofs.PlacedMarks.{AreSameRuns-placed, written-own, written-other}
+use Rattle.step_core.proofs.PlacedMarks.{AreSameRuns-placed, written-own, written-other, blank-other}
 use Rattle.step_core.proofs.RecordedMarks.{HoldsMark, HoldsMark-later, quota-marked}
 use Rattle.step_core.proofs.RecordedMarks.{recorded-marked, unrecorded-marked, start_first-marked}
 
@@ -44,6 +44,14 @@ IsWritten-linked before after n change written = record {
   point = subst IsPointWord (sym (change (PointOf n) (λ h. h))) written.point;
   tree = subst IsTreeWord (sym (change (TreeOf n) (λ h. h))) written.tree;
   first = subst IsTreeWord (sym (change (FirstOf n) (λ h. h))) written.first;
+}
+
+-- nor of a number without a node
+IsBlank-linked : (before after : Words) (n : ℕ) → ChangesChildren before after → IsBlank before n → IsBlank after n
+IsBlank-linked before after n change blank = record {
+  point = change (PointOf n) (λ h. h) ∙ blank.point;
+  tree = change (TreeOf n) (λ h. h) ∙ blank.tree;
+  first = change (FirstOf n) (λ h. h) ∙ blank.first;
 }
 
 -- nor of the tree and the records
@@ -200,4 +208,9 @@ module _
       recorded = recorded-marked sizes k entry before after marked fits run.recorded;
       unrecorded = unrecorded-marked sizes k entry before after marked fits run.unrecorded;
       start_first = start_first-marked sizes k entry before after marked fits ∙ run.start_first;
+      blank = λ n none.
+          IsBlank-linked full after n change
+          (blank-other sizes k entry p moved before full writes within absent nodes fits
+          (IsBounded-placed task before k entry p moved within absent nodes closed) small is low n
+          (sym (has_node-kept full after (KeepsNodes-children full after change) n) ∙ none) run.blank);
     }

@@ -1,5 +1,5 @@
 -- The words of a run in which one kept cost is lowered: one tree word changes, and what the others say stays.
-use Rattle.std.proofs.Common.{◌≡◌, ℕ, zero, suc, ◌<◌, ◌≤◌, ◌^◌, Bool, arith, refl, sym, ap, ◌∙◌, subst, inl, inr}
+use Rattle.std.proofs.Common.{◌≡◌, ℕ, zero, suc, ◌<◌, ◌≤◌, ◌^◌, Bool, true, arith, refl, sym, ap, ◌∙◌, subst, inl, inr}
 use Rattle.std.specs.Prelude.{◌≢◌}
 use Rattle.std.proofs.lemmas.Bool.{cases_eq}
 use Rattle.plan_model.specs.declared.tasks.Task.{Task}
@@ -13,10 +13,10 @@ use Rattle.step_core.specs.WordNames.{Word, Words, WritesWord}
 use Rattle.step_core.specs.WordNames.Word.{Count, Counter, PointOf, ChildOf, TreeOf, FirstOf, RecordOf}
 use Rattle.step_core.specs.WordPlaces.{Sizes}
 use Rattle.step_core.specs.Words.{parent_in, cost_in, tree_word}
-use Rattle.step_core.specs.GrownWords.{points_of_words, state_of_words, child_of_word, children_of_words}
+use Rattle.step_core.specs.GrownWords.{has_node, points_of_words, state_of_words, child_of_word, children_of_words}
 use Rattle.step_core.specs.GrownWords.{IsPointWord, IsTreeWord, IsWritten, sizes_of, HoldRun}
 use Rattle.step_core.specs.GrownRuns.{MayCost, CostsInstead}
-use Rattle.step_core.proofs.KeptWords.{KeepsNodes, record_at-kept, points-kept, point_at-kept, present-kept}
+use Rattle.step_core.proofs.KeptWords.{KeepsNodes, has_node-kept, record_at-kept, points-kept, point_at-kept, present-kept}
 use Rattle.step_core.proofs.PackedWords.{parent_in-tree_word, cost_in-tree_word}
 
 -- ---- one tree word changes
@@ -144,8 +144,8 @@ module _
   points = points-kept before after still sizes
 
   -- A closed run with a lowered cost is one.
-  pub HoldRun-lowered : HoldRun task limit before → HoldRun task limit after
-  HoldRun-lowered held = record {
+  pub HoldRun-lowered : has_node before i ≡ true → HoldRun task limit before → HoldRun task limit after
+  HoldRun-lowered here held = record {
     closed =
         IsClosed-lowered (setup_of task.scene) task.marks limit (state_of_words sizes before) (state_of_words sizes after)
         (record_at-kept before after still) held.closed
@@ -159,4 +159,12 @@ module _
     recorded = λ k entry h. still.records k ∙ held.recorded k entry (sym (record_at-kept before after still k) ∙ h);
     unrecorded = λ k past. still.records k ∙ held.unrecorded k past;
     start_first = still.firsts 0 ∙ held.start_first;
+    blank = λ n none.
+        let was = sym (has_node-kept before after still n) ∙ none in
+        let apart : n ≢ i = λ e. let gone = sym was ∙ ap (has_node before) e ∙ here in cc in
+        record {
+          point = still.points n ∙ (held.blank n was).point;
+          tree = tree_word-kept sizes before after i exchange.writes.others n apart ∙ (held.blank n was).tree;
+          first = still.firsts n ∙ (held.blank n was).first;
+        };
   }

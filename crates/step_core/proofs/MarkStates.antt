@@ -127,7 +127,6 @@ module _
   -- it stands at a point that fits its word
   pub IsBounded-placed : IsBounded p
   IsBounded-placed =
-      
       ((subst IsBounded (point_of-stands after.points (suc k) p own_stands)
       (IsBounded-closed task (suc k) after closed (suc k) (IsPresent-stands after.points (suc k) p own_stands))))
 

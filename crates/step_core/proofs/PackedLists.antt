@@ -66,6 +66,16 @@ module _
     none_else = λ k past.
         entries.others (RecordOf k) (λ less. omega (arith, past, less)) ∙ nodes.others (RecordOf k) (λ h. h) ∙ first.others (RecordOf k) (λ e. cc)
         ∙ number.others (RecordOf k) (λ e. cc) ∙ claims.others (RecordOf k) (λ h. h) ∙ zeros (RecordOf k);
+    no_knot = λ n none. (
+      entries.others (PointOf n) (λ h. h) ∙ nodes.others (PointOf n) none ∙ first.others (PointOf n) (λ e. cc) ∙ number.others (PointOf n) (λ e. cc)
+          ∙ claims.others (PointOf n) (λ h. h) ∙ zeros (PointOf n),
+      entries.others (TreeOf n) (λ h. h) ∙ nodes.others (TreeOf n) none ∙ first.others (TreeOf n) (λ e. cc) ∙ number.others (TreeOf n) (λ e. cc)
+          ∙ claims.others (TreeOf n) (λ h. h) ∙ zeros (TreeOf n),
+    );
+    no_first = λ k none.
+        entries.others (FirstOf (suc k)) (λ is. none is.1 is.2 is.3) ∙ nodes.others (FirstOf (suc k)) (λ h. h)
+        ∙ first.others (FirstOf (suc k)) (λ e. cc) ∙ number.others (FirstOf (suc k)) (λ e. cc) ∙ claims.others (FirstOf (suc k)) (λ h. h)
+        ∙ zeros (FirstOf (suc k));
   }
 
   -- no node has a child
@@ -96,6 +106,8 @@ module _ (sizes : Sizes) (knots : List (Option Knot)) (records : List Record) (b
     nodes = λ n knot is. same_node n knot (held.nodes n knot is);
     entries = λ k entry is. same_entry k entry (held.entries k entry is);
     none_else = λ k past. change (RecordOf k) (λ h. h) ∙ held.none_else k past;
+    no_knot = λ n none. (change (PointOf n) (λ h. h) ∙ (held.no_knot n none).0, change (TreeOf n) (λ h. h) ∙ (held.no_knot n none).1);
+    no_first = λ k none. change (FirstOf (suc k)) (λ h. h) ∙ held.no_first k none;
   }
 
 -- The nodes of the lists of a closed run may be linked.

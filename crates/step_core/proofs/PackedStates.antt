@@ -1,9 +1,9 @@
 -- The words that hold the lists of a closed run are those of a closed run, and have the same tree and records.
-use Rattle.std.proofs.Common.{◌≡◌, ℕ, zero, suc, true, List, Option, Some, None, length, arith, refl, sym, ap, ◌∙◌, subst, inl, inr}
+use Rattle.std.proofs.Common.{◌≡◌, ℕ, zero, suc, true, List, Option, Some, None, length, arith, refl, sym, ap, ◌∙◌, subst, inl, inr, false}
 use Rattle.std.specs.Prelude.{is_some, option_map, slice_get, slice_index_or}
 use Rattle.std.proofs.lemmas.Bool.{cases_lt, cases_Bool, false_from_ne_true}
 use Rattle.std.proofs.lemmas.List.{get_or_past}
-use Rattle.std.proofs.lemmas.Option.{slice_get-get_or, slice_get_cases}
+use Rattle.std.proofs.lemmas.Option.{slice_get-get_or, slice_get_cases, get_or_from_slice_get}
 use Rattle.std.proofs.Math.ListN.{get_or-map}
 use Rattle.plan_model.specs.declared.records.Outcome.TheVariants.{Placed}
 use Rattle.plan_model.specs.declared.records.Record.{Record}
@@ -27,8 +27,8 @@ use Rattle.step_core.specs.WordNames.Word.{TreeOf, FirstOf}
 use Rattle.step_core.specs.WordPlaces.{Sizes}
 use Rattle.step_core.specs.Words.{parent_in, cost_in, point_of_word, record_of_word}
 use Rattle.step_core.specs.GrownWords.{record_at, has_placed, has_node, points_of_words, state_of_words}
-use Rattle.step_core.specs.GrownWords.{children_of_words, IsPointWord, IsTreeWord, IsWritten, sizes_of, HoldRun}
-use Rattle.step_core.specs.PackedRuns.{kept_cost_of, state_of_lists, IsKnot, FitWords, HoldLists}
+use Rattle.step_core.specs.GrownWords.{children_of_words, IsPointWord, IsTreeWord, IsWritten, IsBlank, sizes_of, HoldRun}
+use Rattle.step_core.specs.PackedRuns.{kept_cost_of, state_of_lists, IsKnot, HasKnot as HasNode, FitWords, HoldLists}
 use Rattle.step_core.proofs.GrownPoints.{none_some, record_at-unwritten, node_point-here, point_at-words, point_at-absent}
 use Rattle.step_core.proofs.PackedRecords.{record_of_word-packed}
 use Rattle.step_core.proofs.PackedWords.{parent_in-tree_word, cost_in-tree_word, point_of_word-packed, IsPointWord-packed}
@@ -188,4 +188,19 @@ module _
     recorded = λ k entry h. (held.entries k entry (sym (record_at-packed k) ∙ h)).own;
     unrecorded = held.none_else;
     start_first = held.start;
+    blank = blank;
   }
+    where
+      no_knot : (n : ℕ) → has_node words n ≡ false → ¬ HasNode knots n
+      no_knot n none is =
+          let stands = point_at-lists knots n ∙ ap (option_map (λ (knot : Knot). knot.point)) (get_or_from_slice_get knots n (Some is.0) None is.1) in
+          let gone = sym none ∙ has_node-packed n (ap is_some stands) in
+          cc
+
+      blank : (n : ℕ) → has_node words n ≡ false → IsBlank words n
+      blank zero none = cc
+      blank (suc k) none = record {
+        point = (held.no_knot (suc k) (no_knot (suc k) none)).0;
+        tree = (held.no_knot (suc k) (no_knot (suc k) none)).1;
+        first = held.no_first k (λ entry is placed. let gone = sym none ∙ ap has_placed (record_at-packed k ∙ is) ∙ ap is_placed placed in cc);
+      }

@@ -1,7 +1,7 @@
 -- The next mark of a run is recorded, and its node was placed: the words say the tree with the node and the moved ones below it.
 use Rattle.std.proofs.Common.{◌≡◌, ℕ, suc, ◌+◌, ◌<◌, ◌≤◌, ◌^◌, ◌%◌, Bool, true, false, List, Some, None, arith, refl, sym, ap, ◌∙◌, subst, inl, inr}
 use Rattle.std.specs.Prelude.{◌≢◌, ◌==◌, is_some, if◌then◌else◌}
-use Rattle.std.proofs.lemmas.Bool.{cases_eq, cases_lt, cases_Bool, eq-eqb, ne_eqb}
+use Rattle.std.proofs.lemmas.Bool.{cases_eq, cases_lt, cases_Bool, eq-eqb, ne_eqb, false_from_ne_true}
 use Rattle.plan_model.specs.declared.geometry.Point.{Point}
 use Rattle.plan_model.specs.declared.records.Outcome.TheVariants.{Placed}
 use Rattle.plan_model.specs.declared.records.Record.{Record}
@@ -15,10 +15,10 @@ use Rattle.step_core.specs.WordNames.{Word, Words}
 use Rattle.step_core.specs.WordNames.Word.{Count, Counter, PointOf, ChildOf, TreeOf, FirstOf, RecordOf}
 use Rattle.step_core.specs.WordPlaces.{Sizes}
 use Rattle.step_core.specs.Words.{parent_in, cost_in, point_word, point_of_word, point_in, tree_word}
-use Rattle.step_core.specs.GrownWords.{has_node, node_point, points_of_words, state_of_words, IsPointWord, IsTreeWord, IsWritten}
+use Rattle.step_core.specs.GrownWords.{has_node, node_point, points_of_words, state_of_words, IsPointWord, IsTreeWord, IsWritten, IsBlank}
 use Rattle.step_core.specs.MarkWrites.{cost_below, IsNewNodeWord, IsMovedWord, WritesNewNode, MovesNodes}
 use Rattle.step_core.specs.PackedRuns.{FitsRecord}
-use Rattle.step_core.proofs.GrownPoints.{node_point-here, point_at-words, point_at-past}
+use Rattle.step_core.proofs.GrownPoints.{has_node-present, node_point-here, point_at-words, point_at-past}
 use Rattle.step_core.proofs.LoweredWords.{IsTreeWord-packed}
 use Rattle.step_core.proofs.MarkStates.{knot_of, with_placed, other-present, StandsAt-placed, point_at-others, cost-moved}
 use Rattle.step_core.proofs.PackedWords.{parent_in-tree_word, cost_in-tree_word, point_of_word-packed, IsPointWord-packed}
@@ -219,3 +219,16 @@ module _
           ];
       first = subst IsTreeWord (sym (HoldsMark-placed.firsts n apart)) written.first;
     }
+
+    -- a number that still has no node stays blank
+    pub blank-other : (n : ℕ) → has_node after n ≡ false → ((m : ℕ) → has_node before m ≡ false → IsBlank before m) → IsBlank after n
+    blank-other n none blank =
+        let apart : n ≢ suc k =
+        λ e. let gone = sym none ∙ ap (has_node after) e ∙ has_node-own sizes k entry before after HoldsMark-placed fits ∙ ap is_placed is in cc in
+        let was = sym (has_node-other sizes k entry before after HoldsMark-placed fits n apart) ∙ none in
+        let unmoved = false_from_ne_true (is_among moved n) (λ among. let gone = sym was ∙ has_node-present sizes before n (nodes n among) in cc) in
+        record {
+          point = point-other n apart ∙ (blank n was).point;
+          tree = tree-other n apart unmoved ∙ (blank n was).tree;
+          first = HoldsMark-placed.firsts n apart ∙ (blank n was).first;
+        }

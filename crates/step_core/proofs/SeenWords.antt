@@ -46,7 +46,8 @@ falls_says word later pair (inr (inr fell)) h = (
 unplaced_same : (number word first later : ℕ) → is_placed (record_in number word first).outcome ≡ false → record_in number word first ≡ record_in number word later
 unplaced_same zero word first later none = cc
 unplaced_same (suc zero) word first later none = refl
-unplaced_same (suc (suc n)) word first later none = refl
+unplaced_same (suc (suc zero)) word first later none = refl
+unplaced_same (suc (suc (suc n))) word first later none = refl
 
 -- a record that is whole is that of its words,
 whole_is : (word first : ℕ) (entry : Record) → whole_record word first ≡ Some entry → record_of_word word first ≡ Some entry

@@ -1,5 +1,5 @@
 -- The words of the start alone are those of a closed run at limit 0.
-use Rattle.std.proofs.Common.{◌≡◌, ℕ, zero, suc, Bool, Some, None, List, [], length, get_or, arith, refl, sym, ap, ◌∙◌, subst, inl, inr}
+use Rattle.std.proofs.Common.{◌≡◌, ℕ, zero, suc, Bool, Some, None, List, [], length, get_or, arith, refl, sym, ap, ◌∙◌, subst, inl, inr, false}
 use Rattle.std.specs.Prelude.{is_some, slice_set, replicate}
 use Rattle.std.proofs.lemmas.Bool.{cases_lt, cases_Bool}
 use Rattle.std.proofs.lemmas.List.{get_or-replicate, get_or_past, length-replicate}
@@ -24,8 +24,8 @@ use Rattle.step_core.specs.WordNames.{Word, Words, WritesWord}
 use Rattle.step_core.specs.WordNames.Word.{Count, Counter, PointOf, ChildOf, TreeOf, FirstOf, RecordOf}
 use Rattle.step_core.specs.WordPlaces.{Sizes, place_of, word_count, has_word, word_at}
 use Rattle.step_core.specs.Words.{parent_in, cost_in, tree_word, point_word, point_of_word}
-use Rattle.step_core.specs.GrownWords.{record_at, has_placed, points_of_words, state_of_words}
-use Rattle.step_core.specs.GrownWords.{child_of_word, children_of_words, IsPointWord, IsTreeWord, IsWritten, sizes_of, HoldRun}
+use Rattle.step_core.specs.GrownWords.{record_at, has_placed, has_node, points_of_words, state_of_words}
+use Rattle.step_core.specs.GrownWords.{child_of_word, children_of_words, IsPointWord, IsTreeWord, IsWritten, IsBlank, sizes_of, HoldRun}
 use Rattle.step_core.proofs.GrownPoints.{record_at-unwritten, point_at-absent, point_at-words}
 use Rattle.step_core.proofs.PackedWords.{parent_in-tree_word, cost_in-tree_word, point_of_word-packed, IsPointWord-packed}
 use Rattle.step_core.proofs.WordReads.{HasWord-true, word_at-has, word_at-false, WritesWord-set}
@@ -134,8 +134,17 @@ HoldRun-start task words clear held = record {
   recorded = λ k entry h. let gone = sym h ∙ record_at-none (sizes_of task) task.scene.start words bounded held k in cc;
   unrecorded = λ k past. held.others (RecordOf k) (λ h. h);
   start_first = held.first;
+  blank = blank;
 }
   where
+    blank : (n : ℕ) → has_node words n ≡ false → IsBlank words n
+    blank zero h = cc
+    blank (suc k) h = record {
+      point = held.others (PointOf (suc k)) (λ e. omega (arith, e));
+      tree = held.others (TreeOf (suc k)) (λ e. omega (arith, e));
+      first = held.others (FirstOf (suc k)) (λ e. omega (arith, e));
+    }
+
     bounded : IsBounded task.scene.start
     bounded = IsBounded-start task
 

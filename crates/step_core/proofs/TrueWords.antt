@@ -13,9 +13,9 @@ use Rattle.plan_model.specs.Ways.{FollowWays}
 use Rattle.plan_model.proofs.NewNodes.{IsPresent-stands, StandsAt-present}
 use Rattle.plan_model.proofs.TrueSights.{whole_pair}
 use Rattle.plan_model.proofs.WayLaws.{not_empty}
-use Rattle.step_core.specs.GrownWords.{child_of_word, children_of_words}
+use Rattle.step_core.specs.GrownWords.{child_of_word, children_of_words, is_child_of, is_linked}
 use Rattle.step_core.specs.SeenWords.{seen_tree_of_words}
-use Rattle.step_core.specs.SharedWords.{is_child_of, is_linked, linked_point, linked_points, shared_tree_of_words}
+use Rattle.step_core.specs.SharedWords.{linked_point, linked_points, shared_tree_of_words}
 use Rattle.step_core.specs.WordKinds.{AreBehind}
 use Rattle.step_core.specs.WordNames.{Words}
 use Rattle.step_core.specs.WordNames.Word.{Count, Counter, PointOf, ChildOf, TreeOf}

@@ -17,14 +17,14 @@ use Rattle.plan_model.proofs.NodeCounts.{node_count-same}
 use Rattle.plan_model.proofs.SameTrees.{IsClosed-same_run}
 use Rattle.plan_model.proofs.WayLinks.{FollowWays-same}
 use Rattle.step_core.specs.WordNames.{Words}
-use Rattle.step_core.specs.WordNames.Word.{PointOf, TreeOf}
+use Rattle.step_core.specs.WordNames.Word.{PointOf, TreeOf, FirstOf}
 use Rattle.step_core.specs.WordPlaces.{Sizes}
 use Rattle.step_core.specs.Words.{parent_in, cost_in, point_of_word}
 use Rattle.step_core.specs.GrownWords.{has_node, node_point, child_of_word, points_of_words, state_of_words, children_of_words}
-use Rattle.step_core.specs.GrownWords.{IsPointWord, IsTreeWord, IsWritten, sizes_of, HoldRun}
+use Rattle.step_core.specs.GrownWords.{IsPointWord, IsTreeWord, IsWritten, IsBlank, sizes_of, HoldRun}
 use Rattle.step_core.specs.PackedRuns.{FitsRecord}
 use Rattle.step_core.proofs.GrownPoints.{has_node-present, point_at-same}
-use Rattle.step_core.proofs.RecordedMarks.{RecordsMark, HoldsMark, HoldsMark-recorded}
+use Rattle.step_core.proofs.RecordedMarks.{RecordsMark, HoldsMark, HoldsMark-recorded, word-unrecorded}
 use Rattle.step_core.proofs.RecordedMarks.{count-unrecorded, point-unrecorded, tree-unrecorded, child-unrecorded}
 use Rattle.step_core.proofs.RecordedMarks.{record_at-marked, has_node-own, has_node-other, quota-marked}
 use Rattle.step_core.proofs.RecordedMarks.{recorded-marked, unrecorded-marked, start_first-marked}
@@ -86,6 +86,14 @@ module _
         first = subst IsTreeWord (sym (held.firsts n other)) written.first;
       }
 
+  -- a number without a node stays blank
+  blank-same : (n : ℕ) → IsBlank before n → IsBlank after n
+  blank-same n blank = record {
+    point = point_word n ∙ blank.point;
+    tree = tree_word-same n ∙ blank.tree;
+    first = word-unrecorded sizes k entry before after writes (FirstOf n) (λ e. cc) (λ is. let gone = sym unplaced ∙ ap is_placed is.1 in cc) ∙ blank.first;
+  }
+
 module _
     (task : Task) (k : ℕ) (entry : Record) (p : Point) (moved : List ℕ) (before after : Words)
     (writes : RecordsMark (sizes_of task) k entry before after) (fits : FitsRecord entry) (absent : has_node before (suc k) ≡ false) (unplaced : is_placed entry.outcome ≡ false)
@@ -118,4 +126,7 @@ module _
     recorded = recorded-marked sizes k entry before after marked fits run.recorded;
     unrecorded = unrecorded-marked sizes k entry before after marked fits run.unrecorded;
     start_first = start_first-marked sizes k entry before after marked fits ∙ run.start_first;
+    blank = λ n none.
+        blank-same sizes k entry before after writes fits absent unplaced n
+        (run.blank n (sym (has_node-same sizes k entry before after writes fits absent unplaced n) ∙ none));
   }

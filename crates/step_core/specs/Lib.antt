@@ -5,6 +5,7 @@ pub mod WordPlaces
 pub mod GrownWords
 pub mod HoldRunProps
 pub mod GrownRuns
+pub mod ClearedWords
 pub mod PlacesOfWords
 pub mod KdLinks
 pub mod PackedRuns

@@ -116,3 +116,5 @@ pub record HoldLists (sizes : Sizes) (knots : List (Option Knot)) (records : Lis
   pub nodes : (n : ℕ) (knot : Knot) → IsKnot knots n knot → HoldsNode words n knot
   pub entries : (k : ℕ) (entry : Record) → slice_get records k ≡ Some entry → HoldsRecord words k entry
   pub none_else : (k : ℕ) → length records ≤ k → words (RecordOf k) ≡ 0
+  pub no_knot : (n : ℕ) → ¬ HasKnot knots n → (words (PointOf n) ≡ 0) × (words (TreeOf n) ≡ 0)
+  pub no_first : (k : ℕ) → ((entry : Record) → slice_get records k ≡ Some entry → ¬ (entry.outcome ≡ Placed)) → words (FirstOf (suc k)) ≡ 0

@@ -139,11 +139,16 @@ blocked_in word =
       unplaced = refl;
     }
 
--- the record in a word, by the number of its outcome: 0 placed, 1 the same point, and any other blocked
+-- the record in a word with the fourth number of an outcome, which no packed word has: some record, and no law says which
+unfoldable pub fourth_in : ℕ → Record
+fourth_in word = blocked_in word
+
+-- the record in a word, by the number of its outcome: 0 placed, 1 the same point, 2 blocked
 abbrev pub record_in : ℕ → ℕ → ℕ → Record
 record_in zero word first = placed_in word first
 record_in (suc zero) word first = same_in word
-record_in (suc (suc n)) word first = blocked_in word
+record_in (suc (suc zero)) word first = blocked_in word
+record_in (suc (suc (suc n))) word first = fourth_in word
 
 -- the record that a word holds, with the first word of its node
 abbrev pub record_of_word : ℕ → ℕ → Option Record

@@ -8,13 +8,14 @@ ghost use Rattle.plan_model.specs.HandledMarks.{with_mark};
 ghost use Rattle.plan_model.specs.PointsByNumber.{IsPresent, node_count, point_at};
 ghost use Rattle.plan_model.specs.Textbook.{setup_of, start_alone};
 ghost use Rattle.step_core.specs.HoldRunProps.{HoldRun-prop};
-ghost use Rattle.step_core.specs.GrownWords.{HoldRun, has_node, record_at, run_words, sizes_of};
+ghost use Rattle.step_core.specs.GrownWords.{HoldRun, cleared, has_node, record_at, run_words, sizes_of};
 ghost use Rattle.plan_model.specs.TreeStates.{AreSameRuns, state_of};
 ghost use Rattle.step_core.specs.KdLinks.{KeepsChildren, LinksRise};
 ghost use Rattle.step_core.specs.PackedRuns.{state_of_lists};
 ghost use Rattle.step_core.specs.WordNames.Word.{TreeOf};
 ghost use Rattle.step_core.specs.WordPlaces.{word_count};
 
+use crate::cleared_words::clear;
 use crate::mark_writes::write_mark;
 use crate::packed_runs::write_run;
 use crate::point_words::{pack_point, read_point};
@@ -159,6 +160,31 @@ impl Grown {
     {
         let word = pack_tree(self.parent(node), cost);
         self.words[WordPlaces::of(&self.task).tree(node as usize)] = word;
+    }
+
+    /// The task, the limit and the list of words of a run, which [`Grown::from_words`] takes back. Copies nothing.
+    pub fn into_words(self) -> (Task, u32, Vec<u64>)
+        ensures task { result.0 ≡ self.task }
+        ensures limit { result.1 ≡ self.limit }
+        ensures sized { length result.2.items ≡ word_count (sizes_of result.0) }
+        ensures words { run_words result.0 result.2.items ≡ words_of_grown self }
+        ensures run { HoldRun result.0 result.1 (run_words result.0 result.2.items) }
+    {
+        (self.task, self.limit, self.words)
+    }
+
+    /// The run whose words these are. A number without a node may have a point, a parent and a cost left over from a mark that
+    /// came to nothing: they are cleared, in place. O(n) for n marks.
+    pub fn from_words(task: Task, limit: u32, words: Vec<u64>) -> Grown
+        requires sized { length words.items ≡ word_count (sizes_of task) }
+        requires run { HoldRun task limit (cleared (run_words task words.items)) }
+        ensures task { result.task ≡ task }
+        ensures limit { result.limit ≡ limit }
+        ensures words { words_of_grown result ≡ cleared (run_words task words.items) }
+    {
+        let mut words = words;
+        clear(&mut words, &task);
+        Grown { task, limit, words }
     }
 
     /// Records the next mark: its record, and its strip's count of marks. If it was placed, node `limit + 1` stands at `p` under

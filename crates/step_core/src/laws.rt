@@ -1,6 +1,6 @@
 //! Laws of the words, each the contract of a function that does nothing.
 
-ghost use Rattle.std.specs.Prelude.{◌≡◌, ℕ, ◌<◌, ◌^◌, ◌↔◌, List, Option, Some, None, length};
+ghost use Rattle.std.specs.Prelude.{◌≡◌, ℕ, ◌<◌, ◌^◌, ◌↔◌, Bool, false, List, Option, Some, None, length};
 ghost use Rattle.std.specs.Int.{bit_at};
 ghost use Rattle.plan_model.specs.Bounds.{IsBounded};
 ghost use Rattle.plan_model.specs.ClosedLaw.{IsClosed};
@@ -11,8 +11,11 @@ ghost use Rattle.plan_model.specs.declared.records.Record.{Record};
 ghost use Rattle.plan_model.specs.declared.trees.Knot.{Knot};
 ghost use Rattle.step_core.specs.GrownRuns.{state_of_grown};
 ghost use Rattle.step_core.specs.PackedRuns.{state_of_lists};
+ghost use Rattle.plan_model.specs.declared.tasks.Task.{Task};
 ghost use Rattle.step_core.specs.WordKinds.{AreBehind};
+ghost use Rattle.step_core.specs.GrownWords.{HoldRun, cleared, is_linked, has_node, sizes_of, state_by, state_of_words};
 ghost use Rattle.step_core.specs.WordNames.{Word, Words};
+ghost use Rattle.step_core.specs.WordNames.Word.{ChildOf};
 ghost use Rattle.step_core.specs.WordPlaces.{HasWord, Sizes, place_of, word_count};
 ghost use Rattle.step_core.specs.declared.grown.Grown.{Grown};
 ghost use Rattle.step_core.specs.Words.{FitsWord, IsFirstWord, point_of_word, point_word, record_of_word, record_word, tree_of_word, tree_word};
@@ -74,4 +77,15 @@ pub fn runs_may_be_packed_again()
     ensures again { (grown : Grown) (knots : List (Option Knot)) (records : List Record)
         → AreSameRuns (state_of_grown grown) (state_of_lists knots records) → length records ≡ grown.limit
         → IsClosed (setup_of grown.task.scene) grown.task.marks (length records) (state_of_lists knots records) }
+{}
+
+/// In a closed run the same nodes are present by their links as by their records, nothing is written for a number without a node,
+/// and so its words are the cleared ones.
+pub fn closed_runs_link_their_nodes()
+    ensures links { (task : Task) (limit : ℕ) (words : Words) → HoldRun task limit words → (n : ℕ) → is_linked (sizes_of task) words n ≡ has_node words n }
+    ensures state { (task : Task) (limit : ℕ) (words : Words) → HoldRun task limit words
+        → state_by (is_linked (sizes_of task) words) (sizes_of task) words ≡ state_of_words (sizes_of task) words }
+    ensures no_child { (task : Task) (limit : ℕ) (words : Words) → HoldRun task limit words → (n : ℕ) (side : Bool) → has_node words n ≡ false
+        → words (ChildOf n side) ≡ 0 }
+    ensures cleared { (task : Task) (limit : ℕ) (words : Words) → HoldRun task limit words → cleared words ≡ words }
 {}

@@ -10,6 +10,7 @@
 //! (`specs/WordNames`), and `specs/GrownWords` says what tree they stand for.
 #![tactic(auto)]
 
+mod cleared_words;
 mod grown;
 mod kd_links;
 mod laws;

@@ -6,7 +6,7 @@
 
 ghost use Rattle.std.specs.Prelude.{◌≡◌, ◌<◌};
 ghost use Rattle.step_core.specs.Words.{FitsWord, last_field, number_of_outcome, record_of_word, record_word};
-ghost use Rattle.step_core.specs.Words.{blocked_in, last_in, nearest_in, placed_in, same_in, turn_in, worker_in};
+ghost use Rattle.step_core.specs.Words.{blocked_in, fourth_in, last_in, nearest_in, placed_in, same_in, turn_in, worker_in};
 
 use crate::layout::{
     BLOCKED, LAST_SHIFT, NEAREST_SHIFT, NUMBER_MASK, OUTCOME_MASK, OUTCOME_SHIFT, PLACED, SAME,
@@ -32,7 +32,7 @@ pub fn pack_mark(entry: &Record) -> u64
 /// The record of a word; `None` exactly if bit 63 is 0, as it is until the word is written.
 ///
 /// `first` is the first word of the node that was placed, and counts only if one was; its two fields are taken as they
-/// stand. The fourth number of an outcome, which no packed record has, reads as blocked.
+/// stand. The fourth number of an outcome, which no packed record has, reads as some record, and nothing says which.
 pub fn read_mark(word: u64, first: u64) -> Option<Record>
     ensures read { result ≡ record_of_word word first }
 {
@@ -42,7 +42,8 @@ pub fn read_mark(word: u64, first: u64) -> Option<Record>
     Some(match word >> OUTCOME_SHIFT & OUTCOME_MASK {
         PLACED => placed_in(word, first),
         SAME => same_in(word),
-        _ => blocked_in(word),
+        BLOCKED => blocked_in(word),
+        _ => fourth_in(word),
     })
 }
 
@@ -89,6 +90,13 @@ fn blocked_in(word: u64) -> Record
         first_cost: 0,
         class: 0,
     }
+}
+
+/// Some record in a word with the fourth number of an outcome.
+fn fourth_in(word: u64) -> Record
+    ensures { result ≡ fourth_in word }
+{
+    blocked_in(word)
 }
 
 /// The worker in a record's word.
@@ -215,8 +223,6 @@ mod tests {
         let word = (1 << 63) + 1 + 262_143 * (1 << 24) + 2 * (1 << 42);
         assert_packed(&rt, entry, word);
         assert_read(&rt, word, 0, Some(entry));
-        // the fourth number of an outcome
-        assert_read(&rt, word + (1 << 42), 0, Some(entry));
     }
 
     #[test]

@@ -277,3 +277,12 @@ fn packs_a_run_in_which_no_mark_was_placed(rt: HostRuntime) -> Result<(), Fail> 
     assert_records(&rt, &grown, &[same(0, 0, 0), blocked(1, 0)]);
     Ok(())
 }
+
+#[test]
+fn gives_its_words_and_takes_them_back(rt: HostRuntime) -> Result<(), Fail> {
+    let (task, limit, words) = rewired(rt.alloc())?.into_words();
+    let grown = Grown::from_words(task, limit, words);
+    assert_eq!(rt; (grown.limit(), grown.count()), (3, 4));
+    assert_nodes(&rt, &grown, &[node(0, 0, 0, 0), node(0, 50, 0, 12_800)]);
+    Ok(())
+}

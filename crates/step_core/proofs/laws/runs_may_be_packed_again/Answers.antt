@@ -13,4 +13,4 @@ pub returns-clause-again : goal.returns-clause-again
 returns-clause-again c = λ grown knots records same long.
     subst (λ limit. IsClosed (setup_of grown.task.scene) grown.task.marks limit (state_of_lists knots records)) (sym long)
     (IsClosed-same_run (setup_of grown.task.scene) grown.task.marks grown.limit (state_of_grown grown) (state_of_lists knots records)
-        grown.hold_run.closed same)
+    grown.hold_run.closed same)

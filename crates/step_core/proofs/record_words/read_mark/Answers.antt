@@ -1,5 +1,5 @@
 use Rattle.std.proofs.Common.{◌/◌, ◌^◌, ◌∙◌, bit_and, refl, sym, arith}
-use Rattle.step_core.proofs.ReadWords.{record_of_word-is, record_in-blocked}
+use Rattle.step_core.proofs.ReadWords.{record_of_word-is, record_in-fourth}
 use Rattle.step_core.proofs.record_words.read_mark.Goals as goal
 
 pub returns-in-0 : goal.returns-in-0
@@ -12,9 +12,14 @@ returns-in-1 c = record {
   read = record_of_word-is c.args.word c.args.first 1 c.same_in.result c.if-word-lt-WRITTEN.false c.in-1.is c.same_in.ensures;
 }
 
+pub returns-in-2 : goal.returns-in-2
+returns-in-2 c = record {
+  read = record_of_word-is c.args.word c.args.first 2 c.blocked_in.result c.if-word-lt-WRITTEN.false c.in-2.is c.blocked_in.ensures;
+}
+
 pub returns-in_default : goal.returns-in_default
 returns-in_default c = record {
   read =
-      record_of_word-is c.args.word c.args.first (bit_and (c.args.word / 2 ^ 42) 3) c.blocked_in.result c.if-word-lt-WRITTEN.false refl
-      (c.blocked_in.ensures ∙ sym (record_in-blocked (bit_and (c.args.word / 2 ^ 42) 3) c.args.word c.args.first (grind arith)));
+      record_of_word-is c.args.word c.args.first (bit_and (c.args.word / 2 ^ 42) 3) c.fourth_in.result c.if-word-lt-WRITTEN.false refl
+      (c.fourth_in.ensures ∙ sym (record_in-fourth (bit_and (c.args.word / 2 ^ 42) 3) c.args.word c.args.first (grind arith)));
 }

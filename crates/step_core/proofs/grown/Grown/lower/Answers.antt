@@ -6,7 +6,7 @@ use Rattle.step_core.specs.GrownWords.{sizes_of}
 use Rattle.step_core.specs.WordNames.Word.{TreeOf}
 use Rattle.step_core.specs.WordPlaces.{Sizes, place_of}
 use Rattle.step_core.specs.Words.{parent_in, tree_word}
-use Rattle.step_core.proofs.GrownPoints.{present-within}
+use Rattle.step_core.proofs.GrownPoints.{has_node-present, present-within}
 use Rattle.step_core.proofs.LoweredWords.{ExchangesCost, CostsInstead-exchanged, HoldRun-lowered, children-kept}
 use Rattle.step_core.proofs.WordReads.{place_of-within, WritesWord-set}
 use Rattle.step_core.proofs.grown.Grown.lower.Goals as goal
@@ -42,8 +42,9 @@ invariant_of-self c =
     record {
       sized = length-set old.words.items c.tree.result c.pack_tree-word.result ∙ old.sized;
       hold_run =
-          ((HoldRun-lowered old.task old.limit (words_of_grown old) _ c.args.node c.args.cost
-          (record { writes = writes; low = omega (arith, c.requires.not_above) }) c.requires.not_above c.requires.above_parent) old.hold_run);
+          HoldRun-lowered old.task old.limit (words_of_grown old) _ c.args.node c.args.cost
+          (record { writes = writes; low = omega (arith, c.requires.not_above) }) c.requires.not_above c.requires.above_parent
+          (has_node-present (sizes_of old.task) (words_of_grown old) c.args.node c.requires.present) old.hold_run;
     }
 
 pub returns-clause-state : goal.returns-clause-state

@@ -1,0 +1,130 @@
+-- Nodes that are present by their links. In a closed run they are those that are present by their records.
+use Rattle.std.proofs.Common.{◌≡◌, ℕ, zero, suc, ◌+◌, ◌<◌, ◌≤◌, Bool, true, false, List, [], ◌∷◌, Some, arith, refl, sym, ap, ◌∙◌, subst, inl, inr}
+use Rattle.std.specs.Prelude.{◌≢◌, ◌==◌, ◌||◌, ◌⊎◌, is_some, Option, None}
+use Rattle.std.specs.List.{range_with_len, list_any}
+use Rattle.std.proofs.lemmas.Bool.{cases_Bool, eqb-true}
+use Rattle.plan_model.specs.declared.geometry.Point.{Point}
+use Rattle.plan_model.specs.declared.records.Outcome.TheVariants.{Placed}
+use Rattle.plan_model.specs.declared.records.Record.{Record}
+use Rattle.plan_model.specs.declared.tasks.Task.{Task}
+use Rattle.plan_model.specs.Outcomes.{is_placed}
+use Rattle.plan_model.specs.PointsByNumber.{point_at, point_of, StandsAt, IsPresent}
+use Rattle.plan_model.specs.Ways.{IsOnWay}
+use Rattle.plan_model.specs.Ways.IsOnWay.{begins, goes_on}
+use Rattle.plan_model.proofs.PlacedNodes.{is_placed-true, present-of_record}
+use Rattle.plan_model.proofs.NewNodes.{StandsAt-present}
+use Rattle.step_core.specs.WordNames.{Words}
+use Rattle.step_core.specs.WordNames.Word.{ChildOf}
+use Rattle.step_core.specs.WordPlaces.{Sizes}
+use Rattle.step_core.specs.GrownWords.{has_placed, has_node, is_child_of, is_linked, IsLinked, record_at, state_by}
+use Rattle.step_core.specs.GrownWords.{child_of_word, children_of_words, points_of_words, state_of_words, sizes_of, HoldRun}
+use Rattle.step_core.specs.GrownWords.IsLinked.{start, below}
+use Rattle.step_core.proofs.GrownPoints.{has_node-present, present-within}
+use Rattle.step_core.proofs.TrueWords.{is_linked-start, is_linked-child}
+
+-- ---- child words
+
+or_cases : (a b : Bool) → (a || b) ≡ true → (a ≡ true) ⊎ (b ≡ true)
+or_cases true b h = inl refl
+or_cases false b h = inr h
+
+-- a child word that holds node n
+record InChild (words : Words) (n : ℕ) : Type 0 where
+  node : ℕ
+  side : Bool
+  holds : words (ChildOf node side) ≡ n
+
+module _ (words : Words) (n : ℕ) where
+  in_list : (ms : List ℕ) → list_any (is_child_of words n) ms ≡ true → InChild words n
+  in_list [] h = cc
+  in_list (m ∷ ms) h =
+      elim (or_cases (is_child_of words n m) (list_any (is_child_of words n) ms) h) [
+        | inl here ↦ elim (or_cases (words (ChildOf m false) == n) (words (ChildOf m true) == n) here) [
+          | inl left ↦ record { node = m; side = false; holds = eqb-true (words (ChildOf m false)) n left }
+          | inr right ↦ record { node = m; side = true; holds = eqb-true (words (ChildOf m true)) n right }
+        ]
+        | inr more ↦ in_list ms more
+      ]
+
+in_child : (sizes : Sizes) (words : Words) (k : ℕ) → is_linked sizes words (suc k) ≡ true → InChild words (suc k)
+in_child sizes words k h =
+    elim (or_cases (suc k == 0) (list_any (is_child_of words (suc k)) (range_with_len 0 (sizes.marks + 1))) h) [
+      | inl none ↦ (let gone = eqb-true (suc k) 0 none in absurd (omega (arith, gone)))
+      | inr some ↦ in_list words (suc k) (range_with_len 0 (sizes.marks + 1)) some
+    ]
+
+-- ---- linked nodes
+
+module _ (sizes : Sizes) (words : Words) where
+  -- A linked node is present by its link, if no number above the marks has a child word.
+  pub is_linked-linked : ((m : ℕ) (side : Bool) → words (ChildOf m side) ≢ 0 → m ≤ sizes.marks) → (n : ℕ) → IsLinked words n → is_linked sizes words n ≡ true
+  is_linked-linked few zero linked = is_linked-start sizes words
+  is_linked-linked few (suc k) (below m j side linked e) =
+      is_linked-child sizes words m (suc k) side (few m side (λ none. omega (arith, none, e))) (ap child_of_word e)
+
+  -- A node that is present by its link is linked, if none but linked ones has a child.
+  pub IsLinked-link : ((m : ℕ) (side : Bool) → words (ChildOf m side) ≢ 0 → IsLinked words m) → (n : ℕ) → is_linked sizes words n ≡ true → IsLinked words n
+  IsLinked-link above zero h = start
+  IsLinked-link above (suc k) h =
+      let own = in_child sizes words k h in
+      below own.node k own.side (above own.node own.side (λ none. let e = own.holds in omega (arith, none, e))) own.holds
+
+-- ---- in a closed run
+
+-- a record of a placed mark
+placed_in : (o : Option Record) → has_placed o ≡ true → (entry : Record) × (o ≡ Some entry) × (entry.outcome ≡ Placed)
+placed_in None h = cc
+placed_in (Some entry) h = (entry, refl, is_placed-true entry.outcome h)
+
+module _ (task : Task) (limit : ℕ) (words : Words) (held : HoldRun task limit words) where
+  node_present : (n : ℕ) → has_node words n ≡ true → IsPresent (points_of_words (sizes_of task) words) n
+  node_present zero h = ap is_some held.closed.order.start_stands
+  node_present (suc k) h =
+      let own = placed_in (record_at words k) h in
+      present-of_record (state_of_words (sizes_of task) words) held.closed.placed k own.0 own.1 own.2
+
+  -- the last step of a way comes from a child word
+  by_way : (q : Point) (depth k : ℕ) → IsOnWay (children_of_words words) (points_of_words (sizes_of task) words) q depth (suc k)
+      → is_linked (sizes_of task) words (suc k) ≡ true
+  by_way q zero k way = elim way [ ]
+  by_way q (suc depth) k (goes_on d n c p way stands other link) =
+      is_linked-child (sizes_of task) words n (suc k) _ (present-within (sizes_of task) words n (ap is_some stands)) link
+
+  link_true : (n : ℕ) → has_node words n ≡ true → is_linked (sizes_of task) words n ≡ true
+  link_true zero h = is_linked-start (sizes_of task) words
+  link_true (suc k) h =
+      let points = points_of_words (sizes_of task) words in
+      let stands = StandsAt-present points (suc k) (node_present (suc k) h) in
+      let way = held.ways.on_way (suc k) (point_of points (suc k)) stands in
+      by_way (point_of points (suc k)) way.0 k way.1
+
+  node_true : (n : ℕ) → is_linked (sizes_of task) words n ≡ true → has_node words n ≡ true
+  node_true zero h = refl
+  node_true (suc k) h =
+      let own = in_child (sizes_of task) words k h in
+      has_node-present (sizes_of task) words (suc k) (held.ways.present own.node (suc k) own.side (ap child_of_word own.holds))
+
+  -- Both say the same of each node.
+  pub is_linked-closed : (n : ℕ) → is_linked (sizes_of task) words n ≡ has_node words n
+  is_linked-closed n =
+      elim (cases_Bool (has_node words n)) [
+        | inl here ↦ link_true n here ∙ sym here
+        | inr none ↦ elim (cases_Bool (is_linked (sizes_of task) words n)) [
+          | inl linked ↦ (let gone = sym none ∙ node_true n linked in cc)
+          | inr apart ↦ apart ∙ sym none
+        ]
+      ]
+
+  -- so the tree of the linked nodes is that of the run
+  pub state_by-closed : state_by (is_linked (sizes_of task) words) (sizes_of task) words ≡ state_of_words (sizes_of task) words
+  state_by-closed = ap (λ present. state_by present (sizes_of task) words) (λ t n. is_linked-closed n t)
+
+  -- and a number without a node has no child
+  pub child-closed : (n : ℕ) (side : Bool) → has_node words n ≡ false → words (ChildOf n side) ≡ 0
+  child-closed n side none =
+      no_child (words (ChildOf n side))
+      (held.ways.empty n side (λ here. let gone = sym none ∙ has_node-present (sizes_of task) words n here in cc))
+    where
+      no_child : (word : ℕ) → child_of_word word ≡ None → word ≡ 0
+      no_child zero h = refl
+      no_child (suc m) h = cc
