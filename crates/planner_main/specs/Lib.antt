@@ -6,3 +6,4 @@ pub mod Faults
 pub mod Commands
 pub mod CommandLines
 pub mod GeneratedScenes
+pub mod FixedNumbers

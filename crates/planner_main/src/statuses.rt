@@ -1,5 +1,7 @@
 //! The statuses that the program ends with, each said once.
 
+ghost use Rattle.planner_main.specs.FixedNumbers.{FixedNumbers};
+
 /// The command is done; for `plain` and `plan W`, in short or in full, and for `trial`, a path was found.
 pub const DONE: u8 = 0;
 
@@ -23,3 +25,8 @@ pub const WRITE_FAULT: u8 = 6;
 
 /// The program is out of memory.
 pub const NO_MEMORY: u8 = 7;
+
+/// The statuses and the number of the last generated scene have the values that callers know.
+pub fn fixed_numbers()
+    ensures { FixedNumbers }
+{}
