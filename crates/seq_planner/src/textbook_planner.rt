@@ -50,7 +50,7 @@ pub fn textbook<C: Clearing>(alloc: Global, task: Task, hall: &C) -> Result<Grow
 #[cfg(test)]
 mod tests {
     use super::*;
-    use plan_model::{Goal, Knot, Marks, Outcome, Point, Record, Scene, Sequence, Vertex};
+    use plan_model::{Goal, Knot, Outcome, Point, Record, SmallScene};
     use std::process::Abort;
     use swept_check::Hall;
 
@@ -60,11 +60,8 @@ mod tests {
         requires marks { IsTrue (is_plan (Marks.Listed marks.now)) }
         ensures { IfOk result (λ task. ClearAt (space_of task.scene) task.scene.start) }
     {
-        let scene = Scene {
-            version: 1,
+        SmallScene {
             room: Point { x: 100, y: 100 },
-            body: Sequence::from_vec(vec![in alloc; Vertex { x: 0, y: 0 }]?),
-            obstacles: Sequence::from_vec(Vec::new(alloc)),
             start: Point { x: 0, y: 0 },
             goal: Goal {
                 low: Point { x: 90, y: 90 },
@@ -74,12 +71,8 @@ mod tests {
             gamma,
             seed: 0,
             strips: 1,
-            plan: Marks::Listed(Sequence::from_vec(Vec::from_slice(alloc, marks)?)),
-        };
-        Ok(Task {
-            scene,
-            marks: Sequence::from_vec(Vec::from_slice(alloc, marks)?),
-        })
+        }
+        .task(alloc, marks)
     }
 
     /// The textbook run over these marks in that room.

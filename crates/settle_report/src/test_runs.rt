@@ -9,9 +9,7 @@ ghost use Rattle.plan_model.specs.Textbook.{placed_record, setup_of};
 ghost use Rattle.plan_model.specs.Vectors.Shapes.{at};
 ghost use Rattle.plan_model.specs.declared.scenes.Marks.TheVariants.{Listed};
 
-use plan_model::{
-    Goal, Knot, Marks, Memory, Outcome, Point, Record, Scene, Sequence, Task, Vertex,
-};
+use plan_model::{Goal, Knot, Memory, Outcome, Point, Record, Sequence, SmallScene, Task};
 use std::alloc::Global;
 use step_core::Grown;
 
@@ -57,27 +55,19 @@ fn task_of(alloc: Global, goal: Goal, marks: &[Point]) -> Result<Task, Memory>
     requires goal { IsGoal goal }
     requires marks { IsTrue (is_plan (Listed marks.now)) }
     ensures setup { IfOk result (λ task. setup_of task.scene ≡ record { space = empty_room (at 100 100); start = at 0 0; step = 50; gamma = 0 }) }
-    ensures start { IfOk result (λ task. task.scene.start ≡ at 0 0) }
     ensures marks { IfOk result (λ task. task.marks ≡ marks.now) }
     ensures clear { IfOk result (λ task. ClearAt (space_of task.scene) task.scene.start) }
 {
-    let scene = Scene {
-        version: 1,
+    SmallScene {
         room: Point { x: 100, y: 100 },
-        body: Sequence::from_vec(vec![in alloc; Vertex { x: 0, y: 0 }]?),
-        obstacles: Sequence::from_vec(Vec::new(alloc)),
         start: Point { x: 0, y: 0 },
         goal,
         step: 50,
         gamma: 0,
         seed: 0,
         strips: 3,
-        plan: Marks::Listed(Sequence::from_vec(Vec::from_slice(alloc, marks)?)),
-    };
-    Ok(Task {
-        scene,
-        marks: Sequence::from_vec(Vec::from_slice(alloc, marks)?),
-    })
+    }
+    .task(alloc, marks)
 }
 
 /// A node with its kept cost.

@@ -7,7 +7,7 @@ ghost use Rattle.plan_model.specs.Limits.{is_plan};
 ghost use Rattle.plan_model.specs.declared.scenes.Marks.TheVariants.{Listed};
 
 use super::*;
-use plan_model::{Goal, Knot, MOST_WORKERS, Marks, Memory, Scene, Sequence, Task, Vertex};
+use plan_model::{Goal, Knot, MOST_WORKERS, Memory, SmallScene, Task};
 use std::alloc::Global;
 use std::process::Abort;
 use std::test::Fail;
@@ -18,11 +18,8 @@ fn small_task(alloc: Global, marks: &[Point]) -> Result<Task, Memory>
     requires { IsTrue (is_plan (Listed marks.now)) }
     ensures { IfOk result (λ task. ClearAt (space_of task.scene) task.scene.start) }
 {
-    let scene = Scene {
-        version: 1,
+    SmallScene {
         room: Point { x: 100, y: 100 },
-        body: Sequence::from_vec(vec![in alloc; Vertex { x: 0, y: 0 }]?),
-        obstacles: Sequence::from_vec(Vec::new(alloc)),
         start: Point { x: 0, y: 0 },
         goal: Goal {
             low: Point { x: 90, y: 90 },
@@ -32,12 +29,8 @@ fn small_task(alloc: Global, marks: &[Point]) -> Result<Task, Memory>
         gamma: 1000,
         seed: 0,
         strips: 1,
-        plan: Marks::Listed(Sequence::from_vec(Vec::from_slice(alloc, marks)?)),
-    };
-    Ok(Task {
-        scene,
-        marks: Sequence::from_vec(Vec::from_slice(alloc, marks)?),
-    })
+    }
+    .task(alloc, marks)
 }
 
 /// A node with its kept cost.

@@ -8,9 +8,7 @@ ghost use Rattle.plan_model.specs.declared.limits.TheConstants.{MOST_WORKERS};
 
 use super::*;
 use crate::gates::NoGate;
-use plan_model::{
-    Goal, Knot, MOST_WORKERS, Marks, Outcome, Point, Record, Scene, Sequence, Task, Vertex,
-};
+use plan_model::{Goal, Knot, MOST_WORKERS, Marks, Outcome, Point, Record, SmallScene, Task};
 use std::sync::atomic::{AtomicBool, AtomicU32, Ordering};
 use std::test::Fail;
 use std::thread;
@@ -24,11 +22,8 @@ fn small_task(alloc: Global, marks: &[Point]) -> Result<Task, Memory>
     ensures clear { IfOk result (λ task. ClearAt (space_of task.scene) task.scene.start) }
     ensures marks { IfOk result (λ task. task.marks ≡ marks.now) }
 {
-    let scene = Scene {
-        version: 1,
+    SmallScene {
         room: Point { x: 100, y: 100 },
-        body: Sequence::from_vec(vec![in alloc; Vertex { x: 0, y: 0 }]?),
-        obstacles: Sequence::from_vec(Vec::new(alloc)),
         start: Point { x: 0, y: 0 },
         goal: Goal {
             low: Point { x: 90, y: 90 },
@@ -38,12 +33,8 @@ fn small_task(alloc: Global, marks: &[Point]) -> Result<Task, Memory>
         gamma: 1000,
         seed: 0,
         strips: 1,
-        plan: Marks::Listed(Sequence::from_vec(Vec::from_slice(alloc, marks)?)),
-    };
-    Ok(Task {
-        scene,
-        marks: Sequence::from_vec(Vec::from_slice(alloc, marks)?),
-    })
+    }
+    .task(alloc, marks)
 }
 
 /// The run of three marks by so many workers, up to a limit. The node of the third mark gives that of the second a cheaper way.

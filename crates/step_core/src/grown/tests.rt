@@ -10,7 +10,7 @@ ghost use Rattle.plan_model.specs.Vectors.Shapes.{at};
 ghost use Rattle.plan_model.specs.declared.scenes.Marks.TheVariants.{Listed};
 
 use super::*;
-use plan_model::{Goal, Knot, MOST_MARKS, Marks, Points, Scene, Sequence, Vertex};
+use plan_model::{Goal, Knot, MOST_MARKS, Points, Sequence, SmallScene};
 use std::process::Abort;
 use std::test::Fail;
 
@@ -22,15 +22,11 @@ fn task_of(alloc: Global, side: u32, start: Point, marks: &[Point]) -> Result<Ta
     requires top { start.y ≤ side }
     requires marks { IsTrue (is_plan (Listed marks.now)) }
     ensures setup { IfOk result (λ task. setup_of task.scene ≡ record { space = empty_room (at side side); start = start; step = 50; gamma = 1000 }) }
-    ensures start { IfOk result (λ task. task.scene.start ≡ start) }
     ensures marks { IfOk result (λ task. task.marks ≡ marks.now) }
     ensures clear { IfOk result (λ task. ClearAt (space_of task.scene) task.scene.start) }
 {
-    let scene = Scene {
-        version: 1,
+    SmallScene {
         room: Point { x: side, y: side },
-        body: Sequence::from_vec(vec![in alloc; Vertex { x: 0, y: 0 }]?),
-        obstacles: Sequence::from_vec(Vec::new(alloc)),
         start,
         goal: Goal {
             low: Point { x: 90, y: 90 },
@@ -40,12 +36,8 @@ fn task_of(alloc: Global, side: u32, start: Point, marks: &[Point]) -> Result<Ta
         gamma: 1000,
         seed: 0,
         strips: 3,
-        plan: Marks::Listed(Sequence::from_vec(Vec::from_slice(alloc, marks)?)),
-    };
-    Ok(Task {
-        scene,
-        marks: Sequence::from_vec(Vec::from_slice(alloc, marks)?),
-    })
+    }
+    .task(alloc, marks)
 }
 
 /// A node with its kept cost.

@@ -4,7 +4,7 @@ ghost use Rattle.std.specs.Prelude.{IsTrue};
 ghost use Rattle.plan_model.specs.Limits.{is_body, is_obstacle};
 
 use super::*;
-use plan_model::{Goal, Marks, Vertex};
+use plan_model::{Goal, Marks, SmallScene, Vertex};
 use std::test::Fail;
 
 /// The collision checker of a body and one obstacle in a room of 20 by 20.
@@ -29,11 +29,8 @@ fn hall_of_two(
     let mut obstacles = Vec::new(alloc);
     obstacles.push(Sequence::from_vec(Vec::from_slice(alloc, first)?))?;
     obstacles.push(Sequence::from_vec(Vec::from_slice(alloc, second)?))?;
-    let scene = Scene {
-        version: 1,
+    let small = SmallScene {
         room: Point { x: 20, y: 20 },
-        body: Sequence::from_vec(Vec::from_slice(alloc, body)?),
-        obstacles: Sequence::from_vec(obstacles),
         start: Point { x: 0, y: 0 },
         goal: Goal {
             low: Point { x: 20, y: 20 },
@@ -43,8 +40,9 @@ fn hall_of_two(
         gamma: 0,
         seed: 0,
         strips: 1,
-        plan: Marks::Drawn(0),
     };
+    let body = Sequence::from_vec(Vec::from_slice(alloc, body)?);
+    let scene = small.scene(body, Sequence::from_vec(obstacles), Marks::Drawn(0));
     Hall::new(alloc, &scene)
 }
 

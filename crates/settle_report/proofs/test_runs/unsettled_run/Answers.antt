@@ -18,9 +18,7 @@ pack-requires c =
     let records : c.from_vec-records.result ≡ unsettled_records =
     c.from_vec-records.ensures ∙ c.in_ok-from_slice-2.ensures.items
     ∙ (λ t. c.placed.ensures t ∷ c.placed-2.ensures t ∷ c.placed-3.ensures t ∷ []) in
-    let clear =
-    subst (λ setup. ClearAt setup.space (at 0 0)) c.in_ok-task.ensures.setup
-    (subst (ClearAt (space_of task.scene)) c.in_ok-task.ensures.start c.in_ok-task.ensures.clear) in
+    let clear = subst (λ setup. ClearAt setup.space setup.start) c.in_ok-task.ensures.setup c.in_ok-task.ensures.clear in
     let nodes = c.from_vec-knots.result in
     let entries = c.from_vec-records.result in
     subst (λ setup. IsClosed setup task.marks (length entries) (state_of_lists nodes entries)) (sym c.in_ok-task.ensures.setup)

@@ -51,9 +51,7 @@ pack-requires c =
     let records : c.from_vec-records.result ≡ rewired_records =
     c.from_vec-records.ensures ∙ c.in_ok-from_slice-2.ensures.items
     ∙ (λ t. c.placed.ensures t ∷ c.placed-2.ensures t ∷ c.placed-3.ensures t ∷ []) in
-    let clear =
-    subst (λ setup. ClearAt setup.space (at 0 0)) c.in_ok-task.ensures.setup
-    (subst (ClearAt (space_of task.scene)) c.in_ok-task.ensures.start c.in_ok-task.ensures.clear) in
+    let clear = subst (λ setup. ClearAt setup.space setup.start) c.in_ok-task.ensures.setup c.in_ok-task.ensures.clear in
     IsClosed-same_lists (setup_of task.scene) open_setup task.marks marks_to_rewire c.from_vec-knots.result rewired_knots
     c.from_vec-records.result rewired_records c.in_ok-task.ensures.setup c.in_ok-task.ensures.marks knots records
     (closed clear)

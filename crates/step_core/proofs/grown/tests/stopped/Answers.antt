@@ -112,9 +112,7 @@ pack-requires c =
     c.from_vec-knots.ensures ∙ c.in_ok-from_slice.ensures.items ∙ (λ t. c.node.ensures t ∷ None ∷ None ∷ []) in
     let same_records : c.from_vec-records.result ≡ entries =
     c.from_vec-records.ensures ∙ c.in_ok-from_slice-2.ensures.items ∙ (λ t. c.same.ensures t ∷ c.blocked.ensures t ∷ []) in
-    let clear =
-    subst (λ setup. ClearAt setup.space (at 0 0)) c.in_ok-task.ensures.setup
-    (subst (ClearAt (space_of task.scene)) c.in_ok-task.ensures.start c.in_ok-task.ensures.clear) in
+    let clear = subst (λ setup. ClearAt setup.space setup.start) c.in_ok-task.ensures.setup c.in_ok-task.ensures.clear in
     IsClosed-same_lists (setup_of task.scene) low_setup task.marks marks c.from_vec-knots.result knots
     c.from_vec-records.result entries c.in_ok-task.ensures.setup c.in_ok-task.ensures.marks same_knots same_records
     (closed clear)
