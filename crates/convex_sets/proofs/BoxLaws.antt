@@ -9,7 +9,8 @@ use Rattle.plan_model.specs.declared.geometry.Vertex.{Vertex}
 use Rattle.plan_model.specs.Convexity.{corner_at}
 use Rattle.plan_model.specs.HalfPlanes.{IsInside}
 use Rattle.plan_model.specs.RoomOfConfigurations.{Rational, at_lattice}
-use Rattle.convex_sets.specs.Boxes.{IsLowEnd, IsHighEnd, IsBoxed, IsInBox}
+use Rattle.convex_sets.specs.declared.boxes.BoundingBox.{BoundingBox}
+use Rattle.convex_sets.specs.Boxes.{IsLowEnd, IsHighEnd, IsBoundingBox, IsBoxed, IsInBox}
 use Rattle.convex_sets.proofs.Corners.{IsWithin, bounded_corner, bounded_at}
 use Rattle.plan_model.specs.declared.geometry.Point.{Point}
 use Rattle.convex_sets.proofs.Ring.{var, plus, minus, times, same}
@@ -115,15 +116,17 @@ mean_above d u v w a b c l q some f g k e =
     omega (arith, ints, rw turn at below)
 
 -- a convex polygon lies in every box that has its corners
-pub record IsInRange (low high : Vertex) (q : Rational) : Type 0 where
-  pub left : (pos q.over *ℤ low.x) ≤ℤ q.x
-  pub right : q.x ≤ℤ (pos q.over *ℤ high.x)
-  pub bottom : (pos q.over *ℤ low.y) ≤ℤ q.y
-  pub top : q.y ≤ℤ (pos q.over *ℤ high.y)
+pub record IsInRange (bounds : BoundingBox) (q : Rational) : Type 0 where
+  pub left : (pos q.over *ℤ bounds.low.x) ≤ℤ q.x
+  pub right : q.x ≤ℤ (pos q.over *ℤ bounds.high.x)
+  pub bottom : (pos q.over *ℤ bounds.low.y) ≤ℤ q.y
+  pub top : q.y ≤ℤ (pos q.over *ℤ bounds.high.y)
 
-pub in_range : (corners : List Vertex) (low high : Vertex) (q : Rational) → IsConvex corners → IsLowEnd corners low → IsHighEnd corners high
-    → IsInside corners q → IsInRange low high q
-in_range corners low high q convex l h inside =
+pub in_range : (corners : List Vertex) (bounds : BoundingBox) (q : Rational) → IsConvex corners → IsBoundingBox corners bounds
+    → IsInside corners q → IsInRange bounds q
+in_range corners bounds q convex box inside =
+    let l = box.low_end in
+    let h = box.high_end in
     let f = fan corners q convex inside in
     let k = f.0 in
     let m = f.2 in
@@ -132,19 +135,19 @@ in_range corners low high q convex l h inside =
     let first : 0 < length corners = omega arith in
     let second : suc k < length corners = omega arith in
     record {
-      left = mean_above q.over m.first m.second m.third (c 0).x (c (suc k)).x (c (suc (suc k))).x low.x q.x m.some_weight (l.left 0 first)
+      left = mean_above q.over m.first m.second m.third (c 0).x (c (suc k)).x (c (suc (suc k))).x bounds.low.x q.x m.some_weight (l.left 0 first)
           (l.left (suc k) second) (l.left (suc (suc k)) small) m.horizontal;
-      right = mean_below q.over m.first m.second m.third (c 0).x (c (suc k)).x (c (suc (suc k))).x high.x q.x m.some_weight (h.right 0 first)
+      right = mean_below q.over m.first m.second m.third (c 0).x (c (suc k)).x (c (suc (suc k))).x bounds.high.x q.x m.some_weight (h.right 0 first)
           (h.right (suc k) second) (h.right (suc (suc k)) small) m.horizontal;
-      bottom = mean_above q.over m.first m.second m.third (c 0).y (c (suc k)).y (c (suc (suc k))).y low.y q.y m.some_weight (l.bottom 0 first)
+      bottom = mean_above q.over m.first m.second m.third (c 0).y (c (suc k)).y (c (suc (suc k))).y bounds.low.y q.y m.some_weight (l.bottom 0 first)
           (l.bottom (suc k) second) (l.bottom (suc (suc k)) small) m.vertical;
-      top = mean_below q.over m.first m.second m.third (c 0).y (c (suc k)).y (c (suc (suc k))).y high.y q.y m.some_weight (h.top 0 first)
+      top = mean_below q.over m.first m.second m.third (c 0).y (c (suc k)).y (c (suc (suc k))).y bounds.high.y q.y m.some_weight (h.top 0 first)
           (h.top (suc k) second) (h.top (suc (suc k)) small) m.vertical;
     }
 
-pub in_box : (corners : List Vertex) (low high : Vertex) (p : Point) → IsBoxed corners low high → IsInside corners (at_lattice p) → IsInBox low high p
-in_box corners low high p h inside =
-    let r = in_range corners low high (at_lattice p) (IsConvex-from_test corners h.convex) h.low_end h.high_end inside in
+pub in_box : (corners : List Vertex) (bounds : BoundingBox) (p : Point) → IsBoxed corners bounds → IsInside corners (at_lattice p) → IsInBox bounds p
+in_box corners bounds p h inside =
+    let r = in_range corners bounds (at_lattice p) (IsConvex-from_test corners h.convex) h.bounding inside in
     let left = r.left in
     let right = r.right in
     let bottom = r.bottom in
@@ -157,24 +160,24 @@ in_box corners low high p h inside =
     }
 
 -- a point of the box is bounded as its corners are
-pub bounded_in_box : (corners : List Vertex) (low high : Vertex) (p : Point) → IsBoxed corners low high → IsInBox low high p
+pub bounded_in_box : (corners : List Vertex) (bounds : BoundingBox) (p : Point) → IsBoxed corners bounds → IsInBox bounds p
     → IsWithin LEAST_CORNER_COORDINATE MOST_CORNER_COORDINATE (record { x = pos p.x; y = pos p.y })
-bounded_in_box corners low high p h b =
-    let bounds : (i : ℕ) → i < length corners
+bounded_in_box corners bounds p h b =
+    let each : (i : ℕ) → i < length corners
     → IsWithin LEAST_CORNER_COORDINATE MOST_CORNER_COORDINATE (corner_at corners i) = λ i l. bounded_corner (corner_at corners i)
     (bounded_at corners i h.bounded l) in
-    let a = h.low_end.left_reached in
-    let c = h.high_end.right_reached in
-    let d = h.low_end.bottom_reached in
-    let g = h.high_end.top_reached in
+    let a = h.bounding.low_end.left_reached in
+    let c = h.bounding.high_end.right_reached in
+    let d = h.bounding.low_end.bottom_reached in
+    let g = h.bounding.high_end.top_reached in
     let a2 = a.2 in
     let c2 = c.2 in
     let d2 = d.2 in
     let g2 = g.2 in
-    let ab = bounds a.0 a.1 in
-    let cb = bounds c.0 c.1 in
-    let db = bounds d.0 d.1 in
-    let gb = bounds g.0 g.1 in
+    let ab = each a.0 a.1 in
+    let cb = each c.0 c.1 in
+    let db = each d.0 d.1 in
+    let gb = each g.0 g.1 in
     let left = b.left in
     let right = b.right in
     let bottom = b.bottom in

@@ -5,6 +5,7 @@ use Rattle.plan_model.specs.declared.geometry.Point.{Point}
 use Rattle.plan_model.specs.declared.geometry.Vertex.{Vertex}
 use Rattle.plan_model.specs.Convexity.{corner_at, is_strictly_convex}
 use Rattle.plan_model.specs.RoomOfConfigurations.{Rational}
+use Rattle.convex_sets.specs.declared.boxes.BoundingBox.{BoundingBox}
 use Rattle.convex_sets.specs.Bounds.{AreBoundedCorners}
 
 -- no corner is further left or lower, and its coordinates are those of corners: the box's lower left corner
@@ -21,19 +22,23 @@ pub record IsHighEnd (corners : List Vertex) (high : Vertex) : Type 0 where
   pub right_reached : (i : ℕ) × (i < length corners) × ((corner_at corners i).x ≡ high.x)
   pub top_reached : (i : ℕ) × (i < length corners) × ((corner_at corners i).y ≡ high.y)
 
+-- the least box round some corners
+pub record IsBoundingBox (corners : List Vertex) (bounds : BoundingBox) : Type 0 where
+  pub low_end : IsLowEnd corners bounds.low
+  pub high_end : IsHighEnd corners bounds.high
+
 -- a strictly convex polygon whose corners are bounded, and its box
-pub record IsBoxed (corners : List Vertex) (low high : Vertex) : Type 0 where
+pub record IsBoxed (corners : List Vertex) (bounds : BoundingBox) : Type 0 where
   pub convex : is_strictly_convex corners ≡ true
   pub bounded : AreBoundedCorners corners
-  pub low_end : IsLowEnd corners low
-  pub high_end : IsHighEnd corners high
+  pub bounding : IsBoundingBox corners bounds
 
 -- the point lies in the box, on its sides or within them
-pub record IsInBox (low high : Vertex) (p : Point) : Type 0 where
-  pub left : low.x ≤ℤ pos p.x
-  pub right : pos p.x ≤ℤ high.x
-  pub bottom : low.y ≤ℤ pos p.y
-  pub top : pos p.y ≤ℤ high.y
+pub record IsInBox (bounds : BoundingBox) (p : Point) : Type 0 where
+  pub left : bounds.low.x ≤ℤ pos p.x
+  pub right : pos p.x ≤ℤ bounds.high.x
+  pub bottom : bounds.low.y ≤ℤ pos p.y
+  pub top : pos p.y ≤ℤ bounds.high.y
 
 -- a point as a corner
 abbrev pub corner_of : Point → Vertex

@@ -1,32 +1,44 @@
 //! Bounding boxes.
 
-ghost use Rattle.std.specs.Prelude.{◌↔◌, ◌<◌, ◌≤ℤ◌, IsTrue, length, pos};
-ghost use Rattle.convex_sets.specs.Boxes.{IsHighEnd, IsInBox, IsLowEnd};
+ghost use Rattle.std.specs.Prelude.{◌↔◌, ◌≤ℤ◌, IsTrue, pos};
 
 use plan_model::{Point, Vertex};
 
-/// The lower left and the upper right corner of the bounding box of some corners.
-pub(crate) fn bounding_box(corners: &[Vertex]) -> (Vertex, Vertex)
-    requires { 0 < length corners.now }
-    ensures low { IsLowEnd corners.now result.0 }
-    ensures high { IsHighEnd corners.now result.1 }
-{
-    let mut low = corners[0];
-    let mut high = corners[0];
-    for corner in corners {
-        low.x = low.x.min(corner.x);
-        low.y = low.y.min(corner.y);
-        high.x = high.x.max(corner.x);
-        high.y = high.y.max(corner.y);
-    }
-    (low, high)
+/// A closed box with sides along the axes, as the least one round a polygon.
+#[derive(Debug, Clone, Copy, PartialEq, Eq)]
+pub struct BoundingBox {
+    /// The lower left corner, in lattice steps.
+    pub low: Vertex,
+    /// The upper right corner, in lattice steps.
+    pub high: Vertex,
 }
 
-/// Whether the point lies in the box, on its sides or within them.
-pub(crate) fn is_in_box(low: Vertex, high: Vertex, p: Point) -> bool
-    ensures { IsTrue result ↔ IsInBox low high p }
-{
-    is_between(low.x, p.x, high.x) && is_between(low.y, p.y, high.y)
+impl BoundingBox {
+    ghost use Rattle.std.specs.Prelude.{◌<◌, length};
+    ghost use Rattle.convex_sets.specs.Boxes.{IsBoundingBox, IsInBox};
+
+    /// The least box round some corners. O(n); no memory.
+    pub fn of(corners: &[Vertex]) -> BoundingBox
+        requires { 0 < length corners.now }
+        ensures { IsBoundingBox corners.now result }
+    {
+        let mut low = corners[0];
+        let mut high = corners[0];
+        for corner in corners {
+            low.x = low.x.min(corner.x);
+            low.y = low.y.min(corner.y);
+            high.x = high.x.max(corner.x);
+            high.y = high.y.max(corner.y);
+        }
+        BoundingBox { low, high }
+    }
+
+    /// Whether the point lies in the box, on its sides or within them. O(1); no memory.
+    pub fn has(&self, p: Point) -> bool
+        ensures { IsTrue result ↔ IsInBox self.now p }
+    {
+        is_between(self.low.x, p.x, self.high.x) && is_between(self.low.y, p.y, self.high.y)
+    }
 }
 
 /// Whether a coordinate lies between two others, or is one of them.

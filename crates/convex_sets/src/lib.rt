@@ -18,6 +18,7 @@ mod outlines;
 mod polygon_corners;
 mod zones;
 
+pub use boxes::BoundingBox;
 pub use convexity::is_convex;
 pub use orientations::orientation;
 pub use polygon_corners::{corner_of, next_corner};

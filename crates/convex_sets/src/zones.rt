@@ -1,6 +1,6 @@
 //! Zones: configuration-space obstacles.
 
-use crate::boxes::{bounding_box, is_in_box};
+use crate::boxes::BoundingBox;
 use crate::half_planes::is_inside;
 use crate::merging::merged;
 use crate::outlines::{outline, reflected};
@@ -26,12 +26,11 @@ use std::marker::Model;
 ///    2   4   6   8
 /// ```
 ///
-/// It is kept as its corners, counterclockwise, with the two corners of its bounding box beside them.
+/// It is kept as its corners, counterclockwise, with its bounding box beside them.
 #[derive(Debug, Drop)]
 pub struct Zone {
     corners: Vec<Vertex>,
-    low: Vertex,
-    high: Vertex,
+    bounds: BoundingBox,
 }
 
 impl Model for Zone {
@@ -43,7 +42,7 @@ impl Model for Zone {
 
     ghost view = { λ z. z.corners.items };
 
-    ghost invariant = { λ z. IsBoxed z.corners.items z.low z.high };
+    ghost invariant = { λ z. IsBoxed z.corners.items z.bounds };
 }
 
 impl Zone {
@@ -54,7 +53,7 @@ impl Zone {
     ghost use Rattle.plan_model.specs.Limits.{is_corner_between};
     ghost use Rattle.plan_model.specs.Zones.{IsZoneOf};
     ghost use Rattle.convex_sets.specs.Bounds.{AreBoundedCorners};
-    ghost use Rattle.convex_sets.specs.Boxes.{IsHighEnd, IsLowEnd};
+    ghost use Rattle.convex_sets.specs.Boxes.{IsBoundingBox};
     ghost use Rattle.plan_model.specs.Convexity.{is_strictly_convex};
     ghost use Rattle.plan_model.specs.HalfPlanes.{IsInside};
     ghost use Rattle.plan_model.specs.RoomOfConfigurations.{at_lattice};
@@ -85,8 +84,8 @@ impl Zone {
         requires bounded { AreBoundedCorners corners.items }
         ensures { result ≡ corners.items }
     {
-        let (low, high) = bounding_box(corners.as_slice());
-        Zone { corners, low, high }
+        let bounds = BoundingBox::of(corners.as_slice());
+        Zone { corners, bounds }
     }
 
     /// The corners, counterclockwise, from the lowest and of these the leftmost, in lattice steps. O(1); no memory.
@@ -98,18 +97,11 @@ impl Zone {
         self.corners.as_slice()
     }
 
-    /// The lower left corner of the bounding box, in lattice steps. O(1).
-    pub fn low(&self) -> Vertex
-        ensures { IsLowEnd self.now result }
+    /// The least box round the corners. O(1); no memory.
+    pub fn bounding_box(&self) -> BoundingBox
+        ensures { IsBoundingBox self.now result }
     {
-        self.low
-    }
-
-    /// The upper right corner of the bounding box, in lattice steps. O(1).
-    pub fn high(&self) -> Vertex
-        ensures { IsHighEnd self.now result }
-    {
-        self.high
+        self.bounds
     }
 
     /// Whether the body at a configuration meets the obstacle. O(1) outside the bounding box, otherwise one orientation of
@@ -117,7 +109,7 @@ impl Zone {
     pub fn has(&self, p: Point) -> bool
         ensures { IsTrue result ↔ IsInside self.now (at_lattice p) }
     {
-        if !is_in_box(self.low, self.high, p) {
+        if !self.bounds.has(p) {
             return false;
         }
         is_inside(self.corners.as_slice(), corner_of(p))

@@ -1,4 +1,4 @@
--- A tree with its costs and records at some moment: of a finished run, or of a table in the middle of one.
+-- A tree with its costs and records at some moment: of a closed run, or of a table in the middle of one.
 use Rattle.std.specs.Prelude.{◌≡◌, ◌<◌, ◌⊎◌, ℕ, zero, suc, Option, Some, None, List, slice_get}
 use Rattle.plan_model.specs.declared.geometry.Point.{Point}
 use Rattle.plan_model.specs.declared.records.Record.{Record}

@@ -22,12 +22,12 @@ use swept_check::Clearing;
 /// The points of all nodes are looked at for each mark, once for the nearest node and, if gamma is above 0, once for the
 /// near ones: O(n) for each of n marks. Besides, a mark costs a root for each parent that is tried and each node that is
 /// rewired, and O(1) for each node whose cost is lowered. `hall` is the collision checker of the scene; it is asked about the
-/// edge from the nearest node, and about those to near nodes that would be cheaper. The finished run is packed once, in
+/// edge from the nearest node, and about those to near nodes that would be cheaper. The closed run is packed once, in
 /// O(n * d) for d nodes on the longest way through its kd-tree.
 ///
 /// # Errors
 ///
-/// `Memory` if out of memory for the nodes, the records, the lists of near nodes or the finished run.
+/// `Memory` if out of memory for the nodes, the records, the lists of near nodes or the closed run.
 pub fn textbook<C: Clearing>(alloc: Global, task: Task, hall: &C) -> Result<Grown, Memory>
     requires hall { C.space hall.now ≡ space_of task.scene }
     requires start { ClearAt (space_of task.scene) task.scene.start }

@@ -1,4 +1,4 @@
--- Steps up a path of a finished run, from a node to its parent, until the start: kept costs fall, so the walk ends.
+-- Steps up a path of a closed run, from a node to its parent, until the start: kept costs fall, so the walk ends.
 use Rattle.std.proofs.Common.{◌≡◌, ◌≢◌, ℕ, zero, suc, ◌<◌, List, [], ◌∷◌, map, reverse, refl, sym, ap, ◌∙◌, subst}
 use mathlib.Core.List.{reverse_aux}
 use Rattle.std.proofs.Math.Logic.{∥∥₁_elim}
@@ -16,7 +16,7 @@ use Rattle.step_core.specs.GrownRuns.{state_of_grown, words_of_grown}
 use Rattle.step_core.proofs.HeldNodes.{start_present-held}
 use Rattle.settle_report.proofs.HeldOrders.{parent-held}
 
--- kept costs fall along the parents of a finished run
+-- kept costs fall along the parents of a closed run
 pub FallAlong-grown : (grown : Grown) → FallAlong (state_of_grown grown).cost (state_of_grown grown).points (state_of_grown grown).parent
 FallAlong-grown grown =
     let words = words_of_grown grown in

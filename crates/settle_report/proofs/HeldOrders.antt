@@ -1,4 +1,4 @@
--- What the order law of a finished run says of its parents, its kept costs and its sums.
+-- What the order law of a closed run says of its parents, its kept costs and its sums.
 use Rattle.std.proofs.Common.{ℕ, zero, suc, ◌+◌, ◌<◌, ◌≤◌, arith}
 use Rattle.std.proofs.Math.Bool.{Bool-set}
 use Rattle.std.proofs.Math.Bridge.{le_prop}

@@ -1,4 +1,4 @@
-//! What is said of a finished run: its costs settled, its best node, and its report as text.
+//! What is said of a closed run: its costs settled, its best node, and its report as text.
 //!
 //! The cost-to-come of a node is what the edges from the start to it cost together. A run keeps a cost for each node, which
 //! is at least that: if a node gets a cheaper parent, its own kept cost falls at once, but those of its descendants may stay

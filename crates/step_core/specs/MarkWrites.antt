@@ -1,8 +1,9 @@
 -- How the words of a closed run change when its next mark is recorded.
-use Rattle.std.specs.Prelude.{◌≡◌, ◌≢◌, ℕ, ◌+◌, ◌<◌, ◌≤◌, ◌%◌, ◌^◌, true, List}
+use Rattle.std.specs.Prelude.{◌≡◌, ◌≢◌, ℕ, ◌+◌, ◌<◌, ◌≤◌, ◌^◌, true, List}
 use Rattle.plan_model.specs.declared.trees.Knot.{Knot}
 use Rattle.plan_model.specs.Cost.{cost_of}
 use Rattle.plan_model.specs.HandledMarks.{is_among}
+use Rattle.plan_model.specs.MarkPoints.{strip_of_mark}
 use Rattle.step_core.specs.WordNames.{Word, Words, ChangesOnly, WritesWord}
 use Rattle.step_core.specs.WordNames.Word.{Count, Counter, PointOf, TreeOf}
 use Rattle.step_core.specs.WordPlaces.{Sizes}
@@ -11,7 +12,7 @@ use Rattle.step_core.specs.PackedRuns.{HoldsNode}
 
 -- mark k is counted in the counter of its strip, and nothing else changed
 abbrev pub CountsMark : Sizes → ℕ → Words → Words → Type 0
-CountsMark sizes k before after = WritesWord (Counter (k % sizes.strips)) (before (Counter (k % sizes.strips)) + 1) before after
+CountsMark sizes k before after = WritesWord (Counter (strip_of_mark sizes.strips k)) (before (Counter (strip_of_mark sizes.strips k)) + 1) before after
 
 -- the words that a new node is written into: the count, its point and its tree word
 abbrev pub IsNewNodeWord : ℕ → Word → Type 0

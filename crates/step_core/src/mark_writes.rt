@@ -1,13 +1,14 @@
 //! The words of a closed run in which its next mark is recorded: its record, the counter of its strip, and if it was placed
 //! its node, which is linked to the kd-tree, and the nodes that are moved below it.
 
-ghost use Rattle.std.specs.Prelude.{◌≡◌, ◌<◌, ◌≤◌, ◌+◌, ◌%◌, All, length};
+ghost use Rattle.std.specs.Prelude.{◌≡◌, ◌<◌, ◌≤◌, ◌+◌, All, length};
 ghost use Rattle.plan_model.specs.Bounds.{IsBounded};
 ghost use Rattle.plan_model.specs.ClosedLaw.{IsClosed};
 ghost use Rattle.plan_model.specs.HandledMarks.{with_mark};
 ghost use Rattle.plan_model.specs.PointsByNumber.{IsPresent};
 ghost use Rattle.plan_model.specs.Textbook.{setup_of};
 ghost use Rattle.plan_model.specs.TreeStates.{AreSameRuns};
+ghost use Rattle.plan_model.specs.MarkPoints.{strip_of_mark};
 ghost use Rattle.step_core.specs.GrownWords.{HoldRun, children_of_words, points_of_words, run_words, sizes_of, state_of_words};
 ghost use Rattle.step_core.specs.KdLinks.{KeepsChildren};
 ghost use Rattle.step_core.specs.MarkWrites.{CountsMark, MayMove, MovesNodes, WritesNewNode};
@@ -67,10 +68,10 @@ fn count_mark(words: &mut [u64], places: WordPlaces, mark: usize)
     requires sized { length words.old ≡ word_count (sizes_in places) }
     requires strips { 0 < places.strips }
     requires within { mark < places.marks }
-    requires low { words_in places words.old (Counter (mark % places.strips)) ≤ mark }
+    requires low { words_in places words.old (Counter (strip_of_mark places.strips mark)) ≤ mark }
     ensures { CountsMark (sizes_in places) mark (words_in places words.old) (words_in places words.new) }
 {
-    words[places.counter(mark % places.strips())] += 1;
+    words[places.counter_of_mark(mark)] += 1;
 }
 
 /// Counts a new node, and writes its point, its parent and its cost.

@@ -68,7 +68,7 @@ fn count_marks(words: &mut [u64], places: WordPlaces, limit: usize)
     ensures { CountsMarks (sizes_in places) limit (words_in places words.old) (words_in places words.new) }
 {
     for mark in 0..limit {
-        words[places.counter(mark % places.strips())] += 1;
+        words[places.counter_of_mark(mark)] += 1;
     }
 }
 

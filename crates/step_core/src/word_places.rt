@@ -7,10 +7,11 @@
 
 ghost use Rattle.std.specs.Prelude.{◌≡◌, ◌≤◌, ◌<◌};
 ghost use Rattle.plan_model.specs.declared.limits.TheConstants.{MOST_MARKS, MOST_STRIPS};
+ghost use Rattle.plan_model.specs.MarkPoints.{strip_of_mark};
 ghost use Rattle.step_core.specs.WordNames.Word.{ChildOf, Count, Counter, FirstOf, PointOf, RecordOf, TreeOf};
 ghost use Rattle.step_core.specs.WordPlaces.{place_of, word_count};
 
-use plan_model::Task;
+use plan_model::{Task, strip_of_mark};
 
 /// The places of the words of a run with so many strips and marks.
 #[derive(Clone, Copy)]
@@ -42,13 +43,6 @@ impl WordPlaces {
         self.marks
     }
 
-    /// How many strips there are.
-    pub(crate) fn strips(self) -> usize
-        ensures { result ≡ (sizes_in self).strips }
-    {
-        self.strips
-    }
-
     /// How many words there are.
     pub(crate) fn len(self) -> usize
         ensures { result ≡ word_count (sizes_in self) }
@@ -69,6 +63,15 @@ impl WordPlaces {
         ensures { result ≡ place_of (sizes_in self) (Counter strip) }
     {
         strip + 1
+    }
+
+    /// The counter of the strip that a mark belongs to.
+    pub(crate) fn counter_of_mark(self, mark: usize) -> usize
+        requires strips { 0 < (sizes_in self).strips }
+        requires within { mark < (sizes_in self).marks }
+        ensures { result ≡ place_of (sizes_in self) (Counter (strip_of_mark (sizes_in self).strips mark)) }
+    {
+        self.counter(strip_of_mark(self.strips as u32, mark as u32) as usize)
     }
 
     /// The point of a node, and the first of its words.

@@ -5,7 +5,8 @@ use Rattle.std.proofs.lemmas.Int.{ints}
 use Rattle.plan_model.specs.declared.geometry.Point.{Point}
 use Rattle.plan_model.specs.declared.geometry.Vertex.{Vertex}
 use Rattle.plan_model.specs.Clearance.{on_the_way}
-use Rattle.convex_sets.specs.Boxes.{IsLowEnd, IsHighEnd}
+use Rattle.convex_sets.specs.declared.boxes.BoundingBox.{BoundingBox}
+use Rattle.convex_sets.specs.Boxes.{IsBoundingBox}
 use Rattle.convex_sets.proofs.BoxLaws.{in_range}
 use Rattle.convex_sets.proofs.ConvexPolygons.{IsConvex}
 use Rattle.convex_sets.proofs.Ring.{var, plus, minus, times, same}
@@ -41,15 +42,15 @@ not_apart a b s d low high p l f g (inl below) = not_below (pos a) (pos b) low s
 not_apart a b s d low high p l f g (inr above) = not_above (pos a) (pos b) high s d p l g above.0 above.1
 
 -- a crossed polygon's box is apart in neither coordinate
-pub record IsNotApart (a b : Point) (low high : Vertex) : Type 0 where
-  pub across : ¬ IsApart a.x b.x low.x high.x
-  pub up : ¬ IsApart a.y b.y low.y high.y
+pub record IsNotApart (a b : Point) (bounds : BoundingBox) : Type 0 where
+  pub across : ¬ IsApart a.x b.x bounds.low.x bounds.high.x
+  pub up : ¬ IsApart a.y b.y bounds.low.y bounds.high.y
 
-pub crossed_box : (corners : List Vertex) (a b : Point) (low high : Vertex) → IsConvex corners → IsLowEnd corners low → IsHighEnd corners high
-    → Crosses corners a b → IsNotApart a b low high
-crossed_box corners a b low high convex l h x =
-    let r = in_range corners low high (on_the_way a b x.s x.d x.positive) convex l h x.inside in
+pub crossed_box : (corners : List Vertex) (a b : Point) (bounds : BoundingBox) → IsConvex corners → IsBoundingBox corners bounds
+    → Crosses corners a b → IsNotApart a b bounds
+crossed_box corners a b bounds convex box x =
+    let r = in_range corners bounds (on_the_way a b x.s x.d x.positive) convex box x.inside in
     record {
-      across = not_apart a.x b.x x.s x.d low.x high.x x.positive x.on_segment r.left r.right;
-      up = not_apart a.y b.y x.s x.d low.y high.y x.positive x.on_segment r.bottom r.top;
+      across = not_apart a.x b.x x.s x.d bounds.low.x bounds.high.x x.positive x.on_segment r.left r.right;
+      up = not_apart a.y b.y x.s x.d bounds.low.y bounds.high.y x.positive x.on_segment r.bottom r.top;
     }

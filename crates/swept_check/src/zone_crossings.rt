@@ -6,7 +6,7 @@ ghost use Rattle.swept_check.specs.Apart.{IsApart};
 ghost use Rattle.swept_check.specs.Crossings.{Crosses};
 
 use crate::clipping::crosses;
-use convex_sets::Zone;
+use convex_sets::{BoundingBox, Zone};
 use plan_model::Point;
 
 /// Whether the segment from `a` to `b` has no point in any of the zones. O(n) for n corners of zones; no memory.
@@ -33,8 +33,7 @@ fn is_crossed(zone: &Zone, a: Point, b: Point) -> bool
     ensures { IsTrue result ↔ Crosses zone.now a b }
 {
     let corners = zone.corners();
-    let low = zone.low();
-    let high = zone.high();
+    let BoundingBox { low, high } = zone.bounding_box();
     if is_apart(a.x, b.x, low.x, high.x) || is_apart(a.y, b.y, low.y, high.y) {
         return false;
     }

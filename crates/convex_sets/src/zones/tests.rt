@@ -234,8 +234,8 @@ fn touching_at_a_corner_is_meeting(rt: HostRuntime) -> Result<(), Fail> {
             y: 9
         })
     );
-    assert_eq!(rt; zone.low(), Vertex { x: 8, y: 8 });
-    assert_eq!(rt; zone.high(), Vertex { x: 20, y: 20 });
+    assert_eq!(rt; zone.bounding_box().low, Vertex { x: 8, y: 8 });
+    assert_eq!(rt; zone.bounding_box().high, Vertex { x: 20, y: 20 });
     Ok(())
 }
 
@@ -329,8 +329,8 @@ fn the_most_corners(rt: HostRuntime) -> Result<(), Fail> {
     assert!(rt; zone.is_some());
     if let Some(zone) = zone {
         assert_eq!(rt; zone.corners().len(), 78);
-        assert_eq!(rt; zone.low(), Vertex { x: -39, y: -64 });
-        assert_eq!(rt; zone.high(), Vertex { x: 39, y: 1024 });
+        assert_eq!(rt; zone.bounding_box().low, Vertex { x: -39, y: -64 });
+        assert_eq!(rt; zone.bounding_box().high, Vertex { x: 39, y: 1024 });
     }
     Ok(())
 }

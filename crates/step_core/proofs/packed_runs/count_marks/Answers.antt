@@ -11,10 +11,10 @@ pub overflow_add-words : goal.overflow_add-words
 overflow_add-words c =
     let strip = c.loop-mark.mark % c.args.places.strips in
     let small : c.loop-mark.mark % c.args.places.strips < c.args.places.strips = omega (arith, c.requires.strips) in
-    let found = c.counter.ensures ∙ ap (λ s. place_of (sizes_in c.args.places) (Counter (c.loop-mark.mark % s))) c.strips.ensures in
+    let found = c.counter_of_mark.ensures in
     omega (
       arith,
-      word-found (sizes_in c.args.places) c.loop-mark.words c.counter.result (Counter (c.loop-mark.mark % c.args.places.strips)) small found,
+      word-found (sizes_in c.args.places) c.loop-mark.words c.counter_of_mark.result (Counter (c.loop-mark.mark % c.args.places.strips)) small found,
       c.loop-mark.invariant.counted (c.loop-mark.mark % c.args.places.strips) small,
       c.requires.zeros (c.loop-mark.mark % c.args.places.strips) small,
       quota_of-le c.args.places.strips (c.loop-mark.mark % c.args.places.strips) c.loop-mark.mark,
@@ -26,11 +26,11 @@ overflow_add-words c =
 pub loop-mark-preserved : goal.loop-mark-preserved
 loop-mark-preserved c =
     let small : c.loop-mark.mark % c.args.places.strips < c.args.places.strips = omega (arith, c.requires.strips) in
-    let found = c.counter.ensures ∙ ap (λ s. place_of (sizes_in c.args.places) (Counter (c.loop-mark.mark % s))) c.strips.ensures in
+    let found = c.counter_of_mark.ensures in
     let name = Counter (c.loop-mark.mark % c.args.places.strips) in
-    let was = word-found (sizes_in c.args.places) c.loop-mark.words c.counter.result (Counter (c.loop-mark.mark % c.args.places.strips)) small found in
+    let was = word-found (sizes_in c.args.places) c.loop-mark.words c.counter_of_mark.result (Counter (c.loop-mark.mark % c.args.places.strips)) small found in
     CountsMarks-more (sizes_in c.args.places) c.loop-mark.mark (words_in c.args.places c.args.words.now) (words_in c.args.places c.loop-mark.words) _
     c.loop-mark.invariant small
-    (WritesWord-set (sizes_in c.args.places) c.loop-mark.words c.counter.result (slice_index c.loop-mark.words c.counter.result + 1)
+    (WritesWord-set (sizes_in c.args.places) c.loop-mark.words c.counter_of_mark.result (slice_index c.loop-mark.words c.counter_of_mark.result + 1)
     (words_in c.args.places c.loop-mark.words (Counter (c.loop-mark.mark % c.args.places.strips)) + 1)
     (Counter (c.loop-mark.mark % c.args.places.strips)) (c.loop-mark.auto.words ∙ c.requires.sized) small found (ap (λ word. word + 1) was))

@@ -10,12 +10,12 @@ returns-then-is_apart c = (
   λ t. cc,
   λ x.
       let zone = c.args.zone.now in
-      let box = crossed_box zone c.args.a c.args.b c.low-low.result c.high-high.result (IsConvex-from_test zone c.corners-corners.ensures.convex)
-      c.low-low.ensures c.high-high.ensures x in
-      let left : to_z w32 (of_z w32 c.low-low.result.x) ≡ c.low-low.result.x = omega (arith, ints) in
-      let bottom : to_z w32 (of_z w32 c.low-low.result.y) ≡ c.low-low.result.y = omega (arith, ints) in
-      let right : to_z w32 (of_z w32 c.high-high.result.x) ≡ c.high-high.result.x = omega (arith, ints) in
-      let top : to_z w32 (of_z w32 c.high-high.result.y) ≡ c.high-high.result.y = omega (arith, ints) in
+      let box = crossed_box zone c.args.a c.args.b c.bounding_box.result (IsConvex-from_test zone c.corners-corners.ensures.convex)
+      c.bounding_box.ensures x in
+      let left : to_z w32 (of_z w32 c.bounding_box.result.low.x) ≡ c.bounding_box.result.low.x = omega (arith, ints) in
+      let bottom : to_z w32 (of_z w32 c.bounding_box.result.low.y) ≡ c.bounding_box.result.low.y = omega (arith, ints) in
+      let right : to_z w32 (of_z w32 c.bounding_box.result.high.x) ≡ c.bounding_box.result.high.x = omega (arith, ints) in
+      let top : to_z w32 (of_z w32 c.bounding_box.result.high.y) ≡ c.bounding_box.result.high.y = omega (arith, ints) in
       elim c.then-is_apart.branch [
         | then-is_apart-via-then-is_apart w ↦ absurd (box.across (rw (left, right) at (c.is_apart.ensures.0 w.if-is_apart.true)))
         | then-is_apart-via-else-is_apart+then-is_apart-2 w ↦ absurd (box.up (rw (bottom, top) at (w.is_apart-else-is_apart.ensures.0 w.if-is_apart-2.true)))

@@ -1,5 +1,5 @@
 use Rattle.convex_sets.proofs.BoxLaws.{IsLeast, IsGreatest}
-use Rattle.convex_sets.proofs.boxes.bounding_box.Given as goal
+use Rattle.convex_sets.proofs.boxes.BoundingBox.of.Given as goal
 
 abbrev pub invariant-loop-corner : goal.invariant-loop-corner
 invariant-loop-corner l =

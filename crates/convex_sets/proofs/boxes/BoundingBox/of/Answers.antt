@@ -1,7 +1,7 @@
 use Rattle.std.proofs.Common.{arith}
 use Rattle.std.proofs.lemmas.Int.{ints, clamps}
 use Rattle.convex_sets.proofs.BoxLaws.{IsLeast-more, IsGreatest-more}
-use Rattle.convex_sets.proofs.boxes.bounding_box.Goals as goal
+use Rattle.convex_sets.proofs.boxes.BoundingBox.of.Goals as goal
 
 pub loop-corner-preserved : goal.loop-corner-preserved
 loop-corner-preserved c =

@@ -1,6 +1,6 @@
 use Rattle.std.proofs.Common.{arith}
 use Rattle.std.proofs.lemmas.Int.{ints}
-use Rattle.convex_sets.proofs.boxes.is_in_box.Goals as goal
+use Rattle.convex_sets.proofs.boxes.BoundingBox.has.Goals as goal
 
 pub returns-then-is_between : goal.returns-then-is_between
 returns-then-is_between c = (
