@@ -1,5 +1,6 @@
 -- The paths of a closed run: each edge is clear, since each node hangs below its parent by an allowed edge.
-use Rattle.std.proofs.Common.{◌≡◌, ℕ, zero, suc, ◌+◌, ◌-◌, ◌<◌, ◌≤◌, Option, Some, None, List, [], ◌∷◌, ◌++◌, length, map, reverse, arith, refl, sym, ap, ◌∙◌, subst, inl, inr}
+use Rattle.std.proofs.Common.{◌≡◌, ℕ, zero, suc, ◌+◌, ◌-◌, ◌<◌, ◌≤◌, Option, Some, None, List, []}
+use Rattle.std.proofs.Common.{◌∷◌, ◌++◌, length, map, reverse, arith, refl, sym, ap, ◌∙◌, subst, inl, inr}
 use Rattle.std.proofs.Common.{length-append}
 use Rattle.std.proofs.lemmas.Bool.{cases_lt}
 use Rattle.std.proofs.lemmas.List.{map-append, get_or_append_left, get_or-append_right, reverse-append}
@@ -82,14 +83,15 @@ module _ (setup : Setup) (state : TreeState) (order : KeepsOrder setup state) wh
       let up = LeadsTo-below most (state.parent (suc n)) below.present (omega (arith, KeepsOrder-falls setup state order n h, l)) in
       subst (λ path. LeadsTo setup.space path (point_of state.points (suc n))) (sym (path-parent n h))
       (LeadsTo-next setup.space (path_to state (state.parent (suc n))) (point_of state.points (state.parent (suc n)))
-          (point_of state.points (suc n)) up below.edge.clear)
+      (point_of state.points (suc n)) up below.edge.clear)
 
   -- The path to each node is clear.
   pub IsClearPath-ordered : (n : ℕ) → IsPresent state.points n → IsClearPath setup.space (path_to state n)
   IsClearPath-ordered n h = (LeadsTo-below (state.cost n) n h (omega arith)).is_clear
 
   -- So is the best one.
-  pub IsClearPath-best : (scene : Scene) (limit : ℕ) → AreNumberedTo limit state.points → IsClearPath setup.space (best_path state (best_node scene limit state))
+  pub IsClearPath-best : (scene : Scene) (limit : ℕ) → AreNumberedTo limit state.points
+      → IsClearPath setup.space (best_path state (best_node scene limit state))
   IsClearPath-best scene limit numbered = by_best (best_node scene limit state) refl
     where
       by_best : (o : Option ℕ) → best_node scene limit state ≡ o → IsClearPath setup.space (best_path state o)

@@ -26,7 +26,9 @@ one_outcome (Same j) = refl
 one_outcome Blocked = refl
 
 -- a record has one outcome
-one_of_three : (o : Option Record) → IsSome o → (cond (has_outcome is_placed o) 1 0 + cond (has_outcome is_same o) 1 0) + cond (has_outcome is_blocked o) 1 0 ≡ 1
+one_of_three :
+    (o : Option Record) → IsSome o
+    → (cond (has_outcome is_placed o) 1 0 + cond (has_outcome is_same o) 1 0) + cond (has_outcome is_blocked o) 1 0 ≡ 1
 one_of_three None h = cc
 one_of_three (Some entry) h = one_outcome entry.outcome
 

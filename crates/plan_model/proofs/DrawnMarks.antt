@@ -6,7 +6,8 @@ use Rattle.std.proofs.lemmas.Nat.{mul-le, xor_lt, mod_below, div_below, pow_pos}
 use Rattle.plan_model.specs.declared.scenes.Scene.{Scene}
 use Rattle.plan_model.specs.ConfigurationSpace.{space_of}
 use Rattle.plan_model.specs.RoomOfConfigurations.{at_lattice, InRoom}
-use Rattle.plan_model.specs.MarkPoints.{IsInSpan, strip, picked, mixed, word_of_state, first_word, second_word, next_state, strip_of_mark, drawn_mark, columns, rows, BodyFits}
+use Rattle.plan_model.specs.MarkPoints.{IsInSpan, strip, picked, mixed, word_of_state, first_word}
+use Rattle.plan_model.specs.MarkPoints.{second_word, next_state, strip_of_mark, drawn_mark, columns, rows, BodyFits}
 use Rattle.plan_model.specs.declared.spans.Span.{Span}
 use Rattle.plan_model.proofs.SpanLaws.{InRoom-from_spans}
 use Rattle.plan_model.proofs.StripLaws.{strip-some, strip-within}
@@ -35,12 +36,14 @@ picked-within span word some small =
 
 -- the column and the row of a drawn mark
 pub drawn_mark-column :
-    (scene : Scene) (k : ℕ) → BodyFits scene.room scene.body → IsInSpan (strip (columns scene.room scene.body) scene.strips (strip_of_mark scene.strips k)) (drawn_mark scene k).x
+    (scene : Scene) (k : ℕ) → BodyFits scene.room scene.body
+    → IsInSpan (strip (columns scene.room scene.body) scene.strips (strip_of_mark scene.strips k)) (drawn_mark scene k).x
 drawn_mark-column scene k fits =
     let all = columns scene.room scene.body in
     let own : strip_of_mark scene.strips k < scene.strips = mod_below k scene.strips (omega (arith, scene.strips_low)) in
     let state : ℕ = (scene.seed + k) % 2 ^ 64 in
-    picked-within (strip all scene.strips (strip_of_mark scene.strips k)) (first_word state) (strip-some all scene.strips (strip_of_mark scene.strips k) fits.some_column own)
+    picked-within (strip all scene.strips (strip_of_mark scene.strips k)) (first_word state)
+    (strip-some all scene.strips (strip_of_mark scene.strips k) fits.some_column own)
     (word_below (next_state state))
 
 pub drawn_mark-row : (scene : Scene) (k : ℕ) → BodyFits scene.room scene.body → IsInSpan (rows scene.room scene.body) (drawn_mark scene k).y

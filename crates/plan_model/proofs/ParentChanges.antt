@@ -90,7 +90,8 @@ module _ (costs : ℕ → ℕ) (tree : List (Option Twig)) (i n fall : ℕ) (aft
             | inr apart ↦ omega (arith, ap costs (parent_kept (suc k) apart), falling.falls k (was_present (suc k) h))
           ]
 
-  module _ (later : ℕ → ℕ) (falling : CostsFall costs tree) (tight : AreTight costs tree) (lowered : IsBranchLowered (points_of after) (parent_of after) i fall costs later) where
+  module _ (later : ℕ → ℕ) (falling : CostsFall costs tree) (tight : AreTight costs tree)
+      (lowered : IsBranchLowered (points_of after) (parent_of after) i fall costs later) where
     -- what costs less than node i is none of its descendants, and costs what it did
     same_below : (most m : ℕ) → IsPresent (points_of after) m → costs m < costs i → costs m < most → later m ≡ costs m
     same_below zero m here below less = absurd (omega (arith, less))

@@ -51,7 +51,8 @@ module _ (child : Children) (points : List (Option Point)) (n : ℕ) (q : Point)
       let same : d ≡ e = same_depth d e one other in
       λ i. (same i, is_prop→PathP (λ j. IsOnWay child points q (same j) n) (λ j. IsOnWay-prop child points q (same j) n) one other i)
 
-once-prop : (child : Children) (n a b : ℕ) (side other_side : Bool) → IsProp (child a side ≡ Some n → child b other_side ≡ Some n → (a ≡ b) × (side ≡ other_side))
+once-prop : (child : Children) (n a b : ℕ) (side other_side : Bool)
+    → IsProp (child a side ≡ Some n → child b other_side ≡ Some n → (a ≡ b) × (side ≡ other_side))
 once-prop child n a b side other_side = hlevel props
 
 root-prop : (child : Children) (a : ℕ) (side : Bool) → IsProp (child a side ≢ Some 0)

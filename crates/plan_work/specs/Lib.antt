@@ -1,3 +1,3 @@
 pub mod Extensions
 pub mod Jobs
-pub mod NewNodes
+pub mod CheaperNodes

@@ -6,7 +6,7 @@ ghost use Rattle.plan_model.specs.Bounds.{IsBounded};
 ghost use Rattle.plan_model.specs.ConfigurationSpace.{space_of};
 ghost use Rattle.plan_model.specs.HandledMarks.{IsCheaperBy};
 ghost use Rattle.plan_model.specs.Textbook.{near_new, setup_of};
-ghost use Rattle.plan_work.specs.NewNodes.{CostsLessBy};
+ghost use Rattle.plan_work.specs.CheaperNodes.{CostsLessBy};
 ghost use Rattle.step_core.specs.GrownRuns.{state_of_grown};
 
 use edge_cost::costs_less_through;

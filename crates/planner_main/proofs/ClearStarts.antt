@@ -12,7 +12,8 @@ use Rattle.plan_model.specs.Meeting.{Meets, weighted}
 use Rattle.plan_model.specs.RoomOfConfigurations.{at_lattice, moved_by, IsBetweenWalls, InRoom}
 use Rattle.plan_model.specs.ConfigurationSpace.{ConfigurationSpace}
 use Rattle.plan_model.specs.Clearance.{ClearAt}
-use Rattle.planner_main.specs.GeneratedScenes.{lattice_corner, square_at, triangle_at, place_in_cell, side_by, obstacle_by, generated_obstacle, generated_obstacles}
+use Rattle.planner_main.specs.GeneratedScenes.{lattice_corner, square_at, triangle_at, place_in_cell}
+use Rattle.planner_main.specs.GeneratedScenes.{side_by, obstacle_by, generated_obstacle, generated_obstacles}
 
 times_at_least : (w n : ℕ) (z : ℤ) → pos n ≤ℤ z → pos (w * n) ≤ℤ (pos w *ℤ z)
 times_at_least w n (pos m) h = let low = mul-le w n w m (omega arith) (omega (arith, ints)) in omega (arith, ints)

@@ -16,7 +16,8 @@ use Rattle.plan_model.specs.Limits.{is_corner_between, is_obstacle, are_obstacle
 use Rattle.plan_model.specs.declared.limits.TheConstants.{LEAST_OBSTACLE_COORDINATE, MOST_OBSTACLE_COORDINATE, MOST_OBSTACLES}
 use Rattle.convex_sets.proofs.Tests.{true_of_below}
 use Rattle.convex_sets.proofs.Ring.{Read, var, minus, times}
-use Rattle.planner_main.specs.GeneratedScenes.{lattice_corner, square_at, triangle_at, place_in_cell, side_by, obstacle_by, generated_obstacle, generated_obstacles}
+use Rattle.planner_main.specs.GeneratedScenes.{lattice_corner, square_at, triangle_at, place_in_cell}
+use Rattle.planner_main.specs.GeneratedScenes.{side_by, obstacle_by, generated_obstacle, generated_obstacles}
 
 -- the area that a turn spans, as a difference
 abbrev turn : (a b c : Vertex) → Read (orientation a b c)

@@ -94,7 +94,7 @@ pub record IsUnwritten (writing : Writing) : Type 0 where
   pub no_fault : writing.faults ≡ writing.faults_before
 
 -- the sink took the whole text
-pub record IsWritten (writing : Writing) (text : List ℕ) : Type 0 where
+pub record IsWrittenWhole (writing : Writing) (text : List ℕ) : Type 0 where
   pub whole : Appends writing.before writing.now text
   pub no_fault : IsTrue writing.counts_failures_alone → writing.faults ≡ writing.faults_before
 

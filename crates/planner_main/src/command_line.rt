@@ -8,7 +8,7 @@ ghost use Rattle.scene_text.specs.Fetching.{ReadsWithin};
 ghost use Rattle.planner_main.specs.Commands.{command_of, reads_scene};
 ghost use Rattle.planner_main.specs.Conclusions.{IsAnswer, Asks};
 ghost use Rattle.planner_main.specs.Decisions.{IsDecided};
-ghost use Rattle.planner_main.specs.Exchanges.{reading_of, writing_of, ReadFailed, WriteFailed, IsUnread, IsUnwritten, IsWritten, IsCutShort};
+ghost use Rattle.planner_main.specs.Exchanges.{reading_of, writing_of, ReadFailed, WriteFailed, IsUnread, IsUnwritten, IsWrittenWhole, IsCutShort};
 
 use crate::statuses::{NO_MEMORY, WRITE_FAULT};
 use crate::top_call::run;
@@ -39,7 +39,7 @@ pub fn exit_code<R: Threads + Sync + Wait, S: Source, K: Sink>(
         exit_status result ≢ WRITE_FAULT → ((exit_status result ≡ NO_MEMORY) × IsUnread reading × IsUnwritten writing)
         ⊎ ((run : Option Grown) × (text : List ℕ)
         × IsAnswer (command_of (words_after_name args)) reading (record { status = exit_status result; run = run }) text
-        × IsWritten writing text) }
+        × IsWrittenWhole writing text) }
     // the sink failed, and took a proper prefix of the text of such an answer
     ensures cut { let reading = reading_of S.counts_failures_alone S.bytes_left S.has_ended S.fault_count source.old source.new in
         let writing = writing_of K.counts_failures_alone K.bytes_taken K.fault_count sink.old sink.new in

@@ -5,7 +5,7 @@ ghost use Rattle.scene_text.specs.Fetching.{ReadsWithin};
 ghost use Rattle.planner_main.specs.Commands.{command_of, reads_scene};
 ghost use Rattle.planner_main.specs.Conclusions.{IsAnswer, Asks};
 ghost use Rattle.planner_main.specs.Decisions.{IsDecided};
-ghost use Rattle.planner_main.specs.Exchanges.{reading_of, writing_of, ReadFailed, WriteFailed, IsUnread, IsWritten, IsCutShort};
+ghost use Rattle.planner_main.specs.Exchanges.{reading_of, writing_of, ReadFailed, WriteFailed, IsUnread, IsWrittenWhole, IsCutShort};
 
 use crate::answers::{Answer, answer_to};
 use crate::statuses::{NO_MEMORY, WORDS_REFUSED, WRITE_FAULT};
@@ -53,7 +53,7 @@ pub fn run<R: Threads + Sync + Wait, S: Source, K: Sink, G: Gate>(
     ensures done { let reading = reading_of S.counts_failures_alone S.bytes_left S.has_ended S.fault_count source.old source.new in
         let writing = writing_of K.counts_failures_alone K.bytes_taken K.fault_count sink.old sink.new in
         result.status ≢ WRITE_FAULT → (text : List ℕ) × IsAnswer (command_of (map string_bytes words.now)) reading result text
-        × IsWritten writing text }
+        × IsWrittenWhole writing text }
     // the sink failed, and took a proper prefix of the text of such an answer
     ensures cut { let reading = reading_of S.counts_failures_alone S.bytes_left S.has_ended S.fault_count source.old source.new in
         let writing = writing_of K.counts_failures_alone K.bytes_taken K.fault_count sink.old sink.new in
@@ -88,7 +88,7 @@ pub fn run<R: Threads + Sync + Wait, S: Source, K: Sink, G: Gate>(
 fn conclude<K: Sink>(sink: &mut K, text: &[u8], done: Done) -> Done
     requires { done.status ≢ WRITE_FAULT }
     ensures done { result.status ≢ WRITE_FAULT → (result ≡ done)
-        × IsWritten (writing_of K.counts_failures_alone K.bytes_taken K.fault_count sink.old sink.new) text.now }
+        × IsWrittenWhole (writing_of K.counts_failures_alone K.bytes_taken K.fault_count sink.old sink.new) text.now }
     ensures cut { result.status ≡ WRITE_FAULT → (record result { status = done.status } ≡ done)
         × IsCutShort (writing_of K.counts_failures_alone K.bytes_taken K.fault_count sink.old sink.new) text.now }
 {

@@ -37,7 +37,7 @@ use Rattle.plan_model.specs.Trees.{node_at, points_of}
 use Rattle.plan_model.proofs.TreeChanges.{node_at-push_new, node_at-past, node_at-absent}
 use Rattle.plan_model.proofs.NewNodes.{Adds-push, present_below}
 use Rattle.seq_planner.specs.declared.child_lists.ChildLists.{ChildLists}
-use Rattle.seq_planner.specs.LinkedTrees.{parent_if_child, is_number, is_child_of, HavePlaces, AreChildLists, ChangesOne, MayLink, MayUnlink, AreLinked}
+use Rattle.seq_planner.specs.LinkedTrees.{parent_if_child, is_number, is_child_of, HavePlaces, AreChildLists, ChangesOne, MayBecomeChild, MayUnlink, AreLinked}
 use Rattle.seq_planner.proofs.ChildLists.{AreChildLists-same, HavePlaces-fewer}
 
 -- ---- by nodes
@@ -73,10 +73,10 @@ AreLinked-push_absent tree lists children places = record {
 }
 
 -- a new node may be put in front of the list of any parent
-pub MayLink-push :
+pub MayBecomeChild-push :
     (tree : List (Option Twig)) (lists : ChildLists) (parent number : ℕ) → number ≡ length tree → AreChildLists (parent_if_child tree) lists
-    → MayLink (parent_if_child tree) lists parent number
-MayLink-push tree lists parent number e children = record {
+    → MayBecomeChild (parent_if_child tree) lists parent number
+MayBecomeChild-push tree lists parent number e children = record {
   children = children;
   unlinked = parent_if_child-past tree number (omega arith);
   last = λ c h. (let below = child_below tree c parent h in omega arith);
@@ -123,13 +123,13 @@ ChangesOne-without up number = record {
 }
 
 -- a node that was taken out of its parent's list may be put in front of another, whose members are all lesser
-pub MayLink-unlinked :
+pub MayBecomeChild-unlinked :
     (tree : List (Option Twig)) (old new : ChildLists) (number parent : ℕ) (node : Twig) → 0 < number → node_at tree number ≡ Some node
     → AreChildLists (parent_if_child tree) old
     → ((up after : ℕ → Option ℕ) → MayUnlink up old node.parent number → ChangesOne up after number None → AreChildLists after new)
     → ((c : ℕ) → is_child_of tree parent c ≡ true → c < number)
-    → MayLink (without (parent_if_child tree) number) new parent number
-MayLink-unlinked tree old new number parent node positive here children unlinks last =
+    → MayBecomeChild (without (parent_if_child tree) number) new parent number
+MayBecomeChild-unlinked tree old new number parent node positive here children unlinks last =
     let up : ℕ → Option ℕ = parent_if_child tree in
     let changes = ChangesOne-without up number in
     let linked : up number ≡ Some node.parent = parent_if_child-positive tree number positive ∙ ap (option_map (λ node. node.parent)) here in

@@ -6,7 +6,7 @@ use Rattle.std.proofs.lemmas.List.{get_or-set_same, get_or-set_other}
 use Rattle.std.proofs.Math.ListN.{length-set}
 use Rattle.std.proofs.lemmas.Bool.{cases_eq}
 use Rattle.seq_planner.specs.declared.child_lists.ChildLists.{ChildLists}
-use Rattle.seq_planner.specs.LinkedTrees.{IsGreatest, IsLeast, HavePlaces, AreChildLists, ChangesOne, MayLink}
+use Rattle.seq_planner.specs.LinkedTrees.{IsGreatest, IsLeast, HavePlaces, AreChildLists, ChangesOne, MayBecomeChild}
 use Rattle.seq_planner.proofs.GreatestAndLeast.{IsGreatest-same, IsLeast-more, IsGreatest-exists}
 use Rattle.seq_planner.proofs.ChildLists.{cases_some, ChangesOne-to, ChangesOne-from, ChangesOne-back, ChangesOne-set, HavePlaces-same, first_has_place}
 
@@ -24,7 +24,7 @@ record PutsInFront (old new : ChildLists) (parent child : ℕ) : Type 0 where
   pub places : (n : ℕ) → HavePlaces n old → HavePlaces n new
 
 module _
-    (up after : ℕ → Option ℕ) (old new : ChildLists) (parent child : ℕ) (may : MayLink up old parent child) (changes : ChangesOne up after child (Some parent))
+    (up after : ℕ → Option ℕ) (old new : ChildLists) (parent child : ℕ) (may : MayBecomeChild up old parent child) (changes : ChangesOne up after child (Some parent))
     (puts : PutsInFront old new parent child) where
   -- the child was nobody's
   nobody : (f : ℕ) → up child ≢ Some f
@@ -171,7 +171,7 @@ PutsBehind-none old parent child none child_place = record {
 }
 
 module _
-    (up after : ℕ → Option ℕ) (old : ChildLists) (parent child : ℕ) (may : MayLink up old parent child) (changes : ChangesOne up after child (Some parent))
+    (up after : ℕ → Option ℕ) (old : ChildLists) (parent child : ℕ) (may : MayBecomeChild up old parent child) (changes : ChangesOne up after child (Some parent))
     (parent_place : HavePlaces (parent + 1) old) (child_place : HavePlaces (child + 1) old) where
   -- in front of another
   pub link-some :

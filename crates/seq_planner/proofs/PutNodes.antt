@@ -14,7 +14,7 @@ use Rattle.plan_model.proofs.DistinctPoints.{IsPresent-push}
 use Rattle.seq_planner.specs.declared.extensions.Extension.{Extension}
 use Rattle.seq_planner.specs.declared.search_tree.SearchTree.{SearchTree}
 use Rattle.seq_planner.specs.LinkedTrees.{is_child_of}
-use Rattle.seq_planner.specs.SearchTrees.{Fits, IsExtensionOf, HandlesNext}
+use Rattle.seq_planner.specs.SearchTrees.{Fits, IsExtensionOf, GrowsByMark}
 use Rattle.seq_planner.proofs.NewLeaves.{no_child-new}
 
 -- present nodes are present beside one more number
@@ -44,12 +44,12 @@ none-put None e = refl
 none-put (Some node) e = cc
 
 -- the mark is handled by what rewiring leaves
-pub HandlesNext-put :
+pub GrowsByMark-put :
     (scene : Scene) (tree after : SearchTree) (mark : Point) (extension : Extension) (ns : List ℕ) → IsExtensionOf scene tree mark extension ns
     → after.records.items ≡ tree.records.items ++ extension.entry ∷ []
     → Rewires (space_of scene) (tree.nodes ++ extension.node ∷ []) (length tree.nodes) ns after.nodes
-    → length after.nodes ≡ length tree.nodes + 1 → HandlesNext scene tree mark after
-HandlesNext-put scene tree after mark extension ns h recorded rewired count = record {
+    → length after.nodes ≡ length tree.nodes + 1 → GrowsByMark scene tree mark after
+GrowsByMark-put scene tree after mark extension ns h recorded rewired count = record {
   entry = extension.entry;
   recorded = recorded;
   handled = h.handles after.nodes rewired;

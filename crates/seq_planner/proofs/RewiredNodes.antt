@@ -92,7 +92,8 @@ module _ (nodes : Nodes) (costs : List ℕ) (placed : PlacedPoints) (n i through
 pub IsSound-rewired :
     (nodes after : Nodes) (costs later : List ℕ) (placed : PlacedPoints) (n i fall : ℕ) → IsSound nodes costs placed
     → HasCheaperParent (λ m. get_or costs m 0) nodes i n fall after
-    → IsBranchLowered (points_of after) (parent_of after) i fall (λ m. get_or costs m 0) (λ m. get_or later m 0) → length later ≡ length costs → IsSound after later placed
+    → IsBranchLowered (points_of after) (parent_of after) i fall (λ m. get_or costs m 0) (λ m. get_or later m 0) → length later ≡ length costs
+    → IsSound after later placed
 IsSound-rewired nodes after costs later placed n i fall h change lowered count =
     let before : ℕ → ℕ = λ m. get_or costs m 0 in
     let now : ℕ → ℕ = λ m. get_or later m 0 in

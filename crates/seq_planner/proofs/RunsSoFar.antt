@@ -7,7 +7,7 @@ use Rattle.plan_model.specs.declared.records.Record.{Record}
 use Rattle.plan_model.specs.Textbook.{setup_of, start_alone, Handles, HandlesAll}
 use Rattle.plan_model.proofs.RunLaws.{HandlesAll-push}
 use Rattle.seq_planner.specs.declared.search_tree.SearchTree.{SearchTree}
-use Rattle.seq_planner.specs.SearchTrees.{IsSoundTree, HandlesNext}
+use Rattle.seq_planner.specs.SearchTrees.{IsSoundTree, GrowsByMark}
 
 -- these marks are handled, and the tree is what they left
 pub record IsRunSoFar (scene : Scene) (marks : List Point) (tree : SearchTree) : Type 0 where
@@ -19,7 +19,7 @@ pub record IsRunSoFar (scene : Scene) (marks : List Point) (tree : SearchTree) :
 -- after one more mark
 pub IsRunSoFar-more :
     (scene : Scene) (marks : List Point) (tree after : SearchTree) (i : ℕ) (mark : Point) → IsRunSoFar scene (take i marks) tree
-    → i < length marks → mark ≡ get_or marks i mark → HandlesNext scene tree mark after → IsSoundTree after
+    → i < length marks → mark ≡ get_or marks i mark → GrowsByMark scene tree mark after → IsSoundTree after
     → IsRunSoFar scene (take (i + 1) marks) after
 IsRunSoFar-more scene marks tree after i mark h l e next sound =
     let done : List Point = take i marks in

@@ -48,7 +48,7 @@ pub record ChangesOne (up after : ℕ → Option ℕ) (number : ℕ) (value : Op
   pub elsewhere : (n : ℕ) → n ≢ number → after n ≡ up n
 
 -- A number may be put in front of its parent's list if it is in none, and greater than each number that is in this one.
-pub record MayLink (up : ℕ → Option ℕ) (lists : ChildLists) (parent child : ℕ) : Type 0 where
+pub record MayBecomeChild (up : ℕ → Option ℕ) (lists : ChildLists) (parent child : ℕ) : Type 0 where
   pub children : AreChildLists up lists
   pub unlinked : up child ≡ None
   pub last : (c : ℕ) → up c ≡ Some parent → c < child

@@ -70,7 +70,7 @@ pub record IsExtensionOf (scene : Scene) (tree : SearchTree) (mark : Point) (ext
   pub none_near : extension.node ≡ None → near ≡ []
 
 -- The next mark is handled, and its record is the last.
-pub record HandlesNext (scene : Scene) (tree : SearchTree) (mark : Point) (after : SearchTree) : Type 0 where
+pub record GrowsByMark (scene : Scene) (tree : SearchTree) (mark : Point) (after : SearchTree) : Type 0 where
   pub entry : Record
   pub recorded : after.records.items ≡ tree.records.items ++ entry ∷ []
   pub handled : Handles (setup_of scene) tree.nodes (length tree.records.items) mark entry after.nodes

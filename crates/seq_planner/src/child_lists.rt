@@ -1,7 +1,7 @@
 //! Lists of the children of each node of a tree.
 
 ghost use Rattle.std.specs.Prelude.{IfOk, OnOk, ◌≡◌, ℕ, ◌+◌, ◌==◌, Option, Some, None, count_by, if◌then◌else◌};
-ghost use Rattle.seq_planner.specs.LinkedTrees.{AreChildLists, ChangesOne, HavePlaces, MayLink, MayUnlink, is_number};
+ghost use Rattle.seq_planner.specs.LinkedTrees.{AreChildLists, ChangesOne, HavePlaces, MayBecomeChild, MayUnlink, is_number};
 
 use plan_model::Memory;
 use std::alloc::Global;
@@ -59,8 +59,8 @@ impl ChildLists {
     pub(crate) fn link(&mut self, parent: u32, child: u32)
         requires parent { HavePlaces (parent + 1) self.old }
         requires child { HavePlaces (child + 1) self.old }
-        requires unlinked { (up : ℕ → Option ℕ) × MayLink up self.old parent child }
-        ensures lists { (up after : ℕ → Option ℕ) → MayLink up self.old parent child → ChangesOne up after child (Some parent)
+        requires unlinked { (up : ℕ → Option ℕ) × MayBecomeChild up self.old parent child }
+        ensures lists { (up after : ℕ → Option ℕ) → MayBecomeChild up self.old parent child → ChangesOne up after child (Some parent)
             → AreChildLists after self.new }
         ensures places { (n : ℕ) → HavePlaces n self.old → HavePlaces n self.new }
     {

@@ -8,7 +8,7 @@ ghost use Rattle.plan_model.specs.SameRuns.{IsOfTextbookRun};
 ghost use Rattle.plan_model.specs.Textbook.{IsTextbookRun, setup_of, start_alone};
 ghost use Rattle.plan_model.specs.TreeStates.{IsSettled};
 ghost use Rattle.plan_model.specs.declared.limits.TheConstants.{MOST_MARKS};
-ghost use Rattle.seq_planner.specs.SearchTrees.{Fits, HandlesNext, IsExtensionOf, IsSoundTree, with_cost, with_costs};
+ghost use Rattle.seq_planner.specs.SearchTrees.{Fits, GrowsByMark, IsExtensionOf, IsSoundTree, with_cost, with_costs};
 ghost use Rattle.step_core.specs.GrownRuns.{state_of_grown};
 
 use crate::extensions::Extension;
@@ -95,7 +95,7 @@ impl SearchTree {
         requires few { length self.old.nodes ≤ MOST_MARKS }
         requires turn { length self.old.records.items + 1 ≡ length self.old.nodes }
         requires bounded { IsBounded mark }
-        ensures handles { OnOk result (HandlesNext scene.now self.old mark self.new) }
+        ensures handles { OnOk result (GrowsByMark scene.now self.old mark self.new) }
         ensures sound { OnOk result (IsSoundTree self.new) }
     {
         let extension = self.extension(scene, radii, hall, mark, &mut lists.near)?;

@@ -126,7 +126,8 @@ module _
         | inl here ↦ (
             let own = HasKnot-present knots n here in
             let is = IsKnot-at knots n own.knot own.at in
-            point_at-words sizes words n (fit.nodes n own.knot is).within ∙ node_point-here words n (has_node-packed n here) ∙ ap point_of_word (held.nodes n own.knot is).point
+            point_at-words sizes words n (fit.nodes n own.knot is).within ∙ node_point-here words n (has_node-packed n here)
+            ∙ ap point_of_word (held.nodes n own.knot is).point
             ∙ point_of_word-packed own.knot.point (fit.nodes n own.knot is).point
             ∙ sym (point_at-lists knots n ∙ ap (option_map (λ (knot : Knot). knot.point)) own.at))
         | inr none ↦ (

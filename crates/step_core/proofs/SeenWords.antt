@@ -43,7 +43,8 @@ falls_says word later pair (inr (inr fell)) h = (
 -- ---- a record and its first word
 
 -- the record of a mark that was not placed is in its own word
-unplaced_same : (number word first later : ℕ) → is_placed (record_in number word first).outcome ≡ false → record_in number word first ≡ record_in number word later
+unplaced_same : (number word first later : ℕ) → is_placed (record_in number word first).outcome ≡ false
+    → record_in number word first ≡ record_in number word later
 unplaced_same zero word first later none = cc
 unplaced_same (suc zero) word first later none = refl
 unplaced_same (suc (suc zero)) word first later none = refl
@@ -83,7 +84,8 @@ unplaced_says word first later entry none h = by_test (nat_lt word (2 ^ 63)) h
         sym (ap Some (unplaced_same (outcome_in word) word first later (ap (λ r. is_placed r.outcome) same ∙ none))) ∙ e
 
 -- So a record that is whole says the same beside a first word that was written since,
-pub record_says : (word first later : ℕ) (entry : Record) → MayBecome Once first later → whole_record word first ≡ Some entry → record_of_word word later ≡ Some entry
+pub record_says : (word first later : ℕ) (entry : Record) → MayBecome Once first later → whole_record word first ≡ Some entry
+    → record_of_word word later ≡ Some entry
 record_says word first later entry (inr same) h = ap (record_of_word word) (sym same) ∙ whole_is word first entry h
 record_says word first later entry (inl unseen) h =
     unplaced_says word first later entry (whole_unplaced word first entry unseen h) (whole_is word first entry h)

@@ -96,7 +96,8 @@ module _
 
 module _
     (task : Task) (k : ℕ) (entry : Record) (p : Point) (moved : List ℕ) (before after : Words)
-    (writes : RecordsMark (sizes_of task) k entry before after) (fits : FitsRecord entry) (absent : has_node before (suc k) ≡ false) (unplaced : is_placed entry.outcome ≡ false)
+    (writes : RecordsMark (sizes_of task) k entry before after) (fits : FitsRecord entry) (absent : has_node before (suc k) ≡ false)
+    (unplaced : is_placed entry.outcome ≡ false)
     (closed : IsClosed (setup_of task.scene) task.marks (suc k) (with_mark (state_of_words (sizes_of task) before) k entry p moved)) where
   abbrev sizes : Sizes
   sizes = sizes_of task

@@ -1,5 +1,6 @@
 use Rattle.std.proofs.Common.{true, refl, inr}
-use Rattle.plan_model.proofs.SeenByOne.{KeepsSight-return, not_seen_4, IsLaterMoment-return, swept_beside_node_1, swept_beside_node_0, found_before_6, none_after_8}
+use Rattle.plan_model.proofs.SeenByOne.{KeepsSight-return, not_seen_4, IsLaterMoment-return}
+use Rattle.plan_model.proofs.SeenByOne.{swept_beside_node_1, swept_beside_node_0, found_before_6, none_after_8}
 use Rattle.plan_model.proofs.SeenByTwo.{true_now, true_before, not_true_yet, taken_over, later_for_one, more_for_other, not_later_for_other}
 use Rattle.plan_model.proofs.vectors.seen_trees.Goals as goal
 

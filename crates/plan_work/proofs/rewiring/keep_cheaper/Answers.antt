@@ -7,7 +7,7 @@ use Rattle.plan_model.specs.PointsByNumber.{IsPresent, point_of}
 use Rattle.plan_model.specs.Textbook.{near_new, setup_of}
 use Rattle.plan_model.proofs.DistinctPoints.{near-present}
 use Rattle.step_core.specs.GrownRuns.{state_of_grown}
-use Rattle.plan_work.specs.NewNodes.{CostsLessBy}
+use Rattle.plan_work.specs.CheaperNodes.{CostsLessBy}
 use Rattle.plan_work.proofs.NumberScans.{KeepsInPlace-all, KeepsInPlace-keeps, KeepsInPlace-leaves, KeepsInPlace-none}
 use Rattle.plan_work.proofs.rewiring.keep_cheaper.Goals as goal
 use Rattle.plan_work.proofs.rewiring.keep_cheaper.Goals.{then-is_cheaper, else-is_cheaper}

@@ -1,7 +1,7 @@
 use Rattle.std.proofs.Common.{◌≡◌}
 use Rattle.std.specs.Vec.{vec_capacity}
 use Rattle.step_core.specs.GrownRuns.{state_of_grown}
-use Rattle.plan_work.specs.NewNodes.{CostsLessBy}
+use Rattle.plan_work.specs.CheaperNodes.{CostsLessBy}
 use Rattle.plan_work.proofs.NumberScans.{KeepsInPlace}
 use Rattle.plan_work.proofs.rewiring.keep_cheaper.Given as goal
 

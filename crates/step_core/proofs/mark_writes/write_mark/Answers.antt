@@ -112,7 +112,8 @@ returns-in-Placed c =
 pub returns-in_default : goal.returns-in_default
 returns-in_default c =
     let same = c.of-places.ensures in
-    let records : RecordsMark (sizes_in c.of-places.result) c.args.mark c.args.entry.now (words_in c.of-places.result c.args.words.now) (words_in c.of-places.result c.write_record.new.words) =
+    let records : RecordsMark (sizes_in c.of-places.result) c.args.mark c.args.entry.now (words_in c.of-places.result c.args.words.now)
+    (words_in c.of-places.result c.write_record.new.words) =
     record {
       counted = words_in c.of-places.result c.count_mark.new.words;
       counts = c.count_mark.ensures;

@@ -16,13 +16,15 @@ loop-node-preserved c =
       | in-Some w ↦ (
           let own = read ∙ ap Some w.in-Some.is in
           let more =
-          WritesNodes-more knots m (words_in c.args.places c.args.words.now) (words_in c.args.places c.loop-node.words) c.loop-node.invariant (words_in c.args.places w.write_node.new.words)
+          WritesNodes-more knots m (words_in c.args.places c.args.words.now) (words_in c.args.places c.loop-node.words) c.loop-node.invariant
+          (words_in c.args.places w.write_node.new.words)
           w.in-Some.knot own w.write_node.ensures.hold w.write_node.ensures.others in
           subst (λ words. WritesNodes c.args.knots.now (c.loop-node.node + 1) (words_in c.args.places c.args.words.now) (words_in c.args.places words))
           (sym w.words-is) more)
       | in_default w ↦ (
           let more =
-          WritesNodes-absent knots m (words_in c.args.places c.args.words.now) (words_in c.args.places c.loop-node.words) c.loop-node.invariant (read ∙ ap Some w.in_default.is) in
+          WritesNodes-absent knots m (words_in c.args.places c.args.words.now) (words_in c.args.places c.loop-node.words) c.loop-node.invariant
+          (read ∙ ap Some w.in_default.is) in
           subst (λ words. WritesNodes c.args.knots.now (c.loop-node.node + 1) (words_in c.args.places c.args.words.now) (words_in c.args.places words))
           (sym w.words-is) more)
     ]

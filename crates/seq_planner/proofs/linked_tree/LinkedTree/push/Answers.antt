@@ -3,7 +3,7 @@ use Rattle.std.proofs.Common.{◌≡◌, ◌<◌, length, sym, ap, subst, arith}
 use Rattle.plan_model.specs.PointsByNumber.{IsPresent}
 use Rattle.plan_model.specs.Trees.{points_of}
 use Rattle.seq_planner.specs.LinkedTrees.{MayJoin, parent_if_child}
-use Rattle.seq_planner.proofs.ChangedLinks.{AreLinked-push_absent, MayLink-push, ChangesOne-push, AreLinked-push, HavePlaces-present}
+use Rattle.seq_planner.proofs.ChangedLinks.{AreLinked-push_absent, MayBecomeChild-push, ChangesOne-push, AreLinked-push, HavePlaces-present}
 use Rattle.seq_planner.proofs.linked_tree.LinkedTree.push.Goals as goal
 
 pub invariant_of-self : goal.invariant_of-self
@@ -37,7 +37,7 @@ link-requires-clause-unlinked c =
     let number : c.len-number.result ≡ length c.self.inside.nodes.items = omega (arith, c.self.inside.nodes.ok.0) in
     let children = c.push.ensures.lists _ c.self.invariant.children in (
       parent_if_child c.self.inside.nodes.items,
-      MayLink-push c.self.inside.nodes.items c.push.new.self c.in-Some.node.parent c.len-number.result number children,
+      MayBecomeChild-push c.self.inside.nodes.items c.push.new.self c.in-Some.node.parent c.len-number.result number children,
     )
 
 pub invariant_of-self-in-Some : goal.invariant_of-self-in-Some
@@ -46,7 +46,7 @@ invariant_of-self-in-Some c =
     let node = c.in-Some.node in
     let number : c.len-number.result ≡ length c.self.inside.nodes.items = omega (arith, c.self.inside.nodes.ok.0) in
     let some : 0 < length c.self.inside.nodes.items = omega (arith, ap length c.self.view_is, c.requires.some) in
-    let may = MayLink-push tree c.push.new.self node.parent c.len-number.result number (c.push.ensures.lists _ c.self.invariant.children) in
+    let may = MayBecomeChild-push tree c.push.new.self node.parent c.len-number.result number (c.push.ensures.lists _ c.self.invariant.children) in
     let children = c.link.ensures.lists _ _ may (ChangesOne-push tree node c.len-number.result number some) in
     rw (c.in_ok-push-2.ensures.items, c.in-Some.is)
     (AreLinked-push tree node c.link.new.self children (c.link.ensures.places _ (c.in_ok-push.ensures.more _ c.self.invariant.places)))

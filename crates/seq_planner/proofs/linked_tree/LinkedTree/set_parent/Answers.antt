@@ -6,7 +6,7 @@ use Rattle.plan_model.specs.PointsByNumber.{IsPresent}
 use Rattle.plan_model.specs.Trees.{points_of}
 use Rattle.plan_model.proofs.NewNodes.{present_below}
 use Rattle.seq_planner.specs.LinkedTrees.{parent_if_child, is_child_of}
-use Rattle.seq_planner.proofs.ChangedLinks.{without, MayLink-unlinked, ChangesOne-replace, AreLinked-replace, HavePlaces-present}
+use Rattle.seq_planner.proofs.ChangedLinks.{without, MayBecomeChild-unlinked, ChangesOne-replace, AreLinked-replace, HavePlaces-present}
 use Rattle.seq_planner.proofs.linked_tree.LinkedTree.set_parent.Goals as goal
 
 pub link-requires-clause-parent : goal.link-requires-clause-parent
@@ -31,7 +31,7 @@ link-requires-clause-unlinked c =
     let last : (n : ℕ) → is_child_of c.self.inside.nodes.items c.args.parent n ≡ true → n < c.args.number =
     subst (λ tree. (n : ℕ) → is_child_of tree c.args.parent n ≡ true → n < c.args.number) (sym c.self.view_is) c.requires.last in (
       without (parent_if_child c.self.inside.nodes.items) c.args.number,
-      MayLink-unlinked c.self.inside.nodes.items c.self.inside.children c.unlink.new.self c.args.number c.args.parent c.unwrap-former.result
+      MayBecomeChild-unlinked c.self.inside.nodes.items c.self.inside.children c.unlink.new.self c.args.number c.args.parent c.unwrap-former.result
           c.requires.child here
           c.self.invariant.children c.unlink.ensures.lists last,
     )
@@ -46,7 +46,7 @@ invariant_of-self c =
     let last : (n : ℕ) → is_child_of c.self.inside.nodes.items c.args.parent n ≡ true → n < c.args.number =
     subst (λ tree. (n : ℕ) → is_child_of tree c.args.parent n ≡ true → n < c.args.number) (sym c.self.view_is) c.requires.last in
     let may =
-    MayLink-unlinked c.self.inside.nodes.items c.self.inside.children c.unlink.new.self c.args.number c.args.parent c.unwrap-former.result c.requires.child here
+    MayBecomeChild-unlinked c.self.inside.nodes.items c.self.inside.children c.unlink.new.self c.args.number c.args.parent c.unwrap-former.result c.requires.child here
     c.self.invariant.children c.unlink.ensures.lists last in
     let node : Twig = record { point = c.unwrap-former.result.point; parent = c.args.parent } in
     AreLinked-replace c.self.inside.nodes.items c.args.number node c.link.new.self

@@ -4,7 +4,7 @@ use Rattle.plan_model.specs.ConfigurationSpace.{ConfigurationSpace, space_of}
 use Rattle.plan_model.specs.PointsByNumber.{IsPresent}
 use Rattle.plan_model.specs.Trees.{points_of}
 use Rattle.plan_model.specs.Textbook.{Nodes, Rewires}
-use Rattle.seq_planner.proofs.PutNodes.{present-put, no_child-put, none-put, HandlesNext-put}
+use Rattle.seq_planner.proofs.PutNodes.{present-put, no_child-put, none-put, GrowsByMark-put}
 use Rattle.seq_planner.proofs.search_tree.SearchTree.handle.Goals as goal
 
 pub rewire-requires-clause-near : goal.rewire-requires-clause-near
@@ -39,7 +39,7 @@ returns-in_ok-rewire-clause-handles g c =
     subst (λ (n : ℕ). R (space_of c.args.scene.now) c.push.new.self.nodes n near) c.in_ok-number.ensures.number of_near in
     let rewired : R (space_of c.args.scene.now) put (length tree.nodes) near =
     subst (λ (t : Nodes). R (space_of c.args.scene.now) t (length tree.nodes) near) c.in_ok-number.ensures.nodes numbered in
-    HandlesNext-put c.args.scene.now tree after c.args.mark extension near c.in_ok-extension.ensures
+    GrowsByMark-put c.args.scene.now tree after c.args.mark extension near c.in_ok-extension.ensures
     (c.in_ok-rewire.ensures.records ∙ c.in_ok-number.ensures.records) rewired
     (omega (arith, c.in_ok-rewire.ensures.count, ap length c.in_ok-number.ensures.nodes, length-append tree.nodes (extension.node ∷ [])))
 
@@ -51,6 +51,6 @@ returns-else-is_some-clause-handles g c =
     let none : near ≡ [] = c.in_ok-extension.ensures.none_near (none-put extension.node (sym c.is_some.ensures ∙ c.if-is_some.false)) in
     let put : Nodes = tree.nodes ++ extension.node ∷ [] in
     let R : List ℕ → Type 0 = λ ns. Rewires (space_of c.args.scene.now) put (length tree.nodes) ns c.push.new.self.nodes in
-    HandlesNext-put c.args.scene.now tree c.push.new.self c.args.mark extension near c.in_ok-extension.ensures
+    GrowsByMark-put c.args.scene.now tree c.push.new.self c.args.mark extension near c.in_ok-extension.ensures
     c.in_ok-number.ensures.records (subst R (sym none) c.in_ok-number.ensures.nodes)
     (omega (arith, ap length c.in_ok-number.ensures.nodes, length-append tree.nodes (extension.node ∷ [])))

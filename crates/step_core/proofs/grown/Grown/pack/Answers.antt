@@ -31,7 +31,8 @@ pub returns-clause-state : goal.returns-clause-state
 returns-clause-state c =
     let long : length c.write_run.new.words ≡ c.in_ok-words.words.len = c.write_run.auto.words ∙ c.deref_mut.ensures.len in
     let items = with_items_is c.in_ok-words.words c.write_run.new.words long in
-    subst (λ list. AreSameRuns (state_of_lists c.args.knots.now c.args.records.now) (state_of_words (sizes_of c.args.task) (run_words c.args.task list))) (sym items)
+    let given = state_of_lists c.args.knots.now c.args.records.now in
+    subst (λ list. AreSameRuns given (state_of_words (sizes_of c.args.task) (run_words c.args.task list))) (sym items)
     (subst (λ state. AreSameRuns state (state_of_words (sizes_of c.args.task) (run_words c.args.task c.write_run.new.words)))
     (λ t. state_of_lists (c.as_slice.ensures t) (c.as_slice-2.ensures t)) c.write_run.ensures.state)
 
