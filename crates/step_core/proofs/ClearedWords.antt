@@ -1,12 +1,12 @@
 -- Words of numbers without a node are cleared, one number after another: at last they are the words as they are cleared at once.
-use Rattle.std.proofs.Common.{◌≡◌, ℕ, zero, suc, ◌+◌, ◌<◌, ◌≤◌, Bool, true, false, Some, None, List, arith, refl, sym, ap, ◌∙◌, subst, inl, inr}
-use Rattle.std.specs.Prelude.{◌≢◌, if◌then◌else◌}
-use Rattle.std.proofs.lemmas.Bool.{cases_Bool, cases_eq, cases_lt}
-use Rattle.step_core.specs.WordNames.{Word, Words, WritesWord, ChangesOnly}
+use Rattle.std.proofs.Common.{◌≡◌, ℕ, zero, suc, ◌+◌, ◌<◌, Bool, true, false, List, arith, refl, sym, ap, ◌∙◌, subst, inl, inr}
+use Rattle.std.specs.Prelude.{if◌then◌else◌}
+use Rattle.std.proofs.lemmas.Bool.{cases_eq, cases_lt}
+use Rattle.step_core.specs.WordNames.{Word, Words, WritesWord}
 use Rattle.step_core.specs.WordNames.Word.{Count, Counter, PointOf, ChildOf, TreeOf, FirstOf, RecordOf}
 use Rattle.step_core.specs.WordPlaces.{Sizes, HasWord, word_at}
 use Rattle.step_core.specs.Words.{record_of_word}
-use Rattle.step_core.specs.GrownWords.{record_at, has_placed, has_node, IsBlank, cleared}
+use Rattle.step_core.specs.GrownWords.{has_placed, has_node, IsBlank, cleared}
 use Rattle.step_core.specs.ClearedWords.{IsNodeWord, ClearsNode, ClearsNodes}
 use Rattle.step_core.proofs.WordReads.{word_at-none}
 

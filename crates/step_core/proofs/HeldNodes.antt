@@ -1,14 +1,14 @@
 -- The nodes of a closed run: the start is one, stands at its place below itself and costs nothing, and none is past the limit.
-use Rattle.std.proofs.Common.{◌≡◌, ℕ, ◌≤◌, Some, sym, ap, ◌∙◌, inl, inr}
+use Rattle.std.proofs.Common.{◌≡◌, ℕ, ◌≤◌, sym, ap, ◌∙◌, inl, inr}
 use Rattle.std.proofs.lemmas.Bool.{cases_lt}
 use Rattle.plan_model.specs.declared.geometry.Point.{Point}
 use Rattle.plan_model.specs.declared.tasks.Task.{Task}
 use Rattle.plan_model.specs.Geometry.{squared_distance}
 use Rattle.plan_model.specs.Nearness.{distance_to}
-use Rattle.plan_model.specs.PointsByNumber.{StandsAt, IsPresent, point_of, node_count}
-use Rattle.plan_model.proofs.NewNodes.{IsPresent-stands, StandsAt-present, point_of-stands, node_count-some}
+use Rattle.plan_model.specs.PointsByNumber.{StandsAt, IsPresent, node_count}
+use Rattle.plan_model.proofs.NewNodes.{IsPresent-stands, point_of-stands, node_count-some}
 use Rattle.step_core.specs.WordNames.{Words}
-use Rattle.step_core.specs.GrownWords.{HoldRun, points_of_words, sizes_of, state_of_words}
+use Rattle.step_core.specs.GrownWords.{HoldRun, points_of_words, sizes_of}
 use Rattle.step_core.proofs.GrownPoints.{has_node-present}
 use Rattle.step_core.proofs.HeldRuns.{none_past-held}
 

@@ -1,5 +1,5 @@
 -- Nodes that are present by their links. In a closed run they are those that are present by their records.
-use Rattle.std.proofs.Common.{◌≡◌, ℕ, zero, suc, ◌+◌, ◌<◌, ◌≤◌, Bool, true, false, List, [], ◌∷◌, Some, arith, refl, sym, ap, ◌∙◌, subst, inl, inr}
+use Rattle.std.proofs.Common.{◌≡◌, ℕ, zero, suc, ◌+◌, ◌≤◌, Bool, true, false, List, [], ◌∷◌, Some, arith, refl, sym, ap, ◌∙◌, inl, inr}
 use Rattle.std.specs.Prelude.{◌≢◌, ◌==◌, ◌||◌, ◌⊎◌, is_some, Option, None}
 use Rattle.std.specs.List.{range_with_len, list_any}
 use Rattle.std.proofs.lemmas.Bool.{cases_Bool, eqb-true}
@@ -7,10 +7,9 @@ use Rattle.plan_model.specs.declared.geometry.Point.{Point}
 use Rattle.plan_model.specs.declared.records.Outcome.TheVariants.{Placed}
 use Rattle.plan_model.specs.declared.records.Record.{Record}
 use Rattle.plan_model.specs.declared.tasks.Task.{Task}
-use Rattle.plan_model.specs.Outcomes.{is_placed}
-use Rattle.plan_model.specs.PointsByNumber.{point_at, point_of, StandsAt, IsPresent}
+use Rattle.plan_model.specs.PointsByNumber.{point_of, IsPresent}
 use Rattle.plan_model.specs.Ways.{IsOnWay}
-use Rattle.plan_model.specs.Ways.IsOnWay.{begins, goes_on}
+use Rattle.plan_model.specs.Ways.IsOnWay.{goes_on}
 use Rattle.plan_model.proofs.PlacedNodes.{is_placed-true, present-of_record}
 use Rattle.plan_model.proofs.NewNodes.{StandsAt-present}
 use Rattle.step_core.specs.WordNames.{Words}

@@ -1,5 +1,5 @@
 -- A new node is counted, and then its words are written.
-use Rattle.std.proofs.Common.{◌≡◌, ℕ, ◌+◌, refl, sym, ◌∙◌, subst}
+use Rattle.std.proofs.Common.{◌≡◌, ℕ, ◌+◌, sym, ◌∙◌, subst}
 use Rattle.plan_model.specs.declared.trees.Knot.{Knot}
 use Rattle.step_core.specs.WordNames.{Word, Words, WritesWord, IsKnotWord}
 use Rattle.step_core.specs.WordNames.Word.{Count, PointOf, TreeOf}

@@ -2,7 +2,6 @@
 -- that the run with it is closed.
 use Rattle.std.proofs.Common.{◌≡◌, ℕ, suc, ◌+◌, ◌<◌, ◌≤◌, ◌^◌, ◌%◌, true, false, List, length, get_or, refl, arith, sym, ap, ◌∙◌, subst}
 use Rattle.std.specs.Prelude.{All, ◌==◌}
-use Rattle.std.proofs.Math.Logic.{∥∥₁_map₂}
 use Rattle.std.proofs.lemmas.Bool.{eq-eqb, eqb-true}
 use Rattle.std.proofs.lemmas.List.Elements.{All-contains, All-from_get_or}
 use Rattle.std.proofs.lemmas.List.Folds.{list_any_at}
@@ -20,7 +19,7 @@ use Rattle.plan_model.specs.Outcomes.{is_placed}
 use Rattle.plan_model.specs.Textbook.{setup_of}
 use Rattle.plan_model.specs.TreeStates.{TreeState, AreSameRuns}
 use Rattle.step_core.specs.WordNames.{Words}
-use Rattle.step_core.specs.WordNames.Word.{Count, Counter, PointOf}
+use Rattle.step_core.specs.WordNames.Word.{Count, Counter}
 use Rattle.step_core.specs.WordPlaces.{Sizes, word_at}
 use Rattle.step_core.specs.Words.{point_in}
 use Rattle.step_core.specs.GrownWords.{has_node, points_of_words, state_of_words, child_of_word, children_of_words, run_words, sizes_of, HoldRun}
@@ -29,7 +28,7 @@ use Rattle.step_core.specs.MarkWrites.{MayMove, WritesNewNode}
 use Rattle.step_core.specs.PackedRuns.{FitsNode, FitsRecord}
 use Rattle.step_core.proofs.GrownPoints.{node_count-words, present-within}
 use Rattle.step_core.proofs.HeldRuns.{none_past-held}
-use Rattle.step_core.proofs.LinkedMarks.{start_was, MayLink-placed, AreSameRuns-marked, HoldRun-placed}
+use Rattle.step_core.proofs.LinkedMarks.{MayLink-placed, AreSameRuns-marked, HoldRun-placed}
 use Rattle.step_core.proofs.MarkStates.{knot_of, with_placed, other-present, FitsRecord-marked, IsBounded-placed, cost_below-low}
 use Rattle.step_core.proofs.PackedWritings.{quota_of-le}
 use Rattle.step_core.proofs.PlacedMarks.{PlacesMark, noded-point, child-placed}

@@ -1,7 +1,7 @@
 -- Words of a run that are written one after another: nodes, records, and the counters of strips.
 use Rattle.std.proofs.Common.{◌≡◌, ℕ, zero, suc, ◌+◌, ◌<◌, ◌≤◌, ◌%◌, List, Option, Some, None}
-use Rattle.std.proofs.Common.{length, cond, arith, refl, sym, ap, ◌∙◌, subst, inl, inr}
-use Rattle.std.specs.Prelude.{◌≢◌, ◌==◌, slice_get, slice_set}
+use Rattle.std.proofs.Common.{cond, arith, refl, sym, ap, ◌∙◌, subst, inl, inr}
+use Rattle.std.specs.Prelude.{◌≢◌, ◌==◌, slice_get}
 use Rattle.std.specs.List.{range_with_len}
 use Rattle.std.proofs.lemmas.Bool.{cases_eq, eq-eqb, ne_eqb}
 use Rattle.std.proofs.lemmas.List.FromFn.{length-range_with_len}
@@ -12,8 +12,8 @@ use Rattle.plan_model.specs.declared.records.Record.{Record}
 use Rattle.plan_model.specs.declared.trees.Knot.{Knot}
 use Rattle.plan_model.specs.MarkPoints.{quota_of}
 use Rattle.plan_model.proofs.CountsBelow.{count-more}
-use Rattle.step_core.specs.WordNames.{Word, Words, WritesWord, ChangesOnly, IsCounter, IsKnotWord}
-use Rattle.step_core.specs.WordNames.Word.{Count, Counter, PointOf, ChildOf, TreeOf, FirstOf, RecordOf}
+use Rattle.step_core.specs.WordNames.{Word, Words, WritesWord, IsCounter, IsKnotWord}
+use Rattle.step_core.specs.WordNames.Word.{Counter, PointOf, TreeOf, FirstOf, RecordOf}
 use Rattle.step_core.specs.WordPlaces.{Sizes}
 use Rattle.step_core.specs.Words.{point_word, tree_word, record_word}
 use Rattle.step_core.specs.PackedRuns.{IsKnot, HoldsNode, HoldsRecord, HasKnot, IsRecordWord, IsWordOfRecords}

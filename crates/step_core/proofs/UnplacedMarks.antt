@@ -1,7 +1,7 @@
 -- The next mark of a run is recorded, and no node was placed: the tree stays, and the run is closed with the mark.
-use Rattle.std.proofs.Common.{◌≡◌, ℕ, suc, ◌<◌, ◌≤◌, ◌%◌, Bool, false, List, None, length, sym, ap, ◌∙◌, subst, inl, inr}
+use Rattle.std.proofs.Common.{◌≡◌, ℕ, suc, Bool, false, List, None, sym, ap, ◌∙◌, subst, inl, inr}
 use Rattle.std.specs.Prelude.{◌≢◌, is_some, if◌then◌else◌}
-use Rattle.std.proofs.lemmas.Bool.{cases_eq, cases_lt}
+use Rattle.std.proofs.lemmas.Bool.{cases_eq}
 use Rattle.plan_model.specs.declared.geometry.Point.{Point}
 use Rattle.plan_model.specs.declared.records.Outcome.{Outcome}
 use Rattle.plan_model.specs.declared.records.Outcome.TheVariants.{Placed, Same, Blocked}
@@ -20,7 +20,7 @@ use Rattle.step_core.specs.WordNames.{Words}
 use Rattle.step_core.specs.WordNames.Word.{PointOf, TreeOf, FirstOf}
 use Rattle.step_core.specs.WordPlaces.{Sizes}
 use Rattle.step_core.specs.Words.{parent_in, cost_in, point_of_word}
-use Rattle.step_core.specs.GrownWords.{has_node, node_point, child_of_word, points_of_words, state_of_words, children_of_words}
+use Rattle.step_core.specs.GrownWords.{has_node, child_of_word, points_of_words, state_of_words, children_of_words}
 use Rattle.step_core.specs.GrownWords.{IsPointWord, IsTreeWord, IsWritten, IsBlank, sizes_of, HoldRun}
 use Rattle.step_core.specs.PackedRuns.{FitsRecord}
 use Rattle.step_core.proofs.GrownPoints.{has_node-present, point_at-same}

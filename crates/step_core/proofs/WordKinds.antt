@@ -1,7 +1,7 @@
 -- A word may stay as it is, and what may become of it in two steps may become of it in one.
-use Rattle.std.proofs.Common.{◌≡◌, ℕ, ◌<◌, ◌≤◌, ◌^◌, arith, refl, sym, subst, inl, inr}
+use Rattle.std.proofs.Common.{ℕ, ◌<◌, ◌≤◌, ◌^◌, arith, refl, sym, subst, inl, inr}
 use Rattle.step_core.specs.Words.{cost_in}
-use Rattle.step_core.specs.WordNames.{Word, Words}
+use Rattle.step_core.specs.WordNames.{Words}
 use Rattle.step_core.specs.WordKinds.{WordKind, kind_of, MayBecome, AreBehind}
 use Rattle.step_core.specs.WordKinds.WordKind.{Rising, Once, Falling}
 

@@ -1,11 +1,11 @@
 -- Each word of a run has a place of its own. A word that is read from the list of a run's words, and one that is written there.
-use Rattle.std.proofs.Common.{◌≡◌, ℕ, zero, ◌+◌, ◌<◌, ◌≤◌, Bool, true, false, List, length, get_or, arith, refl, sym, ap, ◌∙◌, inl, inr}
+use Rattle.std.proofs.Common.{◌≡◌, ℕ, ◌<◌, true, false, List, length, get_or, arith, refl, sym, ap, ◌∙◌, inl, inr}
 use Rattle.std.specs.Prelude.{◌≢◌, slice_index, slice_set, if◌then◌else◌}
 use Rattle.std.proofs.lemmas.Bool.{cases_Bool, lt-ltb, le-leb, ltb-true, leb-true}
 use Rattle.std.proofs.lemmas.List.{get_or_default, get_or-set_same, get_or-set_other}
-use Rattle.step_core.specs.WordNames.{Word, Words, WritesWord}
+use Rattle.step_core.specs.WordNames.{Word, WritesWord}
 use Rattle.step_core.specs.WordNames.Word.{Count, Counter, PointOf, ChildOf, TreeOf, FirstOf, RecordOf}
-use Rattle.step_core.specs.WordPlaces.{Sizes, node_place, place_of, word_count, HasWord, has_word, word_at}
+use Rattle.step_core.specs.WordPlaces.{Sizes, place_of, word_count, HasWord, has_word, word_at}
 
 -- ---- places
 

@@ -1,9 +1,8 @@
-use Rattle.std.proofs.Common.{◌≡◌, ◌+◌, arith, sym, ap, ◌∙◌, subst}
-use Rattle.step_core.specs.ClearedWords.{ClearsNodes}
+use Rattle.std.proofs.Common.{◌≡◌, arith, subst}
 use Rattle.step_core.specs.GrownWords.{cleared}
-use Rattle.step_core.specs.PlacesOfWords.{sizes_in, words_in}
+use Rattle.step_core.specs.PlacesOfWords.{sizes_in}
 use Rattle.step_core.specs.WordPlaces.{word_at}
-use Rattle.step_core.proofs.ClearedWords.{ClearsNodes-none, ClearsNodes-kept, ClearsNodes-more, has_node-later, cleared-all}
+use Rattle.step_core.proofs.ClearedWords.{cleared-all}
 use Rattle.step_core.proofs.cleared_words.clear.Goals as goal
 
 pub returns : goal.returns

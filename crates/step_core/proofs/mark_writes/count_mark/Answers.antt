@@ -1,8 +1,7 @@
-use Rattle.std.proofs.Common.{◌+◌, ◌<◌, ◌%◌, arith, ap, ◌∙◌}
+use Rattle.std.proofs.Common.{◌+◌, ◌<◌, ◌%◌, arith, ap}
 use Rattle.std.specs.Prelude.{slice_index}
 use Rattle.step_core.specs.PlacesOfWords.{sizes_in, words_in}
 use Rattle.step_core.specs.WordNames.Word.{Counter}
-use Rattle.step_core.specs.WordPlaces.{place_of}
 use Rattle.step_core.proofs.WordReads.{word-found, WritesWord-set}
 use Rattle.step_core.proofs.mark_writes.count_mark.Goals as goal
 

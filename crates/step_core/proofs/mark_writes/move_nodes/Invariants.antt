@@ -1,6 +1,6 @@
 use Rattle.std.proofs.Common.{take}
 use Rattle.step_core.specs.MarkWrites.{MovesNodes}
-use Rattle.step_core.specs.PlacesOfWords.{sizes_in, words_in}
+use Rattle.step_core.specs.PlacesOfWords.{words_in}
 use Rattle.step_core.proofs.mark_writes.move_nodes.Given as goal
 
 -- the nodes so far are moved

@@ -1,4 +1,4 @@
-use Rattle.std.proofs.Common.{◌+◌, refl, arith, ap, sym, ◌∙◌, subst}
+use Rattle.std.proofs.Common.{◌+◌, arith, ap}
 use Rattle.std.specs.Prelude.{slice_index}
 use Rattle.step_core.specs.PlacesOfWords.{sizes_in, words_in}
 use Rattle.step_core.specs.WordNames.Word.{Count}

@@ -1,8 +1,7 @@
-use Rattle.std.proofs.Common.{◌+◌, ◌<◌, ◌%◌, refl, arith, ap, sym, ◌∙◌}
+use Rattle.std.proofs.Common.{◌+◌, ◌<◌, ◌%◌, arith, ap, ◌∙◌}
 use Rattle.std.specs.Prelude.{slice_index}
 use Rattle.step_core.specs.PlacesOfWords.{sizes_in, words_in}
 use Rattle.step_core.specs.WordNames.Word.{Counter}
-use Rattle.step_core.specs.WordPlaces.{place_of}
 use Rattle.step_core.proofs.PackedWritings.{CountsMarks-more, quota_of-le}
 use Rattle.step_core.proofs.WordReads.{word-found, WritesWord-set}
 use Rattle.step_core.proofs.packed_runs.count_marks.Goals as goal

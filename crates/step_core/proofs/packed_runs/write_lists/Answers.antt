@@ -1,9 +1,7 @@
-use Rattle.std.proofs.Common.{◌≡◌, length, arith, refl, ◌∙◌}
+use Rattle.std.proofs.Common.{◌≡◌, length, arith, ◌∙◌}
 use Rattle.std.proofs.Math.ListN.{length-set}
 use Rattle.std.specs.Prelude.{count_by, is_some, slice_set}
-use Rattle.step_core.specs.PackedRuns.{HoldLists}
 use Rattle.step_core.specs.PlacesOfWords.{sizes_in, words_in}
-use Rattle.step_core.specs.WordNames.{WritesWord}
 use Rattle.step_core.specs.WordNames.Word.{Count, FirstOf}
 use Rattle.step_core.specs.WordPlaces.{word_count}
 use Rattle.step_core.specs.Words.{tree_word}

@@ -1,5 +1,5 @@
 use Rattle.step_core.specs.PackedRuns.{WritesNodes}
-use Rattle.step_core.specs.PlacesOfWords.{sizes_in, words_in}
+use Rattle.step_core.specs.PlacesOfWords.{words_in}
 use Rattle.step_core.proofs.packed_runs.write_nodes.Given as goal
 
 -- the nodes so far are written

@@ -1,10 +1,8 @@
-use Rattle.std.proofs.Common.{◌+◌, suc, arith, ap, sym, ◌∙◌}
+use Rattle.std.proofs.Common.{suc, arith, ◌∙◌}
 use Rattle.std.proofs.Math.ListN.{length-set}
 use Rattle.std.specs.Prelude.{slice_set}
-use Rattle.plan_model.specs.declared.records.Outcome.TheVariants.{Placed}
 use Rattle.step_core.specs.PlacesOfWords.{sizes_in, words_in}
 use Rattle.step_core.specs.WordNames.Word.{FirstOf, RecordOf}
-use Rattle.step_core.specs.WordPlaces.{place_of}
 use Rattle.step_core.specs.Words.{record_word, tree_word}
 use Rattle.step_core.proofs.PackedWritings.{HoldsRecord-unplaced, HoldsRecord-placed, ChangesRecord-unplaced, ChangesRecord-placed}
 use Rattle.step_core.proofs.WordReads.{WritesWord-set}

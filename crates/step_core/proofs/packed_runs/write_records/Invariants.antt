@@ -1,5 +1,5 @@
 use Rattle.step_core.specs.PackedRuns.{WritesRecords}
-use Rattle.step_core.specs.PlacesOfWords.{sizes_in, words_in}
+use Rattle.step_core.specs.PlacesOfWords.{words_in}
 use Rattle.step_core.proofs.packed_runs.write_records.Given as goal
 
 -- the records so far are written

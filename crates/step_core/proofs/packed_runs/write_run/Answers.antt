@@ -1,5 +1,5 @@
 use Rattle.std.proofs.Common.{◌≡◌, sym, subst}
-use Rattle.step_core.specs.GrownWords.{children_of_words, sizes_of}
+use Rattle.step_core.specs.GrownWords.{children_of_words}
 use Rattle.step_core.specs.KdLinks.{LinksRise}
 use Rattle.step_core.specs.PackedRuns.{FitWords}
 use Rattle.step_core.specs.PlacesOfWords.{sizes_in, words_in}

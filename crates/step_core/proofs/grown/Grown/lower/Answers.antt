@@ -1,13 +1,12 @@
 use Rattle.std.proofs.Common.{refl, arith, ap, ◌∙◌}
 use Rattle.std.proofs.Math.ListN.{length-set}
-use Rattle.std.proofs.Math.Logic.{∥∥₁_map}
 use Rattle.step_core.specs.GrownRuns.{words_of_grown}
 use Rattle.step_core.specs.GrownWords.{sizes_of}
 use Rattle.step_core.specs.WordNames.Word.{TreeOf}
 use Rattle.step_core.specs.WordPlaces.{Sizes, place_of}
 use Rattle.step_core.specs.Words.{parent_in, tree_word}
 use Rattle.step_core.proofs.GrownPoints.{has_node-present, present-within}
-use Rattle.step_core.proofs.LoweredWords.{ExchangesCost, CostsInstead-exchanged, HoldRun-lowered, children-kept}
+use Rattle.step_core.proofs.LoweredWords.{CostsInstead-exchanged, HoldRun-lowered, children-kept}
 use Rattle.step_core.proofs.WordReads.{place_of-within, WritesWord-set}
 use Rattle.step_core.proofs.grown.Grown.lower.Goals as goal
 

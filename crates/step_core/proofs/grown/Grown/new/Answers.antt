@@ -1,4 +1,4 @@
-use Rattle.std.proofs.Common.{◌≡◌, length, refl, arith, ap, ◌∙◌}
+use Rattle.std.proofs.Common.{refl, ap, ◌∙◌}
 use Rattle.std.specs.Prelude.{replicate}
 use Rattle.step_core.specs.GrownWords.{sizes_of}
 use Rattle.step_core.specs.WordNames.Word.{Count, PointOf, TreeOf, FirstOf}

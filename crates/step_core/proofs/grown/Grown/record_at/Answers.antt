@@ -1,5 +1,4 @@
 use Rattle.std.proofs.Common.{◌≡◌, ◌+◌, ◌<◌, ◌≤◌, suc, length, arith, ap, sym, ◌∙◌}
-use Rattle.step_core.specs.GrownRuns.{words_of_grown}
 use Rattle.step_core.specs.GrownWords.{sizes_of}
 use Rattle.step_core.specs.WordNames.Word.{FirstOf, RecordOf}
 use Rattle.step_core.specs.WordPlaces.{Sizes, place_of}

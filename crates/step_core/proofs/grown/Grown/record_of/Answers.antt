@@ -1,6 +1,5 @@
 use Rattle.std.proofs.Common.{sym, ap, ◌∙◌}
 use Rattle.std.specs.Prelude.{is_some}
-use Rattle.step_core.specs.GrownRuns.{words_of_grown}
 use Rattle.step_core.proofs.grown.Grown.record_of.Goals as goal
 
 pub unwrap-requires : goal.unwrap-requires

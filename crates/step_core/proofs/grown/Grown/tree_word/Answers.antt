@@ -1,4 +1,4 @@
-use Rattle.std.proofs.Common.{◌≤◌, arith, ap, ◌∙◌, subst}
+use Rattle.std.proofs.Common.{arith, ap, ◌∙◌}
 use Rattle.step_core.specs.GrownRuns.{words_of_grown}
 use Rattle.step_core.specs.GrownWords.{sizes_of}
 use Rattle.step_core.specs.WordNames.Word.{TreeOf}
