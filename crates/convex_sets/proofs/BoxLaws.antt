@@ -10,7 +10,7 @@ use Rattle.plan_model.specs.Convexity.{corner_at}
 use Rattle.plan_model.specs.HalfPlanes.{IsInside}
 use Rattle.plan_model.specs.RoomOfConfigurations.{Rational, at_lattice}
 use Rattle.convex_sets.specs.declared.boxes.BoundingBox.{BoundingBox}
-use Rattle.convex_sets.specs.Boxes.{IsLowEnd, IsHighEnd, IsBoundingBox, IsBoxed, IsInBox}
+use Rattle.convex_sets.specs.Boxes.{IsBoundingBox, IsBoxed, IsInBox}
 use Rattle.convex_sets.proofs.Corners.{IsWithin, bounded_corner, bounded_at}
 use Rattle.plan_model.specs.declared.geometry.Point.{Point}
 use Rattle.convex_sets.proofs.Ring.{var, plus, minus, times, same}

@@ -13,7 +13,6 @@ use Rattle.plan_model.specs.RecordLaw.{HasLawfulOutcome, HangsLawfully}
 use Rattle.plan_model.specs.ClosedLaw.{mark_at, has_outcome, IsClosed}
 use Rattle.plan_model.specs.Outcomes.{is_placed}
 use Rattle.plan_model.specs.Textbook.{Setup}
-use Rattle.plan_model.proofs.TreeStateLaws.{IsPresent-grows}
 use Rattle.plan_model.proofs.OrderLaws.{start-present}
 use Rattle.plan_model.proofs.LoweredCosts.{
   LowersCosts,

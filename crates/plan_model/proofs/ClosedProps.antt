@@ -1,16 +1,16 @@
 -- Each fact of the closed law has one proof at most, so a value may keep it as it is.
-use Rattle.std.specs.Prelude.{◌≡◌, ℕ, List, Option, Some}
+use Rattle.std.specs.Prelude.{ℕ, List, Option}
 use Rattle.std.proofs.Props.{props}
 use Rattle.plan_model.specs.declared.geometry.Point.{Point}
 use Rattle.plan_model.specs.declared.records.Outcome.{Outcome}
 use Rattle.plan_model.specs.declared.records.Outcome.TheVariants.{Placed, Same, Blocked}
 use Rattle.plan_model.specs.declared.records.Record.{Record}
-use Rattle.plan_model.specs.Clearance.{Clear, ClearAt, IsClear}
+use Rattle.plan_model.specs.Clearance.{IsClear}
 use Rattle.plan_model.specs.ConfigurationSpace.{ConfigurationSpace}
 use Rattle.plan_model.specs.PointsByNumber.{StandsAt}
 use Rattle.plan_model.specs.RoomOfConfigurations.{Rational}
 use Rattle.plan_model.specs.TreeStates.{TreeState}
-use Rattle.plan_model.specs.OrderLaw.{IsAllowedEdge, Hangs, KeepsOrder}
+use Rattle.plan_model.specs.OrderLaw.{KeepsOrder}
 use Rattle.plan_model.specs.RecordLaw.{IsPlacedLawfully, IsBlockedLawfully, HasLawfulOutcome, IsLawfulRecord}
 use Rattle.plan_model.specs.ClosedLaw.{IsClosed}
 use Rattle.plan_model.specs.Textbook.{Setup}

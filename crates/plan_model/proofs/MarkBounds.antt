@@ -1,6 +1,6 @@
 -- The marks of a scene are few, and lie within the greatest side of a room.
 use Rattle.std.proofs.Common.{◌≡◌, ℕ, ◌+◌, ◌-◌, ◌*◌, ◌/◌, ◌%◌, ◌^◌, ◌<◌, ◌≤◌, Bool, true, false, length, arith, refl, ap, inl, inr}
-use Rattle.std.specs.Prelude.{IsTrue, All, ◌&&◌, ℤ, pos, negsuc, int_le, List}
+use Rattle.std.specs.Prelude.{IsTrue, All, ◌&&◌, ℤ, pos, negsuc, int_le}
 use Rattle.std.specs.List.{list_all, range_with_len}
 use Rattle.std.proofs.lemmas.Nat.{mod_below}
 use Rattle.std.proofs.lemmas.List.{length-map}
@@ -18,7 +18,7 @@ use Rattle.plan_model.specs.declared.tasks.Task.{Task}
 use Rattle.plan_model.specs.declared.limits.TheConstants.{LEAST_BODY_COORDINATE, MOST_BODY_COORDINATE, MOST_MARKS, MOST_SIDE}
 use Rattle.plan_model.specs.Limits.{IsBetween, is_corner_between, is_mark, is_plan}
 use Rattle.plan_model.specs.MarkPoints.{mark_points, points_of_marks, drawn_mark, strip_of_mark, first_word, second_word, next_state}
-use Rattle.plan_model.specs.MarkPoints.{IsInSpan, below_zero, above_zero, reach, span_within, columns, rows, strip, picked}
+use Rattle.plan_model.specs.MarkPoints.{below_zero, above_zero, reach, span_within, columns, rows, strip, picked}
 use Rattle.plan_model.proofs.SpanLaws.{reach-bounded}
 use Rattle.plan_model.proofs.StripLaws.{strip-some, strip-within}
 use Rattle.plan_model.proofs.DrawnMarks.{word_below, picked-within}

@@ -1,6 +1,5 @@
 -- A state that keeps the order law: kept costs fall along its parents, are at least its sums, and its sums if they are settled.
 use Rattle.std.proofs.Common.{◌≡◌, ℕ, zero, suc, ◌+◌, ◌≤◌, arith, ◌∙◌}
-use Rattle.plan_model.specs.declared.geometry.Point.{Point}
 use Rattle.plan_model.specs.PointsByNumber.{IsPresent}
 use Rattle.plan_model.specs.Trees.{edge_by, FallAlong}
 use Rattle.plan_model.specs.TreeStates.{TreeState, sum_in}

@@ -19,7 +19,7 @@ use Rattle.plan_model.specs.HandledMarks.{kept_cost_through}
 use Rattle.plan_model.specs.Textbook.{Setup, near_new, IsCandidate, SteersTo}
 use Rattle.plan_model.proofs.NewNodes.{IsPresent-stands}
 use Rattle.plan_model.proofs.OrderLaws.{Hangs-grows}
-use Rattle.plan_model.proofs.TreeStateLaws.{IsPresent-grows, point_at-grows, point_of-grows, cost-grows, node_count-grows}
+use Rattle.plan_model.proofs.TreeStateLaws.{point_at-grows, point_of-grows, node_count-grows}
 use Rattle.plan_model.proofs.ClosedLaws.{KeepsFirstCosts-closed}
 use Rattle.plan_model.proofs.RecordLaws.{class_of-le}
 use Rattle.plan_model.proofs.NearNodes.{IsReachable, candidate-reachable, Contains-near, Contains-after}

@@ -3,13 +3,12 @@ use Rattle.std.proofs.Common.{◌≡◌, ℕ, suc, List, ◌++◌, true, false, 
 use Rattle.std.specs.Prelude.{IsTrue, is_some, unwrap_or, filter, map, reverse}
 use Rattle.std.specs.List.{range_with_len, flat_map}
 use Rattle.plan_model.specs.declared.geometry.Point.{Point}
-use Rattle.plan_model.specs.declared.records.Record.{Record}
 use Rattle.plan_model.specs.declared.scenes.Scene.{Scene}
 use Rattle.plan_model.specs.BestNode.{lies_in_goal, best_node}
 use Rattle.plan_model.specs.Clearance.{ClearAt}
-use Rattle.plan_model.specs.LeastPairs.{IsNotAbove, IsFirstLeast, first_least}
+use Rattle.plan_model.specs.LeastPairs.{IsFirstLeast, first_least}
 use Rattle.plan_model.specs.OrderLaw.{KeepsOrder}
-use Rattle.plan_model.specs.PointsByNumber.{point_at, point_of, IsPresent, node_count}
+use Rattle.plan_model.specs.PointsByNumber.{point_at, point_of, IsPresent}
 use Rattle.plan_model.specs.ReportText.{
   path_line,
   head_line,

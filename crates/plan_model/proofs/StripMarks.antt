@@ -1,9 +1,9 @@
 -- Marks by their strips: each mark below a limit is the c-th of one strip, once, and the quotas of all strips add up to the limit.
-use Rattle.std.proofs.Common.{◌≡◌, ℕ, zero, suc, ◌+◌, ◌*◌, ◌/◌, ◌%◌, ◌<◌, ◌≤◌, Bool, true, false}
+use Rattle.std.proofs.Common.{◌≡◌, ℕ, zero, suc, ◌+◌, ◌*◌, ◌/◌, ◌%◌, ◌<◌, ◌≤◌, true, false}
 use Rattle.std.proofs.Common.{cond, eqb, ltb, Option, Some, None, arith, refl, sym, ap, ◌∙◌, inl, inr}
 use Rattle.std.specs.Prelude.{◌≢◌, count_by, is_some}
 use Rattle.std.specs.List.{range_with_len, sum_by}
-use Rattle.std.proofs.lemmas.Bool.{cases_eq, cases_lt, eqb-true, eq-eqb, ne_eqb, lt-ltb, le-ltb, true≢false}
+use Rattle.std.proofs.lemmas.Bool.{cases_eq, cases_lt, eq-eqb, ne_eqb, lt-ltb, le-ltb}
 use Rattle.std.proofs.lemmas.List.Sums.{sum_by_push}
 use Rattle.std.proofs.lemmas.Nat.{div-add-mod', div-mul-add, mod-mul-add}
 use Rattle.plan_model.specs.declared.records.Record.{Record}

@@ -1,6 +1,6 @@
 -- A mark that one worker handles whole, by all that the tree then holds: what becomes of it, and the tree afterwards.
-use Rattle.std.specs.Prelude.{◌≡◌, ◌↔◌, ℕ, suc, ◌+◌, ◌<◌, ◌==◌, Bool, false, Contains, Option, Some, None, List, count_by, slice_set, if◌then◌else◌}
-use Rattle.std.specs.List.{range_with_len, list_any}
+use Rattle.std.specs.Prelude.{◌≡◌, ◌↔◌, ℕ, suc, ◌+◌, ◌<◌, ◌==◌, Bool, Contains, Some, List, slice_set, if◌then◌else◌}
+use Rattle.std.specs.List.{list_any}
 use Rattle.plan_model.specs.declared.geometry.Point.{Point}
 use Rattle.plan_model.specs.declared.records.Outcome.{Outcome}
 use Rattle.plan_model.specs.declared.records.Outcome.TheVariants.{Placed, Same, Blocked}

@@ -1,8 +1,6 @@
 -- Steps up a path of a closed run, from a node to its parent, until the start: kept costs fall, so the walk ends.
 use Rattle.std.proofs.Common.{◌≡◌, ◌≢◌, ℕ, zero, suc, ◌<◌, List, [], ◌∷◌, map, reverse, refl, sym, ap, ◌∙◌, subst}
 use mathlib.Core.List.{reverse_aux}
-use Rattle.std.proofs.Math.Logic.{∥∥₁_elim}
-use Rattle.std.proofs.Math.Bridge.{le_prop}
 use Rattle.plan_model.specs.declared.geometry.Point.{Point}
 use Rattle.plan_model.specs.PointsByNumber.{point_of, IsPresent, StandsAt}
 use Rattle.plan_model.specs.ReportText.{path_to}

@@ -1,5 +1,4 @@
 use Rattle.std.proofs.Common.{ℕ, suc, ◌+◌, ◌<◌, List, length, arith, sym, subst}
-use Rattle.std.proofs.Math.Logic.{∥∥₁_map}
 use Rattle.std.proofs.lemmas.List.FromFn.{length-map-range_with_len}
 use Rattle.plan_model.specs.declared.limits.TheConstants.{MOST_WORKERS}
 use Rattle.plan_model.specs.ClosedLaw.{IsClosed}

@@ -1,4 +1,4 @@
-use Rattle.std.proofs.Common.{◌≡◌, ◌+◌, arith, sym, ap, ◌∙◌, subst}
+use Rattle.std.proofs.Common.{arith, sym, ap, ◌∙◌, subst}
 use Rattle.plan_model.specs.Clearance.{Clear}
 use Rattle.plan_model.specs.Cost.{cost_of}
 use Rattle.plan_model.specs.declared.geometry.Point.{Point}

@@ -2,9 +2,7 @@
 use Rattle.std.proofs.Common.{◌≡◌, [], ◌∷◌, length, sym, ◌∙◌, subst}
 use Rattle.plan_model.specs.Clearance.{ClearAt}
 use Rattle.plan_model.specs.ClosedLaw.{IsClosed}
-use Rattle.plan_model.specs.ConfigurationSpace.{space_of}
 use Rattle.plan_model.specs.Vectors.Runs.{marks_to_rewire}
-use Rattle.plan_model.specs.Vectors.Shapes.{at}
 use Rattle.step_core.specs.PackedRuns.{state_of_lists}
 use Rattle.settle_report.proofs.UnsettledRun.{IsClosed-unsettled, rrt_setup, unsettled_knots, unsettled_records}
 use Rattle.settle_report.proofs.test_runs.unsettled_run.Goals as goal
