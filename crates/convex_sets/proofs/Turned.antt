@@ -55,7 +55,7 @@ places_next n i k p q = by (cases_lt (i + k) n)
     by (inr r) =
         rw (places_round n i k r, places_round n i (suc k) (omega arith)) (next_suc n (i + k - n) (omega arith) ∙ omega arith)
 
--- two places less than one round apart are two corners
+-- two numbers less than one round apart are two corners
 places_apart : (n i k l : ℕ) → i < n → k < l → l < n + k → l ≤ n → places_after n i k ≢ places_after n i l
 places_apart n i k l p q r s e = by (cases_lt (i + k) n) (cases_lt (i + l) n)
   where
@@ -100,7 +100,7 @@ next_of_next n i three p e = by (cases_lt (suc i) n)
     by (inl r) = inside r (cases_lt (suc (suc i)) n)
     by (inr r) = omega (arith, e ∙ ap (next_corner n) (next_last n i (omega arith)) ∙ next_suc n 0 (omega arith))
 
--- no two corners of a strictly convex polygon are at one place
+-- no two corners of a strictly convex polygon are at one point
 distinct : (corners : List Vertex) (i k : ℕ) → IsConvex corners → i < length corners → k < length corners → i ≢ k
     → corner_at corners i ≡ corner_at corners k → ⊥
 distinct corners i k convex p q apart same = by (cases_order k (next_corner (length corners) i))
@@ -123,7 +123,7 @@ distinct corners i k convex p q apart same = by (cases_order k (next_corner (len
     by (inr (inl l)) = other (omega arith)
     by (inr (inr l)) = other (omega arith)
 
--- corners that are level with each other are at one place
+-- corners that are level with each other are at one point
 level_same : (u v : Vertex) → IsBoundedCorner u → IsBoundedCorner v → rise (from_to u v) ≡ pos 0 → u ≡ v
 level_same u v p q level =
     let f = bounded_corner u p in

@@ -78,7 +78,7 @@ pub record StepsBoth (a b : List Vertex) (i j k l : ℕ) : Type 0 where
 abbrev pub IsMergeStep : List Vertex → List Vertex → ℕ → ℕ → ℕ → ℕ → Type 0
 IsMergeStep a b i j k l = StepsFirst a b i j k l ⊎ StepsFirst b a j i l k ⊎ StepsBoth a b i j k l
 
--- the number of the corner k places after corner i of n
+-- the number of the corner k corners after corner i of n
 abbrev pub places_after : ℕ → ℕ → ℕ → ℕ
 places_after n i k = if nat_lt (i + k) n then i + k else i + k - n
 

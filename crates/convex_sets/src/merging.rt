@@ -18,13 +18,13 @@ pub(crate) fn merged(alloc: Global, a: &[Vertex], b: &[Vertex]) -> Result<Vec<Ve
     ensures { IfOk result (λ v. IsMerged a.now b.now v.items) }
 {
     let mut corners = Vec::new(alloc);
-    let mut place = (0, 0);
-    while place.0 + 1 < a.len() || place.1 + 1 < b.len() {
+    let mut reached = (0, 0);
+    while reached.0 + 1 < a.len() || reached.1 + 1 < b.len() {
         corners.push(Vertex {
-            x: a[place.0].x + b[place.1].x,
-            y: a[place.0].y + b[place.1].y,
+            x: a[reached.0].x + b[reached.1].x,
+            y: a[reached.0].y + b[reached.1].y,
         })?;
-        place = step(a, b, place.0, place.1);
+        reached = step(a, b, reached.0, reached.1);
     }
     Ok(corners)
 }

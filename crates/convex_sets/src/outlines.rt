@@ -45,10 +45,10 @@ fn turned(
     Ok(outline)
 }
 
-/// The number of the corner `k` places after corner `i` of `n`.
+/// The number of the corner `k` corners after corner `i` of `n`.
 fn places_after(n: usize, i: usize, k: usize) -> usize
     requires corner { i < n }
-    requires places { k ≤ n }
+    requires within { k ≤ n }
     requires small { n < 2 ^ 62 }
     ensures value { result ≡ places_after n i k }
     ensures within { result < n }

@@ -1,4 +1,4 @@
-//! Corners of polygons, by number and by place.
+//! Corners of polygons, by number, and points as corners.
 
 ghost use Rattle.std.specs.Prelude.{◌≡◌, ◌<◌};
 ghost use Rattle.convex_sets.specs.Bounds.{IsBoundedCorner};

@@ -27,11 +27,11 @@ pub use steering::steer;
 
 /// A point of a test's table.
 #[cfg(test)]
-fn bounded(place: (u16, u16)) -> plan_model::Point
+fn bounded(coordinates: (u16, u16)) -> plan_model::Point
     ensures { IsBounded result }
 {
     plan_model::Point {
-        x: u32::from(place.0),
-        y: u32::from(place.1),
+        x: u32::from(coordinates.0),
+        y: u32::from(coordinates.1),
     }
 }

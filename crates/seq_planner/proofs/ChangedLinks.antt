@@ -37,8 +37,8 @@ use Rattle.plan_model.specs.Trees.{node_at, points_of}
 use Rattle.plan_model.proofs.TreeChanges.{node_at-push_new, node_at-past, node_at-absent}
 use Rattle.plan_model.proofs.NewNodes.{Adds-push, present_below}
 use Rattle.seq_planner.specs.declared.child_lists.ChildLists.{ChildLists}
-use Rattle.seq_planner.specs.LinkedTrees.{parent_if_child, is_number, is_child_of, HavePlaces, AreChildLists, ChangesOne, MayBecomeChild, MayUnlink, AreLinked}
-use Rattle.seq_planner.proofs.ChildLists.{AreChildLists-same, HavePlaces-fewer}
+use Rattle.seq_planner.specs.LinkedTrees.{parent_if_child, is_number, is_child_of, HaveSlots, AreChildLists, ChangesOne, MayBecomeChild, MayUnlink, AreLinked}
+use Rattle.seq_planner.proofs.ChildLists.{AreChildLists-same, HaveSlots-fewer}
 
 -- ---- by nodes
 
@@ -63,13 +63,13 @@ child_below tree c f h =
 
 -- an absent number is nobody's child
 pub AreLinked-push_absent :
-    (tree : List (Option Twig)) (lists : ChildLists) → AreChildLists (parent_if_child tree) lists → HavePlaces (length tree + 1) lists
+    (tree : List (Option Twig)) (lists : ChildLists) → AreChildLists (parent_if_child tree) lists → HaveSlots (length tree + 1) lists
     → AreLinked (tree ++ None ∷ []) lists
-AreLinked-push_absent tree lists children places = record {
+AreLinked-push_absent tree lists children slots = record {
   children =
       AreChildLists-same (parent_if_child tree) (parent_if_child (tree ++ None ∷ [])) lists
       (λ c. parent_if_child-same (tree ++ None ∷ []) tree c (node_at-absent tree c)) children;
-  places = subst (λ n. HavePlaces n lists) (sym (length-append tree (None ∷ []))) places;
+  slots = subst (λ n. HaveSlots n lists) (sym (length-append tree (None ∷ []))) slots;
 }
 
 -- a new node may be put in front of the list of any parent
@@ -97,18 +97,18 @@ ChangesOne-push tree node number e some =
 
 pub AreLinked-push :
     (tree : List (Option Twig)) (node : Twig) (lists : ChildLists)
-    → AreChildLists (parent_if_child (tree ++ Some node ∷ [])) lists → HavePlaces (length tree + 1) lists
+    → AreChildLists (parent_if_child (tree ++ Some node ∷ [])) lists → HaveSlots (length tree + 1) lists
     → AreLinked (tree ++ Some node ∷ []) lists
-AreLinked-push tree node lists children places = record {
+AreLinked-push tree node lists children slots = record {
   children = children;
-  places = subst (λ n. HavePlaces n lists) (sym (length-append tree (Some node ∷ []))) places;
+  slots = subst (λ n. HaveSlots n lists) (sym (length-append tree (Some node ∷ []))) slots;
 }
 
--- a present node has places in the lists
-pub HavePlaces-present :
-    (tree : List (Option Twig)) (lists : ChildLists) (n : ℕ) → HavePlaces (length tree) lists → IsPresent (points_of tree) n → HavePlaces (n + 1) lists
-HavePlaces-present tree lists n places present =
-    let below : n < length tree = present_below tree n present in HavePlaces-fewer (n + 1) (length tree) lists (omega arith) places
+-- a present node has slots in the lists
+pub HaveSlots-present :
+    (tree : List (Option Twig)) (lists : ChildLists) (n : ℕ) → HaveSlots (length tree) lists → IsPresent (points_of tree) n → HaveSlots (n + 1) lists
+HaveSlots-present tree lists n slots present =
+    let below : n < length tree = present_below tree n present in HaveSlots-fewer (n + 1) (length tree) lists (omega arith) slots
 
 -- ---- another parent
 
@@ -159,8 +159,8 @@ ChangesOne-replace tree number node positive within = record {
 
 pub AreLinked-replace :
     (tree : List (Option Twig)) (number : ℕ) (node : Twig) (lists : ChildLists) → AreChildLists (parent_if_child (set tree number (Some node))) lists
-    → HavePlaces (length tree) lists → AreLinked (set tree number (Some node)) lists
-AreLinked-replace tree number node lists children places = record {
+    → HaveSlots (length tree) lists → AreLinked (set tree number (Some node)) lists
+AreLinked-replace tree number node lists children slots = record {
   children = children;
-  places = subst (λ n. HavePlaces n lists) (sym (length-set tree number (Some node))) places;
+  slots = subst (λ n. HaveSlots n lists) (sym (length-set tree number (Some node))) slots;
 }

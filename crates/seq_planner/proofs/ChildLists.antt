@@ -5,7 +5,7 @@ use Rattle.std.proofs.lemmas.List.{get_or-set_same, get_or-set_other, get_or_pas
 use Rattle.std.proofs.Math.Seq.{get_or-append_seam}
 use Rattle.std.proofs.lemmas.Bool.{cases_eq, cases_lt, cases_order}
 use Rattle.seq_planner.specs.declared.child_lists.ChildLists.{ChildLists}
-use Rattle.seq_planner.specs.LinkedTrees.{IsGreatest, IsLeast, HavePlaces, AreChildLists, ChangesOne, MayUnlink}
+use Rattle.seq_planner.specs.LinkedTrees.{IsGreatest, IsLeast, HaveSlots, AreChildLists, ChangesOne, MayUnlink}
 use Rattle.seq_planner.proofs.GreatestAndLeast.{IsGreatest-same, IsLeast-same, IsGreatest-exists}
 
 -- an option is none, or some number
@@ -47,41 +47,41 @@ ChangesOne-set xs i value within = record {
   elsewhere = λ n ne. get_or-set_other xs i n value None ne;
 }
 
--- ---- places
+-- ---- slots
 
--- lists as long as others have as many places
-pub HavePlaces-same :
+-- lists as long as others have as many slots
+pub HaveSlots-same :
     (old new : ChildLists) → length new.first.items ≡ length old.first.items → length new.next.items ≡ length old.next.items
-    → length new.previous.items ≡ length old.previous.items → (n : ℕ) → HavePlaces n old → HavePlaces n new
-HavePlaces-same old new first next previous n h = record { first = omega (arith, h.first); next = omega (arith, h.next); previous = omega (arith, h.previous) }
+    → length new.previous.items ≡ length old.previous.items → (n : ℕ) → HaveSlots n old → HaveSlots n new
+HaveSlots-same old new first next previous n h = record { first = omega (arith, h.first); next = omega (arith, h.next); previous = omega (arith, h.previous) }
 
--- each number that the lists name has a place
-pub first_has_place :
+-- each number that the lists name has a slot
+pub first_has_slot :
     (up : ℕ → Option ℕ) (lists : ChildLists) (f c : ℕ) → AreChildLists up lists → get_or lists.first.items f None ≡ Some c
-    → (up c ≡ Some f) × HavePlaces (c + 1) lists
-first_has_place up lists f c are some =
+    → (up c ≡ Some f) × HaveSlots (c + 1) lists
+first_has_slot up lists f c are some =
     let greatest : IsGreatest (λ i. up i ≡ Some f) (Some c) = subst (IsGreatest (λ i. up i ≡ Some f)) some (are.first f) in
-    (greatest.0, are.places f c greatest.0)
+    (greatest.0, are.slots f c greatest.0)
 
-pub next_has_place :
+pub next_has_slot :
     (up : ℕ → Option ℕ) (lists : ChildLists) (f c d : ℕ) → AreChildLists up lists → up c ≡ Some f → get_or lists.next.items c None ≡ Some d
-    → ((up d ≡ Some f) × (d < c)) × HavePlaces (d + 1) lists
-next_has_place up lists f c d are child some =
+    → ((up d ≡ Some f) × (d < c)) × HaveSlots (d + 1) lists
+next_has_slot up lists f c d are child some =
     let greatest : IsGreatest (λ i. (up i ≡ Some f) × (i < c)) (Some d) = subst (IsGreatest (λ i. (up i ≡ Some f) × (i < c))) some (are.next f c child) in
-    (greatest.0, are.places f d greatest.0.0)
+    (greatest.0, are.slots f d greatest.0.0)
 
-pub previous_has_place :
+pub previous_has_slot :
     (up : ℕ → Option ℕ) (lists : ChildLists) (f c d : ℕ) → AreChildLists up lists → up c ≡ Some f → get_or lists.previous.items c None ≡ Some d
-    → ((up d ≡ Some f) × (c < d)) × HavePlaces (d + 1) lists
-previous_has_place up lists f c d are child some =
+    → ((up d ≡ Some f) × (c < d)) × HaveSlots (d + 1) lists
+previous_has_slot up lists f c d are child some =
     let least : IsLeast (λ i. (up i ≡ Some f) × (c < i)) (Some d) = subst (IsLeast (λ i. (up i ≡ Some f) × (c < i))) some (are.previous f c child) in
-    (least.0, are.places f d least.0.0)
+    (least.0, are.slots f d least.0.0)
 
--- places for more are places for fewer
-pub HavePlaces-fewer : (m n : ℕ) (lists : ChildLists) → m ≤ n → HavePlaces n lists → HavePlaces m lists
-HavePlaces-fewer m n lists le h = record { first = omega (arith, h.first); next = omega (arith, h.next); previous = omega (arith, h.previous) }
+-- slots for more are slots for fewer
+pub HaveSlots-fewer : (m n : ℕ) (lists : ChildLists) → m ≤ n → HaveSlots n lists → HaveSlots m lists
+HaveSlots-fewer m n lists le h = record { first = omega (arith, h.first); next = omega (arith, h.next); previous = omega (arith, h.previous) }
 
--- a parent has a place, if it has a child
+-- a parent has a slot, if it has a child
 pub first_within : (up : ℕ → Option ℕ) (lists : ChildLists) (parent child : ℕ) → MayUnlink up lists parent child → parent < length lists.first.items
 first_within up lists parent child may =
     elim (cases_lt parent (length lists.first.items)) [
@@ -125,12 +125,12 @@ AreChildLists-stays up old new first next previous are = record {
   first = λ f. subst (IsGreatest (λ c. up c ≡ Some f)) (sym (first.same f)) (are.first f);
   next = λ f c h. subst (IsGreatest (λ d. (up d ≡ Some f) × (d < c))) (sym (next.same c)) (are.next f c h);
   previous = λ f c h. subst (IsLeast (λ d. (up d ≡ Some f) × (c < d))) (sym (previous.same c)) (are.previous f c h);
-  places = λ f c h. (
-      let places = are.places f c h in
+  slots = λ f c h. (
+      let slots = are.slots f c h in
       record {
-        first = omega (arith, places.first, first.longer);
-        next = omega (arith, places.next, next.longer);
-        previous = omega (arith, places.previous, previous.longer);
+        first = omega (arith, slots.first, first.longer);
+        next = omega (arith, slots.next, next.longer);
+        previous = omega (arith, slots.previous, previous.longer);
       });
 }
 
@@ -147,5 +147,5 @@ AreChildLists-same up after lists same are = record {
   previous = λ f c h.
       IsLeast-same (λ d. (up d ≡ Some f) × (c < d)) (λ d. (after d ≡ Some f) × (c < d)) (get_or lists.previous.items c None)
       (λ d h. (same d ∙ h.0, h.1)) (λ d h. (sym (same d) ∙ h.0, h.1)) (are.previous f c (sym (same c) ∙ h));
-  places = λ f c h. are.places f c (sym (same c) ∙ h);
+  slots = λ f c h. are.slots f c (sym (same c) ∙ h);
 }

@@ -6,9 +6,9 @@ use Rattle.std.proofs.lemmas.List.{get_or-set_same, get_or-set_other}
 use Rattle.std.proofs.Math.ListN.{length-set}
 use Rattle.std.proofs.lemmas.Bool.{cases_eq}
 use Rattle.seq_planner.specs.declared.child_lists.ChildLists.{ChildLists}
-use Rattle.seq_planner.specs.LinkedTrees.{IsGreatest, IsLeast, HavePlaces, AreChildLists, ChangesOne, MayBecomeChild}
+use Rattle.seq_planner.specs.LinkedTrees.{IsGreatest, IsLeast, HaveSlots, AreChildLists, ChangesOne, MayBecomeChild}
 use Rattle.seq_planner.proofs.GreatestAndLeast.{IsGreatest-same, IsLeast-more, IsGreatest-exists}
-use Rattle.seq_planner.proofs.ChildLists.{cases_some, ChangesOne-to, ChangesOne-from, ChangesOne-back, ChangesOne-set, HavePlaces-same, first_has_place}
+use Rattle.seq_planner.proofs.ChildLists.{cases_some, ChangesOne-to, ChangesOne-from, ChangesOne-back, ChangesOne-set, HaveSlots-same, first_has_slot}
 
 -- the greater siblings after a child is put in front of its parent's list
 record PutsBehind (old : ChildLists) (previous : List (Option ℕ)) (parent child : ℕ) : Type 0 where
@@ -21,7 +21,7 @@ record PutsInFront (old new : ChildLists) (parent child : ℕ) : Type 0 where
   pub first : ChangesOne (λ n. get_or old.first.items n None) (λ n. get_or new.first.items n None) parent (Some child)
   pub next : ChangesOne (λ n. get_or old.next.items n None) (λ n. get_or new.next.items n None) child (get_or old.first.items parent None)
   pub previous : PutsBehind old new.previous.items parent child
-  pub places : (n : ℕ) → HavePlaces n old → HavePlaces n new
+  pub slots : (n : ℕ) → HaveSlots n old → HaveSlots n new
 
 module _
     (up after : ℕ → Option ℕ) (old new : ChildLists) (parent child : ℕ) (may : MayBecomeChild up old parent child) (changes : ChangesOne up after child (Some parent))
@@ -133,14 +133,14 @@ module _
       ]
 
   -- the lists are right with the child in front
-  AreChildLists-link : HavePlaces (child + 1) old → AreChildLists after new
-  AreChildLists-link child_place = record {
+  AreChildLists-link : HaveSlots (child + 1) old → AreChildLists after new
+  AreChildLists-link child_slot = record {
     first = first_linked;
     next = next_linked;
     previous = previous_linked;
-    places = λ f c h. elim (cases_eq c child) [
-      | inl e ↦ puts.places (c + 1) (subst (λ n. HavePlaces (n + 1) old) (sym e) child_place)
-      | inr ne ↦ puts.places (c + 1) (may.children.places f c (ChangesOne-back up after child (Some parent) f c changes ne h))
+    slots = λ f c h. elim (cases_eq c child) [
+      | inl e ↦ puts.slots (c + 1) (subst (λ n. HaveSlots (n + 1) old) (sym e) child_slot)
+      | inr ne ↦ puts.slots (c + 1) (may.children.slots f c (ChangesOne-back up after child (Some parent) f c changes ne h))
     ];
   }
 
@@ -164,15 +164,15 @@ PutsBehind-some old parent child s some within within_child =
 PutsBehind-none :
     (old : ChildLists) (parent child : ℕ) → get_or old.first.items parent None ≡ None → child < length old.previous.items
     → PutsBehind old (set old.previous.items child None) parent child
-PutsBehind-none old parent child none child_place = record {
-  alone = get_or-set_same old.previous.items child None None child_place;
+PutsBehind-none old parent child none child_slot = record {
+  alone = get_or-set_same old.previous.items child None None child_slot;
   second = λ c ne top. cc;
   others = λ c ne apart. get_or-set_other old.previous.items child c None None ne;
 }
 
 module _
     (up after : ℕ → Option ℕ) (old : ChildLists) (parent child : ℕ) (may : MayBecomeChild up old parent child) (changes : ChangesOne up after child (Some parent))
-    (parent_place : HavePlaces (parent + 1) old) (child_place : HavePlaces (child + 1) old) where
+    (parent_slot : HaveSlots (parent + 1) old) (child_slot : HaveSlots (child + 1) old) where
   -- in front of another
   pub link-some :
       (s : ℕ) → get_or old.first.items parent None ≡ Some s
@@ -187,16 +187,16 @@ module _
         next = with_item old.next child (Some s);
         previous = with_item (with_item old.previous s (Some child)) child None;
       } in
-      let within = first_has_place up old parent s may.children some in
+      let within = first_has_slot up old parent s may.children some in
       AreChildLists-link up after old new parent child may changes
       (record {
-        first = ChangesOne-set old.first.items parent (Some child) (omega (arith, parent_place.first));
+        first = ChangesOne-set old.first.items parent (Some child) (omega (arith, parent_slot.first));
         next = subst (ChangesOne (λ n. get_or old.next.items n None) (λ n. get_or new.next.items n None) child) (sym some)
-            (ChangesOne-set old.next.items child (Some s) (omega (arith, child_place.next)));
-        previous = PutsBehind-some old parent child s some (omega (arith, within.1.previous)) (omega (arith, child_place.previous));
-        places = HavePlaces-same old new (length-set old.first.items parent (Some child)) (length-set old.next.items child (Some s))
+            (ChangesOne-set old.next.items child (Some s) (omega (arith, child_slot.next)));
+        previous = PutsBehind-some old parent child s some (omega (arith, within.1.previous)) (omega (arith, child_slot.previous));
+        slots = HaveSlots-same old new (length-set old.first.items parent (Some child)) (length-set old.next.items child (Some s))
             (length-set (set old.previous.items s (Some child)) child None ∙ length-set old.previous.items s (Some child));
-      }) child_place
+      }) child_slot
 
   -- alone
   pub link-none :
@@ -214,10 +214,10 @@ module _
       } in
       AreChildLists-link up after old new parent child may changes
       (record {
-        first = ChangesOne-set old.first.items parent (Some child) (omega (arith, parent_place.first));
+        first = ChangesOne-set old.first.items parent (Some child) (omega (arith, parent_slot.first));
         next = subst (ChangesOne (λ n. get_or old.next.items n None) (λ n. get_or new.next.items n None) child) (sym none)
-            (ChangesOne-set old.next.items child None (omega (arith, child_place.next)));
-        previous = PutsBehind-none old parent child none (omega (arith, child_place.previous));
-        places = HavePlaces-same old new (length-set old.first.items parent (Some child)) (length-set old.next.items child None)
+            (ChangesOne-set old.next.items child None (omega (arith, child_slot.next)));
+        previous = PutsBehind-none old parent child none (omega (arith, child_slot.previous));
+        slots = HaveSlots-same old new (length-set old.first.items parent (Some child)) (length-set old.next.items child None)
             (length-set old.previous.items child None);
-      }) child_place
+      }) child_slot

@@ -1,4 +1,4 @@
--- Scans over the nodes that are present, place after place: for the nearest to a mark, and for those near a point.
+-- Scans over the nodes that are present, index after index: for the nearest to a mark, and for those near a point.
 use Rattle.std.proofs.Common.{◌≡◌, ℕ, ◌+◌, ◌*◌, ◌<◌, ◌≤◌, leb, Bool, true, false, cond, List, [], ◌∷◌, ◌++◌, length, get_or, take, Option, Some}
 use Rattle.std.proofs.Common.{arith, refl, sym, ap, ◌∙◌, inl, inr}
 use Rattle.std.specs.Prelude.{is_some, filter, Contains}
@@ -23,22 +23,22 @@ use Rattle.seq_planner.specs.PlacedLists.{present_numbers, ArePlaced}
 use Rattle.seq_planner.specs.declared.placed_points.PlacedPoints.{PlacedPoints}
 use Rattle.seq_planner.proofs.PresentNumbers.{ArePlaced-numbered, present_numbers-present, present_numbers-rising, IsStrictlyIncreasing-range_with_len}
 
--- ---- places
+-- ---- slots
 
--- the node at a place stands at the point there
-pub StandsAt-place :
-    (points : List (Option Point)) (placed : PlacedPoints) (place : ℕ) (d : Point) → ArePlaced points placed → place < length placed.points.items
-    → StandsAt points (get_or placed.numbers.items place 0) (get_or placed.points.items place d)
-StandsAt-place points placed place d h below =
-    let low : place < length (present_numbers points) = omega (arith, ArePlaced-numbered points placed h, ap length h.numbers) in
-    let n : ℕ = get_or (present_numbers points) place 0 in
-    let present : IsPresent points n = All-get_or (IsPresent points) (present_numbers points) place 0 low (present_numbers-present points) in
-    let number : get_or placed.numbers.items place 0 ≡ n = ap (λ ns. get_or ns place 0) h.numbers in
-    let point : get_or placed.points.items place d ≡ point_of points n =
-    ap (λ ps. get_or ps place d) h.points ∙ get_or-map (point_of points) (present_numbers points) place 0 d low in
+-- the node at a index stands at the point there
+pub StandsAt-index :
+    (points : List (Option Point)) (placed : PlacedPoints) (index : ℕ) (d : Point) → ArePlaced points placed → index < length placed.points.items
+    → StandsAt points (get_or placed.numbers.items index 0) (get_or placed.points.items index d)
+StandsAt-index points placed index d h below =
+    let low : index < length (present_numbers points) = omega (arith, ArePlaced-numbered points placed h, ap length h.numbers) in
+    let n : ℕ = get_or (present_numbers points) index 0 in
+    let present : IsPresent points n = All-get_or (IsPresent points) (present_numbers points) index 0 low (present_numbers-present points) in
+    let number : get_or placed.numbers.items index 0 ≡ n = ap (λ ns. get_or ns index 0) h.numbers in
+    let point : get_or placed.points.items index d ≡ point_of points n =
+    ap (λ ps. get_or ps index d) h.points ∙ get_or-map (point_of points) (present_numbers points) index 0 d low in
     ap (point_at points) number ∙ StandsAt-present points n present ∙ ap Some (sym point)
 
--- each present node has a place
+-- each present node has a index
 pub present_numbers-all : (points : List (Option Point)) (n : ℕ) → IsPresent points n → Contains (present_numbers points) n
 present_numbers-all points n h =
     let below : n < length points = IsPresent-below points n h in
@@ -46,7 +46,7 @@ present_numbers-all points n h =
     Contains-filter (λ i. is_some (point_at points i)) (range_with_len 0 (length points)) n h
     (n, omega (arith, below, length-range_with_len 0 (length points)), itself)
 
--- later places have greater numbers
+-- later slots have greater numbers
 numbers_rise :
     (points : List (Option Point)) (placed : PlacedPoints) (i j : ℕ) → ArePlaced points placed → i ≤ j → j < length placed.numbers.items
     → get_or placed.numbers.items i 0 ≤ get_or placed.numbers.items j 0
@@ -61,36 +61,36 @@ numbers_rise points placed i j h le below =
 
 -- ---- the nearest
 
--- the squared distance of the point at a place to a mark
+-- the squared distance of the point at a index to a mark
 abbrev pub distance_at : List Point → Point → ℕ → ℕ
-distance_at ps mark place = squared_distance (get_or ps place (record { x = 0; y = 0 })) mark
+distance_at ps mark index = squared_distance (get_or ps index (record { x = 0; y = 0 })) mark
 
--- the point at the best place is the nearest to the mark of itself and those before the limit, at this squared distance
-pub record IsNearestPlace (ps : List Point) (mark : Point) (limit best least : ℕ) : Type 0 where
-  pub scanned : IsFirstLeastBelow (distance_at ps mark) (λ place. place < length ps) limit best
+-- the point at the best index is the nearest to the mark of itself and those before the limit, at this squared distance
+pub record IsNearestIndex (ps : List Point) (mark : Point) (limit best least : ℕ) : Type 0 where
+  pub scanned : IsFirstLeastBelow (distance_at ps mark) (λ index. index < length ps) limit best
   pub is : least ≡ distance_at ps mark best
 
--- the distance of the node at a place
-distance_at-place :
-    (points : List (Option Point)) (placed : PlacedPoints) (mark : Point) (place : ℕ) → ArePlaced points placed → place < length placed.points.items
-    → distance_at placed.points.items mark place ≡ distance_to mark points (get_or placed.numbers.items place 0)
-distance_at-place points placed mark place h below =
-    let point : Point = get_or placed.points.items place (record { x = 0; y = 0 }) in
-    let stands : StandsAt points (get_or placed.numbers.items place 0) point = StandsAt-place points placed place (record { x = 0; y = 0 }) h below in
-    sym (ap (λ p. squared_distance p mark) (point_of-stands points (get_or placed.numbers.items place 0) point stands))
+-- the distance of the node at a index
+distance_at-index :
+    (points : List (Option Point)) (placed : PlacedPoints) (mark : Point) (index : ℕ) → ArePlaced points placed → index < length placed.points.items
+    → distance_at placed.points.items mark index ≡ distance_to mark points (get_or placed.numbers.items index 0)
+distance_at-index points placed mark index h below =
+    let point : Point = get_or placed.points.items index (record { x = 0; y = 0 }) in
+    let stands : StandsAt points (get_or placed.numbers.items index 0) point = StandsAt-index points placed index (record { x = 0; y = 0 }) h below in
+    sym (ap (λ p. squared_distance p mark) (point_of-stands points (get_or placed.numbers.items index 0) point stands))
 
--- the scan went over all places
+-- the scan went over all slots
 pub IsNearest-all :
     (points : List (Option Point)) (placed : PlacedPoints) (mark : Point) (limit best least : ℕ) → ArePlaced points placed
-    → IsNearestPlace placed.points.items mark limit best least → length placed.points.items ≤ limit
+    → IsNearestIndex placed.points.items mark limit best least → length placed.points.items ≤ limit
     → IsNearest points mark (get_or placed.numbers.items best 0)
 IsNearest-all points placed mark limit best least h scan all =
     let ps : List Point = placed.points.items in
     let numbers : List ℕ = placed.numbers.items in
-    let first : IsFirstLeast (distance_at ps mark) (λ place. place < length ps) best =
-    IsFirstLeast-scanned (distance_at ps mark) (λ place. place < length ps) limit best scan.scanned (λ i l. omega (arith, l, all)) in
-    let stands = StandsAt-place points placed best (record { x = 0; y = 0 }) h first.member in
-    let same : distance_at ps mark best ≡ distance_to mark points (get_or numbers best 0) = distance_at-place points placed mark best h first.member in
+    let first : IsFirstLeast (distance_at ps mark) (λ index. index < length ps) best =
+    IsFirstLeast-scanned (distance_at ps mark) (λ index. index < length ps) limit best scan.scanned (λ i l. omega (arith, l, all)) in
+    let stands = StandsAt-index points placed best (record { x = 0; y = 0 }) h first.member in
+    let same : distance_at ps mark best ≡ distance_to mark points (get_or numbers best 0) = distance_at-index points placed mark best h first.member in
     record {
       member = IsPresent-stands points (get_or numbers best 0) (get_or ps best (record { x = 0; y = 0 })) stands;
       not_above = λ i own. (
@@ -101,7 +101,7 @@ IsNearest-all points placed mark limit best least h scan all =
           let below : k < length ps = omega (arith, low, lengths) in
           let number : get_or numbers k 0 ≡ i = get_or_default numbers k 0 i low ∙ ap (λ ns. get_or ns k i) h.numbers ∙ at.2 in
           let there : distance_at ps mark k ≡ distance_to mark points i =
-          distance_at-place points placed mark k h below ∙ ap (distance_to mark points) number in
+          distance_at-index points placed mark k h below ∙ ap (distance_to mark points) number in
           record {
             least = omega (arith, same, there, (first.not_above k below).least);
             first = λ e. (
@@ -127,53 +127,53 @@ filter-filter p q (n ∷ ns) h = by_tests (p n) (q n) (h n) (filter-filter p q n
 
 -- one more point
 near_more :
-    (points : List (Option Point)) (placed : PlacedPoints) (p : Point) (r place : ℕ) (d : Point) → ArePlaced points placed
-    → place < length placed.points.items
-    → filter (λ i. is_within p r (point_at points i)) (take (place + 1) placed.numbers.items)
-    ≡ filter (λ i. is_within p r (point_at points i)) (take place placed.numbers.items)
-    ++ cond (leb (squared_distance (get_or placed.points.items place d) p) (r * r)) (get_or placed.numbers.items place 0 ∷ []) []
-near_more points placed p r place d h below =
-    let n : ℕ = get_or placed.numbers.items place 0 in
+    (points : List (Option Point)) (placed : PlacedPoints) (p : Point) (r index : ℕ) (d : Point) → ArePlaced points placed
+    → index < length placed.points.items
+    → filter (λ i. is_within p r (point_at points i)) (take (index + 1) placed.numbers.items)
+    ≡ filter (λ i. is_within p r (point_at points i)) (take index placed.numbers.items)
+    ++ cond (leb (squared_distance (get_or placed.points.items index d) p) (r * r)) (get_or placed.numbers.items index 0 ∷ []) []
+near_more points placed p r index d h below =
+    let n : ℕ = get_or placed.numbers.items index 0 in
     let test : ℕ → Bool = λ i. is_within p r (point_at points i) in
-    let point : Point = get_or placed.points.items place d in
-    let is : test n ≡ leb (squared_distance point p) (r * r) = ap (is_within p r) (StandsAt-place points placed place d h below) in
-    filter_more test placed.numbers.items place 0 (omega (arith, below, ArePlaced-numbered points placed h))
-    ∙ ap (λ b. filter test (take place placed.numbers.items) ++ cond b (n ∷ []) []) is
+    let point : Point = get_or placed.points.items index d in
+    let is : test n ≡ leb (squared_distance point p) (r * r) = ap (is_within p r) (StandsAt-index points placed index d h below) in
+    filter_more test placed.numbers.items index 0 (omega (arith, below, ArePlaced-numbered points placed h))
+    ∙ ap (λ b. filter test (take index placed.numbers.items) ++ cond b (n ∷ []) []) is
 
 -- it is near
 pub near_more_inside :
-    (points : List (Option Point)) (placed : PlacedPoints) (p : Point) (r place number : ℕ) (d : Point) → ArePlaced points placed
-    → place < length placed.points.items → number ≡ get_or placed.numbers.items place number
-    → squared_distance (get_or placed.points.items place d) p ≤ r * r
-    → filter (λ i. is_within p r (point_at points i)) (take (place + 1) placed.numbers.items)
-    ≡ filter (λ i. is_within p r (point_at points i)) (take place placed.numbers.items) ++ number ∷ []
-near_more_inside points placed p r place number d h below read close =
+    (points : List (Option Point)) (placed : PlacedPoints) (p : Point) (r index number : ℕ) (d : Point) → ArePlaced points placed
+    → index < length placed.points.items → number ≡ get_or placed.numbers.items index number
+    → squared_distance (get_or placed.points.items index d) p ≤ r * r
+    → filter (λ i. is_within p r (point_at points i)) (take (index + 1) placed.numbers.items)
+    ≡ filter (λ i. is_within p r (point_at points i)) (take index placed.numbers.items) ++ number ∷ []
+near_more_inside points placed p r index number d h below read close =
     let numbers : List ℕ = placed.numbers.items in
-    let sofar : List ℕ = filter (λ i. is_within p r (point_at points i)) (take place numbers) in
-    near_more points placed p r place d h below
-    ∙ ap (λ b. sofar ++ cond b (get_or numbers place 0 ∷ []) []) (le-leb (squared_distance (get_or placed.points.items place d) p) (r * r) close)
-    ∙ ap (λ n. sofar ++ n ∷ []) (sym (get_or_read numbers place number (omega (arith, below, ArePlaced-numbered points placed h)) read 0))
+    let sofar : List ℕ = filter (λ i. is_within p r (point_at points i)) (take index numbers) in
+    near_more points placed p r index d h below
+    ∙ ap (λ b. sofar ++ cond b (get_or numbers index 0 ∷ []) []) (le-leb (squared_distance (get_or placed.points.items index d) p) (r * r) close)
+    ∙ ap (λ n. sofar ++ n ∷ []) (sym (get_or_read numbers index number (omega (arith, below, ArePlaced-numbered points placed h)) read 0))
 
 -- it is not
 pub near_more_outside :
-    (points : List (Option Point)) (placed : PlacedPoints) (p : Point) (r place : ℕ) (d : Point) → ArePlaced points placed
-    → place < length placed.points.items → r * r < squared_distance (get_or placed.points.items place d) p
-    → filter (λ i. is_within p r (point_at points i)) (take (place + 1) placed.numbers.items)
-    ≡ filter (λ i. is_within p r (point_at points i)) (take place placed.numbers.items)
-near_more_outside points placed p r place d h below far =
+    (points : List (Option Point)) (placed : PlacedPoints) (p : Point) (r index : ℕ) (d : Point) → ArePlaced points placed
+    → index < length placed.points.items → r * r < squared_distance (get_or placed.points.items index d) p
+    → filter (λ i. is_within p r (point_at points i)) (take (index + 1) placed.numbers.items)
+    ≡ filter (λ i. is_within p r (point_at points i)) (take index placed.numbers.items)
+near_more_outside points placed p r index d h below far =
     let numbers : List ℕ = placed.numbers.items in
-    let sofar : List ℕ = filter (λ i. is_within p r (point_at points i)) (take place numbers) in
-    near_more points placed p r place d h below
-    ∙ ap (λ b. sofar ++ cond b (get_or numbers place 0 ∷ []) []) (lt-leb (squared_distance (get_or placed.points.items place d) p) (r * r) far)
+    let sofar : List ℕ = filter (λ i. is_within p r (point_at points i)) (take index numbers) in
+    near_more points placed p r index d h below
+    ∙ ap (λ b. sofar ++ cond b (get_or numbers index 0 ∷ []) []) (lt-leb (squared_distance (get_or placed.points.items index d) p) (r * r) far)
     ∙ append-nil sofar
 
--- the scan went over all places
+-- the scan went over all slots
 pub near-all :
-    (points : List (Option Point)) (placed : PlacedPoints) (p : Point) (r place : ℕ) → ArePlaced points placed → length placed.points.items ≤ place
-    → filter (λ i. is_within p r (point_at points i)) (take place placed.numbers.items) ≡ near points p r
-near-all points placed p r place h all =
+    (points : List (Option Point)) (placed : PlacedPoints) (p : Point) (r index : ℕ) → ArePlaced points placed → length placed.points.items ≤ index
+    → filter (λ i. is_within p r (point_at points i)) (take index placed.numbers.items) ≡ near points p r
+near-all points placed p r index h all =
     let test : ℕ → Bool = λ i. is_within p r (point_at points i) in
-    ap (filter test) (take_all place placed.numbers.items (omega (arith, all, ArePlaced-numbered points placed h)) ∙ h.numbers)
+    ap (filter test) (take_all index placed.numbers.items (omega (arith, all, ArePlaced-numbered points placed h)) ∙ h.numbers)
     ∙ filter-filter (λ n. is_some (point_at points n)) test (range_with_len 0 (length points)) (λ n own. within_present p r (point_at points n) own)
 
 -- no node is at most 0 away from a free point

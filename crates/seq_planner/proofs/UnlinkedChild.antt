@@ -8,7 +8,7 @@ use Rattle.std.proofs.lemmas.Bool.{cases_eq, cases_lt, cases_order}
 use Rattle.seq_planner.specs.declared.child_lists.ChildLists.{ChildLists}
 use Rattle.seq_planner.specs.LinkedTrees.{IsGreatest, IsLeast, AreChildLists, ChangesOne, MayUnlink}
 use Rattle.seq_planner.proofs.GreatestAndLeast.{IsGreatest-fewer, IsGreatest-same, IsLeast-fewer, IsLeast-same, IsGreatest-exists, IsLeast-exists}
-use Rattle.seq_planner.proofs.ChildLists.{cases_option, cases_some, ChangesOne-back, HavePlaces-same, first_within, next_has_place, previous_has_place}
+use Rattle.seq_planner.proofs.ChildLists.{cases_option, cases_some, ChangesOne-back, HaveSlots-same, first_within, next_has_slot, previous_has_slot}
 
 -- the first children and the lesser siblings after a child is taken out of its parent's list
 record SkipsDown (old : ChildLists) (first next : List (Option ℕ)) (parent child : ℕ) : Type 0 where
@@ -179,8 +179,8 @@ module _
     first = first_unlinked;
     next = next_unlinked;
     previous = previous_unlinked;
-    places = λ f c h.
-        HavePlaces-same old new skips_down.firsts_length skips_down.nexts_length skips_up.previouses_length (c + 1) (may.children.places f c (left_from f c h));
+    slots = λ f c h.
+        HaveSlots-same old new skips_down.firsts_length skips_down.nexts_length skips_up.previouses_length (c + 1) (may.children.slots f c (left_from f c h));
   }
 
 -- a child that has a greater sibling
@@ -243,8 +243,8 @@ module _
       → AreChildLists after (record { first = old.first; next = with_item old.next s next; previous = with_item old.previous t previous })
   unlink-middle s t some_previous some_next =
       let new : ChildLists = record { first = old.first; next = with_item old.next s next; previous = with_item old.previous t previous } in
-      let greater = previous_has_place up old parent child s may.children may.linked (previous_is ∙ some_previous) in
-      let lesser = next_has_place up old parent child t may.children may.linked (next_is ∙ some_next) in
+      let greater = previous_has_slot up old parent child s may.children may.linked (previous_is ∙ some_previous) in
+      let lesser = next_has_slot up old parent child t may.children may.linked (next_is ∙ some_next) in
       AreChildLists-unlink up after old new parent child may changes
       (SkipsDown-some old parent child s next (previous_is ∙ some_previous) next_is (omega (arith, greater.1.next)))
       (SkipsUp-some old child t previous (next_is ∙ some_next) previous_is (omega (arith, lesser.1.previous)))
@@ -255,7 +255,7 @@ module _
       → AreChildLists after (record { first = with_item old.first parent next; next = old.next; previous = with_item old.previous t previous })
   unlink-first t no_previous some_next =
       let new : ChildLists = record { first = with_item old.first parent next; next = old.next; previous = with_item old.previous t previous } in
-      let lesser = next_has_place up old parent child t may.children may.linked (next_is ∙ some_next) in
+      let lesser = next_has_slot up old parent child t may.children may.linked (next_is ∙ some_next) in
       AreChildLists-unlink up after old new parent child may changes
       (SkipsDown-none old parent child next (previous_is ∙ no_previous) next_is (first_within up old parent child may))
       (SkipsUp-some old child t previous (next_is ∙ some_next) previous_is (omega (arith, lesser.1.previous)))
@@ -266,7 +266,7 @@ module _
       → AreChildLists after (record { first = old.first; next = with_item old.next s next; previous = old.previous })
   unlink-last s some_previous no_next =
       let new : ChildLists = record { first = old.first; next = with_item old.next s next; previous = old.previous } in
-      let greater = previous_has_place up old parent child s may.children may.linked (previous_is ∙ some_previous) in
+      let greater = previous_has_slot up old parent child s may.children may.linked (previous_is ∙ some_previous) in
       AreChildLists-unlink up after old new parent child may changes
       (SkipsDown-some old parent child s next (previous_is ∙ some_previous) next_is (omega (arith, greater.1.next)))
       (SkipsUp-none old child (next_is ∙ no_next))

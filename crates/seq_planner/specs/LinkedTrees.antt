@@ -29,18 +29,18 @@ abbrev pub IsLeast : (ℕ → Type 0) → Option ℕ → Type 0
 IsLeast among None = (i : ℕ) → ¬ among i
 IsLeast among (Some m) = among m × ((i : ℕ) → among i → m ≤ i)
 
--- The lists have a place for each number below a count.
-pub record HavePlaces (count : ℕ) (lists : ChildLists) : Type 0 where
+-- The lists have a slot for each number below a count.
+pub record HaveSlots (count : ℕ) (lists : ChildLists) : Type 0 where
   pub first : count ≤ length lists.first.items
   pub next : count ≤ length lists.next.items
   pub previous : count ≤ length lists.previous.items
 
--- The lists have the children of each node in falling number, and a place for each child, where `up` names the node that a number is a child of.
+-- The lists have the children of each node in falling number, and a slot for each child, where `up` names the node that a number is a child of.
 pub record AreChildLists (up : ℕ → Option ℕ) (lists : ChildLists) : Type 0 where
   pub first : (f : ℕ) → IsGreatest (λ c. up c ≡ Some f) (slice_index_or lists.first.items f None)
   pub next : (f c : ℕ) → up c ≡ Some f → IsGreatest (λ d. (up d ≡ Some f) × (d < c)) (slice_index_or lists.next.items c None)
   pub previous : (f c : ℕ) → up c ≡ Some f → IsLeast (λ d. (up d ≡ Some f) × (c < d)) (slice_index_or lists.previous.items c None)
-  pub places : (f c : ℕ) → up c ≡ Some f → HavePlaces (c + 1) lists
+  pub slots : (f c : ℕ) → up c ≡ Some f → HaveSlots (c + 1) lists
 
 -- `after` differs from `up` at one number alone, where it has this value
 pub record ChangesOne (up after : ℕ → Option ℕ) (number : ℕ) (value : Option ℕ) : Type 0 where
@@ -58,10 +58,10 @@ pub record MayUnlink (up : ℕ → Option ℕ) (lists : ChildLists) (parent chil
   pub children : AreChildLists up lists
   pub linked : up child ≡ Some parent
 
--- The lists are those of the children of the tree's nodes, with a place in each for each number.
+-- The lists are those of the children of the tree's nodes, with a slot in each for each number.
 pub record AreLinked (tree : List (Option Twig)) (lists : ChildLists) : Type 0 where
   pub children : AreChildLists (parent_if_child tree) lists
-  pub places : HavePlaces (length tree) lists
+  pub slots : HaveSlots (length tree) lists
 
 -- a node may join the tree at its end if its parent is present
 abbrev pub MayJoin : List (Option Twig) → Option Twig → Type 0

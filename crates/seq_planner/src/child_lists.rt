@@ -1,7 +1,7 @@
 //! Lists of the children of each node of a tree.
 
 ghost use Rattle.std.specs.Prelude.{IfOk, OnOk, ◌≡◌, ℕ, ◌+◌, ◌==◌, Option, Some, None, count_by, if◌then◌else◌};
-ghost use Rattle.seq_planner.specs.LinkedTrees.{AreChildLists, ChangesOne, HavePlaces, MayBecomeChild, MayUnlink, is_number};
+ghost use Rattle.seq_planner.specs.LinkedTrees.{AreChildLists, ChangesOne, HaveSlots, MayBecomeChild, MayUnlink, is_number};
 
 use plan_model::Memory;
 use std::alloc::Global;
@@ -30,7 +30,7 @@ impl ChildLists {
     /// `Memory` if out of memory.
     pub(crate) fn new(alloc: Global) -> Result<ChildLists, Memory>
         ensures lists { IfOk result (λ lists. (up : ℕ → Option ℕ) → ((c : ℕ) → up c ≡ None) → AreChildLists up lists) }
-        ensures places { IfOk result (λ lists. HavePlaces 1 lists) }
+        ensures slots { IfOk result (λ lists. HaveSlots 1 lists) }
     {
         Ok(ChildLists {
             first: vec![in alloc; None]?,
@@ -46,8 +46,8 @@ impl ChildLists {
     /// `Memory` if out of memory; the lists are then as they were, for the numbers so far.
     pub(crate) fn push(&mut self) -> Result<(), Memory>
         ensures lists { (up : ℕ → Option ℕ) → AreChildLists up self.old → AreChildLists up self.new }
-        ensures places { (n : ℕ) → HavePlaces n self.old → HavePlaces n self.new }
-        ensures more { OnOk result ((n : ℕ) → HavePlaces n self.old → HavePlaces (n + 1) self.new) }
+        ensures slots { (n : ℕ) → HaveSlots n self.old → HaveSlots n self.new }
+        ensures more { OnOk result ((n : ℕ) → HaveSlots n self.old → HaveSlots (n + 1) self.new) }
     {
         self.first.push(None)?;
         self.next.push(None)?;
@@ -57,12 +57,12 @@ impl ChildLists {
 
     /// Puts a child in front of the list of a parent, whose children so far all have lesser numbers. O(1).
     pub(crate) fn link(&mut self, parent: u32, child: u32)
-        requires parent { HavePlaces (parent + 1) self.old }
-        requires child { HavePlaces (child + 1) self.old }
+        requires parent { HaveSlots (parent + 1) self.old }
+        requires child { HaveSlots (child + 1) self.old }
         requires unlinked { (up : ℕ → Option ℕ) × MayBecomeChild up self.old parent child }
         ensures lists { (up after : ℕ → Option ℕ) → MayBecomeChild up self.old parent child → ChangesOne up after child (Some parent)
             → AreChildLists after self.new }
-        ensures places { (n : ℕ) → HavePlaces n self.old → HavePlaces n self.new }
+        ensures slots { (n : ℕ) → HaveSlots n self.old → HaveSlots n self.new }
     {
         let next = self.first[parent as usize];
         if let Some(sibling) = next {
@@ -78,7 +78,7 @@ impl ChildLists {
         requires linked { (up : ℕ → Option ℕ) × MayUnlink up self.old parent child }
         ensures lists { (up after : ℕ → Option ℕ) → MayUnlink up self.old parent child → ChangesOne up after child None
             → AreChildLists after self.new }
-        ensures places { (n : ℕ) → HavePlaces n self.old → HavePlaces n self.new }
+        ensures slots { (n : ℕ) → HaveSlots n self.old → HaveSlots n self.new }
     {
         let next = self.next[child as usize];
         let previous = self.previous[child as usize];
@@ -97,7 +97,7 @@ impl ChildLists {
     ///
     /// `Memory` if out of memory.
     pub(crate) fn push_children(&self, parent: u32, list: &mut Vec<u32>) -> Result<(), Memory>
-        requires parent { HavePlaces (parent + 1) self.now }
+        requires parent { HaveSlots (parent + 1) self.now }
         requires linked { (up : ℕ → Option ℕ) × AreChildLists up self.now }
         ensures { OnOk result ((up : ℕ → Option ℕ) → AreChildLists up self.now → (c : ℕ) → count_by (λ k. k == c) list.new.items
             ≡ count_by (λ k. k == c) list.old.items + (if is_number parent (up c) then 1 else 0)) }

@@ -69,10 +69,10 @@ impl PlacedPoints {
     {
         let mut best = 0;
         let mut least = self.points[0].squared_distance(mark);
-        for (place, point) in self.points.iter().enumerate() {
+        for (index, point) in self.points.iter().enumerate() {
             let distance = point.squared_distance(mark);
             if distance < least {
-                best = place;
+                best = index;
                 least = distance;
             }
         }
@@ -98,9 +98,9 @@ impl PlacedPoints {
             return Ok(());
         }
         let most = u64::from(radius) * u64::from(radius);
-        for (place, other) in self.points.iter().enumerate() {
+        for (index, other) in self.points.iter().enumerate() {
             if other.squared_distance(point) <= most {
-                found.push(self.numbers[place])?;
+                found.push(self.numbers[index])?;
             }
         }
         Ok(())

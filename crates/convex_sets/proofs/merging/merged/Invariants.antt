@@ -2,8 +2,8 @@ use Rattle.std.proofs.Common.{◌+◌, ◌-◌, length}
 use Rattle.convex_sets.proofs.MergedPaths.{IsMergedTo}
 use Rattle.convex_sets.proofs.merging.merged.Given as goal
 
-abbrev pub invariant-loop-place : goal.invariant-loop-place
-invariant-loop-place l = IsMergedTo l.a l.b l.corners.items l.place.0 l.place.1
+abbrev pub invariant-loop-reached : goal.invariant-loop-reached
+invariant-loop-reached l = IsMergedTo l.a l.b l.corners.items l.reached.0 l.reached.1
 
-abbrev pub decreases-loop-place : goal.decreases-loop-place
-decreases-loop-place l = (length l.a - l.place.0) + (length l.b - l.place.1)
+abbrev pub decreases-loop-reached : goal.decreases-loop-reached
+decreases-loop-reached l = (length l.a - l.reached.0) + (length l.b - l.reached.1)

@@ -9,8 +9,8 @@ loop-child-preserved c = λ up are. (
     let lists = c.args.self.now in
     let so_far : AreAdded up c.args.parent c.args.list.now.items c.loop-child.list.items (Some c.in-Some.number) =
     subst (AreAdded up c.args.parent c.args.list.now.items c.loop-child.list.items) c.in-Some.is (c.loop-child.invariant up are) in
-    let place = are.places c.args.parent c.in-Some.number so_far.child in
+    let slot = are.slots c.args.parent c.in-Some.number so_far.child in
     let read : c.index-child-in-Some.result.now ≡ get_or lists.next.items c.in-Some.number None =
-    get_or_read lists.next.items _ _ (omega (arith, place.next)) c.index-child-in-Some.ensures None in
+    get_or_read lists.next.items _ _ (omega (arith, slot.next)) c.index-child-in-Some.ensures None in
     rw (c.in_ok-push.ensures.items, read)
     (AreAdded-more up lists c.args.parent c.in-Some.number c.args.list.now.items c.loop-child.list.items are so_far))

@@ -14,11 +14,11 @@ index_mut-requires-in-None c =
 pub returns-in-Some-next-clause-lists : goal.returns-in-Some-next-clause-lists
 returns-in-Some-next-clause-lists c = λ up after may changes. (
     let old : ChildLists = c.args.self.now in
-    let place = may.children.places c.args.parent c.args.child may.linked in
+    let slot = may.children.slots c.args.parent c.args.child may.linked in
     let next : get_or old.next.items c.args.child None ≡ c.index-next.result.now =
-    sym (get_or_read old.next.items _ _ (omega (arith, place.next)) c.index-next.ensures None) in
+    sym (get_or_read old.next.items _ _ (omega (arith, slot.next)) c.index-next.ensures None) in
     let previous : get_or old.previous.items c.args.child None ≡ c.index-previous.result.now =
-    sym (get_or_read old.previous.items _ _ (omega (arith, place.previous)) c.index-previous.ensures None) in
+    sym (get_or_read old.previous.items _ _ (omega (arith, slot.previous)) c.index-previous.ensures None) in
     elim c.match-previous.branch [
       | in-Some w ↦
           rw (w.self-is, w.previous-is)
@@ -32,11 +32,11 @@ returns-in-Some-next-clause-lists c = λ up after may changes. (
 pub returns-in_default-clause-lists : goal.returns-in_default-clause-lists
 returns-in_default-clause-lists c = λ up after may changes. (
     let old : ChildLists = c.args.self.now in
-    let place = may.children.places c.args.parent c.args.child may.linked in
+    let slot = may.children.slots c.args.parent c.args.child may.linked in
     let next : get_or old.next.items c.args.child None ≡ c.index-next.result.now =
-    sym (get_or_read old.next.items _ _ (omega (arith, place.next)) c.index-next.ensures None) in
+    sym (get_or_read old.next.items _ _ (omega (arith, slot.next)) c.index-next.ensures None) in
     let previous : get_or old.previous.items c.args.child None ≡ c.index-previous.result.now =
-    sym (get_or_read old.previous.items _ _ (omega (arith, place.previous)) c.index-previous.ensures None) in
+    sym (get_or_read old.previous.items _ _ (omega (arith, slot.previous)) c.index-previous.ensures None) in
     elim c.match-previous.branch [
       | in-Some w ↦
           rw w.self-is

@@ -6,20 +6,20 @@ use Rattle.plan_model.specs.PointsByNumber.{IsPresent}
 use Rattle.plan_model.specs.Trees.{points_of}
 use Rattle.plan_model.proofs.NewNodes.{present_below}
 use Rattle.seq_planner.specs.LinkedTrees.{parent_if_child, is_child_of}
-use Rattle.seq_planner.proofs.ChangedLinks.{without, MayBecomeChild-unlinked, ChangesOne-replace, AreLinked-replace, HavePlaces-present}
+use Rattle.seq_planner.proofs.ChangedLinks.{without, MayBecomeChild-unlinked, ChangesOne-replace, AreLinked-replace, HaveSlots-present}
 use Rattle.seq_planner.proofs.linked_tree.LinkedTree.set_parent.Goals as goal
 
 pub link-requires-clause-parent : goal.link-requires-clause-parent
 link-requires-clause-parent c =
     let present : IsPresent (points_of c.self.inside.nodes.items) c.args.parent =
     subst (λ tree. IsPresent (points_of tree) c.args.parent) (sym c.self.view_is) c.requires.parent in
-    c.unlink.ensures.places _ (HavePlaces-present c.self.inside.nodes.items c.self.inside.children c.args.parent c.self.invariant.places present)
+    c.unlink.ensures.slots _ (HaveSlots-present c.self.inside.nodes.items c.self.inside.children c.args.parent c.self.invariant.slots present)
 
 pub link-requires-clause-child : goal.link-requires-clause-child
 link-requires-clause-child c =
     let present : IsPresent (points_of c.self.inside.nodes.items) c.args.number =
     subst (λ tree. IsPresent (points_of tree) c.args.number) (sym c.self.view_is) c.requires.present in
-    c.unlink.ensures.places _ (HavePlaces-present c.self.inside.nodes.items c.self.inside.children c.args.number c.self.invariant.places present)
+    c.unlink.ensures.slots _ (HaveSlots-present c.self.inside.nodes.items c.self.inside.children c.args.number c.self.invariant.slots present)
 
 pub link-requires-clause-unlinked : goal.link-requires-clause-unlinked
 link-requires-clause-unlinked c =
@@ -51,4 +51,4 @@ invariant_of-self c =
     let node : Twig = record { point = c.unwrap-former.result.point; parent = c.args.parent } in
     AreLinked-replace c.self.inside.nodes.items c.args.number node c.link.new.self
     (c.link.ensures.lists _ _ may (ChangesOne-replace c.self.inside.nodes.items c.args.number node c.requires.child within))
-    (c.link.ensures.places _ (c.unlink.ensures.places _ c.self.invariant.places))
+    (c.link.ensures.slots _ (c.unlink.ensures.slots _ c.self.invariant.slots))

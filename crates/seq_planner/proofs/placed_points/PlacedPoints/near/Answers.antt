@@ -10,30 +10,30 @@ pub returns-then-radius-eq0 : goal.returns-then-radius-eq0
 returns-then-radius-eq0 c = λ points h free.
     c.clear.ensures.items ∙ sym (near-none points c.args.point free) ∙ ap (near points c.args.point) (sym c.if-radius-eq0.true)
 
-pub loop-place-preserved : goal.loop-place-preserved
-loop-place-preserved c = λ points h. (
+pub loop-index-preserved : goal.loop-index-preserved
+loop-index-preserved c = λ points h. (
     let placed = c.args.self.now in
-    let l = c.loop-place in
+    let l = c.loop-index in
     let same = c.deref-other-items.ensures.value in
-    let below : l.place < length placed.points.items = omega (arith, c.loop-place-test.true, ap length same) in
+    let below : l.index < length placed.points.items = omega (arith, c.loop-index-test.true, ap length same) in
     let origin : Point = record { x = 0; y = 0 } in
-    let here : c.squared_distance.result ≡ squared_distance (get_or placed.points.items l.place origin) c.args.point =
-    c.squared_distance.ensures.value ∙ ap (λ ps. squared_distance (get_or ps l.place origin) c.args.point) same in
+    let here : c.squared_distance.result ≡ squared_distance (get_or placed.points.items l.index origin) c.args.point =
+    c.squared_distance.ensures.value ∙ ap (λ ps. squared_distance (get_or ps l.index origin) c.args.point) same in
     let most : c.from.result * c.from-2.result ≡ c.args.radius * c.args.radius =
     ap (λ r. r * c.from-2.result) c.from.ensures ∙ ap (λ r. c.args.radius * r) c.from-2.ensures in
     elim c.if-squared_distance-most.branch [
       | then-squared_distance-most+in_ok-push w ↦ (
           rw w.found-is (w.in_ok-push.ensures.items ∙ ap (λ found. found ++ w.index.result.now ∷ []) (l.invariant points h)
-          ∙ sym (near_more_inside points placed c.args.point c.args.radius l.place w.index.result.now origin h below w.index.ensures
+          ∙ sym (near_more_inside points placed c.args.point c.args.radius l.index w.index.result.now origin h below w.index.ensures
           (omega (arith, w.if-squared_distance-most.true, here, most)))))
       | else-squared_distance-most w ↦ (
           rw w.found-is (l.invariant points h
-          ∙ sym (near_more_outside points placed c.args.point c.args.radius l.place origin h below
+          ∙ sym (near_more_outside points placed c.args.point c.args.radius l.index origin h below
           (omega (arith, w.if-squared_distance-most.false, here, most)))))
     ])
 
 pub returns : goal.returns
 returns c = λ points h free.
-    c.loop-place.invariant points h
-    ∙ near-all points c.args.self.now c.args.point c.args.radius c.loop-place.place h
-    (omega (arith, c.loop-place-test.false, ap length c.deref-other-items.ensures.value))
+    c.loop-index.invariant points h
+    ∙ near-all points c.args.self.now c.args.point c.args.radius c.loop-index.index h
+    (omega (arith, c.loop-index-test.false, ap length c.deref-other-items.ensures.value))

@@ -1,6 +1,6 @@
-use Rattle.seq_planner.proofs.ScannedLists.{IsNearestPlace}
+use Rattle.seq_planner.proofs.ScannedLists.{IsNearestIndex}
 use Rattle.seq_planner.proofs.placed_points.PlacedPoints.nearest.Given as goal
 
--- the best so far is the place of the nearest of the earlier points
-abbrev pub invariant-loop-place : goal.invariant-loop-place
-invariant-loop-place l = IsNearestPlace l.self.points.items l.mark l.place l.best l.least
+-- the best so far is the index of the nearest of the earlier points
+abbrev pub invariant-loop-index : goal.invariant-loop-index
+invariant-loop-index l = IsNearestIndex l.self.points.items l.mark l.index l.best l.least
