@@ -2,7 +2,6 @@
 
 ghost use Rattle.std.specs.Prelude.{◌≡◌, ◌≤◌, length, IfOk, IsTrue};
 ghost use Rattle.plan_model.specs.declared.limits.TheConstants.{MOST_GAMMA};
-ghost use Rattle.plan_model.specs.declared.scenes.Marks.TheVariants.{Listed};
 ghost use Rattle.plan_model.specs.Clearance.{ClearAt};
 ghost use Rattle.plan_model.specs.ConfigurationSpace.{space_of};
 ghost use Rattle.plan_model.specs.Limits.{is_plan};
@@ -51,14 +50,14 @@ pub fn textbook<C: Clearing>(alloc: Global, task: Task, hall: &C) -> Result<Grow
 #[cfg(test)]
 mod tests {
     use super::*;
-    use plan_model::{Goal, Knot, Outcome, Point, Record, SmallScene};
+    use plan_model::{Goal, Knot, Marks, Outcome, Point, Record, SmallScene};
     use std::process::Abort;
     use swept_check::Hall;
 
     /// The task of these marks in a room of 100 by 100, from its lower left corner by steps of 50.
     fn small_task(alloc: Global, gamma: u32, marks: &[Point]) -> Result<Task, Memory>
         requires gamma { gamma ≤ MOST_GAMMA }
-        requires marks { IsTrue (is_plan (Listed marks.now)) }
+        requires marks { IsTrue (is_plan (Marks.Listed marks.now)) }
         ensures { IfOk result (λ task. ClearAt (space_of task.scene) task.scene.start) }
     {
         SmallScene {
@@ -79,7 +78,7 @@ mod tests {
     /// The textbook run over these marks in that room.
     fn small_run(alloc: Global, gamma: u32, marks: &[Point]) -> Result<Grown, Memory>
         requires gamma { gamma ≤ MOST_GAMMA }
-        requires marks { IsTrue (is_plan (Listed marks.now)) }
+        requires marks { IsTrue (is_plan (Marks.Listed marks.now)) }
     {
         let task = small_task(alloc, gamma, marks)?;
         let hall = Hall::new(alloc, &task.scene)?;
