@@ -16,7 +16,7 @@ use crate::key_words::{
     FORMAT_NAME, FORMAT_VERSION, fits_words, is_supported, key_of, most_corners, most_lines,
     rival_of,
 };
-use crate::line_words::{are_numbers, count_words, next_word};
+use crate::line_words::{WordCount, count_words, next_word};
 use crate::refusals::LineRefusal;
 use plan_model::{Goal, Key, Kind, Marks, Point, Points, Poly, Polys, Scene, Vertex};
 use std::alloc::{AllocError, Global};
@@ -149,7 +149,7 @@ impl Draft {
         ensures refused { IfErr result (λ kind.
             first_failing (checks_of supported (given_by_draft self.now) key (words_of words.now)) ≡ Some kind) }
     {
-        let count = count_words(words);
+        let WordCount { count, are_numbers } = count_words(words);
         if !is_supported(key) {
             return Err(Kind::Unbuilt);
         }
@@ -162,7 +162,7 @@ impl Draft {
         if self.is_too_many(key, count) {
             return Err(Kind::Many);
         }
-        if !are_numbers(words) {
+        if !are_numbers {
             return Err(Kind::Number);
         }
         Ok(())

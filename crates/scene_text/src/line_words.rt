@@ -58,29 +58,26 @@ pub(crate) fn next_word(line: &[u8]) -> Option<(&[u8], &[u8])>
     Some(words.split_at(count_before(words, BLANK)))
 }
 
-/// How many words a line has.
-pub(crate) fn count_words(line: &[u8]) -> usize
-    ensures { result ≡ length (words_of line.now) }
-{
-    let mut count = 0;
-    let mut rest = line;
-    while let Some((_, after)) = next_word(rest) {
-        count += 1;
-        rest = after;
-    }
-    count
+/// The words of a line, counted and tested.
+pub(crate) struct WordCount {
+    /// How many words there are.
+    pub(crate) count: usize,
+    /// Whether each of them is a number.
+    pub(crate) are_numbers: bool,
 }
 
-/// Whether each word of a line is a number.
-pub(crate) fn are_numbers(line: &[u8]) -> bool
-    ensures { result ≡ list_all is_number (words_of line.now) }
+/// How many words a line has, and whether each of them is a number.
+pub(crate) fn count_words(line: &[u8]) -> WordCount
+    ensures count { result.count ≡ length (words_of line.now) }
+    ensures numbers { result.are_numbers ≡ list_all is_number (words_of line.now) }
 {
+    let mut count = 0;
+    let mut are_numbers = true;
     let mut rest = line;
     while let Some((word, after)) = next_word(rest) {
-        if !is_number(word) {
-            return false;
-        }
+        count += 1;
+        are_numbers = are_numbers && is_number(word);
         rest = after;
     }
-    true
+    WordCount { count, are_numbers }
 }
