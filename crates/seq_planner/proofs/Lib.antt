@@ -14,8 +14,10 @@ pub mod RecordFacts
 pub mod SoundTrees
 pub mod ReadCosts
 pub mod MarkExtensions
+pub mod ReadSteering
 pub mod NewLeaves
 pub mod RewiredNodes
+pub mod ReadCheaperNodes
 pub mod RewiredLists
 pub mod PutNodes
 pub mod RunsSoFar

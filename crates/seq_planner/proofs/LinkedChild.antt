@@ -24,8 +24,8 @@ record PutsInFront (old new : ChildLists) (parent child : ℕ) : Type 0 where
   pub slots : (n : ℕ) → HaveSlots n old → HaveSlots n new
 
 module _
-    (up after : ℕ → Option ℕ) (old new : ChildLists) (parent child : ℕ) (may : MayBecomeChild up old parent child) (changes : ChangesOne up after child (Some parent))
-    (puts : PutsInFront old new parent child) where
+    (up after : ℕ → Option ℕ) (old new : ChildLists) (parent child : ℕ) (may : MayBecomeChild up old parent child)
+    (changes : ChangesOne up after child (Some parent)) (puts : PutsInFront old new parent child) where
   -- the child was nobody's
   nobody : (f : ℕ) → up child ≢ Some f
   nobody f h = let e = may.unlinked in cc
@@ -171,8 +171,8 @@ PutsBehind-none old parent child none child_slot = record {
 }
 
 module _
-    (up after : ℕ → Option ℕ) (old : ChildLists) (parent child : ℕ) (may : MayBecomeChild up old parent child) (changes : ChangesOne up after child (Some parent))
-    (parent_slot : HaveSlots (parent + 1) old) (child_slot : HaveSlots (child + 1) old) where
+    (up after : ℕ → Option ℕ) (old : ChildLists) (parent child : ℕ) (may : MayBecomeChild up old parent child)
+    (changes : ChangesOne up after child (Some parent)) (parent_slot : HaveSlots (parent + 1) old) (child_slot : HaveSlots (child + 1) old) where
   -- in front of another
   pub link-some :
       (s : ℕ) → get_or old.first.items parent None ≡ Some s

@@ -40,10 +40,7 @@ pub record Steers (scene : Scene) (tree : SearchTree) (mark : Point) (k nearest 
   pub begins : from ≡ point_of (points_of tree.nodes) nearest
   pub ends : point ≡ steered from mark scene.step
 
-module _ (scene : Scene) (tree : SearchTree) (mark : Point) (k nearest : ℕ) (from point : Point) (h : Steers scene tree mark k nearest from point) where
-  points : List (Option Point)
-  points = points_of tree.nodes
-
+module _ {scene : Scene} {tree : SearchTree} {mark : Point} {k nearest : ℕ} {from point : Point} (h : Steers scene tree mark k nearest from point) where
   reached : point ≡ steered (point_of (points_of tree.nodes) nearest) mark scene.step
   reached = h.ends ∙ ap (λ a. steered a mark scene.step) h.begins
 
@@ -95,17 +92,17 @@ unplaced scene tree mark extension entry ns none handles h =
       none_near = λ e. none;
     }
 
-module _ (scene : Scene) (tree : SearchTree) (mark : Point) (k nearest : ℕ) (from point : Point) (h : Steers scene tree mark k nearest from point) where
+module _ {scene : Scene} {tree : SearchTree} {mark : Point} {k nearest : ℕ} {from point : Point} (h : Steers scene tree mark k nearest from point) where
   -- the nearest node stands at the point already
   pub IsExtensionOf-same :
-      (extension : Extension) (ns : List ℕ) → ns ≡ [] → point ≡ from → IsUnplaced extension (same_record k nearest nearest)
+      {extension : Extension} {ns : List ℕ} → ns ≡ [] → point ≡ from → IsUnplaced extension (same_record k nearest nearest)
       → IsExtensionOf scene tree mark extension ns
-  IsExtensionOf-same extension ns none same own =
+  IsExtensionOf-same {extension = extension} {ns = ns} none same own =
       let P : ℕ → Type 0 = λ n. Handles (setup_of scene) tree.nodes n mark (same_record k nearest nearest) (tree.nodes ++ None ∷ []) in
       let ends : P k = record {
         point = point;
-        steers = steers_to scene tree mark k nearest from point h;
-        stands = nearest_stands scene tree mark k nearest from point h same;
+        steers = steers_to h;
+        stands = nearest_stands h same;
         recorded = refl;
         added = refl;
       } in
@@ -113,15 +110,15 @@ module _ (scene : Scene) (tree : SearchTree) (mark : Point) (k nearest : ℕ) (f
 
   -- the segment to the point is not clear
   pub IsExtensionOf-blocked :
-      (extension : Extension) (ns : List ℕ) → ns ≡ [] → point ≢ from → ¬ Clear (space_of scene) from point
+      {extension : Extension} {ns : List ℕ} → ns ≡ [] → point ≢ from → ¬ Clear (space_of scene) from point
       → IsUnplaced extension (blocked_record k nearest) → IsExtensionOf scene tree mark extension ns
-  IsExtensionOf-blocked extension ns none apart blocked own =
+  IsExtensionOf-blocked {extension = extension} {ns = ns} none apart blocked own =
       let P : ℕ → Type 0 = λ n. Handles (setup_of scene) tree.nodes n mark (blocked_record k nearest) (tree.nodes ++ None ∷ []) in
       let Q : Point → Type 0 = λ p. ¬ Clear (space_of scene) p point in
       let ends : P k = record {
         point = point;
-        steers = steers_to scene tree mark k nearest from point h;
-        free = is_free scene tree mark k nearest from point h apart;
+        steers = steers_to h;
+        free = is_free h apart;
         blocked = subst Q h.begins blocked;
         recorded = refl;
         added = refl;
@@ -142,8 +139,8 @@ pub record IsPlaced
   pub cost : extension.cost ≡ parent.cost
   pub entry : extension.entry ≡ placed_record k nearest parent.node parent.cost class
 
-module _ (scene : Scene) (tree : SearchTree) (mark : Point) (k nearest : ℕ) (from point : Point) (h : Steers scene tree mark k nearest from point)
-    (extension : Extension) (ns : List ℕ) (parent : Parent) (class : ℕ) (own : IsPlaced scene tree extension k nearest point ns parent class)
+module _ {scene : Scene} {tree : SearchTree} {mark : Point} {k nearest : ℕ} {from point : Point} (h : Steers scene tree mark k nearest from point)
+    {extension : Extension} {ns : List ℕ} (parent : Parent) (class : ℕ) (own : IsPlaced scene tree extension k nearest point ns parent class)
     (apart : point ≢ from) (clear : Clear (space_of scene) from point) where
   abbrev new_node : Twig
   new_node = record { point = point; parent = parent.node }
@@ -176,8 +173,8 @@ module _ (scene : Scene) (tree : SearchTree) (mark : Point) (k nearest : ℕ) (f
       placed_record k nearest parent.node (cost_through tree.nodes point parent.node) (class_of (node_count (points_of tree.nodes))) in
       let ends : EndsPlaced (setup_of scene) tree.nodes k mark entry after = record {
         point = point;
-        steers = steers_to scene tree mark k nearest from point h;
-        free = is_free scene tree mark k nearest from point h apart;
+        steers = steers_to h;
+        free = is_free h apart;
         clear = subst Q h.begins clear;
         parent = best_parent;
         recorded = refl;
@@ -196,9 +193,9 @@ module _ (scene : Scene) (tree : SearchTree) (mark : Point) (k nearest : ℕ) (f
 
   fits_new : Fits tree.nodes (Some new_node) extension.cost
   fits_new =
-      let in_room = IsInRoom-reached scene tree mark k nearest from point h clear in (
+      let in_room = IsInRoom-reached h clear in (
         is_present,
-        is_free scene tree mark k nearest from point h apart,
+        is_free h apart,
         IsBounded-in_room scene point in_room,
         own.cost ∙ own.best.cost,
         omega (arith, own.cost, own.best.cost, own.bound parent.node is_present),

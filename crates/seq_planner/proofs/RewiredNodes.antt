@@ -67,7 +67,7 @@ pub record IsCheaper (nodes : Nodes) (costs : List ℕ) (placed : PlacedPoints) 
   pub kept_is : sum_of nodes i ≡ kept
   pub less : through < kept
 
-module _ (nodes : Nodes) (costs : List ℕ) (placed : PlacedPoints) (n i through kept : ℕ) (h : IsCheaper nodes costs placed n i through kept) where
+module _ {nodes : Nodes} {costs : List ℕ} {placed : PlacedPoints} {n i through kept : ℕ} (h : IsCheaper nodes costs placed n i through kept) where
   -- it is not the start
   pub child-cheaper : 0 < i
   child-cheaper =
@@ -78,8 +78,8 @@ module _ (nodes : Nodes) (costs : List ℕ) (placed : PlacedPoints) (n i through
       ]
 
   -- the change of its parent
-  pub HasCheaperParent-cheaper : (after : Nodes) → after ≡ with_parent nodes i n → HasCheaperParent (λ m. get_or costs m 0) nodes i n (kept - through) after
-  HasCheaperParent-cheaper after e = record {
+  pub HasCheaperParent-cheaper : {after : Nodes} → after ≡ with_parent nodes i n → HasCheaperParent (λ m. get_or costs m 0) nodes i n (kept - through) after
+  HasCheaperParent-cheaper e = record {
     present = h.present;
     parent = h.parent;
     some = omega (arith, h.less);

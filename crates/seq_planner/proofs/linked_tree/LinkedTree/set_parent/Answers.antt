@@ -46,8 +46,8 @@ invariant_of-self c =
     let last : (n : ℕ) → is_child_of c.self.inside.nodes.items c.args.parent n ≡ true → n < c.args.number =
     subst (λ tree. (n : ℕ) → is_child_of tree c.args.parent n ≡ true → n < c.args.number) (sym c.self.view_is) c.requires.last in
     let may =
-    MayBecomeChild-unlinked c.self.inside.nodes.items c.self.inside.children c.unlink.new.self c.args.number c.args.parent c.unwrap-former.result c.requires.child here
-    c.self.invariant.children c.unlink.ensures.lists last in
+    MayBecomeChild-unlinked c.self.inside.nodes.items c.self.inside.children c.unlink.new.self c.args.number c.args.parent
+    c.unwrap-former.result c.requires.child here c.self.invariant.children c.unlink.ensures.lists last in
     let node : Twig = record { point = c.unwrap-former.result.point; parent = c.args.parent } in
     AreLinked-replace c.self.inside.nodes.items c.args.number node c.link.new.self
     (c.link.ensures.lists _ _ may (ChangesOne-replace c.self.inside.nodes.items c.args.number node c.requires.child within))

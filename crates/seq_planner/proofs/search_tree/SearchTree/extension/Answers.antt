@@ -2,7 +2,6 @@ use Rattle.std.proofs.Common.{◌≡◌, ℕ, List, ◌∷◌, true, arith, rule
 use Rattle.std.specs.Prelude.{All}
 use Rattle.plan_model.specs.declared.geometry.Point.{Point}
 use Rattle.plan_model.specs.ConfigurationSpace.{ConfigurationSpace, space_of}
-use Rattle.plan_model.specs.Bounds.{IsBounded}
 use Rattle.plan_model.specs.Clearance.{Clear}
 use Rattle.edge_cost.specs.LeastParents.{IsLeastParent}
 use Rattle.plan_model.specs.Nearness.{near}
@@ -15,8 +14,9 @@ use Rattle.plan_model.proofs.DistinctPoints.{near-present}
 use Rattle.plan_model.proofs.SamePoints.{same_point-true, same_point-false}
 use Rattle.seq_planner.proofs.PresentNumbers.{ArePlaced-bounded}
 use Rattle.seq_planner.proofs.ReadCosts.{through-bound}
-use Rattle.seq_planner.proofs.SoundTrees.{IsBounded-present, some_present}
-use Rattle.seq_planner.proofs.MarkExtensions.{Steers, is_free, IsExtensionOf-same, IsExtensionOf-blocked, IsExtensionOf-placed}
+use Rattle.seq_planner.proofs.SoundTrees.{some_present}
+use Rattle.seq_planner.proofs.ReadSteering.{Steers-read, IsBounded-steered}
+use Rattle.seq_planner.proofs.MarkExtensions.{is_free, IsExtensionOf-same, IsExtensionOf-blocked, IsExtensionOf-placed}
 use Rattle.seq_planner.proofs.search_tree.SearchTree.extension.Goals as goal
 
 pub nearest-nearest-requires-clause-nodes : goal.nearest-nearest-requires-clause-nodes
@@ -25,33 +25,18 @@ nearest-nearest-requires-clause-nodes g c =
 
 pub returns-then-eq : goal.returns-then-eq
 returns-then-eq g c =
-    let tree = c.args.self.now in
-    let nearest = c.nearest-nearest.result in
-    let steers : Steers c.args.scene.now tree c.args.mark c.len-turn.result nearest c.point-from.result c.steer-point.result = record {
-      turn = search (rules, c.len-turn.ensures);
-      numbers = c.requires.turn;
-      is_nearest = c.nearest-nearest.ensures (points_of tree.nodes) c.requires.sound.are_placed;
-      begins = c.point-from.ensures;
-      ends = c.steer-point.ensures.value;
-    } in
-    IsExtensionOf-same c.args.scene.now tree c.args.mark c.len-turn.result nearest c.point-from.result c.steer-point.result steers
-    c.same.result c.clear.new.self.items c.clear.ensures.items
-    (same_point-true c.steer-point.result c.point-from.result (sym c.eq.ensures ∙ c.if-eq.true))
+    let steers =
+    Steers-read c.args.scene.now c.args.self.now c.args.mark c.len-turn.result c.requires.sound (search (rules, c.len-turn.ensures))
+    c.requires.turn c.nearest-nearest.ensures c.point-from.ensures c.steer-point.ensures.value in
+    IsExtensionOf-same steers c.clear.ensures.items (same_point-true c.steer-point.result c.point-from.result (sym c.eq.ensures ∙ c.if-eq.true))
     (record { node = c.same.ensures.node; cost = c.same.ensures.cost; recorded = c.same.ensures.entry })
 
 pub returns-then-not-clear : goal.returns-then-not-clear
 returns-then-not-clear g c =
-    let tree = c.args.self.now in
-    let nearest = c.nearest-nearest.result in
-    let steers : Steers c.args.scene.now tree c.args.mark c.len-turn.result nearest c.point-from.result c.steer-point.result = record {
-      turn = search (rules, c.len-turn.ensures);
-      numbers = c.requires.turn;
-      is_nearest = c.nearest-nearest.ensures (points_of tree.nodes) c.requires.sound.are_placed;
-      begins = c.point-from.ensures;
-      ends = c.steer-point.ensures.value;
-    } in
-    IsExtensionOf-blocked c.args.scene.now tree c.args.mark c.len-turn.result nearest c.point-from.result c.steer-point.result steers
-    c.blocked.result c.clear.new.self.items c.clear.ensures.items
+    let steers =
+    Steers-read c.args.scene.now c.args.self.now c.args.mark c.len-turn.result c.requires.sound (search (rules, c.len-turn.ensures))
+    c.requires.turn c.nearest-nearest.ensures c.point-from.ensures c.steer-point.ensures.value in
+    IsExtensionOf-blocked steers c.clear.ensures.items
     (same_point-false c.steer-point.result c.point-from.result (sym c.eq.ensures ∙ c.if-eq.false))
     (λ clear. (
     let yes : c.clear-2.result ≡ true =
@@ -65,25 +50,17 @@ near-requires-clause-nodes g c =
 
 pub near-requires-clause-bounded : goal.near-requires-clause-bounded
 near-requires-clause-bounded g c =
-    let tree = c.args.self.now in
-    let nearest = c.nearest-nearest.ensures (points_of tree.nodes) c.requires.sound.are_placed in
-    let from = IsBounded-present tree.nodes tree.costs.items tree.placed c.nearest-nearest.result c.point-from.result c.requires.sound nearest.member
-    c.point-from.ensures in
-    record {
-      right = omega (arith, c.steer-point.ensures.right, from.right, c.requires.bounded.right);
-      top = omega (arith, c.steer-point.ensures.top, from.top, c.requires.bounded.top);
-    }
+    let steers =
+    Steers-read c.args.scene.now c.args.self.now c.args.mark c.len-turn.result c.requires.sound (search (rules, c.len-turn.ensures))
+    c.requires.turn c.nearest-nearest.ensures c.point-from.ensures c.steer-point.ensures.value in
+    IsBounded-steered steers c.requires.sound c.requires.bounded c.steer-point.ensures.right c.steer-point.ensures.top
 
 pub choose-parent-requires-clause-bounded : goal.choose-parent-requires-clause-bounded
 choose-parent-requires-clause-bounded g c κs within =
-    let tree = c.args.self.now in
-    let nearest = c.nearest-nearest.ensures (points_of tree.nodes) c.requires.sound.are_placed in
-    let from = IsBounded-present tree.nodes tree.costs.items tree.placed c.nearest-nearest.result c.point-from.result c.requires.sound nearest.member
-    c.point-from.ensures in
-    record {
-      right = omega (arith, c.steer-point.ensures.right, from.right, c.requires.bounded.right);
-      top = omega (arith, c.steer-point.ensures.top, from.top, c.requires.bounded.top);
-    }
+    let steers =
+    Steers-read c.args.scene.now c.args.self.now c.args.mark c.len-turn.result c.requires.sound (search (rules, c.len-turn.ensures))
+    c.requires.turn c.nearest-nearest.ensures c.point-from.ensures c.steer-point.ensures.value in
+    IsBounded-steered steers c.requires.sound c.requires.bounded c.steer-point.ensures.right c.steer-point.ensures.top
 
 pub choose-parent-requires-clause-clear : goal.choose-parent-requires-clause-clear
 choose-parent-requires-clause-clear g c κs within =
@@ -92,17 +69,11 @@ choose-parent-requires-clause-clear g c κs within =
 
 pub choose-parent-requires-clause-near : goal.choose-parent-requires-clause-near
 choose-parent-requires-clause-near g c κs within =
-    let tree = c.args.self.now in
-    let points = points_of tree.nodes in
-    let steers : Steers c.args.scene.now tree c.args.mark c.len-turn.result c.nearest-nearest.result c.point-from.result c.steer-point.result = record {
-      turn = search (rules, c.len-turn.ensures);
-      numbers = c.requires.turn;
-      is_nearest = c.nearest-nearest.ensures points c.requires.sound.are_placed;
-      begins = c.point-from.ensures;
-      ends = c.steer-point.ensures.value;
-    } in
-    let free = is_free c.args.scene.now tree c.args.mark c.len-turn.result c.nearest-nearest.result c.point-from.result c.steer-point.result steers
-    (same_point-false c.steer-point.result c.point-from.result (sym c.eq.ensures ∙ c.if-eq.false)) in
+    let points = points_of c.args.self.now.nodes in
+    let steers =
+    Steers-read c.args.scene.now c.args.self.now c.args.mark c.len-turn.result c.requires.sound (search (rules, c.len-turn.ensures))
+    c.requires.turn c.nearest-nearest.ensures c.point-from.ensures c.steer-point.ensures.value in
+    let free = is_free steers (same_point-false c.steer-point.result c.point-from.result (sym c.eq.ensures ∙ c.if-eq.false)) in
     let found : c.deref.result.now ≡ near points c.steer-point.result c.at.result =
     c.deref.ensures.value ∙ c.in_ok-near.ensures points c.requires.sound.are_placed free in
     subst (All (IsPresent points)) (sym found) (near-present points c.steer-point.result c.at.result)
@@ -121,15 +92,11 @@ returns g c =
     let tree = c.args.self.now in
     let scene = c.args.scene.now in
     let points = points_of tree.nodes in
-    let steers : Steers scene tree c.args.mark c.len-turn.result c.nearest-nearest.result c.point-from.result c.steer-point.result = record {
-      turn = search (rules, c.len-turn.ensures);
-      numbers = c.requires.turn;
-      is_nearest = c.nearest-nearest.ensures points c.requires.sound.are_placed;
-      begins = c.point-from.ensures;
-      ends = c.steer-point.ensures.value;
-    } in
+    let steers =
+    Steers-read c.args.scene.now c.args.self.now c.args.mark c.len-turn.result c.requires.sound (search (rules, c.len-turn.ensures))
+    c.requires.turn c.nearest-nearest.ensures c.point-from.ensures c.steer-point.ensures.value in
     let apart = same_point-false c.steer-point.result c.point-from.result (sym c.eq.ensures ∙ c.if-eq.false) in
-    let free = is_free scene tree c.args.mark c.len-turn.result c.nearest-nearest.result c.point-from.result c.steer-point.result steers apart in
+    let free = is_free steers apart in
     let count : c.count-present.result ≡ node_count points = c.count-present.ensures points c.requires.sound.are_placed in
     let radius : c.at.result ≡ radius_of scene.step scene.gamma (node_count points) =
     c.at.ensures ∙ ap (λ s. radius_of s c.args.radii.now.gamma c.count-present.result) c.requires.step
@@ -142,14 +109,8 @@ returns g c =
     let best : S (space_of scene) c.near.new.found.items =
     subst (λ (space : ConfigurationSpace). S space c.near.new.found.items) c.requires.hall
     (subst (S (g.C.Clearing.space c.args.hall.now)) c.deref.ensures.value c.choose-parent.ensures) in
-    let from = IsBounded-present tree.nodes tree.costs.items tree.placed c.nearest-nearest.result c.point-from.result c.requires.sound
-    steers.is_nearest.member c.point-from.ensures in
-    let bounded : IsBounded c.steer-point.result = record {
-      right = omega (arith, c.steer-point.ensures.right, from.right, c.requires.bounded.right);
-      top = omega (arith, c.steer-point.ensures.top, from.top, c.requires.bounded.top);
-    } in
-    IsExtensionOf-placed scene tree c.args.mark c.len-turn.result c.nearest-nearest.result c.point-from.result c.steer-point.result steers
-    c.placed.result c.near.new.found.items c.choose-parent.result c.class.result
+    let bounded = IsBounded-steered steers c.requires.sound c.requires.bounded c.steer-point.ensures.right c.steer-point.ensures.top in
+    IsExtensionOf-placed steers c.choose-parent.result c.class.result
     (record {
       are_near = are_near;
       best = best;
