@@ -125,19 +125,15 @@ mod tests {
         Ok(placed)
     }
 
-    /// Fills a list with the nodes at most `radius` away from a point between them, and asserts that it has these.
-    fn assert_near(
-        rt: &impl Abort,
-        placed: &PlacedPoints,
-        radius: u32,
-        found: &mut Vec<u32>,
-        want: &[u32],
-    ) -> Result<(), Memory>
-        requires numbered { length placed.now.numbers.items ≡ length placed.now.points.items }
-        requires nodes { All IsBounded placed.now.points.items }
-    {
-        placed.near(Point { x: 10, y: 10 }, radius, found)?;
-        assert!(rt; found.as_slice() == want);
+    /// Asserts which of those nodes are at most a radius away from a point between them, each time whatever the list had.
+    fn assert_near(rt: &impl Abort, alloc: Global, cases: &[(u32, &[u32])]) -> Result<(), Memory> {
+        let placed = four_points(alloc)?;
+        let mut found = Vec::new(alloc);
+        found.push(7)?;
+        for (radius, want) in cases {
+            placed.near(Point { x: 10, y: 10 }, *radius, &mut found)?;
+            assert!(rt; found.as_slice() == *want, "radius {radius}");
+        }
         Ok(())
     }
 
@@ -155,20 +151,15 @@ mod tests {
 
     #[test]
     fn nodes_at_the_radius_exactly_are_near(rt: HostRuntime) -> Result<(), Memory> {
-        let placed = four_points(rt.alloc())?;
-        let mut found = Vec::new(rt.alloc());
-        assert_near(&rt, &placed, 15, &mut found, &[0, 1, 3, 4])?;
-        assert_near(&rt, &placed, 10, &mut found, &[1, 3, 4])?;
-        assert_near(&rt, &placed, 9, &mut found, &[])?;
-        Ok(())
+        assert_near(
+            &rt,
+            rt.alloc(),
+            &[(15, &[0, 1, 3, 4]), (10, &[1, 3, 4]), (9, &[])],
+        )
     }
 
     #[test]
     fn no_node_is_near_within_radius_0(rt: HostRuntime) -> Result<(), Memory> {
-        let placed = four_points(rt.alloc())?;
-        let mut found = Vec::new(rt.alloc());
-        found.push(7)?;
-        assert_near(&rt, &placed, 0, &mut found, &[])?;
-        Ok(())
+        assert_near(&rt, rt.alloc(), &[(0, &[])])
     }
 }

@@ -50,17 +50,22 @@ pub fn textbook<C: Clearing>(alloc: Global, task: Task, hall: &C) -> Result<Grow
 #[cfg(test)]
 mod tests {
     use super::*;
-    use plan_model::{Goal, Knot, Marks, Outcome, Point, Record, SmallScene};
+    use plan_model::{Goal, Marks, Outcome, Point, SmallScene};
     use std::process::Abort;
     use swept_check::Hall;
 
-    /// The task of these marks in a room of 100 by 100, from its lower left corner by steps of 50.
-    fn small_task(alloc: Global, gamma: u32, marks: &[Point]) -> Result<Task, Memory>
+    /// Where a node stands, its parent and its kept cost.
+    type Node = (u32, u32, u32, u64);
+
+    /// What a record of worker 0 has: turn, nearest node, outcome, first parent, first cost and class.
+    type Entry = (u32, u32, Outcome, u32, u64, u32);
+
+    /// The textbook run over these marks in a room of 100 by 100, from its lower left corner by steps of 50.
+    fn small_run(alloc: Global, gamma: u32, marks: &[Point]) -> Result<Grown, Memory>
         requires gamma { gamma ≤ MOST_GAMMA }
         requires marks { IsTrue (is_plan (Marks.Listed marks.now)) }
-        ensures { IfOk result (λ task. ClearAt (space_of task.scene) task.scene.start) }
     {
-        SmallScene {
+        let task = SmallScene {
             room: Point { x: 100, y: 100 },
             start: Point { x: 0, y: 0 },
             goal: Goal {
@@ -72,84 +77,64 @@ mod tests {
             seed: 0,
             strips: 1,
         }
-        .task(alloc, marks)
-    }
-
-    /// The textbook run over these marks in that room.
-    fn small_run(alloc: Global, gamma: u32, marks: &[Point]) -> Result<Grown, Memory>
-        requires gamma { gamma ≤ MOST_GAMMA }
-        requires marks { IsTrue (is_plan (Marks.Listed marks.now)) }
-    {
-        let task = small_task(alloc, gamma, marks)?;
+        .task(alloc, marks)?;
         let hall = Hall::new(alloc, &task.scene)?;
         textbook(alloc, task, &hall)
     }
 
-    fn placed(turn: u32, nearest: u32, first_parent: u32, first_cost: u64, class: u32) -> Record {
-        Record {
-            worker: 0,
-            turn,
-            nearest,
-            outcome: Outcome::Placed,
-            first_parent,
-            first_cost,
-            class,
-        }
-    }
-
-    fn unplaced(turn: u32, nearest: u32, outcome: Outcome) -> Record {
-        Record {
-            worker: 0,
-            turn,
-            nearest,
-            outcome,
-            first_parent: 0,
-            first_cost: 0,
-            class: 0,
-        }
-    }
-
-    fn node(x: u32, y: u32, parent: u32, cost: u64) -> Option<Knot> {
-        Some(Knot {
-            point: Point { x, y },
-            parent,
-            cost,
-        })
-    }
-
-    /// A node of a run with its kept cost, as the readers of the run give it.
-    fn knot_of(grown: &Grown, number: u32) -> Option<Knot> {
+    /// A node of a run; `None` if it is absent.
+    fn node_of(grown: &Grown, number: u32) -> Option<Node> {
         let point = grown.point(number)?;
-        Some(Knot {
-            point,
-            parent: grown.parent(number),
-            cost: grown.cost(number),
-        })
+        Some((point.x, point.y, grown.parent(number), grown.cost(number)))
     }
 
-    /// Asserts all nodes of a run, by number; `None` if one is absent.
-    fn assert_nodes(rt: &impl Abort, grown: &Grown, wants: &[Option<Knot>]) {
+    /// Asserts all nodes of a run, by number.
+    fn assert_nodes(rt: &impl Abort, grown: &Grown, wants: &[Option<Node>]) {
         assert!(rt; wants.len() == grown.limit() as usize + 1);
         for (number, want) in (0..).zip(wants) {
-            assert_eq!(rt; knot_of(grown, number), *want, "node {number}");
+            assert_eq!(rt; node_of(grown, number), *want, "node {number}");
         }
     }
 
     /// Asserts the records of all marks of a run, by number.
-    fn assert_records(rt: &impl Abort, grown: &Grown, wants: &[Record]) {
+    fn assert_records(rt: &impl Abort, grown: &Grown, wants: &[Entry]) {
         assert!(rt; wants.len() == grown.limit() as usize);
         for (mark, want) in (0..).zip(wants) {
             assert!(rt; mark < grown.limit());
-            assert_eq!(rt; grown.record_of(mark), *want, "mark {mark}");
+            let found = grown.record_of(mark);
+            let seen = (
+                found.turn,
+                found.nearest,
+                found.outcome,
+                found.first_parent,
+                found.first_cost,
+                found.class,
+            );
+            assert!(rt; found.worker == 0 && seen == *want, "mark {mark}");
         }
+    }
+
+    /// Asserts all nodes and all records of the textbook run over these marks.
+    fn assert_run(
+        rt: &impl Abort,
+        alloc: Global,
+        gamma: u32,
+        marks: &[Point],
+        nodes: &[Option<Node>],
+        records: &[Entry],
+    ) -> Result<(), Memory>
+        requires gamma { gamma ≤ MOST_GAMMA }
+        requires marks { IsTrue (is_plan (Marks.Listed marks.now)) }
+    {
+        let grown = small_run(alloc, gamma, marks)?;
+        assert_nodes(rt, &grown, nodes);
+        assert_records(rt, &grown, records);
+        Ok(())
     }
 
     #[test]
     fn leaves_the_start_alone_without_marks(rt: HostRuntime) -> Result<(), Memory> {
-        let grown = small_run(rt.alloc(), 0, &[])?;
-        assert_nodes(&rt, &grown, &[node(0, 0, 0, 0)]);
-        assert_records(&rt, &grown, &[]);
-        Ok(())
+        assert_run(&rt, rt.alloc(), 0, &[], &[Some((0, 0, 0, 0))], &[])
     }
 
     #[test]
@@ -162,25 +147,22 @@ mod tests {
             Point { x: 60, y: 80 },
             Point { x: 150, y: 80 },
         ];
-        let grown = small_run(rt.alloc(), 0, &marks)?;
         let nodes = [
-            node(0, 0, 0, 0),
-            node(30, 40, 0, 12_800),
-            node(70, 70, 1, 25_600),
-            node(60, 80, 2, 29_221),
+            Some((0, 0, 0, 0)),
+            Some((30, 40, 0, 12_800)),
+            Some((70, 70, 1, 25_600)),
+            Some((60, 80, 2, 29_221)),
             None,
             None,
         ];
-        assert_nodes(&rt, &grown, &nodes);
         let records = [
-            placed(0, 0, 0, 12_800, 1),
-            placed(1, 1, 1, 25_600, 2),
-            placed(2, 2, 2, 29_221, 2),
-            unplaced(3, 3, Outcome::Same(3)),
-            unplaced(4, 2, Outcome::Blocked),
+            (0, 0, Outcome::Placed, 0, 12_800, 1),
+            (1, 1, Outcome::Placed, 1, 25_600, 2),
+            (2, 2, Outcome::Placed, 2, 29_221, 2),
+            (3, 3, Outcome::Same(3), 0, 0, 0),
+            (4, 2, Outcome::Blocked, 0, 0, 0),
         ];
-        assert_records(&rt, &grown, &records);
-        Ok(())
+        assert_run(&rt, rt.alloc(), 0, &marks, &nodes, &records)
     }
 
     // The fourth mark gives the second node a cheaper way, which its child gets too: the fifth node costs less by as much.
@@ -193,24 +175,21 @@ mod tests {
             Point { x: 40, y: 30 },
             Point { x: 100, y: 79 },
         ];
-        let grown = small_run(rt.alloc(), 1000, &marks)?;
         let nodes = [
-            node(0, 0, 0, 0),
-            node(0, 50, 0, 12_800),
-            node(40, 79, 4, 25_344),
-            node(60, 79, 2, 30_464),
-            node(40, 30, 0, 12_800),
-            node(100, 79, 3, 40_704),
+            Some((0, 0, 0, 0)),
+            Some((0, 50, 0, 12_800)),
+            Some((40, 79, 4, 25_344)),
+            Some((60, 79, 2, 30_464)),
+            Some((40, 30, 0, 12_800)),
+            Some((100, 79, 3, 40_704)),
         ];
-        assert_nodes(&rt, &grown, &nodes);
         let records = [
-            placed(0, 0, 0, 12_800, 1),
-            placed(1, 1, 1, 25_449, 2),
-            placed(2, 2, 2, 30_569, 2),
-            placed(3, 1, 0, 12_800, 3),
-            placed(4, 3, 3, 40_704, 3),
+            (0, 0, Outcome::Placed, 0, 12_800, 1),
+            (1, 1, Outcome::Placed, 1, 25_449, 2),
+            (2, 2, Outcome::Placed, 2, 30_569, 2),
+            (3, 1, Outcome::Placed, 0, 12_800, 3),
+            (4, 3, Outcome::Placed, 3, 40_704, 3),
         ];
-        assert_records(&rt, &grown, &records);
-        Ok(())
+        assert_run(&rt, rt.alloc(), 1000, &marks, &nodes, &records)
     }
 }

@@ -1,41 +1,18 @@
 //! Runs by one worker and by several, and what their gates are told.
 
-ghost use Rattle.std.specs.Prelude.{◌≡◌, ◌≤◌, IfOk, IsTrue};
-ghost use Rattle.plan_model.specs.Clearance.{ClearAt};
-ghost use Rattle.plan_model.specs.ConfigurationSpace.{space_of};
-ghost use Rattle.plan_model.specs.Limits.{is_plan};
+ghost use Rattle.std.specs.Prelude.{◌≡◌, ◌≤◌, IfOk};
 ghost use Rattle.plan_model.specs.declared.limits.TheConstants.{MOST_WORKERS};
 
 use super::*;
 use crate::gates::NoGate;
-use plan_model::{Goal, Knot, MOST_WORKERS, Marks, Outcome, Point, Record, SmallScene, Task};
+use crate::test_runs::{Entry, entry_of, node_of, small_task};
+use plan_model::{MOST_WORKERS, Outcome, Point};
+use std::process::Abort;
 use std::sync::atomic::{AtomicBool, AtomicU32, Ordering};
-use std::test::Fail;
 use std::thread;
 use swept_check::Hall;
 
 // ---- runs
-
-/// The task of these marks for a point body in an empty room of 100 by 100, from its lower left corner by steps of 50.
-fn small_task(alloc: Global, marks: &[Point]) -> Result<Task, Memory>
-    requires { IsTrue (is_plan (Marks.Listed marks.now)) }
-    ensures clear { IfOk result (λ task. ClearAt (space_of task.scene) task.scene.start) }
-    ensures marks { IfOk result (λ task. task.marks ≡ marks.now) }
-{
-    SmallScene {
-        room: Point { x: 100, y: 100 },
-        start: Point { x: 0, y: 0 },
-        goal: Goal {
-            low: Point { x: 90, y: 90 },
-            high: Point { x: 99, y: 99 },
-        },
-        step: 50,
-        gamma: 1000,
-        seed: 0,
-        strips: 1,
-    }
-    .task(alloc, marks)
-}
 
 /// The run of three marks by so many workers, up to a limit. The node of the third mark gives that of the second a cheaper way.
 fn small_run<R: Threads + Sync + Wait, G: Gate>(
@@ -58,16 +35,6 @@ fn small_run<R: Threads + Sync + Wait, G: Gate>(
     let grown = Grown::new(alloc, small_task(alloc, &marks)?)?;
     let hall = Hall::new(alloc, &grown.task().scene)?;
     grow(rt, alloc, grown, &hall, workers, limit, gate)
-}
-
-/// A node of a run with its kept cost.
-fn knot_of(grown: &Grown, number: u32) -> Option<Knot> {
-    let point = grown.point(number)?;
-    Some(Knot {
-        point,
-        parent: grown.parent(number),
-        cost: grown.cost(number),
-    })
 }
 
 /// How many marks below this one a worker has handled.
@@ -116,58 +83,62 @@ fn adds_up(grown: &Grown) -> bool {
     u64::from(placed) + others == u64::from(grown.limit()) && u64::from(grown.count()) == nodes
 }
 
-/// The record of a mark that worker 0 placed.
-fn placed(turn: u32, nearest: u32, first_parent: u32, first_cost: u64, class: u32) -> Record {
-    Record {
-        worker: 0,
-        turn,
-        nearest,
-        outcome: Outcome::Placed,
-        first_parent,
-        first_cost,
-        class,
+/// Asserts the records of a run's first marks, by number.
+fn assert_records(rt: &impl Abort, grown: &Grown, wants: &[Entry]) {
+    for (mark, want) in (0..).zip(wants) {
+        assert!(rt; mark < grown.limit());
+        assert!(rt; entry_of(grown.record_of(mark)) == *want, "mark {mark}");
     }
 }
 
 #[test]
-fn one_worker_handles_the_marks_in_turn(rt: HostRuntime) -> Result<(), Fail> {
+fn one_worker_handles_the_marks_in_turn(rt: HostRuntime) -> Result<(), Memory> {
     let grown = small_run(&rt, rt.alloc(), 1, 3, &NoGate)?;
-    assert!(rt; grown.record_of(0) == placed(0, 0, 0, 12_800, 1));
-    assert!(rt; grown.record_of(1) == placed(1, 1, 1, 25_449, 2));
-    assert!(rt; grown.record_of(2) == placed(2, 1, 0, 12_800, 2));
-    let moved = Knot {
-        point: Point { x: 40, y: 79 },
-        parent: 3,
-        cost: 25_344,
-    };
-    assert!(rt; knot_of(&grown, 2) == Some(moved));
+    let records = [
+        (0, 0, 0, Outcome::Placed, 0, 12_800, 1),
+        (0, 1, 1, Outcome::Placed, 1, 25_449, 2),
+        (0, 2, 1, Outcome::Placed, 0, 12_800, 2),
+    ];
+    assert_records(&rt, &grown, &records);
+    assert!(rt; node_of(&grown, 2) == Some((40, 79, 3, 25_344)));
     Ok(())
 }
 
-#[test]
-fn several_workers_handle_all_marks(rt: HostRuntime) -> Result<(), Fail> {
-    for workers in [2, 3, MOST_WORKERS] {
-        let grown = small_run(&rt, rt.alloc(), workers, 3, &NoGate)?;
-        assert!(rt; adds_up(&grown), "by {workers}");
-        assert!(rt; has_turns(&grown), "by {workers}");
+/// Asserts for each case, a number of workers with a limit, that the run adds up, has so many nodes and none past the limit,
+/// and counts the turns of each worker.
+fn assert_runs<R: Threads + Sync + Wait + Abort>(
+    rt: &R,
+    alloc: Global,
+    cases: &[(u32, u32, u32)],
+) -> Result<(), Memory> {
+    for &(workers, limit, nodes) in cases {
+        assert!(rt; 1 <= workers && workers <= MOST_WORKERS && limit <= 3);
+        let grown = small_run(rt, alloc, workers, limit, &NoGate)?;
+        assert!(rt; adds_up(&grown), "by {workers} to {limit}");
+        assert!(rt; has_turns(&grown), "by {workers} to {limit}");
+        assert!(rt; grown.count() == nodes, "by {workers} to {limit}");
+        assert!(rt; grown.point(limit + 1).is_none(), "by {workers} to {limit}");
     }
     Ok(())
 }
 
 #[test]
-fn marks_from_the_limit_on_are_left(rt: HostRuntime) -> Result<(), Fail> {
-    let grown = small_run(&rt, rt.alloc(), 2, 2, &NoGate)?;
-    assert!(rt; adds_up(&grown));
-    assert_eq!(rt; grown.count(), 3);
-    assert!(rt; grown.point(3).is_none());
-    Ok(())
+fn several_workers_handle_all_marks(rt: HostRuntime) -> Result<(), Memory> {
+    assert_runs(
+        &rt,
+        rt.alloc(),
+        &[(2, 3, 4), (3, 3, 4), (MOST_WORKERS, 3, 4)],
+    )
 }
 
 #[test]
-fn a_limit_of_0_leaves_all_marks(rt: HostRuntime) -> Result<(), Fail> {
-    let grown = small_run(&rt, rt.alloc(), 2, 0, &NoGate)?;
-    assert_eq!(rt; grown.count(), 1);
-    Ok(())
+fn marks_from_the_limit_on_are_left(rt: HostRuntime) -> Result<(), Memory> {
+    assert_runs(&rt, rt.alloc(), &[(2, 2, 3)])
+}
+
+#[test]
+fn a_limit_of_0_leaves_all_marks(rt: HostRuntime) -> Result<(), Memory> {
+    assert_runs(&rt, rt.alloc(), &[(2, 0, 1)])
 }
 
 // ---- gates
@@ -232,7 +203,7 @@ impl Gate for Counts {
 }
 
 #[test]
-fn gates_are_told_of_each_turn_and_of_the_last_look(rt: HostRuntime) -> Result<(), Fail> {
+fn gates_are_told_of_each_turn_and_of_the_last_look(rt: HostRuntime) -> Result<(), Memory> {
     for limit in 0..=3 {
         let gate = Counts::new();
         let grown = small_run(&rt, rt.alloc(), 3, limit, &gate)?;
@@ -291,7 +262,7 @@ impl Gate for OtherFirst {
 }
 
 #[test]
-fn a_worker_goes_on_while_another_waits(rt: HostRuntime) -> Result<(), Fail> {
+fn a_worker_goes_on_while_another_waits(rt: HostRuntime) -> Result<(), Memory> {
     let gate = OtherFirst {
         come: AtomicBool::new(false),
         handled: AtomicBool::new(false),
