@@ -16,6 +16,7 @@ mod kd_links;
 mod laws;
 mod layout;
 mod mark_writes;
+mod node_writes;
 mod packed_runs;
 mod point_words;
 mod record_words;

@@ -18,7 +18,7 @@ ghost use Rattle.step_core.specs.WordNames.Word.{Count, Counter};
 ghost use Rattle.step_core.specs.WordPlaces.{word_count};
 
 use crate::kd_links::link;
-use crate::packed_runs::{write_node, write_record};
+use crate::node_writes::{write_node, write_record};
 use crate::point_words::point_in;
 use crate::tree_words::pack_tree;
 use crate::word_places::WordPlaces;

@@ -8,19 +8,18 @@ ghost use Rattle.plan_model.specs.declared.records.Record.{Record};
 ghost use Rattle.step_core.specs.GrownWords.{HoldRun, children_of_words, run_words, sizes_of, state_of_words};
 ghost use Rattle.step_core.specs.KdLinks.{LinksRise};
 ghost use Rattle.plan_model.specs.TreeStates.{AreSameRuns};
-ghost use Rattle.step_core.specs.PackedRuns.{ChangesNode, ChangesRecord, CountsMarks, FitWords, FitsNode, FitsRecord, HoldLists};
-ghost use Rattle.step_core.specs.PackedRuns.{HoldsNode, HoldsRecord, IsKnot, WritesNodes, WritesRecords, state_of_lists};
+ghost use Rattle.step_core.specs.PackedRuns.{CountsMarks, FitWords, FitsNode, FitsRecord, HoldLists};
+ghost use Rattle.step_core.specs.PackedRuns.{IsKnot, WritesNodes, WritesRecords, state_of_lists};
 ghost use Rattle.step_core.specs.PlacesOfWords.{sizes_in, words_in};
 ghost use Rattle.step_core.specs.WordNames.{Word};
 ghost use Rattle.step_core.specs.WordNames.Word.{ChildOf, Counter};
 ghost use Rattle.step_core.specs.WordPlaces.{word_count};
 
 use crate::kd_links::link_all;
-use crate::point_words::pack_point;
-use crate::record_words::pack_mark;
+use crate::node_writes::{write_node, write_record};
 use crate::tree_words::pack_tree;
 use crate::word_places::WordPlaces;
-use plan_model::{Knot, Outcome, Record, Task};
+use plan_model::{Knot, Record, Task};
 
 /// Writes the words of a closed run with these nodes and records.
 pub(crate) fn write_run(words: &mut [u64], task: &Task, knots: &[Option<Knot>], records: &[Record])
@@ -85,17 +84,6 @@ fn write_nodes(words: &mut [u64], places: WordPlaces, knots: &[Option<Knot>])
     }
 }
 
-/// Writes the point, the parent and the kept cost of a node.
-pub(crate) fn write_node(words: &mut [u64], places: WordPlaces, node: usize, knot: Knot)
-    requires sized { length words.old ≡ word_count (sizes_in places) }
-    requires fits { FitsNode (sizes_in places) node knot }
-    ensures hold { HoldsNode (words_in places words.new) node knot }
-    ensures others { ChangesNode node (words_in places words.old) (words_in places words.new) }
-{
-    words[places.point(node)] = pack_point(knot.point);
-    words[places.tree(node)] = pack_tree(knot.parent, knot.cost);
-}
-
 /// Writes the records of all marks, and the first words of the nodes that were placed.
 fn write_records(words: &mut [u64], places: WordPlaces, records: &[Record])
     requires sized { length words.old ≡ word_count (sizes_in places) }
@@ -105,19 +93,5 @@ fn write_records(words: &mut [u64], places: WordPlaces, records: &[Record])
 {
     for (mark, entry) in records.iter().enumerate() {
         write_record(words, places, mark, entry);
-    }
-}
-
-/// Writes the record of a mark, and the first word of its node if it was placed.
-pub(crate) fn write_record(words: &mut [u64], places: WordPlaces, mark: usize, entry: &Record)
-    requires sized { length words.old ≡ word_count (sizes_in places) }
-    requires within { mark < places.marks }
-    requires fits { FitsRecord entry.now }
-    ensures hold { HoldsRecord (words_in places words.new) mark entry.now }
-    ensures others { ChangesRecord mark entry.now (words_in places words.old) (words_in places words.new) }
-{
-    words[places.record(mark)] = pack_mark(entry);
-    if let Outcome::Placed = entry.outcome {
-        words[places.first(mark + 1)] = pack_tree(entry.first_parent, entry.first_cost);
     }
 }

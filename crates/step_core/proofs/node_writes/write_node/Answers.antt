@@ -6,7 +6,7 @@ use Rattle.step_core.specs.WordNames.Word.{PointOf, TreeOf}
 use Rattle.step_core.specs.Words.{point_word, tree_word}
 use Rattle.step_core.proofs.PackedWritings.{HoldsNode-written, ChangesNode-written}
 use Rattle.step_core.proofs.WordReads.{WritesWord-set}
-use Rattle.step_core.proofs.packed_runs.write_node.Goals as goal
+use Rattle.step_core.proofs.node_writes.write_node.Goals as goal
 
 pub returns : goal.returns
 returns c =

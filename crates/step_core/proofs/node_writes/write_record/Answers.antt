@@ -6,7 +6,7 @@ use Rattle.step_core.specs.WordNames.Word.{FirstOf, RecordOf}
 use Rattle.step_core.specs.Words.{record_word, tree_word}
 use Rattle.step_core.proofs.PackedWritings.{HoldsRecord-unplaced, HoldsRecord-placed, ChangesRecord-unplaced, ChangesRecord-placed}
 use Rattle.step_core.proofs.WordReads.{WritesWord-set}
-use Rattle.step_core.proofs.packed_runs.write_record.Goals as goal
+use Rattle.step_core.proofs.node_writes.write_record.Goals as goal
 
 pub returns-in-Placed : goal.returns-in-Placed
 returns-in-Placed c =
