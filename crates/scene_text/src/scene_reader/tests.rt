@@ -2,7 +2,8 @@
 
 use super::*;
 use crate::refusals::SceneFault;
-use plan_model::{Goal, Kind, MOST_TEXT_BYTES, Marks, Point, Vertex};
+use crate::test_scenes::{POLYGONS, read, scene_of};
+use plan_model::{Goal, Kind, Marks, Point, Vertex};
 use std::alloc::AllocError;
 use std::process::Abort;
 use std::test::Fail;
@@ -13,10 +14,9 @@ const SMALL: &str =
 const GREATEST: &str =
     "prrt 1\nseed 18446744073709551615\ngamma 16777215\nroom 9 9\nstart 1 1\ngoal 2 2 2 2\nstep 4096\nstrips 64\n";
 
-// The scene of a text, or why it is refused.
-fn read(rt: &impl Abort, alloc: Global, text: &str) -> Result<Scene, SceneRefusal> {
-    assert!(rt; text.len() <= MOST_TEXT_BYTES);
-    read_scene(alloc, text.as_bytes())
+// Asserts the room, the start and the goal of a scene.
+fn assert_places(rt: &impl Abort, scene: &Scene, want: (Point, Point, Goal)) {
+    assert_eq!(rt; (scene.room, scene.start, scene.goal), want);
 }
 
 // Asserts that a scene lists these marks.
@@ -28,32 +28,30 @@ fn assert_listed(rt: &impl Abort, scene: &Scene, want: &[Point]) {
 }
 
 #[test]
-fn reads_the_fields(rt: HostRuntime) -> Result<(), Fail> {
-    let scene = read(&rt, rt.alloc(), SMALL)?;
-    assert_eq!(rt; scene.room, Point { x: 10, y: 12 });
-    assert_eq!(rt; scene.start, Point { x: 5, y: 6 });
-    assert_eq!(rt;
-        scene.goal,
-        Goal {
-            low: Point { x: 7, y: 8 },
-            high: Point { x: 9, y: 10 }
-        }
-    );
-    assert_eq!(rt; scene.step, 4);
+fn reads_the_fields(rt: HostRuntime) {
+    let scene = scene_of(&rt, rt.alloc(), SMALL);
+    let goal = Goal {
+        low: Point { x: 7, y: 8 },
+        high: Point { x: 9, y: 10 },
+    };
+    let want = (Point { x: 10, y: 12 }, Point { x: 5, y: 6 }, goal);
+    assert_places(&rt, &scene, want);
     assert_listed(&rt, &scene, &[Point { x: 1, y: 2 }, Point { x: 3, y: 0 }]);
-    Ok(())
+}
+
+// Asserts the step, gamma, the seed and the strips of a scene.
+fn assert_numbers(rt: &impl Abort, scene: &Scene, want: (u32, u32, u64, u32)) {
+    assert_eq!(rt; (scene.step, scene.gamma, scene.seed, scene.strips), want);
 }
 
 #[test]
-fn reads_gamma_seed_and_strips(rt: HostRuntime) -> Result<(), Fail> {
-    for (text, gamma, seed, strips) in [(SMALL, 0, 0, 1), (GREATEST, 16_777_215, u64::MAX, 64)] {
-        let scene = read(&rt, rt.alloc(), text)?;
-        assert_eq!(rt;
-            (scene.gamma, scene.seed, scene.strips),
-            (gamma, seed, strips)
-        );
+fn reads_the_numbers(rt: HostRuntime) {
+    for (text, want) in [
+        (SMALL, (4, 0, 0, 1)),
+        (GREATEST, (4_096, 16_777_215, u64::MAX, 64)),
+    ] {
+        assert_numbers(&rt, &scene_of(&rt, rt.alloc(), text), want);
     }
-    Ok(())
 }
 
 // Asserts that a scene draws so many marks.
@@ -65,7 +63,7 @@ fn assert_drawn(rt: &impl Abort, scene: &Scene, want: u32) {
 }
 
 #[test]
-fn reads_drawn_marks(rt: HostRuntime) -> Result<(), Fail> {
+fn reads_drawn_marks(rt: HostRuntime) {
     for (text, want) in [
         (
             "prrt 1\nmarks 0\nroom 9 9\nstart 1 1\ngoal 2 2 2 2\nstep 4\n",
@@ -76,9 +74,8 @@ fn reads_drawn_marks(rt: HostRuntime) -> Result<(), Fail> {
             262_143,
         ),
     ] {
-        assert_drawn(&rt, &read(&rt, rt.alloc(), text)?, want);
+        assert_drawn(&rt, &scene_of(&rt, rt.alloc(), text), want);
     }
-    Ok(())
 }
 
 // Asserts that a text is refused at this line, for a fault of this kind.
@@ -117,23 +114,6 @@ fn refuses_the_first_fault(rt: HostRuntime) {
     ] {
         assert_refused(&rt, rt.alloc(), text, line, kind);
     }
-}
-
-const POLYGONS: &str =
-    "prrt 1\nobstacle 4 4 6 4 5 7\nroom 9 9\nstart 0 0\nstep 4\ngoal 1 1 2 2\nbody -1 -2 3 -2 3 4 -1 4\nobstacle -9 2 3 2 3 3\n";
-
-#[test]
-fn reads_polygons(rt: HostRuntime) -> Result<(), Fail> {
-    let scene = read(&rt, rt.alloc(), POLYGONS)?;
-    let body = [
-        Vertex { x: -1, y: -2 },
-        Vertex { x: 3, y: -2 },
-        Vertex { x: 3, y: 4 },
-        Vertex { x: -1, y: 4 },
-    ];
-    assert_eq!(rt; scene.body.as_slice(), body.as_slice());
-    assert_eq!(rt; scene.obstacles.len(), 2);
-    Ok(())
 }
 
 #[test]
@@ -182,6 +162,21 @@ fn repeated(alloc: Global, before: &str, piece: &str, count: usize) -> Result<St
 
 const TRIANGLE: &str = "obstacle 0 0 9 0 0 9\n";
 
+// Asserts that a text with a piece so many times is refused at this line, for a fault of this kind.
+fn assert_repeats_refused(
+    rt: &impl Abort,
+    alloc: Global,
+    before: &str,
+    piece: &str,
+    count: usize,
+    line: u32,
+    kind: Kind,
+) -> Result<(), AllocError> {
+    let text = repeated(alloc, before, piece, count)?;
+    assert_refused(rt, alloc, text.as_str(), line, kind);
+    Ok(())
+}
+
 #[test]
 fn refuses_too_many_corners_and_obstacles(rt: HostRuntime) -> Result<(), Fail> {
     for (before, piece, count, line, kind) in [
@@ -193,18 +188,34 @@ fn refuses_too_many_corners_and_obstacles(rt: HostRuntime) -> Result<(), Fail> {
         ("prrt 1\n", TRIANGLE, 1_025, 1_026, Kind::Many),
         ("prrt 1\n", "body 0 0\n", 2, 3, Kind::Repeat),
     ] {
-        let text = repeated(rt.alloc(), before, piece, count)?;
-        assert_refused(&rt, rt.alloc(), text.as_str(), line, kind);
+        assert_repeats_refused(&rt, rt.alloc(), before, piece, count, line, kind)?;
     }
     Ok(())
+}
+
+// Asserts the body of a scene, and how many obstacles it has.
+fn assert_polygons(rt: &impl Abort, scene: &Scene, body: &[Vertex], obstacles: usize) {
+    assert_eq!(rt; scene.body.as_slice(), body);
+    assert_eq!(rt; scene.obstacles.len(), obstacles);
+}
+
+#[test]
+fn reads_polygons(rt: HostRuntime) {
+    let body = [
+        Vertex { x: -1, y: -2 },
+        Vertex { x: 3, y: -2 },
+        Vertex { x: 3, y: 4 },
+        Vertex { x: -1, y: 4 },
+    ];
+    let scene = scene_of(&rt, rt.alloc(), POLYGONS);
+    assert_polygons(&rt, &scene, body.as_slice(), 2);
 }
 
 #[test]
 fn reads_as_many_obstacles_as_there_may_be(rt: HostRuntime) -> Result<(), Fail> {
     let before = "prrt 1\nroom 9 9\nstart 0 0\ngoal 1 1 2 2\nstep 4\n";
     let text = repeated(rt.alloc(), before, TRIANGLE, 1_024)?;
-    let scene = read(&rt, rt.alloc(), text.as_str())?;
-    assert_eq!(rt; scene.obstacles.len(), 1_024);
-    assert_eq!(rt; scene.body.as_slice(), [Vertex { x: 0, y: 0 }].as_slice());
+    let scene = scene_of(&rt, rt.alloc(), text.as_str());
+    assert_polygons(&rt, &scene, &[Vertex { x: 0, y: 0 }], 1_024);
     Ok(())
 }

@@ -5,6 +5,7 @@ ghost use Rattle.plan_model.specs.Limits.{is_obstacle, are_obstacles};
 
 use super::*;
 use crate::scene_reader::read_scene;
+use crate::test_scenes::{POLYGONS, scene_of};
 use plan_model::{MOST_OBSTACLES, Polys};
 use std::process::Abort;
 use std::test::Fail;
@@ -13,9 +14,6 @@ const SMALL: &str = "prrt 1\nroom 9 9\nstart 0 0\ngoal 1 1 2 2\nstep 4\n";
 
 const SMALL_WRITTEN: &str =
     "prrt 1\nroom 9 9\nbody 0 0\nstart 0 0\ngoal 1 1 2 2\nstep 4\ngamma 0\nseed 0\nstrips 1\n";
-
-const POLYGONS: &str =
-    "prrt 1\nobstacle 4 4 6 4 5 7\nroom 9 9\nstart 0 0\nstep 4\ngoal 1 1 2 2\nbody -1 -2 3 -2 3 4 -1 4\nobstacle -9 2 3 2 3 3\n";
 
 const POLYGONS_WRITTEN: &str =
     "prrt 1\nroom 9 9\nbody -1 -2 3 -2 3 4 -1 4\nobstacle 4 4 6 4 5 7\nobstacle -9 2 3 2 3 3\nstart 0 0\ngoal 1 1 2 2\nstep 4\ngamma 0\nseed 0\nstrips 1\n";
@@ -42,20 +40,26 @@ fn most_obstacles(alloc: Global) -> Result<Polys, AllocError>
     Ok(Polys::from_vec(obstacles))
 }
 
+// The canonical text of a scene.
+fn written(rt: &impl Abort, alloc: Global, scene: &Scene) -> Vec<u8> {
+    match write_scene(alloc, scene) {
+        Ok(text) => text,
+        Err(error) => panic!(rt; "{error}"),
+    }
+}
+
 // Asserts the canonical text of a scene.
-fn assert_written(rt: &impl Abort, alloc: Global, scene: Scene, want: &str) -> Result<(), Fail> {
-    let text = write_scene(alloc, &scene)?;
+fn assert_written(rt: &impl Abort, alloc: Global, scene: &Scene, want: &str) {
+    let text = written(rt, alloc, scene);
     assert_eq!(rt; text.as_slice(), want.as_bytes());
-    Ok(())
 }
 
 #[test]
-fn writes_every_line(rt: HostRuntime) -> Result<(), Fail> {
+fn writes_every_line(rt: HostRuntime) {
     for (text, want) in [(SMALL, SMALL_WRITTEN), (POLYGONS, POLYGONS_WRITTEN)] {
-        let scene = read_scene(rt.alloc(), text.as_bytes())?;
-        assert_written(&rt, rt.alloc(), scene, want)?;
+        let scene = scene_of(&rt, rt.alloc(), text);
+        assert_written(&rt, rt.alloc(), &scene, want);
     }
-    Ok(())
 }
 
 // The canonical text with as many of these triangles as there may be.
@@ -70,17 +74,19 @@ fn most_obstacles_written(alloc: Global) -> Result<String, AllocError> {
 }
 
 // The small scene with as many obstacles as there may be.
-fn scene_with_most_obstacles(alloc: Global) -> Result<Scene, Fail> {
-    let mut scene = read_scene(alloc, SMALL.as_bytes())?;
-    scene.obstacles = most_obstacles(alloc)?;
+fn scene_with_most_obstacles(rt: &impl Abort, alloc: Global) -> Result<Scene, AllocError> {
+    let obstacles = most_obstacles(alloc)?;
+    let mut scene = scene_of(rt, alloc, SMALL);
+    scene.obstacles = obstacles;
     Ok(scene)
 }
 
 #[test]
 fn writes_as_many_obstacles_as_there_may_be(rt: HostRuntime) -> Result<(), Fail> {
     let want = most_obstacles_written(rt.alloc())?;
-    let scene = scene_with_most_obstacles(rt.alloc())?;
-    assert_written(&rt, rt.alloc(), scene, want.as_str())
+    let scene = scene_with_most_obstacles(&rt, rt.alloc())?;
+    assert_written(&rt, rt.alloc(), &scene, want.as_str());
+    Ok(())
 }
 
 // Texts that are canonical already, with a line for each field: drawn marks, and listed ones.
@@ -103,16 +109,22 @@ fn read_again(alloc: Global, scene: &Scene) -> Result<Scene, Fail>
 }
 
 // Asserts that a scene is read again from what is written for it, and is then written as this text.
-fn assert_read_again(rt: &impl Abort, alloc: Global, scene: Scene, want: &str) -> Result<(), Fail> {
-    let again = read_again(alloc, &scene)?;
-    assert_written(rt, alloc, again, want)
+fn assert_read_again(
+    rt: &impl Abort,
+    alloc: Global,
+    scene: &Scene,
+    want: &str,
+) -> Result<(), Fail> {
+    let again = read_again(alloc, scene)?;
+    assert_written(rt, alloc, &again, want);
+    Ok(())
 }
 
 #[test]
 fn what_is_written_is_read_again(rt: HostRuntime) -> Result<(), Fail> {
     for canonical in [DRAWN, LISTED] {
-        let scene = read_scene(rt.alloc(), canonical.as_bytes())?;
-        assert_read_again(&rt, rt.alloc(), scene, canonical)?;
+        let scene = scene_of(&rt, rt.alloc(), canonical);
+        assert_read_again(&rt, rt.alloc(), &scene, canonical)?;
     }
     Ok(())
 }
