@@ -1,11 +1,13 @@
--- The best of the nodes from some number on, one number after another.
-use Rattle.std.proofs.Common.{◌≡◌, ℕ, suc, ◌+◌, true, false, filter, Option, Some, refl}
+-- The best of the nodes from some number on, one number after another; and that the best node is present.
+use Rattle.std.proofs.Common.{◌≡◌, ℕ, suc, ◌+◌, true, false, filter, Option, Some, None, IfSome, refl, sym}
 use Rattle.std.specs.List.{range_with_len}
 use Rattle.plan_model.specs.declared.scenes.Scene.{Scene}
 use Rattle.plan_model.specs.BestNode.{best_node, lies_in_goal}
 use Rattle.plan_model.specs.LeastPairs.{first_least, lesser}
-use Rattle.plan_model.specs.PointsByNumber.{point_at}
+use Rattle.plan_model.specs.PointsByNumber.{IsPresent, point_at}
 use Rattle.plan_model.specs.TreeStates.{TreeState, sum_in}
+use Rattle.plan_model.proofs.BestNodeLaws.{IsPresent-goal}
+use Rattle.plan_model.proofs.LeastPairLaws.{first_least-some}
 
 module _ (scene : Scene) (state : TreeState) where
   -- the best of so many nodes from number k on
@@ -25,3 +27,10 @@ module _ (scene : Scene) (state : TreeState) where
   -- the best of all numbers is the best node
   pub best_of-all : (limit k count : ℕ) → k ≡ 0 → count ≡ suc limit → best_of k count ≡ best_node scene limit state
   best_of-all limit k count first all = rw (first, all) refl
+
+  -- the best node is present
+  pub IsPresent-best : (limit : ℕ) (best : Option ℕ) → best ≡ best_node scene limit state → IfSome best (IsPresent state.points)
+  IsPresent-best limit None is = tt
+  IsPresent-best limit (Some n) is =
+      IsPresent-goal scene (point_at state.points n)
+      (first_least-some (sum_in state) (λ i. lies_in_goal scene (point_at state.points i)) (suc limit) n (sym is)).member.1

@@ -20,5 +20,5 @@ mod test_runs;
 
 pub use best_node::best;
 pub use delivery::deliver;
-pub use reports::{report, summary};
+pub use reports::{report, report_by_best, summary, summary_by_best};
 pub use settling::settle;

@@ -1,6 +1,7 @@
 //! The reports of a settled run, as text: its cheapest path into the goal, the counts, and in full its nodes and marks.
 
 ghost use Rattle.std.specs.Prelude.{◌≡◌, ◌++◌, IfOk, IfSome, OnOk, string_bytes};
+ghost use Rattle.plan_model.specs.BestNode.{best_node};
 ghost use Rattle.plan_model.specs.ClosedLaw.{outcome_count};
 ghost use Rattle.plan_model.specs.Outcomes.{is_blocked, is_placed, is_same};
 ghost use Rattle.plan_model.specs.PointsByNumber.{IsPresent};
@@ -28,8 +29,25 @@ pub fn report(alloc: Global, grown: &Grown, full: bool) -> Result<Vec<u8>, Memor
     requires { IsSettled (state_of_grown grown.now) }
     ensures { IfOk result (λ text. text.items ≡ report_text full grown.now.task.scene grown.now.limit (state_of_grown grown.now)) }
 {
+    report_by_best(alloc, grown, best(grown), full)
+}
+
+/// [`report`], for who has found the best node already. O(n) for n marks.
+///
+/// # Errors
+///
+/// `Memory` if out of memory for the path or the text.
+pub fn report_by_best(
+    alloc: Global,
+    grown: &Grown,
+    best: Option<u32>,
+    full: bool,
+) -> Result<Vec<u8>, Memory>
+    requires settled { IsSettled (state_of_grown grown.now) }
+    requires best { best ≡ best_node grown.now.task.scene grown.now.limit (state_of_grown grown.now) }
+    ensures { IfOk result (λ text. text.items ≡ report_text full grown.now.task.scene grown.now.limit (state_of_grown grown.now)) }
+{
     let mut text = String::new(alloc);
-    let best = best(grown);
     let path = best_path(alloc, grown, best)?;
     push_head_line(&mut text, grown, best, &path)?;
     push_point_lines(&mut text, &path)?;
@@ -50,8 +68,20 @@ pub fn summary(alloc: Global, grown: &Grown) -> Result<Vec<u8>, Memory>
     requires { IsSettled (state_of_grown grown.now) }
     ensures { IfOk result (λ text. text.items ≡ summary grown.now.task.scene grown.now.limit (state_of_grown grown.now)) }
 {
+    summary_by_best(alloc, grown, best(grown))
+}
+
+/// [`summary`], for who has found the best node already. O(n) for n marks.
+///
+/// # Errors
+///
+/// `Memory` if out of memory for the path or the text.
+pub fn summary_by_best(alloc: Global, grown: &Grown, best: Option<u32>) -> Result<Vec<u8>, Memory>
+    requires settled { IsSettled (state_of_grown grown.now) }
+    requires best { best ≡ best_node grown.now.task.scene grown.now.limit (state_of_grown grown.now) }
+    ensures { IfOk result (λ text. text.items ≡ summary grown.now.task.scene grown.now.limit (state_of_grown grown.now)) }
+{
     let mut text = String::new(alloc);
-    let best = best(grown);
     push_head_line(&mut text, grown, best, &best_path(alloc, grown, best)?)?;
     push_counts_line(&mut text, grown)?;
     Ok(text.into_bytes())
