@@ -1,8 +1,28 @@
--- Sources and sinks: counts of faults, and what a stream in memory is.
-use Rattle.std.specs.Prelude.{ℕ, ◌+◌, ◌-◌, ◌^◌, ◌≤◌, ◌==◌, nat_lt, ◌&&◌, ◌||◌, Bool, min}
+-- Sources and sinks: what is known of them, counts of faults, and what a stream in memory is.
+use Rattle.std.specs.Prelude.{ℕ, ◌+◌, ◌-◌, ◌^◌, ◌≤◌, ◌==◌, nat_lt, ◌&&◌, ◌||◌, Bool, Option, min}
 use Rattle.std.specs.Prelude.{List, ◌++◌, length, take, drop, Result, Ok, Err, if◌then◌else◌}
 use Rattle.std.specs.List.{list_any}
 use Rattle.plan_model.specs.declared.errors.Failed.{Failed}
+
+-- What is known of a source at one time.
+pub record SourceState : Type 0 where
+  -- the bytes that are left, if they are known
+  pub bytes_left : Option (List ℕ)
+  -- it has given its end
+  pub has_ended : Bool
+  -- how many reads have failed; the count stands still at the last value of a u64
+  pub fault_count : ℕ
+  -- `Failed` alone raises the count, and by one
+  pub counts_failures_alone : Bool
+
+-- What is known of a sink at one time.
+pub record SinkState : Type 0 where
+  -- the bytes taken so far, if they are known
+  pub bytes_taken : Option (List ℕ)
+  -- how many writes have failed; the count stands still at the last value of a u64
+  pub fault_count : ℕ
+  -- `Failed` alone raises the count, and by one
+  pub counts_failures_alone : Bool
 
 -- a count of faults has risen, or stands at its last value
 abbrev pub FaultsRose : ℕ → ℕ → Type 0

@@ -1,25 +1,19 @@
 //! Where bytes go.
 
-ghost use Rattle.std.specs.Prelude.{◌≡◌, ℕ, ◌≤◌, ◌<◌, Bool, false, IsTrue, List, length, Option, IfOk, OnOk, OnErr, Ok};
+ghost use Rattle.std.specs.Prelude.{◌≡◌, ◌≤◌, ◌<◌, IsTrue, length, IfOk, OnOk, OnErr, Ok};
 ghost use Rattle.std.specs.Io.KnownBytes.{WriteAppends};
-ghost use Rattle.plan_model.specs.Streams.{FaultsRose, counted};
+ghost use Rattle.plan_model.specs.Streams.{SinkState, FaultsRose, counted};
 
 use crate::errors::Failed;
 
 /// Bytes that are written one after another, with a count of the writes that failed.
 pub trait Sink {
-    /// The bytes taken so far, if they are known.
-    ghost bytes_taken: { Self → Option (List ℕ) };
-
-    /// How many writes have failed; it stands still at the last value of a `u64`.
-    ghost fault_count: { Self → ℕ };
-
-    /// Whether `Failed` alone raises the count, and by one.
-    ghost counts_failures_alone: { Bool } = { false };
+    /// What is known of it: the bytes taken so far, and its count of faults.
+    ghost state: { Self → SinkState };
 
     /// How many writes have failed.
     fn faults(&self) -> u64
-        ensures { result ≡ fault_count self.now };
+        ensures { result ≡ (state self.now).fault_count };
 
     /// Takes a prefix of the bytes, one at least, and returns how many. A write of no bytes takes none and changes nothing.
     ///
@@ -29,10 +23,13 @@ pub trait Sink {
     fn write(&mut self, bytes: &[u8]) -> Result<usize, Failed>
         ensures bound { IfOk result (λ count. count ≤ length bytes.now) }
         ensures some { 0 < length bytes.now → IfOk result (λ count. 0 < count) }
-        ensures bytes { WriteAppends (bytes_taken self.old) (bytes_taken self.new) result bytes.now }
-        ensures failed { OnErr result (FaultsRose (fault_count self.old) (fault_count self.new)) }
-        ensures later { fault_count self.old ≤ fault_count self.new }
-        ensures no_fault { IsTrue counts_failures_alone → OnOk result (fault_count self.new ≡ fault_count self.old) }
-        ensures one_fault { IsTrue counts_failures_alone → OnErr result (fault_count self.new ≡ counted (fault_count self.old)) }
-        ensures empty { length bytes.now ≡ 0 → (result ≡ Ok 0) × (fault_count self.new ≡ fault_count self.old) };
+        ensures bytes { WriteAppends (state self.old).bytes_taken (state self.new).bytes_taken result bytes.now }
+        ensures failed { OnErr result (FaultsRose (state self.old).fault_count (state self.new).fault_count) }
+        ensures later { (state self.old).fault_count ≤ (state self.new).fault_count }
+        ensures no_fault { IsTrue (state self.old).counts_failures_alone
+            → OnOk result ((state self.new).fault_count ≡ (state self.old).fault_count) }
+        ensures one_fault { IsTrue (state self.old).counts_failures_alone
+            → OnErr result ((state self.new).fault_count ≡ counted (state self.old).fault_count) }
+        ensures counting { (state self.new).counts_failures_alone ≡ (state self.old).counts_failures_alone }
+        ensures empty { length bytes.now ≡ 0 → (result ≡ Ok 0) × ((state self.new).fault_count ≡ (state self.old).fault_count) };
 }

@@ -5,7 +5,7 @@ use Rattle.plan_model.specs.declared.limits.TheConstants.{MOST_TEXT_BYTES}
 use Rattle.plan_model.specs.declared.scenes.Scene.{Scene}
 use Rattle.plan_model.specs.Clearance.{ClearAt}
 use Rattle.plan_model.specs.ConfigurationSpace.{space_of}
-use Rattle.plan_model.specs.Streams.{counted}
+use Rattle.plan_model.specs.Streams.{SourceState, counted}
 use Rattle.scene_text.specs.declared.fetching.FetchFault.{FetchFault}
 use Rattle.scene_text.specs.declared.fetching.FetchFault.TheVariants as fetching
 use Rattle.scene_text.specs.Fetching.{Fetches}
@@ -14,7 +14,7 @@ use Rattle.planner_main.specs.declared.refusals.Refusal.{Refusal}
 use Rattle.planner_main.specs.declared.refusals.Refusal.TheVariants as refusals
 use Rattle.planner_main.specs.Commands.{reads_scene, tests_start}
 use Rattle.planner_main.specs.Conclusions.{IsCaused, HasScene}
-use Rattle.planner_main.specs.Exchanges.{Reading, ReadFailed, CameShort}
+use Rattle.planner_main.specs.Exchanges.{ReadFailed, CameShort}
 use Rattle.planner_main.specs.Faults.{refusal_of_fetch}
 
 read≢long : fetching.Read ≡ fetching.TooLong → ⊥
@@ -28,26 +28,26 @@ module _ {Z : Type 0} where
   different result a b is other = cc
 
   -- a read that failed came before too many bytes
-  short_before_fault : (reading : Reading) (result : Result (Vec ℕ Z) FetchFault) → result ≡ Err fetching.Read →
-      Fetches reading.before reading.now result → CameShort reading.before reading.now
-  short_before_fault reading result is fetched =
+  short_before_fault : (before now : SourceState) (result : Result (Vec ℕ Z) FetchFault) → result ≡ Err fetching.Read →
+      Fetches before.bytes_left now.bytes_left result → CameShort before.bytes_left now.bytes_left
+  short_before_fault before now result is fetched =
       let few : ¬ (MOST_TEXT_BYTES < length fetched.came) =
       λ long. read≢long (different result fetching.Read fetching.TooLong is (fetched.too_long.1 long)) in
       (fetched.came, omega arith, fetched.consumed)
 
   -- a fault of the fetch is a cause of its refusal
-  pub fetch-caused : (command : Command) (reading : Reading) (result : Result (Vec ℕ Z) FetchFault) (fault : FetchFault) →
-      result ≡ Err fault → IsTrue (reads_scene command) → reading.ended ≡ false → Fetches reading.before reading.now result →
-      (IsErrOf result fetching.Read → ReadFailed reading) →
-      (IsTrue reading.counts_failures_alone → IsErrOf result fetching.Read → reading.faults ≡ counted reading.faults_before) →
-      (IsTrue reading.counts_failures_alone → ¬ IsErrOf result fetching.Read → reading.faults ≡ reading.faults_before) →
-      IsCaused (Some command) reading (refusal_of_fetch fault)
-  fetch-caused command reading result fetching.Read is reads no_end fetched rose one none =
-      (reads, record { rose = rose is; no_end = no_end; came = short_before_fault reading result is fetched; one_fault = λ alone. one alone is })
-  fetch-caused command reading result fetching.TooLong is reads no_end fetched rose one none =
+  pub fetch-caused : (command : Command) (before now : SourceState) (result : Result (Vec ℕ Z) FetchFault) (fault : FetchFault) →
+      result ≡ Err fault → IsTrue (reads_scene command) → now.has_ended ≡ false → Fetches before.bytes_left now.bytes_left result →
+      (IsErrOf result fetching.Read → ReadFailed before now) →
+      (IsTrue before.counts_failures_alone → IsErrOf result fetching.Read → now.fault_count ≡ counted before.fault_count) →
+      (IsTrue before.counts_failures_alone → ¬ IsErrOf result fetching.Read → now.fault_count ≡ before.fault_count) →
+      IsCaused (Some command) before now (refusal_of_fetch fault)
+  fetch-caused command before now result fetching.Read is reads no_end fetched rose one none =
+      (reads, record { rose = rose is; no_end = no_end; came = short_before_fault before now result is fetched; one_fault = λ alone. one alone is })
+  fetch-caused command before now result fetching.TooLong is reads no_end fetched rose one none =
       let other : ¬ IsErrOf result fetching.Read = λ read. read≢long (different result fetching.Read fetching.TooLong read is) in
       (reads, record { came = (fetched.came, fetched.too_long.0 is, fetched.consumed); no_end = no_end; no_fault = λ alone. none alone other })
-  fetch-caused command reading result fetching.Memory is reads no_end fetched rose one none =
+  fetch-caused command before now result fetching.Memory is reads no_end fetched rose one none =
       let other : ¬ IsErrOf result fetching.Read = λ read. read≢memory (different result fetching.Read fetching.Memory read is) in
       (refl, λ alone. none alone other)
 
@@ -57,11 +57,11 @@ IfErr-only (Ok value) error P only h = absurd only
 IfErr-only (Err e) error P only h = subst P (sym only) h
 
 -- a start that is not clear, and memory that is out after the whole text was read, are causes of their refusals
-pub hall-caused : (command : Command) (reading : Reading) (scene : Scene) (refusal : Refusal) → IsTrue (tests_start command) →
-    HasScene reading scene → (refusal ≡ refusals.Memory) ⊎ ((refusal ≡ refusals.StartBlocked) × ¬ ClearAt (space_of scene) scene.start) →
-    IsCaused (Some command) reading refusal
-hall-caused command reading scene refusal tests h (inl memory) =
-    subst (IsCaused (Some command) reading) (sym memory) (refl, h.read.no_fault)
-hall-caused command reading scene refusal tests h (inr blocked) =
-    subst (IsCaused (Some command) reading) (sym blocked.0)
+pub hall-caused : (command : Command) (before now : SourceState) (scene : Scene) (refusal : Refusal) → IsTrue (tests_start command) →
+    HasScene before now scene → (refusal ≡ refusals.Memory) ⊎ ((refusal ≡ refusals.StartBlocked) × ¬ ClearAt (space_of scene) scene.start) →
+    IsCaused (Some command) before now refusal
+hall-caused command before now scene refusal tests h (inl memory) =
+    subst (IsCaused (Some command) before now) (sym memory) (refl, h.read.no_fault)
+hall-caused command before now scene refusal tests h (inr blocked) =
+    subst (IsCaused (Some command) before now) (sym blocked.0)
     (tests, (h.bytes, h.read, record { scene = scene; spelled = h.spelled; blocked = blocked.1 }))

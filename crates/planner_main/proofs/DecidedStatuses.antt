@@ -9,6 +9,7 @@ use Rattle.plan_model.specs.declared.text_terms.Kind.{Kind}
 use Rattle.plan_model.specs.SceneGrammar.{supported}
 use Rattle.plan_model.specs.ConfigurationSpace.{space_of}
 use Rattle.plan_model.specs.Clearance.{ClearAt}
+use Rattle.plan_model.specs.Streams.{SourceState}
 use Rattle.plan_model.proofs.Soundness.{Spells-not_refused}
 use Rattle.plan_model.proofs.SpelledScenes.{ClearAt-spelled}
 use Rattle.scene_text.specs.Fetching.{CameTooLong}
@@ -21,7 +22,7 @@ use Rattle.planner_main.specs.declared.top_call.Done.{Done}
 use Rattle.planner_main.specs.Commands.{reads_scene, tests_start, greatest_success}
 use Rattle.planner_main.specs.Conclusions.{IsTextOf, IsFaultyText, BlocksStart, MayStart, Succeeds, status_of_report, IsCaused, IsSuccess}
 use Rattle.planner_main.specs.Decisions.{IsDecidedBy, IsDecided}
-use Rattle.planner_main.specs.Exchanges.{Reading, ReadFailed, IsReadWhole, IsUnread}
+use Rattle.planner_main.specs.Exchanges.{ReadFailed, IsReadWhole, IsUnread}
 use Rattle.planner_main.specs.Refusals.{status_of}
 
 -- a text that spells a scene is not refused
@@ -86,9 +87,9 @@ greatest_success-low commands.Show = omega arith
 greatest_success-low (commands.Gen number) = omega arith
 greatest_success-low (commands.Trial number) = omega arith
 
-pub IsSuccess-low : (asked : Option Command) (reading : Reading) (done : Done) (text : List ℕ) → IsSuccess asked reading done text →
+pub IsSuccess-low : (asked : Option Command) (before now : SourceState) (done : Done) (text : List ℕ) → IsSuccess asked before now done text →
     done.status ≤ NO_PATH
-IsSuccess-low asked reading done text s =
+IsSuccess-low asked before now done text s =
     omega (arith, Succeeds-low s.command s.bytes done text s.meaning, greatest_success-low s.command)
 
 -- a command that tests the start reads a scene
@@ -123,46 +124,47 @@ long_before before now bytes came is = long_from now (subst (λ (b : Option (Lis
     long_from None consumed = absurd consumed
     long_from (Some rest) consumed = let long = came.1 in omega (arith, ap length consumed, length-append came.0 rest)
 
-module _ (reading : Reading) (command : Command) (status : ℕ) where
+module _ (before now : SourceState) (command : Command) (status : ℕ) where
   -- what a command has read decides its status as the bytes of the source do
-  by_reading : (reads : Bool) (bytes : List ℕ) → MatchBool reads (IsReadWhole reading bytes) (IsUnread reading) →
+  by_reading : (reads : Bool) (bytes : List ℕ) → MatchBool reads (IsReadWhole before now bytes) (IsUnread before now) →
       (IsTrue reads → IsDecidedBy bytes command status) → status ≤ greatest_success command →
-      MatchBool reads ((known : List ℕ) → reading.before ≡ Some known → IsDecidedBy known command status) (status ≤ greatest_success command)
+      MatchBool reads ((known : List ℕ) → before.bytes_left ≡ Some known → IsDecidedBy known command status) (status ≤ greatest_success command)
   by_reading true bytes whole decided low = λ known is. subst (λ (b : List ℕ). IsDecidedBy b command status) (whole.all known is) (decided refl)
   by_reading false bytes unread decided low = low
 
-  of_reader : IsTrue (reads_scene command) → ((known : List ℕ) → reading.before ≡ Some known → IsDecidedBy known command status) →
-      IsDecided reading.before command status
+  of_reader : IsTrue (reads_scene command) → ((known : List ℕ) → before.bytes_left ≡ Some known → IsDecidedBy known command status) →
+      IsDecided before.bytes_left command status
   of_reader reads decided =
-      subst (λ (b : Bool). MatchBool b ((known : List ℕ) → reading.before ≡ Some known → IsDecidedBy known command status) (status ≤ greatest_success command))
+      subst (λ (b : Bool).
+      MatchBool b ((known : List ℕ) → before.bytes_left ≡ Some known → IsDecidedBy known command status) (status ≤ greatest_success command))
       (sym reads) decided
 
-  of_whole : IsTrue (reads_scene command) → (bytes : List ℕ) → IsReadWhole reading bytes → IsDecidedBy bytes command status →
-      IsDecided reading.before command status
+  of_whole : IsTrue (reads_scene command) → (bytes : List ℕ) → IsReadWhole before now bytes → IsDecidedBy bytes command status →
+      IsDecided before.bytes_left command status
   of_whole reads bytes whole decided =
       of_reader reads (λ known is. subst (λ (b : List ℕ). IsDecidedBy b command status) (whole.all known is) decided)
 
 -- the status of a success
-pub success_decided : (asked : Option Command) (reading : Reading) (done : Done) (text : List ℕ) → IsSuccess asked reading done text →
-    IfSome asked (λ command. IsDecided reading.before command done.status)
-success_decided asked reading done text s =
+pub success_decided : (asked : Option Command) (before now : SourceState) (done : Done) (text : List ℕ) → IsSuccess asked before now done text →
+    IfSome asked (λ command. IsDecided before.bytes_left command done.status)
+success_decided asked before now done text s =
     let decided = by_meaning s.bytes s.command done text s.meaning in
     let low = Succeeds-low s.command s.bytes done text s.meaning in
-    subst (λ (a : Option Command). IfSome a (λ command. IsDecided reading.before command done.status)) (sym s.known)
-    (by_reading reading s.command done.status (reads_scene s.command) s.bytes s.read decided low)
+    subst (λ (a : Option Command). IfSome a (λ command. IsDecided before.bytes_left command done.status)) (sym s.known)
+    (by_reading before now s.command done.status (reads_scene s.command) s.bytes s.read decided low)
 
 -- the status of a refusal, if no read failed
-pub refusal_decided : (asked : Option Command) (reading : Reading) (refusal : Refusal) → IsCaused asked reading refusal →
-    ¬ ReadFailed reading →
-    (status_of refusal ≡ NO_MEMORY) ⊎ IfSome asked (λ command. IsDecided reading.before command (status_of refusal))
-refusal_decided None reading refusal cause sure = inr tt
-refusal_decided (Some command) reading refusals.Words cause sure = absurd cc
-refusal_decided (Some command) reading refusals.TooLong cause sure =
-    inr (of_reader reading command _ cause.0
-    (λ known is. by_length known command _ (long_before reading.before reading.now known cause.1.came is) refl))
-refusal_decided (Some command) reading (refusals.Text number kind) cause sure =
-    inr (of_whole reading command _ cause.0 cause.1.0 cause.1.1 (by_fault cause.1.0 command _ number kind cause.1.2 refl))
-refusal_decided (Some command) reading refusals.StartBlocked cause sure =
-    inr (of_whole reading command _ (tests-reads command cause.0) cause.1.0 cause.1.1 (by_start cause.1.0 command _ cause.1.2 cause.0 refl))
-refusal_decided (Some command) reading refusals.ReadFault cause sure = absurd (sure cause.1.rose)
-refusal_decided (Some command) reading refusals.Memory cause sure = inl refl
+pub refusal_decided : (asked : Option Command) (before now : SourceState) (refusal : Refusal) → IsCaused asked before now refusal →
+    ¬ ReadFailed before now →
+    (status_of refusal ≡ NO_MEMORY) ⊎ IfSome asked (λ command. IsDecided before.bytes_left command (status_of refusal))
+refusal_decided None before now refusal cause sure = inr tt
+refusal_decided (Some command) before now refusals.Words cause sure = absurd cc
+refusal_decided (Some command) before now refusals.TooLong cause sure =
+    inr (of_reader before now command _ cause.0
+    (λ known is. by_length known command _ (long_before before.bytes_left now.bytes_left known cause.1.came is) refl))
+refusal_decided (Some command) before now (refusals.Text number kind) cause sure =
+    inr (of_whole before now command _ cause.0 cause.1.0 cause.1.1 (by_fault cause.1.0 command _ number kind cause.1.2 refl))
+refusal_decided (Some command) before now refusals.StartBlocked cause sure =
+    inr (of_whole before now command _ (tests-reads command cause.0) cause.1.0 cause.1.1 (by_start cause.1.0 command _ cause.1.2 cause.0 refl))
+refusal_decided (Some command) before now refusals.ReadFault cause sure = absurd (sure cause.1.rose)
+refusal_decided (Some command) before now refusals.Memory cause sure = inl refl

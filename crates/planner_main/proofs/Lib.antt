@@ -1,5 +1,7 @@
 pub mod Causes
 pub mod DecidedStatuses
 pub mod Successes
+pub mod GivenAnswers
+pub mod ConcludedCalls
 pub mod GeneratedObstacles
 pub mod ClearStarts

@@ -1,5 +1,5 @@
 -- What a command succeeds with, from the scene that it has read or made and from the run of it.
-use Rattle.std.proofs.Common.{◌≡◌, ℕ, ◌<◌, Bool, List, [], length, Some, None, refl, subst}
+use Rattle.std.proofs.Common.{◌≡◌, ℕ, ◌<◌, Bool, List, length, Some, None, refl, subst}
 use Rattle.std.specs.Prelude.{is_some}
 use Rattle.plan_model.specs.declared.geometry.Point.{Point}
 use Rattle.plan_model.specs.declared.records.Record.{Record}
@@ -12,6 +12,7 @@ use Rattle.plan_model.specs.ClosedLaw.{IsClosed}
 use Rattle.plan_model.specs.MarkPoints.{mark_points}
 use Rattle.plan_model.specs.ReportText.{report_text}
 use Rattle.plan_model.specs.SameRuns.{IsOfTextbookRun}
+use Rattle.plan_model.specs.Streams.{SourceState}
 use Rattle.plan_model.specs.Textbook.{setup_of}
 use Rattle.plan_model.specs.TreeStates.{IsSettled}
 use Rattle.step_core.specs.declared.grown.Grown.{Grown}
@@ -19,8 +20,7 @@ use Rattle.step_core.specs.GrownRuns.{state_of_grown}
 use Rattle.planner_main.specs.declared.commands.Command.TheVariants as commands
 use Rattle.planner_main.specs.declared.statuses.TheConstants.{DONE}
 use Rattle.planner_main.specs.declared.top_call.Done.{Done}
-use Rattle.planner_main.specs.Conclusions.{HasScene, IsSuccess, Report, ReportsGrown, ReportsScene, TriesGenerated, status_of_report}
-use Rattle.planner_main.specs.Exchanges.{Reading, IsUnread}
+use Rattle.planner_main.specs.Conclusions.{HasScene, IsSuccess, Report, ReportsGrown, ReportsScene, status_of_report}
 
 -- a settled run over all marks of its scene is reported by its status and such a text; that it is closed, its type says
 pub ReportsGrown-answer :
@@ -58,9 +58,9 @@ pub ReportsScene-textbook :
 ReportsScene-textbook report scene grown done text of_scene reported run =
     record { grown = grown; reported = ReportsGrown-of_scene report scene grown done text of_scene reported; textbook = run }
 
-module _ (reading : Reading) (scene : Scene) (done : Done) (text : List ℕ) where
-  pub IsSuccess-plain : (full : Bool) → HasScene reading scene → ClearAt (space_of scene) scene.start →
-      ReportsScene (report_text full) scene done text → IsSuccess (Some (commands.Plain full)) reading done text
+module _ (before now : SourceState) (scene : Scene) (done : Done) (text : List ℕ) where
+  pub IsSuccess-plain : (full : Bool) → HasScene before now scene → ClearAt (space_of scene) scene.start →
+      ReportsScene (report_text full) scene done text → IsSuccess (Some (commands.Plain full)) before now done text
   IsSuccess-plain full h start report = record {
     command = commands.Plain full;
     known = refl;
@@ -70,10 +70,10 @@ module _ (reading : Reading) (scene : Scene) (done : Done) (text : List ℕ) whe
   }
 
   pub IsSuccess-planned :
-      (workers : ℕ) (full : Bool) → HasScene reading scene → ClearAt (space_of scene) scene.start → (grown : Grown)
+      (workers : ℕ) (full : Bool) → HasScene before now scene → ClearAt (space_of scene) scene.start → (grown : Grown)
       → ReportsGrown (report_text full) scene grown done text
       → ((k : ℕ) (entry : Record) → (state_of_grown grown).record_of k ≡ Some entry → entry.worker < workers)
-      → IsSuccess (Some (commands.Plan workers full)) reading done text
+      → IsSuccess (Some (commands.Plan workers full)) before now done text
   IsSuccess-planned workers full h start grown reported by_workers = record {
     command = commands.Plan workers full;
     known = refl;
@@ -89,8 +89,8 @@ module _ (reading : Reading) (scene : Scene) (done : Done) (text : List ℕ) whe
     };
   }
 
-  pub IsSuccess-shown : HasScene reading scene → done.status ≡ DONE → done.run ≡ None → text ≡ canonical_text scene →
-      IsSuccess (Some commands.Show) reading done text
+  pub IsSuccess-shown : HasScene before now scene → done.status ≡ DONE → done.run ≡ None → text ≡ canonical_text scene →
+      IsSuccess (Some commands.Show) before now done text
   IsSuccess-shown h shown no_run written = record {
     command = commands.Show;
     known = refl;
@@ -98,9 +98,3 @@ module _ (reading : Reading) (scene : Scene) (done : Done) (text : List ℕ) whe
     read = h.read;
     meaning = record { scene = scene; spelled = h.spelled; written = written; shown = shown; no_run = no_run };
   }
-
-module _ (reading : Reading) (done : Done) (text : List ℕ) where
-  pub IsSuccess-tried : (number : ℕ) → IsUnread reading → TriesGenerated number done text →
-      IsSuccess (Some (commands.Trial number)) reading done text
-  IsSuccess-tried number unread tried =
-      record { command = commands.Trial number; known = refl; bytes = []; read = unread; meaning = tried }

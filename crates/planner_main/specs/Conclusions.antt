@@ -1,6 +1,6 @@
 -- What the program may answer: a success with its text, or a refusal with its cause and its line.
 use Rattle.std.specs.Prelude.{◌≡◌, ℕ, ◌≤◌, ◌<◌, ◌⊎◌, Bool, true, false, IsTrue, MatchBool, List, length}
-use Rattle.std.specs.Prelude.{Option, Some, None, is_some, IsSome, IsSomeAnd}
+use Rattle.std.specs.Prelude.{Option, Some, None, is_some, IsSome, IsSomeAnd, Result, IfOk, IfErr}
 use Rattle.plan_model.specs.declared.limits.TheConstants.{MOST_TEXT_BYTES}
 use Rattle.plan_model.specs.declared.records.Record.{Record}
 use Rattle.plan_model.specs.declared.scenes.Scene.{Scene}
@@ -10,6 +10,7 @@ use Rattle.plan_model.specs.Clearance.{ClearAt}
 use Rattle.plan_model.specs.MarkPoints.{mark_points}
 use Rattle.plan_model.specs.ClosedLaw.{IsClosed}
 use Rattle.plan_model.specs.SameRuns.{IsOfTextbookRun}
+use Rattle.plan_model.specs.Streams.{SourceState}
 use Rattle.plan_model.specs.Textbook.{setup_of}
 use Rattle.plan_model.specs.TreeStates.{TreeState, IsSettled}
 use Rattle.plan_model.specs.BestNode.{best_node}
@@ -18,6 +19,8 @@ use Rattle.plan_model.specs.CanonicalText.{canonical_text}
 use Rattle.plan_model.specs.SceneGrammar.{Spells, Refused, supported}
 use Rattle.step_core.specs.declared.grown.Grown.{Grown}
 use Rattle.step_core.specs.GrownRuns.{state_of_grown}
+use Rattle.scene_text.specs.Fetching.{ReadsWithin}
+use Rattle.planner_main.specs.declared.answers.Answer.{Answer}
 use Rattle.planner_main.specs.declared.commands.Command.{Command}
 use Rattle.planner_main.specs.declared.commands.Command.TheVariants as commands
 use Rattle.planner_main.specs.declared.refusals.Refusal.{Refusal}
@@ -26,7 +29,7 @@ use Rattle.planner_main.specs.declared.statuses.TheConstants.{DONE, NO_PATH}
 use Rattle.planner_main.specs.declared.top_call.Done.{Done}
 use Rattle.planner_main.specs.Commands.{reads_scene, tests_start}
 use Rattle.planner_main.specs.GeneratedScenes.{IsGenerated}
-use Rattle.planner_main.specs.Exchanges.{Reading, IsReadWhole, IsUnread, IsReadFault, IsTooLong, NoReadFailed}
+use Rattle.planner_main.specs.Exchanges.{IsReadWhole, IsUnread, IsReadFault, IsTooLong, NoReadFailed}
 use Rattle.planner_main.specs.Refusals.{status_of, line_of}
 
 -- the bytes are a text of a permitted length that spells the scene
@@ -114,15 +117,15 @@ Succeeds (commands.Gen number) bytes done text = WritesGenerated number done tex
 Succeeds (commands.Trial number) bytes done text = TriesGenerated number done text
 
 -- what a command that succeeds has read: the whole text of the scene, or nothing
-abbrev pub HasRead : Command → Reading → List ℕ → Type 0
-HasRead command reading bytes = MatchBool (reads_scene command) (IsReadWhole reading bytes) (IsUnread reading)
+abbrev pub HasRead : Command → SourceState → SourceState → List ℕ → Type 0
+HasRead command before now bytes = MatchBool (reads_scene command) (IsReadWhole before now bytes) (IsUnread before now)
 
 -- the words ask for a command, and it succeeds
-pub record IsSuccess (asked : Option Command) (reading : Reading) (done : Done) (text : List ℕ) : Type 0 where
+pub record IsSuccess (asked : Option Command) (before now : SourceState) (done : Done) (text : List ℕ) : Type 0 where
   pub command : Command
   pub known : asked ≡ Some command
   pub bytes : List ℕ
-  pub read : HasRead command reading bytes
+  pub read : HasRead command before now bytes
   pub meaning : Succeeds command bytes done text
 
 -- the bytes spell a scene whose start is not clear
@@ -136,37 +139,45 @@ abbrev pub Asks : (Command → Bool) → Option Command → Type 0
 Asks table asked = IsSomeAnd asked (λ command. IsTrue (table command))
 
 -- the source was read to its end, and what came has a property
-abbrev pub ReadsSuch : Reading → (List ℕ → Type 0) → Type 0
-ReadsSuch reading P = (bytes : List ℕ) × IsReadWhole reading bytes × P bytes
+abbrev pub ReadsSuch : SourceState → SourceState → (List ℕ → Type 0) → Type 0
+ReadsSuch before now P = (bytes : List ℕ) × IsReadWhole before now bytes × P bytes
 
 -- why each refusal comes; that the program is out of memory is free
-abbrev pub IsCaused : Option Command → Reading → Refusal → Type 0
-IsCaused asked reading refusals.Words = (asked ≡ None) × IsUnread reading
-IsCaused asked reading refusals.TooLong = Asks reads_scene asked × IsTooLong reading
-IsCaused asked reading (refusals.Text number kind) = Asks reads_scene asked × ReadsSuch reading (IsFaultyText number kind)
-IsCaused asked reading refusals.StartBlocked = Asks tests_start asked × ReadsSuch reading BlocksStart
-IsCaused asked reading refusals.ReadFault = Asks reads_scene asked × IsReadFault reading
-IsCaused asked reading refusals.Memory = IsSome asked × NoReadFailed reading
+abbrev pub IsCaused : Option Command → SourceState → SourceState → Refusal → Type 0
+IsCaused asked before now refusals.Words = (asked ≡ None) × IsUnread before now
+IsCaused asked before now refusals.TooLong = Asks reads_scene asked × IsTooLong before now
+IsCaused asked before now (refusals.Text number kind) = Asks reads_scene asked × ReadsSuch before now (IsFaultyText number kind)
+IsCaused asked before now refusals.StartBlocked = Asks tests_start asked × ReadsSuch before now BlocksStart
+IsCaused asked before now refusals.ReadFault = Asks reads_scene asked × IsReadFault before now
+IsCaused asked before now refusals.Memory = IsSome asked × NoReadFailed before now
 
 -- the start of the scene is clear, if the command tests it
 abbrev pub MayStart : Command → Scene → Type 0
 MayStart command scene = IsTrue (tests_start command) → ClearAt (space_of scene) scene.start
 
 -- the source was read to its end, and what came is a text of the scene
-pub record HasScene (reading : Reading) (scene : Scene) : Type 0 where
+pub record HasScene (before now : SourceState) (scene : Scene) : Type 0 where
   pub bytes : List ℕ
-  pub read : IsReadWhole reading bytes
+  pub read : IsReadWhole before now bytes
   pub spelled : IsTextOf scene bytes
 
 -- a refusal with its cause, its status and its line; there is no run
-pub record IsRefusal (asked : Option Command) (reading : Reading) (done : Done) (text : List ℕ) : Type 0 where
+pub record IsRefusal (asked : Option Command) (before now : SourceState) (done : Done) (text : List ℕ) : Type 0 where
   pub refusal : Refusal
-  pub cause : IsCaused asked reading refusal
+  pub cause : IsCaused asked before now refusal
   pub status : done.status ≡ status_of refusal
   pub no_run : done.run ≡ None
   pub written : text ≡ line_of refusal
 
--- The answer of the program, before it is written: what it does for the words, what it has read, what is done, and the
--- text that is to be written.
-abbrev pub IsAnswer : Option Command → Reading → Done → List ℕ → Type 0
-IsAnswer asked reading done text = IsSuccess asked reading done text ⊎ IsRefusal asked reading done text
+-- The answer of the program, before it is written: to the words, from the source before and after it was read, what is done,
+-- and the text that is to be written.
+abbrev pub IsAnswer : Option Command → SourceState → SourceState → Done → List ℕ → Type 0
+IsAnswer asked before now done text = IsSuccess asked before now done text ⊎ IsRefusal asked before now done text
+
+-- What is answered to the words, as the program hands it down. Unless they ask for a command that reads a scene, nothing is read,
+-- and never more than one byte past the limit of a text is.
+pub record Answers (asked : Option Command) (before now : SourceState) (result : Result Answer Refusal) : Type 0 where
+  pub success : IfOk result (λ answer. IsSuccess asked before now answer.done answer.text.items)
+  pub refusal : IfErr result (IsCaused asked before now)
+  pub unread : (¬ Asks reads_scene asked) → IsUnread before now
+  pub within : ReadsWithin before.bytes_left now.bytes_left

@@ -2,6 +2,7 @@ pub mod Refusals
 pub mod Exchanges
 pub mod Conclusions
 pub mod Decisions
+pub mod Endings
 pub mod Faults
 pub mod Commands
 pub mod CommandLines

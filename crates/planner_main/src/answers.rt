@@ -4,7 +4,6 @@
 ghost use Rattle.std.specs.Prelude.{◌≡◌, ◌≤◌, ◌<◌, ◌⊎◌, ℕ, true, false, length, map, is_some, string_bytes, IfOk, IfErr, None, Some};
 ghost use Rattle.plan_model.specs.ConfigurationSpace.{space_of};
 ghost use Rattle.plan_model.specs.Clearance.{ClearAt};
-ghost use Rattle.plan_model.specs.BestNode.{best_node};
 ghost use Rattle.plan_model.specs.declared.limits.TheConstants.{MOST_WORKERS};
 ghost use Rattle.plan_model.specs.declared.records.Record.{Record};
 ghost use Rattle.plan_model.specs.MarkPoints.{mark_points};
@@ -14,8 +13,7 @@ ghost use Rattle.plan_model.specs.Textbook.{setup_of};
 ghost use Rattle.plan_model.specs.TreeStates.{IsSettled};
 ghost use Rattle.scene_text.specs.Fetching.{ReadsWithin};
 ghost use Rattle.planner_main.specs.Commands.{command_of, reads_scene, IsNumbered};
-ghost use Rattle.planner_main.specs.Conclusions.{IsSuccess, IsCaused, HasScene, ReportsGrown, WritesGenerated, TriesGenerated, Asks, status_of_report};
-ghost use Rattle.planner_main.specs.Exchanges.{reading_of, IsUnread};
+ghost use Rattle.planner_main.specs.Conclusions.{Answers, IsCaused, HasScene, ReportsGrown, WritesGenerated, TriesGenerated, status_of_report};
 ghost use Rattle.planner_main.specs.declared.generated_scenes.TheConstants.{MOST_GENERATED};
 ghost use Rattle.step_core.specs.GrownRuns.{state_of_grown};
 
@@ -28,7 +26,7 @@ use plan_model::{Memory, Scene, Source, Task};
 use plan_work::{Gate, grow};
 use scene_text::{fetch, read_scene, write_scene};
 use seq_planner::textbook;
-use settle_report::{best, report, settle, summary};
+use settle_report::{best, report_by_best, settle, summary_by_best};
 use std::alloc::Global;
 use std::sync::Wait;
 use std::thread::Threads;
@@ -59,14 +57,8 @@ pub fn answer_to<R: Threads + Sync + Wait, S: Source, G: Gate>(
     source: &mut S,
     gate: &G,
 ) -> Result<Answer, Refusal>
-    requires { S.has_ended source.old ≡ false }
-    ensures success { IfOk result (λ answer. IsSuccess (command_of (map string_bytes words.now))
-        (reading_of S.counts_failures_alone S.bytes_left S.has_ended S.fault_count source.old source.new) answer.done answer.text.items) }
-    ensures refusal { IfErr result (IsCaused (command_of (map string_bytes words.now))
-        (reading_of S.counts_failures_alone S.bytes_left S.has_ended S.fault_count source.old source.new)) }
-    ensures unread { (¬ Asks reads_scene (command_of (map string_bytes words.now)))
-        → IsUnread (reading_of S.counts_failures_alone S.bytes_left S.has_ended S.fault_count source.old source.new) }
-    ensures within { ReadsWithin (S.bytes_left source.old) (S.bytes_left source.new) }
+    requires { (S.state source.old).has_ended ≡ false }
+    ensures { Answers (command_of (map string_bytes words.now)) (S.state source.old) (S.state source.new) result }
 {
     match command_of(words) {
         Some(command) => perform(rt, alloc, command, source, gate),
@@ -83,14 +75,8 @@ fn perform<R: Threads + Sync + Wait, S: Source, G: Gate>(
     gate: &G,
 ) -> Result<Answer, Refusal>
     requires number { IsNumbered command }
-    requires unended { S.has_ended source.old ≡ false }
-    ensures success { IfOk result (λ answer. IsSuccess (Some command)
-        (reading_of S.counts_failures_alone S.bytes_left S.has_ended S.fault_count source.old source.new) answer.done answer.text.items) }
-    ensures refusal { IfErr result (IsCaused (Some command)
-        (reading_of S.counts_failures_alone S.bytes_left S.has_ended S.fault_count source.old source.new)) }
-    ensures unread { reads_scene command ≡ false
-        → IsUnread (reading_of S.counts_failures_alone S.bytes_left S.has_ended S.fault_count source.old source.new) }
-    ensures within { ReadsWithin (S.bytes_left source.old) (S.bytes_left source.new) }
+    requires unended { (S.state source.old).has_ended ≡ false }
+    ensures { Answers (Some command) (S.state source.old) (S.state source.new) result }
 {
     match command {
         Command::Plain { full } => plain(alloc, full, source),
@@ -103,12 +89,8 @@ fn perform<R: Threads + Sync + Wait, S: Source, G: Gate>(
 
 /// Plans the scene that is read as the textbook does, and reports it in full or in short.
 fn plain<S: Source>(alloc: Global, full: bool, source: &mut S) -> Result<Answer, Refusal>
-    requires { S.has_ended source.old ≡ false }
-    ensures success { IfOk result (λ answer. IsSuccess (Some (Command.Plain full))
-        (reading_of S.counts_failures_alone S.bytes_left S.has_ended S.fault_count source.old source.new) answer.done answer.text.items) }
-    ensures refusal { IfErr result (IsCaused (Some (Command.Plain full))
-        (reading_of S.counts_failures_alone S.bytes_left S.has_ended S.fault_count source.old source.new)) }
-    ensures within { ReadsWithin (S.bytes_left source.old) (S.bytes_left source.new) }
+    requires { (S.state source.old).has_ended ≡ false }
+    ensures { Answers (Some (Command.Plain full)) (S.state source.old) (S.state source.new) result }
 {
     let scene = scene_for(alloc, Command::Plain { full }, source)?;
     let hall = hall_for(alloc, &scene)?;
@@ -127,12 +109,8 @@ fn plan<R: Threads + Sync + Wait, S: Source, G: Gate>(
 ) -> Result<Answer, Refusal>
     requires some { 1 ≤ workers }
     requires few { workers ≤ MOST_WORKERS }
-    requires unended { S.has_ended source.old ≡ false }
-    ensures success { IfOk result (λ answer. IsSuccess (Some (Command.Plan workers full))
-        (reading_of S.counts_failures_alone S.bytes_left S.has_ended S.fault_count source.old source.new) answer.done answer.text.items) }
-    ensures refusal { IfErr result (IsCaused (Some (Command.Plan workers full))
-        (reading_of S.counts_failures_alone S.bytes_left S.has_ended S.fault_count source.old source.new)) }
-    ensures within { ReadsWithin (S.bytes_left source.old) (S.bytes_left source.new) }
+    requires unended { (S.state source.old).has_ended ≡ false }
+    ensures { Answers (Some (Command.Plan workers full)) (S.state source.old) (S.state source.new) result }
 {
     let scene = scene_for(alloc, Command::Plan { workers, full }, source)?;
     let hall = hall_for(alloc, &scene)?;
@@ -142,12 +120,8 @@ fn plan<R: Threads + Sync + Wait, S: Source, G: Gate>(
 
 /// Shows the scene that is read.
 fn show<S: Source>(alloc: Global, source: &mut S) -> Result<Answer, Refusal>
-    requires { S.has_ended source.old ≡ false }
-    ensures success { IfOk result (λ answer. IsSuccess (Some Command.Show)
-        (reading_of S.counts_failures_alone S.bytes_left S.has_ended S.fault_count source.old source.new) answer.done answer.text.items) }
-    ensures refusal { IfErr result (IsCaused (Some Command.Show)
-        (reading_of S.counts_failures_alone S.bytes_left S.has_ended S.fault_count source.old source.new)) }
-    ensures within { ReadsWithin (S.bytes_left source.old) (S.bytes_left source.new) }
+    requires { (S.state source.old).has_ended ≡ false }
+    ensures { Answers (Some Command.Show) (S.state source.old) (S.state source.new) result }
 {
     let scene = scene_for(alloc, Command::Show, source)?;
     Ok(Answer {
@@ -162,12 +136,10 @@ fn show<S: Source>(alloc: Global, source: &mut S) -> Result<Answer, Refusal>
 /// The scene that a command asks for, read from the source.
 fn scene_for<S: Source>(alloc: Global, command: Command, source: &mut S) -> Result<Scene, Refusal>
     requires reads { reads_scene command ≡ true }
-    requires unended { S.has_ended source.old ≡ false }
-    ensures scene { IfOk result (HasScene
-        (reading_of S.counts_failures_alone S.bytes_left S.has_ended S.fault_count source.old source.new)) }
-    ensures refusal { IfErr result (IsCaused (Some command)
-        (reading_of S.counts_failures_alone S.bytes_left S.has_ended S.fault_count source.old source.new)) }
-    ensures within { ReadsWithin (S.bytes_left source.old) (S.bytes_left source.new) }
+    requires unended { (S.state source.old).has_ended ≡ false }
+    ensures scene { IfOk result (HasScene (S.state source.old) (S.state source.new)) }
+    ensures refusal { IfErr result (IsCaused (Some command) (S.state source.old) (S.state source.new)) }
+    ensures within { ReadsWithin (S.state source.old).bytes_left (S.state source.new).bytes_left }
 {
     let text = fetch(alloc, source)?;
     let scene = read_scene(alloc, &text)?;
@@ -236,8 +208,9 @@ fn report_of(alloc: Global, full: bool, grown: Grown) -> Result<Answer, Memory>
     requires settled { IsSettled (state_of_grown grown) }
     ensures { IfOk result (λ answer. ReportsGrown (report_text full) grown.task.scene grown answer.done answer.text.items) }
 {
-    let text = report(alloc, &grown, full)?;
-    Ok(answer_of(grown, text))
+    let best = best(&grown);
+    let text = report_by_best(alloc, &grown, best, full)?;
+    Ok(answer_of(grown, best, text))
 }
 
 /// The summary of a settled run over all marks of its scene.
@@ -246,21 +219,20 @@ fn summary_of(alloc: Global, grown: Grown) -> Result<Answer, Memory>
     requires settled { IsSettled (state_of_grown grown) }
     ensures { IfOk result (λ answer. ReportsGrown summary grown.task.scene grown answer.done answer.text.items) }
 {
-    let text = summary(alloc, &grown)?;
-    Ok(answer_of(grown, text))
+    let best = best(&grown);
+    let text = summary_by_best(alloc, &grown, best)?;
+    Ok(answer_of(grown, best, text))
 }
 
-/// The answer that a report of a settled run is.
-fn answer_of(grown: Grown, text: Vec<u8>) -> Answer
-    requires { IsSettled (state_of_grown grown) }
-    ensures status { result.done.status ≡ status_of_report (is_some (best_node grown.task.scene grown.limit (state_of_grown grown))) }
+/// The answer that a report of a run with this best node is.
+fn answer_of(grown: Grown, best: Option<u32>, text: Vec<u8>) -> Answer
+    ensures status { result.done.status ≡ status_of_report (is_some best) }
     ensures run { result.done.run ≡ Some grown }
     ensures text { result.text ≡ text }
 {
-    let found = best(&grown).is_some();
     Answer {
         done: Done {
-            status: if found { DONE } else { NO_PATH },
+            status: if best.is_some() { DONE } else { NO_PATH },
             run: Some(grown),
         },
         text,

@@ -1,16 +1,14 @@
 //! The exit code of the program, from the words of its command line.
 
-ghost use Rattle.std.specs.Prelude.{◌≡◌, ◌≢◌, ℕ, ◌⊎◌, false, List, Option, IfOk, IfSome, IsErr};
+ghost use Rattle.std.specs.Prelude.{◌≡◌, ◌⊎◌, false, Option, IfOk, IsErr};
 ghost use Rattle.std.specs.Process.{exit_status};
 ghost use Rattle.step_core.specs.declared.grown.Grown.{Grown};
 ghost use Rattle.planner_main.specs.CommandLines.{given, words_after_name, IsOutOfMemory};
-ghost use Rattle.scene_text.specs.Fetching.{ReadsWithin};
-ghost use Rattle.planner_main.specs.Commands.{command_of, reads_scene};
-ghost use Rattle.planner_main.specs.Conclusions.{IsAnswer, Asks};
-ghost use Rattle.planner_main.specs.Decisions.{IsDecided};
-ghost use Rattle.planner_main.specs.Exchanges.{reading_of, writing_of, ReadFailed, WriteFailed, IsUnread, IsUnwritten, IsWrittenWhole, IsCutShort};
+ghost use Rattle.planner_main.specs.Commands.{command_of};
+ghost use Rattle.planner_main.specs.Endings.{HasConcluded};
+ghost use Rattle.planner_main.specs.Exchanges.{IsUnread, IsUnwritten};
 
-use crate::statuses::{NO_MEMORY, WRITE_FAULT};
+use crate::statuses::NO_MEMORY;
 use crate::top_call::run;
 use plan_model::{Memory, Sink, Source};
 use plan_work::NoGate;
@@ -32,30 +30,12 @@ pub fn exit_code<R: Threads + Sync + Wait, S: Source, K: Sink>(
     source: &mut S,
     sink: &mut K,
 ) -> ExitCode
-    requires { S.has_ended source.old ≡ false }
-    // out of memory for the words, or an answer to them with its cause, whose whole text is written
-    ensures done { let reading = reading_of S.counts_failures_alone S.bytes_left S.has_ended S.fault_count source.old source.new in
-        let writing = writing_of K.counts_failures_alone K.bytes_taken K.fault_count sink.old sink.new in
-        exit_status result ≢ WRITE_FAULT → ((exit_status result ≡ NO_MEMORY) × IsUnread reading × IsUnwritten writing)
-        ⊎ ((run : Option Grown) × (text : List ℕ)
-        × IsAnswer (command_of (words_after_name args)) reading (record { status = exit_status result; run = run }) text
-        × IsWrittenWhole writing text) }
-    // the sink failed, and took a proper prefix of the text of such an answer
-    ensures cut { let reading = reading_of S.counts_failures_alone S.bytes_left S.has_ended S.fault_count source.old source.new in
-        let writing = writing_of K.counts_failures_alone K.bytes_taken K.fault_count sink.old sink.new in
-        exit_status result ≡ WRITE_FAULT → (status : ℕ) × (run : Option Grown) × (text : List ℕ)
-        × IsAnswer (command_of (words_after_name args)) reading (record { status = status; run = run }) text
-        × IsCutShort writing text }
-    // if no count of faults rose, the bytes decide the code, or the program is out of memory
-    ensures decided { let reading = reading_of S.counts_failures_alone S.bytes_left S.has_ended S.fault_count source.old source.new in
-        let writing = writing_of K.counts_failures_alone K.bytes_taken K.fault_count sink.old sink.new in
-        (¬ ReadFailed reading) → (¬ WriteFailed writing) → (exit_status result ≡ NO_MEMORY)
-        ⊎ IfSome (command_of (words_after_name args)) (λ command. IsDecided reading.before command (exit_status result)) }
-    // unless the words ask for a command that reads a scene, nothing is read
-    ensures unread { (¬ Asks reads_scene (command_of (words_after_name args)))
-        → IsUnread (reading_of S.counts_failures_alone S.bytes_left S.has_ended S.fault_count source.old source.new) }
-    // never more than one byte past the limit of a text is read
-    ensures within { ReadsWithin (S.bytes_left source.old) (S.bytes_left source.new) }
+    requires { (S.state source.old).has_ended ≡ false }
+    // out of memory for the words, and then nothing is read or written; or what `run` does for them
+    ensures done { ((exit_status result ≡ NO_MEMORY) × IsUnread (S.state source.old) (S.state source.new)
+        × IsUnwritten (K.state sink.old) (K.state sink.new))
+        ⊎ ((run : Option Grown) × HasConcluded (command_of (words_after_name args)) (S.state source.old) (S.state source.new)
+        (K.state sink.old) (K.state sink.new) (record { status = exit_status result; run = run })) }
     ensures no_words { IsOutOfMemory args → exit_status result ≡ NO_MEMORY }
 {
     match words_after_name(alloc, args) {

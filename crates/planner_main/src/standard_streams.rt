@@ -19,9 +19,9 @@ pub struct StdSource<R> {
 impl<R: Read> StdSource<R> {
     /// A source over a reader whose end was not given yet.
     pub fn new(reader: R) -> Self
-        ensures open { ⟦<StdSource<R> as Source>⟧.has_ended result ≡ false }
-        ensures faultless { ⟦<StdSource<R> as Source>⟧.fault_count result ≡ 0 }
-        ensures bytes { ⟦<StdSource<R> as Source>⟧.bytes_left result ≡ R.remaining reader }
+        ensures open { (⟦<StdSource<R> as Source>⟧.state result).has_ended ≡ false }
+        ensures faultless { (⟦<StdSource<R> as Source>⟧.state result).fault_count ≡ 0 }
+        ensures bytes { (⟦<StdSource<R> as Source>⟧.state result).bytes_left ≡ R.remaining reader }
     {
         StdSource {
             reader,
@@ -32,13 +32,7 @@ impl<R: Read> StdSource<R> {
 }
 
 impl<R: Read> Source for StdSource<R> {
-    ghost bytes_left = { λ s. R.remaining s.reader };
-
-    ghost has_ended = { λ s. s.ended };
-
-    ghost fault_count = { λ s. s.faults };
-
-    ghost counts_failures_alone = { true };
+    ghost state = { λ s. record { bytes_left = R.remaining s.reader; has_ended = s.ended; fault_count = s.faults; counts_failures_alone = true } };
 
     fn faults(&self) -> u64 {
         self.faults
@@ -72,19 +66,15 @@ pub struct StdSink<W> {
 impl<W: Write> StdSink<W> {
     /// A sink over a writer.
     pub fn new(writer: W) -> Self
-        ensures faultless { ⟦<StdSink<W> as Sink>⟧.fault_count result ≡ 0 }
-        ensures bytes { ⟦<StdSink<W> as Sink>⟧.bytes_taken result ≡ W.contents writer }
+        ensures faultless { (⟦<StdSink<W> as Sink>⟧.state result).fault_count ≡ 0 }
+        ensures bytes { (⟦<StdSink<W> as Sink>⟧.state result).bytes_taken ≡ W.contents writer }
     {
         StdSink { writer, faults: 0 }
     }
 }
 
 impl<W: Write> Sink for StdSink<W> {
-    ghost bytes_taken = { λ s. W.contents s.writer };
-
-    ghost fault_count = { λ s. s.faults };
-
-    ghost counts_failures_alone = { true };
+    ghost state = { λ s. record { bytes_taken = W.contents s.writer; fault_count = s.faults; counts_failures_alone = true } };
 
     fn faults(&self) -> u64 {
         self.faults

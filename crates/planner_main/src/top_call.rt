@@ -1,14 +1,12 @@
 //! The top call: everything that the program does, over any source and any sink.
 
-ghost use Rattle.std.specs.Prelude.{◌≡◌, ◌≢◌, ℕ, ◌⊎◌, false, List, map, string_bytes, IfSome, None};
-ghost use Rattle.scene_text.specs.Fetching.{ReadsWithin};
-ghost use Rattle.planner_main.specs.Commands.{command_of, reads_scene};
-ghost use Rattle.planner_main.specs.Conclusions.{IsAnswer, Asks};
-ghost use Rattle.planner_main.specs.Decisions.{IsDecided};
-ghost use Rattle.planner_main.specs.Exchanges.{reading_of, writing_of, ReadFailed, WriteFailed, IsUnread, IsWrittenWhole, IsCutShort};
+ghost use Rattle.std.specs.Prelude.{◌≡◌, ◌≢◌, false, map, string_bytes};
+ghost use Rattle.planner_main.specs.Commands.{command_of};
+ghost use Rattle.planner_main.specs.Endings.{HasConcluded};
+ghost use Rattle.planner_main.specs.Exchanges.{IsWrittenWhole, IsCutShort};
 
 use crate::answers::{Answer, answer_to};
-use crate::statuses::{NO_MEMORY, WORDS_REFUSED, WRITE_FAULT};
+use crate::statuses::WRITE_FAULT;
 use plan_model::{Sink, Source};
 use plan_work::Gate;
 use settle_report::deliver;
@@ -48,29 +46,9 @@ pub fn run<R: Threads + Sync + Wait, S: Source, K: Sink, G: Gate>(
     sink: &mut K,
     gate: &G,
 ) -> Done
-    requires { S.has_ended source.old ≡ false }
-    // a success by the command, or a refusal by its cause; the whole text is written
-    ensures done { let reading = reading_of S.counts_failures_alone S.bytes_left S.has_ended S.fault_count source.old source.new in
-        let writing = writing_of K.counts_failures_alone K.bytes_taken K.fault_count sink.old sink.new in
-        result.status ≢ WRITE_FAULT → (text : List ℕ) × IsAnswer (command_of (map string_bytes words.now)) reading result text
-        × IsWrittenWhole writing text }
-    // the sink failed, and took a proper prefix of the text of such an answer
-    ensures cut { let reading = reading_of S.counts_failures_alone S.bytes_left S.has_ended S.fault_count source.old source.new in
-        let writing = writing_of K.counts_failures_alone K.bytes_taken K.fault_count sink.old sink.new in
-        result.status ≡ WRITE_FAULT → (status : ℕ) × (text : List ℕ)
-        × IsAnswer (command_of (map string_bytes words.now)) reading (record result { status = status }) text × IsCutShort writing text }
-    // if no count of faults rose, the bytes decide the status, or the program is out of memory
-    ensures decided { let reading = reading_of S.counts_failures_alone S.bytes_left S.has_ended S.fault_count source.old source.new in
-        let writing = writing_of K.counts_failures_alone K.bytes_taken K.fault_count sink.old sink.new in
-        (¬ ReadFailed reading) → (¬ WriteFailed writing) → (result.status ≡ NO_MEMORY)
-        ⊎ IfSome (command_of (map string_bytes words.now)) (λ command. IsDecided reading.before command result.status) }
-    // words that ask for no command are refused
-    ensures words { command_of (map string_bytes words.now) ≡ None → (result.status ≡ WORDS_REFUSED) ⊎ (result.status ≡ WRITE_FAULT) }
-    // unless the words ask for a command that reads a scene, nothing is read
-    ensures unread { (¬ Asks reads_scene (command_of (map string_bytes words.now)))
-        → IsUnread (reading_of S.counts_failures_alone S.bytes_left S.has_ended S.fault_count source.old source.new) }
-    // never more than one byte past the limit of a text is read
-    ensures within { ReadsWithin (S.bytes_left source.old) (S.bytes_left source.new) }
+    requires { (S.state source.old).has_ended ≡ false }
+    ensures { HasConcluded (command_of (map string_bytes words.now)) (S.state source.old) (S.state source.new)
+        (K.state sink.old) (K.state sink.new) result }
 {
     match answer_to(rt, alloc, words, source, gate) {
         Ok(Answer { done, text }) => conclude(sink, &text, done),
@@ -87,10 +65,9 @@ pub fn run<R: Threads + Sync + Wait, S: Source, K: Sink, G: Gate>(
 /// Writes the text of an answer. Its status becomes `WRITE_FAULT` if the sink fails.
 fn conclude<K: Sink>(sink: &mut K, text: &[u8], done: Done) -> Done
     requires { done.status ≢ WRITE_FAULT }
-    ensures done { result.status ≢ WRITE_FAULT → (result ≡ done)
-        × IsWrittenWhole (writing_of K.counts_failures_alone K.bytes_taken K.fault_count sink.old sink.new) text.now }
+    ensures done { result.status ≢ WRITE_FAULT → (result ≡ done) × IsWrittenWhole (K.state sink.old) (K.state sink.new) text.now }
     ensures cut { result.status ≡ WRITE_FAULT → (record result { status = done.status } ≡ done)
-        × IsCutShort (writing_of K.counts_failures_alone K.bytes_taken K.fault_count sink.old sink.new) text.now }
+        × IsCutShort (K.state sink.old) (K.state sink.new) text.now }
 {
     match deliver(sink, text) {
         Ok(()) => done,

@@ -52,24 +52,24 @@ impl From<AllocError> for FetchFault {
 /// `Read` if a read failed, `TooLong` exactly if more than `MOST_TEXT_BYTES` bytes came, and `Memory` if out of memory for
 /// the bytes. The source has then not given its end.
 pub fn fetch<S: Source>(alloc: Global, source: &mut S) -> Result<Vec<u8>, FetchFault>
-    requires { S.has_ended source.old ≡ false }
-    ensures end { OnOk result (S.has_ended source.new ≡ true) }
-    ensures no_end { OnErr result (S.has_ended source.new ≡ false) }
+    requires { (S.state source.old).has_ended ≡ false }
+    ensures end { OnOk result ((S.state source.new).has_ended ≡ true) }
+    ensures no_end { OnErr result ((S.state source.new).has_ended ≡ false) }
     // the bytes that came were the next ones of the source; a text is those bytes
-    ensures came { Fetches (S.bytes_left source.old) (S.bytes_left source.new) result }
+    ensures came { Fetches (S.state source.old).bytes_left (S.state source.new).bytes_left result }
     // and it is all bytes of the source, if they are known
-    ensures bytes { IfOk result (λ text. IsAllOf (S.bytes_left source.old) text.items) }
-    ensures none_left { OnOk result (IsAtEnd (S.bytes_left source.new)) }
+    ensures bytes { IfOk result (λ text. IsAllOf (S.state source.old).bytes_left text.items) }
+    ensures none_left { OnOk result (IsAtEnd (S.state source.new).bytes_left) }
     ensures small { IfOk result (λ text. length text.items ≤ MOST_TEXT_BYTES) }
-    ensures too_long { IsErrOf result FetchFault.TooLong → CameTooLong (S.bytes_left source.old) (S.bytes_left source.new) }
-    ensures within { ReadsWithin (S.bytes_left source.old) (S.bytes_left source.new) }
-    ensures read { IsErrOf result FetchFault.Read → FaultsRose (S.fault_count source.old) (S.fault_count source.new) }
-    ensures later { S.fault_count source.old ≤ S.fault_count source.new }
+    ensures too_long { IsErrOf result FetchFault.TooLong → CameTooLong (S.state source.old).bytes_left (S.state source.new).bytes_left }
+    ensures within { ReadsWithin (S.state source.old).bytes_left (S.state source.new).bytes_left }
+    ensures read { IsErrOf result FetchFault.Read → FaultsRose (S.state source.old).fault_count (S.state source.new).fault_count }
+    ensures later { (S.state source.old).fault_count ≤ (S.state source.new).fault_count }
     // if the source counts failures alone, a read failed exactly if the result says so, and none was tried again
-    ensures one_fault { IsTrue S.counts_failures_alone → IsErrOf result FetchFault.Read
-        → S.fault_count source.new ≡ counted (S.fault_count source.old) }
-    ensures no_fault { IsTrue S.counts_failures_alone → ¬ IsErrOf result FetchFault.Read
-        → S.fault_count source.new ≡ S.fault_count source.old }
+    ensures one_fault { IsTrue (S.state source.old).counts_failures_alone → IsErrOf result FetchFault.Read
+        → (S.state source.new).fault_count ≡ counted (S.state source.old).fault_count }
+    ensures no_fault { IsTrue (S.state source.old).counts_failures_alone → ¬ IsErrOf result FetchFault.Read
+        → (S.state source.new).fault_count ≡ (S.state source.old).fault_count }
 {
     let mut text = Vec::new(alloc);
     let mut buffer = [0; MOST_IN_PIECE];

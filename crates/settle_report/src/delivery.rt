@@ -13,13 +13,15 @@ use plan_model::{Failed, Sink};
 ///
 /// `Failed` if a write failed, which raised the sink's count of faults. The sink then took a proper prefix of the text.
 pub fn deliver<K: Sink>(sink: &mut K, text: &[u8]) -> Result<(), Failed>
-    ensures whole { OnOk result (Appends (K.bytes_taken sink.old) (K.bytes_taken sink.new) text.now) }
-    ensures prefix { OnErr result (AppendsPrefix (K.bytes_taken sink.old) (K.bytes_taken sink.new) text.now) }
-    ensures failed { OnErr result (FaultsRose (K.fault_count sink.old) (K.fault_count sink.new)) }
-    ensures later { K.fault_count sink.old ≤ K.fault_count sink.new }
+    ensures whole { OnOk result (Appends (K.state sink.old).bytes_taken (K.state sink.new).bytes_taken text.now) }
+    ensures prefix { OnErr result (AppendsPrefix (K.state sink.old).bytes_taken (K.state sink.new).bytes_taken text.now) }
+    ensures failed { OnErr result (FaultsRose (K.state sink.old).fault_count (K.state sink.new).fault_count) }
+    ensures later { (K.state sink.old).fault_count ≤ (K.state sink.new).fault_count }
     // if the sink counts failures alone, no write failed, or one did and was not tried again
-    ensures no_fault { IsTrue K.counts_failures_alone → OnOk result (K.fault_count sink.new ≡ K.fault_count sink.old) }
-    ensures one_fault { IsTrue K.counts_failures_alone → OnErr result (K.fault_count sink.new ≡ counted (K.fault_count sink.old)) }
+    ensures no_fault { IsTrue (K.state sink.old).counts_failures_alone
+        → OnOk result ((K.state sink.new).fault_count ≡ (K.state sink.old).fault_count) }
+    ensures one_fault { IsTrue (K.state sink.old).counts_failures_alone
+        → OnErr result ((K.state sink.new).fault_count ≡ counted (K.state sink.old).fault_count) }
 {
     let mut written = 0;
     while written < text.len() {

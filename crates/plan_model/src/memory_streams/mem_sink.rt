@@ -63,11 +63,7 @@ impl MemSink {
 }
 
 impl Sink for MemSink {
-    ghost bytes_taken = { λ s. Some s.bytes };
-
-    ghost fault_count = { λ s. s.faults };
-
-    ghost counts_failures_alone = { true };
+    ghost state = { λ s. record { bytes_taken = Some s.bytes; fault_count = s.faults; counts_failures_alone = true } };
 
     fn faults(&self) -> u64 {
         self.faults

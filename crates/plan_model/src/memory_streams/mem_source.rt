@@ -57,13 +57,7 @@ impl MemSource {
 }
 
 impl Source for MemSource {
-    ghost bytes_left = { λ s. Some s.left };
-
-    ghost has_ended = { λ s. s.ended };
-
-    ghost fault_count = { λ s. s.faults };
-
-    ghost counts_failures_alone = { true };
+    ghost state = { λ s. record { bytes_left = Some s.left; has_ended = s.ended; fault_count = s.faults; counts_failures_alone = true } };
 
     fn faults(&self) -> u64
         ensures value { result ≡ self.now.faults }

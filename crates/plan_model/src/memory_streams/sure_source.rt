@@ -41,13 +41,7 @@ impl SureSource {
 }
 
 impl Source for SureSource {
-    ghost bytes_left = { λ s. Some s.left };
-
-    ghost has_ended = { λ s. s.ended };
-
-    ghost fault_count = { λ _. 0 };
-
-    ghost counts_failures_alone = { true };
+    ghost state = { λ s. record { bytes_left = Some s.left; has_ended = s.ended; fault_count = 0; counts_failures_alone = true } };
 
     fn faults(&self) -> u64 {
         0

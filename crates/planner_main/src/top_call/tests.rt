@@ -37,7 +37,7 @@ fn expect_over<R: Threads + Sync + Wait + Abort, S: Source>(
     source: &mut S,
     case: &Case,
 ) -> Result<(), Fail>
-    requires { S.has_ended source.old ≡ false }
+    requires { (S.state source.old).has_ended ≡ false }
 {
     let (status, written) = answer_over(rt, alloc, words, source)?;
     assert_text(rt, &written, case.text, &case.shows);

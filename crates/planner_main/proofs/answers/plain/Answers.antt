@@ -1,22 +1,29 @@
 use Rattle.std.proofs.Common.{refl}
-use Rattle.planner_main.specs.Conclusions.{IsCaused}
-use Rattle.planner_main.specs.Exchanges.{reading_of}
 use Rattle.planner_main.specs.declared.commands.Command.TheVariants as commands
-use Rattle.planner_main.proofs.Causes.{hall-caused, IfErr-only}
+use Rattle.planner_main.proofs.Causes.{hall-caused}
+use Rattle.planner_main.proofs.GivenAnswers.{Answers-success, Answers-refusal, Answers-no_memory}
 use Rattle.planner_main.proofs.Successes.{IsSuccess-plain, ReportsScene-textbook}
 use Rattle.planner_main.proofs.answers.plain.Goals as goal
 
-pub returns-in_err-hall-clause-refusal : goal.returns-in_err-hall-clause-refusal
-returns-in_err-hall-clause-refusal g c =
-    let source = g.S.Source in
-    let reading = reading_of source.counts_failures_alone source.bytes_left source.has_ended source.fault_count
-    c.args.source.now c.scene_for.new.source in
-    IfErr-only c.from_residual-in_err-hall.result _ (IsCaused _ reading) c.from_residual-in_err-hall.ensures.1
-    (hall-caused (commands.Plain c.args.full) reading c.in_ok-scene.scene c.in_err-hall.field-0.0 refl c.in_ok-scene.ensures.scene
-    c.in_err-hall.ensures.refusal)
+pub returns-in_err-hall : goal.returns-in_err-hall
+returns-in_err-hall g c =
+    Answers-refusal (commands.Plain c.args.full) _ _ refl c.in_ok-scene.ensures.within c.from_residual-in_err-hall.result _
+    c.from_residual-in_err-hall.ensures.1
+    (hall-caused (commands.Plain c.args.full) _ _ c.in_ok-scene.scene c.in_err-hall.field-0.0 refl c.in_ok-scene.ensures.scene c.in_err-hall.ensures.refusal)
 
-pub returns-clause-success : goal.returns-clause-success
-returns-clause-success g c =
+pub returns-in_err-grown : goal.returns-in_err-grown
+returns-in_err-grown g c =
+    Answers-no_memory (commands.Plain c.args.full) _ _ refl c.in_ok-scene.ensures.within c.from_residual-in_err-grown.result c.in_ok-scene.scene
+    c.in_ok-scene.ensures.scene c.from_residual-in_err-grown.ensures.1
+
+pub returns-in_err-report_of : goal.returns-in_err-report_of
+returns-in_err-report_of g c =
+    Answers-no_memory (commands.Plain c.args.full) _ _ refl c.in_ok-scene.ensures.within c.from_residual-in_err-report_of.result c.in_ok-scene.scene
+    c.in_ok-scene.ensures.scene c.from_residual-in_err-report_of.ensures.1
+
+pub returns : goal.returns
+returns g c =
     let run = c.in_ok-grown.ensures in
-    IsSuccess-plain _ c.in_ok-scene.scene _ _ c.args.full c.in_ok-scene.ensures.scene c.in_ok-hall.ensures.start
-    (ReportsScene-textbook _ _ c.in_ok-grown.grown _ _ run.scene c.in_ok-report_of.ensures run.run)
+    Answers-success (commands.Plain c.args.full) _ _ refl c.in_ok-scene.ensures.within _
+    (IsSuccess-plain _ _ c.in_ok-scene.scene _ _ c.args.full c.in_ok-scene.ensures.scene c.in_ok-hall.ensures.start
+    (ReportsScene-textbook _ _ c.in_ok-grown.grown _ _ run.scene c.in_ok-report_of.ensures run.run))

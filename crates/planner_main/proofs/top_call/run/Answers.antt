@@ -1,25 +1,25 @@
-use Rattle.std.proofs.Common.{inr, arith}
-use Rattle.planner_main.specs.Exchanges.{reading_of}
-use Rattle.planner_main.proofs.DecidedStatuses.{IsSuccess-low, success_decided, refusal_decided}
+use Rattle.std.proofs.Common.{inl, inr, refl, arith, ◌∙◌}
+use Rattle.planner_main.proofs.ConcludedCalls.{HasConcluded-answer}
+use Rattle.planner_main.proofs.DecidedStatuses.{IsSuccess-low}
 use Rattle.planner_main.proofs.top_call.run.Goals as goal
 
 -- no success ends with the status of a sink that failed
 pub conclude-requires : goal.conclude-requires
 conclude-requires g c = λ fault.
-    let low = IsSuccess-low _ _ _ _ c.in-Ok.ensures.success in omega arith
+    let low = IsSuccess-low _ _ _ _ _ c.in-Ok.ensures.success in omega arith
 
-pub returns-in-Ok-clause-decided : goal.returns-in-Ok-clause-decided
-returns-in-Ok-clause-decided g c = λ sure written.
-    let source = g.S.Source in
-    let reading = reading_of source.counts_failures_alone source.bytes_left source.has_ended source.fault_count
-    c.args.source.now c.answer_to.new.source in
-    let same = (c.conclude.ensures.done (λ six. written (c.conclude.ensures.cut six).1.rose)).0 in
-    rw same (inr (success_decided _ reading _ _ c.in-Ok.ensures.success))
+pub returns-in-Ok : goal.returns-in-Ok
+returns-in-Ok g c =
+    let answer = c.in-Ok.ensures in
+    let ending = c.conclude.ensures in
+    HasConcluded-answer _ _ _ _ c.deref.result.now _ _ _ (inl (rw c.deref.ensures.value answer.success)) answer.unread answer.within
+    ending.done ending.cut
 
-pub returns-in-Err-clause-decided : goal.returns-in-Err-clause-decided
-returns-in-Err-clause-decided g c = λ sure written.
-    let source = g.S.Source in
-    let reading = reading_of source.counts_failures_alone source.bytes_left source.has_ended source.fault_count
-    c.args.source.now c.answer_to.new.source in
-    let same = (c.conclude-in-Err.ensures.done (λ six. written (c.conclude-in-Err.ensures.cut six).1.rose)).0 in
-    rw same (rw c.status.ensures (refusal_decided _ reading c.in-Err.refusal c.in-Err.ensures.refusal sure))
+pub returns-in-Err : goal.returns-in-Err
+returns-in-Err g c =
+    let answer = c.in-Err.ensures in
+    let ending = c.conclude-in-Err.ensures in
+    let written = c.as_bytes.ensures.value ∙ c.deref-in-Err.ensures.0 ∙ c.line.ensures in
+    HasConcluded-answer _ _ _ _ c.as_bytes.result.now _ _ _
+    (inr (record { refusal = c.in-Err.refusal; cause = answer.refusal; status = c.status.ensures; no_run = refl; written = written }))
+    answer.unread answer.within ending.done ending.cut

@@ -79,7 +79,7 @@ pub fn call<R: Threads + Sync + Wait, S: Source, G: Gate>(
     sink: &mut MemSink,
     gate: &G,
 ) -> Result<Done, Fail>
-    requires { S.has_ended source.old ≡ false }
+    requires { (S.state source.old).has_ended ≡ false }
 {
     let given = given_words(alloc, words)?;
     Ok(run(rt, alloc, &given, source, sink, gate))
@@ -93,7 +93,7 @@ pub fn call_with_gate<R: Threads + Sync + Wait, S: Source, G: Gate>(
     source: &mut S,
     gate: &G,
 ) -> Result<(Done, String), Fail>
-    requires { S.has_ended source.old ≡ false }
+    requires { (S.state source.old).has_ended ≡ false }
 {
     let mut sink = MemSink::new(alloc, 1 << 24, 1 << 24, &[])?;
     let done = call(rt, alloc, words, source, &mut sink, gate)?;
@@ -107,7 +107,7 @@ pub fn call_over<R: Threads + Sync + Wait, S: Source>(
     words: &[&str],
     source: &mut S,
 ) -> Result<(Done, String), Fail>
-    requires { S.has_ended source.old ≡ false }
+    requires { (S.state source.old).has_ended ≡ false }
 {
     call_with_gate(rt, alloc, words, source, &NoGate)
 }
@@ -130,7 +130,7 @@ pub fn answer_over<R: Threads + Sync + Wait, S: Source>(
     words: &[&str],
     source: &mut S,
 ) -> Result<(u8, String), Fail>
-    requires { S.has_ended source.old ≡ false }
+    requires { (S.state source.old).has_ended ≡ false }
 {
     let (done, written) = call_over(rt, alloc, words, source)?;
     Ok((done.status, written))

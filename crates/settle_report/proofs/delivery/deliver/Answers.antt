@@ -14,8 +14,10 @@ loop-written-preserved g c =
     (take-add m n text ∙ ap (λ ys. take m text ++ take n ys) (sym rest)) in
     record {
       within = (let bound : n ≤ length (drop m text) = (rw rest at c.in_ok-written.ensures.bound) in omega (arith, length-drop m text));
-      prefix = rw prefixes (Appends-trans (g.K.Sink.bytes_taken c.args.sink.now) (g.K.Sink.bytes_taken c.loop-written.sink)
-          (g.K.Sink.bytes_taken c.write.new.self) _ _ c.loop-written.invariant.prefix c.in_ok-written.ensures.bytes);
+      prefix = rw prefixes (Appends-trans (g.K.Sink.state c.args.sink.now).bytes_taken (g.K.Sink.state c.loop-written.sink).bytes_taken
+          (g.K.Sink.state c.write.new.self).bytes_taken _ _ c.loop-written.invariant.prefix c.in_ok-written.ensures.bytes);
       later = omega arith;
-      no_fault = λ alone. c.in_ok-written.ensures.no_fault alone ∙ c.loop-written.invariant.no_fault alone;
+      counting = c.in_ok-written.ensures.counting ∙ c.loop-written.invariant.counting;
+      no_fault = λ alone. c.in_ok-written.ensures.no_fault (c.loop-written.invariant.counting ∙ alone)
+          ∙ c.loop-written.invariant.no_fault alone;
     }
