@@ -7,17 +7,17 @@ use std::alloc::Global;
 use std::process::Abort;
 
 /// A text with a body and obstacles, in no order.
-pub const POLYGONS: &str =
+pub(crate) const POLYGONS: &str =
     "prrt 1\nobstacle 4 4 6 4 5 7\nroom 9 9\nstart 0 0\nstep 4\ngoal 1 1 2 2\nbody -1 -2 3 -2 3 4 -1 4\nobstacle -9 2 3 2 3 3\n";
 
 /// The scene of a text, or why it is refused.
-pub fn read(rt: &impl Abort, alloc: Global, text: &str) -> Result<Scene, SceneRefusal> {
+pub(crate) fn read(rt: &impl Abort, alloc: Global, text: &str) -> Result<Scene, SceneRefusal> {
     assert!(rt; text.len() <= MOST_TEXT_BYTES);
     read_scene(alloc, text.as_bytes())
 }
 
 /// The scene of a text that is not refused.
-pub fn scene_of(rt: &impl Abort, alloc: Global, text: &str) -> Scene {
+pub(crate) fn scene_of(rt: &impl Abort, alloc: Global, text: &str) -> Scene {
     match read(rt, alloc, text) {
         Ok(scene) => scene,
         Err(refusal) => panic!(rt; "{refusal}"),
