@@ -1,4 +1,4 @@
-use Rattle.std.proofs.Common.{◌≡◌, suc, ◌+◌, ◌++◌, string_bytes, arith, ap, ◌∙◌}
+use Rattle.std.proofs.Common.{◌≡◌, suc, ◌++◌, string_bytes, arith, ap, ◌∙◌}
 use Rattle.std.specs.List.{range_with_len, flat_map}
 use Rattle.plan_model.specs.PointsByNumber.{point_at}
 use Rattle.plan_model.specs.ReportText.{node_line_if_present}
