@@ -59,27 +59,22 @@ fn words_after_name(alloc: Global, args: io::Result<Args>) -> Result<Vec<String>
 #[cfg(test)]
 mod tests {
     use super::*;
+    use crate::test_calls::{given_words, text_in};
     use plan_model::{MemSink, SureSource};
     use std::process::Abort;
-    use std::test::Fail;
 
     const SCENE: &[u8] = b"prrt 1\nroom 10 10\nstart 5 5\ngoal 0 0 1 1\nstep 4\n";
 
-    // The text that a sink has taken.
-    fn text_in(alloc: Global, sink: &MemSink) -> Result<String, Fail> {
-        Ok(String::from_utf8(Vec::from_slice(alloc, sink.bytes())?)?)
-    }
-
-    // The code that the program ends with on these arguments, and what it writes.
+    // The code that the program ends with on these arguments, and the sink with what it writes.
     fn ends<R: Threads + Sync + Wait>(
         rt: &R,
         alloc: Global,
         args: io::Result<Args>,
-    ) -> Result<(ExitCode, String), Fail> {
+    ) -> Result<(ExitCode, MemSink), Memory> {
         let mut source = SureSource::new(alloc, SCENE)?;
         let mut sink = MemSink::new(alloc, 1000, 1000, &[])?;
         let code = exit_code(rt, alloc, args, &mut source, &mut sink);
-        Ok((code, text_in(alloc, &sink)?))
+        Ok((code, sink))
     }
 
     // Compares that code and that text.
@@ -89,26 +84,11 @@ mod tests {
         args: io::Result<Args>,
         code: u8,
         text: &str,
-    ) -> Result<(), Fail> {
-        let (ended, written) = ends(rt, alloc, args)?;
-        assert_eq!(rt; written.as_str(), text);
+    ) -> Result<(), Memory> {
+        let (ended, sink) = ends(rt, alloc, args)?;
+        assert_eq!(rt; text_in(&sink), text);
         assert_eq!(rt; ended, ExitCode::from(code));
         Ok(())
-    }
-
-    // Adds a word to the arguments.
-    fn push_word(alloc: Global, args: &mut Vec<String>, word: &str) -> Result<(), Fail> {
-        args.push(String::from_str(alloc, word)?)?;
-        Ok(())
-    }
-
-    // The arguments that are these words.
-    fn args_of(alloc: Global, words: &[&str]) -> Result<Args, Fail> {
-        let mut args = Vec::new(alloc);
-        for word in words {
-            push_word(alloc, &mut args, word)?;
-        }
-        Ok(args.into_iter())
     }
 
     // The same on arguments that are these words.
@@ -118,13 +98,13 @@ mod tests {
         words: &[&str],
         code: u8,
         text: &str,
-    ) -> Result<(), Fail> {
-        let args = args_of(alloc, words)?;
+    ) -> Result<(), Memory> {
+        let args = given_words(alloc, words)?.into_iter();
         expect(rt, alloc, Ok(args), code, text)
     }
 
     #[test]
-    fn ends_by_all_words_after_the_name(rt: HostRuntime) -> Result<(), Fail> {
+    fn ends_by_all_words_after_the_name(rt: HostRuntime) -> Result<(), Memory> {
         let cases: [(&[&str], u8, &str); 6] = [
             (
                 &["prrt", "plain"],
@@ -148,7 +128,7 @@ mod tests {
     }
 
     #[test]
-    fn ends_without_words(rt: HostRuntime) -> Result<(), Fail> {
+    fn ends_without_words(rt: HostRuntime) -> Result<(), Memory> {
         let no_memory = io::Error::from(io::ErrorKind::OutOfMemory);
         expect(&rt, rt.alloc(), Err(no_memory), 7, "")?;
         let no_text = io::Error::from(io::ErrorKind::InvalidData);

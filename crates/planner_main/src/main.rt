@@ -20,6 +20,8 @@ mod generated_scenes;
 mod refusals;
 mod standard_streams;
 mod statuses;
+#[cfg(test)]
+mod test_calls;
 mod top_call;
 
 use command_line::exit_code;

@@ -97,10 +97,10 @@ impl<W: Write> Sink for StdSink<W> {
 #[cfg(test)]
 mod tests {
     use super::*;
+    use crate::test_calls::text_of;
     use scene_text::{FetchFault, fetch};
     use settle_report::deliver;
     use std::io;
-    use std::test::Fail;
 
     // A reader of these bytes whose second read fails.
     #[derive(Drop)]
@@ -120,7 +120,7 @@ mod tests {
     }
 
     #[test]
-    fn source_counts_the_errors_of_its_reader(rt: HostRuntime) -> Result<(), Fail> {
+    fn source_counts_the_errors_of_its_reader(rt: HostRuntime) {
         let mut source = StdSource::new(FailingReader {
             bytes: b"prrt 1\n",
             reads: 0,
@@ -129,41 +129,35 @@ mod tests {
             assert_eq!(rt; source.read(&mut [0; 4]), want);
             assert_eq!(rt; source.faults(), faults);
         }
-        Ok(())
     }
 
     #[test]
-    fn failed_read_is_reported(rt: HostRuntime) -> Result<(), Fail> {
+    fn failed_read_is_reported(rt: HostRuntime) {
         let mut source = StdSource::new(FailingReader {
             bytes: b"prrt 1\n",
             reads: 0,
         });
-        assert_eq!(rt;
-            fetch(rt.alloc(), &mut source).err(),
-            Some(FetchFault::Read)
-        );
+        assert!(rt; fetch(rt.alloc(), &mut source).err() == Some(FetchFault::Read));
         assert_eq!(rt; source.faults(), 1);
-        Ok(())
     }
 
     #[test]
-    fn bytes_pass_unchanged(rt: HostRuntime) -> Result<(), Fail> {
+    fn bytes_pass_unchanged(rt: HostRuntime) -> Result<(), FetchFault> {
         let mut source = StdSource::new(b"prrt 1\n".as_slice());
         let text = fetch(rt.alloc(), &mut source)?;
         let mut sink = StdSink::new(Vec::new(rt.alloc()));
-        assert_eq!(rt; deliver(&mut sink, &text), Ok(()));
-        assert_eq!(rt; sink.writer.as_slice(), b"prrt 1\n".as_slice());
+        assert!(rt; deliver(&mut sink, &text).is_ok());
+        assert_eq!(rt; text_of(&sink.writer), "prrt 1\n");
         Ok(())
     }
 
     #[test]
-    fn sink_counts_a_full_writer_as_a_fault(rt: HostRuntime) -> Result<(), Fail> {
+    fn sink_counts_a_full_writer_as_a_fault(rt: HostRuntime) {
         let mut room = [b'.'; 3];
         let mut sink = StdSink::new(room.as_mut_slice());
-        assert_eq!(rt; sink.write(b"path"), Ok(3));
-        assert_eq!(rt; sink.write(b"h"), Err(Failed));
+        assert!(rt; sink.write(b"path") == Ok(3));
+        assert!(rt; sink.write(b"h") == Err(Failed));
         assert_eq!(rt; sink.faults(), 1);
-        assert_eq!(rt; room.as_slice(), b"pat".as_slice());
-        Ok(())
+        assert_eq!(rt; text_of(&room), "pat");
     }
 }

@@ -3,9 +3,9 @@
 ghost use Rattle.std.specs.Prelude.{◌≤◌, ◌<◌};
 
 use super::*;
+use crate::test_calls::text_of;
 use scene_text::write_scene;
 use std::process::Abort;
-use std::test::Fail;
 
 // How many obstacles the scene of a number has, and how many marks are drawn.
 fn counts_of(alloc: Global, number: u32) -> Result<(usize, u32), Memory>
@@ -20,21 +20,22 @@ fn counts_of(alloc: Global, number: u32) -> Result<(usize, u32), Memory>
 }
 
 #[test]
-fn writes_the_first_scene(rt: HostRuntime) -> Result<(), Fail> {
+fn writes_the_first_scene(rt: HostRuntime) -> Result<(), Memory> {
     let scene = gen_scene(rt.alloc(), 0)?;
-    let text = String::from_utf8(write_scene(rt.alloc(), &scene)?)?;
+    let written = write_scene(rt.alloc(), &scene)?;
+    let text = text_of(&written);
     assert!(rt;
-        text.as_str().starts_with(
+        text.starts_with(
             "prrt 1\nroom 9999 9999\nbody 0 0 20 0 20 20 0 20\nobstacle 631 700 961 700 961 1030 631 1030\n"
         )
     );
-    assert_eq!(rt; text.lines().last(), Some("marks 2000"));
+    assert_eq!(rt; text.lines().last().unwrap_or("no line"), "marks 2000");
     assert_eq!(rt; text.lines().count(), 74);
     Ok(())
 }
 
 // Compares how many marks are drawn in the scene of a number, which has 64 obstacles.
-fn expect_marks<R: Abort>(rt: &R, alloc: Global, number: u32, marks: u32) -> Result<(), Fail>
+fn expect_marks<R: Abort>(rt: &R, alloc: Global, number: u32, marks: u32) -> Result<(), Memory>
     requires { number ≤ MOST_GENERATED }
 {
     assert_eq!(rt; counts_of(alloc, number)?, (64, marks), "scene {number}");
@@ -42,7 +43,7 @@ fn expect_marks<R: Abort>(rt: &R, alloc: Global, number: u32, marks: u32) -> Res
 }
 
 #[test]
-fn has_obstacles_and_marks_by_its_number(rt: HostRuntime) -> Result<(), Fail> {
+fn has_obstacles_and_marks_by_its_number(rt: HostRuntime) -> Result<(), Memory> {
     expect_marks(&rt, rt.alloc(), 0, 2_000)?;
     expect_marks(&rt, rt.alloc(), 3, 8_000)?;
     expect_marks(&rt, rt.alloc(), 9, 20_000)?;
@@ -56,7 +57,7 @@ fn expect_obstacle<R: Abort>(
     number: u32,
     cell: u32,
     corners: &[Vertex],
-) -> Result<(), Fail>
+) -> Result<(), Memory>
     requires number { number ≤ MOST_GENERATED }
     requires cell { cell < CELLS }
 {
@@ -70,7 +71,7 @@ fn expect_obstacle<R: Abort>(
 }
 
 #[test]
-fn places_squares_and_triangles(rt: HostRuntime) -> Result<(), Fail> {
+fn places_squares_and_triangles(rt: HostRuntime) -> Result<(), Memory> {
     let lower_left = [
         Vertex { x: 1_643, y: 303 },
         Vertex { x: 1_789, y: 303 },

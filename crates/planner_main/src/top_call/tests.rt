@@ -1,13 +1,13 @@
 //! Whole calls, over a source and a sink in memory.
 
-ghost use Rattle.std.specs.Prelude.{◌≡◌, ◌≤◌, false};
+ghost use Rattle.std.specs.Prelude.{◌≤◌};
 
 use super::*;
+use crate::test_calls::{copied, given_words, sure, text_in};
 use calls::*;
-use plan_model::{MemSink, MemSource, SureSource};
+use plan_model::{MemSink, MemSource, Memory, SureSource};
 use plan_work::NoGate;
 use std::process::Abort;
-use std::test::Fail;
 
 // A scene, and what is to be answered to it.
 #[derive(Clone, Copy)]
@@ -29,48 +29,39 @@ const BLOCKED_START: &str = "prrt 1\nroom 10 10\nstart 11 5\ngoal 0 0 9 9\nstep 
 const MOST_DRAWN_MARKS: &str =
     "prrt 1\nroom 1 1\nstart 0 0\ngoal 1 1 1 1\nstep 4\ngamma 9\nstrips 2\nmarks 262143\n";
 
-// Compares the answer over this source with that of a case.
-fn expect_over<R: Threads + Sync + Wait + Abort, S: Source>(
-    rt: &R,
-    alloc: Global,
-    words: &[&str],
-    source: &mut S,
-    case: &Case,
-) -> Result<(), Fail>
-    requires { (S.state source.old).has_ended ≡ false }
-{
-    let (status, written) = answer_over(rt, alloc, words, source)?;
-    assert_text(rt, &written, case.text, &case.shows);
-    assert_status(rt, status, case.status, &case.shows);
-    Ok(())
-}
-
-// The same over the scene of the case, which is read in pieces of at most so many bytes.
+// Compares the answer to this text, which is read in pieces of at most so many bytes, with that of a case.
 fn expect_by_pieces<R: Threads + Sync + Wait + Abort>(
     rt: &R,
     alloc: Global,
     words: &[&str],
+    text: &[u8],
     most: usize,
     case: &Case,
-) -> Result<(), Fail>
+)
     requires { 1 ≤ most }
 {
-    let mut pieces = MemSource::new(alloc, case.scene.as_bytes(), most, &[])?;
-    expect_over(rt, alloc, words, &mut pieces, case)
+    let called = call_by_pieces(rt, alloc, words, text, most);
+    assert_answer(rt, words, &called, case);
 }
 
-// The same in pieces of several lengths, and from a source that gives as much as is asked for.
-fn expect<R: Threads + Sync + Wait + Abort>(
+// The same from a source that gives as much as is asked for.
+fn expect_at_once<R: Threads + Sync + Wait + Abort>(
     rt: &R,
     alloc: Global,
     words: &[&str],
+    text: &[u8],
     case: &Case,
-) -> Result<(), Fail> {
+) {
+    let called = call_over_text(rt, alloc, words, text);
+    assert_answer(rt, words, &called, case);
+}
+
+// Compares the answer to the scene of a case, which is read in pieces of several lengths and at once.
+fn expect<R: Threads + Sync + Wait + Abort>(rt: &R, alloc: Global, words: &[&str], case: &Case) {
     for most in [1, 2, 7, 1 << 16] {
-        expect_by_pieces(rt, alloc, words, most, case)?;
+        expect_by_pieces(rt, alloc, words, case.scene.as_bytes(), most, case);
     }
-    let mut whole = SureSource::new(alloc, case.scene.as_bytes())?;
-    expect_over(rt, alloc, words, &mut whole, case)
+    expect_at_once(rt, alloc, words, case.scene.as_bytes(), case);
 }
 
 // The same of each case.
@@ -79,22 +70,21 @@ fn expect_each<R: Threads + Sync + Wait + Abort>(
     alloc: Global,
     words: &[&str],
     cases: &[Case],
-) -> Result<(), Fail> {
+) {
     for case in cases {
-        expect(rt, alloc, words, case)?;
+        expect(rt, alloc, words, case);
     }
-    Ok(())
 }
 
 // Compares the first and the last line of a text.
 fn expect_ends<R: Abort>(rt: &R, text: &str, first: &str, last: &str) {
-    assert_eq!(rt; text.lines().next(), Some(first));
-    assert_eq!(rt; text.lines().last(), Some(last));
+    assert_eq!(rt; text.lines().next().unwrap_or("no line"), first);
+    assert_eq!(rt; text.lines().last().unwrap_or("no line"), last);
 }
 
 // Compares one line of a text, by number from 0.
 fn expect_line<R: Abort>(rt: &R, text: &str, number: usize, line: &str) {
-    assert_eq!(rt; text.lines().nth(number), Some(line));
+    assert_eq!(rt; text.lines().nth(number).unwrap_or("no line"), line);
 }
 
 // Compares some lines of a text.
@@ -110,7 +100,7 @@ fn expect_line_count<R: Abort>(rt: &R, text: &str, count: usize) {
 }
 
 #[test]
-fn plans_scenes(rt: HostRuntime) -> Result<(), Fail> {
+fn plans_scenes(rt: HostRuntime) {
     let cases = [
         Case {
             shows: "a mark reached in one step",
@@ -161,28 +151,27 @@ fn plans_scenes(rt: HostRuntime) -> Result<(), Fail> {
             text: "no path\nnodes 1 placed 0 same 0 blocked 1\n",
         },
     ];
-    expect_each(&rt, rt.alloc(), &["plain"], &cases)
+    expect_each(&rt, rt.alloc(), &["plain"], &cases);
 }
 
 const WALL_WITH_GAP: &str = "\
-# wall with a gap above
-prrt 1
-room 200 100
-body 0 0 10 0 10 10 0 10
-obstacle 90 0 110 0 110 60 90 60
-start 20 20
-goal 170 10 189 40
-step 120
-gamma 500
-mark 75 65
-mark 115 65
-mark 175 20
-mark 100 30
-";
+    # wall with a gap above\n\
+    prrt 1\n\
+    room 200 100\n\
+    body 0 0 10 0 10 10 0 10\n\
+    obstacle 90 0 110 0 110 60 90 60\n\
+    start 20 20\n\
+    goal 170 10 189 40\n\
+    step 120\n\
+    gamma 500\n\
+    mark 75 65\n\
+    mark 115 65\n\
+    mark 175 20\n\
+    mark 100 30\n";
 
 // The nodes near a new one get it as their parent if they get cheaper.
 #[test]
-fn plans_with_rewiring(rt: HostRuntime) -> Result<(), Fail> {
+fn plans_with_rewiring(rt: HostRuntime) {
     let cases = [
         Case {
             shows: "a node that is rewired",
@@ -209,11 +198,11 @@ fn plans_with_rewiring(rt: HostRuntime) -> Result<(), Fail> {
             text: "path 4 cost 47633\n20 20\n75 65\n115 65\n175 20\nnodes 4 placed 3 same 0 blocked 1\n",
         },
     ];
-    expect_each(&rt, rt.alloc(), &["plain"], &cases)
+    expect_each(&rt, rt.alloc(), &["plain"], &cases);
 }
 
 #[test]
-fn plans_over_drawn_marks(rt: HostRuntime) -> Result<(), Fail> {
+fn plans_over_drawn_marks(rt: HostRuntime) {
     let cases = [
         Case {
             shows: "the first mark of seed 0",
@@ -228,11 +217,11 @@ fn plans_over_drawn_marks(rt: HostRuntime) -> Result<(), Fail> {
             text: "path 1 cost 0\n0 0\nnodes 1 placed 0 same 0 blocked 0\n",
         },
     ];
-    expect_each(&rt, rt.alloc(), &["plain"], &cases)
+    expect_each(&rt, rt.alloc(), &["plain"], &cases);
 }
 
 // Adds the lines of a corridor before those of its marks.
-fn write_corridor(text: &mut String, length: u32) -> Result<(), Fail> {
+fn write_corridor(text: &mut String, length: u32) -> Result<(), Memory> {
     write!(
         text,
         "prrt 1\nroom {length} 10\nstart 0 0\ngoal {length} 0 {length} 0\nstep 4\n"
@@ -241,13 +230,13 @@ fn write_corridor(text: &mut String, length: u32) -> Result<(), Fail> {
 }
 
 // Adds the line of a mark in a corridor.
-fn write_mark(text: &mut String, x: u32) -> Result<(), Fail> {
+fn write_mark(text: &mut String, x: u32) -> Result<(), Memory> {
     write!(text, "mark {x} 0\n")?;
     Ok(())
 }
 
 // A scene of a corridor with a mark at each lattice step, so that the path has a point at each.
-fn corridor(alloc: Global, length: u32) -> Result<String, Fail> {
+fn corridor(alloc: Global, length: u32) -> Result<String, Memory> {
     let mut text = String::new(alloc);
     write_corridor(&mut text, length)?;
     for x in 1..=length {
@@ -256,57 +245,52 @@ fn corridor(alloc: Global, length: u32) -> Result<String, Fail> {
     Ok(text)
 }
 
-// The report of the plan of a scene that has a path.
-fn report_of<R: Threads + Sync + Wait + Abort>(
-    rt: &R,
-    alloc: Global,
-    scene: &str,
-) -> Result<String, Fail> {
-    let (status, report) = answer_to_text(rt, alloc, &["plain"], scene)?;
-    assert_status(rt, status, 0, &"plain");
-    Ok(report)
+// What is written for a scene that has a path.
+fn report_of<R: Threads + Sync + Wait + Abort>(rt: &R, alloc: Global, scene: &str) -> Called {
+    let called = call_by_pieces(rt, alloc, &["plain"], scene.as_bytes(), 1 << 16);
+    assert_status(rt, &["plain"], called.status, 0, "a path");
+    called
 }
 
-// The report of the plan of a corridor.
+// What is written for a corridor.
 fn report_of_corridor<R: Threads + Sync + Wait + Abort>(
     rt: &R,
     alloc: Global,
     length: u32,
-) -> Result<String, Fail> {
-    let scene = corridor(alloc, length)?;
+) -> Called {
+    let scene = sure(rt, corridor(alloc, length));
     report_of(rt, alloc, &scene)
 }
 
 #[test]
-fn plans_one_branch_of_a_thousand_nodes(rt: HostRuntime) -> Result<(), Fail> {
-    let written = report_of_corridor(&rt, rt.alloc(), 1000)?;
+fn plans_one_branch_of_a_thousand_nodes(rt: HostRuntime) {
+    let report = report_of_corridor(&rt, rt.alloc(), 1000);
     expect_ends(
         &rt,
-        &written,
+        &report.text,
         "path 1001 cost 256000",
         "nodes 1001 placed 1000 same 0 blocked 0",
     );
-    Ok(())
 }
 
 #[test]
-fn plans_one_branch_of_four_thousand_nodes(rt: HostRuntime) -> Result<(), Fail> {
-    let written = report_of_corridor(&rt, rt.alloc(), 4000)?;
+fn plans_one_branch_of_four_thousand_nodes(rt: HostRuntime) {
+    let called = report_of_corridor(&rt, rt.alloc(), 4000);
+    let report = called.text.as_str();
     expect_ends(
         &rt,
-        &written,
+        report,
         "path 4001 cost 1024000",
         "nodes 4001 placed 4000 same 0 blocked 0",
     );
     let points = [(1, "0 0"), (2346, "2345 0"), (4001, "4000 0")];
-    expect_lines(&rt, &written, &points);
-    expect_line_count(&rt, &written, 4003);
-    Ok(())
+    expect_lines(&rt, report, &points);
+    expect_line_count(&rt, report, 4003);
 }
 
 // Obstacles are closed, so to touch one is to collide. This one is 20 wide and 60 high.
 #[test]
-fn plans_past_an_obstacle(rt: HostRuntime) -> Result<(), Fail> {
+fn plans_past_an_obstacle(rt: HostRuntime) {
     let cases = [
         Case {
             shows: "an edge along the top of the obstacle",
@@ -345,12 +329,12 @@ fn plans_past_an_obstacle(rt: HostRuntime) -> Result<(), Fail> {
             text: "start blocked\n",
         },
     ];
-    expect_each(&rt, rt.alloc(), &["plain"], &cases)
+    expect_each(&rt, rt.alloc(), &["plain"], &cases);
 }
 
 // The body may touch a wall, and no obstacle.
 #[test]
-fn plans_for_a_body(rt: HostRuntime) -> Result<(), Fail> {
+fn plans_for_a_body(rt: HostRuntime) {
     let cases = [
         Case {
             shows: "a body that touches the obstacle",
@@ -377,17 +361,13 @@ fn plans_for_a_body(rt: HostRuntime) -> Result<(), Fail> {
             text: "no path\nnodes 1 placed 0 same 0 blocked 0\n",
         },
     ];
-    expect_each(&rt, rt.alloc(), &["plain"], &cases)
+    expect_each(&rt, rt.alloc(), &["plain"], &cases);
 }
 
 // Compares the answer of the commands that read a scene.
-fn expect_by_readers<R: Threads + Sync + Wait + Abort>(
-    rt: &R,
-    alloc: Global,
-    case: &Case,
-) -> Result<(), Fail> {
-    expect(rt, alloc, &["plain"], case)?;
-    expect(rt, alloc, &["show"], case)
+fn expect_by_readers<R: Threads + Sync + Wait + Abort>(rt: &R, alloc: Global, case: &Case) {
+    expect(rt, alloc, &["plain"], case);
+    expect(rt, alloc, &["show"], case);
 }
 
 // Compares the refusal of each text by the commands that read a scene. Each is given with what it shows and with the line
@@ -396,7 +376,7 @@ fn expect_refused<R: Threads + Sync + Wait + Abort>(
     rt: &R,
     alloc: Global,
     cases: &[(&str, &str, &str)],
-) -> Result<(), Fail> {
+) {
     for (shows, scene, text) in cases {
         let case = Case {
             shows,
@@ -404,13 +384,12 @@ fn expect_refused<R: Threads + Sync + Wait + Abort>(
             status: 3,
             text,
         };
-        expect_by_readers(rt, alloc, &case)?;
+        expect_by_readers(rt, alloc, &case);
     }
-    Ok(())
 }
 
 #[test]
-fn refuses_what_is_not_convex(rt: HostRuntime) -> Result<(), Fail> {
+fn refuses_what_is_not_convex(rt: HostRuntime) {
     let cases = [
         (
             "clockwise corners",
@@ -433,11 +412,11 @@ fn refuses_what_is_not_convex(rt: HostRuntime) -> Result<(), Fail> {
             "line 2 kind 3 Words\n",
         ),
     ];
-    expect_refused(&rt, rt.alloc(), &cases)
+    expect_refused(&rt, rt.alloc(), &cases);
 }
 
 #[test]
-fn refuses_texts_with_line_and_kind(rt: HostRuntime) -> Result<(), Fail> {
+fn refuses_texts_with_line_and_kind(rt: HostRuntime) {
     let cases = [
         (
             "a missing key",
@@ -512,23 +491,23 @@ fn refuses_texts_with_line_and_kind(rt: HostRuntime) -> Result<(), Fail> {
             "line 1 kind 1 Version\n",
         ),
     ];
-    expect_refused(&rt, rt.alloc(), &cases)
+    expect_refused(&rt, rt.alloc(), &cases);
 }
 
 #[test]
-fn shows_a_body_and_obstacles(rt: HostRuntime) -> Result<(), Fail> {
+fn shows_a_body_and_obstacles(rt: HostRuntime) {
     let case = Case {
         shows: "a body and two obstacles",
         scene: "prrt 1\nstep 4\ngoal 1 1 2 2\nobstacle 5 5 6 5 6 6\nstart 0 0\nroom 9 9\nobstacle -1 -1 0 -1 -1 0\nbody -1 0 1 0 0 1\n",
         status: 0,
         text: "prrt 1\nroom 9 9\nbody -1 0 1 0 0 1\nobstacle 5 5 6 5 6 6\nobstacle -1 -1 0 -1 -1 0\nstart 0 0\ngoal 1 1 2 2\nstep 4\n\
-gamma 0\nseed 0\nstrips 1\n",
+               gamma 0\nseed 0\nstrips 1\n",
     };
-    expect(&rt, rt.alloc(), &["show"], &case)
+    expect(&rt, rt.alloc(), &["show"], &case);
 }
 
 #[test]
-fn shows_a_scattered_scene(rt: HostRuntime) -> Result<(), Fail> {
+fn shows_a_scattered_scene(rt: HostRuntime) {
     let cases = [
         Case {
             shows: "a comment, two spaces, and no last line feed",
@@ -549,7 +528,7 @@ fn shows_a_scattered_scene(rt: HostRuntime) -> Result<(), Fail> {
             text: "prrt 1\nroom 9 9\nbody 0 0\nstart 0 0\ngoal 1 1 2 2\nstep 4\ngamma 0\nseed 0\nstrips 1\nmarks 5\n",
         },
     ];
-    expect_each(&rt, rt.alloc(), &["show"], &cases)
+    expect_each(&rt, rt.alloc(), &["show"], &cases);
 }
 
 // Compares the refusal of a text. No run is handed out.
@@ -557,13 +536,10 @@ fn expect_no_run<R: Threads + Sync + Wait + Abort>(
     rt: &R,
     alloc: Global,
     words: &[&str],
-    text: &str,
-    status: u8,
-    line: &str,
-) -> Result<(), Fail> {
-    let (done, written) = call_over_text(rt, alloc, words, text.as_bytes())?;
-    assert_refused(rt, &done, &written, status, line, &words);
-    Ok(())
+    case: &Case,
+) {
+    let called = call_over_text(rt, alloc, words, case.scene.as_bytes());
+    assert_refused(rt, words, &called, case);
 }
 
 // What is written for words over a source whose reads would fail, of which there is none. Compares the status.
@@ -571,55 +547,47 @@ fn written_unread<R: Threads + Sync + Wait + Abort>(
     rt: &R,
     alloc: Global,
     words: &[&str],
-    want: u8,
-) -> Result<String, Fail> {
-    let (status, written, faults) = answer_over_failing(rt, alloc, words)?;
-    assert_status(rt, status, want, &words);
-    assert_faults(rt, faults, 0, &words);
-    Ok(written)
+    status: u8,
+) -> Called {
+    let called = call_with_faults(rt, alloc, words, b"prrt 1\n", 10, 1, 0);
+    assert_status(rt, words, called.status, status, "nothing read");
+    called
 }
 
 // Compares the refusal of words over a scene, and over a source whose reads would fail, of which there is none. No run is
 // handed out.
-fn expect_words_refused<R: Threads + Sync + Wait + Abort>(
-    rt: &R,
-    alloc: Global,
-    words: &[&str],
-) -> Result<(), Fail> {
-    expect_no_run(rt, alloc, words, ONE_MARK, 2, "words refused\n")?;
-    let written = written_unread(rt, alloc, words, 2)?;
-    assert_text(rt, &written, "words refused\n", &words);
-    Ok(())
+fn expect_words_refused<R: Threads + Sync + Wait + Abort>(rt: &R, alloc: Global, words: &[&str]) {
+    let case = Case {
+        shows: "words that ask for nothing",
+        scene: ONE_MARK,
+        status: 2,
+        text: "words refused\n",
+    };
+    expect_no_run(rt, alloc, words, &case);
+    let called = written_unread(rt, alloc, words, case.status);
+    assert_text(rt, words, &called.text, case.text, case.shows);
 }
 
 // The same of each form of words.
-fn expect_each_refused<R: Threads + Sync + Wait + Abort>(
-    rt: &R,
-    alloc: Global,
-    forms: &[&[&str]],
-) -> Result<(), Fail> {
+fn expect_each_refused<R: Threads + Sync + Wait + Abort>(rt: &R, alloc: Global, forms: &[&[&str]]) {
     for words in forms {
-        expect_words_refused(rt, alloc, words)?;
+        expect_words_refused(rt, alloc, words);
     }
-    Ok(())
 }
 
 // Compares the refusal of a start that lies outside the room.
-fn expect_start_refused<R: Threads + Sync + Wait + Abort>(
-    rt: &R,
-    alloc: Global,
-) -> Result<(), Fail> {
+fn expect_start_refused<R: Threads + Sync + Wait + Abort>(rt: &R, alloc: Global) {
     let blocked = Case {
         shows: "a start outside the room",
         scene: BLOCKED_START,
         status: 4,
         text: "start blocked\n",
     };
-    expect(rt, alloc, &["plain"], &blocked)
+    expect(rt, alloc, &["plain"], &blocked);
 }
 
 #[test]
-fn refuses_with_the_cause(rt: HostRuntime) -> Result<(), Fail> {
+fn refuses_with_the_cause(rt: HostRuntime) {
     let forms: [&[&str]; 20] = [
         &[],
         &["plain full"],
@@ -642,8 +610,8 @@ fn refuses_with_the_cause(rt: HostRuntime) -> Result<(), Fail> {
         &["gen", "1", "2"],
         &["trial", "x"],
     ];
-    expect_each_refused(&rt, rt.alloc(), &forms)?;
-    expect_start_refused(&rt, rt.alloc())
+    expect_each_refused(&rt, rt.alloc(), &forms);
+    expect_start_refused(&rt, rt.alloc());
 }
 
 // What is written for a command and the number of a generated scene. Nothing is read.
@@ -652,7 +620,7 @@ fn generated<R: Threads + Sync + Wait + Abort>(
     alloc: Global,
     command: &str,
     number: &str,
-) -> Result<String, Fail> {
+) -> Called {
     written_unread(rt, alloc, &[command, number], 0)
 }
 
@@ -663,20 +631,19 @@ fn expect_generated<R: Threads + Sync + Wait + Abort>(
     number: &str,
     begin: &str,
     last: &str,
-) -> Result<(), Fail> {
-    let text = generated(rt, alloc, "gen", number)?;
-    assert!(rt; text.as_str().starts_with(begin));
-    expect_ends(rt, &text, "prrt 1", last);
-    Ok(())
+) {
+    let scene = generated(rt, alloc, "gen", number);
+    assert!(rt; scene.text.as_str().starts_with(begin));
+    expect_ends(rt, &scene.text, "prrt 1", last);
 }
 
 #[test]
-fn writes_a_generated_scene(rt: HostRuntime) -> Result<(), Fail> {
+fn writes_a_generated_scene(rt: HostRuntime) {
     let first =
         "prrt 1\nroom 9999 9999\nbody 0 0 20 0 20 20 0 20\nobstacle 631 700 961 700 961 1030 631 1030\n";
-    expect_generated(&rt, rt.alloc(), "0", first, "marks 2000")?;
+    expect_generated(&rt, rt.alloc(), "0", first, "marks 2000");
     let any = "prrt 1\nroom 9999 9999\nbody 0 0 20 0 20 20 0 20\nobstacle ";
-    expect_generated(&rt, rt.alloc(), "9999", any, "marks 20000")
+    expect_generated(&rt, rt.alloc(), "9999", any, "marks 20000");
 }
 
 // Compares the first and the last line of the plan of a generated scene that has a path.
@@ -686,23 +653,27 @@ fn expect_planned<R: Threads + Sync + Wait + Abort>(
     number: &str,
     first: &str,
     last: &str,
-) -> Result<(), Fail> {
-    let scene = generated(rt, alloc, "gen", number)?;
-    let report = report_of(rt, alloc, &scene)?;
-    expect_ends(rt, &report, first, last);
-    Ok(())
+) {
+    let scene = generated(rt, alloc, "gen", number);
+    let report = report_of(rt, alloc, &scene.text);
+    expect_ends(rt, &report.text, first, last);
 }
 
 // A trial is the plan of the generated scene without the lines of the points. It was worked out apart from the planner.
 #[test]
-fn tries_a_generated_scene(rt: HostRuntime) -> Result<(), Fail> {
+fn tries_a_generated_scene(rt: HostRuntime) {
     let path = "path 48 cost 3522991";
     let counts = "nodes 7605 placed 7604 same 0 blocked 396";
-    expect_planned(&rt, rt.alloc(), "3", path, counts)?;
-    let summary = generated(&rt, rt.alloc(), "trial", "3")?;
+    expect_planned(&rt, rt.alloc(), "3", path, counts);
+    let summary = generated(&rt, rt.alloc(), "trial", "3");
     let text = "path 48 cost 3522991\nnodes 7605 placed 7604 same 0 blocked 396\n";
-    assert_text(&rt, &summary, text, &"trial 3");
-    Ok(())
+    assert_text(
+        &rt,
+        &["trial", "3"],
+        &summary.text,
+        text,
+        "a generated scene",
+    );
 }
 
 mod calls;

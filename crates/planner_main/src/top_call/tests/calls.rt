@@ -1,161 +1,151 @@
 //! Calls over a source and a sink in memory, and asserts of what they have done.
 
-ghost use Rattle.std.specs.Prelude.{◌≡◌, false};
+ghost use Rattle.std.specs.Prelude.{◌≡◌, ◌≤◌, false};
 
 use super::*;
-use std::fmt::Debug;
 
-// Asserts what a call has written. The case is shown if it is another text.
-pub fn assert_text<R: Abort, C: Debug>(rt: &R, written: &str, text: &str, case: &C) {
-    assert_eq!(rt; written, text, "{case:?}");
+// What a call has done: the status that it ended with, how many nodes the run that it handed out has and how many marks it
+// has handled, if it handed out one, and what it has written.
+#[derive(Drop)]
+pub struct Called {
+    pub status: u8,
+    pub counts: Option<(u32, u32)>,
+    pub text: String,
 }
 
-// Asserts the status that a call ended with.
-pub fn assert_status<R: Abort, C: Debug>(rt: &R, status: u8, want: u8, case: &C) {
-    assert_eq!(rt; status, want, "{case:?}");
+// Asserts the text that a call for these words has written.
+pub fn assert_text<R: Abort>(rt: &R, words: &[&str], written: &str, text: &str, shows: &str) {
+    assert_eq!(rt; written, text, "{shows}: {words:?}");
 }
 
-// Asserts how many nodes the run that a call handed out has and how many marks it has handled, if it handed out one.
-fn assert_counts<R: Abort, C: Debug>(rt: &R, done: &Done, counts: Option<(u32, u32)>, case: &C) {
-    assert_eq!(rt; counts_of(done), counts, "{case:?}");
+// Asserts the status that it ended with.
+pub fn assert_status<R: Abort>(rt: &R, words: &[&str], status: u8, want: u8, shows: &str) {
+    assert_eq!(rt; status, want, "{shows}: {words:?}");
 }
 
-// Asserts the status that a call ended with, and the counts of the run that it handed out.
-pub fn assert_done<R: Abort, C: Debug>(
+// Asserts the counts of the run that it handed out, if it handed out one.
+pub fn assert_counts<R: Abort>(
     rt: &R,
-    done: &Done,
-    status: u8,
+    words: &[&str],
     counts: Option<(u32, u32)>,
-    case: &C,
+    want: Option<(u32, u32)>,
 ) {
-    assert_status(rt, done.status, status, case);
-    assert_counts(rt, done, counts, case);
+    assert_eq!(rt; counts, want, "{words:?}");
 }
 
-// Asserts how many reads or writes of a call failed.
-pub fn assert_faults<R: Abort, C: Debug>(rt: &R, faults: u64, want: u64, case: &C) {
-    assert_eq!(rt; faults, want, "{case:?}");
+// Asserts how many of its reads or writes failed.
+pub fn assert_faults<R: Abort>(rt: &R, words: &[&str], faults: u64, want: u64) {
+    assert_eq!(rt; faults, want, "{words:?}");
 }
 
-// Asserts the status and the text of a refusal, which hands out no run.
-pub fn assert_refused<R: Abort, C: Debug>(
-    rt: &R,
-    done: &Done,
-    written: &str,
-    status: u8,
-    line: &str,
-    case: &C,
-) {
-    assert_text(rt, written, line, case);
-    assert_done(rt, done, status, None, case);
+// Asserts that the text and the status are those of a case.
+pub fn assert_answer<R: Abort>(rt: &R, words: &[&str], called: &Called, case: &Case) {
+    assert_text(rt, words, &called.text, case.text, case.shows);
+    assert_status(rt, words, called.status, case.status, case.shows);
 }
 
-// Adds a word to those that a call is given.
-fn push_word(alloc: Global, given: &mut Vec<String>, word: &str) -> Result<(), Fail> {
-    given.push(String::from_str(alloc, word)?)?;
-    Ok(())
-}
-
-// These words as a call is given them.
-fn given_words(alloc: Global, words: &[&str]) -> Result<Vec<String>, Fail> {
-    let mut given = Vec::new(alloc);
-    for word in words {
-        push_word(alloc, &mut given, word)?;
-    }
-    Ok(given)
-}
-
-// The text that a sink has taken.
-fn text_in(alloc: Global, sink: &MemSink) -> Result<String, Fail> {
-    Ok(String::from_utf8(Vec::from_slice(alloc, sink.bytes())?)?)
+// Asserts that they are those of a refusal, which hands out no run.
+pub fn assert_refused<R: Abort>(rt: &R, words: &[&str], called: &Called, case: &Case) {
+    assert_answer(rt, words, called, case);
+    assert_counts(rt, words, called.counts, None);
 }
 
 // What the call for these words over this source and this sink has done. The gate is told of the turns of workers.
-pub fn call<R: Threads + Sync + Wait, S: Source, G: Gate>(
+pub fn call<R: Threads + Sync + Wait + Abort, S: Source, G: Gate>(
     rt: &R,
     alloc: Global,
     words: &[&str],
     source: &mut S,
     sink: &mut MemSink,
     gate: &G,
-) -> Result<Done, Fail>
+) -> Done
     requires { (S.state source.old).has_ended ≡ false }
 {
-    let given = given_words(alloc, words)?;
-    Ok(run(rt, alloc, &given, source, sink, gate))
+    let given = sure(rt, given_words(alloc, words));
+    run(rt, alloc, &given, source, sink, gate)
 }
 
-// The same over a sink that does not fail, and what is written.
-pub fn call_with_gate<R: Threads + Sync + Wait, S: Source, G: Gate>(
+// The same over a sink that does not fail, and that sink.
+pub fn call_with_gate<R: Threads + Sync + Wait + Abort, S: Source, G: Gate>(
     rt: &R,
     alloc: Global,
     words: &[&str],
     source: &mut S,
     gate: &G,
-) -> Result<(Done, String), Fail>
+) -> (Done, MemSink)
     requires { (S.state source.old).has_ended ≡ false }
 {
-    let mut sink = MemSink::new(alloc, 1 << 24, 1 << 24, &[])?;
-    let done = call(rt, alloc, words, source, &mut sink, gate)?;
-    Ok((done, text_in(alloc, &sink)?))
+    let mut sink = sure(rt, MemSink::new(alloc, 1 << 24, 1 << 24, &[]));
+    let done = call(rt, alloc, words, source, &mut sink, gate);
+    (done, sink)
 }
 
 // The same through the gate that does nothing.
-pub fn call_over<R: Threads + Sync + Wait, S: Source>(
+pub fn call_over<R: Threads + Sync + Wait + Abort, S: Source>(
     rt: &R,
     alloc: Global,
     words: &[&str],
     source: &mut S,
-) -> Result<(Done, String), Fail>
+) -> Called
     requires { (S.state source.old).has_ended ≡ false }
 {
-    call_with_gate(rt, alloc, words, source, &NoGate)
+    let (done, sink) = call_with_gate(rt, alloc, words, source, &NoGate);
+    Called {
+        status: done.status,
+        counts: counts_of(&done),
+        text: sure(rt, copied(alloc, text_in(&sink))),
+    }
 }
 
 // The same over a source that gives as much of this text as is asked for.
-pub fn call_over_text<R: Threads + Sync + Wait>(
+pub fn call_over_text<R: Threads + Sync + Wait + Abort>(
     rt: &R,
     alloc: Global,
     words: &[&str],
     text: &[u8],
-) -> Result<(Done, String), Fail> {
-    let mut source = SureSource::new(alloc, text)?;
-    call_over(rt, alloc, words, &mut source)
+) -> Called {
+    match SureSource::new(alloc, text) {
+        Ok(mut source) => call_over(rt, alloc, words, &mut source),
+        Err(error) => panic!(rt; "{error}"),
+    }
 }
 
-// The status of such a call, and what it writes.
-pub fn answer_over<R: Threads + Sync + Wait, S: Source>(
+// The same over one that gives it in pieces of at most so many bytes.
+pub fn call_by_pieces<R: Threads + Sync + Wait + Abort>(
     rt: &R,
     alloc: Global,
     words: &[&str],
-    source: &mut S,
-) -> Result<(u8, String), Fail>
-    requires { (S.state source.old).has_ended ≡ false }
+    text: &[u8],
+    most: usize,
+) -> Called
+    requires { 1 ≤ most }
 {
-    let (done, written) = call_over(rt, alloc, words, source)?;
-    Ok((done.status, written))
+    match MemSource::new(alloc, text, most, &[]) {
+        Ok(mut source) => call_over(rt, alloc, words, &mut source),
+        Err(error) => panic!(rt; "{error}"),
+    }
 }
 
-// The same over a source of this text.
-pub fn answer_to_text<R: Threads + Sync + Wait>(
+// The same over one that fails at one of its reads. Asserts how many of them failed.
+pub fn call_with_faults<R: Threads + Sync + Wait + Abort>(
     rt: &R,
     alloc: Global,
     words: &[&str],
-    text: &str,
-) -> Result<(u8, String), Fail> {
-    let mut source = MemSource::new(alloc, text.as_bytes(), 1 << 16, &[])?;
-    answer_over(rt, alloc, words, &mut source)
-}
-
-// The same over a source whose first read fails; and how many of its reads failed.
-pub fn answer_over_failing<R: Threads + Sync + Wait>(
-    rt: &R,
-    alloc: Global,
-    words: &[&str],
-) -> Result<(u8, String, u64), Fail> {
-    let mut failing = MemSource::new(alloc, b"prrt 1\n", 10, &[1])?;
-    let (status, written) = answer_over(rt, alloc, words, &mut failing)?;
-    Ok((status, written, failing.faults()))
+    text: &[u8],
+    most: usize,
+    fails: u32,
+    faults: u64,
+) -> Called
+    requires { 1 ≤ most }
+{
+    match MemSource::new(alloc, text, most, &[fails]) {
+        Ok(mut source) => {
+            let called = call_over(rt, alloc, words, &mut source);
+            assert_faults(rt, words, source.faults(), faults);
+            called
+        }
+        Err(error) => panic!(rt; "{error}"),
+    }
 }
 
 // How many nodes the run that was handed out has and how many marks it has handled, if there is one.

@@ -3,125 +3,129 @@
 use super::*;
 
 #[test]
-fn writes_each_node_and_each_mark(rt: HostRuntime) -> Result<(), Fail> {
+fn writes_each_node_and_each_mark(rt: HostRuntime) {
     let cases = [
         Case {
             shows: "a mark past the step",
             scene: "prrt 1\nroom 100 100\nstart 0 0\ngoal 90 90 99 99\nstep 50\nmark 60 80\n",
             status: 1,
             text: "no path\n\
-nodes 2 placed 1 same 0 blocked 0\n\
-node 0 at 0 0 parent 0 cost 0\n\
-node 1 at 30 40 parent 0 cost 12800\n\
-mark 0 worker 0 turn 0 nearest 0 placed class 1 first 0 12800\n",
+                   nodes 2 placed 1 same 0 blocked 0\n\
+                   node 0 at 0 0 parent 0 cost 0\n\
+                   node 1 at 30 40 parent 0 cost 12800\n\
+                   mark 0 worker 0 turn 0 nearest 0 placed class 1 first 0 12800\n",
         },
         Case {
             shows: "a mark past the step on the diagonal",
             scene: "prrt 1\nroom 100 100\nstart 0 0\ngoal 90 90 99 99\nstep 50\nmark 70 70\n",
             status: 1,
             text: "no path\n\
-nodes 2 placed 1 same 0 blocked 0\n\
-node 0 at 0 0 parent 0 cost 0\n\
-node 1 at 35 35 parent 0 cost 12672\n\
-mark 0 worker 0 turn 0 nearest 0 placed class 1 first 0 12672\n",
+                   nodes 2 placed 1 same 0 blocked 0\n\
+                   node 0 at 0 0 parent 0 cost 0\n\
+                   node 1 at 35 35 parent 0 cost 12672\n\
+                   mark 0 worker 0 turn 0 nearest 0 placed class 1 first 0 12672\n",
         },
         Case {
             shows: "a mark given twice",
             scene: "prrt 1\nroom 100 100\nstart 0 0\ngoal 30 40 30 40\nstep 100\nmark 30 40\nmark 30 40\n",
             status: 0,
             text: "path 2 cost 12800\n\
-0 0\n\
-30 40\n\
-nodes 2 placed 1 same 1 blocked 0\n\
-node 0 at 0 0 parent 0 cost 0\n\
-node 1 at 30 40 parent 0 cost 12800\n\
-mark 0 worker 0 turn 0 nearest 0 placed class 1 first 0 12800\n\
-mark 1 worker 0 turn 1 nearest 1 same 1\n",
+                   0 0\n\
+                   30 40\n\
+                   nodes 2 placed 1 same 1 blocked 0\n\
+                   node 0 at 0 0 parent 0 cost 0\n\
+                   node 1 at 30 40 parent 0 cost 12800\n\
+                   mark 0 worker 0 turn 0 nearest 0 placed class 1 first 0 12800\n\
+                   mark 1 worker 0 turn 1 nearest 1 same 1\n",
         },
         Case {
             shows: "a node that is rewired, and costs less than it was placed at",
             scene: "prrt 1\nroom 100 100\nstart 0 0\ngoal 40 79 40 79\nstep 50\ngamma 1000\nmark 0 50\nmark 40 79\nmark 40 30\n",
             status: 0,
             text: "path 3 cost 25344\n\
-0 0\n\
-40 30\n\
-40 79\n\
-nodes 4 placed 3 same 0 blocked 0\n\
-node 0 at 0 0 parent 0 cost 0\n\
-node 1 at 0 50 parent 0 cost 12800\n\
-node 2 at 40 79 parent 3 cost 25344\n\
-node 3 at 40 30 parent 0 cost 12800\n\
-mark 0 worker 0 turn 0 nearest 0 placed class 1 first 0 12800\n\
-mark 1 worker 0 turn 1 nearest 1 placed class 2 first 1 25449\n\
-mark 2 worker 0 turn 2 nearest 1 placed class 2 first 0 12800\n",
+                   0 0\n\
+                   40 30\n\
+                   40 79\n\
+                   nodes 4 placed 3 same 0 blocked 0\n\
+                   node 0 at 0 0 parent 0 cost 0\n\
+                   node 1 at 0 50 parent 0 cost 12800\n\
+                   node 2 at 40 79 parent 3 cost 25344\n\
+                   node 3 at 40 30 parent 0 cost 12800\n\
+                   mark 0 worker 0 turn 0 nearest 0 placed class 1 first 0 12800\n\
+                   mark 1 worker 0 turn 1 nearest 1 placed class 2 first 1 25449\n\
+                   mark 2 worker 0 turn 2 nearest 1 placed class 2 first 0 12800\n",
         },
         Case {
             shows: "a blocked mark after one on a node",
             scene: "prrt 1\nroom 100 100\nobstacle 40 0 60 0 60 60 40 60\nstart 10 10\ngoal 70 10 70 10\nstep 100\nmark 30 10\nmark 30 10\nmark 70 10\n",
             status: 1,
             text: "no path\n\
-nodes 2 placed 1 same 1 blocked 1\n\
-node 0 at 10 10 parent 0 cost 0\n\
-node 1 at 30 10 parent 0 cost 5120\n\
-mark 0 worker 0 turn 0 nearest 0 placed class 1 first 0 5120\n\
-mark 1 worker 0 turn 1 nearest 1 same 1\n\
-mark 2 worker 0 turn 2 nearest 1 blocked\n",
+                   nodes 2 placed 1 same 1 blocked 1\n\
+                   node 0 at 10 10 parent 0 cost 0\n\
+                   node 1 at 30 10 parent 0 cost 5120\n\
+                   mark 0 worker 0 turn 0 nearest 0 placed class 1 first 0 5120\n\
+                   mark 1 worker 0 turn 1 nearest 1 same 1\n\
+                   mark 2 worker 0 turn 2 nearest 1 blocked\n",
         },
         Case {
             shows: "a wall with a gap above",
             scene: WALL_WITH_GAP,
             status: 0,
             text: "path 4 cost 47633\n\
-20 20\n\
-75 65\n\
-115 65\n\
-175 20\n\
-nodes 4 placed 3 same 0 blocked 1\n\
-node 0 at 20 20 parent 0 cost 0\n\
-node 1 at 75 65 parent 0 cost 18193\n\
-node 2 at 115 65 parent 1 cost 28433\n\
-node 3 at 175 20 parent 2 cost 47633\n\
-mark 0 worker 0 turn 0 nearest 0 placed class 1 first 0 18193\n\
-mark 1 worker 0 turn 1 nearest 1 placed class 2 first 1 28433\n\
-mark 2 worker 0 turn 2 nearest 2 placed class 2 first 2 47633\n\
-mark 3 worker 0 turn 3 nearest 2 blocked\n",
+                   20 20\n\
+                   75 65\n\
+                   115 65\n\
+                   175 20\n\
+                   nodes 4 placed 3 same 0 blocked 1\n\
+                   node 0 at 20 20 parent 0 cost 0\n\
+                   node 1 at 75 65 parent 0 cost 18193\n\
+                   node 2 at 115 65 parent 1 cost 28433\n\
+                   node 3 at 175 20 parent 2 cost 47633\n\
+                   mark 0 worker 0 turn 0 nearest 0 placed class 1 first 0 18193\n\
+                   mark 1 worker 0 turn 1 nearest 1 placed class 2 first 1 28433\n\
+                   mark 2 worker 0 turn 2 nearest 2 placed class 2 first 2 47633\n\
+                   mark 3 worker 0 turn 3 nearest 2 blocked\n",
         },
         Case {
             shows: "a start that lies in the goal, and no mark",
             scene: "prrt 1\nroom 10 10\nstart 5 5\ngoal 0 0 9 9\nstep 4\n",
             status: 0,
             text: "path 1 cost 0\n\
-5 5\n\
-nodes 1 placed 0 same 0 blocked 0\n\
-node 0 at 5 5 parent 0 cost 0\n",
+                   5 5\n\
+                   nodes 1 placed 0 same 0 blocked 0\n\
+                   node 0 at 5 5 parent 0 cost 0\n",
         },
     ];
-    expect_each(&rt, rt.alloc(), &["plain", "full"], &cases)
+    expect_each(&rt, rt.alloc(), &["plain", "full"], &cases);
 }
 
-// They were drawn apart from the planner.
-#[test]
-fn writes_as_many_marks_as_there_may_be(rt: HostRuntime) -> Result<(), Fail> {
-    let words = ["plain", "full"];
-    let (status, written) = answer_to_text(&rt, rt.alloc(), &words, MOST_DRAWN_MARKS)?;
+// Compares how the report of the most drawn marks begins and ends. They were drawn apart from the planner.
+fn expect_most_drawn_marks<R: Abort>(rt: &R, report: &str) {
     let begin = "path 2 cost 363\n\
-0 0\n\
-1 1\n\
-nodes 4 placed 3 same 262140 blocked 0\n\
-node 0 at 0 0 parent 0 cost 0\n\
-node 2 at 1 1 parent 0 cost 363\n\
-node 3 at 0 1 parent 0 cost 256\n\
-node 8 at 1 0 parent 0 cost 256\n\
-mark 0 worker 0 turn 0 nearest 0 same 0\n\
-mark 1 worker 0 turn 1 nearest 0 placed class 1 first 0 363\n";
-    assert!(rt; written.as_str().starts_with(begin));
+                 0 0\n\
+                 1 1\n\
+                 nodes 4 placed 3 same 262140 blocked 0\n\
+                 node 0 at 0 0 parent 0 cost 0\n\
+                 node 2 at 1 1 parent 0 cost 363\n\
+                 node 3 at 0 1 parent 0 cost 256\n\
+                 node 8 at 1 0 parent 0 cost 256\n\
+                 mark 0 worker 0 turn 0 nearest 0 same 0\n\
+                 mark 1 worker 0 turn 1 nearest 0 placed class 1 first 0 363\n";
+    assert!(rt; report.starts_with(begin));
     expect_ends(
-        &rt,
-        &written,
+        rt,
+        report,
         "path 2 cost 363",
         "mark 262142 worker 0 turn 262142 nearest 0 same 0",
     );
-    assert_status(&rt, status, 0, &words);
-    expect_line_count(&rt, &written, 262_151);
-    Ok(())
+    expect_line_count(rt, report, 262_151);
+}
+
+#[test]
+fn writes_as_many_marks_as_there_may_be(rt: HostRuntime) {
+    let words = ["plain", "full"];
+    let scene = MOST_DRAWN_MARKS.as_bytes();
+    let called = call_by_pieces(&rt, rt.alloc(), &words, scene, 1 << 16);
+    assert_status(&rt, &words, called.status, 0, "the most drawn marks");
+    expect_most_drawn_marks(&rt, &called.text);
 }

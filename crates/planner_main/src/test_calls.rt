@@ -1,0 +1,47 @@
+//! What the tests of several modules share: words as a call is given them, bytes as the text that they spell, and values
+//! that memory lasts for.
+
+use plan_model::{MemSink, Memory};
+use std::alloc::Global;
+use std::process::Abort;
+
+/// What was made, for which memory lasts.
+pub fn sure<R: Abort, T>(rt: &R, made: Result<T, Memory>) -> T {
+    match made {
+        Ok(value) => value,
+        Err(error) => panic!(rt; "{error}"),
+    }
+}
+
+/// This text in memory of its own.
+pub fn copied(alloc: Global, text: &str) -> Result<String, Memory> {
+    Ok(String::from_str(alloc, text)?)
+}
+
+/// Adds a word to those that a call is given.
+fn push_word(alloc: Global, given: &mut Vec<String>, word: &str) -> Result<(), Memory> {
+    given.push(copied(alloc, word)?)?;
+    Ok(())
+}
+
+/// These words as a call is given them.
+pub fn given_words(alloc: Global, words: &[&str]) -> Result<Vec<String>, Memory> {
+    let mut given = Vec::new(alloc);
+    for word in words {
+        push_word(alloc, &mut given, word)?;
+    }
+    Ok(given)
+}
+
+/// The text that these bytes spell.
+pub fn text_of(bytes: &[u8]) -> &str {
+    match str::from_utf8(bytes) {
+        Ok(text) => text,
+        Err(_) => "no text",
+    }
+}
+
+/// The text that a sink has taken.
+pub fn text_in(sink: &MemSink) -> &str {
+    text_of(sink.bytes())
+}
