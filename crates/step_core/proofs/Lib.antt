@@ -32,3 +32,17 @@ pub mod NextMarks
 pub mod SeenWords
 pub mod TrueWords
 pub mod Looks
+pub mod ViewLists
+pub mod SeenByViews
+pub mod LaterWords
+pub mod WorldParts
+pub mod SawWords
+pub mod MarksInHand
+pub mod WorldSteps
+pub mod FinishedTurns
+pub mod FinishedMarks
+pub mod WorldSplits
+pub mod WorldJoins
+pub mod WholeShares
+pub mod WorldStarts
+pub mod LaterViews

@@ -12,3 +12,8 @@ pub mod PackedRuns
 pub mod MarkWrites
 pub mod SharedWords
 pub mod SeenWords
+pub mod Views
+pub mod Worlds
+pub mod ViewSteps
+pub mod ViewStarts
+pub mod LaterViews

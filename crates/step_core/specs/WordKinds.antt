@@ -1,9 +1,10 @@
 -- What may become of a word, by its kind: what was seen against what is so now, now against later, and the entry of a call against its
 -- return are all compared so.
-use Rattle.std.specs.Prelude.{◌≡◌, ℕ, ◌<◌, ◌≤◌, ◌^◌, ◌⊎◌}
+use Rattle.std.specs.Prelude.{◌≡◌, ℕ, ◌+◌, ◌-◌, ◌%◌, ◌<◌, ◌≤◌, ◌==◌, ◌^◌, ◌⊎◌, ◌&&◌, nat_lt, nat_le, max, if◌then◌else◌}
 use Rattle.step_core.specs.Words.{cost_in}
 use Rattle.step_core.specs.WordNames.{Word, Words}
 use Rattle.step_core.specs.WordNames.Word.{Count, Counter, PointOf, ChildOf, TreeOf, FirstOf, RecordOf}
+use Rattle.step_core.specs.WordPlaces.{Sizes, node_place}
 
 -- a number that only rises; a word that is written or filled once; a pair of a parent and a cost that only falls
 pub data WordKind : Type 0 where
@@ -31,6 +32,24 @@ MayBecome Rising word later = word ≤ later
 MayBecome Once word later = (word ≡ 0) ⊎ (word ≡ later)
 MayBecome Falling word later = (word ≡ 0) ⊎ Falls word later
 
+-- a tree word is 0, or written
+abbrev pub HaveWholePairs : Words → Type 0
+HaveWholePairs words = (n : ℕ) → (words (TreeOf n) ≡ 0) ⊎ (2 ^ 63 ≤ words (TreeOf n))
+
 -- each word may become the one that stands there in the other table
 abbrev pub AreBehind : Words → Words → Type 0
 AreBehind words later = (name : Word) → MayBecome (kind_of name) (words name) (later name)
+
+-- ---- two tables
+
+-- the later of two words of a kind, which may both become one
+abbrev pub later_word : WordKind → ℕ → ℕ → ℕ
+later_word Rising one other = max one other
+later_word Once one other = if one == 0 then other else one
+later_word Falling one other = if one == 0 then other else if nat_le (2 ^ 63) other && nat_lt (cost_in other) (cost_in one) then other else one
+
+-- the kind of the word at a place
+abbrev pub kind_at : Sizes → ℕ → WordKind
+kind_at sizes place =
+    if nat_le place sizes.strips then Rising else
+    if nat_lt place (node_place sizes (sizes.marks + 1)) && (place - node_place sizes 0) % 5 == 3 then Falling else Once

@@ -1,6 +1,6 @@
 -- Points, parents with their costs, and records as 64-bit words: bit 63 set, and each field times the power of 2 at which
 -- it stands. What a word reads as: each field by division and remainder.
-use Rattle.std.specs.Prelude.{◌≡◌, ℕ, zero, suc, ◌+◌, ◌*◌, ◌/◌, ◌%◌, ◌^◌, ◌<◌, nat_lt, refl}
+use Rattle.std.specs.Prelude.{◌≡◌, ℕ, zero, suc, ◌+◌, ◌*◌, ◌/◌, ◌%◌, ◌^◌, ◌<◌, ◌≤◌, nat_lt, refl}
 use Rattle.std.specs.Prelude.{if◌then◌else◌, Option, Some, None}
 use Rattle.plan_model.specs.declared.geometry.Point.{Point}
 use Rattle.plan_model.specs.declared.records.Outcome.{Outcome}
@@ -153,3 +153,9 @@ record_in (suc (suc (suc n))) word first = fourth_in word
 -- the record that a word holds, with the first word of its node
 abbrev pub record_of_word : ℕ → ℕ → Option Record
 record_of_word word first = if_written word (record_in (outcome_in word) word first)
+
+-- the word of a record by this worker in this turn, whatever else it says
+pub record IsTurnWord (worker turn word : ℕ) : Type 0 where
+  pub written : 2 ^ 63 ≤ word
+  pub worker_is : worker_in word ≡ worker
+  pub turn_is : turn_in word ≡ turn

@@ -22,9 +22,13 @@ mod point_words;
 mod record_words;
 mod seen_laws;
 mod tree_words;
+mod views;
 mod word_places;
+mod world_laws;
 
 pub use grown::Grown;
 pub use point_words::{pack_point, read_point};
 pub use record_words::{pack_mark, read_mark};
 pub use tree_words::{pack_tree, read_tree};
+pub use views::{Hand, Member, SharedRun, Stage, View};
+pub use word_places::WordPlaces;

@@ -15,7 +15,7 @@ use plan_model::{Task, strip_of_mark};
 
 /// The places of the words of a run with so many strips and marks.
 #[derive(Clone, Copy)]
-pub(crate) struct WordPlaces {
+pub struct WordPlaces {
     strips: usize,
     marks: usize,
     ghost few_strips: { strips ≤ MOST_STRIPS },
@@ -27,7 +27,7 @@ impl WordPlaces {
     ghost use Rattle.step_core.specs.PlacesOfWords.{sizes_in};
 
     /// The places of the words of a task's run.
-    pub(crate) fn of(task: &Task) -> WordPlaces
+    pub fn of(task: &Task) -> WordPlaces
         ensures { sizes_in result ≡ sizes_of task.now }
     {
         WordPlaces {
@@ -37,28 +37,28 @@ impl WordPlaces {
     }
 
     /// How many marks there are; the last node has this number.
-    pub(crate) fn marks(self) -> usize
+    pub fn marks(self) -> usize
         ensures { result ≡ (sizes_in self).marks }
     {
         self.marks
     }
 
     /// How many words there are.
-    pub(crate) fn len(self) -> usize
+    pub fn len(self) -> usize
         ensures { result ≡ word_count (sizes_in self) }
     {
         self.record(self.marks)
     }
 
     /// The count of nodes.
-    pub(crate) fn count(self) -> usize
+    pub fn count(self) -> usize
         ensures { result ≡ place_of (sizes_in self) Count }
     {
         0
     }
 
     /// The counter of a strip.
-    pub(crate) fn counter(self, strip: usize) -> usize
+    pub fn counter(self, strip: usize) -> usize
         requires { strip < (sizes_in self).strips }
         ensures { result ≡ place_of (sizes_in self) (Counter strip) }
     {
@@ -66,7 +66,7 @@ impl WordPlaces {
     }
 
     /// The counter of the strip that a mark belongs to.
-    pub(crate) fn counter_of_mark(self, mark: usize) -> usize
+    pub fn counter_of_mark(self, mark: usize) -> usize
         requires strips { 0 < (sizes_in self).strips }
         requires within { mark < (sizes_in self).marks }
         ensures { result ≡ place_of (sizes_in self) (Counter (strip_of_mark (sizes_in self).strips mark)) }
@@ -75,7 +75,7 @@ impl WordPlaces {
     }
 
     /// The point of a node, and the first of its words.
-    pub(crate) fn point(self, node: usize) -> usize
+    pub fn point(self, node: usize) -> usize
         requires { node ≤ (sizes_in self).marks }
         ensures { result ≡ place_of (sizes_in self) (PointOf node) }
     {
@@ -83,7 +83,7 @@ impl WordPlaces {
     }
 
     /// The left or the right child of a node.
-    pub(crate) fn child(self, node: usize, right: bool) -> usize
+    pub fn child(self, node: usize, right: bool) -> usize
         requires { node ≤ (sizes_in self).marks }
         ensures { result ≡ place_of (sizes_in self) (ChildOf node right) }
     {
@@ -95,7 +95,7 @@ impl WordPlaces {
     }
 
     /// The parent and the kept cost of a node.
-    pub(crate) fn tree(self, node: usize) -> usize
+    pub fn tree(self, node: usize) -> usize
         requires { node ≤ (sizes_in self).marks }
         ensures { result ≡ place_of (sizes_in self) (TreeOf node) }
     {
@@ -103,7 +103,7 @@ impl WordPlaces {
     }
 
     /// The first parent and the first cost of a node.
-    pub(crate) fn first(self, node: usize) -> usize
+    pub fn first(self, node: usize) -> usize
         requires { node ≤ (sizes_in self).marks }
         ensures { result ≡ place_of (sizes_in self) (FirstOf node) }
     {
@@ -111,7 +111,7 @@ impl WordPlaces {
     }
 
     /// The record of a mark.
-    pub(crate) fn record(self, mark: usize) -> usize
+    pub fn record(self, mark: usize) -> usize
         requires { mark ≤ (sizes_in self).marks }
         ensures { result ≡ place_of (sizes_in self) (RecordOf mark) }
     {

@@ -1,0 +1,124 @@
+-- The record of the mark in hand keeps the law of worlds.
+use Rattle.std.proofs.Common.{◌≡◌, ℕ, ◌+◌, ◌/◌, ◌%◌, ◌≤◌, ◌^◌, List, ◌∷◌, length, set, Some, None, refl, sym, ap, ◌∙◌, subst, inl, inr, arith, le_refl}
+use Rattle.std.specs.Prelude.{◌⊎◌, ◌==◌, nat_lt, is_some}
+use mathlib.Core.Option.{some}
+use lib.ListN.{get_elem?}
+use Rattle.std.proofs.lemmas.Bool.{cases_eq, eq-eqb, ne_eqb}
+use Rattle.plan_model.specs.MarkPoints.{is_claimed}
+use Rattle.plan_model.specs.Turns.{once_if}
+use Rattle.step_core.specs.GrownWords.{record_at}
+use Rattle.step_core.specs.ViewSteps.{finished, one_turn_more, saw}
+use Rattle.step_core.specs.Views.{IsViewOf, holds, run_sizes, sees, share}
+use Rattle.step_core.specs.WordKinds.{AreBehind}
+use Rattle.step_core.specs.WordNames.{Words, WritesWord}
+use Rattle.step_core.specs.WordNames.Word.{Count, Counter, RecordOf, TreeOf}
+use Rattle.step_core.specs.WordPlaces.{HasWord}
+use Rattle.step_core.specs.Words.{turn_in, worker_in}
+use Rattle.step_core.specs.Worlds.{IsWorld, counters, is_recorded, limit_of}
+use Rattle.step_core.specs.declared.views.Hand.{Hand}
+use Rattle.step_core.specs.declared.views.Member.{Member}
+use Rattle.step_core.specs.declared.views.SharedRun.{SharedRun}
+use Rattle.step_core.specs.declared.views.View.{View}
+use Rattle.step_core.proofs.FinishedTurns.{Turns-finished, change}
+use Rattle.step_core.proofs.MarksInHand.{IsInHand, IsInHand-held}
+use Rattle.step_core.proofs.SawWords.{AreBehind-saw, AreBehind-seen, AreBehind-write, HaveWholePairs-saw, IsFair-saw}
+use Rattle.step_core.proofs.SeenByViews.{IsViewOf-saw, WritesWord-saw}
+use Rattle.step_core.proofs.ViewLists.{greatest-set}
+use Rattle.step_core.proofs.WordKinds.{AreBehind-trans}
+use Rattle.step_core.proofs.WorldParts.{Numbers-step, Seen-step, Shares-step, limit_of-up, of_run-step, quotas-kept}
+use Rattle.step_core.proofs.WorldSteps.{live}
+
+-- a mark in hand has no record, and is one of the marks
+pub in_hand :
+    (run : SharedRun) (words : Words) (views : List View) (id : ℕ) (view : View) → (world : IsWorld run words views) → get_elem? views id ≡ some view
+    → (hand : Hand) → view.hand ≡ Some hand → IsInHand run words views world.run_is.strips.0 world.numbers hand.mark
+in_hand run words views id view world at hand held =
+    IsInHand-held run words views world.run_is.strips.0 world.numbers id view hand.mark at
+    (ap (holds hand.mark) held ∙ eq-eqb hand.mark hand.mark refl)
+
+module _ (run : SharedRun) (words after : Words) (views : List View) (id : ℕ) (view : View) (world : IsWorld run words views)
+    (at : get_elem? views id ≡ some view) (own : view.run ≡ run) (hand : Hand) (held : view.hand ≡ Some hand) (member : Member)
+    (crew : List Member) (crew_is : view.crew ≡ member ∷ crew) (x : ℕ) (written : 2 ^ 63 ≤ x) (worker : worker_in x ≡ member.worker)
+    (turn : turn_in x ≡ member.turn) (writes : WritesWord (RecordOf hand.mark) x words after) where
+  abbrev k : ℕ
+  k = hand.mark
+
+  abbrev then : View
+  then = finished view k x
+
+  holds_it : (j : ℕ) → holds j view.hand ≡ (k == j)
+  holds_it j = ap (holds j) held
+
+  mark : IsInHand run words views world.run_is.strips.0 world.numbers k
+  mark = in_hand run words views id view world at hand held
+
+  go : AreBehind words after
+  go = AreBehind-write (RecordOf k) x words after writes (inl (world.numbers.blank k mark.absent))
+
+  same_share : share then ≡ share view
+  same_share = ap (λ l. length (one_turn_more l)) crew_is ∙ sym (ap (λ l. length l) crew_is)
+
+  balance :
+      (j : ℕ) → once_if (is_recorded after j) + once_if (holds j then.hand) + once_if (is_claimed run.strips (counters words) j)
+      ≡ once_if (is_recorded words j) + once_if (holds j view.hand) + once_if (is_claimed run.strips (counters after) j)
+  balance j =
+      let in_hand : once_if (holds j view.hand) ≡ once_if (k == j) = ap once_if (holds_it j) in
+      let claims : once_if (is_claimed run.strips (counters after) j) ≡ once_if (is_claimed run.strips (counters words) j) =
+      ap (λ n. once_if (nat_lt (j / run.strips) n)) (writes.others (Counter (j % run.strips)) (λ e. cc)) in
+      let new = change run words after views id view member crew k x world.turns at crew_is mark.low mark.absent writes written worker turn in
+      elim (cases_eq k j) [
+        | inl e ↦ (
+            let was : once_if (is_recorded words j) ≡ 0 = ap (λ o. once_if (is_some o)) (ap (record_at words) (sym e) ∙ mark.absent) in
+            let now : once_if (is_recorded after j) ≡ 1 = ap (λ o. once_if (is_some o)) (ap (record_at after) (sym e) ∙ new.recorded) in
+            let here : once_if (k == j) ≡ 1 = ap once_if (eq-eqb k j e) in
+            omega (arith, in_hand, claims, was, now, here))
+        | inr apart ↦ (
+            let same = ap (λ o. once_if (is_some o)) (new.others j (λ e. apart (sym e))) in
+            let here : once_if (k == j) ≡ 0 = ap once_if (ne_eqb k j apart) in
+            omega (arith, in_hand, claims, same, here))
+      ]
+
+  blank : (j : ℕ) → record_at after j ≡ None → after (RecordOf j) ≡ 0
+  blank j none =
+      let new = change run words after views id view member crew k x world.turns at crew_is mark.low mark.absent writes written worker turn in
+      elim (cases_eq j k) [
+        | inl e ↦ (let gone = sym none ∙ ap (record_at after) e ∙ new.recorded in cc)
+        | inr apart ↦ writes.others (RecordOf j) (λ e. apart cc) ∙ world.numbers.blank j (sym (new.others j apart) ∙ none)
+      ]
+
+  pairs : (n : ℕ) → (after (TreeOf n) ≡ 0) ⊎ (2 ^ 63 ≤ after (TreeOf n))
+  pairs n = subst (λ w. (w ≡ 0) ⊎ (2 ^ 63 ≤ w)) (sym (writes.others (TreeOf n) (λ e. cc))) (world.seen.pairs n)
+
+  by_fields : IsViewOf run (saw view (RecordOf k) x x) → IsViewOf run then
+  by_fields v = record { run_is = v.run_is; seen = v.seen; looked = v.looked; found_zero = v.found_zero }
+
+  pub IsWorld-finished : IsWorld run after (set views id then)
+  IsWorld-finished =
+      let of_run = live run words views id view world at own in
+      let here : HasWord (run_sizes run) (RecordOf k) = mark.low in
+      let saw_it = WritesWord-saw run view of_run (RecordOf k) here x x in
+      let behind = AreBehind-trans (sees view) words after (world.seen.behind id view at) go in
+      let seen = AreBehind-seen (RecordOf k) x (sees view) (sees then) after saw_it writes.here behind in
+      record {
+        run_is = world.run_is;
+        of_run = of_run-step run views id then world.of_run (by_fields (IsViewOf-saw run view of_run (RecordOf k) here x x));
+        numbers = Numbers-step run words after views id view then at world.numbers
+            (quotas-kept run words after views (set views id then) world.numbers (λ g within. writes.others (Counter g) (λ e. cc))
+            (greatest-set limit_of views id view then at (limit_of-up view then same_share (le_refl view.most))))
+            balance (world.numbers.limits id view at) blank (omega (arith, writes.others Count (λ e. cc), world.numbers.count));
+        turns = Turns-finished run words after views id view member crew k x world.turns at crew_is mark.low mark.absent writes written worker turn saw_it;
+        shares = Shares-step run words after views id view then at world.shares same_share (λ none. refl);
+        seen = Seen-step words after views id view then at world.seen go
+            (AreBehind-saw (RecordOf k) x (sees view) (sees then) after saw_it writes.here behind)
+            (AreBehind-trans _ (sees view) (sees then) (world.seen.took id view at) seen) pairs
+            (HaveWholePairs-saw (RecordOf k) x (sees view) (sees then) after saw_it writes.here behind (world.seen.whole id view at) pairs)
+            (IsFair-saw (RecordOf k) x (sees view) (sees then) after saw_it writes.here behind);
+      }
+
+-- the words go on by a record
+pub AreBehind-finished :
+    (run : SharedRun) (words after : Words) (views : List View) (id : ℕ) (view : View) → IsWorld run words views → get_elem? views id ≡ some view
+    → (hand : Hand) → view.hand ≡ Some hand → (x : ℕ) → WritesWord (RecordOf hand.mark) x words after → AreBehind words after
+AreBehind-finished run words after views id view world at hand held x writes =
+    let mark = in_hand run words views id view world at hand held in
+    AreBehind-write (RecordOf hand.mark) x words after writes (inl (world.numbers.blank hand.mark mark.absent))

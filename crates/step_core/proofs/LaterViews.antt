@@ -1,0 +1,162 @@
+-- A view after steps of its own is a later one, and the law of worlds says of each view alone what `IsLawfulView` says.
+use Rattle.std.proofs.Common.{◌≡◌, ℕ, ◌+◌, ◌<◌, ◌≤◌, ◌^◌, List, length, Some, refl, sym, ap, ◌∙◌, subst, inl, inr, arith, le_refl, le_trans}
+use Rattle.std.specs.Prelude.{◌⊎◌}
+use lib.ListN.{get_elem?}
+use mathlib.Core.Option.{some}
+use Rattle.std.proofs.lemmas.Bool.{cases_eq}
+use Rattle.step_core.specs.LaterViews.{IsLater, IsLawfulView}
+use Rattle.step_core.specs.ViewSteps.{claimed, finished, loaded, saw}
+use Rattle.step_core.specs.Views.{IsSharedRun, IsViewOf, last_look, last_zero, run_sizes, sees}
+use Rattle.step_core.specs.WordKinds.{MayBecome, WordKind, kind_of}
+use Rattle.step_core.specs.WordKinds.WordKind.{Rising, Once, Falling}
+use Rattle.step_core.specs.WordNames.{Word, Words, WritesWord}
+use Rattle.step_core.specs.WordNames.Word.{Count, Counter, RecordOf}
+use Rattle.step_core.specs.WordPlaces.{HasWord}
+use Rattle.step_core.specs.Worlds.{IsWorld, greatest_limit}
+use Rattle.step_core.specs.declared.views.Hand.{Hand}
+use Rattle.step_core.specs.declared.views.SharedRun.{SharedRun}
+use Rattle.step_core.specs.declared.views.View.{View}
+use Rattle.step_core.proofs.FinishedMarks.{in_hand}
+use Rattle.step_core.proofs.Looks.{same_name}
+use Rattle.step_core.proofs.MarksInHand.{greatest_limit-most}
+use Rattle.step_core.proofs.SawWords.{AreBehind-write}
+use Rattle.step_core.proofs.SeenByViews.{WritesWord-looked, WritesWord-saw, WritesWord-zero, last_zero-other}
+use Rattle.step_core.proofs.WholeShares.{turn-below, worker-below}
+use Rattle.step_core.proofs.WordKinds.{AreBehind-refl, AreBehind-trans}
+use Rattle.step_core.proofs.WorldParts.{quota-most}
+use Rattle.step_core.proofs.WorldSteps.{live}
+
+-- ---- later views
+
+-- only 0 may become 0
+pub MayBecome-zero : (kind : WordKind) (word : ℕ) → MayBecome kind word 0 → word ≡ 0
+MayBecome-zero Rising word may = omega (arith, may)
+MayBecome-zero Once word (inl none) = none
+MayBecome-zero Once word (inr none) = none
+MayBecome-zero Falling word (inl none) = none
+MayBecome-zero Falling word (inr (inl none)) = none
+MayBecome-zero Falling word (inr (inr fell)) = absurd (omega (arith, fell.0))
+
+pub IsLater-refl : (view : View) → IsLater view view
+IsLater-refl view = record {
+  run = refl;
+  seen = AreBehind-refl (sees view);
+  steps = le_refl view.steps;
+  looked = λ name. inl refl;
+  zero_found = λ name. inl refl;
+}
+
+pub IsLater-trans : (before mid after : View) → IsLater before mid → IsLater mid after → IsLater before after
+IsLater-trans before mid after first then = record {
+  run = then.run ∙ first.run;
+  seen = AreBehind-trans (sees before) (sees mid) (sees after) first.seen then.seen;
+  steps = le_trans first.steps then.steps;
+  looked = λ name.
+      elim (then.looked name) [
+        | inr since ↦ inr (omega (arith, since, first.steps))
+        | inl same ↦ elim (first.looked name) [
+          | inl was ↦ inl (same ∙ was)
+          | inr since ↦ inr (omega (arith, same, since))
+        ]
+      ];
+  zero_found = λ name.
+      elim (then.zero_found name) [
+        | inr since ↦
+            inr (
+              omega (arith, since.0, first.steps),
+              MayBecome-zero (kind_of name) (sees before name) (subst (MayBecome (kind_of name) (sees before name)) since.1 (first.seen name)),
+            )
+        | inl same ↦ elim (first.zero_found name) [
+          | inl was ↦ inl (same ∙ was)
+          | inr since ↦ inr (omega (arith, same, since.0), since.1)
+        ]
+      ];
+}
+
+-- a step on one word
+module _ (run : SharedRun) (view : View) (of_run : IsViewOf run view) (name : Word) (here : HasWord (run_sizes run) name) (found left : ℕ)
+    (may : MayBecome (kind_of name) (sees view name) left) (unseen : found ≡ 0 → sees view name ≡ 0) where
+  zero_saw : (other : Word) → (last_zero (saw view name found left) other ≡ last_zero view other)
+      ⊎ ((view.steps < last_zero (saw view name found left) other) × (sees view other ≡ 0))
+  zero_saw other =
+      elim (cases_eq found 0) [
+        | inr some_word ↦ inl (ap (λ z. z other) (last_zero-other run view of_run name here found left some_word))
+        | inl none ↦ (
+            let writes : WritesWord name (view.steps + 1) (last_zero view) (last_zero (saw view name found left)) =
+            subst (λ n. WritesWord name (view.steps + 1) (last_zero view) (last_zero (saw view name n left))) (sym none)
+            (WritesWord-zero run view of_run name here left) in
+            elim (same_name other name) [
+              | inl e ↦ inr (omega (arith, ap (last_zero (saw view name found left)) e, writes.here), ap (sees view) e ∙ unseen none)
+              | inr apart ↦ inl (writes.others other apart)
+            ])
+      ]
+
+  pub IsLater-saw : IsLater view (saw view name found left)
+  IsLater-saw =
+      let looks = WritesWord-looked run view of_run name here found left in
+      record {
+        run = refl;
+        seen = AreBehind-write name left (sees view) (sees (saw view name found left)) (WritesWord-saw run view of_run name here found left) may;
+        steps = omega arith;
+        looked = λ other.
+            elim (same_name other name) [
+              | inl e ↦ inr (omega (arith, ap (last_look (saw view name found left)) e, looks.here))
+              | inr apart ↦ inl (looks.others other apart)
+            ];
+        zero_found = zero_saw;
+      }
+
+-- ---- each kind of step
+
+module _ (run : SharedRun) (words : Words) (views : List View) (id : ℕ) (view : View) (world : IsWorld run words views)
+    (at : get_elem? views id ≡ some view) (own : view.run ≡ run) where
+  of_run : IsViewOf run view
+  of_run = live run words views id view world at own
+
+  -- a load
+  pub IsLater-loaded : (name : Word) → HasWord (run_sizes run) name → IsLater view (loaded view name (words name))
+  IsLater-loaded name here =
+      IsLater-saw run view of_run name here (words name) (words name) (world.seen.behind id view at name)
+      (λ none. MayBecome-zero (kind_of name) (sees view name) (subst (MayBecome (kind_of name) (sees view name)) none (world.seen.behind id view at name)))
+
+  -- a claim
+  pub IsLater-claimed : (g c limit : ℕ) → g < run.strips → words (Counter g) ≡ c → IsLater view (claimed view g c limit)
+  IsLater-claimed g c limit strip is =
+      let seen = world.seen.behind id view at (Counter g) in
+      let here : HasWord (run_sizes run) (Counter g) = strip in
+      let then = IsLater-saw run view of_run (Counter g) here c (c + 1) (omega (arith, seen, is)) (λ none. omega (arith, seen, is, none)) in
+      record { run = then.run; seen = then.seen; steps = then.steps; looked = then.looked; zero_found = then.zero_found }
+
+  -- a record
+  pub IsLater-finished : (hand : Hand) → view.hand ≡ Some hand → (x : ℕ) → 2 ^ 63 ≤ x → IsLater view (finished view hand.mark x)
+  IsLater-finished hand held x written =
+      let mark = in_hand run words views id view world at hand held in
+      let none : sees view (RecordOf hand.mark) ≡ 0 =
+      MayBecome-zero Once (sees view (RecordOf hand.mark))
+      (subst (MayBecome Once (sees view (RecordOf hand.mark))) (world.numbers.blank hand.mark mark.absent)
+      (world.seen.behind id view at (RecordOf hand.mark))) in
+      let here : HasWord (run_sizes run) (RecordOf hand.mark) = mark.low in
+      let then = IsLater-saw run view of_run (RecordOf hand.mark) here x x (inl none) (λ gone. absurd (omega (arith, written, gone))) in
+      record { run = then.run; seen = then.seen; steps = then.steps; looked = then.looked; zero_found = then.zero_found }
+
+  -- ---- one view alone
+
+  counter_within : (g : ℕ) → g < run.strips → sees view (Counter g) ≤ length run.marks
+  counter_within g strip =
+      let top = greatest_limit-most run words views world.run_is.strips.0 world.numbers in
+      omega (arith, world.seen.behind id view at (Counter g), world.numbers.quotas g strip, quota-most run.strips g (greatest_limit views), top)
+
+  pub IsLawfulView-world : IsLawfulView view
+  IsLawfulView-world = record {
+    run = subst IsSharedRun (sym own) world.run_is;
+    of_run = subst (λ r. IsViewOf r view) (sym own) of_run;
+    most = subst (λ r. view.most ≤ length r.marks) (sym own) (world.numbers.limits id view at);
+    idle = world.shares.idle id view at;
+    mark = λ hand held. subst (λ r. hand.mark < length r.marks) (sym own) (in_hand run words views id view world at hand held).low;
+    worker = λ i member e. subst (λ r. member.worker < r.workers) (sym own) (worker-below run words views id view world at i member e);
+    turn = λ hand i member held e. subst (λ r. member.turn < length r.marks) (sym own) (turn-below run words views id view world at hand i member held e);
+    took = world.seen.took id view at;
+    count = subst (λ r. sees view Count ≤ length r.marks + 1) (sym own) (le_trans (world.seen.behind id view at Count) world.numbers.count);
+    counter = λ g strip. subst (λ r. sees view (Counter g) ≤ length r.marks) (sym own)
+        (counter_within g (subst (λ r. g < r.strips) own strip));
+  }

@@ -1,0 +1,302 @@
+-- A join keeps the law of worlds: shares are added, and what either has seen is seen.
+use Rattle.std.proofs.Common.{◌≡◌, ◌≢◌, ℕ, zero, suc, ◌≤◌, ◌^◌, max, Bool, true, false, List, [], ◌∷◌}
+use Rattle.std.proofs.Common.{◌++◌, length, length-append, set, None, refl, sym, ap, ◌∙◌, subst, inl, inr, arith, zero-le}
+use Rattle.std.specs.Prelude.{◌⊎◌, ◌==◌, ◌&&◌, nat_le, nat_lt, cond, slice_index}
+use Rattle.std.proofs.lemmas.Bool.{cases_eq, eqb-true, eqb-false, ne_eqb}
+use Rattle.std.proofs.lemmas.List.Sums.{sum_by-append}
+use mathlib.Core.Option.{some, some-ne-none, some-injective}
+use lib.ListN.{get_elem?}
+use Rattle.plan_model.specs.Turns.{once_if}
+use Rattle.step_core.specs.ViewSteps.{joined}
+use Rattle.step_core.specs.Views.{IsViewOf, holds, no_run, run_sizes, sees, share, spent, times, took_over, words_of_run}
+use Rattle.step_core.specs.WordKinds.{AreBehind, HaveWholePairs, MayBecome, WordKind, kind_of, later_word}
+use Rattle.step_core.specs.WordKinds.WordKind.{Rising, Once, Falling}
+use Rattle.step_core.specs.WordNames.{Word, Words}
+use Rattle.step_core.specs.WordNames.Word.{Count, Counter, PointOf, ChildOf, TreeOf, FirstOf, RecordOf}
+use Rattle.step_core.specs.WordPlaces.{Sizes, has_word, place_of, word_at, word_count}
+use Rattle.step_core.specs.Words.{cost_in}
+use Rattle.step_core.specs.Worlds.{Agree, EachView, IsMember, IsWorld, greatest_limit, limit_of}
+use Rattle.step_core.specs.declared.views.Member.{Member}
+use Rattle.step_core.specs.declared.views.SharedRun.{SharedRun}
+use Rattle.step_core.specs.declared.views.View.{View}
+use Rattle.step_core.proofs.LaterWords.{IsWholePair-later, MayBecome-later, MayBecome-other_to_later, MayBecome-to_later, length-merged, word_at-merged}
+use Rattle.step_core.proofs.ViewLists.{at-set, at-set_other, each-set, greatest-most, greatest-one, sum-set}
+use Rattle.step_core.proofs.WorldParts.{agree-set, quotas-kept}
+use Rattle.step_core.proofs.WorldSteps.{live}
+
+-- ---- nothing seen
+
+-- no list of words has a word
+none-read : (sizes : Sizes) (name : Word) → word_at sizes [] name ≡ 0
+unfolding word_at
+none-read sizes name = by_test (has_word sizes name)
+  where
+    by_test : (b : Bool) → cond b (slice_index [] (place_of sizes name)) 0 ≡ 0
+    by_test true = refl
+    by_test false = refl
+
+may_begin : (kind : WordKind) (word : ℕ) → MayBecome kind 0 word
+may_begin Rising word = zero-le
+may_begin Once word = inl refl
+may_begin Falling word = inl refl
+
+-- and so it is behind all words
+pub AreBehind-nothing : (sizes : Sizes) (words : Words) → AreBehind (word_at sizes []) words
+AreBehind-nothing sizes words name = subst (λ w. MayBecome (kind_of name) w (words name)) (sym (none-read sizes name)) (may_begin (kind_of name) (words name))
+
+-- a spent view has seen nothing
+sees-spent : (name : Word) → sees spent name ≡ 0
+sees-spent name = none-read (run_sizes no_run) name
+
+AreBehind-spent : (words : Words) → AreBehind (sees spent) words
+AreBehind-spent words = AreBehind-nothing (run_sizes no_run) words
+
+Agree-spent : (other : Words) → Agree (sees spent) other
+Agree-spent other n written also same = absurd (omega (arith, written, sees-spent (TreeOf n)))
+
+-- ---- limits
+
+limit_of-joined : (view other : View) → max (limit_of view) (limit_of other) ≤ limit_of (joined view other)
+limit_of-joined view other =
+    elim (cases_eq (share (joined view other)) 0) [
+      | inl e ↦ (
+          let a : share view ≡ 0 = omega (arith, length-append view.crew other.crew, e) in
+          let b : share other ≡ 0 = omega (arith, length-append view.crew other.crew, e) in
+          rw a (rw b (omega arith)))
+      | inr some_share ↦
+          subst (λ t. max (limit_of view) (limit_of other) ≤ cond t 0 (max view.most other.most)) (sym (ne_eqb (share (joined view other)) 0 some_share))
+          (omega (arith, top view (share view == 0), top other (share other == 0)))
+    ]
+  where
+    top : (u : View) (b : Bool) → cond b 0 u.most ≤ u.most
+    top u true = omega arith
+    top u false = omega arith
+
+crew_at : (mine theirs : List Member) (i : ℕ) (member : Member) → get_elem? (mine ++ theirs) i ≡ some member
+    → ((j : ℕ) × (get_elem? mine j ≡ some member)) ⊎ ((j : ℕ) × (get_elem? theirs j ≡ some member))
+crew_at [] theirs i member e = inr (i, e)
+crew_at (first ∷ mine) theirs zero member e = inl (0, e)
+crew_at (first ∷ mine) theirs (suc i) member e =
+    elim (crew_at mine theirs i member e) [
+      | inl own ↦ inl (suc own.0, own.1)
+      | inr other ↦ inr other
+    ]
+
+-- ---- the join
+
+-- what the one had seen may become what is seen by both, whatever the other had seen
+pub AreBehind-joined : (view other : View) → AreBehind (sees view) (sees (joined view other))
+AreBehind-joined view other name =
+    subst (MayBecome (kind_of name) (sees view name)) (sym (word_at-merged (run_sizes view.run) view.seen other.seen name))
+    (MayBecome-to_later (kind_of name) (sees view name) (word_at (run_sizes view.run) other.seen name))
+
+module _ (run : SharedRun) (words : Words) (views : List View) (id : ℕ) (view : View) (j : ℕ) (other : View) (world : IsWorld run words views)
+    (at : get_elem? views id ≡ some view) (own : view.run ≡ run) (own_too : other.run ≡ run) (was : get_elem? views j ≡ some other) where
+  abbrev both : View
+  both = joined view other
+
+  abbrev middle : List View
+  middle = set views id both
+
+  abbrev after : List View
+  after = set middle j spent
+
+  -- ---- what is seen by both
+
+  sees_other : (name : Word) → word_at (run_sizes view.run) other.seen name ≡ sees other name
+  sees_other name = ap (λ r. words_of_run r other.seen name) (own ∙ sym own_too)
+
+  sees_both : (name : Word) → sees both name ≡ later_word (kind_of name) (sees view name) (sees other name)
+  sees_both name = word_at-merged (run_sizes view.run) view.seen other.seen name ∙ ap (later_word (kind_of name) (sees view name)) (sees_other name)
+
+  behind_both : AreBehind (sees both) words
+  behind_both name =
+      subst (λ w. MayBecome (kind_of name) w (words name)) (sym (sees_both name))
+      (MayBecome-later (kind_of name) (sees view name) (sees other name) (words name) (world.seen.behind id view at name)
+      (world.seen.behind j other was name))
+
+  whole_both : HaveWholePairs (sees both)
+  whole_both n =
+      subst (λ w. (w ≡ 0) ⊎ (2 ^ 63 ≤ w)) (sym (sees_both (TreeOf n)))
+      (IsWholePair-later (sees view (TreeOf n)) (sees other (TreeOf n)) (world.seen.whole id view at n) (world.seen.whole j other was n))
+
+  -- what the other had seen may become what both see
+  plain :
+      (name : Word) → (kind_of name ≡ Falling → ⊥) → MayBecome (kind_of name) (sees other name) (later_word (kind_of name) (sees view name) (sees other name))
+  plain name no_pair =
+      MayBecome-other_to_later (kind_of name) (sees view name) (sees other name) (words name) (world.seen.behind id view at name)
+      (world.seen.behind j other was name) (λ e. absurd (no_pair e)) (λ e. absurd (no_pair e)) (λ e. absurd (no_pair e))
+
+  to_later : (name : Word) → MayBecome (kind_of name) (sees other name) (later_word (kind_of name) (sees view name) (sees other name))
+  to_later (TreeOf n) =
+      MayBecome-other_to_later Falling (sees view (TreeOf n)) (sees other (TreeOf n)) (words (TreeOf n)) (world.seen.behind id view at (TreeOf n))
+      (world.seen.behind j other was (TreeOf n)) (λ e. world.seen.whole id view at n)
+      (λ e written also same. world.seen.agree id view at j other was n written also same) (λ e. world.seen.whole j other was n)
+  to_later Count = plain Count (λ e. cc)
+  to_later (Counter g) = plain (Counter g) (λ e. cc)
+  to_later (PointOf n) = plain (PointOf n) (λ e. cc)
+  to_later (ChildOf n side) = plain (ChildOf n side) (λ e. cc)
+  to_later (FirstOf n) = plain (FirstOf n) (λ e. cc)
+  to_later (RecordOf k) = plain (RecordOf k) (λ e. cc)
+
+  pub AreBehind-other : AreBehind (sees other) (sees both)
+  AreBehind-other name = subst (MayBecome (kind_of name) (sees other name)) (sym (sees_both name)) (to_later name)
+
+  took_both : AreBehind (took_over both) (sees both)
+  took_both name = subst (λ w. MayBecome (kind_of name) w (sees both name)) (sym (sees_other name)) (AreBehind-other name)
+
+  -- each pair of both is one that one of them saw
+  pair_of_one : (n : ℕ) → (sees both (TreeOf n) ≡ sees view (TreeOf n)) ⊎ (sees both (TreeOf n) ≡ sees other (TreeOf n))
+  pair_of_one n = by_test (sees view (TreeOf n) == 0) refl (nat_le (2 ^ 63) (sees other (TreeOf n)) && nat_lt (cost_in (sees other (TreeOf n)))
+      (cost_in (sees view (TreeOf n)))) refl
+    where
+      by_test :
+          (t : Bool) → (sees view (TreeOf n) == 0) ≡ t → (u : Bool)
+          → (nat_le (2 ^ 63) (sees other (TreeOf n)) && nat_lt (cost_in (sees other (TreeOf n))) (cost_in (sees view (TreeOf n)))) ≡ u
+          → (sees both (TreeOf n) ≡ sees view (TreeOf n)) ⊎ (sees both (TreeOf n) ≡ sees other (TreeOf n))
+      by_test true e u f = inr (sees_both (TreeOf n)
+          ∙ ap (λ b. cond b (sees other (TreeOf n)) (cond (nat_le (2 ^ 63) (sees other (TreeOf n)) && nat_lt (cost_in (sees other (TreeOf n)))
+          (cost_in (sees view (TreeOf n)))) (sees other (TreeOf n)) (sees view (TreeOf n)))) e)
+      by_test false e true f =
+          inr (sees_both (TreeOf n)
+          ∙ ap (λ b. cond b (sees other (TreeOf n)) (cond (nat_le (2 ^ 63) (sees other (TreeOf n)) && nat_lt (cost_in (sees other (TreeOf n)))
+          (cost_in (sees view (TreeOf n)))) (sees other (TreeOf n)) (sees view (TreeOf n)))) e
+          ∙ ap (λ b. cond b (sees other (TreeOf n)) (sees view (TreeOf n))) f)
+      by_test false e false f =
+          inl (sees_both (TreeOf n)
+          ∙ ap (λ b. cond b (sees other (TreeOf n)) (cond (nat_le (2 ^ 63) (sees other (TreeOf n)) && nat_lt (cost_in (sees other (TreeOf n)))
+          (cost_in (sees view (TreeOf n)))) (sees other (TreeOf n)) (sees view (TreeOf n)))) e
+          ∙ ap (λ b. cond b (sees other (TreeOf n)) (sees view (TreeOf n))) f)
+
+  agree_both : (i : ℕ) (u : View) → get_elem? views i ≡ some u → Agree (sees both) (sees u)
+  agree_both i u e n written also same =
+      elim (pair_of_one n) [
+        | inl mine ↦ mine ∙ world.seen.agree id view at i u e n (subst (λ w. 2 ^ 63 ≤ w) mine written) also (ap cost_in (sym mine) ∙ same)
+        | inr theirs ↦ theirs ∙ world.seen.agree j other was i u e n (subst (λ w. 2 ^ 63 ≤ w) theirs written) also (ap cost_in (sym theirs) ∙ same)
+      ]
+
+  -- ---- the parts
+
+  module _ (apart : j ≢ id) (there : get_elem? middle j ≡ some other) (idle : other.hand ≡ None) where
+    here : get_elem? after id ≡ some both
+    here = at-set_other middle j id spent (λ e. apart (sym e)) ∙ at-set views id view both at
+
+    each : (has : View → Type 0) → EachView views has → has both → has spent → EachView after has
+    each has all mine last = each-set middle j spent has (λ i u off e. each-set views id both has (λ n v off_too f. all n v f) mine i u e) last
+
+    of_run_both : IsViewOf run both
+    of_run_both =
+        let mine = live run words views id view world at own in
+        let count : word_count (run_sizes view.run) ≡ word_count (run_sizes run) = ap (λ r. word_count (run_sizes r)) own in
+        record {
+          run_is = own;
+          seen = length-merged (run_sizes view.run) view.seen other.seen ∙ count;
+          looked = mine.looked;
+          found_zero = mine.found_zero;
+        }
+
+    all_limits : greatest_limit views ≤ greatest_limit after
+    all_limits = greatest-most limit_of views (greatest_limit after) (λ i u e.
+        let top = greatest-one limit_of after id both here in
+        elim (cases_eq i id) [
+          | inl same ↦ (
+              let is : u ≡ view = some-injective u view (sym e ∙ ap (get_elem? views) same ∙ at) in
+              omega (arith, ap limit_of is, limit_of-joined view other, top))
+          | inr off ↦ elim (cases_eq i j) [
+            | inl same ↦ (
+                let is : u ≡ other = some-injective u other (sym e ∙ ap (get_elem? views) same ∙ was) in
+                omega (arith, ap limit_of is, limit_of-joined view other, top))
+            | inr off_too ↦ greatest-one limit_of after i u (at-set_other middle j i spent off_too ∙ at-set_other views id i both off ∙ e)
+          ]
+        ])
+
+    -- a record that one of them saw as it is, both see so
+    own_record : (k : ℕ) → (sees view (RecordOf k) ≡ words (RecordOf k)) ⊎ (sees other (RecordOf k) ≡ words (RecordOf k))
+        → sees both (RecordOf k) ≡ words (RecordOf k)
+    own_record k one = sees_both (RecordOf k) ∙ by_test (sees view (RecordOf k) == 0) refl one
+      where
+        by_test :
+            (t : Bool) → (sees view (RecordOf k) == 0) ≡ t → (sees view (RecordOf k) ≡ words (RecordOf k)) ⊎ (sees other (RecordOf k) ≡ words (RecordOf k))
+            → cond t (sees other (RecordOf k)) (sees view (RecordOf k)) ≡ words (RecordOf k)
+        by_test true e (inr theirs) = theirs
+        by_test true e (inl mine) =
+            let none : sees view (RecordOf k) ≡ 0 = eqb-true (sees view (RecordOf k)) 0 e in
+            elim (world.seen.behind j other was (RecordOf k)) [
+              | inl unseen ↦ unseen ∙ sym none ∙ mine
+              | inr is ↦ is
+            ]
+        by_test false e (inl mine) = mine
+        by_test false e (inr theirs) =
+            elim (world.seen.behind id view at (RecordOf k)) [
+              | inl unseen ↦ absurd (eqb-false (sees view (RecordOf k)) 0 e unseen)
+              | inr is ↦ is
+            ]
+
+    members_both : (i : ℕ) (member : Member) → get_elem? both.crew i ≡ some member → IsMember run words both member
+    members_both i member e =
+        elim (crew_at view.crew other.crew i member e) [
+          | inl mine ↦ (
+              let old = world.turns.members id view at mine.0 member mine.1 in
+              record { turn = old.turn; own = λ k of. own_record k (inl (old.own k of)) })
+          | inr theirs ↦ (
+              let old = world.turns.members j other was theirs.0 member theirs.1 in
+              record { turn = old.turn; own = λ k of. own_record k (inr (old.own k of)) })
+        ]
+
+    IsWorld-after : IsWorld run words after
+    IsWorld-after = record {
+      run_is = world.run_is;
+      of_run = each (λ u. (u ≡ spent) ⊎ IsViewOf run u) world.of_run (inr of_run_both) (inl refl);
+      numbers = record {
+        quotas = quotas-kept run words words views after world.numbers (λ g within. refl) all_limits;
+        each_once = λ k. omega (
+          arith,
+          world.numbers.each_once k,
+          sum-set (λ u. once_if (holds k u.hand)) views id view both at,
+          sum-set (λ u. once_if (holds k u.hand)) middle j other spent there,
+          ap (λ h. once_if (holds k h)) idle,
+        );
+        limits = each (λ u. u.most ≤ length run.marks) world.numbers.limits
+            (omega (arith, world.numbers.limits id view at, world.numbers.limits j other was)) (omega arith);
+        blank = world.numbers.blank;
+        count = world.numbers.count;
+      };
+      turns = record {
+        workers = world.turns.workers;
+        members = each (λ u. (i : ℕ) (member : Member) → get_elem? u.crew i ≡ some member → IsMember run words u member) world.turns.members members_both
+            (λ i member e. absurd (some-ne-none member (sym e)));
+        in_one_crew = λ w. omega (
+          arith,
+          world.turns.in_one_crew w,
+          sum-set (λ u. times w u.crew) views id view both at,
+          sum-set (λ u. times w u.crew) middle j other spent there,
+          sum_by-append (λ m. cond (m.worker == w) 1 0) view.crew other.crew,
+        );
+      };
+      shares = record {
+        whole = omega (
+          arith,
+          world.shares.whole,
+          sum-set share views id view both at,
+          sum-set share middle j other spent there,
+          length-append view.crew other.crew,
+        );
+        idle = each (λ u. share u ≡ 0 → u.hand ≡ None) world.shares.idle
+            (λ none. world.shares.idle id view at (omega (arith, length-append view.crew other.crew, none))) (λ none. refl);
+      };
+      seen = record {
+        behind = each (λ u. AreBehind (sees u) words) world.seen.behind behind_both (AreBehind-spent words);
+        took = each (λ u. AreBehind (took_over u) (sees u)) world.seen.took took_both (AreBehind-spent (sees spent));
+        pairs = world.seen.pairs;
+        whole = each (λ u. HaveWholePairs (sees u)) world.seen.whole whole_both (λ n. inl (sees-spent (TreeOf n)));
+        agree = agree-set middle j spent (agree-set views id both world.seen.agree (λ i u off e. agree_both i u e)) (λ i u off e. Agree-spent (sees u));
+      };
+    }
+
+pub IsWorld-joined :
+    (run : SharedRun) (words : Words) (views : List View) (id : ℕ) (view : View) (j : ℕ) (other : View) → IsWorld run words views
+    → get_elem? views id ≡ some view → view.run ≡ run → other.run ≡ run → j ≢ id → get_elem? (set views id (joined view other)) j ≡ some other
+    → other.hand ≡ None → IsWorld run words (set (set views id (joined view other)) j spent)
+IsWorld-joined run words views id view j other world at own own_too apart there idle =
+    let was = sym (at-set_other views id j (joined view other) apart) ∙ there in
+    IsWorld-after run words views id view j other world at own own_too was apart there idle

@@ -1,0 +1,185 @@
+-- A shared run that goes on from a closed run begins with a lawful world: one view, which has the whole share and has seen all words.
+use Rattle.std.proofs.Common.{◌≡◌, ℕ, zero, suc, ◌<◌, ◌≤◌, Bool, true, false, List, [], ◌∷◌}
+use Rattle.std.proofs.Common.{length, map, Option, Some, None, refl, sym, ap, ◌∙◌, subst, inl, inr, arith}
+use Rattle.std.specs.Prelude.{◌⊎◌, ◌==◌, nat_lt, cond, is_some, max}
+use Rattle.std.specs.List.{count_by, range_with_len}
+use mathlib.Core.Option.{some, some-ne-none, some-injective}
+use lib.ListN.{get_elem?}
+use Rattle.std.proofs.lemmas.Bool.{cases_Bool, cases_lt, eq-eqb, eqb-true, le-ltb, lt-ltb, ne_eqb}
+use Rattle.std.proofs.lemmas.List.{length-map, length-replicate}
+use Rattle.std.proofs.lemmas.List.FromFn.{length-range_with_len}
+use Rattle.std.proofs.lemmas.List.Sums.{sum_by-cons}
+use Rattle.plan_model.specs.MarkPoints.{is_claimed}
+use Rattle.plan_model.specs.PointsByNumber.{IsPresent}
+use Rattle.plan_model.specs.Turns.{once_if, turns_of}
+use Rattle.plan_model.specs.declared.records.Record.{Record}
+use Rattle.plan_model.specs.declared.tasks.Task.{Task}
+use Rattle.plan_model.specs.ClosedLaw.{has_outcome}
+use Rattle.plan_model.specs.Outcomes.{is_placed}
+use Rattle.plan_model.specs.declared.limits.TheConstants.{MOST_WORKERS}
+use Rattle.plan_model.proofs.CountsBelow.{count-none, count-single}
+use Rattle.plan_model.proofs.MarkBounds.{length-marks}
+use Rattle.plan_model.proofs.StripMarks.{is_claimed-below, is_claimed-past}
+use Rattle.plan_model.proofs.WorkerTurns.{AreTurns-longer}
+use Rattle.step_core.specs.GrownWords.{HoldRun, has_node, has_placed, points_of_words, record_at, run_words, sizes_of}
+use Rattle.step_core.specs.ViewStarts.{crew_from, member_of, newcomer}
+use Rattle.step_core.specs.Views.{IsViewOf, run_of, run_sizes, sees, share, spent, times, took_over}
+use Rattle.step_core.specs.WordKinds.{AreBehind, HaveWholePairs}
+use Rattle.step_core.specs.WordNames.{Words}
+use Rattle.step_core.specs.WordNames.Word.{RecordOf}
+use Rattle.step_core.specs.WordPlaces.{word_count}
+use Rattle.step_core.specs.Worlds.{Agree, EachView, IsMember, IsWorld, counters, greatest_limit, is_recorded}
+use Rattle.step_core.specs.declared.views.Member.{Member}
+use Rattle.step_core.specs.declared.views.SharedRun.{SharedRun}
+use Rattle.step_core.specs.declared.views.View.{View}
+use Rattle.step_core.proofs.FinishedTurns.{times-cons}
+use Rattle.step_core.proofs.GrownPoints.{node_count-words}
+use Rattle.step_core.proofs.HeldNodes.{start_present-held}
+use Rattle.step_core.proofs.WordKinds.{AreBehind-refl}
+use Rattle.step_core.proofs.WorldJoins.{AreBehind-nothing}
+use Rattle.step_core.proofs.WorldParts.{quota-up}
+
+-- ---- crews
+
+-- how often a worker is among so many from w on
+times-from : (run : SharedRun) (words : Words) (worker : ℕ) (numbers : List ℕ)
+    → times worker (map (member_of run words) numbers) ≡ count_by (λ w. w == worker) numbers
+times-from run words worker [] = refl
+times-from run words worker (w ∷ numbers) =
+    omega (
+      arith,
+      times-cons (member_of run words w) (map (member_of run words) numbers) worker,
+      sum_by-cons (λ n. cond (n == worker) 1 0) w numbers,
+      times-from run words worker numbers,
+    )
+
+-- each worker of the run is among all once, and no other is
+times-all : (run : SharedRun) (words : Words) (worker : ℕ) → times worker (crew_from run words 0 run.workers) ≡ once_if (nat_lt worker run.workers)
+times-all run words worker =
+    times-from run words worker (range_with_len 0 run.workers)
+    ∙ elim (cases_lt worker run.workers) [
+      | inl low ↦
+          count-single (λ w. w == worker) run.workers worker low (eq-eqb worker worker refl) (λ w apart. ne_eqb w worker apart)
+          ∙ sym (ap once_if (lt-ltb worker run.workers low))
+      | inr past ↦
+          count-none (λ w. w == worker) run.workers (λ w low. ne_eqb w worker (λ e. omega (arith, low, past, e)))
+          ∙ sym (ap once_if (le-ltb worker run.workers past))
+    ]
+
+length-crew : (run : SharedRun) (words : Words) → length (crew_from run words 0 run.workers) ≡ run.workers
+length-crew run words = length-map (range_with_len 0 run.workers) (member_of run words) ∙ length-range_with_len 0 run.workers
+
+-- the member at a place
+crew-at : (run : SharedRun) (words : Words) (numbers : List ℕ) (i : ℕ) (member : Member) → get_elem? (map (member_of run words) numbers) i ≡ some member
+    → (w : ℕ) × (member ≡ member_of run words w)
+crew-at run words [] i member e = absurd (some-ne-none member (sym e))
+crew-at run words (w ∷ numbers) zero member e = (w, sym (some-injective (member_of run words w) member e))
+crew-at run words (w ∷ numbers) (suc i) member e = crew-at run words numbers i member e
+
+-- ---- the words of a closed run
+
+has_outcome-placed : (o : Option Record) → has_placed o ≡ has_outcome is_placed o
+has_outcome-placed None = refl
+has_outcome-placed (Some entry) = refl
+
+module _ (task : Task) (limit : ℕ) (words : Words) (held : HoldRun task limit words) where
+  present : (n : ℕ) → has_node words n ≡ true → IsPresent (points_of_words (sizes_of task) words) n
+  present zero h = start_present-held task limit words held
+  present (suc k) h = held.closed.placed k ∙ sym (has_outcome-placed (record_at words k)) ∙ h
+
+  pub HaveWholePairs-held : HaveWholePairs words
+  HaveWholePairs-held n =
+      elim (cases_Bool (has_node words n)) [
+        | inl here ↦ inr (omega (arith, (held.written n (present n here)).tree))
+        | inr gone ↦ inl (held.blank n gone).tree
+      ]
+
+  within : (k : ℕ) (entry : Record) → record_at words k ≡ Some entry → k < limit
+  within k entry e =
+      elim (cases_lt k limit) [
+        | inl low ↦ low
+        | inr past ↦ (let none = sym (held.closed.records.none_else k past) ∙ e in cc)
+      ]
+
+  recorded_once : (k : ℕ) → once_if (is_recorded words k) ≡ once_if (is_claimed task.scene.strips (counters words) k)
+  recorded_once k =
+      let some_strip : 0 < task.scene.strips = omega (arith, task.scene.strips_low) in
+      elim (cases_lt k limit) [
+        | inl low ↦ ap once_if (held.closed.records.recorded k low
+            ∙ sym (is_claimed-below task.scene.strips some_strip (counters words) limit held.claimed k low))
+        | inr past ↦
+            ap (λ o. once_if (is_some o)) (held.closed.records.none_else k past)
+            ∙ sym (ap once_if (is_claimed-past task.scene.strips some_strip (counters words) limit held.claimed k past))
+      ]
+
+  blank_past : (k : ℕ) → record_at words k ≡ None → words (RecordOf k) ≡ 0
+  blank_past k none =
+      elim (cases_lt k limit) [
+        | inl low ↦ (let gone = sym (ap is_some none) ∙ held.closed.records.recorded k low in cc)
+        | inr past ↦ held.unrecorded k past
+      ]
+
+-- ---- the first world
+
+-- of a single view
+only : (view : View) (has : View → Type 0) → has view → EachView (view ∷ []) has
+only view has own zero u e = subst has (some-injective view u e) own
+only view has own (suc i) u e = absurd (some-ne-none u (sym e))
+
+pub IsWorld-started :
+    (task : Task) (limit workers : ℕ) (items : List ℕ) → length items ≡ word_count (sizes_of task) → HoldRun task limit (run_words task items)
+    → 1 ≤ workers → workers ≤ MOST_WORKERS → IsWorld (run_of task workers limit) (run_words task items) (newcomer (run_of task workers limit) items ∷ [])
+IsWorld-started task limit workers items sized held some_worker few =
+    let run : SharedRun = run_of task workers limit in
+    let words : Words = run_words task items in
+    let first : View = newcomer run items in
+    let all : share first ≡ workers = length-crew run words in
+    record {
+      run_is = record {
+        strips = (omega (arith, task.scene.strips_low), task.scene.strips_high);
+        marks = length-marks task;
+        workers = (some_worker, few);
+        opening = held.closed.within;
+      };
+      of_run = only first (λ u. (u ≡ spent) ⊎ IsViewOf run u) (inr (record {
+        run_is = refl;
+        seen = sized;
+        looked = length-replicate (length items) 0 ∙ sized;
+        found_zero = length-replicate (length items) 0 ∙ sized;
+      }));
+      numbers = record {
+        quotas = λ g strip. omega (arith, held.claimed g strip, quota-up run.strips g limit (greatest_limit (first ∷ [])) strip (binds all));
+        each_once = λ k. omega (arith, recorded_once task limit words held k);
+        limits = only first (λ u. u.most ≤ length task.marks) held.closed.within;
+        blank = blank_past task limit words held;
+        count = omega (arith, held.counted, node_count-words (sizes_of task) words);
+      };
+      turns = record {
+        workers = AreTurns-longer (record_at words) limit (length task.marks) held.closed.within (within task limit words held) held.closed.turns;
+        members = only first (λ u. (i : ℕ) (member : Member) → get_elem? u.crew i ≡ some member → IsMember run words u member)
+            (λ i member e. (let found = crew-at run words (range_with_len 0 workers) i member e in record {
+              turn = ap (λ m. m.turn) found.1 ∙ sym (ap (λ m. turns_of (record_at words) (length task.marks) m.worker) found.1);
+              own = λ k of. refl;
+            }));
+        in_one_crew = λ w. omega (arith, times-all run words w);
+      };
+      shares = record {
+        whole = omega (arith, all);
+        idle = only first (λ u. share u ≡ 0 → u.hand ≡ None) (λ none. refl);
+      };
+      seen = record {
+        behind = only first (λ u. AreBehind (sees u) words) (AreBehind-refl words);
+        took = only first (λ u. AreBehind (took_over u) (sees u)) (AreBehind-nothing (run_sizes run) words);
+        pairs = HaveWholePairs-held task limit words held;
+        whole = only first (λ u. HaveWholePairs (sees u)) (HaveWholePairs-held task limit words held);
+        agree = only first (λ one. EachView (first ∷ []) (λ other. Agree (sees one) (sees other)))
+            (only first (λ other. Agree (sees first) (sees other)) (λ n written also same. refl));
+      };
+    }
+  where
+    binds : share (newcomer (run_of task workers limit) items) ≡ workers → limit ≤ greatest_limit (newcomer (run_of task workers limit) items ∷ [])
+    binds all = subst (λ n. limit ≤ max (cond (n == 0) 0 limit) 0) (sym all) (by_test (workers == 0) refl)
+      where
+        by_test : (b : Bool) → (workers == 0) ≡ b → limit ≤ max (cond b 0 limit) 0
+        by_test true e = absurd (omega (arith, eqb-true workers 0 e, some_worker))
+        by_test false e = omega arith

@@ -1,0 +1,17 @@
+use Rattle.step_core.proofs.LaterViews.{IsLater-claimed, IsLater-finished, IsLater-loaded, IsLater-refl, IsLater-trans}
+use Rattle.step_core.proofs.world_laws.steps_lead_to_later_views.Goals as goal
+
+pub returns-clause-stay : goal.returns-clause-stay
+returns-clause-stay c = IsLater-refl
+
+pub returns-clause-go_on : goal.returns-clause-go_on
+returns-clause-go_on c = IsLater-trans
+
+pub returns-clause-load : goal.returns-clause-load
+returns-clause-load c = IsLater-loaded
+
+pub returns-clause-claim : goal.returns-clause-claim
+returns-clause-claim c = IsLater-claimed
+
+pub returns-clause-record_stored : goal.returns-clause-record_stored
+returns-clause-record_stored c = IsLater-finished

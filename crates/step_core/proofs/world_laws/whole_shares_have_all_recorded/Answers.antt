@@ -1,0 +1,5 @@
+use Rattle.step_core.proofs.WholeShares.{is_recorded-whole}
+use Rattle.step_core.proofs.world_laws.whole_shares_have_all_recorded.Goals as goal
+
+pub returns : goal.returns
+returns c = is_recorded-whole

@@ -1,0 +1,105 @@
+-- What each kind of step leaves of the view that makes it, as a function of the view before. The words are those of specs/WordNames.
+use Rattle.std.specs.Prelude.{ℕ, ◌+◌, ◌*◌, ◌==◌, max, Some, None, List, [], ◌∷◌, ◌++◌, map, slice_index, slice_set, if◌then◌else◌}
+use Rattle.std.specs.List.{range_with_len}
+use Rattle.step_core.specs.Views.{run_sizes}
+use Rattle.step_core.specs.WordKinds.{kind_at, later_word}
+use Rattle.step_core.specs.WordNames.{Word}
+use Rattle.step_core.specs.WordNames.Word.{Counter, RecordOf}
+use Rattle.step_core.specs.WordPlaces.{Sizes, place_of, word_count}
+use Rattle.step_core.specs.declared.views.Member.{Member}
+use Rattle.step_core.specs.declared.views.SharedRun.{SharedRun}
+use Rattle.step_core.specs.declared.views.Stage.TheVariants.{Claimed}
+use Rattle.step_core.specs.declared.views.View.{View}
+
+-- the place of a word in the tables of a view
+abbrev pub place_in : View → Word → ℕ
+place_in view name = place_of (run_sizes view.run) name
+
+-- ---- loads
+
+-- One step more, on the word at this place: it was found so, and is left so.
+abbrev pub saw_at : View → ℕ → ℕ → ℕ → View
+saw_at view place found left =
+    record view {
+      seen = slice_set view.seen place left;
+      steps = view.steps + 1;
+      looked = slice_set view.looked place (view.steps + 1);
+      found_zero = if found == 0 then slice_set view.found_zero place (view.steps + 1) else view.found_zero;
+    }
+
+-- the same on the word of this name
+abbrev pub saw : View → Word → ℕ → ℕ → View
+saw view name found left = saw_at view (place_in view name) found left
+
+-- a load
+abbrev pub loaded : View → Word → ℕ → View
+loaded view name word = saw view name word word
+
+-- ---- claims and records
+
+-- mark number c of strip g
+abbrev pub mark_of : SharedRun → ℕ → ℕ → ℕ
+mark_of run g c = c * run.strips + g
+
+-- The counter of strip g went from c to c + 1, and the mark is in hand.
+abbrev pub claimed : View → ℕ → ℕ → ℕ → View
+claimed view g c limit =
+    record (saw view (Counter g) c (c + 1)) { hand = Some (record { mark = mark_of view.run g c; stage = Claimed }); most = max view.most limit }
+
+-- the first of a crew has made its turn
+abbrev pub one_turn_more : List Member → List Member
+one_turn_more [] = []
+one_turn_more (member ∷ crew) = record member { turn = member.turn + 1 } ∷ crew
+
+-- a record is stored at this place, and the hand is empty
+abbrev pub finished_at : View → ℕ → ℕ → View
+finished_at view place word = record (saw_at view place word word) { hand = None; crew = one_turn_more view.crew }
+
+-- the record of mark k
+abbrev pub finished : View → ℕ → ℕ → View
+finished view k word = finished_at view (place_in view (RecordOf k)) word
+
+-- ---- splits
+
+-- a crew without its second, and its second alone
+abbrev pub without_second : List Member → List Member
+without_second [] = []
+without_second (member ∷ []) = member ∷ []
+without_second (member ∷ second ∷ crew) = member ∷ crew
+
+abbrev pub second_alone : List Member → List Member
+second_alone [] = []
+second_alone (member ∷ []) = []
+second_alone (member ∷ second ∷ crew) = second ∷ []
+
+-- one step more, on no word
+abbrev pub stepped : View → View
+stepped view = record view { steps = view.steps + 1 }
+
+-- The second worker gets a pass of its own, which has seen as much.
+abbrev pub parted : View → View
+parted view = record (stepped view) { crew = without_second view.crew }
+
+abbrev pub worker_apart : View → View
+worker_apart view = record view { crew = second_alone view.crew; hand = None }
+
+-- a pass without a share, which has seen as much
+abbrev pub looker : View → View
+looker view = record view { crew = []; hand = None }
+
+-- ---- joins
+
+-- the later of what two tables say of each word
+abbrev pub merged : Sizes → List ℕ → List ℕ → List ℕ
+merged sizes one other =
+    map (λ place. later_word (kind_at sizes place) (slice_index one place) (slice_index other place)) (range_with_len 0 (word_count sizes))
+
+-- Both shares, the greater limit, and what either has seen. The steps stay its own.
+abbrev pub joined : View → View → View
+joined view other =
+    record (stepped view) {
+      crew = view.crew ++ other.crew;
+      most = max view.most other.most;
+      seen = merged (run_sizes view.run) view.seen other.seen;
+      took = other.seen;
+    }

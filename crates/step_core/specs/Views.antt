@@ -1,0 +1,115 @@
+-- What the view of a pass says: its share, its hand, and the words that it has seen. The words are read by their names.
+use Rattle.std.specs.Prelude.{◌≡◌, ℕ, ◌<◌, ◌≤◌, ◌==◌, Bool, false, Option, Some, None, List, [], count_by, length}
+use Rattle.plan_model.specs.SeenTrees.{SeenTree}
+use Rattle.plan_model.specs.declared.limits.TheConstants.{MOST_MARKS, MOST_STRIPS, MOST_WORKERS}
+use Rattle.plan_model.specs.declared.tasks.Task.{Task}
+use Rattle.step_core.specs.SeenWords.{SeenWords, seen_tree_of_words}
+use Rattle.step_core.specs.WordNames.{Words}
+use Rattle.step_core.specs.WordPlaces.{Sizes, word_at, word_count}
+use Rattle.step_core.specs.declared.views.Hand.{Hand}
+use Rattle.step_core.specs.declared.views.Member.{Member}
+use Rattle.step_core.specs.declared.views.SharedRun.{SharedRun}
+use Rattle.step_core.specs.declared.views.View.{View}
+
+-- ---- the run
+
+-- what the workers of a task are told, who go on from the run at this limit
+abbrev pub run_of : Task → ℕ → ℕ → SharedRun
+run_of task workers opening =
+    record {
+      room = task.scene.room;
+      body = task.scene.body;
+      obstacles = task.scene.obstacles;
+      start = task.scene.start;
+      step = task.scene.step;
+      gamma = task.scene.gamma;
+      strips = task.scene.strips;
+      marks = task.marks;
+      workers = workers;
+      opening = opening;
+    }
+
+-- how many strips and marks it has
+abbrev pub run_sizes : SharedRun → Sizes
+run_sizes run = record { strips = run.strips; marks = length run.marks }
+
+-- its words in the list of them
+abbrev pub words_of_run : SharedRun → List ℕ → Words
+words_of_run run items = word_at (run_sizes run) items
+
+-- its numbers are within their limits
+pub record IsSharedRun (run : SharedRun) : Type 0 where
+  pub strips : (0 < run.strips) × (run.strips ≤ MOST_STRIPS)
+  pub marks : length run.marks ≤ MOST_MARKS
+  pub workers : (0 < run.workers) × (run.workers ≤ MOST_WORKERS)
+  pub opening : run.opening ≤ length run.marks
+
+-- ---- share and hand
+
+-- for how many workers the pass stands
+abbrev pub share : View → ℕ
+share view = length view.crew
+
+-- how often a worker is in a crew
+abbrev pub times : ℕ → List Member → ℕ
+times worker crew = count_by (λ member. member.worker == worker) crew
+
+-- the mark is in this hand
+abbrev pub holds : ℕ → Option Hand → Bool
+holds k None = false
+holds k (Some hand) = hand.mark == k
+
+-- ---- seen words
+
+-- each word as the pass last saw it
+abbrev pub sees : View → Words
+sees view = words_of_run view.run view.seen
+
+-- what the pass that it last took over had seen
+abbrev pub took_over : View → Words
+took_over view = words_of_run view.run view.took
+
+-- the number of its last step on each word
+abbrev pub last_look : View → Words
+last_look view = words_of_run view.run view.looked
+
+-- and of its last step that found the word 0
+abbrev pub last_zero : View → Words
+last_zero view = words_of_run view.run view.found_zero
+
+-- what it has looked at, with its steps
+abbrev pub seen_words : View → SeenWords
+seen_words view = record { seen = sees view; steps = view.steps; found_zero = last_zero view }
+
+-- the tree as far as it has seen it
+abbrev pub tree_seen : View → SeenTree
+tree_seen view = seen_tree_of_words (run_sizes view.run) (sees view)
+
+-- the view is of this run, and its tables have a place for each word
+pub record IsViewOf (run : SharedRun) (view : View) : Type 0 where
+  pub run_is : view.run ≡ run
+  pub seen : length view.seen ≡ word_count (run_sizes run)
+  pub looked : length view.looked ≡ word_count (run_sizes run)
+  pub found_zero : length view.found_zero ≡ word_count (run_sizes run)
+
+-- ---- spent views
+
+-- no run
+abbrev pub no_run : SharedRun
+no_run =
+    record {
+      room = record { x = 0; y = 0 };
+      body = [];
+      obstacles = [];
+      start = record { x = 0; y = 0 };
+      step = 0;
+      gamma = 0;
+      strips = 0;
+      marks = [];
+      workers = 0;
+      opening = 0;
+    }
+
+-- what is left of a view that was taken over
+abbrev pub spent : View
+spent = record { run = no_run; crew = []; most = 0; hand = None; seen = []; took = []; steps = 0; looked = []; found_zero = [] }

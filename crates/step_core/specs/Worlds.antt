@@ -1,0 +1,105 @@
+-- The law of worlds: what holds of the words of a shared run and of the views of its passes between any two steps, whichever passes make
+-- them and in whichever order. Each part speaks of one thing, and has a lemma of its own on a step of one view.
+use Rattle.std.specs.Prelude.{◌≡◌, ℕ, ◌+◌, ◌<◌, ◌≤◌, ◌==◌, ◌^◌, ◌⊎◌, nat_lt, max, Bool, true, is_some, None, List, [], ◌∷◌, length, map, if◌then◌else◌}
+use Rattle.std.specs.List.{sum_by}
+use lib.ListN.{get_elem?}
+use mathlib.Core.Option.{some}
+use Rattle.plan_model.specs.MarkPoints.{quota_of, is_claimed}
+use Rattle.plan_model.specs.Turns.{AreTurns, is_of_worker, once_if, turns_of}
+use Rattle.step_core.specs.GrownWords.{record_at}
+use Rattle.step_core.specs.Views.{IsSharedRun, IsViewOf, holds, sees, share, spent, times, took_over}
+use Rattle.step_core.specs.WordKinds.{AreBehind, HaveWholePairs}
+use Rattle.step_core.specs.WordNames.{Words}
+use Rattle.step_core.specs.Words.{cost_in}
+use Rattle.step_core.specs.WordNames.Word.{Count, Counter, RecordOf, TreeOf}
+use Rattle.step_core.specs.declared.views.Member.{Member}
+use Rattle.step_core.specs.declared.views.SharedRun.{SharedRun}
+use Rattle.step_core.specs.declared.views.View.{View}
+
+-- ---- all views
+
+-- each view has the property
+abbrev pub EachView : List View → (View → Type 0) → Type 0
+EachView views has = (i : ℕ) (view : View) → get_elem? views i ≡ some view → has view
+
+-- how many views have mark k in hand
+abbrev pub holders : ℕ → List View → ℕ
+holders k views = sum_by (λ view. once_if (holds k view.hand)) views
+
+-- the greatest of these numbers
+abbrev pub greatest : List ℕ → ℕ
+greatest [] = 0
+greatest (n ∷ rest) = max n (greatest rest)
+
+-- the limit that a view binds the counters by: none without a share
+abbrev pub limit_of : View → ℕ
+limit_of view = if share view == 0 then 0 else view.most
+
+-- the greatest limit that a view with a share has used
+abbrev pub greatest_limit : List View → ℕ
+greatest_limit views = greatest (map limit_of views)
+
+-- ---- numbers
+
+-- how many marks of each strip are claimed
+abbrev pub counters : Words → ℕ → ℕ
+counters words strip = words (Counter strip)
+
+-- mark k has a record
+abbrev pub is_recorded : Words → ℕ → Bool
+is_recorded words k = is_some (record_at words k)
+
+-- No counter is above its strip's quota below the greatest limit used. Each mark below the counters is recorded or in one hand, once, and
+-- no other mark is. A record word that holds no record is 0. No more nodes are counted than there may be.
+pub record Numbers (run : SharedRun) (words : Words) (views : List View) : Type 0 where
+  pub quotas : (g : ℕ) → g < run.strips → words (Counter g) ≤ quota_of run.strips g (greatest_limit views)
+  pub each_once : (k : ℕ) → once_if (is_recorded words k) + holders k views ≡ once_if (is_claimed run.strips (counters words) k)
+  pub limits : EachView views (λ view. view.most ≤ length run.marks)
+  pub blank : (k : ℕ) → record_at words k ≡ None → words (RecordOf k) ≡ 0
+  pub count : words Count ≤ length run.marks + 1
+
+-- ---- turns
+
+-- The member's next turn is the number of its worker's records, and the view has seen them all.
+pub record IsMember (run : SharedRun) (words : Words) (view : View) (member : Member) : Type 0 where
+  pub turn : member.turn ≡ turns_of (record_at words) (length run.marks) member.worker
+  pub own : (k : ℕ) → is_of_worker member.worker (record_at words k) ≡ true → sees view (RecordOf k) ≡ words (RecordOf k)
+
+-- The turns of each worker run from 0, with no gap and none twice. Each worker of the run is in one crew.
+pub record Turns (run : SharedRun) (words : Words) (views : List View) : Type 0 where
+  pub workers : AreTurns (length run.marks) (record_at words)
+  pub members : EachView views (λ view. (i : ℕ) (member : Member) → get_elem? view.crew i ≡ some member → IsMember run words view member)
+  pub in_one_crew : (w : ℕ) → sum_by (λ view. times w view.crew) views ≡ once_if (nat_lt w run.workers)
+
+-- ---- shares
+
+-- The shares add up to the number of workers, and a view without a share has nothing in hand.
+pub record Shares (run : SharedRun) (views : List View) : Type 0 where
+  pub whole : sum_by share views ≡ run.workers
+  pub idle : EachView views (λ view. share view ≡ 0 → view.hand ≡ None)
+
+-- ---- seen
+
+-- Two that saw a node at one cost saw one tree word, and so one parent.
+abbrev pub Agree : Words → Words → Type 0
+Agree one other =
+    (n : ℕ) → 2 ^ 63 ≤ one (TreeOf n) → 2 ^ 63 ≤ other (TreeOf n) → cost_in (one (TreeOf n)) ≡ cost_in (other (TreeOf n)) → one (TreeOf n) ≡ other (TreeOf n)
+
+-- What each view has seen of a word may become what the word is now. It has seen at least what the pass had that it last took over.
+pub record Seen (words : Words) (views : List View) : Type 0 where
+  pub behind : EachView views (λ view. AreBehind (sees view) words)
+  pub took : EachView views (λ view. AreBehind (took_over view) (sees view))
+  pub pairs : HaveWholePairs words
+  pub whole : EachView views (λ view. HaveWholePairs (sees view))
+  pub agree : EachView views (λ one. EachView views (λ other. Agree (sees one) (sees other)))
+
+-- ---- the law
+
+-- All parts. A view is spent once its pass was taken over: it has nothing, and nothing is said of it.
+pub record IsWorld (run : SharedRun) (words : Words) (views : List View) : Type 0 where
+  pub run_is : IsSharedRun run
+  pub of_run : EachView views (λ view. (view ≡ spent) ⊎ IsViewOf run view)
+  pub numbers : Numbers run words views
+  pub turns : Turns run words views
+  pub shares : Shares run views
+  pub seen : Seen words views

@@ -1,0 +1,86 @@
+//! What each pass over a shared run knows and has in hand: its view, of which the law of worlds (`specs/Worlds`) speaks. No
+//! program makes a view; a table of words keeps them for the proofs alone.
+
+use plan_model::{Point, Points, Poly, Polys};
+use std::collections::LinkedList;
+
+/// What a shared run is told once: of the scene what planning asks for, and who plans.
+pub struct SharedRun {
+    /// The upper right corner of the room.
+    pub room: Point,
+    /// The body, by its corners.
+    pub body: Poly,
+    /// The obstacles.
+    pub obstacles: Polys,
+    /// The point of node 0.
+    pub start: Point,
+    /// The length of the longest edge, in lattice steps.
+    pub step: u32,
+    /// The factor of the radius of near nodes.
+    pub gamma: u32,
+    /// How many strips there are.
+    pub strips: u32,
+    /// The mark points.
+    pub marks: Points,
+    /// How many workers there are.
+    pub workers: u32,
+    /// The limit of the run that it goes on from. The marks from there on are recorded by these workers.
+    pub opening: u32,
+}
+
+/// A worker, and its next turn.
+#[derive(Clone, Copy, Debug)]
+pub struct Member {
+    /// The number of the worker.
+    pub worker: u32,
+    /// How many marks it has recorded.
+    pub turn: u32,
+}
+
+/// How far a mark in hand has come.
+#[derive(Clone, Copy, Debug)]
+pub enum Stage {
+    /// It is claimed, and nothing is written for it.
+    Claimed,
+    /// The point of its node is written.
+    Pointed,
+    /// The first word of its node is written.
+    Half,
+    /// The tree word of its node is written too.
+    Treed,
+    /// Its node stands in a child word.
+    Linked,
+    /// Its node is counted.
+    Counted,
+}
+
+/// A mark that is claimed and not yet recorded.
+#[derive(Clone, Copy, Debug)]
+pub struct Hand {
+    /// The number of the mark.
+    pub mark: u32,
+    /// How far it has come.
+    pub stage: Stage,
+}
+
+/// What a pass knows and has in hand.
+pub struct View {
+    /// The run that it belongs to.
+    pub run: SharedRun,
+    /// The workers whose share it has; it works as the first. A pass without a share only looks.
+    pub crew: LinkedList<Member>,
+    /// The greatest limit that it has claimed marks below.
+    pub most: u32,
+    /// The mark that it is handling.
+    pub hand: Option<Hand>,
+    /// Each word as it last saw it, at its place; 0 if it did not.
+    pub seen: LinkedList<u64>,
+    /// What the pass that it last took over had seen.
+    pub took: LinkedList<u64>,
+    /// How many steps it has made.
+    pub steps: u64,
+    /// For each word the number of its last step on it, from 1; 0 if there was none.
+    pub looked: LinkedList<u64>,
+    /// For each word the number of its last step that found it 0.
+    pub found_zero: LinkedList<u64>,
+}

@@ -1,0 +1,114 @@
+//! The law of worlds: how a world begins, that each kind of step keeps it, and what it says of marks, workers and what was
+//! seen. Each law is the contract of a function that does nothing. A step is made by the view at place `id`; the words after it
+//! are those before it, but for the word that it writes.
+
+ghost use Rattle.std.specs.Prelude.{◌≡◌, ◌≢◌, ℕ, ◌+◌, ◌<◌, ◌≤◌, ◌^◌, List, [], ◌∷◌, ◌++◌, length, slice_set, Some, None};
+ghost use lib.ListN.{get_elem?};
+ghost use mathlib.Core.Option.{some};
+ghost use Rattle.plan_model.specs.MarkPoints.{is_claimed};
+ghost use Rattle.plan_model.specs.declared.limits.TheConstants.{MOST_WORKERS};
+ghost use Rattle.plan_model.specs.declared.tasks.Task.{Task};
+ghost use Rattle.step_core.specs.GrownWords.{HoldRun, record_at, run_words, sizes_of};
+ghost use Rattle.step_core.specs.LaterViews.{IsLater, IsLawfulView};
+ghost use Rattle.step_core.specs.ViewStarts.{newcomer};
+ghost use Rattle.step_core.specs.ViewSteps.{claimed, finished, joined, loaded, looker, mark_of, parted, stepped, worker_apart};
+ghost use Rattle.step_core.specs.Views.{run_of, run_sizes, sees, share, spent};
+ghost use Rattle.step_core.specs.WordKinds.{AreBehind};
+ghost use Rattle.step_core.specs.WordNames.{Word, Words, WritesWord};
+ghost use Rattle.step_core.specs.WordNames.Word.{Counter, RecordOf};
+ghost use Rattle.step_core.specs.WordPlaces.{HasWord, word_count};
+ghost use Rattle.step_core.specs.Words.{IsTurnWord};
+ghost use Rattle.step_core.specs.Worlds.{IsWorld, counters, is_recorded};
+ghost use Rattle.step_core.specs.declared.views.Hand.{Hand};
+ghost use Rattle.step_core.specs.declared.views.Member.{Member};
+ghost use Rattle.step_core.specs.declared.views.SharedRun.{SharedRun};
+ghost use Rattle.step_core.specs.declared.views.View.{View};
+
+/// The words of a closed run are a lawful world with one view, which has the share of all workers and has seen all words.
+pub fn closed_runs_begin_worlds()
+    ensures { (task : Task) (limit workers : ℕ) (items : List ℕ) → length items ≡ word_count (sizes_of task) → HoldRun task limit (run_words task items)
+        → 1 ≤ workers → workers ≤ MOST_WORKERS
+        → IsWorld (run_of task workers limit) (run_words task items) (newcomer (run_of task workers limit) items ∷ []) }
+{}
+
+/// A load of any word keeps the law. What was seen may become what is seen then.
+pub fn loads_keep_the_law()
+    ensures law { (run : SharedRun) (words : Words) (views : List View) (id : ℕ) (view : View) → IsWorld run words views → get_elem? views id ≡ some view
+        → view.run ≡ run → (name : Word) → HasWord (run_sizes run) name → IsWorld run words (slice_set views id (loaded view name (words name))) }
+    ensures seen { (run : SharedRun) (words : Words) (views : List View) (id : ℕ) (view : View) → IsWorld run words views → get_elem? views id ≡ some view
+        → view.run ≡ run → (name : Word) → HasWord (run_sizes run) name → AreBehind (sees view) (sees (loaded view name (words name))) }
+{}
+
+/// A claim keeps the law: the counter of strip `g` goes up from `c`, and the mark of that number in the strip is in hand. It is
+/// made by a view with a share and nothing in hand, below a limit that is at most the number of marks.
+pub fn claims_keep_the_law()
+    ensures law { (run : SharedRun) (words : Words) (views : List View) (id : ℕ) (view : View) → IsWorld run words views → get_elem? views id ≡ some view
+        → view.run ≡ run → (after : Words) (g c limit : ℕ) → 0 < share view → view.hand ≡ None → g < run.strips → words (Counter g) ≡ c
+        → mark_of run g c < limit → limit ≤ length run.marks → WritesWord (Counter g) (c + 1) words after
+        → IsWorld run after (slice_set views id (claimed view g c limit)) }
+    ensures words { (words after : Words) (g c : ℕ) → words (Counter g) ≡ c → WritesWord (Counter g) (c + 1) words after → AreBehind words after }
+{}
+
+/// A record of the mark in hand keeps the law. It is of the first worker of the view's crew, and of its next turn.
+pub fn records_keep_the_law()
+    ensures law { (run : SharedRun) (words after : Words) (views : List View) (id : ℕ) (view : View) → IsWorld run words views
+        → get_elem? views id ≡ some view → view.run ≡ run → (hand : Hand) → view.hand ≡ Some hand → (member : Member) (crew : List Member)
+        → view.crew ≡ member ∷ crew → (word : ℕ) → IsTurnWord member.worker member.turn word → WritesWord (RecordOf hand.mark) word words after
+        → IsWorld run after (slice_set views id (finished view hand.mark word)) }
+    ensures words { (run : SharedRun) (words after : Words) (views : List View) (id : ℕ) (view : View) → IsWorld run words views
+        → get_elem? views id ≡ some view → (hand : Hand) → view.hand ≡ Some hand → (word : ℕ) → WritesWord (RecordOf hand.mark) word words after
+        → AreBehind words after }
+{}
+
+/// A split keeps the law: one without a share for the new view, and one that gives it the second worker of the crew.
+pub fn splits_keep_the_law()
+    ensures looker { (run : SharedRun) (words : Words) (views : List View) (id : ℕ) (view : View) → IsWorld run words views → get_elem? views id ≡ some view
+        → view.run ≡ run → IsWorld run words (slice_set views id (stepped view) ++ looker view ∷ []) }
+    ensures worker { (run : SharedRun) (words : Words) (views : List View) (id : ℕ) (view : View) → IsWorld run words views → get_elem? views id ≡ some view
+        → view.run ≡ run → IsWorld run words (slice_set views id (parted view) ++ worker_apart view ∷ []) }
+{}
+
+/// A join keeps the law, if the view that is taken over has nothing in hand. What either had seen may become what is seen then.
+pub fn joins_keep_the_law()
+    ensures law { (run : SharedRun) (words : Words) (views : List View) (id : ℕ) (view : View) (j : ℕ) (other : View) → IsWorld run words views
+        → get_elem? views id ≡ some view → view.run ≡ run → other.run ≡ run → j ≢ id → get_elem? (slice_set views id (joined view other)) j ≡ some other
+        → other.hand ≡ None → IsWorld run words (slice_set (slice_set views id (joined view other)) j spent) }
+    ensures seen { (view other : View) → AreBehind (sees view) (sees (joined view other)) }
+    ensures others_seen { (run : SharedRun) (words : Words) (views : List View) (id : ℕ) (view : View) (j : ℕ) (other : View) → IsWorld run words views
+        → get_elem? views id ≡ some view → view.run ≡ run → other.run ≡ run → get_elem? views j ≡ some other
+        → AreBehind (sees other) (sees (joined view other)) }
+{}
+
+/// A mark in hand has no record yet, and is one of the marks.
+pub fn marks_in_hand_have_no_record()
+    ensures no_record { (run : SharedRun) (words : Words) (views : List View) (id : ℕ) (view : View) → IsWorld run words views
+        → get_elem? views id ≡ some view → (hand : Hand) → view.hand ≡ Some hand → record_at words hand.mark ≡ None }
+    ensures within { (run : SharedRun) (words : Words) (views : List View) (id : ℕ) (view : View) → IsWorld run words views
+        → get_elem? views id ≡ some view → (hand : Hand) → view.hand ≡ Some hand → hand.mark < length run.marks }
+{}
+
+/// If one view has the whole share and nothing in hand, exactly the marks below the counters are recorded.
+pub fn whole_shares_have_all_recorded()
+    ensures { (run : SharedRun) (words : Words) (views : List View) (id : ℕ) (view : View) → IsWorld run words views → get_elem? views id ≡ some view
+        → share view ≡ run.workers → view.hand ≡ None → (k : ℕ) → is_recorded words k ≡ is_claimed run.strips (counters words) k }
+{}
+
+/// A view after steps of its own is a later one: what was seen may become what is seen, and the numbers of steps go on.
+pub fn steps_lead_to_later_views()
+    ensures stay { (view : View) → IsLater view view }
+    ensures go_on { (before mid after : View) → IsLater before mid → IsLater mid after → IsLater before after }
+    ensures load { (run : SharedRun) (words : Words) (views : List View) (id : ℕ) (view : View) → IsWorld run words views → get_elem? views id ≡ some view
+        → view.run ≡ run → (name : Word) → HasWord (run_sizes run) name → IsLater view (loaded view name (words name)) }
+    ensures claim { (run : SharedRun) (words : Words) (views : List View) (id : ℕ) (view : View) → IsWorld run words views → get_elem? views id ≡ some view
+        → view.run ≡ run → (g c limit : ℕ) → g < run.strips → words (Counter g) ≡ c → IsLater view (claimed view g c limit) }
+    ensures record_stored { (run : SharedRun) (words : Words) (views : List View) (id : ℕ) (view : View) → IsWorld run words views
+        → get_elem? views id ≡ some view → view.run ≡ run → (hand : Hand) → view.hand ≡ Some hand → (word : ℕ) → 2 ^ 63 ≤ word
+        → IsLater view (finished view hand.mark word) }
+{}
+
+/// What the law says of each view alone: its worker, its turn, its mark in hand and the numbers that it has seen are within their
+/// limits, and it has seen at least what the pass had that it last took over.
+pub fn views_of_worlds_are_lawful()
+    ensures { (run : SharedRun) (words : Words) (views : List View) (id : ℕ) (view : View) → IsWorld run words views → get_elem? views id ≡ some view
+        → view.run ≡ run → IsLawfulView view }
+{}
