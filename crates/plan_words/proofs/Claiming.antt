@@ -1,0 +1,191 @@
+-- The scan of a claim over the views of its pass, and what a claim leaves.
+use Rattle.std.proofs.Common.{◌≡◌, ◌≢◌, ℕ, ◌+◌, ◌-◌, ◌*◌, ◌%◌, ◌<◌, ◌≤◌, max, Bool, true}
+use Rattle.std.proofs.Common.{false, Option, Some, None, refl, sym, ap, ◌∙◌, subst, inl, inr, arith}
+use Rattle.std.specs.Prelude.{◌⊎◌, ◌==◌, cond, MatchOption, IfNone, IfSome}
+use Rattle.std.proofs.lemmas.Bool.{cases_eq, eq-eqb, ne_eqb}
+use Rattle.std.proofs.lemmas.Nat.{mod-mul-add, mul-le}
+use Rattle.plan_words.specs.Claims.{AllFull, AllLoaded, GoesBefore, IsClaimed, IsFirst, IsOpen, KeepsHand, better_of, next_mark}
+use Rattle.plan_words.specs.States.{BelongsTo, PassState, SharedState, run_in, with_view, worker_of}
+use Rattle.plan_words.specs.declared.claims.Choice.{Choice}
+use Rattle.plan_words.specs.declared.claims.Next.{Next}
+use Rattle.step_core.specs.LaterViews.{IsLater}
+use Rattle.step_core.specs.ViewSteps.{claimed, loaded, mark_of}
+use Rattle.step_core.specs.Views.{last_look, sees}
+use Rattle.step_core.specs.WordNames.{WritesWord}
+use Rattle.step_core.specs.WordNames.Word.{Counter}
+use Rattle.step_core.specs.declared.views.SharedRun.{SharedRun}
+use Rattle.step_core.specs.declared.views.View.{View}
+use Rattle.step_core.specs.declared.views.Stage.TheVariants.{Claimed}
+use Rattle.plan_words.proofs.Scanning.{Scanned, Scanned-all, Scanned-more, left_over, sum_down, sum_less}
+
+-- ---- one load of the scan
+
+pub belongs_loaded : (pass : PassState) (shared : SharedState) (after : PassState) (g x : ℕ) → after ≡ with_view pass (loaded pass.view (Counter g) x)
+    → BelongsTo pass shared → BelongsTo after shared
+belongs_loaded pass shared after g x is belongs = subst (λ p. BelongsTo p shared) (sym is) (record { table = belongs.table; run = belongs.run })
+
+pub kept_loaded : (old : View) (pass after : PassState) (g x : ℕ) → after ≡ with_view pass (loaded pass.view (Counter g) x) → KeepsHand old pass.view
+    → KeepsHand old after.view
+kept_loaded old pass after g x is kept = subst (λ p. KeepsHand old p.view) (sym is) (record { crew = kept.crew; most = kept.most; hand = kept.hand })
+
+pub loaded_more :
+    (n steps : ℕ) (view then : View) → ((g : ℕ) → g < n → steps < last_look view (Counter g))
+    → WritesWord (Counter n) (view.steps + 1) (last_look view) (last_look then) → steps ≤ view.steps → IsLater view then
+    → (g : ℕ) → g < n + 1 → steps < last_look then (Counter g)
+loaded_more n steps view then loaded looked order later g low =
+    elim (cases_eq g n) [
+      | inl e ↦ omega (arith, ap (λ h. last_look then (Counter h)) e, looked.here, order)
+      | inr apart ↦ omega (arith, looked.others (Counter g) (λ e. apart cc), loaded g (omega (arith, low, apart)))
+    ]
+
+-- the best strip so far is one of those gone through
+pub best_strip :
+    (run : SharedRun) (w limit : ℕ) (counters : ℕ → ℕ) (n strips : ℕ) (best : Option Next) → Scanned run w limit counters n best → n < strips
+    → IfSome best (λ b. b.strip < strips)
+best_strip run w limit counters n strips None scanned low = tt
+best_strip run w limit counters n strips (Some b) scanned low = omega (arith, scanned.strip, low)
+
+pub scan_more :
+    (shared : SharedState) (strips workers worker limit n x w : ℕ) (pass after : PassState) (best : Option Next) {then : Option Next} → BelongsTo pass shared
+    → strips ≡ shared.task.scene.strips → workers ≡ shared.workers → worker ≡ w → after ≡ with_view pass (loaded pass.view (Counter n) x)
+    → WritesWord (Counter n) x (sees pass.view) (sees after.view) → Scanned pass.view.run w limit (λ g. sees pass.view (Counter g)) n best
+    → then ≡ better_of (record { strips = strips; workers = workers; worker = worker; limit = limit }) best (record { strip = n; row = x })
+    → Scanned after.view.run w limit (λ g. sees after.view (Counter g)) (n + 1) then
+scan_more shared strips workers worker limit n x w pass after best {then} belongs strips_are workers_are worker_is is seen scanned better =
+    let choice : Choice = record { strips = strips; workers = workers; worker = worker; limit = limit } in
+    let run : SharedRun = pass.view.run in
+    let own = ap (λ r. r.strips) belongs.run in
+    let crew = ap (λ r. r.workers) belongs.run in
+    let more = Scanned-more choice run w limit (record {
+      strips = strips_are ∙ sym own;
+      workers = workers_are
+          ∙ sym crew;
+      worker = worker_is;
+      limit_is = refl;
+    })
+    (λ g. sees pass.view (Counter g)) (λ g. sees after.view (Counter g)) n x seen.here (λ h apart. seen.others (Counter h) (λ e. apart cc)) best scanned in
+    subst (λ r. Scanned r w limit (λ g. sees after.view (Counter g)) (n + 1) then) (sym (ap (λ p. p.view.run) is))
+    (subst (Scanned run w limit (λ g. sees after.view (Counter g)) (n + 1)) (sym better) more)
+
+-- all strips were gone through
+pub scan_ends :
+    (shared : SharedState) (strips limit n w : ℕ) {pass : PassState} (best : Option Next) → BelongsTo pass shared → strips ≡ shared.task.scene.strips
+    → n ≡ strips
+    → Scanned pass.view.run w limit (λ g. sees pass.view (Counter g)) n best
+    → MatchOption best (AllFull pass.view limit) (λ next. IsOpen pass.view w limit next.strip next.row)
+scan_ends shared strips limit n w {pass} best belongs strips_are all scanned =
+    Scanned-all pass.view w limit best
+    (subst (λ m. Scanned pass.view.run w limit (λ g. sees pass.view (Counter g)) m best) (all ∙ strips_are ∙ sym (ap (λ r. r.strips) belongs.run)) scanned)
+
+-- ---- a claim
+
+-- what was looked at since stays so
+pub loaded_since : (steps : ℕ) (view then : View) → AllLoaded view steps → IsLater view then → steps ≤ view.steps → AllLoaded then steps
+loaded_since steps view then loaded later order g strip =
+    elim (later.looked (Counter g)) [
+      | inl same ↦ omega (arith, same, loaded g (subst (λ r. g < r.strips) later.run strip))
+      | inr since ↦ omega (arith, since, order)
+    ]
+
+-- and so it is by fewer steps
+pub loaded_before : (steps more : ℕ) (view : View) → AllLoaded view more → steps ≤ more → AllLoaded view steps
+loaded_before steps more view loaded order g strip = omega (arith, loaded g strip, order)
+
+pub KeepsHand-trans : (before mid after : View) → KeepsHand before mid → KeepsHand mid after → KeepsHand before after
+KeepsHand-trans before mid after first then = record { crew = then.crew ∙ first.crew; most = then.most ∙ first.most; hand = then.hand ∙ first.hand }
+
+-- the mark of an open strip is claimed by an exchange that finds its row
+pub IsClaimed-exchanged :
+    (shared : SharedState) (strips limit g c x : ℕ) (before : View) (mid after : PassState) → strips ≡ shared.task.scene.strips → BelongsTo mid shared
+    → KeepsHand before mid.view → IsLater before mid.view → IsOpen mid.view (worker_of before.crew) limit g c → x ≡ c
+    → after ≡ with_view mid (cond (x == c) (claimed mid.view g c limit) (loaded mid.view (Counter g) x))
+    → WritesWord (Counter g) (cond (x == c) (c + 1) x) (sees mid.view) (sees after.view) → IsClaimed before after.view limit (c * strips + g)
+IsClaimed-exchanged shared strips limit g c x before mid after strips_are belongs kept later open_g found is seen =
+    let run : SharedRun = mid.view.run in
+    let own : run.strips ≡ strips = ap (λ r. r.strips) belongs.run ∙ sym strips_are in
+    let yes : (x == c) ≡ true = eq-eqb x c found in
+    let now : after.view ≡ claimed mid.view g c limit =
+    ap (λ p. p.view) is ∙ ap (λ b. cond b (claimed mid.view g c limit) (loaded mid.view (Counter g) x)) yes in
+    let run_is : after.view.run ≡ run = ap (λ v. v.run) now in
+    let here : sees after.view (Counter g) ≡ c + 1 = seen.here ∙ ap (λ b. cond b (c + 1) x) yes in
+    let strip : (c * strips + g) % after.view.run.strips ≡ g =
+    ap (λ s. (c * strips + g) % s) (ap (λ r. r.strips) run_is ∙ own) ∙ mod-mul-add c strips g (omega (arith, open_g.strip, own)) in
+    let number : mark_of run g c ≡ c * strips + g = ap (λ s. c * s + g) own in
+    record {
+      low = omega (arith, number, open_g.low);
+      hand = ap (λ v. v.hand) now ∙ ap (λ k. Some (record { mark = k; stage = Claimed })) number;
+      crew = ap (λ v. v.crew) now ∙ kept.crew;
+      most = ap (λ v. v.most) now ∙ ap (λ m. max m limit) kept.most;
+      first =
+          subst (λ s. IsFirst after.view (worker_of before.crew) limit s (c * strips + g)) (sym strip)
+          (λ h low apart open_h. first_stays h (subst (λ r. h < r.strips) run_is low) apart now number open_h);
+      next =
+          subst (λ s. next_mark after.view s ≡ c * strips + g + after.view.run.strips) (sym strip)
+          (next_is now own here);
+      rose =
+          subst (λ s. sees before (Counter s) < sees after.view (Counter s)) (sym strip) (omega (arith, later.seen (Counter g), open_g.row, here));
+    }
+  where
+    next_is : after.view ≡ claimed mid.view g c limit → mid.view.run.strips ≡ strips → sees after.view (Counter g) ≡ c + 1
+        → next_mark after.view g ≡ c * strips + g + after.view.run.strips
+    next_is now own here =
+        let same : after.view.run.strips ≡ strips = ap (λ v. v.run.strips) now ∙ own in
+        ap (λ r. mark_of r g (sees after.view (Counter g))) (ap (λ v. v.run) now) ∙ ap (mark_of mid.view.run g) here ∙ ap (λ s. (c + 1) * s + g) own
+        ∙ omega (arith, same)
+
+    first_stays :
+        (h : ℕ) → h < mid.view.run.strips → h ≢ g → after.view ≡ claimed mid.view g c limit → mark_of mid.view.run g c ≡ c * strips + g
+        → next_mark after.view h < limit → GoesBefore after.view.run (worker_of before.crew) g (c * strips + g) h (next_mark after.view h)
+    first_stays h low apart now number open_h =
+        let run_is : after.view.run ≡ mid.view.run = ap (λ v. v.run) now in
+        let same : next_mark after.view h ≡ next_mark mid.view h =
+        ap (λ r. mark_of r h (sees after.view (Counter h))) run_is ∙ ap (mark_of mid.view.run h) (seen.others (Counter h) (λ e. apart cc)) in
+        subst (λ r. GoesBefore r (worker_of before.crew) g (c * strips + g) h (next_mark after.view h)) (sym run_is)
+        (subst (λ m. GoesBefore mid.view.run (worker_of before.crew) g (c * strips + g) h m) (sym same)
+        (subst (λ k. GoesBefore mid.view.run (worker_of before.crew) g k h (next_mark mid.view h)) number
+        (open_g.first h low apart (omega (arith, open_h, same)))))
+
+-- ---- that a claim ends
+
+-- an exchange that fails has seen a higher counter
+pub claim_nearer :
+    (limit g c x : ℕ) (first : View) (mid after : PassState) → 0 < mid.view.run.strips → IsLater first mid.view → IsLater mid.view after.view
+    → IsOpen mid.view (worker_of first.crew) limit g c → x ≢ c → WritesWord (Counter g) (cond (x == c) (c + 1) x) (sees mid.view) (sees after.view)
+    → left_over after.view.run.strips limit (λ h. sees after.view (Counter h)) < left_over first.run.strips limit (λ h. sees first (Counter h))
+claim_nearer limit g c x first mid after some_strip to_mid to_after open_g other seen =
+    let G : ℕ = mid.view.run.strips in
+    let here : sees after.view (Counter g) ≡ x = seen.here ∙ ap (λ b. cond b (c + 1) x) (ne_eqb x c other) in
+    let rows : c * 1 ≤ c * G = mul-le c 1 c G (omega arith) (omega (arith, some_strip)) in
+    let low : c < limit = omega (arith, rows, open_g.low) in
+    let down : left_over G limit (λ h. sees mid.view (Counter h)) ≤ left_over G limit (λ h. sees first (Counter h)) =
+    sum_down (λ h. limit - sees mid.view (Counter h)) (λ h. limit - sees first (Counter h)) G (λ h strip. omega (arith, to_mid.seen (Counter h))) in
+    let less : left_over G limit (λ h. sees after.view (Counter h)) < left_over G limit (λ h. sees mid.view (Counter h)) =
+    sum_less (λ h. limit - sees after.view (Counter h)) (λ h. limit - sees mid.view (Counter h)) G g open_g.strip
+    (λ h strip. omega (arith, to_after.seen (Counter h))) (omega (arith, here, open_g.row, other, to_after.seen (Counter g), low)) in
+    let a : left_over after.view.run.strips limit (λ h. sees after.view (Counter h)) ≡ left_over G limit (λ h. sees after.view (Counter h)) =
+    ap (λ r. left_over r.strips limit (λ h. sees after.view (Counter h))) to_after.run in
+    let b : left_over first.run.strips limit (λ h. sees first (Counter h)) ≡ left_over G limit (λ h. sees first (Counter h)) =
+    ap (λ r. left_over r.strips limit (λ h. sees first (Counter h))) (sym to_mid.run) in
+    omega (arith, a, b, down, less)
+
+-- ---- the next try
+
+pub belongs_exchanged :
+    (mid after : PassState) (shared : SharedState) (g c limit x : ℕ) → x ≢ c
+    → after ≡ with_view mid (cond (x == c) (claimed mid.view g c limit) (loaded mid.view (Counter g) x)) → BelongsTo mid shared → BelongsTo after shared
+belongs_exchanged mid after shared g c limit x other is belongs =
+    let now : after ≡ with_view mid (loaded mid.view (Counter g) x) =
+    is ∙ ap (λ b. with_view mid (cond b (claimed mid.view g c limit) (loaded mid.view (Counter g) x))) (ne_eqb x c other) in
+    belongs_loaded mid shared after g x now belongs
+
+pub kept_exchanged :
+    (old : View) (mid after : PassState) (g c limit x : ℕ) → x ≢ c
+    → after ≡ with_view mid (cond (x == c) (claimed mid.view g c limit) (loaded mid.view (Counter g) x)) → KeepsHand old mid.view → KeepsHand old after.view
+kept_exchanged old mid after g c limit x other is kept =
+    let now : after ≡ with_view mid (loaded mid.view (Counter g) x) =
+    is ∙ ap (λ b. with_view mid (cond b (claimed mid.view g c limit) (loaded mid.view (Counter g) x))) (ne_eqb x c other) in
+    kept_loaded old mid after g x now kept
+
+pub IfNone-any : {A : Type 0} → (o : Option A) (claim : Type 0) → claim → IfNone o claim
+IfNone-any None claim holds = holds
+IfNone-any (Some a) claim holds = tt

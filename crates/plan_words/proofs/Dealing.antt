@@ -1,0 +1,186 @@
+-- The world that a shared run begins with, and the passes of all workers, made one by one from the pass that stands for them all.
+use Rattle.std.proofs.Common.{◌≡◌, ℕ, zero, suc, ◌+◌, ◌-◌, ◌<◌, ◌≤◌, List, [], ◌∷◌, ◌++◌, length, Some, None, refl, sym, ap, ◌∙◌, subst, arith}
+use Rattle.std.specs.Prelude.{All}
+use Rattle.std.proofs.lemmas.List.Elements.{All-cons, All-nil}
+use lib.ListN.{get_elem?}
+use mathlib.Core.Option.{some, some-injective, some-ne-none}
+use Rattle.plan_model.specs.Turns.{turns_of}
+use Rattle.plan_model.specs.declared.limits.TheConstants.{MOST_WORKERS}
+use Rattle.plan_words.specs.States.{BelongsTo, HoldsWorld, IsTied, MayClaim, PassState, SharedState}
+use Rattle.plan_words.specs.States.{StartsAs, first_of, first_view, run_in, run_of_opening, with_view}
+use Rattle.plan_words.specs.declared.openings.Opening.{Opening}
+use Rattle.step_core.specs.GrownRuns.{words_of_grown}
+use Rattle.step_core.specs.GrownWords.{HoldRun, record_at, run_words, sizes_of}
+use Rattle.step_core.specs.ViewStarts.{crew_from, member_of}
+use Rattle.step_core.specs.ViewSteps.{parted, second_alone, without_second, worker_apart}
+use Rattle.step_core.specs.Views.{sees}
+use Rattle.step_core.specs.WordNames.{Words}
+use Rattle.step_core.specs.WordPlaces.{word_count}
+use Rattle.step_core.specs.declared.grown.Grown.{Grown}
+use Rattle.step_core.specs.declared.views.SharedRun.{SharedRun}
+use Rattle.step_core.proofs.LaterViews.{IsLawfulView-world}
+use Rattle.step_core.proofs.WorldStarts.{IsWorld-started}
+
+-- the workers from w on are w and those past it
+crew-more : (run : SharedRun) (words : Words) (w n : ℕ) → w < n
+    → crew_from run words w (n - w) ≡ member_of run words w ∷ crew_from run words (w + 1) (n - (w + 1))
+crew-more run words w n low =
+    let one_more : n - w ≡ suc (n - (w + 1)) = omega (arith, low) in
+    ap (crew_from run words w) one_more
+
+-- ---- the first world
+
+module _
+    (opening : Opening) (sized : length opening.words.items ≡ word_count (sizes_of opening.task))
+    (held : HoldRun opening.task opening.limit (run_words opening.task opening.words.items)) (some_worker : 1 ≤ opening.workers)
+    (few : opening.workers ≤ MOST_WORKERS) where
+  pub HoldsWorld-started : HoldsWorld (run_of_opening opening) opening.words.items (first_view opening ∷ [])
+  HoldsWorld-started = record {
+    sized = sized;
+    world = IsWorld-started opening.task opening.limit opening.workers opening.words.items sized held some_worker few;
+  }
+
+  -- the first pass works as worker 0
+  pub IsTied-started :
+      (turn : ℕ) → turn ≡ turns_of (record_at (run_words opening.task opening.words.items)) (length opening.task.marks) 0
+      → IsTied (first_view opening) (Some (record { worker = 0; turn = turn })) None
+  IsTied-started turn is =
+      let run = run_of_opening opening in
+      let words = run_words opening.task opening.words.items in
+      let all : opening.workers ≡ opening.workers - 0 = omega arith in
+      record {
+        member_is =
+            ap (λ n. Some (record { worker = 0; turn = n })) is
+            ∙ sym (ap first_of (ap (crew_from run words 0) all ∙ crew-more run words 0 opening.workers some_worker));
+        hand_is = refl;
+        lawful = IsLawfulView-world run words (first_view opening ∷ []) 0 (first_view opening) HoldsWorld-started.world refl refl;
+      }
+
+-- ---- one pass after another
+
+-- the pass stands for worker w alone, and has seen what the first pass had
+abbrev pub IsPassOf : SharedState → PassState → ℕ → PassState → Type 0
+IsPassOf shared first w pass =
+    BelongsTo pass shared × (pass.view.crew ≡ member_of (run_in shared) (sees first.view) w ∷ []) × (pass.view.most ≡ first.view.most)
+    × (pass.view.hand ≡ None) × (sees pass.view ≡ sees first.view)
+
+-- Before worker w has a pass of its own, the first pass stands for worker 0 and for those from w on.
+pub record StandsFor (shared : SharedState) (first : PassState) (w : ℕ) (pass : PassState) : Type 0 where
+  pub belongs : BelongsTo pass shared
+  pub crew : pass.view.crew ≡ member_of (run_in shared) (sees first.view) 0 ∷ crew_from (run_in shared) (sees first.view) w (shared.workers - w)
+  pub most : pass.view.most ≡ first.view.most
+  pub hand : pass.view.hand ≡ None
+  pub seen : sees pass.view ≡ sees first.view
+
+-- at first it stands for all
+pub StandsFor-all :
+    (shared : SharedState) (first : PassState) → 0 < shared.workers → BelongsTo first shared
+    → first.view.crew ≡ crew_from (run_in shared) (sees first.view) 0 shared.workers → first.view.hand ≡ None → StandsFor shared first 1 first
+StandsFor-all shared first some_worker belongs crew hand =
+    let all : shared.workers ≡ shared.workers - 0 = omega arith in
+    record {
+      belongs = belongs;
+      crew =
+          crew ∙ ap (crew_from (run_in shared) (sees first.view) 0) all
+          ∙ crew-more (run_in shared) (sees first.view) 0 shared.workers some_worker;
+      most = refl;
+      hand = hand;
+      seen = refl;
+    }
+
+module _ (shared : SharedState) (first : PassState) (w : ℕ) (pass : PassState) (stands : StandsFor shared first w pass) where
+  crew_here : w < shared.workers
+      → pass.view.crew ≡ member_of (run_in shared) (sees first.view) 0 ∷ member_of (run_in shared) (sees first.view) w
+      ∷ crew_from (run_in shared) (sees first.view) (w + 1) (shared.workers - (w + 1))
+  crew_here low =
+      stands.crew ∙ ap (λ crew. member_of (run_in shared) (sees first.view) 0 ∷ crew) (crew-more (run_in shared) (sees first.view) w shared.workers low)
+
+  -- worker w is its second
+  pub second-next : w < shared.workers → second_alone pass.view.crew ≡ member_of (run_in shared) (sees first.view) w ∷ []
+  second-next low = ap second_alone (crew_here low)
+
+  -- and gets a pass of its own
+  pub StandsFor-next : (after : PassState) → w < shared.workers → after ≡ with_view pass (parted pass.view) → StandsFor shared first (w + 1) after
+  StandsFor-next after low is =
+      subst (StandsFor shared first (w + 1)) (sym is) record {
+        belongs = record { table = stands.belongs.table; run = stands.belongs.run };
+        crew = ap without_second (crew_here low);
+        most = stands.most;
+        hand = stands.hand;
+        seen = stands.seen;
+      }
+
+  pub IsPassOf-next : (other : PassState) → w < shared.workers → other ≡ with_view pass (worker_apart pass.view) → IsPassOf shared first w other
+  IsPassOf-next other low is =
+      subst (IsPassOf shared first w) (sym is)
+      (record { table = stands.belongs.table; run = stands.belongs.run }, second-next low, stands.most, refl, stands.seen)
+
+  -- once all others have one, it stands for worker 0 alone
+  pub IsPassOf-first : shared.workers ≤ w → IsPassOf shared first 0 pass
+  IsPassOf-first past =
+      let none : shared.workers - w ≡ 0 = omega (arith, past) in (
+        stands.belongs,
+        stands.crew ∙ ap (λ n. member_of (run_in shared) (sees first.view) 0 ∷ crew_from (run_in shared) (sees first.view) w n) none,
+        stands.most,
+        stands.hand,
+        stands.seen,
+      )
+
+-- ---- lists of passes
+
+-- one more at the end
+each-push :
+    (has : ℕ → PassState → Type 0) (passes : List PassState) (last : PassState) → ((i : ℕ) (pass : PassState) → get_elem? passes i ≡ some pass → has i pass)
+    → has (length passes) last → (i : ℕ) (pass : PassState) → get_elem? (passes ++ last ∷ []) i ≡ some pass → has i pass
+each-push has [] last all own zero pass e = subst (has 0) (some-injective last pass e) own
+each-push has [] last all own (suc i) pass e = absurd (some-ne-none pass (sym e))
+each-push has (one ∷ passes) last all own zero pass e = all zero pass e
+each-push has (one ∷ passes) last all own (suc i) pass e = each-push (λ j. has (suc j)) passes last (λ j. all (suc j)) own i pass e
+
+-- each pass of a list has it for the number after its place
+abbrev pub each_after : (ℕ → PassState → Type 0) → List PassState → Type 0
+each_after has passes = (i : ℕ) (pass : PassState) → get_elem? passes i ≡ some pass → has (i + 1) pass
+
+pub each_after-push :
+    (has : ℕ → PassState → Type 0) (passes after : List PassState) (last : PassState) (n : ℕ) → after ≡ passes ++ last ∷ [] → length passes + 1 ≡ n
+    → each_after has passes → has n last → each_after has after
+each_after-push has passes after last n is counted all own =
+    subst (each_after has) (sym is)
+    (each-push (λ i. has (i + 1)) passes last all (subst (λ j. has j last) (sym counted) own))
+
+-- one more at the head
+head : (has : ℕ → PassState → Type 0) (first : PassState) (passes : List PassState) → has 0 first → each_after has passes
+    → (i : ℕ) (pass : PassState) → get_elem? (first ∷ passes) i ≡ some pass → has i pass
+head has first passes own all zero pass e = subst (has 0) (some-injective first pass e) own
+head has first passes own all (suc i) pass e =
+    let next : i + 1 ≡ suc i = omega arith in
+    subst (λ j. has j pass) next (all i pass e)
+
+pub each-head :
+    (has : ℕ → PassState → Type 0) (first : PassState) (passes after : List PassState) → after ≡ first ∷ passes → has 0 first → each_after has passes
+    → (i : ℕ) (pass : PassState) → get_elem? after i ≡ some pass → has i pass
+each-head has first passes after is own all i pass e = head has first passes own all i pass (ap (λ l. get_elem? l i) (sym is) ∙ e)
+
+-- ---- the passes that a run starts with
+
+pub StartsAs-pass :
+    (shared : SharedState) (grown : Grown) (first : PassState) (w : ℕ) (pass : PassState) → sees first.view ≡ words_of_grown grown
+    → first.view.most ≡ grown.limit → IsPassOf shared first w pass → StartsAs shared grown w pass
+StartsAs-pass shared grown first w pass seen most is = record {
+  belongs = is.0;
+  crew = is.1 ∙ ap (λ words. member_of (run_in shared) words w ∷ []) seen;
+  most = is.2 ∙ most;
+  hand = is.3;
+  seen = is.4 ∙ seen;
+}
+
+-- each may claim a mark
+pub MayClaim-starts :
+    (shared : SharedState) (grown : Grown) (passes : List PassState)
+    → ((w : ℕ) (pass : PassState) → get_elem? passes w ≡ some pass → (n : ℕ) × StartsAs shared grown n pass) → All (MayClaim shared) passes
+MayClaim-starts shared grown [] starts = All-nil (MayClaim shared)
+MayClaim-starts shared grown (pass ∷ passes) starts =
+    let first = (starts 0 pass refl).1 in
+    All-cons (MayClaim shared) pass passes
+    (record { belongs = first.belongs; part = subst (λ l. 0 < length l) (sym first.crew) (omega arith); idle = first.hand })
+    (MayClaim-starts shared grown passes (λ w. starts (suc w)))

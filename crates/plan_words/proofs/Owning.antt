@@ -1,0 +1,164 @@
+-- What a call of a shared tree owes to its table, and what a load tells, by what the tree and the pass keep.
+use Rattle.std.proofs.Common.{◌≡◌, ℕ, ◌+◌, ◌<◌, ◌≤◌, ◌^◌, Bool, true, false, List, [], ◌∷◌, length, Option, Some, None, refl, sym, ap, ◌∙◌, subst, arith}
+use Rattle.std.specs.Prelude.{◌==◌, cond}
+use mathlib.Core.Option.{none, some}
+use prog.Atomic.{either}
+use Rattle.atomic_table.specs.Seated.{TableId}
+use Rattle.atomic_table.specs.Table.{Allows, Joins, Me, Splits, State, step}
+use Rattle.plan_words.specs.declared.openings.Aim.{Aim}
+use Rattle.plan_words.specs.declared.openings.Opening.{Opening}
+use Rattle.plan_words.specs.Plays.{Claims, Finishes, Loads}
+use Rattle.plan_words.specs.States.{BelongsTo, HoldsWorld, IsTableOf, PassState, SharedState, run_in, run_of_opening}
+use Rattle.step_core.specs.LaterViews.{IsLawfulView}
+use Rattle.step_core.specs.ViewSteps.{claimed, joined, loaded, looker, mark_of, parted, place_in, saw_at, stepped as one_step, worker_apart}
+use Rattle.step_core.specs.Views.{last_look, run_sizes, sees, share, spent}
+use Rattle.step_core.specs.WordNames.{Word, WritesWord}
+use Rattle.step_core.specs.WordNames.Word.{Count, Counter, RecordOf}
+use Rattle.step_core.specs.WordPlaces.{HasWord, place_of, word_count}
+use Rattle.step_core.specs.Words.{IsTurnWord}
+use Rattle.step_core.specs.declared.views.Hand.{Hand}
+use Rattle.step_core.specs.declared.views.Member.{Member}
+use Rattle.step_core.specs.declared.views.SharedRun.{SharedRun}
+use Rattle.step_core.specs.declared.views.View.{View}
+use Rattle.step_core.specs.declared.word_places.WordPlaces.{WordPlaces}
+use Rattle.step_core.proofs.SeenByViews.{WritesWord-looked, WritesWord-saw}
+use Rattle.step_core.proofs.WordReads.{place_of-within}
+use Rattle.plan_words.proofs.Allowing.{Holds, may_claim, may_finish, may_hand_on, may_load, may_look, may_take_over}
+
+-- the rule by what the table was told
+abbrev pub Kept : Opening → State Aim View → Type 0
+Kept key s = HoldsWorld (run_of_opening key) s.words s.views
+
+module _ (table : TableId) (key : Opening) (run : SharedRun) (places : WordPlaces) (fits : IsTableOf table key run places) where
+  -- a word of the run stands in the table
+  pub within : (name : Word) (place : ℕ) → HasWord (run_sizes run) name → place ≡ place_of (run_sizes run) name → place < table.words
+  within name place here at_place = omega (arith, at_place, fits.words, place_of-within (run_sizes run) name here)
+
+  pub some_word : 0 < table.words
+  some_word = within Count 0 tt refl
+
+  pub may_load_here :
+      (seat : TableId) (id place : ℕ) (me : Me Aim View) (name : Word) → seat ≡ table → me.0.run ≡ run → HasWord (run_sizes run) name
+      → place ≡ place_of (run_sizes run) name
+      → (seat ≡ table) × (place < table.words) × Allows (Kept key) table.slots id me place (λ x. x) (Loads (step table.slots place 0 0 none) me)
+  may_load_here seat id place me name same own here at_place = (
+    same,
+    within name place here at_place,
+    subst (λ r. Allows (Holds r) table.slots id me place (λ x. x) (Loads (step table.slots place 0 0 none) me)) (sym fits.key_is)
+        (may_load run table.slots id place me name here at_place own),
+  )
+
+  pub may_claim_here :
+      (seat : TableId) (id place g c limit : ℕ) (me : Me Aim View) → seat ≡ table → me.0.run ≡ run → place ≡ place_of (run_sizes run) (Counter g)
+      → 0 < share me.0 → me.0.hand ≡ None → g < run.strips → mark_of run g c < limit → limit ≤ length run.marks
+      → (seat ≡ table) × (place < table.words) × Allows (Kept key) table.slots id me place (λ x. either (x == c) (c + 1) x)
+      (Claims (step table.slots place c (c + 1) (some (record { strip = g; limit = limit }))) me)
+  may_claim_here seat id place g c limit me same own at_place part idle strip low most = (
+    same,
+    within (Counter g) place strip at_place,
+    subst
+        (λ r. Allows (Holds r) table.slots id me place (λ x. either (x == c) (c + 1) x)
+        (Claims (step table.slots place c (c + 1) (some (record { strip = g; limit = limit }))) me))
+        (sym fits.key_is) (may_claim run table.slots id place g c limit me at_place own part idle strip low most),
+  )
+
+  pub may_finish_here :
+      (seat : TableId) (id place x : ℕ) (me : Me Aim View) (hand : Hand) (member : Member) (crew : List Member) → seat ≡ table → me.0.run ≡ run
+      → place ≡ place_of (run_sizes run) (RecordOf hand.mark) → hand.mark < length run.marks → me.0.hand ≡ Some hand → me.0.crew ≡ member ∷ crew
+      → IsTurnWord member.worker member.turn x
+      → (seat ≡ table) × (place < table.words) × Allows (Kept key) table.slots id me place (λ y. x) (λ y. Finishes (step table.slots place x 0 none) me x)
+  may_finish_here seat id place x me hand member crew same own at_place low held crew_is turn = (
+    same,
+    within (RecordOf hand.mark) place low at_place,
+    subst (λ r. Allows (Holds r) table.slots id me place (λ y. x) (λ y. Finishes (step table.slots place x 0 none) me x)) (sym fits.key_is)
+        (may_finish run table.slots id place x me hand member crew at_place own held crew_is turn),
+  )
+
+  pub may_look_here : (seat : TableId) (id : ℕ) (view : View) → seat ≡ table → view.run ≡ run
+      → (seat ≡ table) × (0 < table.words) × Splits (Kept key) id view (one_step view) (looker view)
+  may_look_here seat id view same own =
+      (same, some_word, subst (λ r. Splits (Holds r) id view (one_step view) (looker view)) (sym fits.key_is) (may_look run id view own))
+
+  pub may_hand_on_here : (seat : TableId) (id : ℕ) (view : View) → seat ≡ table → view.run ≡ run
+      → (seat ≡ table) × (0 < table.words) × Splits (Kept key) id view (parted view) (worker_apart view)
+  may_hand_on_here seat id view same own =
+      (same, some_word, subst (λ r. Splits (Holds r) id view (parted view) (worker_apart view)) (sym fits.key_is) (may_hand_on run id view own))
+
+  pub may_take_over_here :
+      (seat other_seat : TableId) (id j : ℕ) (view : View) (other : Me Aim View) → seat ≡ table → other_seat ≡ table → other.1 ≡ [] → view.run ≡ run
+      → other.0.run ≡ run → other.0.hand ≡ None
+      → (seat ≡ table) × (other_seat ≡ table) × (other.1 ≡ []) × (0 < table.words) × Joins (Kept key) id view j other.0 (joined view other.0) spent
+  may_take_over_here seat other_seat id j view other same same_too empty own own_too idle = (
+    same,
+    same_too,
+    empty,
+    some_word,
+    subst (λ r. Joins (Holds r) id view j other.0 (joined view other.0) spent) (sym fits.key_is) (may_take_over run id view j other.0 own own_too idle),
+  )
+
+-- ---- what a load tells
+
+module _ (view : View) (lawful : IsLawfulView view) (name : Word) (here : HasWord (run_sizes view.run) name) where
+  -- the word is seen as it was found
+  pub sees-loaded : (x : ℕ) → sees (loaded view name x) name ≡ x
+  sees-loaded x = (WritesWord-saw view.run view lawful.of_run name here x x).here
+
+-- of all words it is seen now, by the pass as its caller has it
+pub sees_told :
+    (outer inner then : View) (name : Word) (place x : ℕ) → inner ≡ outer → IsLawfulView inner → HasWord (run_sizes inner.run) name
+    → place ≡ place_in inner name
+    → then ≡ saw_at inner place x x → WritesWord name x (sees outer) (sees then)
+sees_told outer inner then name place x same lawful here at_place is =
+    subst (λ v. WritesWord name x (sees v) (sees then)) same
+    (subst (λ v. WritesWord name x (sees inner) (sees v)) (sym is)
+    (subst (λ n. WritesWord name x (sees inner) (sees (saw_at inner n x x))) (sym at_place) (WritesWord-saw inner.run inner lawful.of_run name here x x)))
+
+-- and this step was the last on it
+pub looks_told :
+    (outer inner then : View) (name : Word) (place x : ℕ) → inner ≡ outer → IsLawfulView inner → HasWord (run_sizes inner.run) name
+    → place ≡ place_in inner name
+    → then ≡ saw_at inner place x x → WritesWord name (outer.steps + 1) (last_look outer) (last_look then)
+looks_told outer inner then name place x same lawful here at_place is =
+    subst (λ v. WritesWord name (v.steps + 1) (last_look v) (last_look then)) same
+    (subst (λ v. WritesWord name (inner.steps + 1) (last_look inner) (last_look v)) (sym is)
+    (subst (λ n. WritesWord name (inner.steps + 1) (last_look inner) (last_look (saw_at inner n x x))) (sym at_place)
+    (WritesWord-looked inner.run inner lawful.of_run name here x x)))
+
+-- what an exchange leaves of the counter
+pub sees_exchanged :
+    (outer inner then : View) (g c limit place x : ℕ) → inner ≡ outer → IsLawfulView inner → g < inner.run.strips → place ≡ place_in inner (Counter g)
+    → then ≡ cond (x == c) (claimed inner g c limit) (saw_at inner place x x)
+    → WritesWord (Counter g) (cond (x == c) (c + 1) x) (sees outer) (sees then)
+sees_exchanged outer inner then g c limit place x same lawful strip at_place is =
+    subst (λ v. WritesWord (Counter g) (cond (x == c) (c + 1) x) (sees v) (sees then)) same
+    (subst (λ v. WritesWord (Counter g) (cond (x == c) (c + 1) x) (sees inner) (sees v)) (sym is) (by_test (x == c)))
+  where
+    by_test : (b : Bool) → WritesWord (Counter g) (cond b (c + 1) x) (sees inner) (sees (cond b (claimed inner g c limit) (saw_at inner place x x)))
+    by_test true = WritesWord-saw inner.run inner lawful.of_run (Counter g) strip c (c + 1)
+    by_test false =
+        subst (λ n. WritesWord (Counter g) x (sees inner) (sees (saw_at inner n x x))) (sym at_place)
+        (WritesWord-saw inner.run inner lawful.of_run (Counter g) strip x x)
+
+-- The count of nodes fits a `u32`, and so does the counter of a strip.
+pub count_fits : (view : View) (place x : ℕ) → IsLawfulView view → place ≡ place_in view Count → IsLawfulView (saw_at view place x x) → x < 2 ^ 32
+count_fits view place x lawful at_place told =
+    let then = subst (λ n. IsLawfulView (saw_at view n x x)) at_place told in
+    omega (arith, sees-loaded view lawful Count tt x, then.count, lawful.run.marks)
+
+pub counter_most :
+    (view : View) (place g x : ℕ) → IsLawfulView view → g < view.run.strips → place ≡ place_in view (Counter g) → IsLawfulView (saw_at view place x x)
+    → x ≤ length view.run.marks
+counter_most view place g x lawful strip at_place told =
+    let then = subst (λ n. IsLawfulView (saw_at view n x x)) at_place told in
+    omega (arith, sees-loaded view lawful (Counter g) strip x, then.counter g strip)
+
+-- ---- belonging
+
+-- a pass and a tree by what they keep
+pub same_table : (pass : PassState) (shared : SharedState) (inner : PassState) (whole : SharedState) → inner ≡ pass → whole ≡ shared
+    → BelongsTo pass shared → inner.table ≡ whole.table
+same_table pass shared inner whole pass_is shared_is belongs = ap (λ p. p.table) pass_is ∙ belongs.table ∙ sym (ap (λ s. s.table) shared_is)
+
+pub same_run : (pass : PassState) (shared : SharedState) (inner : PassState) (whole : SharedState) → inner ≡ pass → whole ≡ shared
+    → BelongsTo pass shared → inner.view.run ≡ run_in whole
+same_run pass shared inner whole pass_is shared_is belongs = ap (λ p. p.view.run) pass_is ∙ belongs.run ∙ sym (ap run_in shared_is)

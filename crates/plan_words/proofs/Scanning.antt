@@ -1,0 +1,241 @@
+-- The strips are gone through one by one: of those below a number, the best next mark is known. A claim that fails has seen more.
+use Rattle.std.proofs.Common.{◌≡◌, ◌≢◌, ℕ, zero, suc, ◌+◌, ◌-◌, ◌*◌, ◌%◌, ◌<◌, ◌≤◌, Bool, true}
+use Rattle.std.proofs.Common.{false, List, Option, Some, None, refl, sym, ap, ◌∙◌, subst, inl, inr, arith, le_refl}
+use Rattle.std.specs.Prelude.{◌⊎◌, ◌==◌, nat_lt, cond, MatchOption, IfSome}
+use Rattle.std.specs.List.{range_with_len, sum_by}
+use Rattle.std.proofs.lemmas.Bool.{cases_Bool, cases_eq, cases_lt, le-ltb, lt-ltb, ltb-true}
+use Rattle.std.proofs.lemmas.List.Sums.{sum_by_push}
+use Rattle.std.proofs.lemmas.Nat.{mod-mul-add, mul-le}
+use Rattle.plan_model.specs.MarkPoints.{quota_of}
+use Rattle.plan_model.proofs.CountsBelow.{range-more}
+use Rattle.plan_model.proofs.QuotaLaws.{IsCutAt-quota}
+use Rattle.plan_words.specs.Claims.{AllFull, GoesBefore, IsFirst, IsOpen, better_of, better_open, goes_first, is_own, mark_in, next_mark, owns}
+use Rattle.plan_words.specs.declared.claims.Choice.{Choice}
+use Rattle.plan_words.specs.declared.claims.Next.{Next}
+use Rattle.step_core.specs.ViewSteps.{mark_of}
+use Rattle.step_core.specs.Views.{sees}
+use Rattle.step_core.specs.WordNames.Word.{Counter}
+use Rattle.step_core.specs.declared.views.SharedRun.{SharedRun}
+use Rattle.step_core.specs.declared.views.View.{View}
+
+-- ---- which goes before
+
+pub GoesBefore-trans :
+    (run : SharedRun) (w g k h m i p : ℕ) → GoesBefore run w g k h m → GoesBefore run w h m i p → GoesBefore run w g k i p
+GoesBefore-trans run w g k h m i p (inl first) (inl then) = (let no = sym first.1 ∙ then.0 in cc)
+GoesBefore-trans run w g k h m i p (inl first) (inr then) = inl (first.0, sym then.0 ∙ first.1)
+GoesBefore-trans run w g k h m i p (inr first) (inl then) = inl (first.0 ∙ then.0, then.1)
+GoesBefore-trans run w g k h m i p (inr first) (inr then) = inr (first.0 ∙ then.0, omega (arith, first.1, then.1))
+
+-- the choice is that of a worker of the run
+pub record IsChoiceOf (choice : Choice) (run : SharedRun) (w limit : ℕ) : Type 0 where
+  pub strips : choice.strips ≡ run.strips
+  pub workers : choice.workers ≡ run.workers
+  pub worker : choice.worker ≡ w
+  pub limit_is : choice.limit ≡ limit
+
+module _ (choice : Choice) (run : SharedRun) (w limit : ℕ) (of_run : IsChoiceOf choice run w limit) where
+  mark_is : (next : Next) → mark_in choice next ≡ mark_of run next.strip next.row
+  mark_is next = ap (λ s. next.row * s + next.strip) of_run.strips
+
+  owns_is : (next : Next) → owns choice next ≡ is_own run w next.strip
+  owns_is next = ap (λ n. next.strip % n == choice.worker) of_run.workers ∙ ap (λ n. next.strip % run.workers == n) of_run.worker
+
+  -- what the test says
+  pub GoesBefore-first : (one other : Next) → goes_first choice one other ≡ true
+      → GoesBefore run w one.strip (mark_of run one.strip one.row) other.strip (mark_of run other.strip other.row)
+  GoesBefore-first one other e = by_test (owns choice one) refl (owns choice other) refl e
+    where
+      by_test :
+          (a : Bool) → owns choice one ≡ a → (b : Bool) → owns choice other ≡ b
+          → cond a (cond b (nat_lt (mark_in choice one) (mark_in choice other)) true)
+          (cond b false (nat_lt (mark_in choice one) (mark_in choice other))) ≡ true
+          → GoesBefore run w one.strip (mark_of run one.strip one.row) other.strip (mark_of run other.strip other.row)
+      by_test true p true q h =
+          inr (
+            sym (owns_is one) ∙ p ∙ sym q ∙ owns_is other,
+            omega (arith, ltb-true (mark_in choice one) (mark_in choice other) h, mark_is one, mark_is other),
+          )
+      by_test true p false q h = inl (sym (owns_is one) ∙ p, sym (owns_is other) ∙ q)
+      by_test false p true q h = cc
+      by_test false p false q h =
+          inr (
+            sym (owns_is one) ∙ p ∙ sym q ∙ owns_is other,
+            omega (arith, ltb-true (mark_in choice one) (mark_in choice other) h, mark_is one, mark_is other),
+          )
+
+  pub GoesBefore-other : (one other : Next) → goes_first choice one other ≡ false
+      → GoesBefore run w other.strip (mark_of run other.strip other.row) one.strip (mark_of run one.strip one.row)
+  GoesBefore-other one other e = by_test (owns choice one) refl (owns choice other) refl e
+    where
+      not_less : nat_lt (mark_in choice one) (mark_in choice other) ≡ false → mark_of run other.strip other.row ≤ mark_of run one.strip one.row
+      not_less h = elim (cases_lt (mark_in choice one) (mark_in choice other)) [
+        | inl less ↦ (let yes = sym (lt-ltb (mark_in choice one) (mark_in choice other) less) ∙ h in cc)
+        | inr enough ↦ omega (arith, enough, mark_is one, mark_is other)
+      ]
+
+      by_test :
+          (a : Bool) → owns choice one ≡ a → (b : Bool) → owns choice other ≡ b
+          → cond a (cond b (nat_lt (mark_in choice one) (mark_in choice other)) true)
+          (cond b false (nat_lt (mark_in choice one) (mark_in choice other))) ≡ false
+          → GoesBefore run w other.strip (mark_of run other.strip other.row) one.strip (mark_of run one.strip one.row)
+      by_test true p true q h = inr (sym (owns_is other) ∙ q ∙ sym p ∙ owns_is one, not_less h)
+      by_test true p false q h = cc
+      by_test false p true q h = inl (sym (owns_is other) ∙ q, sym (owns_is one) ∙ p)
+      by_test false p false q h = inr (sym (owns_is other) ∙ q ∙ sym p ∙ owns_is one, not_less h)
+
+-- ---- the scan, by the counters seen
+
+-- the next mark of strip h by these counters
+abbrev pub next_by : SharedRun → (ℕ → ℕ) → ℕ → ℕ
+next_by run counters h = mark_of run h (counters h)
+
+-- of the strips below n, this next mark goes first
+pub record IsBest (run : SharedRun) (w limit : ℕ) (counters : ℕ → ℕ) (n : ℕ) (b : Next) : Type 0 where
+  pub strip : b.strip < n
+  pub row : b.row ≡ counters b.strip
+  pub low : mark_of run b.strip b.row < limit
+  pub first : (h : ℕ) → h < n → next_by run counters h < limit → GoesBefore run w b.strip (mark_of run b.strip b.row) h (next_by run counters h)
+
+-- none of the strips below n has a next mark below the limit
+abbrev pub NoneOpen : SharedRun → ℕ → (ℕ → ℕ) → ℕ → Type 0
+NoneOpen run limit counters n = (h : ℕ) → h < n → limit ≤ next_by run counters h
+
+abbrev pub Scanned : SharedRun → ℕ → ℕ → (ℕ → ℕ) → ℕ → Option Next → Type 0
+Scanned run w limit counters n best = MatchOption best (NoneOpen run limit counters n) (IsBest run w limit counters n)
+
+module _ (choice : Choice) (run : SharedRun) (w limit : ℕ) (of_run : IsChoiceOf choice run w limit) (before after : ℕ → ℕ) (n row : ℕ)
+    (here : after n ≡ row) (others : (h : ℕ) → h ≢ n → after h ≡ before h) where
+  abbrev next : Next
+  next = record { strip = n; row = row }
+
+  next_here : next_by run after n ≡ mark_of run n row
+  next_here = ap (mark_of run n) here
+
+  next_other : (h : ℕ) → h < n → next_by run after h ≡ next_by run before h
+  next_other h low = ap (mark_of run h) (others h (λ e. omega (arith, low, e)))
+
+  -- a best strip below n stays the best, where strip n has none better
+  still_best :
+      (b : Next) → IsBest run w limit before n b
+      → (next_by run after n < limit → GoesBefore run w b.strip (mark_of run b.strip b.row) n (next_by run after n)) → IsBest run w limit after (n + 1) b
+  still_best b best over = record {
+    strip = omega (arith, best.strip);
+    row = best.row ∙ sym (others b.strip (λ e. omega (arith, best.strip, e)));
+    low = best.low;
+    first = λ h low open_h.
+        elim (cases_eq h n) [
+          | inl e ↦
+              subst (λ g. GoesBefore run w b.strip (mark_of run b.strip b.row) g (next_by run after g)) (sym e)
+              (over (subst (λ g. next_by run after g < limit) e open_h))
+          | inr apart ↦ (
+              let below : h < n = omega (arith, low, apart) in
+              let same = next_other h below in
+              subst (λ m. GoesBefore run w b.strip (mark_of run b.strip b.row) h m) (sym same) (best.first h below (omega (arith, open_h, same))))
+        ];
+  }
+
+  -- strip n is the best, where it goes before all that are open below
+  new_best :
+      mark_of run n row < limit
+      → ((h : ℕ) → h < n → next_by run before h < limit → GoesBefore run w n (mark_of run n row) h (next_by run before h))
+      → IsBest run w limit after (n + 1) next
+  new_best low over = record {
+    strip = omega arith;
+    row = sym here;
+    low = low;
+    first = λ h below open_h.
+        elim (cases_eq h n) [
+          | inl e ↦
+              subst (λ g. GoesBefore run w n (mark_of run n row) g (next_by run after g)) (sym e)
+              (inr (refl, omega (arith, next_here)))
+          | inr apart ↦ (
+              let under : h < n = omega (arith, below, apart) in
+              let same = next_other h under in
+              subst (λ m. GoesBefore run w n (mark_of run n row) h m) (sym same) (over h under (omega (arith, open_h, same))))
+        ];
+  }
+
+  none_open : NoneOpen run limit before n → limit ≤ mark_of run n row → NoneOpen run limit after (n + 1)
+  none_open none high h low =
+      elim (cases_eq h n) [
+        | inl e ↦ subst (λ g. limit ≤ next_by run after g) (sym e) (omega (arith, next_here, high))
+        | inr apart ↦ omega (arith, next_other h (omega (arith, low, apart)), none h (omega (arith, low, apart)))
+      ]
+
+  pub Scanned-more : (best : Option Next) → Scanned run w limit before n best → Scanned run w limit after (n + 1) (better_of choice best next)
+  Scanned-more best scanned =
+      let mark : mark_in choice next ≡ mark_of run n row = ap (λ s. row * s + n) of_run.strips in
+      elim (cases_lt (mark_of run n row) limit) [
+        | inl low ↦ (
+            let test : nat_lt (mark_in choice next) choice.limit ≡ true =
+            lt-ltb (mark_in choice next) choice.limit (omega (arith, low, mark, of_run.limit_is)) in
+            subst (Scanned run w limit after (n + 1)) (sym (ap (λ b. cond b (better_open choice best next) best) test)) (open_more best scanned low))
+        | inr high ↦ (
+            let test : nat_lt (mark_in choice next) choice.limit ≡ false =
+            le-ltb (mark_in choice next) choice.limit (omega (arith, high, mark, of_run.limit_is)) in
+            subst (Scanned run w limit after (n + 1)) (sym (ap (λ b. cond b (better_open choice best next) best) test)) (full_more best scanned high))
+      ]
+    where
+      full_more : (b : Option Next) → Scanned run w limit before n b → limit ≤ mark_of run n row → Scanned run w limit after (n + 1) b
+      full_more None none high = none_open none high
+      full_more (Some b) best high = still_best b best (λ open_n. absurd (omega (arith, next_here, high, open_n)))
+
+      open_more : (b : Option Next) → Scanned run w limit before n b → mark_of run n row < limit
+          → Scanned run w limit after (n + 1) (better_open choice b next)
+      open_more None none low = new_best low (λ h below open_h. absurd (omega (arith, none h below, open_h)))
+      open_more (Some b) best low =
+          elim (cases_Bool (goes_first choice next b)) [
+            | inl e ↦ (
+                let over = GoesBefore-first choice run w limit of_run next b e in
+                subst (Scanned run w limit after (n + 1)) (sym (ap (λ t. cond t (Some next) (Some b)) e))
+                (new_best low (λ h below open_h. GoesBefore-trans run w n (mark_of run n row) b.strip (mark_of run b.strip b.row) h
+                (next_by run before h) over (best.first h below open_h))))
+            | inr e ↦ (
+                let under = GoesBefore-other choice run w limit of_run next b e in
+                subst (Scanned run w limit after (n + 1)) (sym (ap (λ t. cond t (Some next) (Some b)) e))
+                (still_best b best (λ open_n. subst (λ m. GoesBefore run w b.strip (mark_of run b.strip b.row) n m) (sym next_here) under)))
+          ]
+
+-- all strips were gone through
+pub Scanned-all :
+    (view : View) (w limit : ℕ) (best : Option Next) → Scanned view.run w limit (λ g. sees view (Counter g)) view.run.strips best
+    → MatchOption best (AllFull view limit) (λ next. IsOpen view w limit next.strip next.row)
+Scanned-all view w limit None none = λ g strip.
+    let cut = IsCutAt-quota view.run.strips g limit strip in
+    elim (cases_lt (sees view (Counter g)) (quota_of view.run.strips g limit)) [
+      | inl less ↦ absurd (omega (arith, cut.below_limit (sees view (Counter g)) less, none g strip))
+      | inr enough ↦ enough
+    ]
+Scanned-all view w limit (Some b) best =
+    record { strip = best.strip; row = best.row; low = best.low; first = λ h strip apart open_h. best.first h strip open_h }
+
+-- ---- that a claim ends
+
+-- how far the counters seen are from the limit
+abbrev pub left_over : ℕ → ℕ → (ℕ → ℕ) → ℕ
+left_over strips limit counters = sum_by (λ g. limit - counters g) (range_with_len 0 strips)
+
+sum_more : (f : ℕ → ℕ) (n : ℕ) → sum_by f (range_with_len 0 (suc n)) ≡ sum_by f (range_with_len 0 n) + f n
+sum_more f n =
+    let next : suc n ≡ n + 1 = omega arith in
+    ap (λ m. sum_by f (range_with_len 0 m)) next ∙ ap (sum_by f) (range-more n) ∙ sum_by_push f (range_with_len 0 n) n
+
+pub sum_down : (f h : ℕ → ℕ) (n : ℕ) → ((k : ℕ) → k < n → f k ≤ h k) → sum_by f (range_with_len 0 n) ≤ sum_by h (range_with_len 0 n)
+sum_down f h zero le = omega arith
+sum_down f h (suc n) le = omega (arith, sum_more f n, sum_more h n, sum_down f h n (λ k low. le k (omega (arith, low))), le n (omega arith))
+
+pub sum_less : (f h : ℕ → ℕ) (n k : ℕ) → k < n → ((j : ℕ) → j < n → f j ≤ h j) → f k < h k → sum_by f (range_with_len 0 n) < sum_by h (range_with_len 0 n)
+sum_less f h zero k low le less = absurd (omega (arith, low))
+sum_less f h (suc n) k low le less =
+    elim (cases_eq n k) [
+      | inl e ↦ omega (arith, sum_more f n, sum_more h n, sum_down f h n (λ j under. le j (omega (arith, under))), ap f e, ap h e, less)
+      | inr apart ↦
+          omega (
+            arith,
+            sum_more f n,
+            sum_more h n,
+            sum_less f h n k (omega (arith, low, apart)) (λ j under. le j (omega (arith, under))) less,
+            le n (omega arith),
+          )
+    ]

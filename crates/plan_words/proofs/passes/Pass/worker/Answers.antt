@@ -1,0 +1,6 @@
+use Rattle.std.proofs.Common.{sym, ◌∙◌}
+use Rattle.plan_words.proofs.Tying.{worker_few}
+use Rattle.plan_words.proofs.passes.Pass.worker.Goals as goal
+
+pub returns-in-Some-clause-few : goal.returns-in-Some-clause-few
+returns-in-Some-clause-few c = let tied = c.self.invariant.1 in worker_few _ _ tied.lawful (sym c.in-Some.is ∙ tied.member_is)

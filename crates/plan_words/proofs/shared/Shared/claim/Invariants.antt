@@ -1,0 +1,17 @@
+use Rattle.plan_words.specs.Claims.{KeepsHand}
+use Rattle.plan_words.specs.States.{BelongsTo}
+use Rattle.plan_words.proofs.Scanning.{left_over}
+use Rattle.plan_words.proofs.shared.Shared.claim.Given as goal
+use Rattle.step_core.specs.LaterViews.{IsLater}
+use Rattle.step_core.specs.Views.{sees}
+use Rattle.step_core.specs.WordNames.Word.{Counter}
+
+abbrev pub invariant-tries : goal.invariant-tries
+invariant-tries l = record {
+  belongs : BelongsTo l.pass l.self;
+  kept : KeepsHand l.fn.pass.view l.pass.view;
+  later : IsLater l.fn.pass.view l.pass.view;
+}
+
+abbrev pub decreases-tries : goal.decreases-tries
+decreases-tries l = left_over l.pass.view.run.strips l.limit (λ g. sees l.pass.view (Counter g))

@@ -1,0 +1,34 @@
+use Rattle.std.proofs.Common.{◌≡◌, ◌<◌, ap, arith, subst, sym}
+use Rattle.plan_words.proofs.Owning.{counter_most, looks_told, may_load_here, sees_told, same_run, same_table}
+use Rattle.plan_words.proofs.shared.Shared.taken.Goals as goal
+use Rattle.step_core.specs.WordNames.Word.{Counter}
+
+pub load-requires : goal.load-requires
+load-requires c =
+    let same = same_table _ _ _ _ c.pass.view_is c.self.view_is c.requires.belongs in
+    let own = same_run _ _ _ _ c.pass.view_is c.self.view_is c.requires.belongs in
+    let strip = subst (λ s. c.args.strip < s.task.scene.strips) (sym c.self.view_is) c.requires.strip in
+    may_load_here _ _ _ _ c.self.invariant _ _ _ _ (Counter c.args.strip) same own strip c.counter-place.ensures
+
+pub overflow_cast-result : goal.overflow_cast-result
+overflow_cast-result c =
+    let own = same_run _ _ _ _ c.pass.view_is c.self.view_is c.requires.belongs in
+    let strip = subst (λ s. c.args.strip < s.task.scene.strips) (sym c.self.view_is) c.requires.strip in
+    let here = subst (λ r. c.args.strip < r.strips) (sym own) strip in
+    let lawful = c.pass.invariant.1.lawful in
+    omega (arith, counter_most _ _ c.args.strip _ lawful here c.counter-place.ensures c.load.ensures.2.lawful, lawful.run.marks)
+
+pub returns-clause-seen : goal.returns-clause-seen
+returns-clause-seen c =
+    let own = same_run _ _ _ _ c.pass.view_is c.self.view_is c.requires.belongs in
+    let strip = subst (λ s. c.args.strip < s.task.scene.strips) (sym c.self.view_is) c.requires.strip in
+    let here = subst (λ r. c.args.strip < r.strips) (sym own) strip in
+    sees_told _ _ _ (Counter c.args.strip) _ _ (ap (λ p. p.view) c.pass.view_is) c.pass.invariant.1.lawful here c.counter-place.ensures c.load.ensures.2.view_is
+
+pub returns-clause-looked : goal.returns-clause-looked
+returns-clause-looked c =
+    let own = same_run _ _ _ _ c.pass.view_is c.self.view_is c.requires.belongs in
+    let strip = subst (λ s. c.args.strip < s.task.scene.strips) (sym c.self.view_is) c.requires.strip in
+    let here = subst (λ r. c.args.strip < r.strips) (sym own) strip in
+    looks_told _ _ _ (Counter c.args.strip) _ _ (ap (λ p. p.view) c.pass.view_is) c.pass.invariant.1.lawful here
+    c.counter-place.ensures c.load.ensures.2.view_is

@@ -1,0 +1,85 @@
+-- Which mark a claim takes, by the counters that the pass has seen.
+use Rattle.std.specs.Prelude.{◌≡◌, ◌≢◌, ℕ, ◌+◌, ◌*◌, ◌%◌, ◌<◌, ◌≤◌, ◌⊎◌, ◌==◌, nat_lt, max, Bool, true, false, Option, Some, None, if◌then◌else◌}
+use Rattle.plan_model.specs.MarkPoints.{quota_of, strip_of_mark}
+use Rattle.plan_words.specs.States.{worker_of}
+use Rattle.plan_words.specs.declared.claims.Choice.{Choice}
+use Rattle.plan_words.specs.declared.claims.Next.{Next}
+use Rattle.step_core.specs.ViewSteps.{mark_of}
+use Rattle.step_core.specs.Views.{last_look, sees}
+use Rattle.step_core.specs.WordNames.Word.{Counter}
+use Rattle.step_core.specs.declared.views.SharedRun.{SharedRun}
+use Rattle.step_core.specs.declared.views.Stage.TheVariants.{Claimed}
+use Rattle.step_core.specs.declared.views.View.{View}
+
+-- the next mark of strip g that is not claimed, by the counter seen
+abbrev pub next_mark : View → ℕ → ℕ
+next_mark view g = mark_of view.run g (sees view (Counter g))
+
+-- a worker looks after its own strips first
+abbrev pub is_own : SharedRun → ℕ → ℕ → Bool
+is_own run worker g = g % run.workers == worker
+
+-- For the worker, mark k of strip g goes before mark m of strip h: its own strips go before the others, and of two marks of either the
+-- lesser number.
+abbrev pub GoesBefore : SharedRun → ℕ → ℕ → ℕ → ℕ → ℕ → Type 0
+GoesBefore run worker g k h m =
+    ((is_own run worker g ≡ true) × (is_own run worker h ≡ false)) ⊎ ((is_own run worker g ≡ is_own run worker h) × (k ≤ m))
+
+-- mark k of strip g goes before the next mark of each other strip that has one below the limit
+abbrev pub IsFirst : View → ℕ → ℕ → ℕ → ℕ → Type 0
+IsFirst view worker limit g k =
+    (h : ℕ) → h < view.run.strips → h ≢ g → next_mark view h < limit → GoesBefore view.run worker g k h (next_mark view h)
+
+-- each strip's counter was loaded by a step after so many
+abbrev pub AllLoaded : View → ℕ → Type 0
+AllLoaded view steps = (g : ℕ) → g < view.run.strips → steps < last_look view (Counter g)
+
+-- each strip's counter was seen at or above its quota below the limit
+abbrev pub AllFull : View → ℕ → Type 0
+AllFull view limit = (g : ℕ) → g < view.run.strips → quota_of view.run.strips g limit ≤ sees view (Counter g)
+
+-- share, hand and limit stay
+pub record KeepsHand (before after : View) : Type 0 where
+  pub crew : after.crew ≡ before.crew
+  pub most : after.most ≡ before.most
+  pub hand : after.hand ≡ before.hand
+
+-- the next mark of strip g, in row c, is below the limit, and goes first
+pub record IsOpen (view : View) (worker limit g c : ℕ) : Type 0 where
+  pub strip : g < view.run.strips
+  pub row : c ≡ sees view (Counter g)
+  pub low : mark_of view.run g c < limit
+  pub first : IsFirst view worker limit g (mark_of view.run g c)
+
+-- Mark k was claimed: it is in hand, and went first by the counters seen. Its strip's counter had been lower, and is just above it.
+pub record IsClaimed (before after : View) (limit k : ℕ) : Type 0 where
+  pub low : k < limit
+  pub hand : after.hand ≡ Some (record { mark = k; stage = Claimed })
+  pub crew : after.crew ≡ before.crew
+  pub most : after.most ≡ max before.most limit
+  pub first : IsFirst after (worker_of before.crew) limit (strip_of_mark after.run.strips k) k
+  pub next : next_mark after (strip_of_mark after.run.strips k) ≡ k + after.run.strips
+  pub rose : sees before (Counter (strip_of_mark after.run.strips k)) < sees after (Counter (strip_of_mark after.run.strips k))
+
+-- ---- how a claim finds it
+
+abbrev pub mark_in : Choice → Next → ℕ
+mark_in choice next = next.row * choice.strips + next.strip
+
+abbrev pub owns : Choice → Next → Bool
+owns choice next = next.strip % choice.workers == choice.worker
+
+-- the one mark goes strictly before the other
+abbrev pub goes_first : Choice → Next → Next → Bool
+goes_first choice one other =
+    if owns choice one then (if owns choice other then nat_lt (mark_in choice one) (mark_in choice other) else true) else
+    (if owns choice other then false else nat_lt (mark_in choice one) (mark_in choice other))
+
+-- the better of the best so far and one below the limit
+abbrev pub better_open : Choice → Option Next → Next → Option Next
+better_open choice None next = Some next
+better_open choice (Some first) next = if goes_first choice next first then Some next else Some first
+
+-- the better of the best so far and one more
+abbrev pub better_of : Choice → Option Next → Next → Option Next
+better_of choice best next = if nat_lt (mark_in choice next) choice.limit then better_open choice best next else best

@@ -1,0 +1,108 @@
+-- What contracts see of a shared tree and of a pass, and what a table of words keeps.
+use Rattle.std.specs.Prelude.{◌≡◌, ℕ, ◌+◌, ◌<◌, Option, Some, None, List, [], ◌∷◌, length}
+use Rattle.atomic_table.specs.Seated.{TableId}
+use Rattle.plan_model.specs.declared.tasks.Task.{Task}
+use Rattle.plan_words.specs.declared.openings.Opening.{Opening}
+use Rattle.step_core.specs.GrownRuns.{words_of_grown}
+use Rattle.step_core.specs.LaterViews.{IsLawfulView}
+use Rattle.step_core.specs.PlacesOfWords.{sizes_in}
+use Rattle.step_core.specs.ViewStarts.{member_of, newcomer}
+use Rattle.step_core.specs.Views.{IsSharedRun, run_of, run_sizes, sees, share, words_of_run}
+use Rattle.step_core.specs.WordPlaces.{word_count}
+use Rattle.step_core.specs.Worlds.{IsWorld}
+use Rattle.step_core.specs.declared.grown.Grown.{Grown}
+use Rattle.step_core.specs.declared.views.Hand.{Hand}
+use Rattle.step_core.specs.declared.views.Member.{Member}
+use Rattle.step_core.specs.declared.views.SharedRun.{SharedRun}
+use Rattle.step_core.specs.declared.views.View.{View}
+use Rattle.step_core.specs.declared.word_places.WordPlaces.{WordPlaces}
+
+-- ---- a shared tree and its passes
+
+-- A shared tree: its table, the task that is planned, how many workers there are, and the limit of the run that they go on from.
+pub record SharedState : Type 0 where
+  pub table : TableId
+  pub task : Task
+  pub workers : ℕ
+  pub opening : ℕ
+
+abbrev pub run_in : SharedState → SharedRun
+run_in shared = run_of shared.task shared.workers shared.opening
+
+-- a pass: its table and its view
+pub record PassState : Type 0 where
+  pub table : TableId
+  pub view : View
+
+-- the pass was made or split from this very tree
+pub record BelongsTo (pass : PassState) (shared : SharedState) : Type 0 where
+  pub table : pass.table ≡ shared.table
+  pub run : pass.view.run ≡ run_in shared
+
+-- a pass of the tree that may claim a mark: it has a share, and nothing in hand
+pub record MayClaim (shared : SharedState) (pass : PassState) : Type 0 where
+  pub belongs : BelongsTo pass shared
+  pub part : 0 < share pass.view
+  pub idle : pass.view.hand ≡ None
+
+-- the pass, whose view is another now
+abbrev pub with_view : PassState → View → PassState
+with_view pass view = record pass { view = view }
+
+-- ---- what a table keeps
+
+abbrev pub run_of_opening : Opening → SharedRun
+run_of_opening opening = run_of opening.task opening.workers opening.limit
+
+abbrev pub first_view : Opening → View
+first_view opening = newcomer (run_of_opening opening) opening.words.items
+
+-- the law of worlds holds of the words in the table
+pub record HoldsWorld (run : SharedRun) (items : List ℕ) (views : List View) : Type 0 where
+  pub sized : length items ≡ word_count (run_sizes run)
+  pub world : IsWorld run (words_of_run run items) views
+
+-- the table is of this run
+pub record IsTableOf (table : TableId) (key : Opening) (run : SharedRun) (places : WordPlaces) : Type 0 where
+  pub key_is : run_of_opening key ≡ run
+  pub words : table.words ≡ word_count (run_sizes run)
+  pub slots : table.slots ≡ 0
+  pub places_are : sizes_in places ≡ run_sizes run
+  pub run_is : IsSharedRun run
+
+-- ---- what a pass keeps
+
+-- the worker that a pass works as, if it has a share
+abbrev pub first_of : List Member → Option Member
+first_of [] = None
+first_of (member ∷ crew) = Some member
+
+-- the number of that worker, and its next turn
+abbrev pub worker_of : List Member → ℕ
+worker_of [] = 0
+worker_of (member ∷ crew) = member.worker
+
+abbrev pub turn_of : List Member → ℕ
+turn_of [] = 0
+turn_of (member ∷ crew) = member.turn
+
+-- the worker after its turn
+abbrev pub turned : Option Member → Option Member
+turned None = None
+turned (Some member) = Some (record member { turn = member.turn + 1 })
+
+-- what the pass keeps is what its view says, and the view is lawful
+pub record IsTied (view : View) (member : Option Member) (hand : Option Hand) : Type 0 where
+  pub member_is : member ≡ first_of view.crew
+  pub hand_is : hand ≡ view.hand
+  pub lawful : IsLawfulView view
+
+-- ---- the start
+
+-- The pass of worker w begins with its worker's turns, and has seen all words.
+pub record StartsAs (shared : SharedState) (grown : Grown) (w : ℕ) (pass : PassState) : Type 0 where
+  pub belongs : BelongsTo pass shared
+  pub crew : pass.view.crew ≡ member_of (run_in shared) (words_of_grown grown) w ∷ []
+  pub most : pass.view.most ≡ grown.limit
+  pub hand : pass.view.hand ≡ None
+  pub seen : sees pass.view ≡ words_of_grown grown

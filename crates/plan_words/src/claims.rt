@@ -1,0 +1,174 @@
+//! Claims: the next mark of a strip is put into the hand of one pass.
+
+ghost use Rattle.std.specs.Prelude.{◌≡◌, ℕ, ◌+◌, ◌<◌, ◌≤◌, ◌==◌, if◌then◌else◌, length, None, IfNone, IfSome, MatchOption};
+ghost use Rattle.plan_words.specs.Claims.{AllFull, AllLoaded, IsClaimed, IsOpen, KeepsHand, better_of, goes_first};
+ghost use Rattle.plan_words.specs.States.{BelongsTo, run_in, with_view, worker_of};
+ghost use Rattle.step_core.specs.LaterViews.{IsLater};
+ghost use Rattle.step_core.specs.ViewSteps.{claimed, loaded, mark_of};
+ghost use Rattle.step_core.specs.Views.{sees, share};
+ghost use Rattle.step_core.specs.WordNames.{WritesWord};
+ghost use Rattle.step_core.specs.WordNames.Word.{Counter};
+
+use crate::openings::Aim;
+use crate::passes::Pass;
+use crate::rules::Claim;
+use crate::shared::Shared;
+use step_core::{Hand, Stage};
+
+/// The next mark of a strip: how many of its marks come before it.
+#[derive(Clone, Copy)]
+pub(crate) struct Next {
+    pub(crate) strip: u32,
+    pub(crate) row: u32,
+}
+
+/// Which of two next marks a worker takes.
+#[derive(Clone, Copy)]
+pub(crate) struct Choice {
+    pub(crate) strips: u32,
+    pub(crate) workers: u32,
+    pub(crate) worker: u32,
+    pub(crate) limit: u32,
+}
+
+impl Shared {
+    /// Claims a mark below the limit: it is in this pass's hand from now on. By the counters that this call loads, a worker's own
+    /// strips go before the others, and then the least number. Worker w of W owns the strips whose number leaves w when divided
+    /// by W. `None` if this call has seen each strip's counter at or above its quota below the limit.
+    pub fn claim(&self, pass: &mut Pass, limit: u32) -> Option<u32>
+        requires belongs { BelongsTo pass.old self.now }
+        requires part { 0 < share pass.old.view }
+        requires idle { pass.old.view.hand ≡ None }
+        requires low { self.now.opening ≤ limit }
+        requires limit { limit ≤ length self.now.task.marks }
+        ensures belongs { BelongsTo pass.new self.now }
+        ensures later { IsLater pass.old.view pass.new.view }
+        ensures loaded { AllLoaded pass.new.view pass.old.view.steps }
+        ensures none { IfNone result (KeepsHand pass.old.view pass.new.view × AllFull pass.new.view limit) }
+        ensures some { IfSome result (λ k. IsClaimed pass.old.view pass.new.view limit k) }
+    {
+        'tries: loop {
+            let next = self.first_open(pass, limit)?;
+            if self.exchange(pass, next, limit) == u64::from(next.row) {
+                return Some(next.row * self.task.scene.strips + next.strip);
+            }
+        }
+    }
+
+    /// Loads the counter of each strip, and returns the next mark that goes first.
+    fn first_open(&self, pass: &mut Pass, limit: u32) -> Option<Next>
+        requires belongs { BelongsTo pass.old self.now }
+        requires part { 0 < share pass.old.view }
+        ensures belongs { BelongsTo pass.new self.now }
+        ensures kept { KeepsHand pass.old.view pass.new.view }
+        ensures later { IsLater pass.old.view pass.new.view }
+        ensures loaded { AllLoaded pass.new.view pass.old.view.steps }
+        ensures first { MatchOption result (AllFull pass.new.view limit)
+            (λ next. IsOpen pass.new.view (worker_of pass.old.view.crew) limit next.strip next.row) }
+    {
+        let choice = Choice {
+            strips: self.task.scene.strips,
+            workers: self.workers,
+            worker: pass.worker(),
+            limit,
+        };
+        let mut best = None;
+        for strip in 0..choice.strips {
+            let row = self.taken(pass, strip);
+            best = choice.better(best, Next { strip, row });
+        }
+        best
+    }
+
+    /// Adds 1 to the counter of a strip if it is at this row, and then the mark is in hand. Returns what the counter was.
+    fn exchange(&self, pass: &mut Pass, next: Next, limit: u32) -> u64
+        requires belongs { BelongsTo pass.old self.now }
+        requires part { 0 < share pass.old.view }
+        requires idle { pass.old.view.hand ≡ None }
+        requires strip { next.strip < self.now.task.scene.strips }
+        requires low { mark_of (run_in self.now) next.strip next.row < limit }
+        requires limit { limit ≤ length self.now.task.marks }
+        ensures view { pass.new ≡ with_view pass.old
+            (if result == next.row then claimed pass.old.view next.strip next.row limit else loaded pass.old.view (Counter next.strip) result) }
+        ensures later { IsLater pass.old.view pass.new.view }
+        ensures seen { WritesWord (Counter next.strip) (if result == next.row then next.row + 1 else result) (sees pass.old.view) (sees pass.new.view) }
+    {
+        let row = u64::from(next.row);
+        let aim = Aim {
+            strip: next.strip,
+            limit,
+        };
+        let place = self.places.counter(next.strip as usize);
+        let found = self
+            .table
+            .shared
+            .compare_exchange_with::<Claim>(&mut pass.seat, place, row, row + 1, &aim);
+        if found == row {
+            pass.hand = Some(Hand {
+                mark: next.row * self.task.scene.strips + next.strip,
+                stage: Stage::Claimed,
+            });
+        }
+        found
+    }
+}
+
+impl Choice {
+    ghost use Rattle.plan_model.specs.declared.limits.TheConstants.{MOST_STRIPS};
+    ghost use Rattle.plan_words.specs.Claims.{mark_in, owns};
+
+    /// The better of the best so far and one more.
+    fn better(self, best: Option<Next>, next: Next) -> Option<Next>
+        requires strips { self.strips ≤ MOST_STRIPS }
+        requires workers { 0 < self.workers }
+        requires strip { next.strip < self.strips }
+        requires best { IfSome best (λ b. b.strip < self.strips) }
+        ensures { result ≡ better_of self best next }
+    {
+        if self.mark(next) >= u64::from(self.limit) {
+            return best;
+        }
+        match best {
+            None => Some(next),
+            Some(first) => {
+                if self.goes_first(next, first) {
+                    Some(next)
+                } else {
+                    Some(first)
+                }
+            }
+        }
+    }
+
+    /// The number of a next mark.
+    fn mark(self, next: Next) -> u64
+        requires strips { self.strips ≤ MOST_STRIPS }
+        requires strip { next.strip < self.strips }
+        ensures { result ≡ mark_in self next }
+    {
+        u64::from(next.row) * u64::from(self.strips) + u64::from(next.strip)
+    }
+
+    /// Whether its strip is one of the worker's own.
+    fn owns(self, next: Next) -> bool
+        requires { 0 < self.workers }
+        ensures { result ≡ owns self next }
+    {
+        next.strip % self.workers == self.worker
+    }
+
+    /// Whether the one mark goes before the other.
+    fn goes_first(self, one: Next, other: Next) -> bool
+        requires strips { self.strips ≤ MOST_STRIPS }
+        requires workers { 0 < self.workers }
+        requires strip { one.strip < self.strips }
+        requires strip_too { other.strip < self.strips }
+        ensures { result ≡ goes_first self one other }
+    {
+        match (self.owns(one), self.owns(other)) {
+            (true, false) => true,
+            (false, true) => false,
+            _ => self.mark(one) < self.mark(other),
+        }
+    }
+}

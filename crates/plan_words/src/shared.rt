@@ -1,0 +1,157 @@
+//! The shared words, and the steps that look at a number, record a mark, split a pass and join two.
+
+ghost use Rattle.std.specs.Prelude.{◌≡◌, ℕ, ◌+◌, ◌<◌, IfOk, None, IsSome, IfSome};
+ghost use Rattle.plan_model.specs.declared.limits.TheConstants.{MOST_MARKS};
+ghost use Rattle.plan_words.specs.States.{BelongsTo, MayClaim, turn_of, turned, with_view, worker_of};
+ghost use Rattle.step_core.specs.LaterViews.{IsLater};
+ghost use Rattle.step_core.specs.ViewSteps.{finished, joined, loaded, looker, stepped};
+ghost use Rattle.step_core.specs.Views.{last_look, sees};
+ghost use Rattle.step_core.specs.WordKinds.{AreBehind};
+ghost use Rattle.step_core.specs.WordNames.{WritesWord};
+ghost use Rattle.step_core.specs.WordNames.Word.{Count, Counter};
+ghost use Rattle.step_core.specs.Words.{FitsWord, record_word};
+
+use crate::openings::{Aim, Opening};
+use crate::passes::Pass;
+use crate::rules::{Finish, Load, Look, TakeOver, WorldLaw};
+use atomic_table::Table;
+use plan_model::{Memory, Record, Task};
+use std::alloc::Global;
+use std::marker::Model;
+use step_core::{Member, View, WordPlaces, pack_mark};
+
+/// The tree that several workers grow, as words of one table.
+#[derive(Drop)]
+pub struct Shared {
+    pub(crate) table: Table<Aim, View, Opening, WorldLaw, Global>,
+    pub(crate) task: Task,
+    pub(crate) workers: u32,
+    pub(crate) opening: u32,
+    pub(crate) places: WordPlaces,
+}
+
+impl Model for Shared {
+    ghost use Rattle.plan_words.specs.States.{IsTableOf, SharedState};
+    ghost use Rattle.step_core.specs.Views.{run_of};
+
+    ghost Value = { SharedState };
+
+    ghost view = { λ s. record { table = s.table.shared.table_id; task = s.task; workers = s.workers; opening = s.opening } };
+
+    ghost invariant = { λ s. IsTableOf s.table.shared.table_id s.table.shared.key (run_of s.task s.workers s.opening) s.places };
+}
+
+impl Shared {
+    /// The task that is planned.
+    pub fn task(&self) -> &Task
+        ensures { result.now ≡ self.now.task }
+    {
+        &self.task
+    }
+
+    /// Loads the count of nodes.
+    pub fn number(&self, pass: &mut Pass) -> u32
+        requires { BelongsTo pass.old self.now }
+        ensures view { pass.new ≡ with_view pass.old (loaded pass.old.view Count result) }
+        ensures later { IsLater pass.old.view pass.new.view }
+        // of all words this one is seen now, as it was found
+        ensures seen { WritesWord Count result (sees pass.old.view) (sees pass.new.view) }
+    {
+        self.table
+            .shared
+            .load::<Load>(&mut pass.seat, self.places.count()) as u32
+    }
+
+    /// Loads the counter of a strip: how many of its marks are claimed.
+    pub fn taken(&self, pass: &mut Pass, strip: u32) -> u32
+        requires belongs { BelongsTo pass.old self.now }
+        requires strip { strip < self.now.task.scene.strips }
+        ensures view { pass.new ≡ with_view pass.old (loaded pass.old.view (Counter strip) result) }
+        ensures later { IsLater pass.old.view pass.new.view }
+        // of all words this one is seen now, as it was found
+        ensures seen { WritesWord (Counter strip) result (sees pass.old.view) (sees pass.new.view) }
+        ensures looked { WritesWord (Counter strip) (pass.old.view.steps + 1) (last_look pass.old.view) (last_look pass.new.view) }
+    {
+        let place = self.places.counter(strip as usize);
+        self.table.shared.load::<Load>(&mut pass.seat, place) as u32
+    }
+
+    /// Stores the record of the mark in hand, which leaves the hand.
+    pub fn finish(&self, pass: &mut Pass, entry: Record)
+        requires belongs { BelongsTo pass.old self.now }
+        requires hand { IsSome pass.old.view.hand }
+        requires worker { entry.worker ≡ worker_of pass.old.view.crew }
+        requires turn { entry.turn ≡ turn_of pass.old.view.crew }
+        requires fits { FitsWord entry }
+        ensures view { IfSome pass.old.view.hand (λ hand. pass.new ≡ with_view pass.old (finished pass.old.view hand.mark (record_word entry))) }
+        ensures later { IsLater pass.old.view pass.new.view }
+        ensures may_claim { MayClaim self.now pass.new }
+    {
+        if let Some(hand) = pass.hand {
+            let place = self.places.record(hand.mark as usize);
+            self.table
+                .shared
+                .store::<Finish>(&mut pass.seat, place, pack_mark(&entry));
+            pass.hand = None;
+            pass.member = next_turn(pass.member);
+        }
+    }
+
+    /// A pass that only looks, and has seen all that this one has. It has no share, and so it can claim nothing.
+    ///
+    /// # Errors
+    ///
+    /// `Memory` if out of memory; nothing has changed then.
+    pub fn split(&self, pass: &mut Pass) -> Result<Pass, Memory>
+        requires { BelongsTo pass.old self.now }
+        ensures left { pass.new ≡ with_view pass.old (stepped pass.old.view) }
+        ensures right { IfOk result (λ other. other ≡ with_view pass.old (looker pass.old.view)) }
+    {
+        let seat = self.table.shared.split_seat::<Look>(&mut pass.seat);
+        Ok(Pass {
+            seat,
+            member: None,
+            hand: None,
+        })
+    }
+
+    /// Takes over another pass: its share, and what it has seen. Neither has a mark in hand.
+    pub fn join(&self, pass: &mut Pass, other: Pass)
+        requires belongs { BelongsTo pass.old self.now }
+        requires belongs_too { BelongsTo other self.now }
+        requires idle { pass.old.view.hand ≡ None }
+        requires idle_too { other.view.hand ≡ None }
+        ensures view { (count : ℕ) × (pass.new ≡ with_view pass.old (loaded (joined pass.old.view other.view) Count count)) }
+        ensures later { IsLater pass.old.view pass.new.view }
+        // it has seen at least what the other had
+        ensures others_seen { AreBehind (sees other.view) (sees pass.new.view) }
+    {
+        let Pass {
+            seat,
+            member,
+            hand: _,
+        } = other;
+        self.table
+            .shared
+            .join_seat::<TakeOver>(&mut pass.seat, seat);
+        let _count = self
+            .table
+            .shared
+            .load::<Load>(&mut pass.seat, self.places.count());
+        if pass.member.is_none() {
+            pass.member = member;
+        }
+    }
+}
+
+/// The worker after its turn.
+fn next_turn(member: Option<Member>) -> Option<Member>
+    requires { IfSome member (λ worker. worker.turn < MOST_MARKS) }
+    ensures { result ≡ turned member }
+{
+    let member = member?;
+    Some(Member {
+        worker: member.worker,
+        turn: member.turn + 1,
+    })
+}

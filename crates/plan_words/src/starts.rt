@@ -1,0 +1,138 @@
+//! How a shared tree begins: with the words of a closed run, and a pass for each worker.
+
+ghost use Rattle.std.specs.Prelude.{◌≡◌, ℕ, ◌≤◌, ◌<◌, None, [], ◌∷◌, All, length, IfOk, slice_index};
+ghost use lib.ListN.{get_elem?};
+ghost use mathlib.Core.Option.{some};
+ghost use Rattle.plan_model.specs.Turns.{turns_of};
+ghost use Rattle.plan_model.specs.declared.limits.TheConstants.{MOST_WORKERS};
+ghost use Rattle.plan_words.specs.States.{BelongsTo, MayClaim, PassState, StartsAs, run_in, with_view};
+ghost use Rattle.step_core.specs.GrownWords.{record_at, run_words, sizes_of};
+ghost use Rattle.step_core.specs.ViewSteps.{parted, second_alone, worker_apart};
+ghost use Rattle.step_core.specs.ViewStarts.{crew_from, member_of};
+ghost use Rattle.step_core.specs.Views.{sees};
+ghost use Rattle.step_core.specs.WordPlaces.{word_count};
+
+use crate::openings::Opening;
+use crate::passes::Pass;
+use crate::rules::HandOn;
+use crate::shared::Shared;
+use atomic_table::Table;
+use plan_model::{Memory, Task};
+use std::alloc::{AllocError, Global};
+use step_core::{Grown, Member, WordPlaces, read_mark};
+
+impl Shared {
+    /// The words of a run in one table, and a pass for each worker, in the order of their numbers, each with a share of 1. Each has
+    /// seen the whole run, and its next turn is the number of its worker's records there. Takes all memory that later steps need.
+    ///
+    /// # Errors
+    ///
+    /// `Memory` if out of memory.
+    pub fn start(alloc: Global, grown: Grown, workers: u32) -> Result<(Shared, Vec<Pass>), Memory>
+        requires some { 1 ≤ workers }
+        requires few { workers ≤ MOST_WORKERS }
+        ensures task { IfOk result (λ started. started.0.task ≡ grown.task) }
+        ensures workers { IfOk result (λ started. started.0.workers ≡ workers) }
+        ensures opening { IfOk result (λ started. started.0.opening ≡ grown.limit) }
+        ensures count { IfOk result (λ started. length started.1.items ≡ workers) }
+        ensures passes { IfOk result (λ started. (w : ℕ) (pass : PassState) → get_elem? started.1.items w ≡ some pass
+            → StartsAs started.0 grown w pass) }
+        ensures may_claim { IfOk result (λ started. All (MayClaim started.0) started.1.items) }
+    {
+        let (task, limit, words) = grown.into_words();
+        let turns = count_turns(alloc, &task, words.as_slice(), workers)?;
+        let opening = Opening {
+            task,
+            workers,
+            limit,
+            words,
+        };
+        let (table, seat) = Table::of_words(alloc, opening.words.as_slice(), &opening)?;
+        let Opening {
+            task,
+            workers,
+            limit,
+            words: _,
+        } = opening;
+        let places = WordPlaces::of(&task);
+        let shared = Shared {
+            table,
+            task,
+            workers,
+            opening: limit,
+            places,
+        };
+        let first = Pass {
+            seat,
+            member: Some(Member {
+                worker: 0,
+                turn: turns[0],
+            }),
+            hand: None,
+        };
+        let passes = shared.hand_out(alloc, first, turns.as_slice())?;
+        Ok((shared, passes))
+    }
+
+    /// The passes of all workers, made from the one that stands for them all.
+    fn hand_out(&self, alloc: Global, first: Pass, turns: &[u32]) -> Result<Vec<Pass>, AllocError>
+        requires some { 1 ≤ self.now.workers }
+        requires belongs { BelongsTo first self.now }
+        requires crew { first.view.crew ≡ crew_from (run_in self.now) (sees first.view) 0 self.now.workers }
+        requires hand { first.view.hand ≡ None }
+        requires counted { length turns.now ≡ self.now.workers }
+        requires turns { (w : ℕ) → w < self.now.workers
+            → slice_index turns.now w ≡ turns_of (record_at (sees first.view)) (length self.now.task.marks) w }
+        ensures count { IfOk result (λ passes. length passes.items ≡ self.now.workers) }
+        ensures passes { IfOk result (λ passes. (w : ℕ) (pass : PassState) → get_elem? passes.items w ≡ some pass
+            → BelongsTo pass self.now × (pass.view.crew ≡ member_of (run_in self.now) (sees first.view) w ∷ [])
+            × (pass.view.most ≡ first.view.most) × (pass.view.hand ≡ None) × (sees pass.view ≡ sees first.view)) }
+    {
+        let mut first = first;
+        let mut passes = Vec::new(alloc);
+        for worker in 1..self.workers {
+            passes.push(self.hand_on(&mut first, worker, turns[worker as usize]))?;
+        }
+        passes.insert(0, first)?;
+        Ok(passes)
+    }
+
+    /// The second worker that the pass stands for gets a pass of its own.
+    fn hand_on(&self, pass: &mut Pass, worker: u32, turn: u32) -> Pass
+        requires belongs { BelongsTo pass.old self.now }
+        requires second { second_alone pass.old.view.crew ≡ record { worker = worker; turn = turn } ∷ [] }
+        ensures left { pass.new ≡ with_view pass.old (parted pass.old.view) }
+        ensures right { result ≡ with_view pass.old (worker_apart pass.old.view) }
+    {
+        let seat = self.table.shared.split_seat::<HandOn>(&mut pass.seat);
+        Pass {
+            seat,
+            member: Some(Member { worker, turn }),
+            hand: None,
+        }
+    }
+}
+
+/// How many records each worker has in the words of a run. O(n) for n marks.
+fn count_turns(
+    alloc: Global,
+    task: &Task,
+    words: &[u64],
+    workers: u32,
+) -> Result<Vec<u32>, AllocError>
+    requires sized { length words.now ≡ word_count (sizes_of task.now) }
+    ensures count { IfOk result (λ turns. length turns.items ≡ workers) }
+    ensures each { IfOk result (λ turns. (w : ℕ) → w < workers
+        → slice_index turns.items w ≡ turns_of (record_at (run_words task.now words.now)) (length task.now.marks) w) }
+{
+    let places = WordPlaces::of(task);
+    let mut turns = Vec::from_elem(alloc, 0u32, workers as usize)?;
+    for mark in 0..places.marks() {
+        if let Some(entry) = read_mark(words[places.record(mark)], words[places.first(mark + 1)]) {
+            if entry.worker < workers {
+                turns[entry.worker as usize] += 1;
+            }
+        }
+    }
+    Ok(turns)
+}
