@@ -83,14 +83,31 @@ fn last_pass(shared: &Shared, passes: &mut Vec<Pass>) -> Option<Pass>
     passes.pop()
 }
 
+/// A shared tree, and its first, its second and its third pass.
+type Three = (Shared, Pass, Pass, Pass);
+
+/// Three passes that may claim these marks.
+fn three_passes(alloc: Global, marks: &[Point]) -> Result<Three, Fail>
+    requires { IsTrue (is_plan (Listed marks.now)) }
+    ensures opening { IfOk result (λ three. three.0.opening ≡ 0) }
+    ensures marks { IfOk result (λ three. three.0.task.marks ≡ marks.now) }
+    ensures strips { IfOk result (λ three. three.0.task.scene.strips ≡ 3) }
+    ensures first { IfOk result (λ three. MayClaim three.0 three.1) }
+    ensures second { IfOk result (λ three. MayClaim three.0 three.2) }
+    ensures third { IfOk result (λ three. MayClaim three.0 three.3) }
+{
+    let task = marks_in_strips(alloc, marks)?;
+    let grown = Grown::new(alloc, task)?;
+    let (shared, mut passes) = Shared::start(alloc, grown, 3)?;
+    let third = last_pass(&shared, &mut passes).ok_or(Memory)?;
+    let second = last_pass(&shared, &mut passes).ok_or(Memory)?;
+    let first = last_pass(&shared, &mut passes).ok_or(Memory)?;
+    Ok((shared, first, second, third))
+}
+
 #[test]
 fn three_passes_record_seven_marks_on_one_point(rt: HostRuntime) -> Result<(), Fail> {
-    let task = marks_in_strips(rt.alloc(), &[START; 7])?;
-    let grown = Grown::new(rt.alloc(), task)?;
-    let (shared, mut passes) = Shared::start(rt.alloc(), grown, 3)?;
-    let mut third = last_pass(&shared, &mut passes).ok_or(Memory)?;
-    let mut second = last_pass(&shared, &mut passes).ok_or(Memory)?;
-    let mut first = last_pass(&shared, &mut passes).ok_or(Memory)?;
+    let (shared, mut first, mut second, mut third) = three_passes(rt.alloc(), &[START; 7])?;
     expect_turn(&rt, &shared, &mut first, 7, Some(0));
     expect_turn(&rt, &shared, &mut second, 7, Some(1));
     expect_turn(&rt, &shared, &mut third, 7, Some(2));
@@ -104,5 +121,88 @@ fn three_passes_record_seven_marks_on_one_point(rt: HostRuntime) -> Result<(), F
     expect_turn(&rt, &shared, &mut third, 7, None);
     expect_turn(&rt, &shared, &mut second, 7, None);
     expect_turn(&rt, &shared, &mut first, 7, None);
+    Ok(())
+}
+
+#[test]
+fn a_worker_takes_its_own_strips_first(rt: HostRuntime) -> Result<(), Fail> {
+    let (shared, _, mut second, _) = three_passes(rt.alloc(), &[START; 7])?;
+    expect_turn(&rt, &shared, &mut second, 3, Some(1));
+    expect_turn(&rt, &shared, &mut second, 3, Some(0));
+    expect_turn(&rt, &shared, &mut second, 3, Some(2));
+    expect_turn(&rt, &shared, &mut second, 3, None);
+    expect_turn(&rt, &shared, &mut second, 7, Some(4));
+    expect_turn(&rt, &shared, &mut second, 7, Some(3));
+    expect_turn(&rt, &shared, &mut second, 7, Some(5));
+    expect_turn(&rt, &shared, &mut second, 7, Some(6));
+    expect_turn(&rt, &shared, &mut second, 7, None);
+    Ok(())
+}
+
+/// A pass, and the marks that it has claimed.
+#[derive(Drop)]
+struct Worker {
+    pass: Pass,
+    marks: Vec<u32>,
+}
+
+/// Claims and records marks until none below the limit is left.
+fn work(shared: &Shared, worker: &mut Worker, limit: u32)
+    requires may_claim { MayClaim shared.now worker.old.pass }
+    requires low { shared.now.opening ≤ limit }
+    requires limit { limit ≤ length shared.now.task.marks }
+{
+    'marks: for _ in 0..limit {
+        match take_turn(shared, &mut worker.pass, limit) {
+            Some(mark) => {
+                // a worker that is out of memory loses a mark, and the test fails
+                let _pushed = worker.marks.push(mark);
+            }
+            None => return,
+        }
+    }
+}
+
+/// A worker that has claimed nothing.
+fn worker_of(alloc: Global, shared: &Shared, pass: Pass) -> Worker
+    requires { MayClaim shared.now pass }
+    ensures { MayClaim shared.now result.pass }
+{
+    Worker {
+        pass,
+        marks: Vec::new(alloc),
+    }
+}
+
+/// The workers claim marks, each in a thread of its own.
+fn work_all<R: Threads + Sync>(rt: &R, shared: &Shared, workers: &mut [Worker], limit: u32)
+    requires may_claim { All (λ worker. MayClaim shared.now worker.pass) workers.old }
+    requires low { shared.now.opening ≤ limit }
+    requires limit { limit ≤ length shared.now.task.marks }
+{
+    thread::for_each_mut(rt, workers, 3, &|_, worker| work(shared, worker, limit));
+}
+
+/// The marks of all workers, in rising number.
+fn marks_of(alloc: Global, workers: &[Worker]) -> Result<Vec<u32>, Memory> {
+    let mut marks = Vec::new(alloc);
+    for worker in workers {
+        marks.extend_from_slice(worker.marks.as_slice())?;
+    }
+    marks.sort_unstable();
+    Ok(marks)
+}
+
+#[test]
+fn threads_claim_each_mark_once(rt: HostRuntime) -> Result<(), Fail> {
+    let points = [START; 3000];
+    let (shared, first, second, third) = three_passes(rt.alloc(), &points)?;
+    let first = worker_of(rt.alloc(), &shared, first);
+    let second = worker_of(rt.alloc(), &shared, second);
+    let third = worker_of(rt.alloc(), &shared, third);
+    let mut workers = [first, second, third];
+    work_all(&rt, &shared, &mut workers, 3000);
+    let marks = marks_of(rt.alloc(), &workers)?;
+    assert!(rt; marks.iter().copied().eq(0..3000));
     Ok(())
 }
