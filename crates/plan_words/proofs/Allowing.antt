@@ -1,16 +1,16 @@
 -- The steps of a seat, as the table asks for them: whatever its words are then, the law of worlds holds after the step.
-use Rattle.std.proofs.Common.{◌≡◌, ◌≢◌, ℕ, ◌+◌, ◌<◌, ◌≤◌, ◌^◌, Bool, true, false, List, [], ◌∷◌}
-use Rattle.std.proofs.Common.{◌++◌, length, set, Option, Some, None, refl, sym, ap, ◌∙◌, subst, inl, inr, arith}
+use Rattle.std.proofs.Common.{◌≡◌, ℕ, ◌+◌, ◌<◌, ◌≤◌, Bool, true, false, List, ◌∷◌}
+use Rattle.std.proofs.Common.{length, set, Some, None, refl, sym, ap, ◌∙◌, subst}
 use Rattle.std.specs.Prelude.{◌==◌, cond, slice_index, slice_set}
 use Rattle.std.proofs.lemmas.Bool.{eqb-true}
-use Rattle.std.proofs.lemmas.List.{get_or-set_same, length-set, set-get_or}
+use Rattle.std.proofs.lemmas.List.{length-set, set-get_or}
 use mathlib.Core.Option.{none, some}
 use prog.Atomic.{either}
 use lib.ListN.{get_elem?}
 use Rattle.atomic_table.specs.Table.{State, Me, Act, step, stepped, Valid, carried_after, Allows, Splits, Joins}
 use Rattle.atomic_table.specs.Table.Act.{keeps}
 use Rattle.plan_words.specs.declared.openings.Aim.{Aim}
-use Rattle.plan_words.specs.Plays.{Claims, Finishes, Loads, Tells}
+use Rattle.plan_words.specs.Plays.{Claims, Finishes, Loads}
 use Rattle.plan_words.specs.States.{HoldsWorld}
 use Rattle.step_core.specs.LaterViews.{IsLater, IsLawfulView}
 use Rattle.step_core.specs.ViewSteps.{claimed, finished, finished_at, joined, loaded, looker}
@@ -19,13 +19,14 @@ use Rattle.step_core.specs.Views.{run_sizes, share, spent, words_of_run}
 use Rattle.step_core.specs.WordNames.{Word, Words, WritesWord}
 use Rattle.step_core.specs.WordNames.Word.{Counter, RecordOf}
 use Rattle.step_core.specs.WordPlaces.{HasWord, place_of}
-use Rattle.step_core.specs.Words.{IsTurnWord}
+use Rattle.plan_model.specs.declared.records.Record.{Record}
+use Rattle.step_core.specs.Words.{FitsWord, record_word}
 use Rattle.step_core.specs.Worlds.{IsWorld}
 use Rattle.step_core.specs.declared.views.Hand.{Hand}
 use Rattle.step_core.specs.declared.views.Member.{Member}
 use Rattle.step_core.specs.declared.views.SharedRun.{SharedRun}
 use Rattle.step_core.specs.declared.views.View.{View}
-use Rattle.step_core.proofs.FinishedMarks.{IsWorld-finished, in_hand}
+use Rattle.step_core.proofs.FinishedMarks.{IsTurnWord-packed, IsWorld-recorded, in_hand}
 use Rattle.step_core.proofs.LaterViews.{IsLater-claimed, IsLater-finished, IsLater-loaded, IsLawfulView-world}
 use Rattle.step_core.proofs.ViewLists.{at-set}
 use Rattle.step_core.proofs.WordReads.{WritesWord-set, word-found}
@@ -148,25 +149,28 @@ module _ (run : SharedRun) where
   -- ---- records
 
   pub may_finish :
-      (slots id place x : ℕ) (me : Me Aim View) (hand : Hand) (member : Member) (crew : List Member) → place ≡ place_of (run_sizes run) (RecordOf hand.mark)
-      → me.0.run ≡ run → me.0.hand ≡ Some hand → me.0.crew ≡ member ∷ crew → IsTurnWord member.worker member.turn x
+      (slots id place x : ℕ) (me : Me Aim View) (hand : Hand) (member : Member) (crew : List Member) (entry : Record)
+      → place ≡ place_of (run_sizes run) (RecordOf hand.mark) → me.0.run ≡ run → me.0.hand ≡ Some hand → me.0.crew ≡ member ∷ crew → FitsWord entry
+      → entry.worker ≡ member.worker → entry.turn ≡ member.turn → x ≡ record_word entry
       → Allows (Holds run) slots id me place (λ y. x) (λ y. Finishes (step slots place x 0 none) me x)
-  may_finish slots id place x me hand member crew at_place own held crew_is turn s holds homes at fits =
+  may_finish slots id place x me hand member crew entry at_place own held crew_is fits worker turn is s holds homes at low =
       let words : Words = words_of_run run s.words in
       let after : Words = words_of_run run (slice_set s.words place x) in
       let mark = in_hand run words s.views id me.0 holds.world at hand held in
       let own_place : place_in me.0 (RecordOf hand.mark) ≡ place = ap (λ r. place_of (run_sizes r) (RecordOf hand.mark)) own ∙ sym at_place in
-      let same : finished me.0 hand.mark x ≡ finished_at me.0 place x = ap (λ n. finished_at me.0 n x) own_place in
-      let writes : WritesWord (RecordOf hand.mark) x words after =
-      WritesWord-set (run_sizes run) s.words place x x (RecordOf hand.mark) holds.sized mark.low at_place refl in
-      let world : IsWorld run after (set s.views id (finished me.0 hand.mark x)) =
-      IsWorld-finished run words after s.views id me.0 holds.world at own hand held member crew crew_is x turn.written turn.worker_is turn.turn_is writes in
+      let same : finished me.0 hand.mark (record_word entry) ≡ finished_at me.0 place x =
+      ap (λ n. finished_at me.0 n (record_word entry)) own_place ∙ ap (finished_at me.0 place) (sym is) in
+      let writes : WritesWord (RecordOf hand.mark) (record_word entry) words after =
+      WritesWord-set (run_sizes run) s.words place x (record_word entry) (RecordOf hand.mark) holds.sized mark.low at_place is in
+      let world : IsWorld run after (set s.views id (finished me.0 hand.mark (record_word entry))) =
+      IsWorld-recorded run words after s.views id me.0 holds.world at own hand held member crew crew_is entry fits worker turn writes in
+      let written = (IsTurnWord-packed entry fits).written in
       owes slots id place x me s (finished_at me.0 place x) (Finishes (step slots place x 0 none) me x) holds
       (subst (λ v. IsWorld run after (set s.views id v)) same world)
       record {
         view_is = refl;
-        later = subst (IsLater me.0) same (IsLater-finished run words s.views id me.0 holds.world at own hand held x turn.written);
-        lawful = subst IsLawfulView same (lawful after s.views id me.0 (finished me.0 hand.mark x) at world own);
+        later = subst (IsLater me.0) same (IsLater-finished run words s.views id me.0 holds.world at own hand held (record_word entry) written);
+        lawful = subst IsLawfulView same (lawful after s.views id me.0 (finished me.0 hand.mark (record_word entry)) at world own);
         slots = refl;
       }
 

@@ -1,17 +1,17 @@
 -- The scan of a claim over the views of its pass, and what a claim leaves.
-use Rattle.std.proofs.Common.{◌≡◌, ◌≢◌, ℕ, ◌+◌, ◌-◌, ◌*◌, ◌%◌, ◌<◌, ◌≤◌, max, Bool, true}
-use Rattle.std.proofs.Common.{false, Option, Some, None, refl, sym, ap, ◌∙◌, subst, inl, inr, arith}
-use Rattle.std.specs.Prelude.{◌⊎◌, ◌==◌, cond, MatchOption, IfNone, IfSome}
+use Rattle.std.proofs.Common.{◌≡◌, ◌≢◌, ℕ, ◌+◌, ◌-◌, ◌*◌, ◌%◌, ◌<◌, ◌≤◌, max, true}
+use Rattle.std.proofs.Common.{Option, Some, None, refl, sym, ap, ◌∙◌, subst, inl, inr, arith}
+use Rattle.std.specs.Prelude.{◌==◌, cond, MatchOption, IfNone, IfSome}
 use Rattle.std.proofs.lemmas.Bool.{cases_eq, eq-eqb, ne_eqb}
 use Rattle.std.proofs.lemmas.Nat.{mod-mul-add, mul-le}
 use Rattle.plan_words.specs.Claims.{AllFull, AllLoaded, GoesBefore, IsClaimed, IsFirst, IsOpen, KeepsHand, better_of, next_mark}
-use Rattle.plan_words.specs.States.{BelongsTo, PassState, SharedState, run_in, with_view, worker_of}
+use Rattle.plan_words.specs.States.{BelongsTo, PassState, SharedState, with_view, worker_of}
 use Rattle.plan_words.specs.declared.claims.Choice.{Choice}
 use Rattle.plan_words.specs.declared.claims.Next.{Next}
 use Rattle.step_core.specs.LaterViews.{IsLater}
 use Rattle.step_core.specs.ViewSteps.{claimed, loaded, mark_of}
 use Rattle.step_core.specs.Views.{last_look, sees}
-use Rattle.step_core.specs.WordNames.{WritesWord}
+use Rattle.step_core.specs.WordNames.{ChangesOnly, IsCounter, Words, WritesWord}
 use Rattle.step_core.specs.WordNames.Word.{Counter}
 use Rattle.step_core.specs.declared.views.SharedRun.{SharedRun}
 use Rattle.step_core.specs.declared.views.View.{View}
@@ -38,6 +38,14 @@ loaded_more n steps view then loaded looked order later g low =
       | inr apart ↦ omega (arith, looked.others (Counter g) (λ e. apart cc), loaded g (omega (arith, low, apart)))
     ]
 
+-- no word but counters is seen anew
+pub counters_twice : (before mid after : Words) → ChangesOnly IsCounter before mid → ChangesOnly IsCounter mid after → ChangesOnly IsCounter before after
+counters_twice before mid after first then name apart = then name apart ∙ first name apart
+
+pub counters_changed :
+    (g x : ℕ) (before mid after : Words) → ChangesOnly IsCounter before mid → WritesWord (Counter g) x mid after → ChangesOnly IsCounter before after
+counters_changed g x before mid after first writes name apart = writes.others name (λ e. apart (subst IsCounter (sym e) tt)) ∙ first name apart
+
 -- the best strip so far is one of those gone through
 pub best_strip :
     (run : SharedRun) (w limit : ℕ) (counters : ℕ → ℕ) (n strips : ℕ) (best : Option Next) → Scanned run w limit counters n best → n < strips
@@ -49,7 +57,7 @@ pub scan_more :
     (shared : SharedState) (strips workers worker limit n x w : ℕ) (pass after : PassState) (best : Option Next) {then : Option Next} → BelongsTo pass shared
     → strips ≡ shared.task.scene.strips → workers ≡ shared.workers → worker ≡ w → after ≡ with_view pass (loaded pass.view (Counter n) x)
     → WritesWord (Counter n) x (sees pass.view) (sees after.view) → Scanned pass.view.run w limit (λ g. sees pass.view (Counter g)) n best
-    → then ≡ better_of (record { strips = strips; workers = workers; worker = worker; limit = limit }) best (record { strip = n; row = x })
+    → then ≡ better_of (record { strips = strips; workers = workers; worker = worker; limit = limit }) best (record { strip = n; round = x })
     → Scanned after.view.run w limit (λ g. sees after.view (Counter g)) (n + 1) then
 scan_more shared strips workers worker limit n x w pass after best {then} belongs strips_are workers_are worker_is is seen scanned better =
     let choice : Choice = record { strips = strips; workers = workers; worker = worker; limit = limit } in
@@ -72,7 +80,7 @@ pub scan_ends :
     (shared : SharedState) (strips limit n w : ℕ) {pass : PassState} (best : Option Next) → BelongsTo pass shared → strips ≡ shared.task.scene.strips
     → n ≡ strips
     → Scanned pass.view.run w limit (λ g. sees pass.view (Counter g)) n best
-    → MatchOption best (AllFull pass.view limit) (λ next. IsOpen pass.view w limit next.strip next.row)
+    → MatchOption best (AllFull pass.view limit) (λ next. IsOpen pass.view w limit next.strip next.round)
 scan_ends shared strips limit n w {pass} best belongs strips_are all scanned =
     Scanned-all pass.view w limit best
     (subst (λ m. Scanned pass.view.run w limit (λ g. sees pass.view (Counter g)) m best) (all ∙ strips_are ∙ sym (ap (λ r. r.strips) belongs.run)) scanned)
@@ -94,7 +102,7 @@ loaded_before steps more view loaded order g strip = omega (arith, loaded g stri
 pub KeepsHand-trans : (before mid after : View) → KeepsHand before mid → KeepsHand mid after → KeepsHand before after
 KeepsHand-trans before mid after first then = record { crew = then.crew ∙ first.crew; most = then.most ∙ first.most; hand = then.hand ∙ first.hand }
 
--- the mark of an open strip is claimed by an exchange that finds its row
+-- the mark of an open strip is claimed by an exchange that finds its round
 pub IsClaimed-exchanged :
     (shared : SharedState) (strips limit g c x : ℕ) (before : View) (mid after : PassState) → strips ≡ shared.task.scene.strips → BelongsTo mid shared
     → KeepsHand before mid.view → IsLater before mid.view → IsOpen mid.view (worker_of before.crew) limit g c → x ≡ c
@@ -123,7 +131,7 @@ IsClaimed-exchanged shared strips limit g c x before mid after strips_are belong
           subst (λ s. next_mark after.view s ≡ c * strips + g + after.view.run.strips) (sym strip)
           (next_is now own here);
       rose =
-          subst (λ s. sees before (Counter s) < sees after.view (Counter s)) (sym strip) (omega (arith, later.seen (Counter g), open_g.row, here));
+          subst (λ s. sees before (Counter s) < sees after.view (Counter s)) (sym strip) (omega (arith, later.seen (Counter g), open_g.round, here));
     }
   where
     next_is : after.view ≡ claimed mid.view g c limit → mid.view.run.strips ≡ strips → sees after.view (Counter g) ≡ c + 1
@@ -161,7 +169,7 @@ claim_nearer limit g c x first mid after some_strip to_mid to_after open_g other
     sum_down (λ h. limit - sees mid.view (Counter h)) (λ h. limit - sees first (Counter h)) G (λ h strip. omega (arith, to_mid.seen (Counter h))) in
     let less : left_over G limit (λ h. sees after.view (Counter h)) < left_over G limit (λ h. sees mid.view (Counter h)) =
     sum_less (λ h. limit - sees after.view (Counter h)) (λ h. limit - sees mid.view (Counter h)) G g open_g.strip
-    (λ h strip. omega (arith, to_after.seen (Counter h))) (omega (arith, here, open_g.row, other, to_after.seen (Counter g), low)) in
+    (λ h strip. omega (arith, to_after.seen (Counter h))) (omega (arith, here, open_g.round, other, to_after.seen (Counter g), low)) in
     let a : left_over after.view.run.strips limit (λ h. sees after.view (Counter h)) ≡ left_over G limit (λ h. sees after.view (Counter h)) =
     ap (λ r. left_over r.strips limit (λ h. sees after.view (Counter h))) to_after.run in
     let b : left_over first.run.strips limit (λ h. sees first (Counter h)) ≡ left_over G limit (λ h. sees first (Counter h)) =

@@ -1,5 +1,5 @@
 -- What a call of a shared tree owes to its table, and what a load tells, by what the tree and the pass keep.
-use Rattle.std.proofs.Common.{◌≡◌, ℕ, ◌+◌, ◌<◌, ◌≤◌, ◌^◌, Bool, true, false, List, [], ◌∷◌, length, Option, Some, None, refl, sym, ap, ◌∙◌, subst, arith}
+use Rattle.std.proofs.Common.{◌≡◌, ℕ, ◌+◌, ◌<◌, ◌≤◌, ◌^◌, Bool, true, false, List, [], ◌∷◌, length, Some, None, refl, sym, ap, ◌∙◌, subst, arith}
 use Rattle.std.specs.Prelude.{◌==◌, cond}
 use mathlib.Core.Option.{none, some}
 use prog.Atomic.{either}
@@ -14,8 +14,9 @@ use Rattle.step_core.specs.ViewSteps.{claimed, joined, loaded, looker, mark_of, 
 use Rattle.step_core.specs.Views.{last_look, run_sizes, sees, share, spent}
 use Rattle.step_core.specs.WordNames.{Word, WritesWord}
 use Rattle.step_core.specs.WordNames.Word.{Count, Counter, RecordOf}
-use Rattle.step_core.specs.WordPlaces.{HasWord, place_of, word_count}
-use Rattle.step_core.specs.Words.{IsTurnWord}
+use Rattle.step_core.specs.WordPlaces.{HasWord, place_of}
+use Rattle.plan_model.specs.declared.records.Record.{Record}
+use Rattle.step_core.specs.Words.{FitsWord, record_word}
 use Rattle.step_core.specs.declared.views.Hand.{Hand}
 use Rattle.step_core.specs.declared.views.Member.{Member}
 use Rattle.step_core.specs.declared.views.SharedRun.{SharedRun}
@@ -63,15 +64,15 @@ module _ (table : TableId) (key : Opening) (run : SharedRun) (places : WordPlace
   )
 
   pub may_finish_here :
-      (seat : TableId) (id place x : ℕ) (me : Me Aim View) (hand : Hand) (member : Member) (crew : List Member) → seat ≡ table → me.0.run ≡ run
-      → place ≡ place_of (run_sizes run) (RecordOf hand.mark) → hand.mark < length run.marks → me.0.hand ≡ Some hand → me.0.crew ≡ member ∷ crew
-      → IsTurnWord member.worker member.turn x
+      (seat : TableId) (id place x : ℕ) (me : Me Aim View) (hand : Hand) (member : Member) (crew : List Member) (entry : Record) → seat ≡ table
+      → me.0.run ≡ run → place ≡ place_of (run_sizes run) (RecordOf hand.mark) → hand.mark < length run.marks → me.0.hand ≡ Some hand
+      → me.0.crew ≡ member ∷ crew → FitsWord entry → entry.worker ≡ member.worker → entry.turn ≡ member.turn → x ≡ record_word entry
       → (seat ≡ table) × (place < table.words) × Allows (Kept key) table.slots id me place (λ y. x) (λ y. Finishes (step table.slots place x 0 none) me x)
-  may_finish_here seat id place x me hand member crew same own at_place low held crew_is turn = (
+  may_finish_here seat id place x me hand member crew entry same own at_place low held crew_is entry_fits worker turn is = (
     same,
     within (RecordOf hand.mark) place low at_place,
     subst (λ r. Allows (Holds r) table.slots id me place (λ y. x) (λ y. Finishes (step table.slots place x 0 none) me x)) (sym fits.key_is)
-        (may_finish run table.slots id place x me hand member crew at_place own held crew_is turn),
+        (may_finish run table.slots id place x me hand member crew entry at_place own held crew_is entry_fits worker turn is),
   )
 
   pub may_look_here : (seat : TableId) (id : ℕ) (view : View) → seat ≡ table → view.run ≡ run

@@ -1,15 +1,14 @@
 -- The strips are gone through one by one: of those below a number, the best next mark is known. A claim that fails has seen more.
 use Rattle.std.proofs.Common.{◌≡◌, ◌≢◌, ℕ, zero, suc, ◌+◌, ◌-◌, ◌*◌, ◌%◌, ◌<◌, ◌≤◌, Bool, true}
-use Rattle.std.proofs.Common.{false, List, Option, Some, None, refl, sym, ap, ◌∙◌, subst, inl, inr, arith, le_refl}
-use Rattle.std.specs.Prelude.{◌⊎◌, ◌==◌, nat_lt, cond, MatchOption, IfSome}
+use Rattle.std.proofs.Common.{false, Option, Some, None, refl, sym, ap, ◌∙◌, subst, inl, inr, arith}
+use Rattle.std.specs.Prelude.{◌==◌, nat_lt, cond, MatchOption}
 use Rattle.std.specs.List.{range_with_len, sum_by}
 use Rattle.std.proofs.lemmas.Bool.{cases_Bool, cases_eq, cases_lt, le-ltb, lt-ltb, ltb-true}
 use Rattle.std.proofs.lemmas.List.Sums.{sum_by_push}
-use Rattle.std.proofs.lemmas.Nat.{mod-mul-add, mul-le}
 use Rattle.plan_model.specs.MarkPoints.{quota_of}
 use Rattle.plan_model.proofs.CountsBelow.{range-more}
 use Rattle.plan_model.proofs.QuotaLaws.{IsCutAt-quota}
-use Rattle.plan_words.specs.Claims.{AllFull, GoesBefore, IsFirst, IsOpen, better_of, better_open, goes_first, is_own, mark_in, next_mark, owns}
+use Rattle.plan_words.specs.Claims.{AllFull, GoesBefore, IsOpen, better_of, better_open, goes_first, is_own, mark_in, owns}
 use Rattle.plan_words.specs.declared.claims.Choice.{Choice}
 use Rattle.plan_words.specs.declared.claims.Next.{Next}
 use Rattle.step_core.specs.ViewSteps.{mark_of}
@@ -35,22 +34,22 @@ pub record IsChoiceOf (choice : Choice) (run : SharedRun) (w limit : ℕ) : Type
   pub limit_is : choice.limit ≡ limit
 
 module _ (choice : Choice) (run : SharedRun) (w limit : ℕ) (of_run : IsChoiceOf choice run w limit) where
-  mark_is : (next : Next) → mark_in choice next ≡ mark_of run next.strip next.row
-  mark_is next = ap (λ s. next.row * s + next.strip) of_run.strips
+  mark_is : (next : Next) → mark_in choice next ≡ mark_of run next.strip next.round
+  mark_is next = ap (λ s. next.round * s + next.strip) of_run.strips
 
   owns_is : (next : Next) → owns choice next ≡ is_own run w next.strip
   owns_is next = ap (λ n. next.strip % n == choice.worker) of_run.workers ∙ ap (λ n. next.strip % run.workers == n) of_run.worker
 
   -- what the test says
   pub GoesBefore-first : (one other : Next) → goes_first choice one other ≡ true
-      → GoesBefore run w one.strip (mark_of run one.strip one.row) other.strip (mark_of run other.strip other.row)
+      → GoesBefore run w one.strip (mark_of run one.strip one.round) other.strip (mark_of run other.strip other.round)
   GoesBefore-first one other e = by_test (owns choice one) refl (owns choice other) refl e
     where
       by_test :
           (a : Bool) → owns choice one ≡ a → (b : Bool) → owns choice other ≡ b
           → cond a (cond b (nat_lt (mark_in choice one) (mark_in choice other)) true)
           (cond b false (nat_lt (mark_in choice one) (mark_in choice other))) ≡ true
-          → GoesBefore run w one.strip (mark_of run one.strip one.row) other.strip (mark_of run other.strip other.row)
+          → GoesBefore run w one.strip (mark_of run one.strip one.round) other.strip (mark_of run other.strip other.round)
       by_test true p true q h =
           inr (
             sym (owns_is one) ∙ p ∙ sym q ∙ owns_is other,
@@ -65,10 +64,10 @@ module _ (choice : Choice) (run : SharedRun) (w limit : ℕ) (of_run : IsChoiceO
           )
 
   pub GoesBefore-other : (one other : Next) → goes_first choice one other ≡ false
-      → GoesBefore run w other.strip (mark_of run other.strip other.row) one.strip (mark_of run one.strip one.row)
+      → GoesBefore run w other.strip (mark_of run other.strip other.round) one.strip (mark_of run one.strip one.round)
   GoesBefore-other one other e = by_test (owns choice one) refl (owns choice other) refl e
     where
-      not_less : nat_lt (mark_in choice one) (mark_in choice other) ≡ false → mark_of run other.strip other.row ≤ mark_of run one.strip one.row
+      not_less : nat_lt (mark_in choice one) (mark_in choice other) ≡ false → mark_of run other.strip other.round ≤ mark_of run one.strip one.round
       not_less h = elim (cases_lt (mark_in choice one) (mark_in choice other)) [
         | inl less ↦ (let yes = sym (lt-ltb (mark_in choice one) (mark_in choice other) less) ∙ h in cc)
         | inr enough ↦ omega (arith, enough, mark_is one, mark_is other)
@@ -78,7 +77,7 @@ module _ (choice : Choice) (run : SharedRun) (w limit : ℕ) (of_run : IsChoiceO
           (a : Bool) → owns choice one ≡ a → (b : Bool) → owns choice other ≡ b
           → cond a (cond b (nat_lt (mark_in choice one) (mark_in choice other)) true)
           (cond b false (nat_lt (mark_in choice one) (mark_in choice other))) ≡ false
-          → GoesBefore run w other.strip (mark_of run other.strip other.row) one.strip (mark_of run one.strip one.row)
+          → GoesBefore run w other.strip (mark_of run other.strip other.round) one.strip (mark_of run one.strip one.round)
       by_test true p true q h = inr (sym (owns_is other) ∙ q ∙ sym p ∙ owns_is one, not_less h)
       by_test true p false q h = cc
       by_test false p true q h = inl (sym (owns_is other) ∙ q, sym (owns_is one) ∙ p)
@@ -93,9 +92,9 @@ next_by run counters h = mark_of run h (counters h)
 -- of the strips below n, this next mark goes first
 pub record IsBest (run : SharedRun) (w limit : ℕ) (counters : ℕ → ℕ) (n : ℕ) (b : Next) : Type 0 where
   pub strip : b.strip < n
-  pub row : b.row ≡ counters b.strip
-  pub low : mark_of run b.strip b.row < limit
-  pub first : (h : ℕ) → h < n → next_by run counters h < limit → GoesBefore run w b.strip (mark_of run b.strip b.row) h (next_by run counters h)
+  pub round : b.round ≡ counters b.strip
+  pub low : mark_of run b.strip b.round < limit
+  pub first : (h : ℕ) → h < n → next_by run counters h < limit → GoesBefore run w b.strip (mark_of run b.strip b.round) h (next_by run counters h)
 
 -- none of the strips below n has a next mark below the limit
 abbrev pub NoneOpen : SharedRun → ℕ → (ℕ → ℕ) → ℕ → Type 0
@@ -104,12 +103,12 @@ NoneOpen run limit counters n = (h : ℕ) → h < n → limit ≤ next_by run co
 abbrev pub Scanned : SharedRun → ℕ → ℕ → (ℕ → ℕ) → ℕ → Option Next → Type 0
 Scanned run w limit counters n best = MatchOption best (NoneOpen run limit counters n) (IsBest run w limit counters n)
 
-module _ (choice : Choice) (run : SharedRun) (w limit : ℕ) (of_run : IsChoiceOf choice run w limit) (before after : ℕ → ℕ) (n row : ℕ)
-    (here : after n ≡ row) (others : (h : ℕ) → h ≢ n → after h ≡ before h) where
+module _ (choice : Choice) (run : SharedRun) (w limit : ℕ) (of_run : IsChoiceOf choice run w limit) (before after : ℕ → ℕ) (n round : ℕ)
+    (here : after n ≡ round) (others : (h : ℕ) → h ≢ n → after h ≡ before h) where
   abbrev next : Next
-  next = record { strip = n; row = row }
+  next = record { strip = n; round = round }
 
-  next_here : next_by run after n ≡ mark_of run n row
+  next_here : next_by run after n ≡ mark_of run n round
   next_here = ap (mark_of run n) here
 
   next_other : (h : ℕ) → h < n → next_by run after h ≡ next_by run before h
@@ -118,45 +117,45 @@ module _ (choice : Choice) (run : SharedRun) (w limit : ℕ) (of_run : IsChoiceO
   -- a best strip below n stays the best, where strip n has none better
   still_best :
       (b : Next) → IsBest run w limit before n b
-      → (next_by run after n < limit → GoesBefore run w b.strip (mark_of run b.strip b.row) n (next_by run after n)) → IsBest run w limit after (n + 1) b
+      → (next_by run after n < limit → GoesBefore run w b.strip (mark_of run b.strip b.round) n (next_by run after n)) → IsBest run w limit after (n + 1) b
   still_best b best over = record {
     strip = omega (arith, best.strip);
-    row = best.row ∙ sym (others b.strip (λ e. omega (arith, best.strip, e)));
+    round = best.round ∙ sym (others b.strip (λ e. omega (arith, best.strip, e)));
     low = best.low;
     first = λ h low open_h.
         elim (cases_eq h n) [
           | inl e ↦
-              subst (λ g. GoesBefore run w b.strip (mark_of run b.strip b.row) g (next_by run after g)) (sym e)
+              subst (λ g. GoesBefore run w b.strip (mark_of run b.strip b.round) g (next_by run after g)) (sym e)
               (over (subst (λ g. next_by run after g < limit) e open_h))
           | inr apart ↦ (
               let below : h < n = omega (arith, low, apart) in
               let same = next_other h below in
-              subst (λ m. GoesBefore run w b.strip (mark_of run b.strip b.row) h m) (sym same) (best.first h below (omega (arith, open_h, same))))
+              subst (λ m. GoesBefore run w b.strip (mark_of run b.strip b.round) h m) (sym same) (best.first h below (omega (arith, open_h, same))))
         ];
   }
 
   -- strip n is the best, where it goes before all that are open below
   new_best :
-      mark_of run n row < limit
-      → ((h : ℕ) → h < n → next_by run before h < limit → GoesBefore run w n (mark_of run n row) h (next_by run before h))
+      mark_of run n round < limit
+      → ((h : ℕ) → h < n → next_by run before h < limit → GoesBefore run w n (mark_of run n round) h (next_by run before h))
       → IsBest run w limit after (n + 1) next
   new_best low over = record {
     strip = omega arith;
-    row = sym here;
+    round = sym here;
     low = low;
     first = λ h below open_h.
         elim (cases_eq h n) [
           | inl e ↦
-              subst (λ g. GoesBefore run w n (mark_of run n row) g (next_by run after g)) (sym e)
+              subst (λ g. GoesBefore run w n (mark_of run n round) g (next_by run after g)) (sym e)
               (inr (refl, omega (arith, next_here)))
           | inr apart ↦ (
               let under : h < n = omega (arith, below, apart) in
               let same = next_other h under in
-              subst (λ m. GoesBefore run w n (mark_of run n row) h m) (sym same) (over h under (omega (arith, open_h, same))))
+              subst (λ m. GoesBefore run w n (mark_of run n round) h m) (sym same) (over h under (omega (arith, open_h, same))))
         ];
   }
 
-  none_open : NoneOpen run limit before n → limit ≤ mark_of run n row → NoneOpen run limit after (n + 1)
+  none_open : NoneOpen run limit before n → limit ≤ mark_of run n round → NoneOpen run limit after (n + 1)
   none_open none high h low =
       elim (cases_eq h n) [
         | inl e ↦ subst (λ g. limit ≤ next_by run after g) (sym e) (omega (arith, next_here, high))
@@ -165,8 +164,8 @@ module _ (choice : Choice) (run : SharedRun) (w limit : ℕ) (of_run : IsChoiceO
 
   pub Scanned-more : (best : Option Next) → Scanned run w limit before n best → Scanned run w limit after (n + 1) (better_of choice best next)
   Scanned-more best scanned =
-      let mark : mark_in choice next ≡ mark_of run n row = ap (λ s. row * s + n) of_run.strips in
-      elim (cases_lt (mark_of run n row) limit) [
+      let mark : mark_in choice next ≡ mark_of run n round = ap (λ s. round * s + n) of_run.strips in
+      elim (cases_lt (mark_of run n round) limit) [
         | inl low ↦ (
             let test : nat_lt (mark_in choice next) choice.limit ≡ true =
             lt-ltb (mark_in choice next) choice.limit (omega (arith, low, mark, of_run.limit_is)) in
@@ -177,11 +176,11 @@ module _ (choice : Choice) (run : SharedRun) (w limit : ℕ) (of_run : IsChoiceO
             subst (Scanned run w limit after (n + 1)) (sym (ap (λ b. cond b (better_open choice best next) best) test)) (full_more best scanned high))
       ]
     where
-      full_more : (b : Option Next) → Scanned run w limit before n b → limit ≤ mark_of run n row → Scanned run w limit after (n + 1) b
+      full_more : (b : Option Next) → Scanned run w limit before n b → limit ≤ mark_of run n round → Scanned run w limit after (n + 1) b
       full_more None none high = none_open none high
       full_more (Some b) best high = still_best b best (λ open_n. absurd (omega (arith, next_here, high, open_n)))
 
-      open_more : (b : Option Next) → Scanned run w limit before n b → mark_of run n row < limit
+      open_more : (b : Option Next) → Scanned run w limit before n b → mark_of run n round < limit
           → Scanned run w limit after (n + 1) (better_open choice b next)
       open_more None none low = new_best low (λ h below open_h. absurd (omega (arith, none h below, open_h)))
       open_more (Some b) best low =
@@ -189,18 +188,18 @@ module _ (choice : Choice) (run : SharedRun) (w limit : ℕ) (of_run : IsChoiceO
             | inl e ↦ (
                 let over = GoesBefore-first choice run w limit of_run next b e in
                 subst (Scanned run w limit after (n + 1)) (sym (ap (λ t. cond t (Some next) (Some b)) e))
-                (new_best low (λ h below open_h. GoesBefore-trans run w n (mark_of run n row) b.strip (mark_of run b.strip b.row) h
+                (new_best low (λ h below open_h. GoesBefore-trans run w n (mark_of run n round) b.strip (mark_of run b.strip b.round) h
                 (next_by run before h) over (best.first h below open_h))))
             | inr e ↦ (
                 let under = GoesBefore-other choice run w limit of_run next b e in
                 subst (Scanned run w limit after (n + 1)) (sym (ap (λ t. cond t (Some next) (Some b)) e))
-                (still_best b best (λ open_n. subst (λ m. GoesBefore run w b.strip (mark_of run b.strip b.row) n m) (sym next_here) under)))
+                (still_best b best (λ open_n. subst (λ m. GoesBefore run w b.strip (mark_of run b.strip b.round) n m) (sym next_here) under)))
           ]
 
 -- all strips were gone through
 pub Scanned-all :
     (view : View) (w limit : ℕ) (best : Option Next) → Scanned view.run w limit (λ g. sees view (Counter g)) view.run.strips best
-    → MatchOption best (AllFull view limit) (λ next. IsOpen view w limit next.strip next.row)
+    → MatchOption best (AllFull view limit) (λ next. IsOpen view w limit next.strip next.round)
 Scanned-all view w limit None none = λ g strip.
     let cut = IsCutAt-quota view.run.strips g limit strip in
     elim (cases_lt (sees view (Counter g)) (quota_of view.run.strips g limit)) [
@@ -208,7 +207,7 @@ Scanned-all view w limit None none = λ g strip.
       | inr enough ↦ enough
     ]
 Scanned-all view w limit (Some b) best =
-    record { strip = best.strip; row = best.row; low = best.low; first = λ h strip apart open_h. best.first h strip open_h }
+    record { strip = best.strip; round = best.round; low = best.low; first = λ h strip apart open_h. best.first h strip open_h }
 
 -- ---- that a claim ends
 

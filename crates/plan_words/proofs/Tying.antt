@@ -1,38 +1,21 @@
 -- What a pass keeps beside its view, after steps that the law tells nothing of, and the word that it stores for its turn.
-use Rattle.std.proofs.Common.{◌≡◌, ℕ, zero, suc, ◌+◌, ◌*◌, ◌/◌, ◌%◌, ◌^◌, ◌<◌, ◌≤◌, true, false, List}
-use Rattle.std.proofs.Common.{[], ◌∷◌, ◌++◌, length, Option, Some, None, refl, sym, ap, ◌∙◌, subst, inl, inr, arith}
+use Rattle.std.proofs.Common.{◌≡◌, ℕ, ◌^◌, ◌<◌, ◌≤◌, List}
+use Rattle.std.proofs.Common.{[], ◌∷◌, length, Option, Some, None, refl, sym, ap, ◌∙◌, subst, arith}
 use Rattle.std.specs.Prelude.{IfSome, IsSome, is_some}
 use mathlib.Core.Option.{some, some-ne-none}
 use lib.ListN.{get_elem?}
 use Rattle.std.proofs.lemmas.Option.{same_Some}
-use Rattle.std.proofs.lemmas.Nat.{div-mul-add, mod-mul-add}
 use Rattle.plan_model.specs.declared.limits.TheConstants.{MOST_MARKS, MOST_WORKERS}
 use Rattle.plan_model.specs.declared.records.Record.{Record}
 use Rattle.plan_words.specs.States.{BelongsTo, IsTied, MayClaim, PassState, SharedState, first_of, turn_of, with_view, worker_of}
-use Rattle.step_core.specs.LaterViews.{IsLater, IsLawfulView}
-use Rattle.step_core.specs.ViewSteps.{finished_at, joined, looker, one_turn_more, parted, second_alone, stepped, without_second, worker_apart}
-use Rattle.step_core.specs.Views.{share}
-use Rattle.step_core.specs.Words.{FitsWord, IsTurnWord, last_field, number_of_outcome, record_word, turn_in, worker_in}
+use Rattle.step_core.specs.LaterViews.{IsLawfulView}
+use Rattle.step_core.specs.ViewSteps.{finished_at, looker, one_turn_more, parted, second_alone, stepped, without_second, worker_apart}
+use Rattle.step_core.specs.Views.{IsViewOf, words_of_run}
+use Rattle.step_core.specs.Words.{FitsWord, last_field}
 use Rattle.step_core.specs.declared.views.Hand.{Hand}
 use Rattle.step_core.specs.declared.views.Member.{Member}
 use Rattle.step_core.specs.declared.views.View.{View}
 use Rattle.step_core.proofs.WorldSplits.{goes_at, stays_at}
-
--- ---- the word of a turn
-
-pub IsTurnWord-packed : (entry : Record) → FitsWord entry → IsTurnWord entry.worker entry.turn (record_word entry)
-IsTurnWord-packed entry fits =
-    let last : ℕ = last_field entry.outcome entry.class in
-    let number : ℕ = number_of_outcome entry.outcome in
-    let upper : ℕ = 2 ^ 39 + last * 2 ^ 20 + number * 2 ^ 18 + entry.nearest in
-    let whole : record_word entry ≡ (upper * 2 ^ 18 + entry.turn) * 2 ^ 6 + entry.worker = omega arith in
-    record {
-      written = omega arith;
-      worker_is = ap worker_in whole ∙ mod-mul-add (upper * 2 ^ 18 + entry.turn) (2 ^ 6) entry.worker fits.worker;
-      turn_is =
-          ap turn_in whole ∙ ap (λ n. n % 2 ^ 18) (div-mul-add (upper * 2 ^ 18 + entry.turn) (2 ^ 6) entry.worker fits.worker)
-          ∙ mod-mul-add upper (2 ^ 18) entry.turn fits.turn;
-    }
 
 -- ---- a pass with a mark in hand
 
@@ -64,8 +47,10 @@ first_at : (member : Member) (crew : List Member) → Some member ≡ first_of c
 first_at member [] e = cc
 first_at member (worker ∷ crew) e = ap some (sym (same_Some member worker e))
 
-pub worker_few : (view : View) (member : Member) → IsLawfulView view → Some member ≡ first_of view.crew → member.worker < MOST_WORKERS
-worker_few view member lawful is = omega (arith, lawful.worker 0 member (first_at member view.crew is), lawful.run.workers.1)
+pub worker_few :
+    (view : View) (member : Member) → IsLawfulView view → Some member ≡ first_of view.crew → (member.worker < view.run.workers) × (member.worker < MOST_WORKERS)
+worker_few view member lawful is =
+    let low = lawful.worker 0 member (first_at member view.crew is) in (low, omega (arith, low, lawful.run.workers.1))
 
 pub turn_few : (view : View) (member : Member) → IsLawfulView view → Some member ≡ first_of view.crew → IsSome view.hand → member.turn < MOST_MARKS
 turn_few view member lawful is held = by_hand view.hand refl
@@ -73,6 +58,20 @@ turn_few view member lawful is held = by_hand view.hand refl
     by_hand : (o : Option Hand) → view.hand ≡ o → member.turn < MOST_MARKS
     by_hand None e = (let none = sym held ∙ ap is_some e in cc)
     by_hand (Some own) e = omega (arith, lawful.turn own 0 member e (first_at member view.crew is), lawful.run.marks)
+
+-- its record fits a word, if the other fields do
+pub entry_fits :
+    (view : View) (hand : Hand) (entry : Record) → IsLawfulView view → view.hand ≡ Some hand → entry.worker ≡ worker_of view.crew
+    → entry.turn ≡ turn_of view.crew → entry.nearest < 2 ^ 18 → last_field entry.outcome entry.class < 2 ^ 18 → FitsWord entry
+entry_fits view hand entry lawful held worker turn nearest last =
+    let has = HasMember-held view hand lawful held in
+    let first = ap (λ l. get_elem? l 0) has.crew_is in
+    record {
+      worker = omega (arith, worker, ap worker_of has.crew_is, lawful.worker 0 has.member first, lawful.run.workers.1);
+      turn = omega (arith, turn, ap turn_of has.crew_is, lawful.turn hand 0 has.member held first, lawful.run.marks);
+      nearest = nearest;
+      last = last;
+    }
 
 -- once its record is stored, it may claim again
 pub MayClaim-finished :
@@ -90,15 +89,33 @@ MayClaim-finished shared pass then place word hand belongs lawful held is = reco
 
 -- ---- splits
 
+-- a view with the same tables, after no fewer steps
+IsViewOf-later :
+    (view then : View) → IsViewOf view.run view → view.steps ≤ then.steps → then.run ≡ view.run → then.seen ≡ view.seen → then.looked ≡ view.looked
+    → then.found_zero ≡ view.found_zero → IsViewOf then.run then
+IsViewOf-later view then of_run order run_is seen looked found_zero = subst (λ r. IsViewOf r then) (sym run_is) (record {
+  run_is = run_is;
+  seen = ap (λ l. length l) seen ∙ of_run.seen;
+  looked = ap (λ l. length l) looked ∙ of_run.looked;
+  found_zero = ap (λ l. length l) found_zero ∙ of_run.found_zero;
+  looks = λ name.
+      let same = ap (λ r. words_of_run r then.looked name) run_is ∙ ap (λ l. words_of_run view.run l name) looked in
+      omega (arith, same, of_run.looks name, order);
+  zero_looks = λ name.
+      let same = ap (λ r. words_of_run r then.found_zero name) run_is ∙ ap (λ l. words_of_run view.run l name) found_zero in
+      omega (arith, same, of_run.zero_looks name, order);
+})
+
 pub IsLawfulView-stepped : (view : View) → IsLawfulView view → IsLawfulView (stepped view)
 IsLawfulView-stepped view lawful = record {
   run = lawful.run;
-  of_run = record { run_is = lawful.of_run.run_is; seen = lawful.of_run.seen; looked = lawful.of_run.looked; found_zero = lawful.of_run.found_zero };
+  of_run = IsViewOf-later view (stepped view) lawful.of_run (omega arith) refl refl refl refl;
   most = lawful.most;
   idle = lawful.idle;
   mark = lawful.mark;
   worker = lawful.worker;
   turn = lawful.turn;
+  own_turn = lawful.own_turn;
   took = lawful.took;
   count = lawful.count;
   counter = lawful.counter;
@@ -107,12 +124,13 @@ IsLawfulView-stepped view lawful = record {
 pub IsLawfulView-looker : (view : View) → IsLawfulView view → IsLawfulView (looker view)
 IsLawfulView-looker view lawful = record {
   run = lawful.run;
-  of_run = record { run_is = lawful.of_run.run_is; seen = lawful.of_run.seen; looked = lawful.of_run.looked; found_zero = lawful.of_run.found_zero };
+  of_run = IsViewOf-later view (looker view) lawful.of_run (omega arith) refl refl refl refl;
   most = lawful.most;
   idle = λ none. refl;
   mark = λ hand held. cc;
   worker = λ i member e. absurd (some-ne-none member (sym e));
   turn = λ hand i member held e. cc;
+  own_turn = λ i member e. absurd (some-ne-none member (sym e));
   took = lawful.took;
   count = lawful.count;
   counter = lawful.counter;
@@ -137,12 +155,13 @@ IsTied-parted view member hand tied =
       hand_is = tied.hand_is;
       lawful = record {
         run = lawful.run;
-        of_run = record { run_is = lawful.of_run.run_is; seen = lawful.of_run.seen; looked = lawful.of_run.looked; found_zero = lawful.of_run.found_zero };
+        of_run = IsViewOf-later view (parted view) lawful.of_run (omega arith) refl refl refl refl;
         most = lawful.most;
         idle = λ none. lawful.idle (none_left view.crew none);
         mark = lawful.mark;
         worker = λ i mate e. let from = stays_at view.crew i mate e in lawful.worker from.0 mate from.1;
         turn = λ own i mate held e. let from = stays_at view.crew i mate e in lawful.turn own from.0 mate held from.1;
+        own_turn = λ i mate e. let from = stays_at view.crew i mate e in lawful.own_turn from.0 mate from.1;
         took = lawful.took;
         count = lawful.count;
         counter = lawful.counter;
@@ -155,12 +174,13 @@ IsTied-apart view member lawful second = record {
   hand_is = refl;
   lawful = record {
     run = lawful.run;
-    of_run = record { run_is = lawful.of_run.run_is; seen = lawful.of_run.seen; looked = lawful.of_run.looked; found_zero = lawful.of_run.found_zero };
+    of_run = IsViewOf-later view (worker_apart view) lawful.of_run (omega arith) refl refl refl refl;
     most = lawful.most;
     idle = λ none. refl;
     mark = λ hand held. cc;
     worker = λ i mate e. let from = goes_at view.crew i mate e in lawful.worker from.0 mate from.1;
     turn = λ hand i mate held e. cc;
+    own_turn = λ i mate e. let from = goes_at view.crew i mate e in lawful.own_turn from.0 mate from.1;
     took = lawful.took;
     count = lawful.count;
     counter = lawful.counter;

@@ -30,7 +30,7 @@ abbrev pub IsFirst : View → ℕ → ℕ → ℕ → ℕ → Type 0
 IsFirst view worker limit g k =
     (h : ℕ) → h < view.run.strips → h ≢ g → next_mark view h < limit → GoesBefore view.run worker g k h (next_mark view h)
 
--- each strip's counter was loaded by a step after so many
+-- each strip's counter was looked at after the first so many steps of the pass
 abbrev pub AllLoaded : View → ℕ → Type 0
 AllLoaded view steps = (g : ℕ) → g < view.run.strips → steps < last_look view (Counter g)
 
@@ -44,10 +44,10 @@ pub record KeepsHand (before after : View) : Type 0 where
   pub most : after.most ≡ before.most
   pub hand : after.hand ≡ before.hand
 
--- the next mark of strip g, in row c, is below the limit, and goes first
+-- the next mark of strip g, in round c, is below the limit, and goes first
 pub record IsOpen (view : View) (worker limit g c : ℕ) : Type 0 where
   pub strip : g < view.run.strips
-  pub row : c ≡ sees view (Counter g)
+  pub round : c ≡ sees view (Counter g)
   pub low : mark_of view.run g c < limit
   pub first : IsFirst view worker limit g (mark_of view.run g c)
 
@@ -64,7 +64,7 @@ pub record IsClaimed (before after : View) (limit k : ℕ) : Type 0 where
 -- ---- how a claim finds it
 
 abbrev pub mark_in : Choice → Next → ℕ
-mark_in choice next = next.row * choice.strips + next.strip
+mark_in choice next = next.round * choice.strips + next.strip
 
 abbrev pub owns : Choice → Next → Bool
 owns choice next = next.strip % choice.workers == choice.worker

@@ -7,6 +7,7 @@ use Rattle.step_core.specs.LaterViews.{IsLater, IsLawfulView}
 use Rattle.step_core.specs.ViewSteps.{claimed, finished_at, saw_at}
 use Rattle.step_core.specs.declared.views.View.{View}
 
+-- what any step tells: the view then, which is a later one and lawful; no slot is taken
 pub record Tells (before : Me Aim View) (view : View) (after : Me Aim View) : Type 0 where
   pub view_is : after.0 ≡ view
   pub later : IsLater before.0 view

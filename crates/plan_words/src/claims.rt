@@ -6,7 +6,7 @@ ghost use Rattle.plan_words.specs.States.{BelongsTo, run_in, with_view, worker_o
 ghost use Rattle.step_core.specs.LaterViews.{IsLater};
 ghost use Rattle.step_core.specs.ViewSteps.{claimed, loaded, mark_of};
 ghost use Rattle.step_core.specs.Views.{sees, share};
-ghost use Rattle.step_core.specs.WordNames.{WritesWord};
+ghost use Rattle.step_core.specs.WordNames.{ChangesOnly, IsCounter, WritesWord};
 ghost use Rattle.step_core.specs.WordNames.Word.{Counter};
 
 use crate::openings::Aim;
@@ -19,7 +19,7 @@ use step_core::{Hand, Stage};
 #[derive(Clone, Copy)]
 pub(crate) struct Next {
     pub(crate) strip: u32,
-    pub(crate) row: u32,
+    pub(crate) round: u32,
 }
 
 /// Which of two next marks a worker takes.
@@ -33,8 +33,8 @@ pub(crate) struct Choice {
 
 impl Shared {
     /// Claims a mark below the limit: it is in this pass's hand from now on. By the counters that this call loads, a worker's own
-    /// strips go before the others, and then the least number. Worker w of W owns the strips whose number leaves w when divided
-    /// by W. `None` if this call has seen each strip's counter at or above its quota below the limit.
+    /// strips go before the others, and among either the least number goes first. Worker w of W owns the strips whose number leaves w when divided
+    /// by W. `None` only if this call has seen each strip's counter at or above its quota below the limit.
     pub fn claim(&self, pass: &mut Pass, limit: u32) -> Option<u32>
         requires belongs { BelongsTo pass.old self.now }
         requires part { 0 < share pass.old.view }
@@ -43,14 +43,16 @@ impl Shared {
         requires limit { limit ≤ length self.now.task.marks }
         ensures belongs { BelongsTo pass.new self.now }
         ensures later { IsLater pass.old.view pass.new.view }
+        // of all words it sees none anew but counters
+        ensures others { ChangesOnly IsCounter (sees pass.old.view) (sees pass.new.view) }
         ensures loaded { AllLoaded pass.new.view pass.old.view.steps }
         ensures none { IfNone result (KeepsHand pass.old.view pass.new.view × AllFull pass.new.view limit) }
         ensures some { IfSome result (λ k. IsClaimed pass.old.view pass.new.view limit k) }
     {
         'tries: loop {
             let next = self.first_open(pass, limit)?;
-            if self.exchange(pass, next, limit) == u64::from(next.row) {
-                return Some(next.row * self.task.scene.strips + next.strip);
+            if self.exchange(pass, next, limit) == u64::from(next.round) {
+                return Some(next.round * self.task.scene.strips + next.strip);
             }
         }
     }
@@ -62,9 +64,10 @@ impl Shared {
         ensures belongs { BelongsTo pass.new self.now }
         ensures kept { KeepsHand pass.old.view pass.new.view }
         ensures later { IsLater pass.old.view pass.new.view }
+        ensures others { ChangesOnly IsCounter (sees pass.old.view) (sees pass.new.view) }
         ensures loaded { AllLoaded pass.new.view pass.old.view.steps }
         ensures first { MatchOption result (AllFull pass.new.view limit)
-            (λ next. IsOpen pass.new.view (worker_of pass.old.view.crew) limit next.strip next.row) }
+            (λ next. IsOpen pass.new.view (worker_of pass.old.view.crew) limit next.strip next.round) }
     {
         let choice = Choice {
             strips: self.task.scene.strips,
@@ -74,26 +77,26 @@ impl Shared {
         };
         let mut best = None;
         for strip in 0..choice.strips {
-            let row = self.taken(pass, strip);
-            best = choice.better(best, Next { strip, row });
+            let round = self.taken(pass, strip);
+            best = choice.better(best, Next { strip, round });
         }
         best
     }
 
-    /// Adds 1 to the counter of a strip if it is at this row, and then the mark is in hand. Returns what the counter was.
+    /// Adds 1 to the counter of a strip if it is at this round, and then the mark is in hand. Returns what the counter was.
     fn exchange(&self, pass: &mut Pass, next: Next, limit: u32) -> u64
         requires belongs { BelongsTo pass.old self.now }
         requires part { 0 < share pass.old.view }
         requires idle { pass.old.view.hand ≡ None }
         requires strip { next.strip < self.now.task.scene.strips }
-        requires low { mark_of (run_in self.now) next.strip next.row < limit }
+        requires low { mark_of (run_in self.now) next.strip next.round < limit }
         requires limit { limit ≤ length self.now.task.marks }
         ensures view { pass.new ≡ with_view pass.old
-            (if result == next.row then claimed pass.old.view next.strip next.row limit else loaded pass.old.view (Counter next.strip) result) }
+            (if result == next.round then claimed pass.old.view next.strip next.round limit else loaded pass.old.view (Counter next.strip) result) }
         ensures later { IsLater pass.old.view pass.new.view }
-        ensures seen { WritesWord (Counter next.strip) (if result == next.row then next.row + 1 else result) (sees pass.old.view) (sees pass.new.view) }
+        ensures seen { WritesWord (Counter next.strip) (if result == next.round then next.round + 1 else result) (sees pass.old.view) (sees pass.new.view) }
     {
-        let row = u64::from(next.row);
+        let round = u64::from(next.round);
         let aim = Aim {
             strip: next.strip,
             limit,
@@ -102,10 +105,10 @@ impl Shared {
         let found = self
             .table
             .shared
-            .compare_exchange_with::<Claim>(&mut pass.seat, place, row, row + 1, &aim);
-        if found == row {
+            .compare_exchange_with::<Claim>(&mut pass.seat, place, round, round + 1, &aim);
+        if found == round {
             pass.hand = Some(Hand {
-                mark: next.row * self.task.scene.strips + next.strip,
+                mark: next.round * self.task.scene.strips + next.strip,
                 stage: Stage::Claimed,
             });
         }
@@ -146,7 +149,7 @@ impl Choice {
         requires strip { next.strip < self.strips }
         ensures { result ≡ mark_in self next }
     {
-        u64::from(next.row) * u64::from(self.strips) + u64::from(next.strip)
+        u64::from(next.round) * u64::from(self.strips) + u64::from(next.strip)
     }
 
     /// Whether its strip is one of the worker's own.

@@ -10,8 +10,8 @@ use atomic_table::Seat;
 use std::marker::Model;
 use step_core::{Hand, Member, View};
 
-/// One worker's handle on a shared tree, or that of one who only looks. A contract sees it as its table and its view: what it
-/// has seen and has in hand.
+/// The handle of one worker on a shared tree, of several after a join, or of none: then it only looks. A contract sees it as its
+/// table and its view: what it has seen and has in hand.
 #[derive(Drop)]
 pub struct Pass {
     pub(crate) seat: Seat<Aim, View>,
@@ -36,6 +36,7 @@ impl Pass {
     pub fn worker(&self) -> u32
         requires { 0 < share self.now.view }
         ensures number { result ≡ worker_of self.now.view.crew }
+        ensures of_run { result < self.now.view.run.workers }
         ensures few { result < MOST_WORKERS }
     {
         match self.member {

@@ -1,15 +1,15 @@
 //! The shared words, and the steps that look at a number, record a mark, split a pass and join two.
 
-ghost use Rattle.std.specs.Prelude.{◌≡◌, ℕ, ◌+◌, ◌<◌, IfOk, None, IsSome, IfSome};
+ghost use Rattle.std.specs.Prelude.{◌≡◌, ℕ, ◌+◌, ◌<◌, ◌^◌, IfOk, None, OnErr, OnOk, IsSome, IfSome};
 ghost use Rattle.plan_model.specs.declared.limits.TheConstants.{MOST_MARKS};
 ghost use Rattle.plan_words.specs.States.{BelongsTo, MayClaim, turn_of, turned, with_view, worker_of};
 ghost use Rattle.step_core.specs.LaterViews.{IsLater};
 ghost use Rattle.step_core.specs.ViewSteps.{finished, joined, loaded, looker, stepped};
-ghost use Rattle.step_core.specs.Views.{last_look, sees};
+ghost use Rattle.step_core.specs.Views.{last_look, sees, share};
 ghost use Rattle.step_core.specs.WordKinds.{AreBehind};
 ghost use Rattle.step_core.specs.WordNames.{WritesWord};
 ghost use Rattle.step_core.specs.WordNames.Word.{Count, Counter};
-ghost use Rattle.step_core.specs.Words.{FitsWord, record_word};
+ghost use Rattle.step_core.specs.Words.{last_field, record_word};
 
 use crate::openings::{Aim, Opening};
 use crate::passes::Pass;
@@ -54,7 +54,7 @@ impl Shared {
         requires { BelongsTo pass.old self.now }
         ensures view { pass.new ≡ with_view pass.old (loaded pass.old.view Count result) }
         ensures later { IsLater pass.old.view pass.new.view }
-        // of all words this one is seen now, as it was found
+        // this word is seen as it was found, all others as before
         ensures seen { WritesWord Count result (sees pass.old.view) (sees pass.new.view) }
     {
         self.table
@@ -68,7 +68,7 @@ impl Shared {
         requires strip { strip < self.now.task.scene.strips }
         ensures view { pass.new ≡ with_view pass.old (loaded pass.old.view (Counter strip) result) }
         ensures later { IsLater pass.old.view pass.new.view }
-        // of all words this one is seen now, as it was found
+        // this word is seen as it was found, all others as before
         ensures seen { WritesWord (Counter strip) result (sees pass.old.view) (sees pass.new.view) }
         ensures looked { WritesWord (Counter strip) (pass.old.view.steps + 1) (last_look pass.old.view) (last_look pass.new.view) }
     {
@@ -82,7 +82,8 @@ impl Shared {
         requires hand { IsSome pass.old.view.hand }
         requires worker { entry.worker ≡ worker_of pass.old.view.crew }
         requires turn { entry.turn ≡ turn_of pass.old.view.crew }
-        requires fits { FitsWord entry }
+        requires nearest { entry.nearest < 2 ^ 18 }
+        requires last { last_field entry.outcome entry.class < 2 ^ 18 }
         ensures view { IfSome pass.old.view.hand (λ hand. pass.new ≡ with_view pass.old (finished pass.old.view hand.mark (record_word entry))) }
         ensures later { IsLater pass.old.view pass.new.view }
         ensures may_claim { MayClaim self.now pass.new }
@@ -104,7 +105,8 @@ impl Shared {
     /// `Memory` if out of memory; nothing has changed then.
     pub fn split(&self, pass: &mut Pass) -> Result<Pass, Memory>
         requires { BelongsTo pass.old self.now }
-        ensures left { pass.new ≡ with_view pass.old (stepped pass.old.view) }
+        ensures left { OnOk result (pass.new ≡ with_view pass.old (stepped pass.old.view)) }
+        ensures unchanged { OnErr result (pass.new ≡ pass.old) }
         ensures right { IfOk result (λ other. other ≡ with_view pass.old (looker pass.old.view)) }
     {
         let seat = self.table.shared.split_seat::<Look>(&mut pass.seat);
@@ -115,7 +117,8 @@ impl Shared {
         })
     }
 
-    /// Takes over another pass: its share, and what it has seen. Neither has a mark in hand.
+    /// Takes over another pass: its share, and what it has seen. Neither has a mark in hand. The count of nodes is loaded then,
+    /// which tells that nothing is lost of what the other had seen.
     pub fn join(&self, pass: &mut Pass, other: Pass)
         requires belongs { BelongsTo pass.old self.now }
         requires belongs_too { BelongsTo other self.now }
@@ -125,6 +128,9 @@ impl Shared {
         ensures later { IsLater pass.old.view pass.new.view }
         // it has seen at least what the other had
         ensures others_seen { AreBehind (sees other.view) (sees pass.new.view) }
+        ensures share { share pass.new.view ≡ share pass.old.view + share other.view }
+        ensures belongs { BelongsTo pass.new self.now }
+        ensures idle { pass.new.view.hand ≡ None }
     {
         let Pass {
             seat,

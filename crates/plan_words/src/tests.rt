@@ -1,6 +1,6 @@
 //! Passes that claim marks and record them: by turns in one thread, and each in a thread of its own.
 
-ghost use Rattle.std.specs.Prelude.{◌≡◌, ◌≤◌, ◌<◌, All, IfOk, IfSome, IsTrue, length};
+ghost use Rattle.std.specs.Prelude.{◌≡◌, ◌≤◌, ◌<◌, All, IfOk, IfSome, IsTrue, None, length};
 ghost use Rattle.plan_model.specs.Clearance.{ClearAt};
 ghost use Rattle.plan_model.specs.ConfigurationSpace.{space_of};
 ghost use Rattle.plan_model.specs.Limits.{is_plan};
@@ -127,7 +127,7 @@ fn three_passes_record_seven_marks_on_one_point(rt: HostRuntime) -> Result<(), F
 #[test]
 fn a_worker_takes_its_own_strips_first(rt: HostRuntime) -> Result<(), Fail> {
     let (shared, _, mut second, _) = three_passes(rt.alloc(), &[START; 7])?;
-    expect_turn(&rt, &shared, &mut second, 3, Some(1));
+    expect_turn(&rt, &shared, &mut second, 7, Some(1));
     expect_turn(&rt, &shared, &mut second, 3, Some(0));
     expect_turn(&rt, &shared, &mut second, 3, Some(2));
     expect_turn(&rt, &shared, &mut second, 3, None);
@@ -137,6 +137,42 @@ fn a_worker_takes_its_own_strips_first(rt: HostRuntime) -> Result<(), Fail> {
     expect_turn(&rt, &shared, &mut second, 7, Some(6));
     expect_turn(&rt, &shared, &mut second, 7, None);
     Ok(())
+}
+
+/// A pass takes over another, which may claim, and so it may claim too.
+fn take_over(shared: &Shared, pass: &mut Pass, other: Pass)
+    requires belongs { BelongsTo pass.old shared.now }
+    requires idle { pass.old.view.hand ≡ None }
+    requires may_claim { MayClaim shared.now other }
+    ensures may_claim { MayClaim shared.now pass.new }
+{
+    shared.join(pass, other);
+}
+
+#[test]
+fn a_looker_takes_over_a_worker(rt: HostRuntime) -> Result<(), Fail> {
+    let (shared, mut first, second, _) = three_passes(rt.alloc(), &[START; 7])?;
+    let mark = shared.claim(&mut first, 7);
+    assert_eq!(rt; mark, Some(0));
+    let mut looker = shared.split(&mut first)?;
+    let nodes = shared.number(&mut looker);
+    assert_eq!(rt; nodes, 1);
+    let claimed = shared.taken(&mut looker, 0);
+    assert_eq!(rt; claimed, 1);
+    take_over(&shared, &mut looker, second);
+    expect_worker(&rt, &shared, &looker, 1, 0);
+    expect_turn(&rt, &shared, &mut looker, 7, Some(1));
+    expect_worker(&rt, &shared, &looker, 1, 1);
+    expect_turn(&rt, &shared, &mut looker, 7, Some(4));
+    Ok(())
+}
+
+/// Compares the worker of a pass, and its next turn.
+fn expect_worker<R: Abort>(rt: &R, shared: &Shared, pass: &Pass, worker: u32, turn: u32)
+    requires { MayClaim shared.now pass.now }
+{
+    assert_eq!(rt; pass.worker(), worker);
+    assert_eq!(rt; pass.turn(), turn);
 }
 
 /// A pass, and the marks that it has claimed.

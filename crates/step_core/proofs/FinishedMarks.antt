@@ -1,20 +1,22 @@
 -- The record of the mark in hand keeps the law of worlds.
-use Rattle.std.proofs.Common.{◌≡◌, ℕ, ◌+◌, ◌/◌, ◌%◌, ◌≤◌, ◌^◌, List, ◌∷◌, length, set, Some, None, refl, sym, ap, ◌∙◌, subst, inl, inr, arith, le_refl}
+use Rattle.std.proofs.Common.{◌≡◌, ℕ, ◌*◌, suc, ◌+◌, ◌/◌, ◌%◌, ◌≤◌, ◌^◌, List, ◌∷◌, length, set, Some, refl, sym, ap, ◌∙◌, subst, inl, inr, arith, le_refl}
 use Rattle.std.specs.Prelude.{◌⊎◌, ◌==◌, nat_lt, is_some}
 use mathlib.Core.Option.{some}
 use lib.ListN.{get_elem?}
 use Rattle.std.proofs.lemmas.Bool.{cases_eq, eq-eqb, ne_eqb}
+use Rattle.std.proofs.lemmas.Nat.{div-mul-add, mod-mul-add}
 use Rattle.plan_model.specs.MarkPoints.{is_claimed}
 use Rattle.plan_model.specs.Turns.{once_if}
+use Rattle.plan_model.specs.declared.records.Record.{Record}
 use Rattle.step_core.specs.GrownWords.{record_at}
 use Rattle.step_core.specs.ViewSteps.{finished, one_turn_more, saw}
 use Rattle.step_core.specs.Views.{IsViewOf, holds, run_sizes, sees, share}
 use Rattle.step_core.specs.WordKinds.{AreBehind}
 use Rattle.step_core.specs.WordNames.{Words, WritesWord}
-use Rattle.step_core.specs.WordNames.Word.{Count, Counter, RecordOf, TreeOf}
+use Rattle.step_core.specs.WordNames.Word.{Count, Counter, FirstOf, RecordOf, TreeOf}
 use Rattle.step_core.specs.WordPlaces.{HasWord}
-use Rattle.step_core.specs.Words.{turn_in, worker_in}
-use Rattle.step_core.specs.Worlds.{IsWorld, counters, is_recorded, limit_of}
+use Rattle.step_core.specs.Words.{FitsWord, IsTurnWord, last_field, number_of_outcome, record_word, turn_in, worker_in}
+use Rattle.step_core.specs.Worlds.{IsRecordWord, IsWorld, counters, is_recorded, limit_of}
 use Rattle.step_core.specs.declared.views.Hand.{Hand}
 use Rattle.step_core.specs.declared.views.Member.{Member}
 use Rattle.step_core.specs.declared.views.SharedRun.{SharedRun}
@@ -25,7 +27,7 @@ use Rattle.step_core.proofs.SawWords.{AreBehind-saw, AreBehind-seen, AreBehind-w
 use Rattle.step_core.proofs.SeenByViews.{IsViewOf-saw, WritesWord-saw}
 use Rattle.step_core.proofs.ViewLists.{greatest-set}
 use Rattle.step_core.proofs.WordKinds.{AreBehind-trans}
-use Rattle.step_core.proofs.WorldParts.{Numbers-step, Seen-step, Shares-step, limit_of-up, of_run-step, quotas-kept}
+use Rattle.step_core.proofs.WorldParts.{Numbers-step, record_word-none, Seen-step, Shares-step, limit_of-up, of_run-step, quotas-kept}
 use Rattle.step_core.proofs.WorldSteps.{live}
 
 -- a mark in hand has no record, and is one of the marks
@@ -39,7 +41,7 @@ in_hand run words views id view world at hand held =
 module _ (run : SharedRun) (words after : Words) (views : List View) (id : ℕ) (view : View) (world : IsWorld run words views)
     (at : get_elem? views id ≡ some view) (own : view.run ≡ run) (hand : Hand) (held : view.hand ≡ Some hand) (member : Member)
     (crew : List Member) (crew_is : view.crew ≡ member ∷ crew) (x : ℕ) (written : 2 ^ 63 ≤ x) (worker : worker_in x ≡ member.worker)
-    (turn : turn_in x ≡ member.turn) (writes : WritesWord (RecordOf hand.mark) x words after) where
+    (turn : turn_in x ≡ member.turn) (is_packed : IsRecordWord x) (writes : WritesWord (RecordOf hand.mark) x words after) where
   abbrev k : ℕ
   k = hand.mark
 
@@ -53,7 +55,8 @@ module _ (run : SharedRun) (words after : Words) (views : List View) (id : ℕ) 
   mark = in_hand run words views id view world at hand held
 
   go : AreBehind words after
-  go = AreBehind-write (RecordOf k) x words after writes (inl (world.numbers.blank k mark.absent))
+  go = AreBehind-write (RecordOf k) x words after writes (inl (record_word-none (words (RecordOf k)) (words (FirstOf (suc k)))
+      (world.numbers.packed k) mark.absent))
 
   same_share : share then ≡ share view
   same_share = ap (λ l. length (one_turn_more l)) crew_is ∙ sym (ap (λ l. length l) crew_is)
@@ -78,19 +81,18 @@ module _ (run : SharedRun) (words after : Words) (views : List View) (id : ℕ) 
             omega (arith, in_hand, claims, same, here))
       ]
 
-  blank : (j : ℕ) → record_at after j ≡ None → after (RecordOf j) ≡ 0
-  blank j none =
-      let new = change run words after views id view member crew k x world.turns at crew_is mark.low mark.absent writes written worker turn in
+  packed : (j : ℕ) → IsRecordWord (after (RecordOf j))
+  packed j =
       elim (cases_eq j k) [
-        | inl e ↦ (let gone = sym none ∙ ap (record_at after) e ∙ new.recorded in cc)
-        | inr apart ↦ writes.others (RecordOf j) (λ e. apart cc) ∙ world.numbers.blank j (sym (new.others j apart) ∙ none)
+        | inl e ↦ subst IsRecordWord (sym (ap (λ i. after (RecordOf i)) e ∙ writes.here)) is_packed
+        | inr apart ↦ subst IsRecordWord (sym (writes.others (RecordOf j) (λ e. apart cc))) (world.numbers.packed j)
       ]
 
   pairs : (n : ℕ) → (after (TreeOf n) ≡ 0) ⊎ (2 ^ 63 ≤ after (TreeOf n))
   pairs n = subst (λ w. (w ≡ 0) ⊎ (2 ^ 63 ≤ w)) (sym (writes.others (TreeOf n) (λ e. cc))) (world.seen.pairs n)
 
   by_fields : IsViewOf run (saw view (RecordOf k) x x) → IsViewOf run then
-  by_fields v = record { run_is = v.run_is; seen = v.seen; looked = v.looked; found_zero = v.found_zero }
+  by_fields v = record { run_is = v.run_is; seen = v.seen; looked = v.looked; found_zero = v.found_zero; looks = v.looks; zero_looks = v.zero_looks }
 
   pub IsWorld-finished : IsWorld run after (set views id then)
   IsWorld-finished =
@@ -105,7 +107,7 @@ module _ (run : SharedRun) (words after : Words) (views : List View) (id : ℕ) 
         numbers = Numbers-step run words after views id view then at world.numbers
             (quotas-kept run words after views (set views id then) world.numbers (λ g within. writes.others (Counter g) (λ e. cc))
             (greatest-set limit_of views id view then at (limit_of-up view then same_share (le_refl view.most))))
-            balance (world.numbers.limits id view at) blank (omega (arith, writes.others Count (λ e. cc), world.numbers.count));
+            balance (world.numbers.limits id view at) packed (omega (arith, writes.others Count (λ e. cc), world.numbers.count));
         turns = Turns-finished run words after views id view member crew k x world.turns at crew_is mark.low mark.absent writes written worker turn saw_it;
         shares = Shares-step run words after views id view then at world.shares same_share (λ none. refl);
         seen = Seen-step words after views id view then at world.seen go
@@ -121,4 +123,33 @@ pub AreBehind-finished :
     → (hand : Hand) → view.hand ≡ Some hand → (x : ℕ) → WritesWord (RecordOf hand.mark) x words after → AreBehind words after
 AreBehind-finished run words after views id view world at hand held x writes =
     let mark = in_hand run words views id view world at hand held in
-    AreBehind-write (RecordOf hand.mark) x words after writes (inl (world.numbers.blank hand.mark mark.absent))
+    AreBehind-write (RecordOf hand.mark) x words after writes
+    (inl (record_word-none (words (RecordOf hand.mark)) (words (FirstOf (suc hand.mark))) (world.numbers.packed hand.mark) mark.absent))
+
+-- ---- the word of a record
+
+-- A packed word says whose record it is, and of which turn.
+pub IsTurnWord-packed : (entry : Record) → FitsWord entry → IsTurnWord entry.worker entry.turn (record_word entry)
+IsTurnWord-packed entry fits =
+    let last : ℕ = last_field entry.outcome entry.class in
+    let number : ℕ = number_of_outcome entry.outcome in
+    let upper : ℕ = 2 ^ 39 + last * 2 ^ 20 + number * 2 ^ 18 + entry.nearest in
+    let whole : record_word entry ≡ (upper * 2 ^ 18 + entry.turn) * 2 ^ 6 + entry.worker = omega arith in
+    record {
+      written = omega arith;
+      worker_is = ap worker_in whole ∙ mod-mul-add (upper * 2 ^ 18 + entry.turn) (2 ^ 6) entry.worker fits.worker;
+      turn_is =
+          ap turn_in whole ∙ ap (λ n. n % 2 ^ 18) (div-mul-add (upper * 2 ^ 18 + entry.turn) (2 ^ 6) entry.worker fits.worker)
+          ∙ mod-mul-add upper (2 ^ 18) entry.turn fits.turn;
+    }
+
+-- the record of the mark in hand, by the first of the crew in its next turn, keeps the law
+pub IsWorld-recorded :
+    (run : SharedRun) (words after : Words) (views : List View) (id : ℕ) (view : View) → IsWorld run words views → get_elem? views id ≡ some view
+    → view.run ≡ run → (hand : Hand) → view.hand ≡ Some hand → (member : Member) (crew : List Member) → view.crew ≡ member ∷ crew → (entry : Record)
+    → FitsWord entry → entry.worker ≡ member.worker → entry.turn ≡ member.turn → WritesWord (RecordOf hand.mark) (record_word entry) words after
+    → IsWorld run after (set views id (finished view hand.mark (record_word entry)))
+IsWorld-recorded run words after views id view world at own hand held member crew crew_is entry fits worker turn writes =
+    let says = IsTurnWord-packed entry fits in
+    IsWorld-finished run words after views id view world at own hand held member crew crew_is (record_word entry) says.written (says.worker_is ∙ worker)
+    (says.turn_is ∙ turn) (inr (entry, fits, refl)) writes

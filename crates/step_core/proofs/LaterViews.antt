@@ -1,19 +1,24 @@
 -- A view after steps of its own is a later one, and the law of worlds says of each view alone what `IsLawfulView` says.
-use Rattle.std.proofs.Common.{◌≡◌, ℕ, ◌+◌, ◌<◌, ◌≤◌, ◌^◌, List, length, Some, refl, sym, ap, ◌∙◌, subst, inl, inr, arith, le_refl, le_trans}
+use Rattle.std.proofs.Common.{◌≡◌, ℕ, suc, ◌+◌, ◌<◌, ◌≤◌, ◌^◌, List, length, Some, refl, sym, ap, ◌∙◌, subst, inl, inr, arith, le_refl, le_trans}
 use Rattle.std.specs.Prelude.{◌⊎◌}
 use lib.ListN.{get_elem?}
 use mathlib.Core.Option.{some}
-use Rattle.std.proofs.lemmas.Bool.{cases_eq}
+use Rattle.std.proofs.lemmas.Bool.{cases_Bool, cases_eq}
+use Rattle.plan_model.specs.Turns.{is_of_worker, turns_of}
+use Rattle.plan_model.proofs.CountsBelow.{count-same}
+use Rattle.step_core.specs.GrownWords.{record_at}
+use Rattle.step_core.specs.Words.{record_of_word}
 use Rattle.step_core.specs.LaterViews.{IsLater, IsLawfulView}
-use Rattle.step_core.specs.ViewSteps.{claimed, finished, loaded, saw}
+use Rattle.step_core.specs.ViewSteps.{claimed, finished, joined, loaded, parted, saw, stepped}
 use Rattle.step_core.specs.Views.{IsSharedRun, IsViewOf, last_look, last_zero, run_sizes, sees}
 use Rattle.step_core.specs.WordKinds.{MayBecome, WordKind, kind_of}
 use Rattle.step_core.specs.WordKinds.WordKind.{Rising, Once, Falling}
 use Rattle.step_core.specs.WordNames.{Word, Words, WritesWord}
-use Rattle.step_core.specs.WordNames.Word.{Count, Counter, RecordOf}
+use Rattle.step_core.specs.WordNames.Word.{Count, Counter, FirstOf, RecordOf}
 use Rattle.step_core.specs.WordPlaces.{HasWord}
 use Rattle.step_core.specs.Worlds.{IsWorld, greatest_limit}
 use Rattle.step_core.specs.declared.views.Hand.{Hand}
+use Rattle.step_core.specs.declared.views.Member.{Member}
 use Rattle.step_core.specs.declared.views.SharedRun.{SharedRun}
 use Rattle.step_core.specs.declared.views.View.{View}
 use Rattle.step_core.proofs.FinishedMarks.{in_hand}
@@ -23,7 +28,8 @@ use Rattle.step_core.proofs.SawWords.{AreBehind-write}
 use Rattle.step_core.proofs.SeenByViews.{WritesWord-looked, WritesWord-saw, WritesWord-zero, last_zero-other}
 use Rattle.step_core.proofs.WholeShares.{turn-below, worker-below}
 use Rattle.step_core.proofs.WordKinds.{AreBehind-refl, AreBehind-trans}
-use Rattle.step_core.proofs.WorldParts.{quota-most}
+use Rattle.step_core.proofs.WorldParts.{quota-most, record_word-none, worker-own}
+use Rattle.step_core.proofs.WorldJoins.{AreBehind-joined}
 use Rattle.step_core.proofs.WorldSteps.{live}
 
 -- ---- later views
@@ -133,7 +139,8 @@ module _ (run : SharedRun) (words : Words) (views : List View) (id : ℕ) (view 
       let mark = in_hand run words views id view world at hand held in
       let none : sees view (RecordOf hand.mark) ≡ 0 =
       MayBecome-zero Once (sees view (RecordOf hand.mark))
-      (subst (MayBecome Once (sees view (RecordOf hand.mark))) (world.numbers.blank hand.mark mark.absent)
+      (subst (MayBecome Once (sees view (RecordOf hand.mark))) (record_word-none (words (RecordOf hand.mark)) (words (FirstOf (suc hand.mark)))
+      (world.numbers.packed hand.mark) mark.absent)
       (world.seen.behind id view at (RecordOf hand.mark))) in
       let here : HasWord (run_sizes run) (RecordOf hand.mark) = mark.low in
       let then = IsLater-saw run view of_run (RecordOf hand.mark) here x x (inl none) (λ gone. absurd (omega (arith, written, gone))) in
@@ -146,6 +153,33 @@ module _ (run : SharedRun) (words : Words) (views : List View) (id : ℕ) (view 
       let top = greatest_limit-most run words views world.run_is.strips.0 world.numbers in
       omega (arith, world.seen.behind id view at (Counter g), world.numbers.quotas g strip, quota-most run.strips g (greatest_limit views), top)
 
+  -- the records of a member's worker are seen as they are, and no others are seen as its own
+  own_records : (i : ℕ) (member : Member) → get_elem? view.crew i ≡ some member → (k : ℕ)
+      → is_of_worker member.worker (record_at (sees view) k) ≡ is_of_worker member.worker (record_at words k)
+  own_records i member e k =
+      let own = world.turns.members id view at i member e in
+      elim (world.seen.behind id view at (RecordOf k)) [
+        | inr same ↦
+            ap (λ w. is_of_worker member.worker (record_of_word w (sees view (FirstOf (suc k))))) same
+            ∙ worker-own member.worker (words (RecordOf k)) (sees view (FirstOf (suc k))) (words (FirstOf (suc k)))
+        | inl unseen ↦
+            ap (λ w. is_of_worker member.worker (record_of_word w (sees view (FirstOf (suc k))))) unseen
+            ∙ elim (cases_Bool (is_of_worker member.worker (record_at words k))) [
+              | inr other ↦ sym other
+              | inl of ↦ (
+                  let none : words (RecordOf k) ≡ 0 = sym (own.own k of) ∙ unseen in
+                  let gone = sym of ∙ ap (λ w. is_of_worker member.worker (record_of_word w (words (FirstOf (suc k))))) none in
+                  cc)
+            ]
+      ]
+
+  own_turn : (i : ℕ) (member : Member) → get_elem? view.crew i ≡ some member
+      → member.turn ≡ turns_of (record_at (sees view)) (length run.marks) member.worker
+  own_turn i member e =
+      (world.turns.members id view at i member e).turn
+      ∙ sym (count-same (λ k. is_of_worker member.worker (record_at (sees view) k)) (λ k. is_of_worker member.worker (record_at words k)) (length run.marks)
+      (λ k low. own_records i member e k))
+
   pub IsLawfulView-world : IsLawfulView view
   IsLawfulView-world = record {
     run = subst IsSharedRun (sym own) world.run_is;
@@ -155,8 +189,38 @@ module _ (run : SharedRun) (words : Words) (views : List View) (id : ℕ) (view 
     mark = λ hand held. subst (λ r. hand.mark < length r.marks) (sym own) (in_hand run words views id view world at hand held).low;
     worker = λ i member e. subst (λ r. member.worker < r.workers) (sym own) (worker-below run words views id view world at i member e);
     turn = λ hand i member held e. subst (λ r. member.turn < length r.marks) (sym own) (turn-below run words views id view world at hand i member held e);
+    own_turn = λ i member e. subst (λ r. member.turn ≡ turns_of (record_at (sees view)) (length r.marks) member.worker) (sym own) (own_turn i member e);
     took = world.seen.took id view at;
     count = subst (λ r. sees view Count ≤ length r.marks + 1) (sym own) (le_trans (world.seen.behind id view at Count) world.numbers.count);
     counter = λ g strip. subst (λ r. sees view (Counter g) ≤ length r.marks) (sym own)
         (counter_within g (subst (λ r. g < r.strips) own strip));
   }
+
+-- ---- splits and joins
+
+pub IsLater-stepped : (view : View) → IsLater view (stepped view)
+IsLater-stepped view = record {
+  run = refl;
+  seen = AreBehind-refl (sees view);
+  steps = omega arith;
+  looked = λ name. inl refl;
+  zero_found = λ name. inl refl;
+}
+
+pub IsLater-parted : (view : View) → IsLater view (parted view)
+IsLater-parted view = record {
+  run = refl;
+  seen = AreBehind-refl (sees view);
+  steps = omega arith;
+  looked = λ name. inl refl;
+  zero_found = λ name. inl refl;
+}
+
+pub IsLater-joined : (view other : View) → IsLater view (joined view other)
+IsLater-joined view other = record {
+  run = refl;
+  seen = AreBehind-joined view other;
+  steps = omega arith;
+  looked = λ name. inl refl;
+  zero_found = λ name. inl refl;
+}

@@ -1,7 +1,7 @@
 -- What a view has seen after a step on one word: that word is as the step left it, and all others are as they were.
-use Rattle.std.proofs.Common.{◌≡◌, ◌≢◌, ℕ, ◌+◌, Bool, true, false, List, length, refl, sym, ap, ◌∙◌, subst}
+use Rattle.std.proofs.Common.{◌≡◌, ◌≢◌, ℕ, ◌+◌, ◌≤◌, Bool, true, false, List, length, refl, sym, ap, ◌∙◌, subst, inl, inr, arith}
 use Rattle.std.specs.Prelude.{◌==◌, slice_set, cond}
-use Rattle.std.proofs.lemmas.Bool.{ne_eqb}
+use Rattle.std.proofs.lemmas.Bool.{eqb-false, eqb-true, ne_eqb}
 use Rattle.std.proofs.lemmas.List.{length-set}
 use Rattle.step_core.specs.ViewSteps.{place_in, saw}
 use Rattle.step_core.specs.Views.{IsViewOf, last_look, last_zero, run_sizes, sees, words_of_run}
@@ -9,6 +9,7 @@ use Rattle.step_core.specs.WordNames.{Word, Words, WritesWord}
 use Rattle.step_core.specs.WordPlaces.{HasWord, word_count}
 use Rattle.step_core.specs.declared.views.SharedRun.{SharedRun}
 use Rattle.step_core.specs.declared.views.View.{View}
+use Rattle.step_core.proofs.Looks.{same_name}
 use Rattle.step_core.proofs.WordReads.{WritesWord-set}
 
 -- a table of the view with one word set
@@ -50,8 +51,25 @@ module _ (run : SharedRun) (view : View) (of_run : IsViewOf run view) (name : Wo
     seen = length-set view.seen (place_in view name) left ∙ of_run.seen;
     looked = length-set view.looked (place_in view name) (view.steps + 1) ∙ of_run.looked;
     found_zero = by_test (found == 0);
+    looks = λ other.
+        elim (same_name other name) [
+          | inl e ↦ omega (arith, ap (last_look (saw view name found left)) e, (WritesWord-looked found left).here)
+          | inr apart ↦ omega (arith, (WritesWord-looked found left).others other apart, of_run.looks other)
+        ];
+    zero_looks = λ other. zeros other (found == 0) refl;
   }
     where
+      zeros : (other : Word) (b : Bool) → (found == 0) ≡ b → last_zero (saw view name found left) other ≤ view.steps + 1
+      zeros other false e = omega (arith, ap (λ z. z other) (last_zero-other found left (eqb-false found 0 e)), of_run.zero_looks other)
+      zeros other true e =
+          let none : found ≡ 0 = eqb-true found 0 e in
+          elim (same_name other name) [
+            | inl same ↦
+                omega (arith, ap (last_zero (saw view name found left)) same, ap (λ n. last_zero (saw view name n left) name) none, (WritesWord-zero left).here)
+            | inr apart ↦
+                omega (arith, ap (λ n. last_zero (saw view name n left) other) none, (WritesWord-zero left).others other apart, of_run.zero_looks other)
+          ]
+
       by_test : (b : Bool) → length (cond b (slice_set view.found_zero (place_in view name) (view.steps + 1)) view.found_zero) ≡ word_count (run_sizes run)
       by_test true = length-set view.found_zero (place_in view name) (view.steps + 1) ∙ of_run.found_zero
       by_test false = of_run.found_zero

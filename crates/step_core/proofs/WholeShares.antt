@@ -17,7 +17,7 @@ use Rattle.step_core.specs.declared.views.Member.{Member}
 use Rattle.step_core.specs.declared.views.SharedRun.{SharedRun}
 use Rattle.step_core.specs.declared.views.View.{View}
 use Rattle.step_core.proofs.FinishedTurns.{times-at}
-use Rattle.step_core.proofs.MarksInHand.{IsInHand-held, once_if-true}
+use Rattle.step_core.proofs.MarksInHand.{IsInHand-held, once_if-most, once_if-true}
 use Rattle.step_core.proofs.ViewLists.{sum-one, sum-two, sum-zero}
 
 -- fewer than all pass a test that one number fails
@@ -80,3 +80,19 @@ module _ (run : SharedRun) (words : Words) (views : List View) (id : ℕ) (view 
         same_test false false e = refl
         same_test true false e = absurd (omega (arith, e))
         same_test false true e = absurd (omega (arith, e))
+
+-- ---- one hand
+
+-- a mark is in one hand at most
+pub one_hand :
+    (run : SharedRun) (words : Words) (views : List View) (i j : ℕ) (one other : View) → IsWorld run words views → get_elem? views i ≡ some one
+    → get_elem? views j ≡ some other → (k : ℕ) → holds k one.hand ≡ true → holds k other.hand ≡ true → i ≡ j
+one_hand run words views i j one other world at there k here too =
+    elim (cases_eq i j) [
+      | inl same ↦ same
+      | inr apart ↦ (
+          let two = sum-two (λ u. once_if (holds k u.hand)) views i j one other apart at there in
+          let a : once_if (holds k one.hand) ≡ 1 = ap once_if here in
+          let b : once_if (holds k other.hand) ≡ 1 = ap once_if too in
+          absurd (omega (arith, two, a, b, world.numbers.each_once k, once_if-most (is_claimed run.strips (counters words) k))))
+    ]

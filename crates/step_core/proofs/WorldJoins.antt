@@ -193,6 +193,8 @@ module _ (run : SharedRun) (words : Words) (views : List View) (id : ℕ) (view 
           seen = length-merged (run_sizes view.run) view.seen other.seen ∙ count;
           looked = mine.looked;
           found_zero = mine.found_zero;
+          looks = λ name. omega (arith, mine.looks name);
+          zero_looks = λ name. omega (arith, mine.zero_looks name);
         }
 
     all_limits : greatest_limit views ≤ greatest_limit after
@@ -258,7 +260,7 @@ module _ (run : SharedRun) (words : Words) (views : List View) (id : ℕ) (view 
         );
         limits = each (λ u. u.most ≤ length run.marks) world.numbers.limits
             (omega (arith, world.numbers.limits id view at, world.numbers.limits j other was)) (omega arith);
-        blank = world.numbers.blank;
+        packed = world.numbers.packed;
         count = world.numbers.count;
       };
       turns = record {

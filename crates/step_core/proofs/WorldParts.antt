@@ -1,13 +1,12 @@
 -- What a step of one view leaves of each part of the law of worlds.
 use Rattle.std.proofs.Common.{◌≡◌, ◌≢◌, ℕ, zero, suc, ◌+◌, ◌%◌, ◌<◌, ◌≤◌, ◌^◌, Bool, true, false}
-use Rattle.std.proofs.Common.{List, length, set, Option, Some, None, refl, sym, ap, ◌∙◌, subst, inl, inr, arith}
+use Rattle.std.proofs.Common.{List, length, set, Some, None, refl, sym, ap, ◌∙◌, subst, inl, inr, arith}
 use Rattle.std.specs.Prelude.{◌⊎◌, ◌==◌, nat_lt, cond, is_some}
 use mathlib.Core.Option.{some}
 use lib.ListN.{get_elem?}
-use Rattle.std.proofs.lemmas.Bool.{cases_lt}
+use Rattle.std.proofs.lemmas.Bool.{cases_lt, le-ltb}
 use Rattle.plan_model.specs.MarkPoints.{is_claimed, quota_of}
 use Rattle.plan_model.specs.Turns.{AreTurns, is_of_turn, is_of_worker, once_if, turns_of}
-use Rattle.plan_model.specs.declared.records.Record.{Record}
 use Rattle.plan_model.proofs.CountsBelow.{count-all, count-same, count-wider}
 use Rattle.plan_model.proofs.QuotaLaws.{IsCutAt-quota}
 use Rattle.step_core.specs.GrownWords.{record_at}
@@ -16,7 +15,7 @@ use Rattle.step_core.specs.WordKinds.{AreBehind, HaveWholePairs}
 use Rattle.step_core.specs.WordNames.{Words}
 use Rattle.step_core.specs.WordNames.Word.{Count, Counter, FirstOf, RecordOf, TreeOf}
 use Rattle.step_core.specs.Words.{cost_in, outcome_in, record_in, record_of_word}
-use Rattle.step_core.specs.Worlds.{Agree, EachView, IsMember, Numbers, Seen, Shares, Turns, counters, greatest_limit, is_recorded, limit_of}
+use Rattle.step_core.specs.Worlds.{Agree, EachView, IsMember, IsRecordWord, Numbers, Seen, Shares, Turns, counters, greatest_limit, is_recorded, limit_of}
 use Rattle.step_core.specs.declared.views.Member.{Member}
 use Rattle.step_core.specs.declared.views.SharedRun.{SharedRun}
 use Rattle.step_core.specs.declared.views.View.{View}
@@ -70,6 +69,15 @@ is_some-own word first other = by_test (nat_lt word (2 ^ 63))
 abbrev pub KeepsRecords : Words → Words → Type 0
 KeepsRecords before after = (k : ℕ) → after (RecordOf k) ≡ before (RecordOf k)
 
+-- a record word that holds no record is 0
+pub record_word-none : (word first : ℕ) → IsRecordWord word → record_of_word word first ≡ None → word ≡ 0
+record_word-none word first (inl none) e = none
+record_word-none word first (inr packed) e =
+    let entry = packed.0 in
+    let written : nat_lt word (2 ^ 63) ≡ false = le-ltb word (2 ^ 63) (omega (arith, packed.2)) in
+    let some_record = sym (ap (λ b. cond b None (Some (record_in (outcome_in word) word first))) written) ∙ e in
+    cc
+
 module _ (before after : Words) (kept : KeepsRecords before after) where
   pub is_recorded-kept : (k : ℕ) → is_recorded after k ≡ is_recorded before k
   is_recorded-kept k =
@@ -97,12 +105,8 @@ module _ (before after : Words) (kept : KeepsRecords before after) where
         ∙ turns.each w t ∙ sym (ap (λ n. once_if (nat_lt t n)) (turns_of-kept limit w));
   }
 
-  pub blank-kept : ((k : ℕ) → record_at before k ≡ None → before (RecordOf k) ≡ 0) → (k : ℕ) → record_at after k ≡ None → after (RecordOf k) ≡ 0
-  blank-kept blank k none = kept k ∙ blank k (no_record (record_at before k) (sym (is_recorded-kept k) ∙ ap is_some none))
-    where
-      no_record : (o : Option Record) → is_some o ≡ false → o ≡ None
-      no_record None e = refl
-      no_record (Some entry) e = cc
+  pub packed-kept : ((k : ℕ) → IsRecordWord (before (RecordOf k))) → (k : ℕ) → IsRecordWord (after (RecordOf k))
+  packed-kept packed k = subst IsRecordWord (sym (kept k)) (packed k)
 
   -- a member stays one, where the view still sees the records that it saw as they are
   pub IsMember-kept :
@@ -138,13 +142,13 @@ module _ (run : SharedRun) (before after : Words) (views : List View) (id : ℕ)
       Numbers run before views → ((g : ℕ) → g < run.strips → after (Counter g) ≤ quota_of run.strips g (greatest_limit (set views id then)))
       → ((k : ℕ) → once_if (is_recorded after k) + once_if (holds k then.hand) + once_if (is_claimed run.strips (counters before) k)
       ≡ once_if (is_recorded before k) + once_if (holds k view.hand) + once_if (is_claimed run.strips (counters after) k))
-      → then.most ≤ length run.marks → ((k : ℕ) → record_at after k ≡ None → after (RecordOf k) ≡ 0)
+      → then.most ≤ length run.marks → ((k : ℕ) → IsRecordWord (after (RecordOf k)))
       → after Count ≤ length run.marks + 1 → Numbers run after (set views id then)
-  Numbers-step numbers quotas balance most blank count = record {
+  Numbers-step numbers quotas balance most packed count = record {
     quotas = quotas;
     each_once = λ k. omega (arith, balance k, numbers.each_once k, sum-set (λ u. once_if (holds k u.hand)) views id view then at);
     limits = each-set views id then (λ u. u.most ≤ length run.marks) (λ i u apart e. numbers.limits i u e) most;
-    blank = blank;
+    packed = packed;
     count = count;
   }
 

@@ -28,6 +28,7 @@ pub record SeesAsMuch (view then : View) : Type 0 where
   pub took : then.took ≡ view.took
   pub looked : then.looked ≡ view.looked
   pub found_zero : then.found_zero ≡ view.found_zero
+  pub steps : view.steps ≤ then.steps
 
 -- A view is cut into two: no member is lost, and the hand stays on the left.
 pub record IsCut (view left right : View) : Type 0 where
@@ -56,6 +57,12 @@ IsViewOf-same run view then same of_run = record {
   seen = ap (λ l. length l) same.seen ∙ of_run.seen;
   looked = ap (λ l. length l) same.looked ∙ of_run.looked;
   found_zero = ap (λ l. length l) same.found_zero ∙ of_run.found_zero;
+  looks = λ name.
+      let is = ap (λ r. words_of_run r then.looked name) same.run ∙ ap (λ l. words_of_run view.run l name) same.looked in
+      omega (arith, is, of_run.looks name, same.steps);
+  zero_looks = λ name.
+      let is = ap (λ r. words_of_run r then.found_zero name) same.run ∙ ap (λ l. words_of_run view.run l name) same.found_zero in
+      omega (arith, is, of_run.zero_looks name, same.steps);
 }
 
 IsMember-same : (run : SharedRun) (words : Words) (view then : View) (member : Member) → SeesAsMuch view then → IsMember run words view member
@@ -118,7 +125,7 @@ module _ (run : SharedRun) (words : Words) (views : List View) (id : ℕ) (view 
                 world.numbers.limits id view at,
               )))
               (omega (arith, cut.limits.1, world.numbers.limits id view at));
-          blank = world.numbers.blank;
+          packed = world.numbers.packed;
           count = world.numbers.count;
         };
         turns = record {
@@ -210,8 +217,8 @@ IsCut-parted view = record {
   hand = refl;
   no_hand = refl;
   limits = (refl, refl);
-  tables_left = record { run = refl; seen = refl; took = refl; looked = refl; found_zero = refl };
-  tables_right = record { run = refl; seen = refl; took = refl; looked = refl; found_zero = refl };
+  tables_left = record { run = refl; seen = refl; took = refl; looked = refl; found_zero = refl; steps = omega arith };
+  tables_right = record { run = refl; seen = refl; took = refl; looked = refl; found_zero = refl; steps = omega arith };
 }
 
 pub IsCut-looker : (view : View) → IsCut view (stepped view) (looker view)
@@ -224,6 +231,6 @@ IsCut-looker view = record {
   hand = refl;
   no_hand = refl;
   limits = (refl, refl);
-  tables_left = record { run = refl; seen = refl; took = refl; looked = refl; found_zero = refl };
-  tables_right = record { run = refl; seen = refl; took = refl; looked = refl; found_zero = refl };
+  tables_left = record { run = refl; seen = refl; took = refl; looked = refl; found_zero = refl; steps = omega arith };
+  tables_right = record { run = refl; seen = refl; took = refl; looked = refl; found_zero = refl; steps = omega arith };
 }

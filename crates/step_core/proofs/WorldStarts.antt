@@ -1,13 +1,15 @@
 -- A shared run that goes on from a closed run begins with a lawful world: one view, which has the whole share and has seen all words.
-use Rattle.std.proofs.Common.{◌≡◌, ℕ, zero, suc, ◌<◌, ◌≤◌, Bool, true, false, List, [], ◌∷◌}
+use Rattle.std.proofs.Common.{◌≡◌, ℕ, zero, suc, ◌<◌, ◌≤◌, Bool, true, false, List, [], ◌∷◌, ◌/◌, ◌^◌}
 use Rattle.std.proofs.Common.{length, map, Option, Some, None, refl, sym, ap, ◌∙◌, subst, inl, inr, arith}
-use Rattle.std.specs.Prelude.{◌⊎◌, ◌==◌, nat_lt, cond, is_some, max}
+use Rattle.std.specs.Prelude.{◌⊎◌, ◌==◌, nat_lt, cond, is_some, max, replicate, slice_index}
 use Rattle.std.specs.List.{count_by, range_with_len}
 use mathlib.Core.Option.{some, some-ne-none, some-injective}
 use lib.ListN.{get_elem?}
 use Rattle.std.proofs.lemmas.Bool.{cases_Bool, cases_lt, eq-eqb, eqb-true, le-ltb, lt-ltb, ne_eqb}
 use Rattle.std.proofs.lemmas.List.{length-map, length-replicate}
 use Rattle.std.proofs.lemmas.List.FromFn.{length-range_with_len}
+use Rattle.std.proofs.lemmas.Nat.{mod_below}
+use Rattle.std.proofs.lemmas.Option.{same_Some}
 use Rattle.std.proofs.lemmas.List.Sums.{sum_by-cons}
 use Rattle.plan_model.specs.MarkPoints.{is_claimed}
 use Rattle.plan_model.specs.PointsByNumber.{IsPresent}
@@ -25,10 +27,11 @@ use Rattle.step_core.specs.GrownWords.{HoldRun, has_node, has_placed, points_of_
 use Rattle.step_core.specs.ViewStarts.{crew_from, member_of, newcomer}
 use Rattle.step_core.specs.Views.{IsViewOf, run_of, run_sizes, sees, share, spent, times, took_over}
 use Rattle.step_core.specs.WordKinds.{AreBehind, HaveWholePairs}
-use Rattle.step_core.specs.WordNames.{Words}
-use Rattle.step_core.specs.WordNames.Word.{RecordOf}
-use Rattle.step_core.specs.WordPlaces.{word_count}
-use Rattle.step_core.specs.Worlds.{Agree, EachView, IsMember, IsWorld, counters, greatest_limit, is_recorded}
+use Rattle.step_core.specs.WordNames.{Word, Words}
+use Rattle.step_core.specs.WordNames.Word.{FirstOf, RecordOf}
+use Rattle.step_core.specs.WordPlaces.{Sizes, has_word, place_of, word_at, word_count}
+use Rattle.step_core.specs.Words.{FitsWord, fourth_in, outcome_in, record_in, record_of_word}
+use Rattle.step_core.specs.Worlds.{Agree, EachView, IsMember, IsRecordWord, IsWorld, counters, greatest_limit, is_recorded}
 use Rattle.step_core.specs.declared.views.Member.{Member}
 use Rattle.step_core.specs.declared.views.SharedRun.{SharedRun}
 use Rattle.step_core.specs.declared.views.View.{View}
@@ -78,6 +81,45 @@ crew-at run words (w ∷ numbers) (suc i) member e = crew-at run words numbers i
 
 -- ---- the words of a closed run
 
+-- what is read of a word fits one
+FitsWord-read : (number word first : ℕ) → FitsWord (record_in number word first)
+unfolding fourth_in
+FitsWord-read zero word first = record {
+  worker = mod_below word (2 ^ 6) (omega arith);
+  turn = mod_below (word / 2 ^ 6) (2 ^ 18) (omega arith);
+  nearest = mod_below (word / 2 ^ 24) (2 ^ 18) (omega arith);
+  last = mod_below (word / 2 ^ 44) (2 ^ 18) (omega arith);
+}
+FitsWord-read (suc zero) word first = record {
+  worker = mod_below word (2 ^ 6) (omega arith);
+  turn = mod_below (word / 2 ^ 6) (2 ^ 18) (omega arith);
+  nearest = mod_below (word / 2 ^ 24) (2 ^ 18) (omega arith);
+  last = mod_below (word / 2 ^ 44) (2 ^ 18) (omega arith);
+}
+FitsWord-read (suc (suc n)) word first = blocked_fits n
+  where
+    blocked_fits : (n : ℕ) → FitsWord (record_in (suc (suc n)) word first)
+    blocked_fits zero = record {
+      worker = mod_below word (2 ^ 6) (omega arith);
+      turn = mod_below (word / 2 ^ 6) (2 ^ 18) (omega arith);
+      nearest = mod_below (word / 2 ^ 24) (2 ^ 18) (omega arith);
+      last = omega arith;
+    }
+    blocked_fits (suc m) = record {
+      worker = mod_below word (2 ^ 6) (omega arith);
+      turn = mod_below (word / 2 ^ 6) (2 ^ 18) (omega arith);
+      nearest = mod_below (word / 2 ^ 24) (2 ^ 18) (omega arith);
+      last = omega arith;
+    }
+
+-- the record that a word holds is the one that is read
+record_in_word : (word first : ℕ) (entry : Record) → record_of_word word first ≡ Some entry → entry ≡ record_in (outcome_in word) word first
+record_in_word word first entry e = by_test (nat_lt word (2 ^ 63)) e
+  where
+    by_test : (b : Bool) → cond b None (Some (record_in (outcome_in word) word first)) ≡ Some entry → entry ≡ record_in (outcome_in word) word first
+    by_test true h = cc
+    by_test false h = sym (same_Some (record_in (outcome_in word) word first) entry h)
+
 has_outcome-placed : (o : Option Record) → has_placed o ≡ has_outcome is_placed o
 has_outcome-placed None = refl
 has_outcome-placed (Some entry) = refl
@@ -112,14 +154,38 @@ module _ (task : Task) (limit : ℕ) (words : Words) (held : HoldRun task limit 
             ∙ sym (ap once_if (is_claimed-past task.scene.strips some_strip (counters words) limit held.claimed k past))
       ]
 
-  blank_past : (k : ℕ) → record_at words k ≡ None → words (RecordOf k) ≡ 0
-  blank_past k none =
-      elim (cases_lt k limit) [
-        | inl low ↦ (let gone = sym (ap is_some none) ∙ held.closed.records.recorded k low in cc)
-        | inr past ↦ held.unrecorded k past
-      ]
+  packed_record : (k : ℕ) → IsRecordWord (words (RecordOf k))
+  packed_record k = by_record (record_at words k) refl
+    where
+      by_record : (o : Option Record) → record_at words k ≡ o → IsRecordWord (words (RecordOf k))
+      by_record (Some entry) e =
+          inr (
+            entry,
+            subst FitsWord (sym (record_in_word (words (RecordOf k)) (words (FirstOf (suc k))) entry e))
+                (FitsWord-read (outcome_in (words (RecordOf k))) (words (RecordOf k)) (words (FirstOf (suc k)))),
+            held.recorded k entry e,
+          )
+      by_record None e =
+          elim (cases_lt k limit) [
+            | inl low ↦ (let gone = sym (ap is_some e) ∙ held.closed.records.recorded k low in cc)
+            | inr past ↦ inl (held.unrecorded k past)
+          ]
 
 -- ---- the first world
+
+-- each word of a list of zeros is 0
+zeros : (n i : ℕ) → slice_index (replicate n 0) i ≡ 0
+zeros zero i = refl
+zeros (suc n) zero = refl
+zeros (suc n) (suc i) = zeros n i
+
+zero-read : (sizes : Sizes) (n : ℕ) (name : Word) → word_at sizes (replicate n 0) name ≡ 0
+unfolding word_at
+zero-read sizes n name = by_test (has_word sizes name)
+  where
+    by_test : (t : Bool) → cond t (slice_index (replicate n 0) (place_of sizes name)) 0 ≡ 0
+    by_test true = zeros n (place_of sizes name)
+    by_test false = refl
 
 -- of a single view
 only : (view : View) (has : View → Type 0) → has view → EachView (view ∷ []) has
@@ -146,12 +212,14 @@ IsWorld-started task limit workers items sized held some_worker few =
         seen = sized;
         looked = length-replicate (length items) 0 ∙ sized;
         found_zero = length-replicate (length items) 0 ∙ sized;
+        looks = λ name. omega (arith, zero-read (run_sizes run) (length items) name);
+        zero_looks = λ name. omega (arith, zero-read (run_sizes run) (length items) name);
       }));
       numbers = record {
         quotas = λ g strip. omega (arith, held.claimed g strip, quota-up run.strips g limit (greatest_limit (first ∷ [])) strip (binds all));
         each_once = λ k. omega (arith, recorded_once task limit words held k);
         limits = only first (λ u. u.most ≤ length task.marks) held.closed.within;
-        blank = blank_past task limit words held;
+        packed = packed_record task limit words held;
         count = omega (arith, held.counted, node_count-words (sizes_of task) words);
       };
       turns = record {

@@ -1,7 +1,7 @@
 -- A load of any word keeps the law of worlds, and so does a claim.
 use Rattle.std.proofs.Common.{◌≡◌, ℕ, ◌+◌, ◌*◌, ◌<◌, ◌≤◌, ◌^◌, max, Bool, true, false, List}
 use Rattle.std.proofs.Common.{length, set, None, refl, sym, ap, ◌∙◌, subst, inl, inr, arith, le_refl, le_trans}
-use Rattle.std.specs.Prelude.{◌⊎◌, ◌==◌, cond}
+use Rattle.std.specs.Prelude.{◌≢◌, ◌⊎◌, ◌==◌, cond}
 use mathlib.Core.Option.{some}
 use lib.ListN.{get_elem?}
 use Rattle.std.proofs.lemmas.Bool.{cases_eq, eqb-true}
@@ -23,7 +23,7 @@ use Rattle.step_core.proofs.SeenByViews.{IsViewOf-saw, WritesWord-saw}
 use Rattle.step_core.proofs.ViewLists.{at-set, greatest-one, greatest-set}
 use Rattle.step_core.proofs.WordKinds.{AreBehind-refl, AreBehind-trans}
 use Rattle.step_core.proofs.WorldParts.{KeepsRecords, Numbers-step, Seen-step, Shares-step, Turns-step}
-use Rattle.step_core.proofs.WorldParts.{blank-kept, is_recorded-kept, limit_of-up, of_run-step, quota-up, quotas-kept}
+use Rattle.step_core.proofs.WorldParts.{packed-kept, is_recorded-kept, limit_of-up, of_run-step, quota-up, quotas-kept}
 
 -- a view of the run is not spent
 pub IsViewOf-live : (run : SharedRun) (view : View) → IsSharedRun run → view.run ≡ run → (view ≡ spent) ⊎ IsViewOf run view → IsViewOf run view
@@ -56,7 +56,7 @@ module _ (run : SharedRun) (words : Words) (views : List View) (id : ℕ) (view 
         numbers = Numbers-step run words words views id view then at world.numbers
             (quotas-kept run words words views (set views id then) world.numbers (λ g within. refl)
             (greatest-set limit_of views id view then at (limit_of-up view then refl (le_refl view.most))))
-            (λ k. refl) (world.numbers.limits id view at) world.numbers.blank world.numbers.count;
+            (λ k. refl) (world.numbers.limits id view at) world.numbers.packed world.numbers.count;
         turns = Turns-step run words words views id view then at world.turns (λ k. refl) refl
             (λ k. same-saw name x (sees view) (sees then) words writes refl behind (RecordOf k));
         shares = Shares-step run words words views id view then at world.shares refl (world.shares.idle id view at);
@@ -125,7 +125,7 @@ module _ (run : SharedRun) (words : Words) (views : List View) (id : ℕ) (view 
           run_is = world.run_is;
           of_run = of_run-step run views id then world.of_run (by_fields (IsViewOf-saw run view live (Counter g) here c (c + 1)));
           numbers = Numbers-step run words after views id view then at world.numbers quotas balance
-              (omega (arith, world.numbers.limits id view at, most)) (blank-kept words after records world.numbers.blank)
+              (omega (arith, world.numbers.limits id view at, most)) (packed-kept words after records world.numbers.packed)
               (omega (arith, counts.others Count (λ e. cc), world.numbers.count));
           turns = Turns-step run words after views id view then at world.turns records refl
               (λ k same. writes.others (RecordOf k) (λ e. cc) ∙ same);
@@ -138,7 +138,7 @@ module _ (run : SharedRun) (words : Words) (views : List View) (id : ℕ) (view 
         }
       where
         by_fields : IsViewOf run (saw view (Counter g) c (c + 1)) → IsViewOf run (claimed view g c limit)
-        by_fields v = record { run_is = v.run_is; seen = v.seen; looked = v.looked; found_zero = v.found_zero }
+        by_fields v = record { run_is = v.run_is; seen = v.seen; looked = v.looked; found_zero = v.found_zero; looks = v.looks; zero_looks = v.zero_looks }
 
         pairs : (n : ℕ) → (after (TreeOf n) ≡ 0) ⊎ (2 ^ 63 ≤ after (TreeOf n))
         pairs n = subst (λ w. (w ≡ 0) ⊎ (2 ^ 63 ≤ w)) (sym (counts.others (TreeOf n) (λ e. cc))) (world.seen.pairs n)
@@ -146,3 +146,9 @@ module _ (run : SharedRun) (words : Words) (views : List View) (id : ℕ) (view 
 -- the words go on by a claim
 pub AreBehind-claimed : (words after : Words) (g c : ℕ) → words (Counter g) ≡ c → WritesWord (Counter g) (c + 1) words after → AreBehind words after
 AreBehind-claimed words after g c is counts = AreBehind-write (Counter g) (c + 1) words after counts (omega (arith, is))
+
+-- a claim that finds another number than was seen finds a higher one
+pub higher-found :
+    (run : SharedRun) (words : Words) (views : List View) (id : ℕ) (view : View) → IsWorld run words views → get_elem? views id ≡ some view → (g : ℕ)
+    → words (Counter g) ≢ sees view (Counter g) → sees view (Counter g) < words (Counter g)
+higher-found run words views id view world at g other = omega (arith, world.seen.behind id view at (Counter g), other)

@@ -2,6 +2,8 @@
 use Rattle.std.specs.Prelude.{◌≡◌, ℕ, ◌+◌, ◌<◌, ◌≤◌, ◌⊎◌, Some, None, length}
 use lib.ListN.{get_elem?}
 use mathlib.Core.Option.{some}
+use Rattle.plan_model.specs.Turns.{turns_of}
+use Rattle.step_core.specs.GrownWords.{record_at}
 use Rattle.step_core.specs.Views.{IsSharedRun, IsViewOf, last_look, last_zero, sees, share, took_over}
 use Rattle.step_core.specs.WordKinds.{AreBehind}
 use Rattle.step_core.specs.WordNames.{Word}
@@ -10,8 +12,8 @@ use Rattle.step_core.specs.declared.views.Hand.{Hand}
 use Rattle.step_core.specs.declared.views.Member.{Member}
 use Rattle.step_core.specs.declared.views.View.{View}
 
--- A view after some more of its own steps. What was seen of a word may become what is seen. Each word was last looked at when it was, or
--- since; and it was last found 0 when it was, or since, and then it had not been seen before.
+-- A view after some more of its own steps. What was seen of a word may become what is seen. The last look at a word is as before, or a later
+-- step. The last step that found it 0 is as before, or a later one, and then nothing had been seen of it before.
 pub record IsLater (before after : View) : Type 0 where
   pub run : after.run ≡ before.run
   pub seen : AreBehind (sees before) (sees after)
@@ -19,8 +21,9 @@ pub record IsLater (before after : View) : Type 0 where
   pub looked : (name : Word) → (last_look after name ≡ last_look before name) ⊎ (before.steps < last_look after name)
   pub zero_found : (name : Word) → (last_zero after name ≡ last_zero before name) ⊎ ((before.steps < last_zero after name) × (sees before name ≡ 0))
 
--- What the law says of one view alone. Its worker, its next turn and its mark in hand are within their limits, and so are the numbers that
--- it has seen. It has seen at least what the pass had that it last took over.
+-- What the law says of one view alone. Its greatest limit, its workers and its mark in hand are within their limits, and so are the numbers
+-- that it has seen, and a worker's next turn while a mark is in hand. Without a share nothing is in hand. Its workers' turns are the numbers
+-- of their records seen. It has seen at least what the pass had that it last took over.
 pub record IsLawfulView (view : View) : Type 0 where
   pub run : IsSharedRun view.run
   pub of_run : IsViewOf view.run view
@@ -29,6 +32,8 @@ pub record IsLawfulView (view : View) : Type 0 where
   pub mark : (hand : Hand) → view.hand ≡ Some hand → hand.mark < length view.run.marks
   pub worker : (i : ℕ) (member : Member) → get_elem? view.crew i ≡ some member → member.worker < view.run.workers
   pub turn : (hand : Hand) (i : ℕ) (member : Member) → view.hand ≡ Some hand → get_elem? view.crew i ≡ some member → member.turn < length view.run.marks
+  pub own_turn : (i : ℕ) (member : Member) → get_elem? view.crew i ≡ some member
+      → member.turn ≡ turns_of (record_at (sees view)) (length view.run.marks) member.worker
   pub took : AreBehind (took_over view) (sees view)
   pub count : sees view Count ≤ length view.run.marks + 1
   pub counter : (g : ℕ) → g < view.run.strips → sees view (Counter g) ≤ length view.run.marks

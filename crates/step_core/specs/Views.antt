@@ -4,7 +4,7 @@ use Rattle.plan_model.specs.SeenTrees.{SeenTree}
 use Rattle.plan_model.specs.declared.limits.TheConstants.{MOST_MARKS, MOST_STRIPS, MOST_WORKERS}
 use Rattle.plan_model.specs.declared.tasks.Task.{Task}
 use Rattle.step_core.specs.SeenWords.{SeenWords, seen_tree_of_words}
-use Rattle.step_core.specs.WordNames.{Words}
+use Rattle.step_core.specs.WordNames.{Word, Words}
 use Rattle.step_core.specs.WordPlaces.{Sizes, word_at, word_count}
 use Rattle.step_core.specs.declared.views.Hand.{Hand}
 use Rattle.step_core.specs.declared.views.Member.{Member}
@@ -13,7 +13,7 @@ use Rattle.step_core.specs.declared.views.View.{View}
 
 -- ---- the run
 
--- what the workers of a task are told, who go on from the run at this limit
+-- what those are told who work on a task, from a run at this limit
 abbrev pub run_of : Task → ℕ → ℕ → SharedRun
 run_of task workers opening =
     record {
@@ -85,12 +85,15 @@ seen_words view = record { seen = sees view; steps = view.steps; found_zero = la
 abbrev pub tree_seen : View → SeenTree
 tree_seen view = seen_tree_of_words (run_sizes view.run) (sees view)
 
--- the view is of this run, and its tables have a place for each word
+-- The view is of this run. Its tables of what it has seen, and when, have a place for each word, and all its looks are by steps that it
+-- has made.
 pub record IsViewOf (run : SharedRun) (view : View) : Type 0 where
   pub run_is : view.run ≡ run
   pub seen : length view.seen ≡ word_count (run_sizes run)
   pub looked : length view.looked ≡ word_count (run_sizes run)
   pub found_zero : length view.found_zero ≡ word_count (run_sizes run)
+  pub looks : (name : Word) → last_look view name ≤ view.steps
+  pub zero_looks : (name : Word) → last_zero view name ≤ view.steps
 
 -- ---- spent views
 

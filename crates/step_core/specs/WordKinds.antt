@@ -42,7 +42,7 @@ AreBehind words later = (name : Word) → MayBecome (kind_of name) (words name) 
 
 -- ---- two tables
 
--- the later of two words of a kind, which may both become one
+-- of two words of a kind that may both become one word, the later
 abbrev pub later_word : WordKind → ℕ → ℕ → ℕ
 later_word Rising one other = max one other
 later_word Once one other = if one == 0 then other else one

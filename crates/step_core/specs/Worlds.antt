@@ -5,12 +5,13 @@ use Rattle.std.specs.List.{sum_by}
 use lib.ListN.{get_elem?}
 use mathlib.Core.Option.{some}
 use Rattle.plan_model.specs.MarkPoints.{quota_of, is_claimed}
+use Rattle.plan_model.specs.declared.records.Record.{Record}
 use Rattle.plan_model.specs.Turns.{AreTurns, is_of_worker, once_if, turns_of}
 use Rattle.step_core.specs.GrownWords.{record_at}
 use Rattle.step_core.specs.Views.{IsSharedRun, IsViewOf, holds, sees, share, spent, times, took_over}
 use Rattle.step_core.specs.WordKinds.{AreBehind, HaveWholePairs}
 use Rattle.step_core.specs.WordNames.{Words}
-use Rattle.step_core.specs.Words.{cost_in}
+use Rattle.step_core.specs.Words.{FitsWord, cost_in, record_word}
 use Rattle.step_core.specs.WordNames.Word.{Count, Counter, RecordOf, TreeOf}
 use Rattle.step_core.specs.declared.views.Member.{Member}
 use Rattle.step_core.specs.declared.views.SharedRun.{SharedRun}
@@ -31,7 +32,7 @@ abbrev pub greatest : List ℕ → ℕ
 greatest [] = 0
 greatest (n ∷ rest) = max n (greatest rest)
 
--- the limit that a view binds the counters by: none without a share
+-- the limit up to which a view lets counters rise; 0 without a share
 abbrev pub limit_of : View → ℕ
 limit_of view = if share view == 0 then 0 else view.most
 
@@ -45,17 +46,21 @@ greatest_limit views = greatest (map limit_of views)
 abbrev pub counters : Words → ℕ → ℕ
 counters words strip = words (Counter strip)
 
+-- no record, or a packed one
+abbrev pub IsRecordWord : ℕ → Type 0
+IsRecordWord word = (word ≡ 0) ⊎ ((entry : Record) × FitsWord entry × (word ≡ record_word entry))
+
 -- mark k has a record
 abbrev pub is_recorded : Words → ℕ → Bool
 is_recorded words k = is_some (record_at words k)
 
 -- No counter is above its strip's quota below the greatest limit used. Each mark below the counters is recorded or in one hand, once, and
--- no other mark is. A record word that holds no record is 0. No more nodes are counted than there may be.
+-- no other mark is. No limit is above the number of marks. A record word is 0, or packed. No more nodes are counted than there may be.
 pub record Numbers (run : SharedRun) (words : Words) (views : List View) : Type 0 where
   pub quotas : (g : ℕ) → g < run.strips → words (Counter g) ≤ quota_of run.strips g (greatest_limit views)
   pub each_once : (k : ℕ) → once_if (is_recorded words k) + holders k views ≡ once_if (is_claimed run.strips (counters words) k)
   pub limits : EachView views (λ view. view.most ≤ length run.marks)
-  pub blank : (k : ℕ) → record_at words k ≡ None → words (RecordOf k) ≡ 0
+  pub packed : (k : ℕ) → IsRecordWord (words (RecordOf k))
   pub count : words Count ≤ length run.marks + 1
 
 -- ---- turns
@@ -65,7 +70,7 @@ pub record IsMember (run : SharedRun) (words : Words) (view : View) (member : Me
   pub turn : member.turn ≡ turns_of (record_at words) (length run.marks) member.worker
   pub own : (k : ℕ) → is_of_worker member.worker (record_at words k) ≡ true → sees view (RecordOf k) ≡ words (RecordOf k)
 
--- The turns of each worker run from 0, with no gap and none twice. Each worker of the run is in one crew.
+-- The turns of each worker run from 0, with no gap and none twice. Each worker of the run is in one crew, and no other is in any.
 pub record Turns (run : SharedRun) (words : Words) (views : List View) : Type 0 where
   pub workers : AreTurns (length run.marks) (record_at words)
   pub members : EachView views (λ view. (i : ℕ) (member : Member) → get_elem? view.crew i ≡ some member → IsMember run words view member)
@@ -85,7 +90,8 @@ abbrev pub Agree : Words → Words → Type 0
 Agree one other =
     (n : ℕ) → 2 ^ 63 ≤ one (TreeOf n) → 2 ^ 63 ≤ other (TreeOf n) → cost_in (one (TreeOf n)) ≡ cost_in (other (TreeOf n)) → one (TreeOf n) ≡ other (TreeOf n)
 
--- What each view has seen of a word may become what the word is now. It has seen at least what the pass had that it last took over.
+-- What each view has seen of a word may become what the word is now. It has seen at least what the pass had that it last took over. Tree
+-- words are 0 or written, now and as they were seen, and views agree on them.
 pub record Seen (words : Words) (views : List View) : Type 0 where
   pub behind : EachView views (λ view. AreBehind (sees view) words)
   pub took : EachView views (λ view. AreBehind (took_over view) (sees view))
@@ -95,7 +101,7 @@ pub record Seen (words : Words) (views : List View) : Type 0 where
 
 -- ---- the law
 
--- All parts. A view is spent once its pass was taken over: it has nothing, and nothing is said of it.
+-- All parts. A view is spent once its pass was taken over: it has no share, no hand, and has seen nothing.
 pub record IsWorld (run : SharedRun) (words : Words) (views : List View) : Type 0 where
   pub run_is : IsSharedRun run
   pub of_run : EachView views (λ view. (view ≡ spent) ⊎ IsViewOf run view)

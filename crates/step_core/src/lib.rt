@@ -8,6 +8,9 @@
 //! nodes, and a record for each mark. Its type keeps the closed law (`plan_model/specs/ClosedLaw`), and its nodes are linked
 //! to a kd-tree. `word_places` alone knows the order of the words; contracts call them by their names
 //! (`specs/WordNames`), and `specs/GrownWords` says what tree they stand for.
+//!
+//! Several passes may step on the words of one run without a lock. What each knows is its [`View`], what holds between any two
+//! steps is the law of worlds (`specs/Worlds`), and each kind of step has a law that it keeps it (`world_laws`).
 #![tactic(auto)]
 
 mod cleared_words;

@@ -24,7 +24,7 @@ pub struct SharedRun {
     pub marks: Points,
     /// How many workers there are.
     pub workers: u32,
-    /// The limit of the run that it goes on from. The marks from there on are recorded by these workers.
+    /// The limit of the run that it goes on from.
     pub opening: u32,
 }
 
@@ -69,7 +69,7 @@ pub struct View {
     pub run: SharedRun,
     /// The workers whose share it has; it works as the first. A pass without a share only looks.
     pub crew: LinkedList<Member>,
-    /// The greatest limit that it has claimed marks below.
+    /// The greatest limit that it knows of: of the opening run, of a claim, or of a pass that it took over.
     pub most: u32,
     /// The mark that it is handling.
     pub hand: Option<Hand>,

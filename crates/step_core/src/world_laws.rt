@@ -1,23 +1,24 @@
 //! The law of worlds: how a world begins, that each kind of step keeps it, and what it says of marks, workers and what was
-//! seen. Each law is the contract of a function that does nothing. A step is made by the view at place `id`; the words after it
+//! seen. Each law is the contract of a function that does nothing. A step is made by the view at index `id`; the words after it
 //! are those before it, but for the word that it writes.
 
-ghost use Rattle.std.specs.Prelude.{◌≡◌, ◌≢◌, ℕ, ◌+◌, ◌<◌, ◌≤◌, ◌^◌, List, [], ◌∷◌, ◌++◌, length, slice_set, Some, None};
+ghost use Rattle.std.specs.Prelude.{◌≡◌, ◌≢◌, ℕ, ◌+◌, ◌<◌, ◌≤◌, ◌^◌, true, List, [], ◌∷◌, ◌++◌, length, slice_set, Some, None};
 ghost use lib.ListN.{get_elem?};
 ghost use mathlib.Core.Option.{some};
 ghost use Rattle.plan_model.specs.MarkPoints.{is_claimed};
 ghost use Rattle.plan_model.specs.declared.limits.TheConstants.{MOST_WORKERS};
+ghost use Rattle.plan_model.specs.declared.records.Record.{Record};
 ghost use Rattle.plan_model.specs.declared.tasks.Task.{Task};
 ghost use Rattle.step_core.specs.GrownWords.{HoldRun, record_at, run_words, sizes_of};
 ghost use Rattle.step_core.specs.LaterViews.{IsLater, IsLawfulView};
 ghost use Rattle.step_core.specs.ViewStarts.{newcomer};
 ghost use Rattle.step_core.specs.ViewSteps.{claimed, finished, joined, loaded, looker, mark_of, parted, stepped, worker_apart};
-ghost use Rattle.step_core.specs.Views.{run_of, run_sizes, sees, share, spent};
+ghost use Rattle.step_core.specs.Views.{holds, run_of, run_sizes, sees, share, spent};
 ghost use Rattle.step_core.specs.WordKinds.{AreBehind};
 ghost use Rattle.step_core.specs.WordNames.{Word, Words, WritesWord};
 ghost use Rattle.step_core.specs.WordNames.Word.{Counter, RecordOf};
 ghost use Rattle.step_core.specs.WordPlaces.{HasWord, word_count};
-ghost use Rattle.step_core.specs.Words.{IsTurnWord};
+ghost use Rattle.step_core.specs.Words.{FitsWord, record_word};
 ghost use Rattle.step_core.specs.Worlds.{IsWorld, counters, is_recorded};
 ghost use Rattle.step_core.specs.declared.views.Hand.{Hand};
 ghost use Rattle.step_core.specs.declared.views.Member.{Member};
@@ -47,14 +48,18 @@ pub fn claims_keep_the_law()
         → mark_of run g c < limit → limit ≤ length run.marks → WritesWord (Counter g) (c + 1) words after
         → IsWorld run after (slice_set views id (claimed view g c limit)) }
     ensures words { (words after : Words) (g c : ℕ) → words (Counter g) ≡ c → WritesWord (Counter g) (c + 1) words after → AreBehind words after }
+    // a claim that finds another number than was seen finds a higher one
+    ensures failed { (run : SharedRun) (words : Words) (views : List View) (id : ℕ) (view : View) → IsWorld run words views
+        → get_elem? views id ≡ some view → (g : ℕ) → words (Counter g) ≢ sees view (Counter g) → sees view (Counter g) < words (Counter g) }
 {}
 
 /// A record of the mark in hand keeps the law. It is of the first worker of the view's crew, and of its next turn.
 pub fn records_keep_the_law()
     ensures law { (run : SharedRun) (words after : Words) (views : List View) (id : ℕ) (view : View) → IsWorld run words views
         → get_elem? views id ≡ some view → view.run ≡ run → (hand : Hand) → view.hand ≡ Some hand → (member : Member) (crew : List Member)
-        → view.crew ≡ member ∷ crew → (word : ℕ) → IsTurnWord member.worker member.turn word → WritesWord (RecordOf hand.mark) word words after
-        → IsWorld run after (slice_set views id (finished view hand.mark word)) }
+        → view.crew ≡ member ∷ crew → (entry : Record) → FitsWord entry → entry.worker ≡ member.worker → entry.turn ≡ member.turn
+        → WritesWord (RecordOf hand.mark) (record_word entry) words after
+        → IsWorld run after (slice_set views id (finished view hand.mark (record_word entry))) }
     ensures words { (run : SharedRun) (words after : Words) (views : List View) (id : ℕ) (view : View) → IsWorld run words views
         → get_elem? views id ≡ some view → (hand : Hand) → view.hand ≡ Some hand → (word : ℕ) → WritesWord (RecordOf hand.mark) word words after
         → AreBehind words after }
@@ -68,23 +73,25 @@ pub fn splits_keep_the_law()
         → view.run ≡ run → IsWorld run words (slice_set views id (parted view) ++ worker_apart view ∷ []) }
 {}
 
-/// A join keeps the law, if the view that is taken over has nothing in hand. What either had seen may become what is seen then.
+/// A join keeps the law, if neither view has a mark in hand. What either had seen may become what is seen then.
 pub fn joins_keep_the_law()
     ensures law { (run : SharedRun) (words : Words) (views : List View) (id : ℕ) (view : View) (j : ℕ) (other : View) → IsWorld run words views
         → get_elem? views id ≡ some view → view.run ≡ run → other.run ≡ run → j ≢ id → get_elem? (slice_set views id (joined view other)) j ≡ some other
-        → other.hand ≡ None → IsWorld run words (slice_set (slice_set views id (joined view other)) j spent) }
+        → view.hand ≡ None → other.hand ≡ None → IsWorld run words (slice_set (slice_set views id (joined view other)) j spent) }
     ensures seen { (view other : View) → AreBehind (sees view) (sees (joined view other)) }
     ensures others_seen { (run : SharedRun) (words : Words) (views : List View) (id : ℕ) (view : View) (j : ℕ) (other : View) → IsWorld run words views
         → get_elem? views id ≡ some view → view.run ≡ run → other.run ≡ run → get_elem? views j ≡ some other
         → AreBehind (sees other) (sees (joined view other)) }
 {}
 
-/// A mark in hand has no record yet, and is one of the marks.
-pub fn marks_in_hand_have_no_record()
+/// A mark in hand has no record yet, is one of the marks, and is in no other hand.
+pub fn marks_in_hand_are_in_one_hand()
     ensures no_record { (run : SharedRun) (words : Words) (views : List View) (id : ℕ) (view : View) → IsWorld run words views
         → get_elem? views id ≡ some view → (hand : Hand) → view.hand ≡ Some hand → record_at words hand.mark ≡ None }
     ensures within { (run : SharedRun) (words : Words) (views : List View) (id : ℕ) (view : View) → IsWorld run words views
         → get_elem? views id ≡ some view → (hand : Hand) → view.hand ≡ Some hand → hand.mark < length run.marks }
+    ensures alone { (run : SharedRun) (words : Words) (views : List View) (i j : ℕ) (one other : View) → IsWorld run words views
+        → get_elem? views i ≡ some one → get_elem? views j ≡ some other → (k : ℕ) → holds k one.hand ≡ true → holds k other.hand ≡ true → i ≡ j }
 {}
 
 /// If one view has the whole share and nothing in hand, exactly the marks below the counters are recorded.
@@ -104,6 +111,9 @@ pub fn steps_lead_to_later_views()
     ensures record_stored { (run : SharedRun) (words : Words) (views : List View) (id : ℕ) (view : View) → IsWorld run words views
         → get_elem? views id ≡ some view → view.run ≡ run → (hand : Hand) → view.hand ≡ Some hand → (word : ℕ) → 2 ^ 63 ≤ word
         → IsLater view (finished view hand.mark word) }
+    ensures split { (view : View) → IsLater view (stepped view) }
+    ensures worker_split { (view : View) → IsLater view (parted view) }
+    ensures join { (view other : View) → IsLater view (joined view other) }
 {}
 
 /// What the law says of each view alone: its worker, its turn, its mark in hand and the numbers that it has seen are within their

@@ -1,4 +1,5 @@
-use Rattle.step_core.proofs.LaterViews.{IsLater-claimed, IsLater-finished, IsLater-loaded, IsLater-refl, IsLater-trans}
+use Rattle.step_core.proofs.LaterViews.{IsLater-claimed, IsLater-finished, IsLater-joined, IsLater-loaded}
+use Rattle.step_core.proofs.LaterViews.{IsLater-parted, IsLater-refl, IsLater-stepped, IsLater-trans}
 use Rattle.step_core.proofs.world_laws.steps_lead_to_later_views.Goals as goal
 
 pub returns-clause-stay : goal.returns-clause-stay
@@ -15,3 +16,12 @@ returns-clause-claim c = IsLater-claimed
 
 pub returns-clause-record_stored : goal.returns-clause-record_stored
 returns-clause-record_stored c = IsLater-finished
+
+pub returns-clause-split : goal.returns-clause-split
+returns-clause-split c = IsLater-stepped
+
+pub returns-clause-worker_split : goal.returns-clause-worker_split
+returns-clause-worker_split c = IsLater-parted
+
+pub returns-clause-join : goal.returns-clause-join
+returns-clause-join c = IsLater-joined

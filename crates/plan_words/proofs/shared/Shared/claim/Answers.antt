@@ -1,14 +1,13 @@
-use Rattle.std.proofs.Common.{◌≡◌, ◌≢◌, ◌<◌, ◌≤◌, ◌+◌, ◌==◌, ℕ, None, Some, refl, ap, sym, subst, ◌∙◌, arith, cond, le_trans, length}
-use Rattle.plan_words.proofs.Claiming.{IfNone-any, IsClaimed-exchanged, KeepsHand-trans, belongs_exchanged}
+use Rattle.std.proofs.Common.{◌≢◌, ◌<◌, refl, ap, sym, subst, ◌∙◌, arith, le_trans, length}
+use Rattle.plan_words.proofs.Claiming.{IfNone-any, IsClaimed-exchanged, KeepsHand-trans, belongs_exchanged, counters_changed, counters_twice}
 use Rattle.plan_words.proofs.Claiming.{claim_nearer, kept_exchanged, loaded_before, loaded_since}
 use Rattle.plan_words.proofs.shared.Shared.claim.Goals as goal
 use Rattle.plan_words.specs.Claims.{AllFull, IsOpen, KeepsHand}
 use Rattle.plan_words.specs.States.{worker_of}
-use Rattle.step_core.specs.Views.{share}
 use Rattle.step_core.proofs.LaterViews.{IsLater-refl, IsLater-trans}
 
 pub tries-init : goal.tries-init
-tries-init c = record { belongs = c.requires.belongs; kept = record { crew = refl; most = refl; hand = refl }; later = IsLater-refl c.args.pass.now.view }
+tries-init c = record { belongs = c.requires.belongs; kept = record { crew = refl; most = refl; hand = refl }; later = IsLater-refl c.args.pass.now.view; others = λ name apart. refl }
 
 pub first_open-requires-clause-belongs : goal.first_open-requires-clause-belongs
 first_open-requires-clause-belongs c = c.tries.invariant.belongs
@@ -50,8 +49,8 @@ returns-then-exchange-from-clause-some c =
     let kept = c.tries.invariant in
     let scan = c.in_ok-next.ensures in
     let next = c.in_ok-next.next in
-    let open_next = subst (λ crew. IsOpen c.first_open.new.pass.view (worker_of crew) c.args.limit next.strip next.row) kept.kept.crew scan.first in
-    IsClaimed-exchanged _ _ _ next.strip next.row c.exchange.result c.args.pass.now.view _ _ (ap (λ s. s.task.scene.strips) c.self.view_is)
+    let open_next = subst (λ crew. IsOpen c.first_open.new.pass.view (worker_of crew) c.args.limit next.strip next.round) kept.kept.crew scan.first in
+    IsClaimed-exchanged _ _ _ next.strip next.round c.exchange.result c.args.pass.now.view _ _ (ap (λ s. s.task.scene.strips) c.self.view_is)
     c.first_open.ensures.belongs (KeepsHand-trans _ _ _ kept.kept c.first_open.ensures.kept) (IsLater-trans _ _ _ kept.later c.first_open.ensures.later)
     open_next (c.if-exchange-from.true ∙ c.from.ensures) c.exchange.ensures.view c.exchange.ensures.seen
 
@@ -59,7 +58,7 @@ pub tries-smaller : goal.tries-smaller
 tries-smaller c =
     let scan = c.in_ok-next.ensures in
     let next = c.in_ok-next.next in
-    claim_nearer _ next.strip next.row c.exchange.result c.tries.pass.view c.first_open.new.pass c.exchange.new.pass (omega (
+    claim_nearer _ next.strip next.round c.exchange.result c.tries.pass.view c.first_open.new.pass c.exchange.new.pass (omega (
       arith,
       scan.first.strip,
     )) c.first_open.ensures.later
@@ -67,11 +66,19 @@ tries-smaller c =
 
 pub tries-preserved : goal.tries-preserved
 tries-preserved c =
-    let other : c.exchange.result ≢ c.in_ok-next.next.row = λ e. c.if-exchange-from.false (e ∙ sym c.from.ensures) in
+    let other : c.exchange.result ≢ c.in_ok-next.next.round = λ e. c.if-exchange-from.false (e ∙ sym c.from.ensures) in
     let next = c.in_ok-next.next in
     record {
-      belongs = belongs_exchanged _ _ _ next.strip next.row c.args.limit c.exchange.result other c.exchange.ensures.view c.first_open.ensures.belongs;
-      kept = kept_exchanged _ _ _ next.strip next.row c.args.limit c.exchange.result other c.exchange.ensures.view
+      belongs = belongs_exchanged _ _ _ next.strip next.round c.args.limit c.exchange.result other c.exchange.ensures.view c.first_open.ensures.belongs;
+      kept = kept_exchanged _ _ _ next.strip next.round c.args.limit c.exchange.result other c.exchange.ensures.view
           (KeepsHand-trans _ _ _ c.tries.invariant.kept c.first_open.ensures.kept);
       later = IsLater-trans _ _ _ (IsLater-trans _ _ _ c.tries.invariant.later c.first_open.ensures.later) c.exchange.ensures.later;
+      others = counters_changed _ _ _ _ _ (counters_twice _ _ _ c.tries.invariant.others c.first_open.ensures.others) c.exchange.ensures.seen;
     }
+
+pub returns-in_err-next-clause-others : goal.returns-in_err-next-clause-others
+returns-in_err-next-clause-others c = counters_twice _ _ _ c.tries.invariant.others c.first_open.ensures.others
+
+pub returns-then-exchange-from-clause-others : goal.returns-then-exchange-from-clause-others
+returns-then-exchange-from-clause-others c =
+    counters_changed _ _ _ _ _ (counters_twice _ _ _ c.tries.invariant.others c.first_open.ensures.others) c.exchange.ensures.seen

@@ -4,6 +4,7 @@ use Rattle.plan_words.proofs.Scanning.{left_over}
 use Rattle.plan_words.proofs.shared.Shared.claim.Given as goal
 use Rattle.step_core.specs.LaterViews.{IsLater}
 use Rattle.step_core.specs.Views.{sees}
+use Rattle.step_core.specs.WordNames.{ChangesOnly, IsCounter}
 use Rattle.step_core.specs.WordNames.Word.{Counter}
 
 abbrev pub invariant-tries : goal.invariant-tries
@@ -11,6 +12,7 @@ invariant-tries l = record {
   belongs : BelongsTo l.pass l.self;
   kept : KeepsHand l.fn.pass.view l.pass.view;
   later : IsLater l.fn.pass.view l.pass.view;
+  others : ChangesOnly IsCounter (sees l.fn.pass.view) (sees l.pass.view);
 }
 
 abbrev pub decreases-tries : goal.decreases-tries

@@ -14,30 +14,30 @@ compare_exchange_with-found-requires c =
     let part = subst (λ p. 0 < share p.view) (sym c.pass.view_is) c.requires.part in
     let idle = subst (λ p. p.view.hand ≡ None) (sym c.pass.view_is) c.requires.idle in
     let strip = subst (λ s. c.args.next.strip < s.task.scene.strips) (sym c.self.view_is) c.requires.strip in
-    let low = subst (λ row. mark_of (run_in c.args.self.now) c.args.next.strip row < c.args.limit) (sym c.from-row.ensures) c.requires.low in
-    let low_here = subst (λ s. mark_of (run_in s) c.args.next.strip c.from-row.result < c.args.limit) (sym c.self.view_is) low in
+    let low = subst (λ round. mark_of (run_in c.args.self.now) c.args.next.strip round < c.args.limit) (sym c.from-round.ensures) c.requires.low in
+    let low_here = subst (λ s. mark_of (run_in s) c.args.next.strip c.from-round.result < c.args.limit) (sym c.self.view_is) low in
     let limit = subst (λ s. c.args.limit ≤ length s.task.marks) (sym c.self.view_is) c.requires.limit in
-    may_claim_here _ _ _ _ c.self.invariant _ _ c.counter-place.result c.args.next.strip c.from-row.result c.args.limit _ same own
+    may_claim_here _ _ _ _ c.self.invariant _ _ c.counter-place.result c.args.next.strip c.from-round.result c.args.limit _ same own
     c.counter-place.ensures part idle strip low_here limit
 
-pub returns-then-found-row-clause-seen : goal.returns-then-found-row-clause-seen
-returns-then-found-row-clause-seen c =
+pub returns-then-found-round-clause-seen : goal.returns-then-found-round-clause-seen
+returns-then-found-round-clause-seen c =
     let own = same_run _ _ _ _ c.pass.view_is c.self.view_is c.requires.belongs in
     let strip = subst (λ s. c.args.next.strip < s.task.scene.strips) (sym c.self.view_is) c.requires.strip in
     let here = subst (λ r. c.args.next.strip < r.strips) (sym own) strip in
     let x = c.compare_exchange_with-found.result in
     let then = c.compare_exchange_with-found.new.seat.me.0 in
-    subst (λ row. WritesWord (Counter c.args.next.strip) (cond (x == row) (row + 1) x) (sees c.args.pass.now.view) (sees then)) c.from-row.ensures
-    (sees_exchanged _ _ _ c.args.next.strip c.from-row.result c.args.limit _ x (ap (λ p. p.view) c.pass.view_is) c.pass.invariant.1.lawful here
+    subst (λ round. WritesWord (Counter c.args.next.strip) (cond (x == round) (round + 1) x) (sees c.args.pass.now.view) (sees then)) c.from-round.ensures
+    (sees_exchanged _ _ _ c.args.next.strip c.from-round.result c.args.limit _ x (ap (λ p. p.view) c.pass.view_is) c.pass.invariant.1.lawful here
     c.counter-place.ensures c.compare_exchange_with-found.ensures.2.view_is)
 
-pub returns-else-found-row-clause-seen : goal.returns-else-found-row-clause-seen
-returns-else-found-row-clause-seen c =
+pub returns-else-found-round-clause-seen : goal.returns-else-found-round-clause-seen
+returns-else-found-round-clause-seen c =
     let own = same_run _ _ _ _ c.pass.view_is c.self.view_is c.requires.belongs in
     let strip = subst (λ s. c.args.next.strip < s.task.scene.strips) (sym c.self.view_is) c.requires.strip in
     let here = subst (λ r. c.args.next.strip < r.strips) (sym own) strip in
     let x = c.compare_exchange_with-found.result in
     let then = c.compare_exchange_with-found.new.seat.me.0 in
-    subst (λ row. WritesWord (Counter c.args.next.strip) (cond (x == row) (row + 1) x) (sees c.args.pass.now.view) (sees then)) c.from-row.ensures
-    (sees_exchanged _ _ _ c.args.next.strip c.from-row.result c.args.limit _ x (ap (λ p. p.view) c.pass.view_is) c.pass.invariant.1.lawful here
+    subst (λ round. WritesWord (Counter c.args.next.strip) (cond (x == round) (round + 1) x) (sees c.args.pass.now.view) (sees then)) c.from-round.ensures
+    (sees_exchanged _ _ _ c.args.next.strip c.from-round.result c.args.limit _ x (ap (λ p. p.view) c.pass.view_is) c.pass.invariant.1.lawful here
     c.counter-place.ensures c.compare_exchange_with-found.ensures.2.view_is)

@@ -1,11 +1,17 @@
-use Rattle.std.proofs.Common.{◌≡◌, ◌<◌, Some, length, ap, subst, sym, ◌∙◌}
+use Rattle.std.proofs.Common.{◌<◌, length, ap, subst, sym, ◌∙◌}
 use Rattle.plan_words.proofs.Owning.{may_finish_here, same_run, same_table}
-use Rattle.plan_words.proofs.Tying.{HasMember-held, IsTurnWord-packed, MayClaim-finished, turn_fits}
+use Rattle.plan_words.proofs.Tying.{HasMember-held, entry_fits, turn_fits}
 use Rattle.plan_words.proofs.shared.Shared.finish.Goals as goal
-use Rattle.plan_words.specs.States.{MayClaim, turn_of, with_view, worker_of}
+use Rattle.plan_words.specs.States.{turn_of, worker_of}
 use Rattle.step_core.specs.WordNames.Word.{RecordOf}
 use Rattle.step_core.specs.WordPlaces.{place_of}
-use Rattle.step_core.specs.Words.{IsTurnWord, record_word}
+
+pub pack_mark-requires : goal.pack_mark-requires
+pack_mark-requires c =
+    let tied = c.pass.invariant.1 in
+    let held = sym tied.hand_is ∙ c.in-Some.is in
+    entry_fits _ c.in-Some.hand _ tied.lawful held (c.requires.worker ∙ sym (ap (λ p. worker_of p.view.crew) c.pass.view_is))
+    (c.requires.turn ∙ sym (ap (λ p. turn_of p.view.crew) c.pass.view_is)) c.requires.nearest c.requires.last
 
 pub store-requires : goal.store-requires
 store-requires c =
@@ -14,15 +20,13 @@ store-requires c =
     let tied = c.pass.invariant.1 in
     let held = sym tied.hand_is ∙ c.in-Some.is in
     let has = HasMember-held _ _ tied.lawful held in
-    let worker = c.requires.worker ∙ sym (ap (λ p. worker_of p.view.crew) c.pass.view_is) ∙ ap worker_of has.crew_is in
-    let turn = c.requires.turn ∙ sym (ap (λ p. turn_of p.view.crew) c.pass.view_is) ∙ ap turn_of has.crew_is in
-    let packed = IsTurnWord-packed c.args.entry c.requires.fits in
-    let word = subst (λ x. IsTurnWord has.member.worker has.member.turn x) (sym c.pack_mark.ensures)
-    (subst (λ w. IsTurnWord w has.member.turn (record_word c.args.entry)) worker (subst
-    (λ t. IsTurnWord c.args.entry.worker t (record_word c.args.entry)) turn packed)) in
+    let by = c.requires.worker ∙ sym (ap (λ p. worker_of p.view.crew) c.pass.view_is) in
+    let at = c.requires.turn ∙ sym (ap (λ p. turn_of p.view.crew) c.pass.view_is) in
+    let fits = entry_fits _ c.in-Some.hand _ tied.lawful held by at c.requires.nearest c.requires.last in
     let place = c.record-place.ensures ∙ ap (λ sizes. place_of sizes (RecordOf c.in-Some.hand.mark)) c.self.invariant.places_are in
     let low = subst (λ r. c.in-Some.hand.mark < length r.marks) own (tied.lawful.mark c.in-Some.hand held) in
-    may_finish_here _ _ _ _ c.self.invariant _ _ _ _ _ c.in-Some.hand has.member has.crew same own place low held has.crew_is word
+    may_finish_here _ _ _ _ c.self.invariant _ _ _ _ _ c.in-Some.hand has.member has.crew c.args.entry same own place low held has.crew_is fits
+    (by ∙ ap worker_of has.crew_is) (at ∙ ap turn_of has.crew_is) c.pack_mark.ensures
 
 pub next_turn-pass-inside-requires : goal.next_turn-pass-inside-requires
 next_turn-pass-inside-requires c =

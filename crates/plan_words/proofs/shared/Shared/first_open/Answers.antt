@@ -1,5 +1,5 @@
-use Rattle.std.proofs.Common.{◌≡◌, ◌≢◌, ◌<◌, ℕ, None, Some, refl, ap, sym, subst, ◌∙◌, arith}
-use Rattle.plan_words.proofs.Claiming.{belongs_loaded, best_strip, kept_loaded, loaded_more, scan_ends, scan_more}
+use Rattle.std.proofs.Common.{refl, ap, arith}
+use Rattle.plan_words.proofs.Claiming.{belongs_loaded, best_strip, counters_changed, kept_loaded, loaded_more, scan_ends, scan_more}
 use Rattle.plan_words.proofs.shared.Shared.first_open.Goals as goal
 use Rattle.step_core.proofs.LaterViews.{IsLater-refl, IsLater-trans}
 
@@ -8,12 +8,13 @@ loop-strip-init c = record {
   belongs = c.requires.belongs;
   kept = record { crew = refl; most = refl; hand = refl };
   later = IsLater-refl c.args.pass.now.view;
+  others = λ name apart. refl;
   loaded = λ g low. absurd (omega (arith, low));
   scanned = λ h low. absurd (omega (arith, low));
 }
 
-pub taken-row-requires-clause-belongs : goal.taken-row-requires-clause-belongs
-taken-row-requires-clause-belongs c = c.loop-strip.invariant.belongs
+pub taken-round-requires-clause-belongs : goal.taken-round-requires-clause-belongs
+taken-round-requires-clause-belongs c = c.loop-strip.invariant.belongs
 
 pub better-best-requires-clause-best : goal.better-best-requires-clause-best
 better-best-requires-clause-best c = best_strip _ _ _ _ _ _ c.loop-strip.best c.loop-strip.invariant.scanned c.loop-strip-test.true
@@ -21,13 +22,14 @@ better-best-requires-clause-best c = best_strip _ _ _ _ _ _ c.loop-strip.best c.
 pub loop-strip-preserved : goal.loop-strip-preserved
 loop-strip-preserved c =
     let kept = c.loop-strip.invariant in
-    let told = c.taken-row.ensures in
+    let told = c.taken-round.ensures in
     let strips = ap (λ s. s.task.scene.strips) c.self.view_is in
     let workers = ap (λ s. s.workers) c.self.view_is in
     record {
       belongs = belongs_loaded _ _ _ _ _ told.view kept.belongs;
       kept = kept_loaded _ _ _ _ _ told.view kept.kept;
       later = IsLater-trans _ _ _ kept.later told.later;
+      others = counters_changed _ _ _ _ _ kept.others told.seen;
       loaded = loaded_more _ _ _ _ kept.loaded told.looked kept.later.steps told.later;
       scanned = scan_more _ _ _ c.worker.result _ _ _ _ _ _ c.loop-strip.best kept.belongs strips workers c.worker.ensures.number told.view told.seen
           kept.scanned c.better-best.ensures;
@@ -53,3 +55,6 @@ returns-clause-first c =
       c.loop-strip.auto.strip-end,
       c.loop-strip-test.false,
     )) c.loop-strip.invariant.scanned
+
+pub returns-clause-others : goal.returns-clause-others
+returns-clause-others c = c.loop-strip.invariant.others

@@ -1,4 +1,4 @@
-use Rattle.std.proofs.Common.{◌≡◌, ◌∷◌, [], None, Some, ap, subst, sym, ◌∙◌}
+use Rattle.std.proofs.Common.{None, Some, ap, subst, sym, ◌∙◌}
 use Rattle.plan_words.proofs.Owning.{may_hand_on_here, same_run, same_table}
 use Rattle.plan_words.proofs.Tying.{IsTied-apart, IsTied-parted}
 use Rattle.plan_words.proofs.shared.Shared.hand_on.Goals as goal

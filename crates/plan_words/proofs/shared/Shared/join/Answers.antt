@@ -1,8 +1,7 @@
-use Rattle.std.proofs.Common.{◌≡◌, ℕ, None, ap, refl, subst, sym, ◌∙◌, inl, arith}
-use Rattle.plan_words.proofs.Joining.{IsLater-joined}
+use Rattle.std.proofs.Common.{◌≡◌, None, ap, subst, sym, ◌∙◌}
+use Rattle.plan_words.proofs.Joining.{IsLater-taken_over}
 use Rattle.plan_words.proofs.Owning.{may_load_here, may_take_over_here, same_run, same_table}
 use Rattle.plan_words.proofs.shared.Shared.join.Goals as goal
-use Rattle.step_core.specs.LaterViews.{IsLater}
 use Rattle.step_core.specs.WordNames.Word.{Count}
 
 pub join_seat-requires : goal.join_seat-requires
@@ -23,8 +22,8 @@ load-count-requires c =
 
 pub returns-then-is_none-clause-later : goal.returns-then-is_none-clause-later
 returns-then-is_none-clause-later c =
-    IsLater-joined _ _ c.other.inside.seat.me.0 c.pass.inside.seat.me _ _ c.pass.view_is c.join_seat.ensures.2 c.load-count.ensures.2
+    IsLater-taken_over _ _ c.other.inside.seat.me.0 c.pass.inside.seat.me _ _ c.pass.view_is c.join_seat.ensures.2 c.load-count.ensures.2
 
 pub returns-else-is_none-clause-later : goal.returns-else-is_none-clause-later
 returns-else-is_none-clause-later c =
-    IsLater-joined _ _ c.other.inside.seat.me.0 c.pass.inside.seat.me _ _ c.pass.view_is c.join_seat.ensures.2 c.load-count.ensures.2
+    IsLater-taken_over _ _ c.other.inside.seat.me.0 c.pass.inside.seat.me _ _ c.pass.view_is c.join_seat.ensures.2 c.load-count.ensures.2

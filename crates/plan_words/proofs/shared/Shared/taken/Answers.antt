@@ -1,4 +1,4 @@
-use Rattle.std.proofs.Common.{◌≡◌, ◌<◌, ap, arith, subst, sym}
+use Rattle.std.proofs.Common.{◌<◌, ap, arith, subst, sym}
 use Rattle.plan_words.proofs.Owning.{counter_most, looks_told, may_load_here, sees_told, same_run, same_table}
 use Rattle.plan_words.proofs.shared.Shared.taken.Goals as goal
 use Rattle.step_core.specs.WordNames.Word.{Counter}
