@@ -5,4 +5,3 @@ pub mod CostOrderLaws
 pub mod GrownPaths
 pub mod NumberedLines
 pub mod CountedMarks
-pub mod UnsettledRun

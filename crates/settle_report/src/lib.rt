@@ -15,10 +15,9 @@ mod node_lines;
 mod paths;
 mod reports;
 mod settling;
-#[cfg(test)]
-mod test_runs;
 
 pub use best_node::best;
 pub use delivery::deliver;
+pub use mark_lines::push_mark_line;
 pub use reports::{report, report_by_best, summary, summary_by_best};
 pub use settling::settle;

@@ -24,8 +24,12 @@ pub(crate) fn push_mark_lines(text: &mut String, grown: &Grown) -> Result<(), Al
     Ok(())
 }
 
-/// The line of a mark.
-fn push_mark_line(text: &mut String, mark: u32, entry: Record) -> Result<(), AllocError>
+/// The line of one mark, as a full report has it: its worker and turn, the nearest node, and what became of it. O(1).
+///
+/// # Errors
+///
+/// `AllocError` if out of memory for the text.
+pub fn push_mark_line(text: &mut String, mark: u32, entry: Record) -> Result<(), AllocError>
     ensures { OnOk result (string_bytes text.new ≡ string_bytes text.old ++ mark_line mark entry) }
 {
     push_handling(text, mark, entry)?;
@@ -57,6 +61,3 @@ fn push_outcome(text: &mut String, entry: Record) -> Result<(), AllocError>
         Outcome::Blocked => text.push_str("blocked\n"),
     }
 }
-
-#[cfg(test)]
-mod tests;

@@ -183,6 +183,3 @@ fn push_counts_line(text: &mut String, grown: &Grown) -> Result<(), AllocError>
         counts.blocked
     )
 }
-
-#[cfg(test)]
-mod tests;

@@ -3,8 +3,9 @@
 ghost use Rattle.std.specs.Prelude.{IsTrue};
 ghost use Rattle.plan_model.specs.Outcomes.{is_zero_unless_placed};
 
-use super::*;
-use std::alloc::Global;
+use plan_model::{Outcome, Record};
+use settle_report::push_mark_line;
+use std::alloc::{AllocError, Global};
 use std::process::Abort;
 use std::test::Fail;
 

@@ -4,8 +4,8 @@ use Rattle.plan_model.specs.Clearance.{ClearAt}
 use Rattle.plan_model.specs.ClosedLaw.{IsClosed}
 use Rattle.plan_model.specs.Vectors.Runs.{marks_to_rewire}
 use Rattle.step_core.specs.PackedRuns.{state_of_lists}
-use Rattle.settle_report.proofs.UnsettledRun.{IsClosed-unsettled, rrt_setup, unsettled_knots, unsettled_records}
-use Rattle.settle_report.proofs.test_runs.unsettled_run.Goals as goal
+use Rattle.settle_report_tests.proofs.UnsettledRun.{IsClosed-unsettled, rrt_setup, unsettled_knots, unsettled_records}
+use Rattle.settle_report_tests.proofs.test_runs.unsettled_run.Goals as goal
 
 pub pack-requires : goal.pack-requires
 pack-requires c =

@@ -3,12 +3,13 @@
 ghost use Rattle.std.specs.Prelude.{◌≤◌};
 ghost use Rattle.plan_model.specs.Limits.{IsGoal};
 
-use super::*;
-use crate::settling::settle;
 use crate::test_runs::{start_alone, unsettled_run};
-use plan_model::Goal;
+use plan_model::{Goal, Point};
+use settle_report::{report, settle, summary};
+use std::alloc::Global;
 use std::process::Abort;
 use std::test::Fail;
+use step_core::Grown;
 
 /// The goal that is this point alone.
 fn goal_at(x: u32, y: u32) -> Goal
