@@ -196,6 +196,3 @@ fn place<C: Clearing>(
     keep_cheaper(grown, hall, point, parent.cost, list);
     parent
 }
-
-#[cfg(test)]
-mod tests;

@@ -95,6 +95,3 @@ fn node_lists(alloc: Global, workers: u32, nodes: usize) -> Result<Vec<Vec<u32>>
     }
     Ok(lists)
 }
-
-#[cfg(test)]
-mod tests;

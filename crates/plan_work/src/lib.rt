@@ -20,8 +20,6 @@ mod held;
 mod near_nodes;
 mod nearest_node;
 mod rewiring;
-#[cfg(test)]
-mod test_runs;
 mod turns;
 mod workers;
 

@@ -1,5 +1,5 @@
 use Rattle.std.proofs.Common.{◌≤◌}
-use Rattle.plan_work.proofs.growing.tests.turns_below.Given as goal
+use Rattle.plan_work_tests.proofs.growing.turns_below.Given as goal
 
 -- no more turns than marks so far
 abbrev pub invariant-loop-mark : goal.invariant-loop-mark

@@ -3,13 +3,16 @@
 ghost use Rattle.std.specs.Prelude.{◌≡◌, ◌≤◌, IfOk};
 ghost use Rattle.plan_model.specs.declared.limits.TheConstants.{MOST_WORKERS};
 
-use super::*;
-use crate::gates::NoGate;
 use crate::test_runs::{Entry, entry_of, node_of, small_task};
-use plan_model::{MOST_WORKERS, Outcome, Point};
+use plan_model::{MOST_WORKERS, Memory, Outcome, Point};
+use plan_work::{Gate, NoGate, grow};
+use std::alloc::Global;
 use std::process::Abort;
+use std::sync::Wait;
 use std::sync::atomic::{AtomicBool, AtomicU32, Ordering};
 use std::thread;
+use std::thread::Threads;
+use step_core::Grown;
 use swept_check::Hall;
 
 // ---- runs

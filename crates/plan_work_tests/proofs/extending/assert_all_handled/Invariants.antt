@@ -1,5 +1,5 @@
 use Rattle.std.proofs.Common.{◌≡◌}
-use Rattle.plan_work.proofs.extending.tests.assert_all_handled.Given as goal
+use Rattle.plan_work_tests.proofs.extending.assert_all_handled.Given as goal
 
 -- the task stays
 abbrev pub invariant-loop-want : goal.invariant-loop-want

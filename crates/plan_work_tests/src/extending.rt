@@ -5,11 +5,12 @@ ghost use Rattle.plan_model.specs.ConfigurationSpace.{space_of};
 ghost use Rattle.plan_model.specs.Limits.{is_plan};
 ghost use Rattle.plan_model.specs.declared.scenes.Marks.TheVariants.{Listed};
 
-use super::*;
 use crate::test_runs::{Entry, Node, entry_of, node_of, small_task};
-use plan_model::{MOST_WORKERS, Memory};
+use plan_model::{MOST_WORKERS, Memory, Outcome, Point};
+use plan_work::extend_whole;
 use std::alloc::Global;
 use std::process::Abort;
+use step_core::Grown;
 use swept_check::Hall;
 
 /// Asserts that handling the next mark gives this record, keeps it, and takes no memory.

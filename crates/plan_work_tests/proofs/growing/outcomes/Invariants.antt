@@ -1,5 +1,5 @@
 use Rattle.std.proofs.Common.{◌≡◌, ◌+◌}
-use Rattle.plan_work.proofs.growing.tests.outcomes.Given as goal
+use Rattle.plan_work_tests.proofs.growing.outcomes.Given as goal
 
 -- the marks so far
 abbrev pub invariant-loop-mark : goal.invariant-loop-mark
