@@ -17,8 +17,6 @@ mod number_words;
 mod refusals;
 mod scene_reader;
 mod scene_writer;
-#[cfg(test)]
-mod test_scenes;
 
 pub use fetching::{FetchFault, fetch};
 pub use number_words::{is_number, natural};

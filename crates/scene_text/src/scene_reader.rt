@@ -37,6 +37,3 @@ pub fn read_scene(alloc: Global, text: &[u8]) -> Result<Scene, SceneRefusal>
         .into_scene(alloc)
         .map_err(|refusal| refusal.at(number + 1))
 }
-
-#[cfg(test)]
-mod tests;

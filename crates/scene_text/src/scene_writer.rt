@@ -101,6 +101,3 @@ fn push_marks(text: &mut String, marks: &[Point]) -> Result<(), AllocError>
     }
     Ok(())
 }
-
-#[cfg(test)]
-mod tests;

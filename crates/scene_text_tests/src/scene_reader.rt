@@ -1,10 +1,9 @@
 //! Scenes that are read, and texts that are refused.
 
-use super::*;
-use crate::refusals::SceneFault;
 use crate::test_scenes::{POLYGONS, read, scene_of};
-use plan_model::{Goal, Kind, Marks, Point, Vertex};
-use std::alloc::AllocError;
+use plan_model::{Goal, Kind, Marks, Point, Scene, Vertex};
+use scene_text::{SceneFault, SceneRefusal};
+use std::alloc::{AllocError, Global};
 use std::process::Abort;
 use std::test::Fail;
 

@@ -3,10 +3,10 @@
 ghost use Rattle.std.specs.Prelude.{◌≡◌, IfOk, IsTrue};
 ghost use Rattle.plan_model.specs.Limits.{is_obstacle, are_obstacles};
 
-use super::*;
-use crate::scene_reader::read_scene;
 use crate::test_scenes::{POLYGONS, scene_of};
-use plan_model::{MOST_OBSTACLES, Polys};
+use plan_model::{MOST_OBSTACLES, Poly, Polys, Scene, Vertex};
+use scene_text::{read_scene, write_scene};
+use std::alloc::{AllocError, Global};
 use std::process::Abort;
 use std::test::Fail;
 

@@ -1,8 +1,7 @@
-//! Texts and their scenes, for the tests of this crate.
+//! Texts and their scenes, for the tests of the reader and the writer.
 
-use crate::refusals::SceneRefusal;
-use crate::scene_reader::read_scene;
 use plan_model::{MOST_TEXT_BYTES, Scene};
+use scene_text::{SceneRefusal, read_scene};
 use std::alloc::Global;
 use std::process::Abort;
 
