@@ -115,6 +115,3 @@ impl Zone {
         is_inside(self.corners.as_slice(), corner_of(p))
     }
 }
-
-#[cfg(test)]
-mod tests;

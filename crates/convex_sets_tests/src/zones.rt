@@ -7,10 +7,9 @@ ghost use Rattle.plan_model.specs.Limits.{is_corner_between};
 ghost use Rattle.plan_model.specs.declared.limits.TheConstants.{LEAST_BODY_COORDINATE, LEAST_SUMMAND_COORDINATE};
 ghost use Rattle.plan_model.specs.declared.limits.TheConstants.{MOST_BODY_COORDINATE, MOST_SUMMAND_COORDINATE};
 
-use super::*;
-use crate::is_convex;
-use plan_model::Sequence;
-use std::alloc::AllocError;
+use convex_sets::{Zone, is_convex};
+use plan_model::{Memory, Point, Poly, Sequence, Vertex};
+use std::alloc::{AllocError, Global};
 use std::test::Fail;
 
 /// The polygon of these corners.
