@@ -124,6 +124,3 @@ fn copied(alloc: Global, polygon: &Poly) -> Result<Poly, Memory>
 {
     Ok(Sequence::from_vec(polygon.as_slice().to_vec(alloc)?))
 }
-
-#[cfg(test)]
-mod tests;

@@ -3,9 +3,10 @@
 ghost use Rattle.std.specs.Prelude.{IsTrue};
 ghost use Rattle.plan_model.specs.Limits.{is_body, is_obstacle};
 
-use super::*;
-use plan_model::{Goal, Marks, SmallScene, Vertex};
+use plan_model::{Goal, Marks, Memory, Point, Sequence, SmallScene, Vertex};
+use std::alloc::Global;
 use std::test::Fail;
+use swept_check::{Clearing, Hall};
 
 /// The collision checker of a body and one obstacle in a room of 20 by 20.
 fn hall(alloc: Global, body: &[Vertex], obstacle: &[Vertex]) -> Result<Hall, Memory>
