@@ -10,8 +10,8 @@ use atomic_table::Seat;
 use std::marker::Model;
 use step_core::{Hand, Member, View};
 
-/// The handle of one worker on a shared tree, of several after a join, or of none: then it only looks. A contract sees it as its
-/// table and its view: what it has seen and has in hand.
+/// The handle of one worker on a shared tree, of several after a join, or of none: then it only looks. A contract sees it
+/// as its table and its view: what it has seen and has in hand.
 #[derive(Drop)]
 pub struct Pass {
     pub(crate) seat: Seat<Aim, View>,

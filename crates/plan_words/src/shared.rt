@@ -117,8 +117,8 @@ impl Shared {
         })
     }
 
-    /// Takes over another pass: its share, and what it has seen. Neither has a mark in hand. The count of nodes is loaded then,
-    /// which tells that nothing is lost of what the other had seen.
+    /// Takes over another pass: its share, and what it has seen. Neither has a mark in hand. The count of nodes is loaded
+    /// then, which tells that nothing is lost of what the other had seen.
     pub fn join(&self, pass: &mut Pass, other: Pass)
         requires belongs { BelongsTo pass.old self.now }
         requires belongs_too { BelongsTo other self.now }

@@ -22,9 +22,9 @@ use std::alloc::{AllocError, Global};
 use step_core::{Grown, Member, WordPlaces, read_mark};
 
 impl Shared {
-    /// The words of a run in one table, and a pass for each worker, in the order of their numbers, each with a share of 1. Each has
-    /// seen the whole run, and its next turn is the number of its worker's records there. Takes all memory that later calls
-    /// but `split` need.
+    /// The words of a run in one table, and a pass for each worker, in the order of their numbers, each with a share of 1.
+    /// Each has seen the whole run, and its next turn is the number of its worker's records there. Takes all memory that
+    /// later calls but `split` need. O(n + w) for n words and w workers.
     ///
     /// # Errors
     ///

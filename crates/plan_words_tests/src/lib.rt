@@ -1,0 +1,9 @@
+//! Tests of the public calls of `plan_words`, in a crate of their own, so that the library is proved once.
+#![tactic(auto)]
+
+#[cfg(test)]
+mod passes;
+#[cfg(test)]
+mod threads;
+#[cfg(test)]
+mod turns;
