@@ -246,6 +246,3 @@ impl Grown {
         matches!(entry, Some(entry) if entry.outcome == Outcome::Placed)
     }
 }
-
-#[cfg(test)]
-mod tests;

@@ -2,7 +2,7 @@
 use Rattle.std.proofs.Common.{sym, subst}
 use Rattle.step_core.specs.GrownWords.{HoldRun, run_words}
 use Rattle.step_core.proofs.ClearedWords.{cleared-blank}
-use Rattle.step_core.proofs.grown.tests.gives_its_words_and_takes_them_back.Goals as goal
+use Rattle.step_core_tests.proofs.grown.gives_its_words_and_takes_them_back.Goals as goal
 
 pub from_words-grown-requires-clause-run : goal.from_words-grown-requires-clause-run
 from_words-grown-requires-clause-run g c =

@@ -20,7 +20,7 @@ use Rattle.plan_model.proofs.OpenRoomMarks.{same_y}
 use Rattle.plan_model.proofs.SameTrees.{IsClosed-of_textbook}
 use Rattle.step_core.specs.PackedRuns.{state_of_lists}
 use Rattle.step_core.proofs.ListedRuns.{IsClosed-same_lists}
-use Rattle.step_core.proofs.grown.tests.stopped.Goals as goal
+use Rattle.step_core_tests.proofs.grown.stopped.Goals as goal
 
 abbrev low_setup : Setup
 low_setup = record { space = empty_room (at 40 40); start = at 0 0; step = 50; gamma = 1000 }

@@ -9,10 +9,13 @@ ghost use Rattle.plan_model.specs.Textbook.{blocked_record, placed_record, same_
 ghost use Rattle.plan_model.specs.Vectors.Shapes.{at};
 ghost use Rattle.plan_model.specs.declared.scenes.Marks.TheVariants.{Listed};
 
-use super::*;
-use plan_model::{Goal, Knot, MOST_MARKS, Points, Sequence, SmallScene};
+use plan_model::{
+    Goal, Knot, MOST_MARKS, Memory, Outcome, Point, Points, Record, Sequence, SmallScene, Task,
+};
+use std::alloc::Global;
 use std::process::Abort;
 use std::test::Fail;
+use step_core::Grown;
 
 /// The task of these marks for a point body in an empty room of this side, from this start by steps of 50.
 fn task_of(alloc: Global, side: u32, start: Point, marks: &[Point]) -> Result<Task, Memory>

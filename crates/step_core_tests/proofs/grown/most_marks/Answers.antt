@@ -7,7 +7,7 @@ use Rattle.std.proofs.lemmas.List.{length-replicate}
 use Rattle.plan_model.specs.declared.limits.TheConstants.{MOST_MARKS}
 use Rattle.plan_model.specs.Limits.{is_mark}
 use Rattle.plan_model.specs.Vectors.Shapes.{at}
-use Rattle.step_core.proofs.grown.tests.most_marks.Goals as goal
+use Rattle.step_core_tests.proofs.grown.most_marks.Goals as goal
 
 list_all-replicate : (n : ℕ) → list_all is_mark (replicate n (at 7 9)) ≡ true
 list_all-replicate zero = refl

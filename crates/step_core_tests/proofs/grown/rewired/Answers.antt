@@ -15,7 +15,7 @@ use Rattle.plan_model.proofs.RewiredRun.{rewired_run, rewired_sum}
 use Rattle.plan_model.proofs.SameTrees.{IsClosed-of_textbook}
 use Rattle.step_core.specs.PackedRuns.{kept_cost_of, state_of_lists}
 use Rattle.step_core.proofs.ListedRuns.{IsClosed-same_lists}
-use Rattle.step_core.proofs.grown.tests.rewired.Goals as goal
+use Rattle.step_core_tests.proofs.grown.rewired.Goals as goal
 
 abbrev knot : ℕ → ℕ → ℕ → ℕ → Option Knot
 knot x y parent cost = Some (record { point = at x y; parent = parent; cost = cost })
