@@ -106,28 +106,3 @@ fn append_reserved(taken: &mut Vec<u8>, bytes: &[u8])
         taken.push_reserved(byte);
     }
 }
-
-#[cfg(test)]
-mod tests {
-    use super::*;
-    use std::test::Fail;
-
-    #[test]
-    fn takes_as_its_numbers_say(rt: HostRuntime) -> Result<(), Fail> {
-        let mut sink = MemSink::new(rt.alloc(), 7, 3, &[2, 5])?;
-        for (bytes, want) in [
-            ("abcd", Ok(3)),
-            ("de", Err(Failed)),
-            ("", Ok(0)),
-            ("de", Ok(2)),
-            ("fghi", Ok(2)),
-            ("hi", Err(Failed)),
-            ("hi", Err(Failed)),
-        ] {
-            assert_eq!(rt; sink.write(bytes.as_bytes()), want, "of {bytes:?}");
-        }
-        assert_eq!(rt; sink.bytes(), b"abcdefg".as_slice());
-        assert_eq!(rt; sink.faults(), 3);
-        Ok(())
-    }
-}

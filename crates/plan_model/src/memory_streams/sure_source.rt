@@ -61,22 +61,3 @@ impl Source for SureSource {
         Ok(count)
     }
 }
-
-#[cfg(test)]
-mod tests {
-    use super::*;
-    use std::test::Fail;
-
-    #[test]
-    fn reads_in_pieces(rt: HostRuntime) -> Result<(), Fail> {
-        let mut source = SureSource::new(rt.alloc(), b"prrt 1\n")?;
-        let mut piece = [0; 3];
-        for want in ["prr", "t 1", "\n", ""] {
-            let count = source.read(&mut piece)?;
-            assert_eq!(rt; &piece[..count], want.as_bytes());
-        }
-        assert_eq!(rt; source.read(&mut [])?, 0);
-        assert_eq!(rt; source.faults(), 0);
-        Ok(())
-    }
-}
