@@ -3,9 +3,40 @@
 ghost use Rattle.std.specs.Prelude.{◌≤◌, ◌<◌};
 
 use super::*;
-use crate::test_calls::text_of;
 use scene_text::write_scene;
 use std::process::Abort;
+
+// The text of the scene of a number.
+fn written(alloc: Global, number: u32) -> Result<Vec<u8>, Memory>
+    requires { number ≤ MOST_GENERATED }
+{
+    let scene = gen_scene(alloc, number)?;
+    write_scene(alloc, &scene)
+}
+
+// How many lines a text has, each of which ends with a line feed.
+fn line_count(text: &[u8]) -> u32 {
+    let mut count = 0_u32;
+    for byte in text {
+        if *byte == b'\n' {
+            count = count.saturating_add(1);
+        }
+    }
+    count
+}
+
+#[test]
+fn writes_the_first_scene(rt: HostRuntime) -> Result<(), Memory> {
+    let text = written(rt.alloc(), 0)?;
+    assert!(rt;
+        text.starts_with(
+            b"prrt 1\nroom 9999 9999\nbody 0 0 20 0 20 20 0 20\nobstacle 631 700 961 700 961 1030 631 1030\n"
+        )
+    );
+    assert!(rt; text.ends_with(b"\nmarks 2000\n"));
+    assert_eq!(rt; line_count(&text), 74);
+    Ok(())
+}
 
 // How many obstacles the scene of a number has, and how many marks are drawn.
 fn counts_of(alloc: Global, number: u32) -> Result<(usize, u32), Memory>
@@ -19,26 +50,13 @@ fn counts_of(alloc: Global, number: u32) -> Result<(usize, u32), Memory>
     Ok((scene.obstacles.len(), drawn))
 }
 
-#[test]
-fn writes_the_first_scene(rt: HostRuntime) -> Result<(), Memory> {
-    let scene = gen_scene(rt.alloc(), 0)?;
-    let written = write_scene(rt.alloc(), &scene)?;
-    let text = text_of(&written);
-    assert!(rt;
-        text.starts_with(
-            "prrt 1\nroom 9999 9999\nbody 0 0 20 0 20 20 0 20\nobstacle 631 700 961 700 961 1030 631 1030\n"
-        )
-    );
-    assert_eq!(rt; text.lines().last().unwrap_or("no line"), "marks 2000");
-    assert_eq!(rt; text.lines().count(), 74);
-    Ok(())
-}
-
 // Compares how many marks are drawn in the scene of a number, which has 64 obstacles.
 fn expect_marks<R: Abort>(rt: &R, alloc: Global, number: u32, marks: u32) -> Result<(), Memory>
     requires { number ≤ MOST_GENERATED }
 {
-    assert_eq!(rt; counts_of(alloc, number)?, (64, marks), "scene {number}");
+    let (obstacles, drawn) = counts_of(alloc, number)?;
+    assert_eq!(rt; obstacles, 64);
+    assert_eq!(rt; drawn, marks);
     Ok(())
 }
 
@@ -62,9 +80,8 @@ fn expect_obstacle<R: Abort>(
     requires cell { cell < CELLS }
 {
     let got = obstacle(alloc, number, cell)?;
-    assert_eq!(rt;
-        got.as_slice(),
-        corners,
+    assert!(rt;
+        got.as_slice() == corners,
         "obstacle {cell} of scene {number}"
     );
     Ok(())
