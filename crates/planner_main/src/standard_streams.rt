@@ -97,10 +97,11 @@ impl<W: Write> Sink for StdSink<W> {
 #[cfg(test)]
 mod tests {
     use super::*;
-    use crate::test_calls::text_of;
     use scene_text::{FetchFault, fetch};
     use settle_report::deliver;
+    use std::alloc::Global;
     use std::io;
+    use std::process::Abort;
 
     // A reader of these bytes whose second read fails.
     #[derive(Drop)]
@@ -126,7 +127,7 @@ mod tests {
             reads: 0,
         });
         for (want, faults) in [(Ok(4), 0), (Err(Failed), 1), (Ok(3), 1), (Ok(0), 1)] {
-            assert_eq!(rt; source.read(&mut [0; 4]), want);
+            assert!(rt; source.read(&mut [0; 4]) == want);
             assert_eq!(rt; source.faults(), faults);
         }
     }
@@ -141,23 +142,39 @@ mod tests {
         assert_eq!(rt; source.faults(), 1);
     }
 
+    // Whether a sink over a list takes these bytes and no others.
+    fn takes(alloc: Global, bytes: &[u8]) -> bool {
+        let mut sink = StdSink::new(Vec::new(alloc));
+        deliver(&mut sink, bytes).is_ok() && sink.writer.as_slice() == bytes
+    }
+
     #[test]
     fn bytes_pass_unchanged(rt: HostRuntime) -> Result<(), FetchFault> {
         let mut source = StdSource::new(b"prrt 1\n".as_slice());
         let text = fetch(rt.alloc(), &mut source)?;
-        let mut sink = StdSink::new(Vec::new(rt.alloc()));
-        assert!(rt; deliver(&mut sink, &text).is_ok());
-        assert_eq!(rt; text_of(&sink.writer), "prrt 1\n");
+        assert!(rt; text.as_slice() == b"prrt 1\n".as_slice());
+        assert!(rt; takes(rt.alloc(), &text));
         Ok(())
+    }
+
+    // Compares what a write of these bytes gives, and the faults of the sink so far.
+    fn expect_write<R: Abort>(
+        rt: &R,
+        sink: &mut StdSink<&mut [u8]>,
+        bytes: &[u8],
+        want: Result<usize, Failed>,
+        faults: u64,
+    ) {
+        assert!(rt; sink.write(bytes) == want);
+        assert_eq!(rt; sink.faults(), faults);
     }
 
     #[test]
     fn sink_counts_a_full_writer_as_a_fault(rt: HostRuntime) {
         let mut room = [b'.'; 3];
         let mut sink = StdSink::new(room.as_mut_slice());
-        assert!(rt; sink.write(b"path") == Ok(3));
-        assert!(rt; sink.write(b"h") == Err(Failed));
-        assert_eq!(rt; sink.faults(), 1);
-        assert_eq!(rt; text_of(&room), "pat");
+        expect_write(&rt, &mut sink, b"path", Ok(3), 0);
+        expect_write(&rt, &mut sink, b"h", Err(Failed), 1);
+        assert!(rt; room == *b"pat");
     }
 }

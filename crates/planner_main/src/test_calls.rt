@@ -15,7 +15,9 @@ pub fn sure<R: Abort, T>(rt: &R, made: Result<T, Memory>) -> T {
 
 /// This text in memory of its own.
 pub fn copied(alloc: Global, text: &str) -> Result<String, Memory> {
-    Ok(String::from_str(alloc, text)?)
+    let mut copy = String::new(alloc);
+    copy.push_str(text)?;
+    Ok(copy)
 }
 
 /// Adds a word to those that a call is given.

@@ -78,13 +78,28 @@ fn expect_each<R: Threads + Sync + Wait + Abort>(
 
 // Compares the first and the last line of a text.
 fn expect_ends<R: Abort>(rt: &R, text: &str, first: &str, last: &str) {
-    assert_eq!(rt; text.lines().next().unwrap_or("no line"), first);
-    assert_eq!(rt; text.lines().last().unwrap_or("no line"), last);
+    expect_text(rt, first_line(text), first, "the first line");
+    expect_text(rt, last_line(text), last, "the last line");
+}
+
+// The first line of a text.
+fn first_line(text: &str) -> &str {
+    text.lines().next().unwrap_or("no line")
+}
+
+// The last line of a text.
+fn last_line(text: &str) -> &str {
+    text.lines().last().unwrap_or("no line")
 }
 
 // Compares one line of a text, by number from 0.
 fn expect_line<R: Abort>(rt: &R, text: &str, number: usize, line: &str) {
-    assert_eq!(rt; text.lines().nth(number).unwrap_or("no line"), line);
+    expect_text(rt, line_of(text, number), line, "a line");
+}
+
+// This line of a text, by number from 0.
+fn line_of(text: &str, number: usize) -> &str {
+    text.lines().nth(number).unwrap_or("no line")
 }
 
 // Compares some lines of a text.

@@ -18,6 +18,16 @@ pub fn assert_text<R: Abort>(rt: &R, words: &[&str], written: &str, text: &str, 
     assert_eq!(rt; written, text, "{shows}: {words:?}");
 }
 
+// Compares two texts, and says what they show if they differ.
+pub fn expect_text<R: Abort>(rt: &R, text: &str, want: &str, shows: &str) {
+    assert_eq!(rt; text, want, "{shows}");
+}
+
+// Compares two numbers.
+pub fn expect_number<R: Abort>(rt: &R, number: u64, want: u64, shows: &str) {
+    assert_eq!(rt; number, want, "{shows}");
+}
+
 // Asserts the status that it ended with.
 pub fn assert_status<R: Abort>(rt: &R, words: &[&str], status: u8, want: u8, shows: &str) {
     assert_eq!(rt; status, want, "{shows}: {words:?}");
@@ -65,6 +75,11 @@ pub fn call<R: Threads + Sync + Wait + Abort, S: Source, G: Gate>(
     run(rt, alloc, &given, source, sink, gate)
 }
 
+// A sink that takes all that is written, and does not fail.
+fn sure_sink<R: Abort>(rt: &R, alloc: Global) -> MemSink {
+    sure(rt, MemSink::new(alloc, 1 << 24, 1 << 24, &[]))
+}
+
 // The same over a sink that does not fail, and that sink.
 pub fn call_with_gate<R: Threads + Sync + Wait + Abort, S: Source, G: Gate>(
     rt: &R,
@@ -75,7 +90,7 @@ pub fn call_with_gate<R: Threads + Sync + Wait + Abort, S: Source, G: Gate>(
 ) -> (Done, MemSink)
     requires { (S.state source.old).has_ended ≡ false }
 {
-    let mut sink = sure(rt, MemSink::new(alloc, 1 << 24, 1 << 24, &[]));
+    let mut sink = sure_sink(rt, alloc);
     let done = call(rt, alloc, words, source, &mut sink, gate);
     (done, sink)
 }

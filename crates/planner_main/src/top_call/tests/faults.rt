@@ -113,6 +113,33 @@ fn call_into<R: Threads + Sync + Wait + Abort>(
     }
 }
 
+// What a call has done over a sink that fails at one of its writes, and that sink.
+fn call_cut<R: Threads + Sync + Wait + Abort>(
+    rt: &R,
+    alloc: Global,
+    words: &[&str],
+    fails: u32,
+) -> (Done, MemSink) {
+    let mut sink = sure(rt, MemSink::new(alloc, 1000, 10, &[fails]));
+    let done = call_into(rt, alloc, words, &mut sink);
+    (done, sink)
+}
+
+// Asserts what the sink has taken, and the counts of the run that was handed out even so.
+fn assert_cut<R: Abort>(
+    rt: &R,
+    words: &[&str],
+    done: &Done,
+    sink: &MemSink,
+    taken: &str,
+    counts: Option<(u32, u32)>,
+) {
+    assert_text(rt, words, text_in(sink), taken, "a write fails");
+    assert_status(rt, words, done.status, 6, "a write fails");
+    assert_counts(rt, words, counts_of(done), counts);
+    assert_faults(rt, words, sink.faults(), 1);
+}
+
 // Compares what a sink takes that fails at one of its writes, and the counts of the run that is handed out even so.
 pub fn expect_cut<R: Threads + Sync + Wait + Abort>(
     rt: &R,
@@ -122,12 +149,8 @@ pub fn expect_cut<R: Threads + Sync + Wait + Abort>(
     taken: &str,
     counts: Option<(u32, u32)>,
 ) {
-    let mut sink = sure(rt, MemSink::new(alloc, 1000, 10, &[fails]));
-    let done = call_into(rt, alloc, words, &mut sink);
-    assert_text(rt, words, text_in(&sink), taken, "a write fails");
-    assert_status(rt, words, done.status, 6, "a write fails");
-    assert_counts(rt, words, counts_of(&done), counts);
-    assert_faults(rt, words, sink.faults(), 1);
+    let (done, sink) = call_cut(rt, alloc, words, fails);
+    assert_cut(rt, words, &done, &sink, taken, counts);
 }
 
 // A run that was reported is handed out whether or not its report could be written; it has two nodes and one mark.

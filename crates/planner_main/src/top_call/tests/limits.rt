@@ -4,11 +4,29 @@ use super::*;
 
 // These lines, and then one so many times.
 fn repeated(alloc: Global, lines: &str, line: &str, times: u32) -> Result<String, Memory> {
-    let mut text = String::from_str(alloc, lines)?;
+    let mut text = copied(alloc, lines)?;
     for _ in 0..times {
         text.push_str(line)?;
     }
     Ok(text)
+}
+
+// Compares the answer to a long scene.
+fn expect_answer<R: Threads + Sync + Wait + Abort>(
+    rt: &R,
+    alloc: Global,
+    words: &[&str],
+    scene: &str,
+    status: u8,
+    text: &str,
+) {
+    let case = Case {
+        shows: "a long scene",
+        scene,
+        status,
+        text,
+    };
+    expect_by_pieces(rt, alloc, words, scene.as_bytes(), 1 << 16, &case);
 }
 
 // A scene of so many obstacles.
@@ -28,13 +46,7 @@ fn expect_among_obstacles<R: Threads + Sync + Wait + Abort>(
     text: &str,
 ) {
     let scene = sure(rt, among_obstacles(alloc, count));
-    let case = Case {
-        shows: "many obstacles",
-        scene: &scene,
-        status,
-        text,
-    };
-    expect_by_pieces(rt, alloc, &["plain"], scene.as_bytes(), 1 << 16, &case);
+    expect_answer(rt, alloc, &["plain"], &scene, status, text);
 }
 
 #[test]
@@ -50,13 +62,9 @@ fn marks_on_start(alloc: Global, count: u32) -> Result<String, Memory> {
     repeated(alloc, lines, "mark 0 0\n", count)
 }
 
-// Compares how many lines the canonical text of a scene has.
-fn expect_shown<R: Threads + Sync + Wait + Abort>(
-    rt: &R,
-    alloc: Global,
-    scene: &str,
-    lines: usize,
-) {
+// Compares how many lines the canonical text of a scene of so many marks has.
+fn expect_shown<R: Threads + Sync + Wait + Abort>(rt: &R, alloc: Global, count: u32, lines: usize) {
+    let scene = sure(rt, marks_on_start(alloc, count));
     let called = call_by_pieces(rt, alloc, &["show"], scene.as_bytes(), 1 << 16);
     assert_status(rt, &["show"], called.status, 0, "many lines");
     expect_line_count(rt, &called.text, lines);
@@ -64,46 +72,21 @@ fn expect_shown<R: Threads + Sync + Wait + Abort>(
 
 #[test]
 fn shows_as_many_marks_as_there_may_be(rt: HostRuntime) {
-    let most = sure(&rt, marks_on_start(rt.alloc(), 262_143));
-    expect_shown(&rt, rt.alloc(), &most, 262_152);
-    let text = sure(&rt, marks_on_start(rt.alloc(), 262_144));
-    let more = Case {
-        shows: "one more",
-        scene: &text,
-        status: 3,
-        text: "line 262149 kind 8 Many\n",
-    };
-    expect_by_pieces(&rt, rt.alloc(), &["show"], text.as_bytes(), 1 << 16, &more);
+    expect_shown(&rt, rt.alloc(), 262_143, 262_152);
+    let more = sure(&rt, marks_on_start(rt.alloc(), 262_144));
+    let refusal = "line 262149 kind 8 Many\n";
+    expect_answer(&rt, rt.alloc(), &["show"], &more, 3, refusal);
 }
 
 // All marks lie on the start, or on one of the four points of the room.
 #[test]
 fn plans_over_as_many_marks_as_there_may_be(rt: HostRuntime) {
-    let scene = "prrt 1\nroom 9 9\nstart 0 0\ngoal 1 1 2 2\nstep 4\ngamma 9\n";
-    let text = sure(&rt, repeated(rt.alloc(), scene, "mark 0 0\n", 262_143));
-    for case in [
-        Case {
-            shows: "listed marks",
-            scene: &text,
-            status: 1,
-            text: "no path\nnodes 1 placed 0 same 262143 blocked 0\n",
-        },
-        Case {
-            shows: "drawn marks",
-            scene: MOST_DRAWN_MARKS,
-            status: 0,
-            text: "path 2 cost 363\n0 0\n1 1\nnodes 4 placed 3 same 262140 blocked 0\n",
-        },
-    ] {
-        expect_by_pieces(
-            &rt,
-            rt.alloc(),
-            &["plain"],
-            case.scene.as_bytes(),
-            1 << 16,
-            &case,
-        );
-    }
+    let drawn = "path 2 cost 363\n0 0\n1 1\nnodes 4 placed 3 same 262140 blocked 0\n";
+    expect_answer(&rt, rt.alloc(), &["plain"], MOST_DRAWN_MARKS, 0, drawn);
+    let lines = "prrt 1\nroom 9 9\nstart 0 0\ngoal 1 1 2 2\nstep 4\ngamma 9\n";
+    let scene = sure(&rt, repeated(rt.alloc(), lines, "mark 0 0\n", 262_143));
+    let listed = "no path\nnodes 1 placed 0 same 262143 blocked 0\n";
+    expect_answer(&rt, rt.alloc(), &["plain"], &scene, 1, listed);
 }
 
 // A comment of so many bytes.

@@ -36,15 +36,16 @@ const DRAWN_MARKS: &str = "\
 
 // How many marks of a run were placed, ended at a node, and were blocked, each at most 65535.
 fn outcomes(grown: &Grown) -> [u16; 3] {
-    let [mut placed, mut same, mut blocked] = [0_u16; 3];
+    let mut counts = [0_u16; 3];
     for mark in 0..grown.limit() {
-        match grown.record_of(mark).outcome {
-            Outcome::Placed => placed = placed.saturating_add(1),
-            Outcome::Same(_) => same = same.saturating_add(1),
-            Outcome::Blocked => blocked = blocked.saturating_add(1),
-        }
+        let place = match grown.record_of(mark).outcome {
+            Outcome::Placed => 0,
+            Outcome::Same(_) => 1,
+            Outcome::Blocked => 2,
+        };
+        counts[place] = counts[place].saturating_add(1);
     }
-    [placed, same, blocked]
+    counts
 }
 
 // The greatest number of a worker that has handled a mark of the run.
@@ -216,10 +217,10 @@ fn expect_counted<R: Abort>(rt: &R, grown: &Grown, marks: u32) {
 
 // The run that a call has handed out.
 fn run_of<'a, R: Abort>(rt: &R, done: &'a Done) -> &'a Grown {
-    let Some(grown) = &done.run else {
-        panic!(rt; "no run");
-    };
-    grown
+    match &done.run {
+        Some(grown) => grown,
+        None => panic!(rt; "no run"),
+    }
 }
 
 // Compares the counts of the run that a call over so many marks has handed out with its records, and with the line of its
@@ -428,14 +429,23 @@ impl Gate for OtherFirst {
 fn expect_other_first<R: Abort>(rt: &R, grown: &Grown) {
     assert_eq!(rt; grown.limit(), 3);
     let first = grown.record_of(0);
-    assert_eq!(rt; first.worker, 1);
-    assert_eq!(rt; first.turn, 0);
     let second = grown.record_of(1);
-    assert_eq!(rt; second.worker, 0);
-    assert_eq!(rt; second.turn, 0);
-    assert_eq!(rt; second.nearest, 1);
-    assert_eq!(rt; second.first_parent, 1);
-    assert_eq!(rt; second.first_cost, 25_449);
+    for (shows, number, want) in [
+        ("the first mark's worker", first.worker, 1),
+        ("the first mark's turn", first.turn, 0),
+        ("the second mark's worker", second.worker, 0),
+        ("the second mark's turn", second.turn, 0),
+        ("the second mark's nearest node", second.nearest, 1),
+        ("the second mark's first parent", second.first_parent, 1),
+    ] {
+        expect_number(rt, u64::from(number), want, shows);
+    }
+    expect_number(
+        rt,
+        second.first_cost,
+        25_449,
+        "the second mark's first cost",
+    );
 }
 
 // Whether a line of the text begins so.
