@@ -1,5 +1,6 @@
 -- The record of the mark in hand keeps the law of worlds.
-use Rattle.std.proofs.Common.{◌≡◌, ℕ, ◌*◌, suc, ◌+◌, ◌/◌, ◌%◌, ◌≤◌, ◌^◌, List, ◌∷◌, length, set, Some, refl, sym, ap, ◌∙◌, subst, inl, inr, arith, le_refl}
+use Rattle.std.proofs.Common.{◌≡◌, ℕ, ◌*◌, suc, ◌+◌, ◌/◌, ◌%◌, ◌≤◌, ◌^◌, ◌≢◌, Bool, true, List, ◌∷◌, length, set, Some, refl, sym}
+use Rattle.std.proofs.Common.{ap, ◌∙◌, subst, inl, inr, arith, le_refl}
 use Rattle.std.specs.Prelude.{◌⊎◌, ◌==◌, nat_lt, is_some}
 use mathlib.Core.Option.{some}
 use lib.ListN.{get_elem?}
@@ -8,14 +9,17 @@ use Rattle.std.proofs.lemmas.Nat.{div-mul-add, mod-mul-add}
 use Rattle.plan_model.specs.MarkPoints.{is_claimed}
 use Rattle.plan_model.specs.Turns.{once_if}
 use Rattle.plan_model.specs.declared.records.Record.{Record}
-use Rattle.step_core.specs.GrownWords.{record_at}
+use Rattle.plan_model.specs.Outcomes.{is_placed}
+use Rattle.step_core.specs.GrownWords.{has_placed, record_at}
+use Rattle.step_core.specs.Stages.{MayBeRecorded, has_count, has_link}
+use Rattle.step_core.specs.ViewTrees.{SeesTree}
 use Rattle.step_core.specs.ViewSteps.{finished, one_turn_more, saw}
 use Rattle.step_core.specs.Views.{IsViewOf, holds, run_sizes, sees, share}
 use Rattle.step_core.specs.WordKinds.{AreBehind}
 use Rattle.step_core.specs.WordNames.{Words, WritesWord}
-use Rattle.step_core.specs.WordNames.Word.{Count, Counter, FirstOf, RecordOf, TreeOf}
+use Rattle.step_core.specs.WordNames.Word.{Counter, FirstOf, PointOf, RecordOf, TreeOf}
 use Rattle.step_core.specs.WordPlaces.{HasWord}
-use Rattle.step_core.specs.Words.{FitsWord, IsTurnWord, last_field, number_of_outcome, record_word, turn_in, worker_in}
+use Rattle.step_core.specs.Words.{FitsWord, IsTurnWord, last_field, number_of_outcome, record_of_word, record_word, turn_in, worker_in}
 use Rattle.step_core.specs.Worlds.{IsRecordWord, IsWorld, counters, is_recorded, limit_of}
 use Rattle.step_core.specs.declared.views.Hand.{Hand}
 use Rattle.step_core.specs.declared.views.Member.{Member}
@@ -23,12 +27,16 @@ use Rattle.step_core.specs.declared.views.SharedRun.{SharedRun}
 use Rattle.step_core.specs.declared.views.View.{View}
 use Rattle.step_core.proofs.FinishedTurns.{Turns-finished, change}
 use Rattle.step_core.proofs.MarksInHand.{IsInHand, IsInHand-held}
+use Rattle.step_core.proofs.PlacedWords.{has_placed-record_word}
 use Rattle.step_core.proofs.SawWords.{AreBehind-saw, AreBehind-seen, AreBehind-write, HaveWholePairs-saw, IsFair-saw}
 use Rattle.step_core.proofs.SeenByViews.{IsViewOf-saw, WritesWord-saw}
+use Rattle.step_core.proofs.SeenTreesOfViews.{SeesTree-finished}
 use Rattle.step_core.proofs.ViewLists.{greatest-set}
 use Rattle.step_core.proofs.WordKinds.{AreBehind-trans}
+use Rattle.step_core.proofs.WorldHands.{Hands-recorded}
+use Rattle.step_core.proofs.WorldLinks.{Links-recorded}
 use Rattle.step_core.proofs.WorldParts.{Numbers-step, record_word-none, Seen-step, Shares-step, limit_of-up, of_run-step, quotas-kept}
-use Rattle.step_core.proofs.WorldSteps.{live}
+use Rattle.step_core.proofs.WorldSteps.{Sights-set, live, tree}
 
 -- a mark in hand has no record, and is one of the marks
 pub in_hand :
@@ -41,7 +49,9 @@ in_hand run words views id view world at hand held =
 module _ (run : SharedRun) (words after : Words) (views : List View) (id : ℕ) (view : View) (world : IsWorld run words views)
     (at : get_elem? views id ≡ some view) (own : view.run ≡ run) (hand : Hand) (held : view.hand ≡ Some hand) (member : Member)
     (crew : List Member) (crew_is : view.crew ≡ member ∷ crew) (x : ℕ) (written : 2 ^ 63 ≤ x) (worker : worker_in x ≡ member.worker)
-    (turn : turn_in x ≡ member.turn) (is_packed : IsRecordWord x) (writes : WritesWord (RecordOf hand.mark) x words after) where
+    (turn : turn_in x ≡ member.turn) (is_packed : IsRecordWord x) (writes : WritesWord (RecordOf hand.mark) x words after) (placed : Bool)
+    (reads : (first : ℕ) → has_placed (record_of_word x first) ≡ placed) (linked : placed ≡ has_link hand.stage) (counted : placed ≡ has_count hand.stage)
+    (tree_then : SeesTree (finished view hand.mark x)) where
   abbrev k : ℕ
   k = hand.mark
 
@@ -107,7 +117,7 @@ module _ (run : SharedRun) (words after : Words) (views : List View) (id : ℕ) 
         numbers = Numbers-step run words after views id view then at world.numbers
             (quotas-kept run words after views (set views id then) world.numbers (λ g within. writes.others (Counter g) (λ e. cc))
             (greatest-set limit_of views id view then at (limit_of-up view then same_share (le_refl view.most))))
-            balance (world.numbers.limits id view at) packed (omega (arith, writes.others Count (λ e. cc), world.numbers.count));
+            balance (world.numbers.limits id view at) packed;
         turns = Turns-finished run words after views id view member crew k x world.turns at crew_is mark.low mark.absent writes written worker turn saw_it;
         shares = Shares-step run words after views id view then at world.shares same_share (λ none. refl);
         seen = Seen-step words after views id view then at world.seen go
@@ -115,7 +125,32 @@ module _ (run : SharedRun) (words after : Words) (views : List View) (id : ℕ) 
             (AreBehind-trans _ (sees view) (sees then) (world.seen.took id view at) seen) pairs
             (HaveWholePairs-saw (RecordOf k) x (sees view) (sees then) after saw_it writes.here behind (world.seen.whole id view at) pairs)
             (IsFair-saw (RecordOf k) x (sees view) (sees then) after saw_it writes.here behind);
+        links = Links-recorded run words after views id view then at world.numbers world.links hand held x placed reads linked counted writes refl;
+        hands = Hands-recorded words after views id view then at world.hands hand held refl (λ n. writes.others (PointOf n) (λ e. cc)) recorded others;
+        sights = Sights-set run words views id view world at own then (λ of. tree_then);
       }
+    where
+      recorded : is_recorded after k ≡ true
+      recorded =
+          ap is_some
+          (change run words after views id view member crew k x world.turns at crew_is mark.low mark.absent writes written worker turn).recorded
+
+      others : (j : ℕ) → j ≢ k → is_recorded after j ≡ is_recorded words j
+      others j apart =
+          ap is_some
+          ((change run words after views id view member crew k x world.turns at crew_is mark.low mark.absent writes written worker turn).others j apart)
+
+-- and no record of it was seen
+pub none_seen :
+    (run : SharedRun) (words : Words) (views : List View) (id : ℕ) (view : View) → IsWorld run words views → get_elem? views id ≡ some view
+    → (hand : Hand) → view.hand ≡ Some hand → sees view (RecordOf hand.mark) ≡ 0
+none_seen run words views id view world at hand held =
+    let mark = in_hand run words views id view world at hand held in
+    let none = record_word-none (words (RecordOf hand.mark)) (words (FirstOf (suc hand.mark))) (world.numbers.packed hand.mark) mark.absent in
+    elim (world.seen.behind id view at (RecordOf hand.mark)) [
+      | inl unseen ↦ unseen
+      | inr same ↦ same ∙ none
+    ]
 
 -- the words go on by a record
 pub AreBehind-finished :
@@ -147,9 +182,12 @@ IsTurnWord-packed entry fits =
 pub IsWorld-recorded :
     (run : SharedRun) (words after : Words) (views : List View) (id : ℕ) (view : View) → IsWorld run words views → get_elem? views id ≡ some view
     → view.run ≡ run → (hand : Hand) → view.hand ≡ Some hand → (member : Member) (crew : List Member) → view.crew ≡ member ∷ crew → (entry : Record)
-    → FitsWord entry → entry.worker ≡ member.worker → entry.turn ≡ member.turn → WritesWord (RecordOf hand.mark) (record_word entry) words after
-    → IsWorld run after (set views id (finished view hand.mark (record_word entry)))
-IsWorld-recorded run words after views id view world at own hand held member crew crew_is entry fits worker turn writes =
+    → FitsWord entry → entry.worker ≡ member.worker → entry.turn ≡ member.turn → MayBeRecorded hand.stage entry.outcome
+    → WritesWord (RecordOf hand.mark) (record_word entry) words after → IsWorld run after (set views id (finished view hand.mark (record_word entry)))
+IsWorld-recorded run words after views id view world at own hand held member crew crew_is entry fits worker turn may writes =
     let says = IsTurnWord-packed entry fits in
+    let mark = in_hand run words views id view world at hand held in
     IsWorld-finished run words after views id view world at own hand held member crew crew_is (record_word entry) says.written (says.worker_is ∙ worker)
-    (says.turn_is ∙ turn) (inr (entry, fits, refl)) writes
+    (says.turn_is ∙ turn) (inr (entry, fits, refl)) writes (is_placed entry.outcome) (λ first. has_placed-record_word entry first fits) may.linked may.counted
+    (SeesTree-finished run view (live run words views id view world at own) (tree run words views id view world at own) hand held mark.low
+    (none_seen run words views id view world at hand held) entry fits may)

@@ -22,7 +22,7 @@ none_some None h = refl
 none_some (Some p) h = cc
 
 -- the point in a word has coordinates of 20 bits
-IsBounded-word : (word : ℕ) (p : Point) → point_of_word word ≡ Some p → IsBounded p
+pub IsBounded-word : (word : ℕ) (p : Point) → point_of_word word ≡ Some p → IsBounded p
 IsBounded-word word p h = by_test (nat_lt word (2 ^ 63)) h
   where
     by_test : (b : Bool) → (if b then None else Some (point_in word)) ≡ Some p → IsBounded p

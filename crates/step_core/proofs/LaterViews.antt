@@ -1,17 +1,21 @@
 -- A view after steps of its own is a later one, and the law of worlds says of each view alone what `IsLawfulView` says.
-use Rattle.std.proofs.Common.{◌≡◌, ℕ, suc, ◌+◌, ◌<◌, ◌≤◌, ◌^◌, List, length, Some, refl, sym, ap, ◌∙◌, subst, inl, inr, arith, le_refl, le_trans}
+use Rattle.std.proofs.Common.{◌≡◌, ℕ, suc, ◌+◌, ◌<◌, ◌≤◌, ◌^◌, true, List, length, Some, refl, sym, ap, ◌∙◌, subst, inl, inr, arith, le_refl, le_trans}
 use Rattle.std.specs.Prelude.{◌⊎◌}
 use lib.ListN.{get_elem?}
 use mathlib.Core.Option.{some}
 use Rattle.std.proofs.lemmas.Bool.{cases_Bool, cases_eq}
 use Rattle.plan_model.specs.Turns.{is_of_worker, turns_of}
 use Rattle.plan_model.proofs.CountsBelow.{count-same}
-use Rattle.step_core.specs.GrownWords.{record_at}
-use Rattle.step_core.specs.Words.{record_of_word}
+use Rattle.plan_model.specs.Bounds.{IsBounded}
+use Rattle.plan_model.specs.Ways.{FollowWays}
+use Rattle.step_core.specs.GrownWords.{children_of_words, is_linked, record_at}
+use Rattle.step_core.specs.SharedWords.{linked_points}
+use Rattle.step_core.specs.ViewTrees.{MayLoad, SeesTree}
+use Rattle.step_core.specs.Words.{point_word, record_of_word}
 use Rattle.step_core.specs.LaterViews.{IsLater, IsLawfulView}
 use Rattle.step_core.specs.ViewSteps.{claimed, finished, joined, loaded, parted, saw, stepped}
 use Rattle.step_core.specs.Views.{IsSharedRun, IsViewOf, last_look, last_zero, run_sizes, sees}
-use Rattle.step_core.specs.WordKinds.{MayBecome, WordKind, kind_of}
+use Rattle.step_core.specs.WordKinds.{AreBehind, MayBecome, WordKind, kind_of}
 use Rattle.step_core.specs.WordKinds.WordKind.{Rising, Once, Falling}
 use Rattle.step_core.specs.WordNames.{Word, Words, WritesWord}
 use Rattle.step_core.specs.WordNames.Word.{Count, Counter, FirstOf, RecordOf}
@@ -23,6 +27,7 @@ use Rattle.step_core.specs.declared.views.SharedRun.{SharedRun}
 use Rattle.step_core.specs.declared.views.View.{View}
 use Rattle.step_core.proofs.FinishedMarks.{in_hand}
 use Rattle.step_core.proofs.Looks.{same_name}
+use Rattle.step_core.proofs.LawfulSights.{AreDistinct-seen, FollowSeenWays-seen, SeesNode-within, SeesPoint-start, is_linked-seen}
 use Rattle.step_core.proofs.MarksInHand.{greatest_limit-most}
 use Rattle.step_core.proofs.SawWords.{AreBehind-write}
 use Rattle.step_core.proofs.SeenByViews.{WritesWord-looked, WritesWord-saw, WritesWord-zero, last_zero-other}
@@ -30,7 +35,8 @@ use Rattle.step_core.proofs.WholeShares.{turn-below, worker-below}
 use Rattle.step_core.proofs.WordKinds.{AreBehind-refl, AreBehind-trans}
 use Rattle.step_core.proofs.WorldParts.{quota-most, record_word-none, worker-own}
 use Rattle.step_core.proofs.WorldJoins.{AreBehind-joined}
-use Rattle.step_core.proofs.WorldSteps.{live}
+use Rattle.step_core.proofs.WorldLinks.{count-most, unlinked-held}
+use Rattle.step_core.proofs.WorldSteps.{HasWord-load, follow, live, tree}
 
 -- ---- later views
 
@@ -120,8 +126,9 @@ module _ (run : SharedRun) (words : Words) (views : List View) (id : ℕ) (view 
   of_run = live run words views id view world at own
 
   -- a load
-  pub IsLater-loaded : (name : Word) → HasWord (run_sizes run) name → IsLater view (loaded view name (words name))
-  IsLater-loaded name here =
+  pub IsLater-loaded : (name : Word) → MayLoad view name → IsLater view (loaded view name (words name))
+  IsLater-loaded name may =
+      let here = HasWord-load run words views id view world at own name may in
       IsLater-saw run view of_run name here (words name) (words name) (world.seen.behind id view at name)
       (λ none. MayBecome-zero (kind_of name) (sees view name) (subst (MayBecome (kind_of name) (sees view name)) none (world.seen.behind id view at name)))
 
@@ -191,10 +198,31 @@ module _ (run : SharedRun) (words : Words) (views : List View) (id : ℕ) (view 
     turn = λ hand i member held e. subst (λ r. member.turn < length r.marks) (sym own) (turn-below run words views id view world at hand i member held e);
     own_turn = λ i member e. subst (λ r. member.turn ≡ turns_of (record_at (sees view)) (length r.marks) member.worker) (sym own) (own_turn i member e);
     took = world.seen.took id view at;
-    count = subst (λ r. sees view Count ≤ length r.marks + 1) (sym own) (le_trans (world.seen.behind id view at Count) world.numbers.count);
+    tree = sees_tree;
+    ways = FollowSeenWays-seen view words behind sees_tree ways;
+    distinct = AreDistinct-seen view words behind sees_tree ways;
+    within = SeesNode-within view words behind sees_tree ways;
+    unseen = λ hand held not_yet seen.
+        let here = is_linked-seen view words behind sees_tree ways (suc hand.mark) seen in
+        let linked = subst (λ r. is_linked (run_sizes r) words (suc hand.mark) ≡ true) own here in
+        let no = sym (unlinked-held run words words views id view view at world.numbers world.links hand held not_yet) ∙ linked in
+        cc;
+    start = SeesPoint-start view words behind sees_tree ways (world.links.start ∙ sym (ap (λ r. point_word r.start) own))
+        (subst (λ r. IsBounded r.start) (sym own) world.run_is.start);
+    count = subst (λ r. sees view Count ≤ length r.marks + 1) (sym own)
+        (le_trans (world.seen.behind id view at Count) (count-most run words views world.numbers world.links));
     counter = λ g strip. subst (λ r. sees view (Counter g) ≤ length r.marks) (sym own)
         (counter_within g (subst (λ r. g < r.strips) own strip));
   }
+    where
+      sees_tree : SeesTree view
+      sees_tree = tree run words views id view world at own
+
+      behind : AreBehind (sees view) words
+      behind = world.seen.behind id view at
+
+      ways : FollowWays (children_of_words words) (linked_points (run_sizes view.run) words)
+      ways = follow run words views id view world at own
 
 -- ---- splits and joins
 

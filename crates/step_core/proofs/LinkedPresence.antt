@@ -28,10 +28,10 @@ or_cases true b h = inl refl
 or_cases false b h = inr h
 
 -- a child word that holds node n
-record InChild (words : Words) (n : ℕ) : Type 0 where
-  node : ℕ
-  side : Bool
-  holds : words (ChildOf node side) ≡ n
+pub record InChild (words : Words) (n : ℕ) : Type 0 where
+  pub node : ℕ
+  pub side : Bool
+  pub holds : words (ChildOf node side) ≡ n
 
 module _ (words : Words) (n : ℕ) where
   in_list : (ms : List ℕ) → list_any (is_child_of words n) ms ≡ true → InChild words n
@@ -45,7 +45,7 @@ module _ (words : Words) (n : ℕ) where
         | inr more ↦ in_list ms more
       ]
 
-in_child : (sizes : Sizes) (words : Words) (k : ℕ) → is_linked sizes words (suc k) ≡ true → InChild words (suc k)
+pub in_child : (sizes : Sizes) (words : Words) (k : ℕ) → is_linked sizes words (suc k) ≡ true → InChild words (suc k)
 in_child sizes words k h =
     elim (or_cases (suc k == 0) (list_any (is_child_of words (suc k)) (range_with_len 0 (sizes.marks + 1))) h) [
       | inl none ↦ (let gone = eqb-true (suc k) 0 none in absurd (omega (arith, gone)))
@@ -76,7 +76,7 @@ placed_in None h = cc
 placed_in (Some entry) h = (entry, refl, is_placed-true entry.outcome h)
 
 module _ (task : Task) (limit : ℕ) (words : Words) (held : HoldRun task limit words) where
-  node_present : (n : ℕ) → has_node words n ≡ true → IsPresent (points_of_words (sizes_of task) words) n
+  pub node_present : (n : ℕ) → has_node words n ≡ true → IsPresent (points_of_words (sizes_of task) words) n
   node_present zero h = ap is_some held.closed.order.start_stands
   node_present (suc k) h =
       let own = placed_in (record_at words k) h in

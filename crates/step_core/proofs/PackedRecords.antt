@@ -47,6 +47,10 @@ record_word-fields entry h =
     fields-packed (last_field entry.outcome entry.class) (number_of_outcome entry.outcome) entry.nearest entry.turn entry.worker
     h.last (number_of_outcome-few entry.outcome) h.nearest h.turn h.worker
 
+-- and so the number of its outcome
+pub outcome_in-record_word : (entry : Record) → FitsWord entry → outcome_in (record_word entry) ≡ number_of_outcome entry.outcome
+outcome_in-record_word entry h = (record_word-fields entry h).number_is
+
 -- ---- records
 
 -- what is 0 of an unplaced mark

@@ -56,7 +56,7 @@ module _ (sizes : Sizes) (words : Words) where
       ∙ is_child m n side (child_names (words (ChildOf m side)) n h)))
 
   -- no node stands past the last mark
-  linked-within : (n : ℕ) → IsPresent (linked_points sizes words) n → n ≤ sizes.marks
+  pub linked-within : (n : ℕ) → IsPresent (linked_points sizes words) n → n ≤ sizes.marks
   linked-within n h =
       elim (cases_lt sizes.marks n) [
         | inr within ↦ within

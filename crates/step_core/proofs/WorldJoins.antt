@@ -7,7 +7,9 @@ use Rattle.std.proofs.lemmas.List.Sums.{sum_by-append}
 use mathlib.Core.Option.{some, some-ne-none, some-injective}
 use lib.ListN.{get_elem?}
 use Rattle.plan_model.specs.Turns.{once_if}
+use Rattle.step_core.specs.Stages.{has_count, has_link, has_point, holds_at}
 use Rattle.step_core.specs.ViewSteps.{joined}
+use Rattle.step_core.specs.ViewTrees.{SeesTree}
 use Rattle.step_core.specs.Views.{IsViewOf, holds, no_run, run_sizes, sees, share, spent, times, took_over, words_of_run}
 use Rattle.step_core.specs.WordKinds.{AreBehind, HaveWholePairs, MayBecome, WordKind, kind_of, later_word}
 use Rattle.step_core.specs.WordKinds.WordKind.{Rising, Once, Falling}
@@ -15,12 +17,16 @@ use Rattle.step_core.specs.WordNames.{Word, Words}
 use Rattle.step_core.specs.WordNames.Word.{Count, Counter, PointOf, ChildOf, TreeOf, FirstOf, RecordOf}
 use Rattle.step_core.specs.WordPlaces.{Sizes, has_word, place_of, word_at, word_count}
 use Rattle.step_core.specs.Words.{cost_in}
-use Rattle.step_core.specs.Worlds.{Agree, EachView, IsMember, IsWorld, greatest_limit, limit_of}
+use Rattle.step_core.specs.Worlds.{Agree, EachView, IsMember, IsWorld, greatest_limit, hands_at, limit_of}
 use Rattle.step_core.specs.declared.views.Member.{Member}
 use Rattle.step_core.specs.declared.views.SharedRun.{SharedRun}
+use Rattle.step_core.specs.declared.views.Stage.{Stage}
 use Rattle.step_core.specs.declared.views.View.{View}
 use Rattle.step_core.proofs.LaterWords.{IsWholePair-later, MayBecome-later, MayBecome-other_to_later, MayBecome-to_later, length-merged, word_at-merged}
 use Rattle.step_core.proofs.ViewLists.{at-set, at-set_other, each-set, greatest-most, greatest-one, sum-set}
+use Rattle.step_core.proofs.SeenTreesTogether.{SeesTree-joined}
+use Rattle.step_core.proofs.WorldHands.{Hands-views, IsWrittenFor}
+use Rattle.step_core.proofs.WorldLinks.{Links-views}
 use Rattle.step_core.proofs.WorldParts.{agree-set, quotas-kept}
 use Rattle.step_core.proofs.WorldSteps.{live}
 
@@ -177,7 +183,7 @@ module _ (run : SharedRun) (words : Words) (views : List View) (id : ℕ) (view 
 
   -- ---- the parts
 
-  module _ (apart : j ≢ id) (there : get_elem? middle j ≡ some other) (idle : other.hand ≡ None) where
+  module _ (apart : j ≢ id) (there : get_elem? middle j ≡ some other) (idle_too : view.hand ≡ None) (idle : other.hand ≡ None) where
     here : get_elem? after id ≡ some both
     here = at-set_other middle j id spent (λ e. apart (sym e)) ∙ at-set views id view both at
 
@@ -261,7 +267,6 @@ module _ (run : SharedRun) (words : Words) (views : List View) (id : ℕ) (view 
         limits = each (λ u. u.most ≤ length run.marks) world.numbers.limits
             (omega (arith, world.numbers.limits id view at, world.numbers.limits j other was)) (omega arith);
         packed = world.numbers.packed;
-        count = world.numbers.count;
       };
       turns = record {
         workers = world.turns.workers;
@@ -293,12 +298,31 @@ module _ (run : SharedRun) (words : Words) (views : List View) (id : ℕ) (view 
         whole = each (λ u. HaveWholePairs (sees u)) world.seen.whole whole_both (λ n. inl (sees-spent (TreeOf n)));
         agree = agree-set middle j spent (agree-set views id both world.seen.agree (λ i u off e. agree_both i u e)) (λ i u off e. Agree-spent (sees u));
       };
+      links = Links-views run words views after world.links (hands_both has_link) (hands_both has_count);
+      hands = Hands-views words views after world.hands
+          (each (IsWrittenFor words) world.hands.written (λ hand held. world.hands.written id view at hand held) (λ hand held. cc)) (hands_both has_point);
+      sights = each (λ u. u.run ≡ run → SeesTree u) world.sights
+          (λ of. SeesTree-joined view other (own_too ∙ sym own) (AreBehind-joined view other) AreBehind-other idle_too (world.sights id view at own)
+          (world.sights j other was own_too))
+          (λ of. absurd (live_spent of));
     }
+      where
+        hands_both : (test : Stage → Bool) (k : ℕ) → hands_at test k after ≡ hands_at test k views
+        hands_both test k =
+            omega (
+              arith,
+              sum-set (λ u. once_if (holds_at test k u.hand)) views id view both at,
+              sum-set (λ u. once_if (holds_at test k u.hand)) middle j other spent there,
+              ap (λ h. once_if (holds_at test k h)) idle,
+            )
+
+        live_spent : no_run ≡ run → ⊥
+        live_spent of = let none : run.workers ≡ 0 = ap (λ r. r.workers) (sym of) in omega (arith, none, world.run_is.workers.0)
 
 pub IsWorld-joined :
     (run : SharedRun) (words : Words) (views : List View) (id : ℕ) (view : View) (j : ℕ) (other : View) → IsWorld run words views
     → get_elem? views id ≡ some view → view.run ≡ run → other.run ≡ run → j ≢ id → get_elem? (set views id (joined view other)) j ≡ some other
-    → other.hand ≡ None → IsWorld run words (set (set views id (joined view other)) j spent)
-IsWorld-joined run words views id view j other world at own own_too apart there idle =
+    → view.hand ≡ None → other.hand ≡ None → IsWorld run words (set (set views id (joined view other)) j spent)
+IsWorld-joined run words views id view j other world at own own_too apart there idle idle_too =
     let was = sym (at-set_other views id j (joined view other) apart) ∙ there in
-    IsWorld-after run words views id view j other world at own own_too was apart there idle
+    IsWorld-after run words views id view j other world at own own_too was apart there idle idle_too

@@ -13,7 +13,7 @@ use Rattle.step_core.specs.GrownWords.{record_at}
 use Rattle.step_core.specs.Views.{IsViewOf, holds, sees, share, spent, times, took_over}
 use Rattle.step_core.specs.WordKinds.{AreBehind, HaveWholePairs}
 use Rattle.step_core.specs.WordNames.{Words}
-use Rattle.step_core.specs.WordNames.Word.{Count, Counter, FirstOf, RecordOf, TreeOf}
+use Rattle.step_core.specs.WordNames.Word.{Counter, FirstOf, RecordOf, TreeOf}
 use Rattle.step_core.specs.Words.{cost_in, outcome_in, record_in, record_of_word}
 use Rattle.step_core.specs.Worlds.{Agree, EachView, IsMember, IsRecordWord, Numbers, Seen, Shares, Turns, counters, greatest_limit, is_recorded, limit_of}
 use Rattle.step_core.specs.declared.views.Member.{Member}
@@ -142,14 +142,12 @@ module _ (run : SharedRun) (before after : Words) (views : List View) (id : ℕ)
       Numbers run before views → ((g : ℕ) → g < run.strips → after (Counter g) ≤ quota_of run.strips g (greatest_limit (set views id then)))
       → ((k : ℕ) → once_if (is_recorded after k) + once_if (holds k then.hand) + once_if (is_claimed run.strips (counters before) k)
       ≡ once_if (is_recorded before k) + once_if (holds k view.hand) + once_if (is_claimed run.strips (counters after) k))
-      → then.most ≤ length run.marks → ((k : ℕ) → IsRecordWord (after (RecordOf k)))
-      → after Count ≤ length run.marks + 1 → Numbers run after (set views id then)
-  Numbers-step numbers quotas balance most packed count = record {
+      → then.most ≤ length run.marks → ((k : ℕ) → IsRecordWord (after (RecordOf k))) → Numbers run after (set views id then)
+  Numbers-step numbers quotas balance most packed = record {
     quotas = quotas;
     each_once = λ k. omega (arith, balance k, numbers.each_once k, sum-set (λ u. once_if (holds k u.hand)) views id view then at);
     limits = each-set views id then (λ u. u.most ≤ length run.marks) (λ i u apart e. numbers.limits i u e) most;
     packed = packed;
-    count = count;
   }
 
   -- a step that leaves the records and the crew

@@ -7,19 +7,25 @@ use Rattle.std.proofs.lemmas.List.Sums.{sum_by_push}
 use mathlib.Core.Option.{some, some-ne-none}
 use lib.ListN.{get_elem?}
 use Rattle.plan_model.specs.Turns.{once_if}
+use Rattle.step_core.specs.Stages.{has_count, has_link, has_point, holds_at}
 use Rattle.step_core.specs.ViewSteps.{looker, parted, second_alone, stepped, without_second, worker_apart}
+use Rattle.step_core.specs.ViewTrees.{SeesTree}
 use Rattle.step_core.specs.Views.{IsViewOf, holds, sees, share, spent, times, took_over, words_of_run}
 use Rattle.step_core.specs.WordKinds.{AreBehind, HaveWholePairs}
 use Rattle.step_core.specs.WordNames.{Words}
 use Rattle.step_core.specs.WordNames.Word.{RecordOf}
-use Rattle.step_core.specs.Worlds.{Agree, EachView, IsMember, IsWorld, limit_of}
+use Rattle.step_core.specs.Worlds.{Agree, EachView, IsMember, IsWorld, hands_at, limit_of}
 use Rattle.step_core.specs.declared.views.Member.{Member}
 use Rattle.step_core.specs.declared.views.SharedRun.{SharedRun}
+use Rattle.step_core.specs.declared.views.Stage.{Stage}
 use Rattle.step_core.specs.declared.views.View.{View}
 use Rattle.step_core.proofs.FinishedTurns.{times-cons}
+use Rattle.step_core.proofs.SeenTreesOfViews.{SeesTree-apart, SeesTree-looker, SeesTree-parted, SeesTree-stepped}
 use Rattle.step_core.proofs.ViewLists.{each-push, each-set, greatest-push, greatest-set, sum-set}
+use Rattle.step_core.proofs.WorldHands.{Hands-views, IsWrittenFor}
+use Rattle.step_core.proofs.WorldLinks.{Links-views}
 use Rattle.step_core.proofs.WorldParts.{Agree-sym, agree-set, quotas-kept}
-use Rattle.step_core.proofs.WorldSteps.{live}
+use Rattle.step_core.proofs.WorldSteps.{live, tree}
 
 -- the one view has looked at the same words as the other
 pub record SeesAsMuch (view then : View) : Type 0 where
@@ -42,6 +48,8 @@ pub record IsCut (view left right : View) : Type 0 where
   pub limits : (left.most ≡ view.most) × (right.most ≡ view.most)
   pub tables_left : SeesAsMuch view left
   pub tables_right : SeesAsMuch view right
+  pub tree_left : SeesTree view → SeesTree left
+  pub tree_right : SeesTree view → SeesTree right
 
 -- ---- what is seen as much
 
@@ -126,7 +134,6 @@ module _ (run : SharedRun) (words : Words) (views : List View) (id : ℕ) (view 
               )))
               (omega (arith, cut.limits.1, world.numbers.limits id view at));
           packed = world.numbers.packed;
-          count = world.numbers.count;
         };
         turns = record {
           workers = world.turns.workers;
@@ -170,8 +177,29 @@ module _ (run : SharedRun) (words : Words) (views : List View) (id : ℕ) (view 
               (Agree-sym (sees right) (sees one) (right_with i one e)))
               (each-push rest right (λ other. Agree (sees right) (sees other)) right_with (λ n written also same. refl));
         };
+        links = Links-views run words views (rest ++ right ∷ []) world.links (hands_cut has_link) (hands_cut has_count);
+        hands = Hands-views words views (rest ++ right ∷ []) world.hands
+            (each-push rest right (IsWrittenFor words)
+            (each-set views id left (IsWrittenFor words) (λ i u apart e. world.hands.written i u e)
+            (λ hand held. world.hands.written id view at hand (sym cut.hand ∙ held)))
+            (λ hand held. let none = sym cut.no_hand ∙ held in cc))
+            (hands_cut has_point);
+        sights = each-push rest right (λ u. u.run ≡ run → SeesTree u)
+            (each-set views id left (λ u. u.run ≡ run → SeesTree u) (λ i u apart e. world.sights i u e)
+            (λ of. cut.tree_left (tree run words views id view world at own)))
+            (λ of. cut.tree_right (tree run words views id view world at own));
       }
     where
+      hands_cut : (test : Stage → Bool) (k : ℕ) → hands_at test k (rest ++ right ∷ []) ≡ hands_at test k views
+      hands_cut test k =
+          omega (
+            arith,
+            sum-set (λ u. once_if (holds_at test k u.hand)) views id view left at,
+            sum_by_push (λ u. once_if (holds_at test k u.hand)) rest right,
+            ap (λ h. once_if (holds_at test k h)) cut.hand,
+            ap (λ h. once_if (holds_at test k h)) cut.no_hand,
+          )
+
       took_as_much : (then : View) → SeesAsMuch view then → AreBehind (took_over then) (sees then)
       took_as_much then same =
           subst (λ t. AreBehind t (sees then)) (sym (took_over-same view then same))
@@ -219,6 +247,8 @@ IsCut-parted view = record {
   limits = (refl, refl);
   tables_left = record { run = refl; seen = refl; took = refl; looked = refl; found_zero = refl; steps = omega arith };
   tables_right = record { run = refl; seen = refl; took = refl; looked = refl; found_zero = refl; steps = omega arith };
+  tree_left = SeesTree-parted view;
+  tree_right = SeesTree-apart view;
 }
 
 pub IsCut-looker : (view : View) → IsCut view (stepped view) (looker view)
@@ -233,4 +263,6 @@ IsCut-looker view = record {
   limits = (refl, refl);
   tables_left = record { run = refl; seen = refl; took = refl; looked = refl; found_zero = refl; steps = omega arith };
   tables_right = record { run = refl; seen = refl; took = refl; looked = refl; found_zero = refl; steps = omega arith };
+  tree_left = SeesTree-stepped view;
+  tree_right = SeesTree-looker view;
 }

@@ -1,5 +1,5 @@
 -- A shared run that goes on from a closed run begins with a lawful world: one view, which has the whole share and has seen all words.
-use Rattle.std.proofs.Common.{◌≡◌, ℕ, zero, suc, ◌<◌, ◌≤◌, Bool, true, false, List, [], ◌∷◌, ◌/◌, ◌^◌}
+use Rattle.std.proofs.Common.{◌≡◌, ℕ, zero, suc, ◌+◌, ◌<◌, ◌≤◌, Bool, true, false, List, [], ◌∷◌, ◌/◌, ◌^◌}
 use Rattle.std.proofs.Common.{length, map, Option, Some, None, refl, sym, ap, ◌∙◌, subst, inl, inr, arith}
 use Rattle.std.specs.Prelude.{◌⊎◌, ◌==◌, nat_lt, cond, is_some, max, replicate, slice_index}
 use Rattle.std.specs.List.{count_by, range_with_len}
@@ -12,33 +12,34 @@ use Rattle.std.proofs.lemmas.Nat.{mod_below}
 use Rattle.std.proofs.lemmas.Option.{same_Some}
 use Rattle.std.proofs.lemmas.List.Sums.{sum_by-cons}
 use Rattle.plan_model.specs.MarkPoints.{is_claimed}
-use Rattle.plan_model.specs.PointsByNumber.{IsPresent}
 use Rattle.plan_model.specs.Turns.{once_if, turns_of}
 use Rattle.plan_model.specs.declared.records.Record.{Record}
 use Rattle.plan_model.specs.declared.tasks.Task.{Task}
-use Rattle.plan_model.specs.ClosedLaw.{has_outcome}
-use Rattle.plan_model.specs.Outcomes.{is_placed}
 use Rattle.plan_model.specs.declared.limits.TheConstants.{MOST_WORKERS}
 use Rattle.plan_model.proofs.CountsBelow.{count-none, count-single}
 use Rattle.plan_model.proofs.MarkBounds.{length-marks}
 use Rattle.plan_model.proofs.StripMarks.{is_claimed-below, is_claimed-past}
 use Rattle.plan_model.proofs.WorkerTurns.{AreTurns-longer}
-use Rattle.step_core.specs.GrownWords.{HoldRun, has_node, has_placed, points_of_words, record_at, run_words, sizes_of}
+use Rattle.step_core.specs.GrownWords.{HoldRun, has_node, record_at, run_words, sizes_of}
 use Rattle.step_core.specs.ViewStarts.{crew_from, member_of, newcomer}
+use Rattle.step_core.specs.ViewTrees.{SeesTree}
 use Rattle.step_core.specs.Views.{IsViewOf, run_of, run_sizes, sees, share, spent, times, took_over}
 use Rattle.step_core.specs.WordKinds.{AreBehind, HaveWholePairs}
 use Rattle.step_core.specs.WordNames.{Word, Words}
 use Rattle.step_core.specs.WordNames.Word.{FirstOf, RecordOf}
 use Rattle.step_core.specs.WordPlaces.{Sizes, has_word, place_of, word_at, word_count}
 use Rattle.step_core.specs.Words.{FitsWord, fourth_in, outcome_in, record_in, record_of_word}
-use Rattle.step_core.specs.Worlds.{Agree, EachView, IsMember, IsRecordWord, IsWorld, counters, greatest_limit, is_recorded}
+use Rattle.step_core.specs.Worlds.{Agree, EachView, IsMember, IsRecordWord, IsWorld, counted_once, counters, greatest_limit, is_recorded}
 use Rattle.step_core.specs.declared.views.Member.{Member}
 use Rattle.step_core.specs.declared.views.SharedRun.{SharedRun}
 use Rattle.step_core.specs.declared.views.View.{View}
 use Rattle.step_core.proofs.FinishedTurns.{times-cons}
-use Rattle.step_core.proofs.GrownPoints.{node_count-words}
-use Rattle.step_core.proofs.HeldNodes.{start_present-held}
+use Rattle.step_core.proofs.LinkedPresence.{is_linked-closed, node_present}
+use Rattle.step_core.proofs.SeenTreesAtStart.{SeesTree-started}
+use Rattle.step_core.proofs.StartLinks.{FollowWays-held, IsBounded-mark, IsBounded-start, blank-held, count-held, start-held}
+use Rattle.step_core.proofs.SumsBelow.{sum-same}
 use Rattle.step_core.proofs.WordKinds.{AreBehind-refl}
+use Rattle.step_core.proofs.WorldHands.{IsWrittenFor}
 use Rattle.step_core.proofs.WorldJoins.{AreBehind-nothing}
 use Rattle.step_core.proofs.WorldParts.{quota-up}
 
@@ -120,19 +121,11 @@ record_in_word word first entry e = by_test (nat_lt word (2 ^ 63)) e
     by_test true h = cc
     by_test false h = sym (same_Some (record_in (outcome_in word) word first) entry h)
 
-has_outcome-placed : (o : Option Record) → has_placed o ≡ has_outcome is_placed o
-has_outcome-placed None = refl
-has_outcome-placed (Some entry) = refl
-
 module _ (task : Task) (limit : ℕ) (words : Words) (held : HoldRun task limit words) where
-  present : (n : ℕ) → has_node words n ≡ true → IsPresent (points_of_words (sizes_of task) words) n
-  present zero h = start_present-held task limit words held
-  present (suc k) h = held.closed.placed k ∙ sym (has_outcome-placed (record_at words k)) ∙ h
-
   pub HaveWholePairs-held : HaveWholePairs words
   HaveWholePairs-held n =
       elim (cases_Bool (has_node words n)) [
-        | inl here ↦ inr (omega (arith, (held.written n (present n here)).tree))
+        | inl here ↦ inr (omega (arith, (held.written n (node_present task limit words held n here)).tree))
         | inr gone ↦ inl (held.blank n gone).tree
       ]
 
@@ -204,6 +197,8 @@ IsWorld-started task limit workers items sized held some_worker few =
       run_is = record {
         strips = (omega (arith, task.scene.strips_low), task.scene.strips_high);
         marks = length-marks task;
+        points = IsBounded-mark task;
+        start = IsBounded-start task limit words held;
         workers = (some_worker, few);
         opening = held.closed.within;
       };
@@ -220,7 +215,6 @@ IsWorld-started task limit workers items sized held some_worker few =
         each_once = λ k. omega (arith, recorded_once task limit words held k);
         limits = only first (λ u. u.most ≤ length task.marks) held.closed.within;
         packed = packed_record task limit words held;
-        count = omega (arith, held.counted, node_count-words (sizes_of task) words);
       };
       turns = record {
         workers = AreTurns-longer (record_at words) limit (length task.marks) held.closed.within (within task limit words held) held.closed.turns;
@@ -243,6 +237,18 @@ IsWorld-started task limit workers items sized held some_worker few =
         agree = only first (λ one. EachView (first ∷ []) (λ other. Agree (sees one) (sees other)))
             (only first (λ other. Agree (sees first) (sees other)) (λ n written also same. refl));
       };
+      links = record {
+        start = start-held task limit words held;
+        ways = FollowWays-held task limit words held;
+        linked = λ k. omega (arith, ap once_if (is_linked-closed task limit words held (suc k)));
+        count = count-held task limit words held
+            ∙ ap (λ n. 1 + n) (sum-same (λ k. once_if (has_node words (suc k))) (counted_once words (first ∷ [])) (length task.marks) (λ k low. omega arith));
+      };
+      hands = record {
+        written = only first (IsWrittenFor words) (λ hand held. cc);
+        blank = λ k none no_hand. blank-held task limit words held k none;
+      };
+      sights = only first (λ u. u.run ≡ run → SeesTree u) (λ of. SeesTree-started task limit workers items held);
     }
   where
     binds : share (newcomer (run_of task workers limit) items) ≡ workers → limit ≤ greatest_limit (newcomer (run_of task workers limit) items ∷ [])

@@ -1,4 +1,4 @@
--- A load of any word keeps the law of worlds, and so does a claim.
+-- A load keeps the law of worlds, and so does a claim.
 use Rattle.std.proofs.Common.{◌≡◌, ℕ, ◌+◌, ◌*◌, ◌<◌, ◌≤◌, ◌^◌, max, Bool, true, false, List}
 use Rattle.std.proofs.Common.{length, set, None, refl, sym, ap, ◌∙◌, subst, inl, inr, arith, le_refl, le_trans}
 use Rattle.std.specs.Prelude.{◌≢◌, ◌⊎◌, ◌==◌, cond}
@@ -8,20 +8,33 @@ use Rattle.std.proofs.lemmas.Bool.{cases_eq, eqb-true}
 use Rattle.plan_model.specs.MarkPoints.{is_claimed, quota_of}
 use Rattle.plan_model.specs.Turns.{once_if}
 use Rattle.plan_model.proofs.QuotaLaws.{IsCutAt-quota}
-use Rattle.step_core.specs.ViewSteps.{claimed, loaded, mark_of, saw}
+use Rattle.std.proofs.lemmas.Option.{same_Some}
+use Rattle.plan_model.specs.Ways.{FollowWays}
+use Rattle.step_core.specs.GrownWords.{children_of_words}
+use Rattle.step_core.specs.SharedWords.{linked_points}
+use Rattle.step_core.specs.Stages.{has_count, has_link, has_point, holds_at}
+use Rattle.step_core.specs.ViewSteps.{claimed, loaded, mark_of, new_hand, saw}
+use Rattle.step_core.specs.ViewTrees.{MayLoad, SeesNode, SeesTree}
 use Rattle.step_core.specs.Views.{IsSharedRun, IsViewOf, holds, run_sizes, sees, share, spent}
 use Rattle.step_core.specs.WordKinds.{AreBehind}
 use Rattle.step_core.specs.WordNames.{Word, Words, WritesWord}
-use Rattle.step_core.specs.WordNames.Word.{Count, Counter, RecordOf, TreeOf}
+use Rattle.step_core.specs.WordNames.Word.{ChildOf, Count, Counter, FirstOf, PointOf, RecordOf, TreeOf}
 use Rattle.step_core.specs.WordPlaces.{HasWord}
-use Rattle.step_core.specs.Worlds.{IsWorld, counters, greatest_limit, is_recorded, limit_of}
+use Rattle.step_core.specs.Worlds.{IsWorld, Sights, counters, greatest_limit, is_recorded, limit_of}
 use Rattle.step_core.specs.declared.views.SharedRun.{SharedRun}
+use Rattle.step_core.specs.declared.views.Stage.{Stage}
+use Rattle.step_core.specs.declared.views.Stage.TheVariants.{Claimed}
 use Rattle.step_core.specs.declared.views.View.{View}
+use Rattle.step_core.proofs.HandsAt.{holds_at-new}
+use Rattle.step_core.proofs.LawfulSights.{SeesNode-within}
 use Rattle.step_core.proofs.MarksInHand.{once_if-claimed}
 use Rattle.step_core.proofs.SawWords.{AreBehind-saw, AreBehind-seen, AreBehind-write, HaveWholePairs-saw, IsFair-saw, same-saw}
 use Rattle.step_core.proofs.SeenByViews.{IsViewOf-saw, WritesWord-saw}
-use Rattle.step_core.proofs.ViewLists.{at-set, greatest-one, greatest-set}
+use Rattle.step_core.proofs.SeenTreesOfViews.{SeesTree-claimed, SeesTree-loaded}
+use Rattle.step_core.proofs.ViewLists.{at-set, each-set, greatest-one, greatest-set}
 use Rattle.step_core.proofs.WordKinds.{AreBehind-refl, AreBehind-trans}
+use Rattle.step_core.proofs.WorldHands.{Hands-step}
+use Rattle.step_core.proofs.WorldLinks.{KeepsLinks, Links-kept}
 use Rattle.step_core.proofs.WorldParts.{KeepsRecords, Numbers-step, Seen-step, Shares-step, Turns-step}
 use Rattle.step_core.proofs.WorldParts.{packed-kept, is_recorded-kept, limit_of-up, of_run-step, quota-up, quotas-kept}
 
@@ -36,27 +49,54 @@ module _ (run : SharedRun) (words : Words) (views : List View) (id : ℕ) (view 
   pub live : IsViewOf run view
   live = IsViewOf-live run view world.run_is own (world.of_run id view at)
 
+  pub tree : SeesTree view
+  tree = world.sights id view at own
+
+  -- its ways by the sizes of its own run
+  pub follow : FollowWays (children_of_words words) (linked_points (run_sizes view.run) words)
+  follow = subst (λ r. FollowWays (children_of_words words) (linked_points (run_sizes r) words)) (sym own) world.links.ways
+
+  -- a seen node is one of the run's
+  pub seen_within : (n : ℕ) → SeesNode view n → n ≤ length run.marks
+  seen_within n h = subst (λ r. n ≤ length r.marks) own (SeesNode-within view words (world.seen.behind id view at) tree follow n h)
+
+  -- so what may be loaded is a word of the run
+  pub HasWord-load : (name : Word) → MayLoad view name → HasWord (run_sizes run) name
+  HasWord-load Count may = tt
+  HasWord-load (Counter g) may = subst (λ r. g < r.strips) own may
+  HasWord-load (PointOf n) may = seen_within n may
+  HasWord-load (ChildOf n side) may = seen_within n may
+  HasWord-load (TreeOf n) may = seen_within n may
+  HasWord-load (FirstOf n) may = absurd may
+  HasWord-load (RecordOf k) may = absurd may
+
+  -- all other views see their trees as before
+  pub Sights-set : (then : View) → (then.run ≡ run → SeesTree then) → Sights run (set views id then)
+  Sights-set then = each-set views id then (λ u. u.run ≡ run → SeesTree u) (λ i u apart e. world.sights i u e)
+
   -- what was seen may become what is seen after a load
-  pub AreBehind-loaded : (name : Word) → HasWord (run_sizes run) name → AreBehind (sees view) (sees (loaded view name (words name)))
-  AreBehind-loaded name here =
+  pub AreBehind-loaded : (name : Word) → MayLoad view name → AreBehind (sees view) (sees (loaded view name (words name)))
+  AreBehind-loaded name may =
+      let here = HasWord-load name may in
       AreBehind-seen name (words name) (sees view) (sees (loaded view name (words name))) words
       (WritesWord-saw run view live name here (words name) (words name)) refl (world.seen.behind id view at)
 
-  -- a load of any word that the run has
-  pub IsWorld-loaded : (name : Word) → HasWord (run_sizes run) name → IsWorld run words (set views id (loaded view name (words name)))
-  IsWorld-loaded name here =
+  -- a load
+  pub IsWorld-loaded : (name : Word) → MayLoad view name → IsWorld run words (set views id (loaded view name (words name)))
+  IsWorld-loaded name may =
+      let here = HasWord-load name may in
       let x : ℕ = words name in
       let then : View = loaded view name x in
       let writes = WritesWord-saw run view live name here x x in
       let behind = world.seen.behind id view at in
-      let seen = AreBehind-loaded name here in
+      let seen = AreBehind-loaded name may in
       record {
         run_is = world.run_is;
         of_run = of_run-step run views id then world.of_run (IsViewOf-saw run view live name here x x);
         numbers = Numbers-step run words words views id view then at world.numbers
             (quotas-kept run words words views (set views id then) world.numbers (λ g within. refl)
             (greatest-set limit_of views id view then at (limit_of-up view then refl (le_refl view.most))))
-            (λ k. refl) (world.numbers.limits id view at) world.numbers.packed world.numbers.count;
+            (λ k. refl) (world.numbers.limits id view at) world.numbers.packed;
         turns = Turns-step run words words views id view then at world.turns (λ k. refl) refl
             (λ k. same-saw name x (sees view) (sees then) words writes refl behind (RecordOf k));
         shares = Shares-step run words words views id view then at world.shares refl (world.shares.idle id view at);
@@ -65,6 +105,10 @@ module _ (run : SharedRun) (words : Words) (views : List View) (id : ℕ) (view 
             (AreBehind-trans _ (sees view) (sees then) (world.seen.took id view at) seen) world.seen.pairs
             (HaveWholePairs-saw name x (sees view) (sees then) words writes refl behind (world.seen.whole id view at) world.seen.pairs)
             (IsFair-saw name x (sees view) (sees then) words writes refl behind);
+        links = Links-kept run words words views id view then at world.links (record { children = λ n side. refl; points = λ n h. refl }) (λ k. refl) refl
+            (λ k. refl) (λ k. refl);
+        hands = Hands-step words words views id view then at world.hands (λ n. refl) (λ k. refl) (world.hands.written id view at) (λ k. refl);
+        sights = Sights-set then (λ of. SeesTree-loaded run view words live behind tree name here may);
       }
 
   -- a claim: the counter goes up by one, and the mark is in this hand
@@ -125,8 +169,7 @@ module _ (run : SharedRun) (words : Words) (views : List View) (id : ℕ) (view 
           run_is = world.run_is;
           of_run = of_run-step run views id then world.of_run (by_fields (IsViewOf-saw run view live (Counter g) here c (c + 1)));
           numbers = Numbers-step run words after views id view then at world.numbers quotas balance
-              (omega (arith, world.numbers.limits id view at, most)) (packed-kept words after records world.numbers.packed)
-              (omega (arith, counts.others Count (λ e. cc), world.numbers.count));
+              (omega (arith, world.numbers.limits id view at, most)) (packed-kept words after records world.numbers.packed);
           turns = Turns-step run words after views id view then at world.turns records refl
               (λ k same. writes.others (RecordOf k) (λ e. cc) ∙ same);
           shares = Shares-step run words after views id view then at world.shares refl (λ none. absurd (omega (arith, none, part)));
@@ -135,10 +178,23 @@ module _ (run : SharedRun) (words : Words) (views : List View) (id : ℕ) (view 
               (AreBehind-trans _ (sees view) (sees then) (world.seen.took id view at) seen) pairs
               (HaveWholePairs-saw (Counter g) (c + 1) (sees view) (sees then) after writes counts.here behind (world.seen.whole id view at) pairs)
               (IsFair-saw (Counter g) (c + 1) (sees view) (sees then) after writes counts.here behind);
+          links = Links-kept run words after views id view then at world.links keeps records (counts.others Count (λ e. cc)) (none has_link refl)
+              (none has_count refl);
+          hands = Hands-step words after views id view then at world.hands (λ n. counts.others (PointOf n) (λ e. cc)) (is_recorded-kept words after records)
+              (λ hand held far. let new = same_Some (new_hand (mark_of view.run g c)) hand held in
+              let no = ap (λ h. has_point h.stage) new ∙ far in cc)
+              (none has_point refl);
+          sights = Sights-set then (λ of. SeesTree-claimed run view words live (world.seen.behind id view at) tree g c limit strip is);
         }
       where
         by_fields : IsViewOf run (saw view (Counter g) c (c + 1)) → IsViewOf run (claimed view g c limit)
         by_fields v = record { run_is = v.run_is; seen = v.seen; looked = v.looked; found_zero = v.found_zero; looks = v.looks; zero_looks = v.zero_looks }
+
+        keeps : KeepsLinks (run_sizes run) words after
+        keeps = record { children = λ n side. counts.others (ChildOf n side) (λ e. cc); points = λ n h. counts.others (PointOf n) (λ e. cc) }
+
+        none : (test : Stage → Bool) → test Claimed ≡ false → (k : ℕ) → holds_at test k then.hand ≡ holds_at test k view.hand
+        none test not_yet k = holds_at-new test not_yet k (mark_of view.run g c) ∙ sym (ap (holds_at test k) idle)
 
         pairs : (n : ℕ) → (after (TreeOf n) ≡ 0) ⊎ (2 ^ 63 ≤ after (TreeOf n))
         pairs n = subst (λ w. (w ≡ 0) ⊎ (2 ^ 63 ≤ w)) (sym (counts.others (TreeOf n) (λ e. cc))) (world.seen.pairs n)

@@ -1,10 +1,14 @@
 -- What steps of a pass leave of what it knew, and what the law of worlds says of one view.
-use Rattle.std.specs.Prelude.{◌≡◌, ℕ, ◌+◌, ◌<◌, ◌≤◌, ◌⊎◌, Some, None, length}
+use Rattle.std.specs.Prelude.{◌≡◌, ℕ, suc, ◌+◌, ◌<◌, ◌≤◌, ◌⊎◌, false, Some, None, length}
 use lib.ListN.{get_elem?}
 use mathlib.Core.Option.{some}
+use Rattle.plan_model.specs.PointsByNumber.{AreDistinct}
+use Rattle.plan_model.specs.SeenTrees.{FollowSeenWays}
 use Rattle.plan_model.specs.Turns.{turns_of}
 use Rattle.step_core.specs.GrownWords.{record_at}
-use Rattle.step_core.specs.Views.{IsSharedRun, IsViewOf, last_look, last_zero, sees, share, took_over}
+use Rattle.step_core.specs.Stages.{has_link}
+use Rattle.step_core.specs.ViewTrees.{SeesNode, SeesPoint, SeesTree}
+use Rattle.step_core.specs.Views.{IsSharedRun, IsViewOf, last_look, last_zero, sees, share, took_over, tree_seen}
 use Rattle.step_core.specs.WordKinds.{AreBehind}
 use Rattle.step_core.specs.WordNames.{Word}
 use Rattle.step_core.specs.WordNames.Word.{Count, Counter}
@@ -23,7 +27,8 @@ pub record IsLater (before after : View) : Type 0 where
 
 -- What the law says of one view alone. Its greatest limit, its workers and its mark in hand are within their limits, and so are the numbers
 -- that it has seen, and a worker's next turn while a mark is in hand. Without a share nothing is in hand. Its workers' turns are the numbers
--- of their records seen. It has seen at least what the pass had that it last took over.
+-- of their records seen. It has seen at least what the pass had that it last took over. It sees its tree from node 0 on: each node is
+-- where its way leads, no two are at one point, no number is past the last mark's, and none is that of the node in hand before it is linked.
 pub record IsLawfulView (view : View) : Type 0 where
   pub run : IsSharedRun view.run
   pub of_run : IsViewOf view.run view
@@ -35,5 +40,11 @@ pub record IsLawfulView (view : View) : Type 0 where
   pub own_turn : (i : ℕ) (member : Member) → get_elem? view.crew i ≡ some member
       → member.turn ≡ turns_of (record_at (sees view)) (length view.run.marks) member.worker
   pub took : AreBehind (took_over view) (sees view)
+  pub tree : SeesTree view
+  pub ways : FollowSeenWays (tree_seen view)
+  pub distinct : AreDistinct (tree_seen view).points
+  pub within : (n : ℕ) → SeesNode view n → n ≤ length view.run.marks
+  pub unseen : (hand : Hand) → view.hand ≡ Some hand → has_link hand.stage ≡ false → ¬ SeesNode view (suc hand.mark)
+  pub start : SeesPoint view 0 view.run.start
   pub count : sees view Count ≤ length view.run.marks + 1
   pub counter : (g : ℕ) → g < view.run.strips → sees view (Counter g) ≤ length view.run.marks

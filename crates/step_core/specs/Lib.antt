@@ -13,6 +13,8 @@ pub mod MarkWrites
 pub mod SharedWords
 pub mod SeenWords
 pub mod Views
+pub mod Stages
+pub mod ViewTrees
 pub mod Worlds
 pub mod ViewSteps
 pub mod ViewStarts

@@ -51,7 +51,7 @@ sight_of_words sizes table =
 
 -- ---- looks
 
--- a word of a node is looked at if the node was seen, and any other word at any time
+-- the point, a child or the tree word of a node is looked at if the node was seen, and any other word at any time
 abbrev pub MayLookAt : SeenTree → Word → Type 0
 MayLookAt seen (PointOf n) = IsSeen seen n
 MayLookAt seen (ChildOf n side) = IsSeen seen n

@@ -1,14 +1,17 @@
--- What each kind of step leaves of the view that makes it, as a function of the view before. The words are those of specs/WordNames.
-use Rattle.std.specs.Prelude.{ℕ, ◌+◌, ◌*◌, ◌==◌, max, Some, None, List, [], ◌∷◌, ◌++◌, map, slice_index, slice_set, if◌then◌else◌}
+-- What each kind of step makes of the view that makes it, as a function of the view before. The words are those of specs/WordNames.
+use Rattle.std.specs.Prelude.{ℕ, suc, Bool, ◌+◌, ◌*◌, ◌==◌, max, Some, None, List, [], ◌∷◌, ◌++◌, map, slice_index, slice_set, if◌then◌else◌}
 use Rattle.std.specs.List.{range_with_len}
+use Rattle.plan_model.specs.declared.geometry.Point.{Point}
 use Rattle.step_core.specs.Views.{run_sizes}
 use Rattle.step_core.specs.WordKinds.{kind_at, later_word}
 use Rattle.step_core.specs.WordNames.{Word}
-use Rattle.step_core.specs.WordNames.Word.{Counter, RecordOf}
+use Rattle.step_core.specs.WordNames.Word.{ChildOf, Counter, PointOf, RecordOf}
 use Rattle.step_core.specs.WordPlaces.{Sizes, place_of, word_count}
+use Rattle.step_core.specs.Words.{point_word}
+use Rattle.step_core.specs.declared.views.Hand.{Hand}
 use Rattle.step_core.specs.declared.views.Member.{Member}
 use Rattle.step_core.specs.declared.views.SharedRun.{SharedRun}
-use Rattle.step_core.specs.declared.views.Stage.TheVariants.{Claimed}
+use Rattle.step_core.specs.declared.views.Stage.TheVariants.{Claimed, Counted, Linked, Pointed}
 use Rattle.step_core.specs.declared.views.View.{View}
 
 -- the place of a word in the tables of a view
@@ -41,10 +44,14 @@ loaded view name word = saw view name word word
 abbrev pub mark_of : SharedRun → ℕ → ℕ → ℕ
 mark_of run g c = c * run.strips + g
 
+-- a mark in hand for which nothing is written
+abbrev pub new_hand : ℕ → Hand
+new_hand k = record { mark = k; stage = Claimed; nearest = 0; point = record { x = 0; y = 0 } }
+
 -- The counter of strip g went from c to c + 1, and the mark is in hand.
 abbrev pub claimed : View → ℕ → ℕ → ℕ → View
 claimed view g c limit =
-    record (saw view (Counter g) c (c + 1)) { hand = Some (record { mark = mark_of view.run g c; stage = Claimed }); most = max view.most limit }
+    record (saw view (Counter g) c (c + 1)) { hand = Some (new_hand (mark_of view.run g c)); most = max view.most limit }
 
 -- the first of a crew has made its turn
 abbrev pub one_turn_more : List Member → List Member
@@ -59,6 +66,30 @@ finished_at view place word = record (saw_at view place word word) { hand = None
 abbrev pub finished : View → ℕ → ℕ → View
 finished view k word = finished_at view (place_in view (RecordOf k)) word
 
+-- ---- points, links and counts
+
+-- one step more, by which no word is seen
+abbrev pub stepped : View → View
+stepped view = record view { steps = view.steps + 1 }
+
+-- The point of the node in hand is written, steered from node m. The pass does not see it as a word: only linked nodes are seen.
+abbrev pub pointed : View → Hand → ℕ → Point → View
+pointed view hand m p = record (stepped view) { hand = Some (record hand { stage = Pointed; nearest = m; point = p }) }
+
+-- The node in hand stands in the child word at this place, which was found empty. It is seen there, and its point at the other place.
+abbrev pub linked_at : View → Hand → ℕ → ℕ → View
+linked_at view hand place point_place =
+    let shown = saw_at view place 0 (suc hand.mark) in
+    record shown { seen = slice_set shown.seen point_place (point_word hand.point); hand = Some (record hand { stage = Linked }) }
+
+-- it stands in the child word of node n on this side
+abbrev pub linked : View → Hand → ℕ → Bool → View
+linked view hand n side = linked_at view hand (place_in view (ChildOf n side)) (place_in view (PointOf (suc hand.mark)))
+
+-- The node in hand is counted. How many there are, the step does not tell: the class of a mark is that of the count loaded last.
+abbrev pub counted : View → Hand → View
+counted view hand = record (stepped view) { hand = Some (record hand { stage = Counted }) }
+
 -- ---- splits
 
 -- a crew without its second, and its second alone
@@ -71,10 +102,6 @@ abbrev pub second_alone : List Member → List Member
 second_alone [] = []
 second_alone (member ∷ []) = []
 second_alone (member ∷ second ∷ crew) = second ∷ []
-
--- one step more, on no word
-abbrev pub stepped : View → View
-stepped view = record view { steps = view.steps + 1 }
 
 -- The second worker gets a pass of its own, which has seen as much.
 abbrev pub parted : View → View

@@ -1,5 +1,7 @@
 -- What the view of a pass says: its share, its hand, and the words that it has seen. The words are read by their names.
 use Rattle.std.specs.Prelude.{◌≡◌, ℕ, ◌<◌, ◌≤◌, ◌==◌, Bool, false, Option, Some, None, List, [], count_by, length}
+use Rattle.plan_model.specs.Bounds.{IsBounded}
+use Rattle.plan_model.specs.ClosedLaw.{mark_at}
 use Rattle.plan_model.specs.SeenTrees.{SeenTree}
 use Rattle.plan_model.specs.declared.limits.TheConstants.{MOST_MARKS, MOST_STRIPS, MOST_WORKERS}
 use Rattle.plan_model.specs.declared.tasks.Task.{Task}
@@ -41,6 +43,8 @@ words_of_run run items = word_at (run_sizes run) items
 pub record IsSharedRun (run : SharedRun) : Type 0 where
   pub strips : (0 < run.strips) × (run.strips ≤ MOST_STRIPS)
   pub marks : length run.marks ≤ MOST_MARKS
+  pub points : (k : ℕ) → IsBounded (mark_at run.marks k)
+  pub start : IsBounded run.start
   pub workers : (0 < run.workers) × (run.workers ≤ MOST_WORKERS)
   pub opening : run.opening ≤ length run.marks
 
@@ -69,7 +73,7 @@ sees view = words_of_run view.run view.seen
 abbrev pub took_over : View → Words
 took_over view = words_of_run view.run view.took
 
--- the number of its last step on each word
+-- the number of its last step by which it saw each word
 abbrev pub last_look : View → Words
 last_look view = words_of_run view.run view.looked
 

@@ -1,20 +1,27 @@
 -- The law of worlds: what holds of the words of a shared run and of the views of its passes between any two steps, whichever passes make
 -- them and in whichever order. Each part speaks of one thing, and has a lemma of its own on a step of one view.
-use Rattle.std.specs.Prelude.{◌≡◌, ℕ, ◌+◌, ◌<◌, ◌≤◌, ◌==◌, ◌^◌, ◌⊎◌, nat_lt, max, Bool, true, is_some, None, List, [], ◌∷◌, length, map, if◌then◌else◌}
-use Rattle.std.specs.List.{sum_by}
+use Rattle.std.specs.Prelude.{◌≡◌, ℕ, suc, ◌+◌, ◌<◌, ◌≤◌, ◌==◌, ◌^◌, ◌⊎◌, nat_lt, max, Bool, true, false, is_some}
+use Rattle.std.specs.Prelude.{Some, None, List, [], ◌∷◌, length, map, if◌then◌else◌}
+use Rattle.std.specs.List.{range_with_len, sum_by}
 use lib.ListN.{get_elem?}
 use mathlib.Core.Option.{some}
 use Rattle.plan_model.specs.MarkPoints.{quota_of, is_claimed}
 use Rattle.plan_model.specs.declared.records.Record.{Record}
 use Rattle.plan_model.specs.Turns.{AreTurns, is_of_worker, once_if, turns_of}
-use Rattle.step_core.specs.GrownWords.{record_at}
-use Rattle.step_core.specs.Views.{IsSharedRun, IsViewOf, holds, sees, share, spent, times, took_over}
+use Rattle.plan_model.specs.Ways.{FollowWays}
+use Rattle.step_core.specs.GrownWords.{children_of_words, has_node, is_linked, record_at}
+use Rattle.step_core.specs.SharedWords.{linked_points}
+use Rattle.step_core.specs.Stages.{has_count, has_link, has_point, holds_at}
+use Rattle.step_core.specs.ViewTrees.{SeesTree}
+use Rattle.step_core.specs.Views.{IsSharedRun, IsViewOf, holds, run_sizes, sees, share, spent, times, took_over}
 use Rattle.step_core.specs.WordKinds.{AreBehind, HaveWholePairs}
 use Rattle.step_core.specs.WordNames.{Words}
-use Rattle.step_core.specs.Words.{FitsWord, cost_in, record_word}
-use Rattle.step_core.specs.WordNames.Word.{Count, Counter, RecordOf, TreeOf}
+use Rattle.step_core.specs.Words.{FitsWord, cost_in, point_word, record_word}
+use Rattle.step_core.specs.WordNames.Word.{Count, Counter, PointOf, RecordOf, TreeOf}
+use Rattle.step_core.specs.declared.views.Hand.{Hand}
 use Rattle.step_core.specs.declared.views.Member.{Member}
 use Rattle.step_core.specs.declared.views.SharedRun.{SharedRun}
+use Rattle.step_core.specs.declared.views.Stage.{Stage}
 use Rattle.step_core.specs.declared.views.View.{View}
 
 -- ---- all views
@@ -55,13 +62,39 @@ abbrev pub is_recorded : Words → ℕ → Bool
 is_recorded words k = is_some (record_at words k)
 
 -- No counter is above its strip's quota below the greatest limit used. Each mark below the counters is recorded or in one hand, once, and
--- no other mark is. No limit is above the number of marks. A record word is 0, or packed. No more nodes are counted than there may be.
+-- no other mark is. No limit is above the number of marks. A record word is 0, or packed.
 pub record Numbers (run : SharedRun) (words : Words) (views : List View) : Type 0 where
   pub quotas : (g : ℕ) → g < run.strips → words (Counter g) ≤ quota_of run.strips g (greatest_limit views)
   pub each_once : (k : ℕ) → once_if (is_recorded words k) + holders k views ≡ once_if (is_claimed run.strips (counters words) k)
   pub limits : EachView views (λ view. view.most ≤ length run.marks)
   pub packed : (k : ℕ) → IsRecordWord (words (RecordOf k))
-  pub count : words Count ≤ length run.marks + 1
+
+-- ---- links
+
+-- how many views have mark k in hand, at a stage that passes the test
+abbrev pub hands_at : (Stage → Bool) → ℕ → List View → ℕ
+hands_at test k views = sum_by (λ view. once_if (holds_at test k view.hand)) views
+
+-- 1 if the node of mark k is counted: it is recorded as placed, or in a hand that has counted it
+abbrev pub counted_once : Words → List View → ℕ → ℕ
+counted_once words views k = once_if (has_node words (suc k)) + hands_at has_count k views
+
+-- Each linked node but node 0 stands in one child word, at the end of the way of its point, and no other node has a child. Beside node 0
+-- those are linked whose marks are recorded as placed, or are in a hand that has linked them. The count is 1, and 1 for each mark that is
+-- recorded as placed, or is in a hand that has counted its node.
+pub record Links (run : SharedRun) (words : Words) (views : List View) : Type 0 where
+  pub start : words (PointOf 0) ≡ point_word run.start
+  pub ways : FollowWays (children_of_words words) (linked_points (run_sizes run) words)
+  pub linked : (k : ℕ) → once_if (is_linked (run_sizes run) words (suc k)) ≡ once_if (has_node words (suc k)) + hands_at has_link k views
+  pub count : words Count ≡ 1 + sum_by (counted_once words views) (range_with_len 0 (length run.marks))
+
+-- ---- hands
+
+-- The point of a mark's node is written by the hand that has the mark, and is not written before.
+pub record Hands (words : Words) (views : List View) : Type 0 where
+  pub written : EachView views (λ view. (hand : Hand) → view.hand ≡ Some hand → has_point hand.stage ≡ true
+      → words (PointOf (suc hand.mark)) ≡ point_word hand.point)
+  pub blank : (k : ℕ) → is_recorded words k ≡ false → hands_at has_point k views ≡ 0 → words (PointOf (suc k)) ≡ 0
 
 -- ---- turns
 
@@ -91,13 +124,17 @@ Agree one other =
     (n : ℕ) → 2 ^ 63 ≤ one (TreeOf n) → 2 ^ 63 ≤ other (TreeOf n) → cost_in (one (TreeOf n)) ≡ cost_in (other (TreeOf n)) → one (TreeOf n) ≡ other (TreeOf n)
 
 -- What each view has seen of a word may become what the word is now. It has seen at least what the pass had that it last took over. Tree
--- words are 0 or written, now and as they were seen, and views agree on them.
+-- words are 0 or written, now and as they were seen, and two views that saw a node at one cost agree.
 pub record Seen (words : Words) (views : List View) : Type 0 where
   pub behind : EachView views (λ view. AreBehind (sees view) words)
   pub took : EachView views (λ view. AreBehind (took_over view) (sees view))
   pub pairs : HaveWholePairs words
   pub whole : EachView views (λ view. HaveWholePairs (sees view))
   pub agree : EachView views (λ one. EachView views (λ other. Agree (sees one) (sees other)))
+
+-- Each view that is not spent sees its tree from node 0 on, and with its points the nodes that it has seen recorded as placed.
+abbrev pub Sights : SharedRun → List View → Type 0
+Sights run views = EachView views (λ view. view.run ≡ run → SeesTree view)
 
 -- ---- the law
 
@@ -109,3 +146,6 @@ pub record IsWorld (run : SharedRun) (words : Words) (views : List View) : Type 
   pub turns : Turns run words views
   pub shares : Shares run views
   pub seen : Seen words views
+  pub links : Links run words views
+  pub hands : Hands words views
+  pub sights : Sights run views

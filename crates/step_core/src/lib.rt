@@ -30,7 +30,7 @@ mod word_places;
 mod world_laws;
 
 pub use grown::Grown;
-pub use point_words::{pack_point, read_point};
+pub use point_words::{pack_point, point_in, read_point};
 pub use record_words::{pack_mark, read_mark};
 pub use tree_words::{pack_tree, read_tree};
 pub use views::{Hand, Member, SharedRun, Stage, View};

@@ -26,7 +26,7 @@ pub fn read_point(word: u64) -> Option<Point>
 }
 
 /// The point in a word that is written.
-pub(crate) fn point_in(word: u64) -> Point
+pub fn point_in(word: u64) -> Point
     ensures { result ≡ point_in word }
 {
     Point {

@@ -61,6 +61,10 @@ pub struct Hand {
     pub mark: u32,
     /// How far it has come.
     pub stage: Stage,
+    /// The node that its point was steered from; 0 before the point is written.
+    pub nearest: u32,
+    /// The point of its node; (0, 0) before it is written.
+    pub point: Point,
 }
 
 /// What a pass knows and has in hand.
@@ -79,7 +83,7 @@ pub struct View {
     pub took: LinkedList<u64>,
     /// How many steps it has made.
     pub steps: u64,
-    /// For each word the number of its last step on it, from 1; 0 if there was none.
+    /// For each word the number of its last step by which it saw it, from 1; 0 if there was none.
     pub looked: LinkedList<u64>,
     /// For each word the number of its last step that found it 0.
     pub found_zero: LinkedList<u64>,

@@ -1,28 +1,33 @@
-//! The law of worlds: how a world begins, that each kind of step keeps it, and what it says of marks, workers and what was
+//! The law of worlds: how a world begins, that each kind of step keeps it, and what it says of marks, workers, links and what was
 //! seen. Each law is the contract of a function that does nothing. A step is made by the view at index `id`; the words after it
 //! are those before it, but for the word that it writes.
 
-ghost use Rattle.std.specs.Prelude.{◌≡◌, ◌≢◌, ℕ, ◌+◌, ◌<◌, ◌≤◌, ◌^◌, true, List, [], ◌∷◌, ◌++◌, length, slice_set, Some, None};
+ghost use Rattle.std.specs.Prelude.{◌≡◌, ◌≢◌, ◌↔◌, ℕ, suc, ◌+◌, ◌<◌, ◌≤◌, ◌^◌, Bool, true, List, [], ◌∷◌, ◌++◌, length, slice_set, IsSome, Some, None};
 ghost use lib.ListN.{get_elem?};
 ghost use mathlib.Core.Option.{some};
 ghost use Rattle.plan_model.specs.MarkPoints.{is_claimed};
+ghost use Rattle.plan_model.specs.Sights.{IsLaterMoment, KeepsSight};
+ghost use Rattle.plan_model.specs.declared.geometry.Point.{Point};
 ghost use Rattle.plan_model.specs.declared.limits.TheConstants.{MOST_WORKERS};
 ghost use Rattle.plan_model.specs.declared.records.Record.{Record};
 ghost use Rattle.plan_model.specs.declared.tasks.Task.{Task};
-ghost use Rattle.step_core.specs.GrownWords.{HoldRun, record_at, run_words, sizes_of};
+ghost use Rattle.step_core.specs.GrownWords.{HoldRun, IsLinked, is_linked, record_at, run_words, sizes_of};
 ghost use Rattle.step_core.specs.LaterViews.{IsLater, IsLawfulView};
 ghost use Rattle.step_core.specs.ViewStarts.{newcomer};
-ghost use Rattle.step_core.specs.ViewSteps.{claimed, finished, joined, loaded, looker, mark_of, parted, stepped, worker_apart};
-ghost use Rattle.step_core.specs.Views.{holds, run_of, run_sizes, sees, share, spent};
+ghost use Rattle.step_core.specs.Stages.{MayBeRecorded};
+ghost use Rattle.step_core.specs.ViewSteps.{claimed, counted, finished, joined, linked, loaded, looker, mark_of, parted, pointed, stepped, worker_apart};
+ghost use Rattle.step_core.specs.ViewTrees.{IsOnWayOf, IsSteered, LeadsTo, MayLoad, SeesNode, sight_in};
+ghost use Rattle.step_core.specs.Views.{holds, run_of, run_sizes, sees, share, spent, tree_seen};
 ghost use Rattle.step_core.specs.WordKinds.{AreBehind};
 ghost use Rattle.step_core.specs.WordNames.{Word, Words, WritesWord};
-ghost use Rattle.step_core.specs.WordNames.Word.{Counter, RecordOf};
-ghost use Rattle.step_core.specs.WordPlaces.{HasWord, word_count};
-ghost use Rattle.step_core.specs.Words.{FitsWord, record_word};
+ghost use Rattle.step_core.specs.WordNames.Word.{ChildOf, Count, Counter, PointOf, RecordOf};
+ghost use Rattle.step_core.specs.WordPlaces.{word_count};
+ghost use Rattle.step_core.specs.Words.{FitsWord, point_of_word, point_word, record_word};
 ghost use Rattle.step_core.specs.Worlds.{IsWorld, counters, is_recorded};
 ghost use Rattle.step_core.specs.declared.views.Hand.{Hand};
 ghost use Rattle.step_core.specs.declared.views.Member.{Member};
 ghost use Rattle.step_core.specs.declared.views.SharedRun.{SharedRun};
+ghost use Rattle.step_core.specs.declared.views.Stage.TheVariants.{Claimed, Linked, Pointed};
 ghost use Rattle.step_core.specs.declared.views.View.{View};
 
 /// The words of a closed run are a lawful world with one view, which has the share of all workers and has seen all words.
@@ -32,12 +37,16 @@ pub fn closed_runs_begin_worlds()
         → IsWorld (run_of task workers limit) (run_words task items) (newcomer (run_of task workers limit) items ∷ []) }
 {}
 
-/// A load of any word keeps the law. What was seen may become what is seen then.
+/// A load keeps the law. It is of the count, of a counter, or of a seen node's point, child or tree word. What was seen may
+/// become what is seen then.
 pub fn loads_keep_the_law()
     ensures law { (run : SharedRun) (words : Words) (views : List View) (id : ℕ) (view : View) → IsWorld run words views → get_elem? views id ≡ some view
-        → view.run ≡ run → (name : Word) → HasWord (run_sizes run) name → IsWorld run words (slice_set views id (loaded view name (words name))) }
+        → view.run ≡ run → (name : Word) → MayLoad view name → IsWorld run words (slice_set views id (loaded view name (words name))) }
     ensures seen { (run : SharedRun) (words : Words) (views : List View) (id : ℕ) (view : View) → IsWorld run words views → get_elem? views id ≡ some view
-        → view.run ≡ run → (name : Word) → HasWord (run_sizes run) name → AreBehind (sees view) (sees (loaded view name (words name))) }
+        → view.run ≡ run → (name : Word) → MayLoad view name → AreBehind (sees view) (sees (loaded view name (words name))) }
+    // the point of a seen node is written
+    ensures written { (run : SharedRun) (words : Words) (views : List View) (id : ℕ) (view : View) → IsWorld run words views
+        → get_elem? views id ≡ some view → view.run ≡ run → (n : ℕ) → SeesNode view n → IsSome (point_of_word (words (PointOf n))) }
 {}
 
 /// A claim keeps the law: the counter of strip `g` goes up from `c`, and the mark of that number in the strip is in hand. It is
@@ -53,12 +62,52 @@ pub fn claims_keep_the_law()
         → get_elem? views id ≡ some view → (g : ℕ) → words (Counter g) ≢ sees view (Counter g) → sees view (Counter g) < words (Counter g) }
 {}
 
-/// A record of the mark in hand keeps the law. It is of the first worker of the view's crew, and of its next turn.
+/// Writing the point of the node in hand keeps the law. Nothing was written for the mark, and the point is a step from a seen
+/// node towards it.
+pub fn points_keep_the_law()
+    ensures law { (run : SharedRun) (words after : Words) (views : List View) (id : ℕ) (view : View) → IsWorld run words views
+        → get_elem? views id ≡ some view → view.run ≡ run → (hand : Hand) → view.hand ≡ Some hand → hand.stage ≡ Claimed → (m : ℕ) (p : Point)
+        → IsSteered view hand.mark m p → WritesWord (PointOf (suc hand.mark)) (point_word p) words after
+        → IsWorld run after (slice_set views id (pointed view hand m p)) }
+    ensures words { (run : SharedRun) (words after : Words) (views : List View) (id : ℕ) (view : View) → IsWorld run words views
+        → get_elem? views id ≡ some view → (hand : Hand) → view.hand ≡ Some hand → hand.stage ≡ Claimed → (p : Point)
+        → WritesWord (PointOf (suc hand.mark)) (point_word p) words after → AreBehind words after }
+{}
+
+/// A link keeps the law. It puts the node in hand, whose point is written, into an empty child word, to which the way of the
+/// point leads over what the view has seen. If that word is not 0, the step only loads it.
+pub fn links_keep_the_law()
+    ensures law { (run : SharedRun) (words after : Words) (views : List View) (id : ℕ) (view : View) → IsWorld run words views
+        → get_elem? views id ≡ some view → view.run ≡ run → (hand : Hand) → view.hand ≡ Some hand → hand.stage ≡ Pointed → (n : ℕ) (side : Bool)
+        → LeadsTo view hand.point n side → words (ChildOf n side) ≡ 0 → WritesWord (ChildOf n side) (suc hand.mark) words after
+        → IsWorld run after (slice_set views id (linked view hand n side)) }
+    ensures words { (words after : Words) (n m : ℕ) (side : Bool) → words (ChildOf n side) ≡ 0 → WritesWord (ChildOf n side) m words after
+        → AreBehind words after }
+    // a link that finds a child takes the way a step deeper, to that child
+    ensures failed { (before after : View) → IsLater before after → (p : Point) (n c : ℕ) (side : Bool) (leads : LeadsTo before p n side)
+        → (tree_seen after).child n side ≡ Some c → IsOnWayOf after p (suc leads.depth) c }
+    // the linked nodes are those that links lead to from node 0
+    ensures linked { (run : SharedRun) (words : Words) (views : List View) → IsWorld run words views → (n : ℕ)
+        → is_linked (run_sizes run) words n ≡ true ↔ IsLinked words n }
+{}
+
+/// Counting the linked node in hand keeps the law.
+pub fn counts_keep_the_law()
+    ensures law { (run : SharedRun) (words after : Words) (views : List View) (id : ℕ) (view : View) → IsWorld run words views
+        → get_elem? views id ≡ some view → view.run ≡ run → (hand : Hand) → view.hand ≡ Some hand → hand.stage ≡ Linked
+        → WritesWord Count (words Count + 1) words after → IsWorld run after (slice_set views id (counted view hand)) }
+    ensures words { (words after : Words) → WritesWord Count (words Count + 1) words after → AreBehind words after }
+    // no more nodes are counted than there may be
+    ensures most { (run : SharedRun) (words : Words) (views : List View) → IsWorld run words views → words Count ≤ length run.marks + 1 }
+{}
+
+/// A record of the mark in hand keeps the law. It is of the first worker of the view's crew, and of its next turn. It says that
+/// the mark was placed if its node is counted, and anything else only if its node is not linked.
 pub fn records_keep_the_law()
     ensures law { (run : SharedRun) (words after : Words) (views : List View) (id : ℕ) (view : View) → IsWorld run words views
         → get_elem? views id ≡ some view → view.run ≡ run → (hand : Hand) → view.hand ≡ Some hand → (member : Member) (crew : List Member)
         → view.crew ≡ member ∷ crew → (entry : Record) → FitsWord entry → entry.worker ≡ member.worker → entry.turn ≡ member.turn
-        → WritesWord (RecordOf hand.mark) (record_word entry) words after
+        → MayBeRecorded hand.stage entry.outcome → WritesWord (RecordOf hand.mark) (record_word entry) words after
         → IsWorld run after (slice_set views id (finished view hand.mark (record_word entry))) }
     ensures words { (run : SharedRun) (words after : Words) (views : List View) (id : ℕ) (view : View) → IsWorld run words views
         → get_elem? views id ≡ some view → (hand : Hand) → view.hand ≡ Some hand → (word : ℕ) → WritesWord (RecordOf hand.mark) word words after
@@ -105,20 +154,33 @@ pub fn steps_lead_to_later_views()
     ensures stay { (view : View) → IsLater view view }
     ensures go_on { (before mid after : View) → IsLater before mid → IsLater mid after → IsLater before after }
     ensures load { (run : SharedRun) (words : Words) (views : List View) (id : ℕ) (view : View) → IsWorld run words views → get_elem? views id ≡ some view
-        → view.run ≡ run → (name : Word) → HasWord (run_sizes run) name → IsLater view (loaded view name (words name)) }
+        → view.run ≡ run → (name : Word) → MayLoad view name → IsLater view (loaded view name (words name)) }
     ensures claim { (run : SharedRun) (words : Words) (views : List View) (id : ℕ) (view : View) → IsWorld run words views → get_elem? views id ≡ some view
         → view.run ≡ run → (g c limit : ℕ) → g < run.strips → words (Counter g) ≡ c → IsLater view (claimed view g c limit) }
     ensures record_stored { (run : SharedRun) (words : Words) (views : List View) (id : ℕ) (view : View) → IsWorld run words views
         → get_elem? views id ≡ some view → view.run ≡ run → (hand : Hand) → view.hand ≡ Some hand → (word : ℕ) → 2 ^ 63 ≤ word
         → IsLater view (finished view hand.mark word) }
+    ensures point { (view : View) (hand : Hand) (m : ℕ) (p : Point) → IsLater view (pointed view hand m p) }
+    ensures link { (run : SharedRun) (words : Words) (views : List View) (id : ℕ) (view : View) → IsWorld run words views → get_elem? views id ≡ some view
+        → view.run ≡ run → (hand : Hand) → view.hand ≡ Some hand → hand.stage ≡ Pointed → (n : ℕ) (side : Bool)
+        → LeadsTo view hand.point n side → words (ChildOf n side) ≡ 0 → IsLater view (linked view hand n side) }
+    ensures count { (view : View) (hand : Hand) → IsLater view (counted view hand) }
     ensures split { (view : View) → IsLater view (stepped view) }
     ensures worker_split { (view : View) → IsLater view (parted view) }
     ensures join { (view other : View) → IsLater view (joined view other) }
 {}
 
 /// What the law says of each view alone: its worker, its turn, its mark in hand and the numbers that it has seen are within their
-/// limits, and it has seen at least what the pass had that it last took over.
+/// limits, and it has seen at least what the pass had that it last took over. Of the tree it has seen each node where its way
+/// leads, no two at one point, and not the node in its hand before that is linked.
 pub fn views_of_worlds_are_lawful()
     ensures { (run : SharedRun) (words : Words) (views : List View) (id : ℕ) (view : View) → IsWorld run words views → get_elem? views id ≡ some view
         → view.run ≡ run → IsLawfulView view }
+{}
+
+/// A lawful view keeps to what is said of sights (`plan_model/specs/Sights`), and a later view of the same pass is a later moment
+/// of its sight. So what a pass has swept stays swept, and a way that it found to end misses no node.
+pub fn lawful_views_are_sights()
+    ensures keeps { (view : View) → IsLawfulView view → KeepsSight (sight_in view) }
+    ensures later { (before after : View) → IsLater before after → IsLaterMoment (sight_in before) (sight_in after) }
 {}

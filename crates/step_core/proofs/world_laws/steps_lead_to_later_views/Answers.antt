@@ -1,5 +1,7 @@
 use Rattle.step_core.proofs.LaterViews.{IsLater-claimed, IsLater-finished, IsLater-joined, IsLater-loaded}
 use Rattle.step_core.proofs.LaterViews.{IsLater-parted, IsLater-refl, IsLater-stepped, IsLater-trans}
+use Rattle.step_core.proofs.LaterSteps.{IsLater-counted, IsLater-pointed}
+use Rattle.step_core.proofs.WorldNodes.{IsLater-link}
 use Rattle.step_core.proofs.world_laws.steps_lead_to_later_views.Goals as goal
 
 pub returns-clause-stay : goal.returns-clause-stay
@@ -25,3 +27,14 @@ returns-clause-worker_split c = IsLater-parted
 
 pub returns-clause-join : goal.returns-clause-join
 returns-clause-join c = IsLater-joined
+
+pub returns-clause-point : goal.returns-clause-point
+returns-clause-point c = IsLater-pointed
+
+pub returns-clause-link : goal.returns-clause-link
+returns-clause-link c =
+    λ run words views id view world at own hand held stage n side leads empty.
+    IsLater-link run words words views id view world at own hand held stage n side leads empty
+
+pub returns-clause-count : goal.returns-clause-count
+returns-clause-count c = IsLater-counted

@@ -1,0 +1,225 @@
+-- A view still sees its tree after a step of its own: from node 0 on, with the nodes that it has placed, and the node in its hand.
+use Rattle.std.proofs.Common.{◌≡◌, ◌≢◌, ℕ, suc, ◌+◌, ◌<◌, ◌≤◌, Bool, true, length, Some, refl, sym, ap, ◌∙◌, subst, inl, inr, arith}
+use Rattle.std.specs.Prelude.{is_some}
+use Rattle.std.proofs.lemmas.Option.{same_Some}
+use Rattle.plan_model.specs.Bounds.{IsBounded}
+use Rattle.plan_model.specs.Outcomes.{is_placed}
+use Rattle.plan_model.specs.PointsByNumber.{IsPresent}
+use Rattle.plan_model.specs.SeenTrees.{IsRooted}
+use Rattle.plan_model.specs.declared.geometry.Point.{Point}
+use Rattle.plan_model.specs.declared.records.Record.{Record}
+use Rattle.step_core.specs.GrownWords.{child_of_word, has_node, has_placed}
+use Rattle.step_core.specs.SeenWords.{MayLookAt}
+use Rattle.step_core.specs.Stages.{MayBeRecorded, has_link, has_point}
+use Rattle.step_core.specs.ViewSteps.{claimed, counted, finished, linked, loaded, looker, mark_of, new_hand, parted, pointed, saw, stepped, worker_apart}
+use Rattle.step_core.specs.ViewTrees.{SeesHand, IsSteered, LeadsTo, MayLoad, SeesNode, SeesPoint, SeesTree}
+use Rattle.step_core.specs.Views.{IsViewOf, run_sizes, sees, tree_seen}
+use Rattle.step_core.specs.WordKinds.{AreBehind, MayBecome}
+use Rattle.step_core.specs.WordKinds.WordKind.{Once}
+use Rattle.step_core.specs.WordNames.{Word, Words, WritesWord}
+use Rattle.step_core.specs.WordNames.Word.{Count, Counter, PointOf, ChildOf, TreeOf, FirstOf, RecordOf}
+use Rattle.step_core.specs.WordPlaces.{HasWord}
+use Rattle.step_core.specs.Words.{FitsWord, point_of_word, point_word, record_of_word, record_word}
+use Rattle.step_core.specs.declared.views.Hand.{Hand}
+use Rattle.step_core.specs.declared.views.SharedRun.{SharedRun}
+use Rattle.step_core.specs.declared.views.Stage.TheVariants.{Counted, Linked, Pointed}
+use Rattle.step_core.specs.declared.views.View.{View}
+use Rattle.step_core.proofs.LinkedViews.{AreBehind-shown, ShowsNode, WritesWord-child, WritesWord-point, sees-linked}
+use Rattle.step_core.proofs.Looks.{same_name}
+use Rattle.step_core.proofs.PackedWords.{point_of_word-packed}
+use Rattle.step_core.proofs.PlacedWords.{has_node-same, has_placed-record_word}
+use Rattle.step_core.proofs.SawWords.{AreBehind-write}
+use Rattle.step_core.proofs.SeenByViews.{WritesWord-saw}
+use Rattle.step_core.proofs.SeenViews.{SeesHand-later, IsPresent-later, IsRooted-write, SeesPoint-later}
+use Rattle.step_core.proofs.SeenWords.{point_at-seen}
+use Rattle.step_core.proofs.WordKinds.{AreBehind-refl}
+
+-- ---- a step on one word
+
+-- what may be loaded may be looked at
+MayLookAt-load : (view : View) (name : Word) → MayLoad view name → MayLookAt (tree_seen view) name
+MayLookAt-load view Count may = tt
+MayLookAt-load view (Counter g) may = tt
+MayLookAt-load view (PointOf n) may = may
+MayLookAt-load view (ChildOf n side) may = may
+MayLookAt-load view (TreeOf n) may = may
+MayLookAt-load view (FirstOf n) may = absurd may
+MayLookAt-load view (RecordOf k) may = absurd may
+
+-- no record may be loaded
+no_record : (view : View) (name : Word) → MayLoad view name → (k : ℕ) → RecordOf k ≢ name
+no_record view name may k e = subst (MayLoad view) (sym e) may
+
+-- a record word that stays as it was seen says of the same node that it is placed
+placed_still :
+    (view then : View) → then.run ≡ view.run → AreBehind (sees view) (sees then) → SeesTree view → (k : ℕ)
+    → sees then (RecordOf k) ≡ sees view (RecordOf k) → has_node (sees then) (suc k) ≡ true → IsPresent (tree_seen then).points (suc k)
+placed_still view then run go tree k same h =
+    IsPresent-later view then run go (suc k) (tree.placed k (sym (has_node-same (sees view) (sees then) k same) ∙ h))
+
+-- After a load of a word of the run a view sees its tree.
+pub SeesTree-loaded : (run : SharedRun) (view : View) (words : Words) → IsViewOf run view → AreBehind (sees view) words → SeesTree view
+    → (name : Word) → HasWord (run_sizes run) name → MayLoad view name → SeesTree (loaded view name (words name))
+SeesTree-loaded run view words of_run behind tree name here may =
+    let then : View = loaded view name (words name) in
+    let writes : WritesWord name (words name) (sees view) (sees then) = WritesWord-saw run view of_run name here (words name) (words name) in
+    let go = AreBehind-write name (words name) (sees view) (sees then) writes (behind name) in
+    record {
+      rooted =
+          IsRooted-write (run_sizes view.run) name (words name) (sees view) (sees then) writes go (MayLookAt-load view name may) tree.rooted;
+      placed = λ k. placed_still view then refl go tree k (writes.others (RecordOf k) (no_record view name may k));
+      holds = λ hand held. SeesHand-later view then refl go hand (tree.holds hand held);
+    }
+
+-- ---- a mark in hand
+
+-- a view with this one mark in hand holds it
+holds_one : (then : View) (own : Hand) → SeesHand then own → (hand : Hand) → Some own ≡ Some hand → SeesHand then hand
+holds_one then own node hand e = subst (SeesHand then) (same_Some own hand e) node
+
+-- After a claim there is nothing to hold.
+pub SeesTree-claimed : (run : SharedRun) (view : View) (words : Words) → IsViewOf run view → AreBehind (sees view) words → SeesTree view
+    → (g c limit : ℕ) → g < run.strips → words (Counter g) ≡ c → SeesTree (claimed view g c limit)
+SeesTree-claimed run view words of_run behind tree g c limit strip is =
+    let then : View = claimed view g c limit in
+    let here : HasWord (run_sizes run) (Counter g) = strip in
+    let writes : WritesWord (Counter g) (c + 1) (sees view) (sees then) = WritesWord-saw run view of_run (Counter g) here c (c + 1) in
+    let go = AreBehind-write (Counter g) (c + 1) (sees view) (sees then) writes (omega (arith, behind (Counter g), is)) in
+    record {
+      rooted = IsRooted-write (run_sizes view.run) (Counter g) (c + 1) (sees view) (sees then) writes go tt tree.rooted;
+      placed = λ k. placed_still view then refl go tree k (writes.others (RecordOf k) (λ e. cc));
+      holds = holds_one then (new_hand (mark_of view.run g c)) record {
+        steered_from = λ on. cc;
+        other = λ on. cc;
+        shown = λ on. cc;
+      };
+    }
+
+-- After its point is written it holds that.
+pub SeesTree-pointed : (view : View) → SeesTree view → (hand : Hand) (m : ℕ) (p : Point) → IsSteered view hand.mark m p → m ≢ suc hand.mark
+    → SeesTree (pointed view hand m p)
+SeesTree-pointed view tree hand m p step apart =
+    let then : View = pointed view hand m p in
+    record {
+      rooted = tree.rooted;
+      placed = tree.placed;
+      holds = holds_one then (record hand { stage = Pointed; nearest = m; point = p }) record {
+        steered_from = λ on. record { from = step.from; seen = step.seen; reached = step.reached };
+        other = λ on. apart;
+        shown = λ on. cc;
+      };
+    }
+
+-- After it is counted it holds what it held.
+pub SeesTree-counted : (view : View) → SeesTree view → (hand : Hand) → view.hand ≡ Some hand → hand.stage ≡ Linked → SeesTree (counted view hand)
+SeesTree-counted view tree hand held stage =
+    let then : View = counted view hand in
+    let node = SeesHand-later view then refl (AreBehind-refl (sees view)) hand (tree.holds hand held) in
+    record {
+      rooted = tree.rooted;
+      placed = tree.placed;
+      holds = holds_one then (record hand { stage = Counted }) record {
+        steered_from = λ on.
+            let step = node.steered_from (ap has_point stage) in
+            record { from = step.from; seen = step.seen; reached = step.reached };
+        other = λ on. node.other (ap has_point stage);
+        shown = λ on. node.shown (ap has_link stage);
+      };
+    }
+
+-- ---- a record
+
+-- A record empties the hand. If it says that the mark was placed, its node is seen.
+pub SeesTree-finished :
+    (run : SharedRun) (view : View) → IsViewOf run view → SeesTree view → (hand : Hand) → view.hand ≡ Some hand → hand.mark < length run.marks
+    → sees view (RecordOf hand.mark) ≡ 0 → (entry : Record) → FitsWord entry → MayBeRecorded hand.stage entry.outcome
+    → SeesTree (finished view hand.mark (record_word entry))
+SeesTree-finished run view of_run tree hand held low none entry fits may =
+    let then : View = finished view hand.mark (record_word entry) in
+    let word : ℕ = record_word entry in
+    let here : HasWord (run_sizes run) (RecordOf hand.mark) = low in
+    let writes : WritesWord (RecordOf hand.mark) word (sees view) (sees then) = WritesWord-saw run view of_run (RecordOf hand.mark) here word word in
+    let go = AreBehind-write (RecordOf hand.mark) word (sees view) (sees then) writes (inl none) in
+    record {
+      rooted = IsRooted-write (run_sizes view.run) (RecordOf hand.mark) word (sees view) (sees then) writes go tt tree.rooted;
+      placed = λ k h.
+          elim (same_name (RecordOf k) (RecordOf hand.mark)) [
+            | inr apart ↦ placed_still view then refl go tree k (writes.others (RecordOf k) apart) h
+            | inl e ↦ (
+                let placed : is_placed entry.outcome ≡ true =
+                sym (has_placed-record_word entry (sees then (FirstOf (suc k))) fits)
+                ∙ ap (λ w. has_placed (record_of_word w (sees then (FirstOf (suc k))))) (sym (ap (sees then) e ∙ writes.here)) ∙ h in
+                let stands = (tree.holds hand held).shown (sym may.linked ∙ placed) in
+                let own : k ≡ hand.mark = cc in
+                subst (λ m. IsPresent (tree_seen then).points (suc m)) (sym own)
+                (ap is_some (SeesPoint-later view then refl go (suc hand.mark) hand.point stands)))
+          ];
+      holds = λ other e. cc;
+    }
+
+-- ---- a link
+
+-- the node is seen below node n, at its point
+point_shown : (view : View) (m : ℕ) (p : Point) → sees view (PointOf m) ≡ point_word p → IsBounded p → m ≤ length view.run.marks
+    → SeesPoint view m p
+point_shown view m p is bounded within =
+    point_at-seen (run_sizes view.run) (sees view) m within ∙ ap point_of_word is ∙ point_of_word-packed p bounded
+
+-- After a link the node is seen too, if no child was seen where it stands, and no other point of it.
+pub SeesTree-linked :
+    (run : SharedRun) (view : View) → IsViewOf run view → SeesTree view → (hand : Hand) → view.hand ≡ Some hand → hand.stage ≡ Pointed
+    → hand.mark < length run.marks → IsBounded hand.point → (n : ℕ) (side : Bool) → n ≤ length run.marks → LeadsTo view hand.point n side
+    → sees view (ChildOf n side) ≡ 0 → MayBecome Once (sees view (PointOf (suc hand.mark))) (point_word hand.point) → SeesTree (linked view hand n side)
+SeesTree-linked run view of_run tree hand held stage low bounded n side within leads none point =
+    let then : View = linked view hand n side in
+    let m : ℕ = suc hand.mark in
+    let middle : View = saw view (ChildOf n side) 0 m in
+    let shows : ShowsNode n side m hand.point (sees view) (sees then) = sees-linked run view of_run hand n side within low in
+    let child : WritesWord (ChildOf n side) m (sees view) (sees middle) = WritesWord-child run view of_run hand n side within low in
+    let half : WritesWord (PointOf m) (point_word hand.point) (sees middle) (sees then) = WritesWord-point run view of_run hand n side within low in
+    let go = AreBehind-shown n side m hand.point (sees view) (sees then) shows (inl none) point in
+    let unseen = subst (λ w. MayBecome Once w (point_word hand.point)) (sym (child.others (PointOf m) (λ e. cc))) point in
+    let above = tree.rooted.points n (ap is_some leads.stands) in
+    let rooted : IsRooted (tree_seen middle) =
+    IsRooted-write (run_sizes view.run) (ChildOf n side) m (sees view) (sees middle) child
+    (AreBehind-write (ChildOf n side) m (sees view) (sees middle) child (inl none)) above tree.rooted in
+    let below : SeesNode middle m = inr (n, side, ap child_of_word child.here) in
+    let node = SeesHand-later view then refl go hand (tree.holds hand held) in
+    record {
+      rooted =
+          IsRooted-write (run_sizes view.run) (PointOf m) (point_word hand.point) (sees middle) (sees then) half
+          (AreBehind-write (PointOf m) (point_word hand.point) (sees middle) (sees then) half unseen) below rooted;
+      placed = λ k. placed_still view then refl go tree k (shows.others (RecordOf k) (λ e. cc) (λ e. cc));
+      holds = holds_one then (record hand { stage = Linked }) record {
+        steered_from = λ on.
+            let step = node.steered_from (ap has_point stage) in
+            record { from = step.from; seen = step.seen; reached = step.reached };
+        other = λ on. node.other (ap has_point stage);
+        shown = λ on.
+            point_shown then m hand.point shows.point bounded (subst (λ r. m ≤ length r.marks) (sym of_run.run_is) (omega (arith, low)));
+      };
+    }
+
+-- ---- splits
+
+-- One that has seen as much, and has the same hand or none, sees its tree.
+module _ (view : View) (tree : SeesTree view) where
+  pub SeesTree-stepped : SeesTree (stepped view)
+  SeesTree-stepped = record {
+    rooted = tree.rooted;
+    placed = tree.placed;
+    holds = λ hand held. SeesHand-later view (stepped view) refl (AreBehind-refl (sees view)) hand (tree.holds hand held);
+  }
+
+  pub SeesTree-parted : SeesTree (parted view)
+  SeesTree-parted = record {
+    rooted = tree.rooted;
+    placed = tree.placed;
+    holds = λ hand held. SeesHand-later view (parted view) refl (AreBehind-refl (sees view)) hand (tree.holds hand held);
+  }
+
+  pub SeesTree-looker : SeesTree (looker view)
+  SeesTree-looker = record { rooted = tree.rooted; placed = tree.placed; holds = λ hand held. cc }
+
+  pub SeesTree-apart : SeesTree (worker_apart view)
+  SeesTree-apart = record { rooted = tree.rooted; placed = tree.placed; holds = λ hand held. cc }

@@ -1,0 +1,44 @@
+-- How far a mark in hand has come, and which records it may get there.
+use Rattle.std.specs.Prelude.{◌≡◌, ℕ, ◌==◌, ◌&&◌, Bool, true, false, Option, Some, None}
+use Rattle.plan_model.specs.Outcomes.{is_placed}
+use Rattle.plan_model.specs.declared.records.Outcome.{Outcome}
+use Rattle.step_core.specs.declared.views.Hand.{Hand}
+use Rattle.step_core.specs.declared.views.Stage.{Stage}
+use Rattle.step_core.specs.declared.views.Stage.TheVariants.{Claimed, Pointed, Half, Treed, Linked, Counted}
+
+-- the point of its node is written
+abbrev pub has_point : Stage → Bool
+has_point Claimed = false
+has_point Pointed = true
+has_point Half = true
+has_point Treed = true
+has_point Linked = true
+has_point Counted = true
+
+-- its node stands in a child word
+abbrev pub has_link : Stage → Bool
+has_link Claimed = false
+has_link Pointed = false
+has_link Half = false
+has_link Treed = false
+has_link Linked = true
+has_link Counted = true
+
+-- its node is counted
+abbrev pub has_count : Stage → Bool
+has_count Claimed = false
+has_count Pointed = false
+has_count Half = false
+has_count Treed = false
+has_count Linked = false
+has_count Counted = true
+
+-- mark k is in this hand, at a stage that passes the test
+abbrev pub holds_at : (Stage → Bool) → ℕ → Option Hand → Bool
+holds_at test k None = false
+holds_at test k (Some hand) = (hand.mark == k) && test hand.stage
+
+-- A mark is recorded as placed once its node is counted, and as anything else only if its node is not linked.
+pub record MayBeRecorded (stage : Stage) (outcome : Outcome) : Type 0 where
+  pub linked : is_placed outcome ≡ has_link stage
+  pub counted : is_placed outcome ≡ has_count stage

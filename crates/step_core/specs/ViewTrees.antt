@@ -1,0 +1,76 @@
+-- What a view has seen of the tree, and which steps on nodes that allows it.
+use Rattle.std.specs.Prelude.{◌≡◌, ◌≢◌, ℕ, suc, ◌<◌, Bool, true, Some}
+use Rattle.plan_model.specs.declared.geometry.Point.{Point}
+use Rattle.plan_model.specs.ClosedLaw.{mark_at}
+use Rattle.plan_model.specs.PointsByNumber.{IsPresent, StandsAt}
+use Rattle.plan_model.specs.SeenTrees.{IsRooted, IsSeen}
+use Rattle.plan_model.specs.Sights.{Sight}
+use Rattle.plan_model.specs.Steering.{steered}
+use Rattle.plan_model.specs.Ways.{IsOnWay, goes_right}
+use Rattle.step_core.specs.GrownWords.{has_node}
+use Rattle.step_core.specs.SeenWords.{sight_of_words}
+use Rattle.step_core.specs.Stages.{has_link, has_point}
+use Rattle.step_core.specs.Views.{run_sizes, seen_words, sees, tree_seen}
+use Rattle.step_core.specs.WordNames.{Word}
+use Rattle.step_core.specs.WordNames.Word.{Count, Counter, PointOf, ChildOf, TreeOf, FirstOf, RecordOf}
+use Rattle.step_core.specs.declared.views.Hand.{Hand}
+use Rattle.step_core.specs.declared.views.View.{View}
+
+-- what it has seen, and by which of its steps it found places of children empty
+abbrev pub sight_in : View → Sight
+sight_in view = sight_of_words (run_sizes view.run) (seen_words view)
+
+-- node n is seen
+abbrev pub SeesNode : View → ℕ → Type 0
+SeesNode view n = IsSeen (tree_seen view) n
+
+-- node n is seen at p
+abbrev pub SeesPoint : View → ℕ → Point → Type 0
+SeesPoint view n p = StandsAt (tree_seen view).points n p
+
+-- ---- the mark in hand
+
+-- a step from node m, where that was seen, towards mark k leads to p
+pub record IsSteered (view : View) (k m : ℕ) (p : Point) : Type 0 where
+  pub from : Point
+  pub seen : SeesPoint view m from
+  pub reached : p ≡ steered from (mark_at view.run.marks k) view.run.step
+
+-- Once its point is written, a node in hand is steered from a seen node, which is another. Once it is linked, it is seen at its point.
+pub record SeesHand (view : View) (hand : Hand) : Type 0 where
+  pub steered_from : has_point hand.stage ≡ true → IsSteered view hand.mark hand.nearest hand.point
+  pub other : has_point hand.stage ≡ true → hand.nearest ≢ suc hand.mark
+  pub shown : has_link hand.stage ≡ true → SeesPoint view (suc hand.mark) hand.point
+
+-- ---- all that is seen
+
+-- A view sees its tree from node 0 on, and each node of a placed mark whose record it has seen, with its point.
+pub record SeesTree (view : View) : Type 0 where
+  pub rooted : IsRooted (tree_seen view)
+  pub placed : (k : ℕ) → has_node (sees view) (suc k) ≡ true → IsPresent (tree_seen view).points (suc k)
+  pub holds : (hand : Hand) → view.hand ≡ Some hand → SeesHand view hand
+
+-- node n is on the way of p over what is seen, at this depth
+abbrev pub IsOnWayOf : View → Point → ℕ → ℕ → Type 0
+IsOnWayOf view p depth n = IsOnWay (tree_seen view).child (tree_seen view).points p depth n
+
+-- ---- steps
+
+-- It may load the count, the counters, and of the nodes that it has seen their points, children and tree words.
+abbrev pub MayLoad : View → Word → Type 0
+MayLoad view Count = Unit {0}
+MayLoad view (Counter g) = g < view.run.strips
+MayLoad view (PointOf n) = SeesNode view n
+MayLoad view (ChildOf n side) = SeesNode view n
+MayLoad view (TreeOf n) = SeesNode view n
+MayLoad view (FirstOf n) = ⊥
+MayLoad view (RecordOf k) = ⊥
+
+-- The way of p over what is seen comes to node n, and leads on to the place of its child on this side. No node on it is at p.
+pub record LeadsTo (view : View) (p : Point) (n : ℕ) (side : Bool) : Type 0 where
+  pub depth : ℕ
+  pub at : Point
+  pub on_way : IsOnWayOf view p depth n
+  pub stands : SeesPoint view n at
+  pub apart : at ≢ p
+  pub side_is : goes_right depth at p ≡ side
