@@ -1,30 +1,35 @@
 -- The steps of a seat, as the table asks for them: whatever its words are then, the law of worlds holds after the step.
-use Rattle.std.proofs.Common.{◌≡◌, ℕ, ◌+◌, ◌<◌, ◌≤◌, Bool, true, false, List, ◌∷◌}
-use Rattle.std.proofs.Common.{length, set, Some, None, refl, sym, ap, ◌∙◌, subst}
+use Rattle.std.proofs.Common.{◌≡◌, ℕ, suc, ◌+◌, ◌%◌, ◌<◌, ◌≤◌, ◌^◌, Bool, true, false, List, ◌∷◌}
+use Rattle.std.proofs.Common.{length, set, Some, None, refl, sym, ap, ◌∙◌, subst, arith}
 use Rattle.std.specs.Prelude.{◌==◌, cond, slice_index, slice_set}
 use Rattle.std.proofs.lemmas.Bool.{eqb-true}
 use Rattle.std.proofs.lemmas.List.{length-set, set-get_or}
+use Rattle.std.proofs.lemmas.Option.{same_Some}
 use mathlib.Core.Option.{none, some}
 use prog.Atomic.{either}
 use lib.ListN.{get_elem?}
 use Rattle.atomic_table.specs.Table.{State, Me, Act, step, stepped, Valid, carried_after, Allows, Splits, Joins}
 use Rattle.atomic_table.specs.Table.Act.{keeps}
 use Rattle.plan_words.specs.declared.openings.Aim.{Aim}
-use Rattle.plan_words.specs.Plays.{Claims, Finishes, Loads}
-use Rattle.plan_words.specs.States.{HoldsWorld}
-use Rattle.step_core.specs.LaterViews.{IsLater, IsLawfulView}
-use Rattle.step_core.specs.ViewSteps.{claimed, finished, finished_at, joined, loaded, looker}
-use Rattle.step_core.specs.ViewSteps.{mark_of, parted, place_in, saw_at, stepped as one_step, worker_apart}
+use Rattle.plan_words.specs.Plays.{Claims, Counts, Finishes, FindsPoint, Links, Loads, TellsHand, WritesPoint}
+use Rattle.plan_words.specs.States.{GoesOn, HoldsWorld}
+use Rattle.step_core.specs.LaterViews.{IsLater}
+use Rattle.step_core.specs.Stages.{MayBeRecorded}
+use Rattle.step_core.specs.ViewSteps.{claimed, counted, finished, finished_at, joined, linked, linked_at, loaded, looker}
+use Rattle.step_core.specs.ViewSteps.{mark_of, parted, place_in, pointed, saw_at, stepped as one_step, worker_apart}
+use Rattle.step_core.specs.ViewTrees.{IsSteered, LeadsTo, MayLoad}
 use Rattle.step_core.specs.Views.{run_sizes, share, spent, words_of_run}
 use Rattle.step_core.specs.WordNames.{Word, Words, WritesWord}
-use Rattle.step_core.specs.WordNames.Word.{Counter, RecordOf}
+use Rattle.step_core.specs.WordNames.Word.{ChildOf, Count, Counter, PointOf, RecordOf}
 use Rattle.step_core.specs.WordPlaces.{HasWord, place_of}
+use Rattle.plan_model.specs.declared.geometry.Point.{Point}
 use Rattle.plan_model.specs.declared.records.Record.{Record}
-use Rattle.step_core.specs.Words.{FitsWord, record_word}
+use Rattle.step_core.specs.Words.{FitsWord, point_word, record_word}
 use Rattle.step_core.specs.Worlds.{IsWorld}
 use Rattle.step_core.specs.declared.views.Hand.{Hand}
 use Rattle.step_core.specs.declared.views.Member.{Member}
 use Rattle.step_core.specs.declared.views.SharedRun.{SharedRun}
+use Rattle.step_core.specs.declared.views.Stage.TheVariants.{Claimed, Linked, Pointed}
 use Rattle.step_core.specs.declared.views.View.{View}
 use Rattle.step_core.proofs.FinishedMarks.{IsTurnWord-packed, IsWorld-recorded, in_hand}
 use Rattle.step_core.proofs.LaterViews.{IsLater-claimed, IsLater-finished, IsLater-loaded, IsLawfulView-world}
@@ -32,7 +37,11 @@ use Rattle.step_core.proofs.ViewLists.{at-set}
 use Rattle.step_core.proofs.WordReads.{WritesWord-set, word-found}
 use Rattle.step_core.proofs.WorldJoins.{IsWorld-joined}
 use Rattle.step_core.proofs.WorldSplits.{IsCut-looker, IsCut-parted, IsWorld-cut}
-use Rattle.step_core.proofs.WorldSteps.{IsWorld-claimed, IsWorld-loaded}
+use Rattle.step_core.proofs.WorldLinks.{count-most}
+use Rattle.step_core.proofs.WorldNodes.{IsLater-link, IsWorld-counted, IsWorld-linked, IsWorld-pointed}
+use Rattle.step_core.proofs.LaterSteps.{IsLater-counted, IsLater-pointed}
+use Rattle.step_core.proofs.WorldSteps.{IsWorld-claimed, IsWorld-loaded, seen_within}
+use Rattle.plan_words.proofs.WrittenPoints.{written-seen}
 
 -- the rule of a table of this run
 abbrev pub Holds : SharedRun → State Aim View → Type 0
@@ -51,11 +60,15 @@ module _ (run : SharedRun) where
   owes slots id place x me s view tells holds world told =
       (view, keeps, tt, record { sized = length-set s.words place x ∙ holds.sized; world = world }, told)
 
-  -- the view after a step is lawful
-  lawful :
-      (words : Words) (views : List View) (id : ℕ) (view then : View) → get_elem? views id ≡ some view → IsWorld run words (set views id then)
-      → then.run ≡ run → IsLawfulView then
-  lawful words views id view then at world own = IsLawfulView-world run words (set views id then) id then world (at-set views id view then at) own
+  -- the view goes on by a step that keeps the law
+  goes_on :
+      (words after : Words) (views : List View) (id : ℕ) (view then : View) → IsWorld run words views → get_elem? views id ≡ some view
+      → view.run ≡ run → IsWorld run after (set views id then) → IsLater view then → GoesOn view then
+  goes_on words after views id view then world at own world_then later = record {
+    was_lawful = IsLawfulView-world run words views id view world at own;
+    later = later;
+    lawful = IsLawfulView-world run after (set views id then) id then world_then (at-set views id view then at) (later.run ∙ own);
+  }
 
   -- ---- loads
 
@@ -67,27 +80,56 @@ module _ (run : SharedRun) where
     same_list : (place : ℕ) → slice_set s.words place (slice_index s.words place) ≡ s.words
     same_list place = set-get_or s.words place 0
 
+  -- it is seen as it was found
+  module _
+      (slots id place : ℕ) (me : Me Aim View) (name : Word) (here : HasWord (run_sizes run) name) (at_place : place ≡ place_of (run_sizes run) name)
+      (own : me.0.run ≡ run) (s : State Aim View) (holds : Holds run s) (at : get_elem? s.views id ≡ some me.0) (may : MayLoad me.0 name) where
+    abbrev found : ℕ
+    found = slice_index s.words place
+
+    abbrev words : Words
+    words = words_of_run run s.words
+
+    same_view : loaded me.0 name (words name) ≡ saw_at me.0 place found found
+    same_view =
+        let is : found ≡ words name = ap (slice_index s.words) at_place ∙ found_is s name here in
+        let own_place : place ≡ place_in me.0 name = at_place ∙ ap (λ r. place_of (run_sizes r) name) (sym own) in
+        ap (λ n. saw_at me.0 n (words name) (words name)) (sym own_place) ∙ ap (λ n. saw_at me.0 place n n) (sym is)
+
+    world_loaded : IsWorld run words (set s.views id (saw_at me.0 place found found))
+    world_loaded = subst (λ v. IsWorld run words (set s.views id v)) same_view (IsWorld-loaded run words s.views id me.0 holds.world at own name may)
+
+    goes_on_loaded : GoesOn me.0 (saw_at me.0 place found found)
+    goes_on_loaded =
+        goes_on words words s.views id me.0 (saw_at me.0 place found found) holds.world at own world_loaded
+        (subst (IsLater me.0) same_view (IsLater-loaded run words s.views id me.0 holds.world at own name may))
+
+    world_kept : IsWorld run (words_of_run run (slice_set s.words place found)) (set s.views id (saw_at me.0 place found found))
+    world_kept =
+        subst (λ items. IsWorld run (words_of_run run items) (set s.views id (saw_at me.0 place found found))) (sym (same_list s name here place))
+        world_loaded
+
+    finds_point : FindsPoint me.0 place found
+    finds_point n seen is =
+        let there = seen_within run words s.views id me.0 holds.world at own n seen in
+        let same : found ≡ words (PointOf n) =
+        ap (slice_index s.words) (is ∙ ap (λ r. place_of (run_sizes r) (PointOf n)) own) ∙ found_is s (PointOf n) there in
+        omega (arith, same, written-seen run words s.views id me.0 holds.world at own n seen)
+
   pub may_load :
       (slots id place : ℕ) (me : Me Aim View) (name : Word) → HasWord (run_sizes run) name → place ≡ place_of (run_sizes run) name → me.0.run ≡ run
-      → Allows (Holds run) slots id me place (λ x. x) (Loads (step slots place 0 0 none) me)
-  may_load slots id place me name here at_place own s holds homes at fits =
+      → MayLoad me.0 name → Allows (Holds run) slots id me place (λ x. x) (Loads (step slots place 0 0 none) me)
+  may_load slots id place me name here at_place own may s holds homes at fits =
       let x : ℕ = slice_index s.words place in
-      let words : Words = words_of_run run s.words in
-      let is : x ≡ words name = ap (slice_index s.words) at_place ∙ found_is s name here in
-      let own_place : place ≡ place_in me.0 name = at_place ∙ ap (λ r. place_of (run_sizes r) name) (sym own) in
-      let same : loaded me.0 name (words name) ≡ saw_at me.0 place x x =
-      ap (λ n. saw_at me.0 n (words name) (words name)) (sym own_place) ∙ ap (λ n. saw_at me.0 place n n) (sym is) in
-      let world : IsWorld run words (set s.views id (loaded me.0 name (words name))) =
-      IsWorld-loaded run words s.views id me.0 holds.world at own name here in
       owes slots id place x me s (saw_at me.0 place x x) (Loads (step slots place 0 0 none) me x) holds
-      (subst (λ items. IsWorld run (words_of_run run items) (set s.views id (saw_at me.0 place x x))) (sym (same_list s name here place))
-      (subst (λ v. IsWorld run words (set s.views id v)) same world))
-      record {
-        view_is = refl;
-        later = subst (IsLater me.0) same (IsLater-loaded run words s.views id me.0 holds.world at own name here);
-        lawful = subst IsLawfulView same (lawful words s.views id me.0 (loaded me.0 name (words name)) at world own);
-        slots = refl;
-      }
+      (world_kept slots id place me name here at_place own s holds at may) (
+        record {
+          view_is = refl;
+          goes_on = goes_on_loaded slots id place me name here at_place own s holds at may;
+          slots = refl;
+        },
+        finds_point slots id place me name here at_place own s holds at may,
+      )
 
   -- ---- claims
 
@@ -114,35 +156,28 @@ module _ (run : SharedRun) where
       pick true e =
           let found : slice_index s.words place ≡ c = eqb-true (slice_index s.words place) c e in
           let then : View = claimed me.0 g c limit in
-          let counts : WritesWord (Counter g) (c + 1) words (words_of_run run (slice_set s.words place (c + 1))) =
+          let after : Words = words_of_run run (slice_set s.words place (c + 1)) in
+          let counts : WritesWord (Counter g) (c + 1) words after =
           WritesWord-set (run_sizes run) s.words place (c + 1) (c + 1) (Counter g) holds.sized strip at_place refl in
-          let world = IsWorld-claimed run words s.views id me.0 holds.world at own (words_of_run run (slice_set s.words place (c + 1))) g c limit part idle
-          strip (sym is ∙ found) low most counts in
+          let world = IsWorld-claimed run words s.views id me.0 holds.world at own after g c limit part idle strip (sym is ∙ found) low most counts in
+          let later = IsLater-claimed run words s.views id me.0 holds.world at own g c limit strip (sym is ∙ found) in
           let view_is : then ≡ cond (slice_index s.words place == c) then (saw_at me.0 place (slice_index s.words place) (slice_index s.words place)) =
           ap (λ b. cond b then (saw_at me.0 place (slice_index s.words place) (slice_index s.words place))) (sym e) in
           owes slots id place (c + 1) me s then (tells (slice_index s.words place)) holds world
           record {
             view_is = view_is;
-            later = subst (IsLater me.0) view_is (IsLater-claimed run words s.views id me.0 holds.world at own g c limit strip (sym is ∙ found));
-            lawful = subst IsLawfulView view_is (lawful (words_of_run run (slice_set s.words place (c + 1))) s.views id me.0 then at world own);
+            goes_on = subst (GoesOn me.0) view_is (goes_on words after s.views id me.0 then holds.world at own world later);
             slots = refl;
           }
       pick false e =
           let x : ℕ = slice_index s.words place in
-          let own_place : place ≡ place_in me.0 (Counter g) = at_place ∙ ap (λ r. place_of (run_sizes r) (Counter g)) (sym own) in
           let then : View = saw_at me.0 place x x in
-          let same : loaded me.0 (Counter g) (words (Counter g)) ≡ then =
-          ap (λ n. saw_at me.0 n (words (Counter g)) (words (Counter g))) (sym own_place) ∙ ap (λ n. saw_at me.0 place n n) (sym is) in
-          let world : IsWorld run words (set s.views id (loaded me.0 (Counter g) (words (Counter g)))) =
-          IsWorld-loaded run words s.views id me.0 holds.world at own (Counter g) strip in
+          let may : MayLoad me.0 (Counter g) = subst (λ r. g < r.strips) (sym own) strip in
           let view_is : then ≡ cond (x == c) (claimed me.0 g c limit) then = ap (λ b. cond b (claimed me.0 g c limit) then) (sym e) in
-          owes slots id place x me s then (tells x) holds
-          (subst (λ items. IsWorld run (words_of_run run items) (set s.views id then)) (sym (same_list s (Counter g) strip place))
-          (subst (λ v. IsWorld run words (set s.views id v)) same world))
+          owes slots id place x me s then (tells x) holds (world_kept slots id place me (Counter g) strip at_place own s holds at may)
           record {
             view_is = view_is;
-            later = subst (IsLater me.0) (same ∙ view_is) (IsLater-loaded run words s.views id me.0 holds.world at own (Counter g) strip);
-            lawful = subst IsLawfulView (same ∙ view_is) (lawful words s.views id me.0 (loaded me.0 (Counter g) (words (Counter g))) at world own);
+            goes_on = subst (GoesOn me.0) view_is (goes_on_loaded slots id place me (Counter g) strip at_place own s holds at may);
             slots = refl;
           }
 
@@ -151,9 +186,9 @@ module _ (run : SharedRun) where
   pub may_finish :
       (slots id place x : ℕ) (me : Me Aim View) (hand : Hand) (member : Member) (crew : List Member) (entry : Record)
       → place ≡ place_of (run_sizes run) (RecordOf hand.mark) → me.0.run ≡ run → me.0.hand ≡ Some hand → me.0.crew ≡ member ∷ crew → FitsWord entry
-      → entry.worker ≡ member.worker → entry.turn ≡ member.turn → x ≡ record_word entry
+      → entry.worker ≡ member.worker → entry.turn ≡ member.turn → MayBeRecorded hand.stage entry.outcome → x ≡ record_word entry
       → Allows (Holds run) slots id me place (λ y. x) (λ y. Finishes (step slots place x 0 none) me x)
-  may_finish slots id place x me hand member crew entry at_place own held crew_is fits worker turn is s holds homes at low =
+  may_finish slots id place x me hand member crew entry at_place own held crew_is fits worker turn may is s holds homes at low =
       let words : Words = words_of_run run s.words in
       let after : Words = words_of_run run (slice_set s.words place x) in
       let mark = in_hand run words s.views id me.0 holds.world at hand held in
@@ -163,16 +198,106 @@ module _ (run : SharedRun) where
       let writes : WritesWord (RecordOf hand.mark) (record_word entry) words after =
       WritesWord-set (run_sizes run) s.words place x (record_word entry) (RecordOf hand.mark) holds.sized mark.low at_place is in
       let world : IsWorld run after (set s.views id (finished me.0 hand.mark (record_word entry))) =
-      IsWorld-recorded run words after s.views id me.0 holds.world at own hand held member crew crew_is entry fits worker turn writes in
+      IsWorld-recorded run words after s.views id me.0 holds.world at own hand held member crew crew_is entry fits worker turn may writes in
       let written = (IsTurnWord-packed entry fits).written in
       owes slots id place x me s (finished_at me.0 place x) (Finishes (step slots place x 0 none) me x) holds
       (subst (λ v. IsWorld run after (set s.views id v)) same world)
       record {
         view_is = refl;
-        later = subst (IsLater me.0) same (IsLater-finished run words s.views id me.0 holds.world at own hand held (record_word entry) written);
-        lawful = subst IsLawfulView same (lawful after s.views id me.0 (finished me.0 hand.mark (record_word entry)) at world own);
+        goes_on = subst (GoesOn me.0) same (goes_on words after s.views id me.0 (finished me.0 hand.mark (record_word entry)) holds.world at own world
+            (IsLater-finished run words s.views id me.0 holds.world at own hand held (record_word entry) written));
         slots = refl;
       }
+
+  -- ---- nodes
+
+  -- a step for the mark in hand tells of that hand alone
+  of_hand : (me : Me Aim View) (after : View) (view : Hand → View) (hand : Hand) → me.0.hand ≡ Some hand → after ≡ view hand
+      → GoesOn me.0 after → TellsHand me view (after, me.1)
+  of_hand me after view hand held is on own own_held =
+      let same : hand ≡ own = same_Some hand own (sym held ∙ own_held) in
+      let view_is : after ≡ view own = is ∙ ap view same in
+      record { view_is = view_is; goes_on = subst (GoesOn me.0) view_is on; slots = refl }
+
+  pub may_point :
+      (slots id place x : ℕ) (me : Me Aim View) (hand : Hand) (m : ℕ) (p : Point) → place ≡ place_of (run_sizes run) (PointOf (suc hand.mark))
+      → me.0.run ≡ run → me.0.hand ≡ Some hand → hand.stage ≡ Claimed → IsSteered me.0 hand.mark m p → x ≡ point_word p
+      → Allows (Holds run) slots id me place (λ y. x) (λ y. WritesPoint m p (step slots place x 0 none) me x)
+  may_point slots id place x me hand m p at_place own held stage steered is s holds homes at low =
+      let words : Words = words_of_run run s.words in
+      let after : Words = words_of_run run (slice_set s.words place x) in
+      let mark = in_hand run words s.views id me.0 holds.world at hand held in
+      let here : suc hand.mark ≤ length run.marks = omega (arith, mark.low) in
+      let writes : WritesWord (PointOf (suc hand.mark)) (point_word p) words after =
+      WritesWord-set (run_sizes run) s.words place x (point_word p) (PointOf (suc hand.mark)) holds.sized here at_place is in
+      let then : View = pointed me.0 hand m p in
+      let world = IsWorld-pointed run words after s.views id me.0 holds.world at own hand held stage p writes m steered in
+      owes slots id place x me s then (WritesPoint m p (step slots place x 0 none) me x) holds world
+      (of_hand me then (λ h. pointed me.0 h m p) hand held refl
+      (goes_on words after s.views id me.0 then holds.world at own world (IsLater-pointed me.0 hand m p)))
+
+  pub may_link :
+      (slots id place : ℕ) (me : Me Aim View) (hand : Hand) (n : ℕ) (side : Bool) → n ≤ length run.marks
+      → place ≡ place_of (run_sizes run) (ChildOf n side)
+      → me.0.run ≡ run → me.0.hand ≡ Some hand → hand.stage ≡ Pointed → LeadsTo me.0 hand.point n side → MayLoad me.0 (ChildOf n side)
+      → Allows (Holds run) slots id me place (λ x. either (x == 0) (hand.mark + 1) x) (Links (step slots place 0 (hand.mark + 1) none) me)
+  may_link slots id place me hand n side within at_place own held stage leads may s holds homes at fits =
+      pick (slice_index s.words place == 0) refl
+    where
+      words : Words
+      words = words_of_run run s.words
+
+      own_place : place ≡ place_in me.0 (ChildOf n side)
+      own_place = at_place ∙ ap (λ r. place_of (run_sizes r) (ChildOf n side)) (sym own)
+
+      leaves : ℕ → Hand → View
+      leaves found h = cond (found == 0) (linked_at me.0 h place (place_in me.0 (PointOf (suc h.mark)))) (saw_at me.0 place found found)
+
+      pick :
+          (b : Bool) → (slice_index s.words place == 0) ≡ b
+          → Owes run slots id me s place (either b (hand.mark + 1) (slice_index s.words place))
+          (Links (step slots place 0 (hand.mark + 1) none) me (slice_index s.words place))
+      pick true e =
+          let x : ℕ = slice_index s.words place in
+          let number : hand.mark + 1 ≡ suc hand.mark = omega arith in
+          let after : Words = words_of_run run (slice_set s.words place (hand.mark + 1)) in
+          let empty : words (ChildOf n side) ≡ 0 = sym (ap (slice_index s.words) at_place ∙ found_is s (ChildOf n side) within) ∙ eqb-true x 0 e in
+          let writes : WritesWord (ChildOf n side) (suc hand.mark) words after =
+          WritesWord-set (run_sizes run) s.words place (hand.mark + 1) (suc hand.mark) (ChildOf n side) holds.sized within at_place number in
+          let then : View = linked me.0 hand n side in
+          let world = IsWorld-linked run words after s.views id me.0 holds.world at own hand held stage n side leads empty writes in
+          let later = IsLater-link run words after s.views id me.0 holds.world at own hand held stage n side leads empty in
+          let view_is : then ≡ leaves x hand =
+          ap (λ i. linked_at me.0 hand i (place_in me.0 (PointOf (suc hand.mark)))) (sym own_place)
+          ∙ ap (λ b. cond b (linked_at me.0 hand place (place_in me.0 (PointOf (suc hand.mark)))) (saw_at me.0 place x x)) (sym e) in
+          owes slots id place (hand.mark + 1) me s then (Links (step slots place 0 (hand.mark + 1) none) me x) holds world
+          (of_hand me then (leaves x) hand held view_is (goes_on words after s.views id me.0 then holds.world at own world later))
+      pick false e =
+          let x : ℕ = slice_index s.words place in
+          let then : View = saw_at me.0 place x x in
+          owes slots id place x me s then (Links (step slots place 0 (hand.mark + 1) none) me x) holds
+          (world_kept slots id place me (ChildOf n side) within at_place own s holds at may)
+          (of_hand me then (leaves x) hand held
+          (ap (λ b. cond b (linked_at me.0 hand place (place_in me.0 (PointOf (suc hand.mark)))) (saw_at me.0 place x x)) (sym e))
+          (goes_on_loaded slots id place me (ChildOf n side) within at_place own s holds at may))
+
+  pub may_count :
+      (slots id place : ℕ) (me : Me Aim View) (hand : Hand) → place ≡ place_of (run_sizes run) Count → me.0.run ≡ run → me.0.hand ≡ Some hand
+      → hand.stage ≡ Linked → Allows (Holds run) slots id me place (λ x. (x + 1) % 2 ^ 64) (Counts (step slots place 1 0 none) me)
+  may_count slots id place me hand at_place own held stage s holds homes at fits =
+      let x : ℕ = slice_index s.words place in
+      let words : Words = words_of_run run s.words in
+      let is : x ≡ words Count = ap (slice_index s.words) at_place ∙ found_is s Count tt in
+      let most = count-most run words s.views holds.world.numbers holds.world.links in
+      let fit : (x + 1) % 2 ^ 64 ≡ x + 1 = omega (arith, is, most, holds.world.run_is.marks) in
+      let after : Words = words_of_run run (slice_set s.words place ((x + 1) % 2 ^ 64)) in
+      let writes : WritesWord Count (words Count + 1) words after =
+      WritesWord-set (run_sizes run) s.words place ((x + 1) % 2 ^ 64) (words Count + 1) Count holds.sized tt at_place (fit ∙ ap (λ n. n + 1) is) in
+      let then : View = counted me.0 hand in
+      let world = IsWorld-counted run words after s.views id me.0 holds.world at own hand held stage writes in
+      owes slots id place ((x + 1) % 2 ^ 64) me s then (Counts (step slots place 1 0 none) me x) holds world
+      (of_hand me then (λ h. counted me.0 h) hand held refl
+      (goes_on words after s.views id me.0 then holds.world at own world (IsLater-counted me.0 hand)))
 
   -- ---- splits and joins
 
@@ -189,9 +314,9 @@ module _ (run : SharedRun) where
   }
 
   pub may_take_over :
-      (id : ℕ) (view : View) (j : ℕ) (other : View) → view.run ≡ run → other.run ≡ run → other.hand ≡ None
-      → Joins (Holds run) id view j other (joined view other) spent
-  may_take_over id view j other own own_too idle s holds at apart there = record {
+      (id : ℕ) (view : View) (j : ℕ) (other : View) → view.run ≡ run → other.run ≡ run → view.hand ≡ None
+      → other.hand ≡ None → Joins (Holds run) id view j other (joined view other) spent
+  may_take_over id view j other own own_too idle idle_too s holds at apart there = record {
     sized = holds.sized;
-    world = IsWorld-joined run (words_of_run run s.words) s.views id view j other holds.world at own own_too apart there idle;
+    world = IsWorld-joined run (words_of_run run s.words) s.views id view j other holds.world at own own_too apart there idle idle_too;
   }

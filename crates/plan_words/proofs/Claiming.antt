@@ -9,13 +9,12 @@ use Rattle.plan_words.specs.States.{BelongsTo, PassState, SharedState, with_view
 use Rattle.plan_words.specs.declared.claims.Choice.{Choice}
 use Rattle.plan_words.specs.declared.claims.Next.{Next}
 use Rattle.step_core.specs.LaterViews.{IsLater}
-use Rattle.step_core.specs.ViewSteps.{claimed, loaded, mark_of}
+use Rattle.step_core.specs.ViewSteps.{claimed, loaded, mark_of, new_hand}
 use Rattle.step_core.specs.Views.{last_look, sees}
 use Rattle.step_core.specs.WordNames.{ChangesOnly, IsCounter, Words, WritesWord}
 use Rattle.step_core.specs.WordNames.Word.{Counter}
 use Rattle.step_core.specs.declared.views.SharedRun.{SharedRun}
 use Rattle.step_core.specs.declared.views.View.{View}
-use Rattle.step_core.specs.declared.views.Stage.TheVariants.{Claimed}
 use Rattle.plan_words.proofs.Scanning.{Scanned, Scanned-all, Scanned-more, left_over, sum_down, sum_less}
 
 -- ---- one load of the scan
@@ -121,7 +120,7 @@ IsClaimed-exchanged shared strips limit g c x before mid after strips_are belong
     let number : mark_of run g c ≡ c * strips + g = ap (λ s. c * s + g) own in
     record {
       low = omega (arith, number, open_g.low);
-      hand = ap (λ v. v.hand) now ∙ ap (λ k. Some (record { mark = k; stage = Claimed })) number;
+      hand = ap (λ v. v.hand) now ∙ ap (λ k. Some (new_hand k)) number;
       crew = ap (λ v. v.crew) now ∙ kept.crew;
       most = ap (λ v. v.most) now ∙ ap (λ m. max m limit) kept.most;
       first =

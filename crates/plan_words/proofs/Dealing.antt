@@ -4,13 +4,15 @@ use Rattle.std.specs.Prelude.{All}
 use Rattle.std.proofs.lemmas.List.Elements.{All-cons, All-nil}
 use lib.ListN.{get_elem?}
 use mathlib.Core.Option.{some, some-injective, some-ne-none}
+use Rattle.atomic_table.specs.Seated.{TableId}
 use Rattle.plan_model.specs.Turns.{turns_of}
 use Rattle.plan_model.specs.declared.limits.TheConstants.{MOST_WORKERS}
-use Rattle.plan_words.specs.States.{BelongsTo, HoldsWorld, IsTied, MayClaim, PassState, SharedState}
-use Rattle.plan_words.specs.States.{StartsAs, first_of, first_view, run_in, run_of_opening, with_view}
+use Rattle.plan_words.specs.States.{BelongsTo, HoldsWorld, IsTableOf, IsTied, MayClaim, PassState, SharedState}
+use Rattle.plan_words.specs.States.{StartsAs, first_of, first_view, new_pass, run_in, run_of_opening, with_view}
 use Rattle.plan_words.specs.declared.openings.Opening.{Opening}
 use Rattle.step_core.specs.GrownRuns.{words_of_grown}
 use Rattle.step_core.specs.GrownWords.{HoldRun, record_at, run_words, sizes_of}
+use Rattle.step_core.specs.PlacesOfWords.{sizes_in}
 use Rattle.step_core.specs.ViewStarts.{crew_from, member_of}
 use Rattle.step_core.specs.ViewSteps.{parted, second_alone, without_second, worker_apart}
 use Rattle.step_core.specs.Views.{sees}
@@ -18,6 +20,7 @@ use Rattle.step_core.specs.WordNames.{Words}
 use Rattle.step_core.specs.WordPlaces.{word_count}
 use Rattle.step_core.specs.declared.grown.Grown.{Grown}
 use Rattle.step_core.specs.declared.views.SharedRun.{SharedRun}
+use Rattle.step_core.specs.declared.word_places.WordPlaces.{WordPlaces}
 use Rattle.step_core.proofs.LaterViews.{IsLawfulView-world}
 use Rattle.step_core.proofs.WorldStarts.{IsWorld-started}
 
@@ -56,13 +59,25 @@ module _
         lawful = IsLawfulView-world run words (first_view opening ∷ []) 0 (first_view opening) HoldsWorld-started.world refl refl;
       }
 
+  -- and the table is of this run
+  pub IsTableOf-started :
+      (table : TableId) (key : Opening) (places : WordPlaces) (items : List ℕ) → items ≡ opening.words.items → table.words ≡ length items
+      → table.slots ≡ 0 → key ≡ opening → sizes_in places ≡ sizes_of opening.task → IsTableOf table key (run_of_opening opening) places
+  IsTableOf-started table key places items same words slots key_is places_are = record {
+    key_is = ap run_of_opening key_is;
+    words = words ∙ ap (λ l. length l) same ∙ sized;
+    slots = slots;
+    places_are = places_are;
+    run_is = HoldsWorld-started.world.run_is;
+  }
+
 -- ---- one pass after another
 
 -- the pass stands for worker w alone, and has seen what the first pass had
 abbrev pub IsPassOf : SharedState → PassState → ℕ → PassState → Type 0
 IsPassOf shared first w pass =
     BelongsTo pass shared × (pass.view.crew ≡ member_of (run_in shared) (sees first.view) w ∷ []) × (pass.view.most ≡ first.view.most)
-    × (pass.view.hand ≡ None) × (sees pass.view ≡ sees first.view)
+    × (pass.view.hand ≡ None) × (sees pass.view ≡ sees first.view) × (pass ≡ new_pass pass.table pass.view)
 
 -- Before worker w has a pass of its own, the first pass stands for worker 0 and for those from w on.
 pub record StandsFor (shared : SharedState) (first : PassState) (w : ℕ) (pass : PassState) : Type 0 where
@@ -71,12 +86,14 @@ pub record StandsFor (shared : SharedState) (first : PassState) (w : ℕ) (pass 
   pub most : pass.view.most ≡ first.view.most
   pub hand : pass.view.hand ≡ None
   pub seen : sees pass.view ≡ sees first.view
+  pub lists : pass ≡ new_pass pass.table pass.view
 
 -- at first it stands for all
 pub StandsFor-all :
     (shared : SharedState) (first : PassState) → 0 < shared.workers → BelongsTo first shared
-    → first.view.crew ≡ crew_from (run_in shared) (sees first.view) 0 shared.workers → first.view.hand ≡ None → StandsFor shared first 1 first
-StandsFor-all shared first some_worker belongs crew hand =
+    → first.view.crew ≡ crew_from (run_in shared) (sees first.view) 0 shared.workers → first.view.hand ≡ None
+    → first ≡ new_pass first.table first.view → StandsFor shared first 1 first
+StandsFor-all shared first some_worker belongs crew hand lists =
     let all : shared.workers ≡ shared.workers - 0 = omega arith in
     record {
       belongs = belongs;
@@ -86,6 +103,7 @@ StandsFor-all shared first some_worker belongs crew hand =
       most = refl;
       hand = hand;
       seen = refl;
+      lists = lists;
     }
 
 module _ (shared : SharedState) (first : PassState) (w : ℕ) (pass : PassState) (stands : StandsFor shared first w pass) where
@@ -108,12 +126,13 @@ module _ (shared : SharedState) (first : PassState) (w : ℕ) (pass : PassState)
         most = stands.most;
         hand = stands.hand;
         seen = stands.seen;
+        lists = ap (λ p. with_view p (parted pass.view)) stands.lists;
       }
 
-  pub IsPassOf-next : (other : PassState) → w < shared.workers → other ≡ with_view pass (worker_apart pass.view) → IsPassOf shared first w other
+  pub IsPassOf-next : (other : PassState) → w < shared.workers → other ≡ new_pass pass.table (worker_apart pass.view) → IsPassOf shared first w other
   IsPassOf-next other low is =
       subst (IsPassOf shared first w) (sym is)
-      (record { table = stands.belongs.table; run = stands.belongs.run }, second-next low, stands.most, refl, stands.seen)
+      (record { table = stands.belongs.table; run = stands.belongs.run }, second-next low, stands.most, refl, stands.seen, refl)
 
   -- once all others have one, it stands for worker 0 alone
   pub IsPassOf-first : shared.workers ≤ w → IsPassOf shared first 0 pass
@@ -124,6 +143,7 @@ module _ (shared : SharedState) (first : PassState) (w : ℕ) (pass : PassState)
         stands.most,
         stands.hand,
         stands.seen,
+        stands.lists,
       )
 
 -- ---- lists of passes
@@ -172,6 +192,7 @@ StartsAs-pass shared grown first w pass seen most is = record {
   most = is.2 ∙ most;
   hand = is.3;
   seen = is.4 ∙ seen;
+  lists = is.5;
 }
 
 -- each may claim a mark

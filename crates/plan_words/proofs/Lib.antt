@@ -1,6 +1,10 @@
+pub mod WrittenPoints
+pub mod GoingOn
 pub mod Allowing
 pub mod Owning
+pub mod LookedNodes
 pub mod Tying
+pub mod HandSteps
 pub mod Joining
 pub mod Scanning
 pub mod Claiming

@@ -1,5 +1,5 @@
 -- What a call of a shared tree owes to its table, and what a load tells, by what the tree and the pass keep.
-use Rattle.std.proofs.Common.{◌≡◌, ℕ, ◌+◌, ◌<◌, ◌≤◌, ◌^◌, Bool, true, false, List, [], ◌∷◌, length, Some, None, refl, sym, ap, ◌∙◌, subst, arith}
+use Rattle.std.proofs.Common.{◌≡◌, ℕ, suc, ◌+◌, ◌%◌, ◌<◌, ◌≤◌, ◌^◌, Bool, true, false, List, [], ◌∷◌, length, Some, None, refl, sym, ap, ◌∙◌, subst, arith}
 use Rattle.std.specs.Prelude.{◌==◌, cond}
 use mathlib.Core.Option.{none, some}
 use prog.Atomic.{either}
@@ -7,16 +7,20 @@ use Rattle.atomic_table.specs.Seated.{TableId}
 use Rattle.atomic_table.specs.Table.{Allows, Joins, Me, Splits, State, step}
 use Rattle.plan_words.specs.declared.openings.Aim.{Aim}
 use Rattle.plan_words.specs.declared.openings.Opening.{Opening}
-use Rattle.plan_words.specs.Plays.{Claims, Finishes, Loads}
-use Rattle.plan_words.specs.States.{BelongsTo, HoldsWorld, IsTableOf, PassState, SharedState, run_in, run_of_opening}
+use Rattle.plan_model.specs.declared.geometry.Point.{Point}
+use Rattle.plan_words.specs.Plays.{Claims, Counts, Finishes, Links, Loads, Tells, WritesPoint}
+use Rattle.plan_words.specs.States.{BelongsTo, GoesOn, HoldsWorld, IsTableOf, PassState, SharedState, run_in, run_of_opening, with_view}
 use Rattle.step_core.specs.LaterViews.{IsLawfulView}
+use Rattle.step_core.specs.Stages.{MayBeRecorded}
+use Rattle.step_core.specs.ViewTrees.{IsSteered, LeadsTo, MayLoad}
+use Rattle.step_core.specs.declared.views.Stage.TheVariants.{Claimed, Linked, Pointed}
 use Rattle.step_core.specs.ViewSteps.{claimed, joined, loaded, looker, mark_of, parted, place_in, saw_at, stepped as one_step, worker_apart}
 use Rattle.step_core.specs.Views.{last_look, run_sizes, sees, share, spent}
 use Rattle.step_core.specs.WordNames.{Word, WritesWord}
-use Rattle.step_core.specs.WordNames.Word.{Count, Counter, RecordOf}
+use Rattle.step_core.specs.WordNames.Word.{ChildOf, Count, Counter, PointOf, RecordOf}
 use Rattle.step_core.specs.WordPlaces.{HasWord, place_of}
 use Rattle.plan_model.specs.declared.records.Record.{Record}
-use Rattle.step_core.specs.Words.{FitsWord, record_word}
+use Rattle.step_core.specs.Words.{FitsWord, point_word, record_word}
 use Rattle.step_core.specs.declared.views.Hand.{Hand}
 use Rattle.step_core.specs.declared.views.Member.{Member}
 use Rattle.step_core.specs.declared.views.SharedRun.{SharedRun}
@@ -24,7 +28,7 @@ use Rattle.step_core.specs.declared.views.View.{View}
 use Rattle.step_core.specs.declared.word_places.WordPlaces.{WordPlaces}
 use Rattle.step_core.proofs.SeenByViews.{WritesWord-looked, WritesWord-saw}
 use Rattle.step_core.proofs.WordReads.{place_of-within}
-use Rattle.plan_words.proofs.Allowing.{Holds, may_claim, may_finish, may_hand_on, may_load, may_look, may_take_over}
+use Rattle.plan_words.proofs.Allowing.{Holds, may_claim, may_count, may_finish, may_hand_on, may_link, may_load, may_look, may_point, may_take_over}
 
 -- the rule by what the table was told
 abbrev pub Kept : Opening → State Aim View → Type 0
@@ -40,13 +44,13 @@ module _ (table : TableId) (key : Opening) (run : SharedRun) (places : WordPlace
 
   pub may_load_here :
       (seat : TableId) (id place : ℕ) (me : Me Aim View) (name : Word) → seat ≡ table → me.0.run ≡ run → HasWord (run_sizes run) name
-      → place ≡ place_of (run_sizes run) name
+      → MayLoad me.0 name → place ≡ place_of (run_sizes run) name
       → (seat ≡ table) × (place < table.words) × Allows (Kept key) table.slots id me place (λ x. x) (Loads (step table.slots place 0 0 none) me)
-  may_load_here seat id place me name same own here at_place = (
+  may_load_here seat id place me name same own here may at_place = (
     same,
     within name place here at_place,
     subst (λ r. Allows (Holds r) table.slots id me place (λ x. x) (Loads (step table.slots place 0 0 none) me)) (sym fits.key_is)
-        (may_load run table.slots id place me name here at_place own),
+        (may_load run table.slots id place me name here at_place own may),
   )
 
   pub may_claim_here :
@@ -66,13 +70,51 @@ module _ (table : TableId) (key : Opening) (run : SharedRun) (places : WordPlace
   pub may_finish_here :
       (seat : TableId) (id place x : ℕ) (me : Me Aim View) (hand : Hand) (member : Member) (crew : List Member) (entry : Record) → seat ≡ table
       → me.0.run ≡ run → place ≡ place_of (run_sizes run) (RecordOf hand.mark) → hand.mark < length run.marks → me.0.hand ≡ Some hand
-      → me.0.crew ≡ member ∷ crew → FitsWord entry → entry.worker ≡ member.worker → entry.turn ≡ member.turn → x ≡ record_word entry
+      → me.0.crew ≡ member ∷ crew → FitsWord entry → entry.worker ≡ member.worker → entry.turn ≡ member.turn
+      → MayBeRecorded hand.stage entry.outcome → x ≡ record_word entry
       → (seat ≡ table) × (place < table.words) × Allows (Kept key) table.slots id me place (λ y. x) (λ y. Finishes (step table.slots place x 0 none) me x)
-  may_finish_here seat id place x me hand member crew entry same own at_place low held crew_is entry_fits worker turn is = (
+  may_finish_here seat id place x me hand member crew entry same own at_place low held crew_is entry_fits worker turn may is = (
     same,
     within (RecordOf hand.mark) place low at_place,
     subst (λ r. Allows (Holds r) table.slots id me place (λ y. x) (λ y. Finishes (step table.slots place x 0 none) me x)) (sym fits.key_is)
-        (may_finish run table.slots id place x me hand member crew entry at_place own held crew_is entry_fits worker turn is),
+        (may_finish run table.slots id place x me hand member crew entry at_place own held crew_is entry_fits worker turn may is),
+  )
+
+  pub may_point_here :
+      (seat : TableId) (id place x : ℕ) (me : Me Aim View) (hand : Hand) (m : ℕ) (p : Point) → seat ≡ table → me.0.run ≡ run
+      → place ≡ place_of (run_sizes run) (PointOf (suc hand.mark)) → hand.mark < length run.marks → me.0.hand ≡ Some hand → hand.stage ≡ Claimed
+      → IsSteered me.0 hand.mark m p → x ≡ point_word p
+      → (seat ≡ table) × (place < table.words) × Allows (Kept key) table.slots id me place (λ y. x) (λ y. WritesPoint m p (step table.slots place x 0 none) me x)
+  may_point_here seat id place x me hand m p same own at_place low held stage steered is = (
+    same,
+    within (PointOf (suc hand.mark)) place (omega (arith, low)) at_place,
+    subst (λ r. Allows (Holds r) table.slots id me place (λ y. x) (λ y. WritesPoint m p (step table.slots place x 0 none) me x)) (sym fits.key_is)
+        (may_point run table.slots id place x me hand m p at_place own held stage steered is),
+  )
+
+  pub may_link_here :
+      (seat : TableId) (id place x : ℕ) (me : Me Aim View) (hand : Hand) (n : ℕ) (side : Bool) → seat ≡ table → me.0.run ≡ run → n ≤ length run.marks
+      → place ≡ place_of (run_sizes run) (ChildOf n side) → me.0.hand ≡ Some hand → hand.stage ≡ Pointed → LeadsTo me.0 hand.point n side
+      → MayLoad me.0 (ChildOf n side) → x ≡ hand.mark + 1
+      → (seat ≡ table) × (place < table.words) × Allows (Kept key) table.slots id me place (λ y. either (y == 0) x y)
+      (Links (step table.slots place 0 x none) me)
+  may_link_here seat id place x me hand n side same own low at_place held stage leads may is = (
+    same,
+    within (ChildOf n side) place low at_place,
+    subst (λ r. Allows (Holds r) table.slots id me place (λ y. either (y == 0) x y) (Links (step table.slots place 0 x none) me)) (sym fits.key_is)
+        (subst (λ m. Allows (Holds run) table.slots id me place (λ y. either (y == 0) m y) (Links (step table.slots place 0 m none) me)) (sym is)
+        (may_link run table.slots id place me hand n side low at_place own held stage leads may)),
+  )
+
+  pub may_count_here :
+      (seat : TableId) (id place : ℕ) (me : Me Aim View) (hand : Hand) → seat ≡ table → me.0.run ≡ run → place ≡ place_of (run_sizes run) Count
+      → me.0.hand ≡ Some hand → hand.stage ≡ Linked
+      → (seat ≡ table) × (place < table.words) × Allows (Kept key) table.slots id me place (λ x. (x + 1) % 2 ^ 64) (Counts (step table.slots place 1 0 none) me)
+  may_count_here seat id place me hand same own at_place held stage = (
+    same,
+    within Count place tt at_place,
+    subst (λ r. Allows (Holds r) table.slots id me place (λ x. (x + 1) % 2 ^ 64) (Counts (step table.slots place 1 0 none) me)) (sym fits.key_is)
+        (may_count run table.slots id place me hand at_place own held stage),
   )
 
   pub may_look_here : (seat : TableId) (id : ℕ) (view : View) → seat ≡ table → view.run ≡ run
@@ -87,14 +129,14 @@ module _ (table : TableId) (key : Opening) (run : SharedRun) (places : WordPlace
 
   pub may_take_over_here :
       (seat other_seat : TableId) (id j : ℕ) (view : View) (other : Me Aim View) → seat ≡ table → other_seat ≡ table → other.1 ≡ [] → view.run ≡ run
-      → other.0.run ≡ run → other.0.hand ≡ None
+      → other.0.run ≡ run → view.hand ≡ None → other.0.hand ≡ None
       → (seat ≡ table) × (other_seat ≡ table) × (other.1 ≡ []) × (0 < table.words) × Joins (Kept key) id view j other.0 (joined view other.0) spent
-  may_take_over_here seat other_seat id j view other same same_too empty own own_too idle = (
+  may_take_over_here seat other_seat id j view other same same_too empty own own_too idle idle_too = (
     same,
     same_too,
     empty,
     some_word,
-    subst (λ r. Joins (Holds r) id view j other.0 (joined view other.0) spent) (sym fits.key_is) (may_take_over run id view j other.0 own own_too idle),
+    subst (λ r. Joins (Holds r) id view j other.0 (joined view other.0) spent) (sym fits.key_is) (may_take_over run id view j other.0 own own_too idle idle_too),
   )
 
 -- ---- what a load tells
@@ -152,6 +194,22 @@ pub counter_most :
 counter_most view place g x lawful strip at_place told =
     let then = subst (λ n. IsLawfulView (saw_at view n x x)) at_place told in
     omega (arith, sees-loaded view lawful (Counter g) strip x, then.counter g strip)
+
+-- ---- a pass and its view
+
+-- a step leaves all of a pass but its view
+pub with_view_told :
+    (outer inner : PassState) (table : TableId) (then : View) (step : View → View) → inner ≡ outer → table ≡ inner.table → then ≡ step inner.view
+    → record inner { table = table; view = then } ≡ with_view outer (step outer.view)
+with_view_told outer inner table then step same table_is view_is =
+    ap (λ t. record inner { table = t; view = then }) table_is ∙ ap (with_view inner) view_is ∙ ap (λ p. with_view p (step p.view)) same
+
+-- and its steps go on
+pub goes_on_told : (outer inner : PassState) (then view : View) → inner ≡ outer → then ≡ view → GoesOn inner.view view → GoesOn outer.view then
+goes_on_told outer inner then view same is on = subst (λ p. GoesOn p.view then) same (subst (GoesOn inner.view) (sym is) on)
+
+pub tells_on : (outer : View) (me after : Me Aim View) (view : View) → me.0 ≡ outer → Tells me view after → GoesOn outer after.0
+tells_on outer me after view same told = subst (λ v. GoesOn v after.0) same (subst (GoesOn me.0) (sym told.view_is) told.goes_on)
 
 -- ---- belonging
 

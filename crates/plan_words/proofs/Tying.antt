@@ -1,5 +1,5 @@
 -- What a pass keeps beside its view, after steps that the law tells nothing of, and the word that it stores for its turn.
-use Rattle.std.proofs.Common.{◌≡◌, ℕ, ◌^◌, ◌<◌, ◌≤◌, List}
+use Rattle.std.proofs.Common.{◌≡◌, ℕ, ◌+◌, ◌^◌, ◌<◌, ◌≤◌, List}
 use Rattle.std.proofs.Common.{[], ◌∷◌, length, Option, Some, None, refl, sym, ap, ◌∙◌, subst, arith}
 use Rattle.std.specs.Prelude.{IfSome, IsSome, is_some}
 use mathlib.Core.Option.{some, some-ne-none}
@@ -7,14 +7,19 @@ use lib.ListN.{get_elem?}
 use Rattle.std.proofs.lemmas.Option.{same_Some}
 use Rattle.plan_model.specs.declared.limits.TheConstants.{MOST_MARKS, MOST_WORKERS}
 use Rattle.plan_model.specs.declared.records.Record.{Record}
-use Rattle.plan_words.specs.States.{BelongsTo, IsTied, MayClaim, PassState, SharedState, first_of, turn_of, with_view, worker_of}
+use Rattle.plan_words.specs.States.{BelongsTo, GoesOn, HasRoom, IsTied, MayClaim, PassState, SharedState, first_of, turn_of, with_view, worker_of}
 use Rattle.step_core.specs.LaterViews.{IsLawfulView}
 use Rattle.step_core.specs.ViewSteps.{finished_at, looker, one_turn_more, parted, second_alone, stepped, without_second, worker_apart}
-use Rattle.step_core.specs.Views.{IsViewOf, words_of_run}
+use Rattle.step_core.specs.PlacesOfWords.{sizes_in}
+use Rattle.step_core.specs.Views.{IsViewOf, run_sizes, words_of_run}
 use Rattle.step_core.specs.Words.{FitsWord, last_field}
 use Rattle.step_core.specs.declared.views.Hand.{Hand}
 use Rattle.step_core.specs.declared.views.Member.{Member}
+use Rattle.step_core.specs.declared.views.SharedRun.{SharedRun}
 use Rattle.step_core.specs.declared.views.View.{View}
+use Rattle.step_core.specs.declared.word_places.WordPlaces.{WordPlaces}
+use Rattle.step_core.proofs.LaterViews.{IsLater-stepped}
+use Rattle.step_core.proofs.SeenTreesOfViews.{SeesTree-apart, SeesTree-looker, SeesTree-parted, SeesTree-stepped}
 use Rattle.step_core.proofs.WorldSplits.{goes_at, stays_at}
 
 -- ---- a pass with a mark in hand
@@ -106,7 +111,7 @@ IsViewOf-later view then of_run order run_is seen looked found_zero = subst (λ 
       omega (arith, same, of_run.zero_looks name, order);
 })
 
-pub IsLawfulView-stepped : (view : View) → IsLawfulView view → IsLawfulView (stepped view)
+IsLawfulView-stepped : (view : View) → IsLawfulView view → IsLawfulView (stepped view)
 IsLawfulView-stepped view lawful = record {
   run = lawful.run;
   of_run = IsViewOf-later view (stepped view) lawful.of_run (omega arith) refl refl refl refl;
@@ -117,11 +122,28 @@ IsLawfulView-stepped view lawful = record {
   turn = lawful.turn;
   own_turn = lawful.own_turn;
   took = lawful.took;
+  tree = SeesTree-stepped view lawful.tree;
+  ways = lawful.ways;
+  distinct = lawful.distinct;
+  within = lawful.within;
+  unseen = lawful.unseen;
+  start = lawful.start;
   count = lawful.count;
   counter = lawful.counter;
 }
 
-pub IsLawfulView-looker : (view : View) → IsLawfulView view → IsLawfulView (looker view)
+-- a split leaves the pass as it is, one step later
+pub IsTied-stepped : (view : View) (member : Option Member) (hand : Option Hand) → IsTied view member hand → IsTied (stepped view) member hand
+IsTied-stepped view member hand tied = record {
+  member_is = tied.member_is;
+  hand_is = tied.hand_is;
+  lawful = IsLawfulView-stepped view tied.lawful;
+}
+
+pub GoesOn-stepped : (view : View) → IsLawfulView view → GoesOn view (stepped view)
+GoesOn-stepped view lawful = record { was_lawful = lawful; later = IsLater-stepped view; lawful = IsLawfulView-stepped view lawful }
+
+IsLawfulView-looker : (view : View) → IsLawfulView view → IsLawfulView (looker view)
 IsLawfulView-looker view lawful = record {
   run = lawful.run;
   of_run = IsViewOf-later view (looker view) lawful.of_run (omega arith) refl refl refl refl;
@@ -132,9 +154,33 @@ IsLawfulView-looker view lawful = record {
   turn = λ hand i member held e. cc;
   own_turn = λ i member e. absurd (some-ne-none member (sym e));
   took = lawful.took;
+  tree = SeesTree-looker view lawful.tree;
+  ways = lawful.ways;
+  distinct = lawful.distinct;
+  within = lawful.within;
+  unseen = λ hand held. cc;
+  start = lawful.start;
   count = lawful.count;
   counter = lawful.counter;
 }
+
+pub IsTied-looker : (view : View) → IsLawfulView view → IsTied (looker view) None None
+IsTied-looker view lawful = record { member_is = refl; hand_is = refl; lawful = IsLawfulView-looker view lawful }
+
+-- lists with room for one more than there are marks have room for each node
+pub HasRoom-new :
+    (places : WordPlaces) (run own : SharedRun) (nodes for_spots for_near for_around : ℕ) → sizes_in places ≡ run_sizes run → own ≡ run
+    → nodes ≡ (sizes_in places).marks + 1 → (nodes ≤ for_spots) × (nodes ≤ for_near) × (nodes ≤ for_around)
+    → HasRoom own for_spots for_near for_around
+HasRoom-new places run own nodes for_spots for_near for_around same own_is nodes_is (spots, near, around) =
+    let marks : length own.marks + 1 ≡ nodes = ap (λ r. length r.marks + 1) own_is ∙ sym (ap (λ s. s.marks + 1) same) ∙ sym nodes_is in
+    record { spots = omega (arith, marks, spots); near = omega (arith, marks, near); around = omega (arith, marks, around) }
+
+-- and keep it for the same run
+pub HasRoom-kept :
+    (run own : SharedRun) (for_spots for_near for_around : ℕ) → own ≡ run → HasRoom run for_spots for_near for_around
+    → HasRoom own for_spots for_near for_around
+HasRoom-kept run own for_spots for_near for_around same room = subst (λ r. HasRoom r for_spots for_near for_around) (sym same) room
 
 -- the first of the crew stays
 first_stays : (crew : List Member) → first_of (without_second crew) ≡ first_of crew
@@ -163,6 +209,12 @@ IsTied-parted view member hand tied =
         turn = λ own i mate held e. let from = stays_at view.crew i mate e in lawful.turn own from.0 mate held from.1;
         own_turn = λ i mate e. let from = stays_at view.crew i mate e in lawful.own_turn from.0 mate from.1;
         took = lawful.took;
+        tree = SeesTree-parted view lawful.tree;
+        ways = lawful.ways;
+        distinct = lawful.distinct;
+        within = lawful.within;
+        unseen = lawful.unseen;
+        start = lawful.start;
         count = lawful.count;
         counter = lawful.counter;
       };
@@ -182,6 +234,12 @@ IsTied-apart view member lawful second = record {
     turn = λ hand i mate held e. cc;
     own_turn = λ i mate e. let from = goes_at view.crew i mate e in lawful.own_turn from.0 mate from.1;
     took = lawful.took;
+    tree = SeesTree-apart view lawful.tree;
+    ways = lawful.ways;
+    distinct = lawful.distinct;
+    within = lawful.within;
+    unseen = λ hand held. cc;
+    start = lawful.start;
     count = lawful.count;
     counter = lawful.counter;
   };

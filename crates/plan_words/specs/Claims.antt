@@ -4,11 +4,10 @@ use Rattle.plan_model.specs.MarkPoints.{quota_of, strip_of_mark}
 use Rattle.plan_words.specs.States.{worker_of}
 use Rattle.plan_words.specs.declared.claims.Choice.{Choice}
 use Rattle.plan_words.specs.declared.claims.Next.{Next}
-use Rattle.step_core.specs.ViewSteps.{mark_of}
+use Rattle.step_core.specs.ViewSteps.{mark_of, new_hand}
 use Rattle.step_core.specs.Views.{last_look, sees}
 use Rattle.step_core.specs.WordNames.Word.{Counter}
 use Rattle.step_core.specs.declared.views.SharedRun.{SharedRun}
-use Rattle.step_core.specs.declared.views.Stage.TheVariants.{Claimed}
 use Rattle.step_core.specs.declared.views.View.{View}
 
 -- the next mark of strip g that is not claimed, by the counter seen
@@ -54,7 +53,7 @@ pub record IsOpen (view : View) (worker limit g c : ℕ) : Type 0 where
 -- Mark k was claimed: it is in hand, and went first by the counters seen. Its strip's counter had been lower, and is just above it.
 pub record IsClaimed (before after : View) (limit k : ℕ) : Type 0 where
   pub low : k < limit
-  pub hand : after.hand ≡ Some (record { mark = k; stage = Claimed })
+  pub hand : after.hand ≡ Some (new_hand k)
   pub crew : after.crew ≡ before.crew
   pub most : after.most ≡ max before.most limit
   pub first : IsFirst after (worker_of before.crew) limit (strip_of_mark after.run.strips k) k

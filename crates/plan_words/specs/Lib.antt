@@ -1,3 +1,4 @@
 pub mod States
 pub mod Plays
 pub mod Claims
+pub mod Nodes

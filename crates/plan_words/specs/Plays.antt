@@ -1,22 +1,37 @@
--- What each kind of step tells the pass that makes it: its view then, that the view is a later one, and that it is lawful.
-use Rattle.std.specs.Prelude.{◌≡◌, ℕ, ◌==◌, if◌then◌else◌}
+-- What each kind of step tells the pass that makes it: its view then, and that its steps go on to that.
+use Rattle.std.specs.Prelude.{◌≡◌, ℕ, suc, ◌≤◌, ◌==◌, ◌^◌, Some, if◌then◌else◌}
 use mathlib.Core.Option.{Option, some, none}
 use Rattle.atomic_table.specs.Table.{Me, Step}
+use Rattle.plan_model.specs.declared.geometry.Point.{Point}
 use Rattle.plan_words.specs.declared.openings.Aim.{Aim}
-use Rattle.step_core.specs.LaterViews.{IsLater, IsLawfulView}
-use Rattle.step_core.specs.ViewSteps.{claimed, finished_at, saw_at}
+use Rattle.plan_words.specs.States.{GoesOn}
+use Rattle.step_core.specs.ViewSteps.{claimed, counted, finished_at, linked_at, place_in, pointed, saw_at}
+use Rattle.step_core.specs.ViewTrees.{SeesNode}
+use Rattle.step_core.specs.WordNames.Word.{PointOf}
+use Rattle.step_core.specs.declared.views.Hand.{Hand}
 use Rattle.step_core.specs.declared.views.View.{View}
 
--- what any step tells: the view then, which is a later one and lawful; no slot is taken
+-- what any step tells: the view then, to which the steps go on; no slot is taken
 pub record Tells (before : Me Aim View) (view : View) (after : Me Aim View) : Type 0 where
   pub view_is : after.0 ≡ view
-  pub later : IsLater before.0 view
-  pub lawful : IsLawfulView view
+  pub goes_on : GoesOn before.0 view
   pub slots : after.1 ≡ before.1
+
+-- the same of a step for the mark in hand
+abbrev pub TellsHand : Me Aim View → (Hand → View) → Me Aim View → Type 0
+TellsHand before view after = (hand : Hand) → before.0.hand ≡ Some hand → Tells before (view hand) after
+
+-- ---- loads
+
+-- if the word is the point of a seen node, it was found written
+abbrev pub FindsPoint : View → ℕ → ℕ → Type 0
+FindsPoint view place found = (n : ℕ) → SeesNode view n → place ≡ place_in view (PointOf n) → 2 ^ 63 ≤ found
 
 -- the view sees the word as it was found
 abbrev pub Loads : Step Aim → Me Aim View → ℕ → Me Aim View → Type 0
-Loads step before found after = Tells before (saw_at before.0 step.word found found) after
+Loads step before found after = Tells before (saw_at before.0 step.word found found) after × FindsPoint before.0 step.word found
+
+-- ---- claims and records
 
 -- what a claim asked for
 abbrev pub aim_of : Option Aim → Aim
@@ -33,3 +48,20 @@ Claims step before found after =
 -- the record is stored, and the hand is empty
 abbrev pub Finishes : Step Aim → Me Aim View → ℕ → Me Aim View → Type 0
 Finishes step before found after = Tells before (finished_at before.0 step.word step.first) after
+
+-- ---- nodes
+
+-- the point p of the node in hand is written, steered from node m
+abbrev pub WritesPoint : ℕ → Point → Step Aim → Me Aim View → ℕ → Me Aim View → Type 0
+WritesPoint m p step before found after = TellsHand before (λ hand. pointed before.0 hand m p) after
+
+-- the node in hand is linked, or a child was found there
+abbrev pub Links : Step Aim → Me Aim View → ℕ → Me Aim View → Type 0
+Links step before found after =
+    TellsHand before
+    (λ hand. if found == 0 then linked_at before.0 hand step.word (place_in before.0 (PointOf (suc hand.mark))) else saw_at before.0 step.word found found)
+    after
+
+-- the node in hand is counted
+abbrev pub Counts : Step Aim → Me Aim View → ℕ → Me Aim View → Type 0
+Counts step before found after = TellsHand before (λ hand. counted before.0 hand) after

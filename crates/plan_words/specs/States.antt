@@ -1,10 +1,11 @@
 -- What contracts see of a shared tree and of a pass, and what a table of words keeps.
-use Rattle.std.specs.Prelude.{◌≡◌, ℕ, ◌+◌, ◌<◌, Option, Some, None, List, [], ◌∷◌, length}
+use Rattle.std.specs.Prelude.{◌≡◌, ℕ, ◌+◌, ◌<◌, ◌≤◌, Option, Some, None, List, [], ◌∷◌, length}
 use Rattle.atomic_table.specs.Seated.{TableId}
 use Rattle.plan_model.specs.declared.tasks.Task.{Task}
 use Rattle.plan_words.specs.declared.openings.Opening.{Opening}
+use Rattle.plan_words.specs.declared.scratch.Spot.{Spot}
 use Rattle.step_core.specs.GrownRuns.{words_of_grown}
-use Rattle.step_core.specs.LaterViews.{IsLawfulView}
+use Rattle.step_core.specs.LaterViews.{IsLater, IsLawfulView}
 use Rattle.step_core.specs.PlacesOfWords.{sizes_in}
 use Rattle.step_core.specs.ViewStarts.{member_of, newcomer}
 use Rattle.step_core.specs.Views.{IsSharedRun, run_of, run_sizes, sees, share, words_of_run}
@@ -29,10 +30,17 @@ pub record SharedState : Type 0 where
 abbrev pub run_in : SharedState → SharedRun
 run_in shared = run_of shared.task shared.workers shared.opening
 
--- a pass: its table and its view
+-- A pass: its table and its view, and its scratch lists, which no step of the pass changes.
 pub record PassState : Type 0 where
   pub table : TableId
   pub view : View
+  pub spots : List Spot
+  pub near : List ℕ
+  pub around : List ℕ
+
+-- one whose lists are empty
+abbrev pub new_pass : TableId → View → PassState
+new_pass table view = record { table = table; view = view; spots = []; near = []; around = [] }
 
 -- the pass was made or split from this very tree
 pub record BelongsTo (pass : PassState) (shared : SharedState) : Type 0 where
@@ -48,6 +56,12 @@ pub record MayClaim (shared : SharedState) (pass : PassState) : Type 0 where
 -- the pass, whose view is another now
 abbrev pub with_view : PassState → View → PassState
 with_view pass view = record pass { view = view }
+
+-- Steps of a pass lead from the one view to the other: what the law says of a view holds of both, and the second is a later one.
+pub record GoesOn (before after : View) : Type 0 where
+  pub was_lawful : IsLawfulView before
+  pub later : IsLater before after
+  pub lawful : IsLawfulView after
 
 -- ---- what a table keeps
 
@@ -97,12 +111,19 @@ pub record IsTied (view : View) (member : Option Member) (hand : Option Hand) : 
   pub hand_is : hand ≡ view.hand
   pub lawful : IsLawfulView view
 
+-- each scratch list may hold as many as the run may have nodes
+pub record HasRoom (run : SharedRun) (for_spots for_near for_around : ℕ) : Type 0 where
+  pub spots : length run.marks + 1 ≤ for_spots
+  pub near : length run.marks + 1 ≤ for_near
+  pub around : length run.marks + 1 ≤ for_around
+
 -- ---- the start
 
--- The pass of worker w begins with its worker's turns, and has seen all words.
+-- The pass of worker w begins with its worker's turns, has seen all words, and its lists are empty.
 pub record StartsAs (shared : SharedState) (grown : Grown) (w : ℕ) (pass : PassState) : Type 0 where
   pub belongs : BelongsTo pass shared
   pub crew : pass.view.crew ≡ member_of (run_in shared) (words_of_grown grown) w ∷ []
   pub most : pass.view.most ≡ grown.limit
   pub hand : pass.view.hand ≡ None
   pub seen : sees pass.view ≡ words_of_grown grown
+  pub lists : pass ≡ new_pass pass.table pass.view

@@ -2,8 +2,7 @@
 
 ghost use Rattle.std.specs.Prelude.{◌≡◌, ℕ, ◌+◌, ◌<◌, ◌≤◌, ◌==◌, if◌then◌else◌, length, None, IfNone, IfSome, MatchOption};
 ghost use Rattle.plan_words.specs.Claims.{AllFull, AllLoaded, IsClaimed, IsOpen, KeepsHand, better_of, goes_first};
-ghost use Rattle.plan_words.specs.States.{BelongsTo, run_in, with_view, worker_of};
-ghost use Rattle.step_core.specs.LaterViews.{IsLater};
+ghost use Rattle.plan_words.specs.States.{BelongsTo, GoesOn, run_in, with_view, worker_of};
 ghost use Rattle.step_core.specs.ViewSteps.{claimed, loaded, mark_of};
 ghost use Rattle.step_core.specs.Views.{sees, share};
 ghost use Rattle.step_core.specs.WordNames.{ChangesOnly, IsCounter, WritesWord};
@@ -13,6 +12,7 @@ use crate::openings::Aim;
 use crate::passes::Pass;
 use crate::rules::Claim;
 use crate::shared::Shared;
+use plan_model::Point;
 use step_core::{Hand, Stage};
 
 /// The next mark of a strip: how many of its marks come before it.
@@ -43,7 +43,7 @@ impl Shared {
         requires low { self.now.opening ≤ limit }
         requires limit { limit ≤ length self.now.task.marks }
         ensures belongs { BelongsTo pass.new self.now }
-        ensures later { IsLater pass.old.view pass.new.view }
+        ensures goes_on { GoesOn pass.old.view pass.new.view }
         // of all words it sees none anew but counters
         ensures others { ChangesOnly IsCounter (sees pass.old.view) (sees pass.new.view) }
         ensures loaded { AllLoaded pass.new.view pass.old.view.steps }
@@ -64,7 +64,7 @@ impl Shared {
         requires part { 0 < share pass.old.view }
         ensures belongs { BelongsTo pass.new self.now }
         ensures kept { KeepsHand pass.old.view pass.new.view }
-        ensures later { IsLater pass.old.view pass.new.view }
+        ensures goes_on { GoesOn pass.old.view pass.new.view }
         ensures others { ChangesOnly IsCounter (sees pass.old.view) (sees pass.new.view) }
         ensures loaded { AllLoaded pass.new.view pass.old.view.steps }
         ensures first { MatchOption result (AllFull pass.new.view limit)
@@ -94,7 +94,7 @@ impl Shared {
         requires limit { limit ≤ length self.now.task.marks }
         ensures view { pass.new ≡ with_view pass.old
             (if result == next.round then claimed pass.old.view next.strip next.round limit else loaded pass.old.view (Counter next.strip) result) }
-        ensures later { IsLater pass.old.view pass.new.view }
+        ensures goes_on { GoesOn pass.old.view pass.new.view }
         ensures seen { WritesWord (Counter next.strip) (if result == next.round then next.round + 1 else result) (sees pass.old.view) (sees pass.new.view) }
     {
         let round = u64::from(next.round);
@@ -111,6 +111,8 @@ impl Shared {
             pass.hand = Some(Hand {
                 mark: next.round * self.task.scene.strips + next.strip,
                 stage: Stage::Claimed,
+                nearest: 0,
+                point: Point { x: 0, y: 0 },
             });
         }
         found

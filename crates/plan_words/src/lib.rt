@@ -7,16 +7,24 @@
 //! whichever order.
 //!
 //! A mark is handled by [`Shared::claim`], which puts it into the hand of one pass, and [`Shared::finish`], which stores
-//! its record. So each mark below the counters is recorded or in one hand, once. The tree is not shared yet, as PRRT*
-//! (Ichnowski and Alterovitz, IROS 2012) has it.
+//! its record. So each mark below the counters is recorded or in one hand, once.
+//!
+//! Between the two a pass grows the tree as PRRT* (Ichnowski and Alterovitz, IROS 2012) has it: [`Shared::write_point`] writes
+//! where the node of the mark is to stand, and [`Shared::link`] makes it the child of another in one kd-tree (Bentley, CACM
+//! 1975). Others meet it there by [`Shared::child`] and [`Shared::point`]. What a link needs is that the way of the point leads
+//! there over what the pass has seen; a pass that comes second is told the child that came first. Parents and costs are not
+//! shared yet.
 #![tactic(auto)]
 
 mod claims;
+mod nodes;
 mod openings;
 mod passes;
 mod rules;
+mod scratch;
 mod shared;
 mod starts;
 
 pub use passes::Pass;
+pub use scratch::Spot;
 pub use shared::Shared;

@@ -1,34 +1,45 @@
 //! What one worker steps with.
 
-ghost use Rattle.std.specs.Prelude.{◌≡◌, ◌<◌, IsSome};
+ghost use Rattle.std.specs.Prelude.{◌≡◌, ◌<◌, IfSome, IsSome, IsTrue};
 ghost use Rattle.plan_model.specs.declared.limits.TheConstants.{MOST_MARKS, MOST_WORKERS};
+ghost use Rattle.step_core.specs.Stages.{has_point};
 ghost use Rattle.step_core.specs.Views.{share};
 ghost use Rattle.plan_words.specs.States.{turn_of, worker_of};
 
 use crate::openings::Aim;
+use crate::scratch::Scratch;
 use atomic_table::Seat;
+use plan_model::Point;
 use std::marker::Model;
 use step_core::{Hand, Member, View};
 
 /// The handle of one worker on a shared tree, of several after a join, or of none: then it only looks. A contract sees it
-/// as its table and its view: what it has seen and has in hand.
+/// as its table, its view, which is what it has seen and has in hand, and its scratch lists.
 #[derive(Drop)]
 pub struct Pass {
     pub(crate) seat: Seat<Aim, View>,
     /// The worker that it works as, and its next turn.
     pub(crate) member: Option<Member>,
     pub(crate) hand: Option<Hand>,
+    pub(crate) scratch: Scratch,
 }
 
 impl Model for Pass {
-    ghost use Rattle.std.specs.Prelude.{◌≡◌, []};
-    ghost use Rattle.plan_words.specs.States.{IsTied, PassState};
+    ghost use Rattle.std.specs.Prelude.{◌≡◌, [], vec_capacity};
+    ghost use Rattle.plan_words.specs.States.{HasRoom, IsTied, PassState};
 
     ghost Value = { PassState };
 
-    ghost view = { λ p. record { table = p.seat.table_id; view = p.seat.me.0 } };
+    ghost view = { λ p. record {
+        table = p.seat.table_id;
+        view = p.seat.me.0;
+        spots = p.scratch.spots.items;
+        near = p.scratch.near.items;
+        around = p.scratch.around.items;
+    } };
 
-    ghost invariant = { λ p. (p.seat.me.1 ≡ []) × IsTied p.seat.me.0 p.member p.hand };
+    ghost invariant = { λ p. (p.seat.me.1 ≡ []) × IsTied p.seat.me.0 p.member p.hand
+        × HasRoom p.seat.me.0.run (vec_capacity p.scratch.spots) (vec_capacity p.scratch.near) (vec_capacity p.scratch.around) };
 }
 
 impl Pass {
@@ -56,5 +67,17 @@ impl Pass {
             Some(member) => member.turn,
             None => 0,
         }
+    }
+
+    /// The point that it has written for the mark in hand.
+    pub fn hand_point(&self) -> Point
+        requires hand { IsSome self.now.view.hand }
+        requires written { IfSome self.now.view.hand (λ hand. IsTrue (has_point hand.stage)) }
+        ensures { IfSome self.now.view.hand (λ hand. result ≡ hand.point) }
+    {
+        let Some(hand) = self.hand else {
+            unreachable!()
+        };
+        hand.point
     }
 }

@@ -2,6 +2,7 @@
 
 use crate::openings::{Aim, Opening};
 use atomic_table::{Join, Play, Split, TableRule};
+use std::marker::{Brand, PhantomData};
 use step_core::View;
 
 /// The law of worlds.
@@ -40,6 +41,52 @@ impl Play<Aim, View> for Finish {
     ghost use Rattle.plan_words.specs.Plays.{Finishes};
 
     ghost then = { Finishes };
+}
+
+/// A point of a node in hand, and the node that it is steered from, which no word tells.
+pub trait SteeredFrom {
+    ghost use Rattle.std.specs.Prelude.{ℕ};
+    ghost use Rattle.plan_model.specs.declared.geometry.Point.{Point};
+
+    ghost nearest: { ℕ };
+
+    ghost point: { Point };
+}
+
+// Each call of `write_point` has its own node and point for it in the proof; these are never used.
+impl SteeredFrom for Brand {
+    ghost nearest = { 0 };
+
+    ghost point = { record { x = 0; y = 0 } };
+}
+
+/// A store of a point.
+pub(crate) struct WritePoint<S: SteeredFrom> {
+    steered: PhantomData<S>,
+}
+
+impl<S: SteeredFrom> Play<Aim, View> for WritePoint<S> {
+    ghost use Rattle.plan_words.specs.Plays.{WritesPoint};
+
+    ghost then = { WritesPoint S.nearest S.point };
+}
+
+/// An exchange of an empty child word.
+pub(crate) struct Link;
+
+impl Play<Aim, View> for Link {
+    ghost use Rattle.plan_words.specs.Plays.{Links};
+
+    ghost then = { Links };
+}
+
+/// An addition to the count.
+pub(crate) struct Count;
+
+impl Play<Aim, View> for Count {
+    ghost use Rattle.plan_words.specs.Plays.{Counts};
+
+    ghost then = { Counts };
 }
 
 /// A split that gives the second worker a seat of its own.

@@ -2,8 +2,8 @@
 
 ghost use Rattle.std.specs.Prelude.{◌≡◌, ℕ, ◌+◌, ◌<◌, ◌^◌, IfOk, None, OnErr, OnOk, IsSome, IfSome};
 ghost use Rattle.plan_model.specs.declared.limits.TheConstants.{MOST_MARKS};
-ghost use Rattle.plan_words.specs.States.{BelongsTo, MayClaim, turn_of, turned, with_view, worker_of};
-ghost use Rattle.step_core.specs.LaterViews.{IsLater};
+ghost use Rattle.plan_words.specs.States.{BelongsTo, GoesOn, MayClaim, new_pass, turn_of, turned, with_view, worker_of};
+ghost use Rattle.step_core.specs.Stages.{MayBeRecorded};
 ghost use Rattle.step_core.specs.ViewSteps.{finished, joined, loaded, looker, stepped};
 ghost use Rattle.step_core.specs.Views.{last_look, sees, share};
 ghost use Rattle.step_core.specs.WordKinds.{AreBehind};
@@ -14,6 +14,7 @@ ghost use Rattle.step_core.specs.Words.{last_field, record_word};
 use crate::openings::{Aim, Opening};
 use crate::passes::Pass;
 use crate::rules::{Finish, Load, Look, TakeOver, WorldLaw};
+use crate::scratch::Scratch;
 use atomic_table::Table;
 use plan_model::{Memory, Record, Task};
 use std::alloc::Global;
@@ -28,6 +29,7 @@ pub struct Shared {
     pub(crate) workers: u32,
     pub(crate) opening: u32,
     pub(crate) places: WordPlaces,
+    pub(crate) alloc: Global,
 }
 
 impl Model for Shared {
@@ -53,7 +55,7 @@ impl Shared {
     pub fn number(&self, pass: &mut Pass) -> u32
         requires { BelongsTo pass.old self.now }
         ensures view { pass.new ≡ with_view pass.old (loaded pass.old.view Count result) }
-        ensures later { IsLater pass.old.view pass.new.view }
+        ensures goes_on { GoesOn pass.old.view pass.new.view }
         // this word is seen as it was found, all others as before
         ensures seen { WritesWord Count result (sees pass.old.view) (sees pass.new.view) }
     {
@@ -67,7 +69,7 @@ impl Shared {
         requires belongs { BelongsTo pass.old self.now }
         requires strip { strip < self.now.task.scene.strips }
         ensures view { pass.new ≡ with_view pass.old (loaded pass.old.view (Counter strip) result) }
-        ensures later { IsLater pass.old.view pass.new.view }
+        ensures goes_on { GoesOn pass.old.view pass.new.view }
         // this word is seen as it was found, all others as before
         ensures seen { WritesWord (Counter strip) result (sees pass.old.view) (sees pass.new.view) }
         ensures looked { WritesWord (Counter strip) (pass.old.view.steps + 1) (last_look pass.old.view) (last_look pass.new.view) }
@@ -76,7 +78,8 @@ impl Shared {
         self.table.shared.load::<Load>(&mut pass.seat, place) as u32
     }
 
-    /// Stores the record of the mark in hand, which leaves the hand.
+    /// Stores the record of the mark in hand, which leaves the hand. It says that the mark was placed if its node is counted,
+    /// and anything else only if its node is not linked.
     pub fn finish(&self, pass: &mut Pass, entry: Record)
         requires belongs { BelongsTo pass.old self.now }
         requires hand { IsSome pass.old.view.hand }
@@ -84,8 +87,9 @@ impl Shared {
         requires turn { entry.turn ≡ turn_of pass.old.view.crew }
         requires nearest { entry.nearest < 2 ^ 18 }
         requires last { last_field entry.outcome entry.class < 2 ^ 18 }
+        requires may { IfSome pass.old.view.hand (λ hand. MayBeRecorded hand.stage entry.outcome) }
         ensures view { IfSome pass.old.view.hand (λ hand. pass.new ≡ with_view pass.old (finished pass.old.view hand.mark (record_word entry))) }
-        ensures later { IsLater pass.old.view pass.new.view }
+        ensures goes_on { GoesOn pass.old.view pass.new.view }
         ensures may_claim { MayClaim self.now pass.new }
     {
         if let Some(hand) = pass.hand {
@@ -106,14 +110,17 @@ impl Shared {
     pub fn split(&self, pass: &mut Pass) -> Result<Pass, Memory>
         requires { BelongsTo pass.old self.now }
         ensures left { OnOk result (pass.new ≡ with_view pass.old (stepped pass.old.view)) }
+        ensures goes_on { OnOk result (GoesOn pass.old.view pass.new.view) }
         ensures unchanged { OnErr result (pass.new ≡ pass.old) }
-        ensures right { IfOk result (λ other. other ≡ with_view pass.old (looker pass.old.view)) }
+        ensures right { IfOk result (λ other. other ≡ new_pass pass.old.table (looker pass.old.view)) }
     {
+        let scratch = Scratch::new(self.alloc, self.places.marks() + 1)?;
         let seat = self.table.shared.split_seat::<Look>(&mut pass.seat);
         Ok(Pass {
             seat,
             member: None,
             hand: None,
+            scratch,
         })
     }
 
@@ -125,7 +132,7 @@ impl Shared {
         requires idle { pass.old.view.hand ≡ None }
         requires idle_too { other.view.hand ≡ None }
         ensures view { (count : ℕ) × (pass.new ≡ with_view pass.old (loaded (joined pass.old.view other.view) Count count)) }
-        ensures later { IsLater pass.old.view pass.new.view }
+        ensures goes_on { GoesOn pass.old.view pass.new.view }
         // it has seen at least what the other had
         ensures others_seen { AreBehind (sees other.view) (sees pass.new.view) }
         ensures share { share pass.new.view ≡ share pass.old.view + share other.view }
@@ -136,6 +143,7 @@ impl Shared {
             seat,
             member,
             hand: _,
+            scratch: _,
         } = other;
         self.table
             .shared

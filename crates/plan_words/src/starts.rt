@@ -1,11 +1,11 @@
 //! How a shared tree begins: with the words of a closed run, and a pass for each worker.
 
-ghost use Rattle.std.specs.Prelude.{◌≡◌, ℕ, ◌≤◌, ◌<◌, None, [], ◌∷◌, All, length, IfOk, slice_index};
+ghost use Rattle.std.specs.Prelude.{◌≡◌, ℕ, ◌≤◌, ◌<◌, None, [], ◌∷◌, All, length, IfOk, OnOk, slice_index};
 ghost use lib.ListN.{get_elem?};
 ghost use mathlib.Core.Option.{some};
 ghost use Rattle.plan_model.specs.Turns.{turns_of};
 ghost use Rattle.plan_model.specs.declared.limits.TheConstants.{MOST_WORKERS};
-ghost use Rattle.plan_words.specs.States.{BelongsTo, MayClaim, PassState, StartsAs, run_in, with_view};
+ghost use Rattle.plan_words.specs.States.{BelongsTo, MayClaim, PassState, StartsAs, new_pass, run_in, with_view};
 ghost use Rattle.step_core.specs.GrownWords.{record_at, run_words, sizes_of};
 ghost use Rattle.step_core.specs.ViewSteps.{parted, second_alone, worker_apart};
 ghost use Rattle.step_core.specs.ViewStarts.{crew_from, member_of};
@@ -15,6 +15,7 @@ ghost use Rattle.step_core.specs.WordPlaces.{word_count};
 use crate::openings::Opening;
 use crate::passes::Pass;
 use crate::rules::HandOn;
+use crate::scratch::Scratch;
 use crate::shared::Shared;
 use atomic_table::Table;
 use plan_model::{Memory, Task};
@@ -62,7 +63,9 @@ impl Shared {
             workers,
             opening: limit,
             places,
+            alloc,
         };
+        let scratch = Scratch::new(alloc, places.marks() + 1)?;
         let first = Pass {
             seat,
             member: Some(Member {
@@ -70,47 +73,52 @@ impl Shared {
                 turn: turns[0],
             }),
             hand: None,
+            scratch,
         };
-        let passes = shared.hand_out(alloc, first, turns.as_slice())?;
+        let passes = shared.hand_out(first, turns.as_slice())?;
         Ok((shared, passes))
     }
 
     /// The passes of all workers, made from the one that stands for them all.
-    fn hand_out(&self, alloc: Global, first: Pass, turns: &[u32]) -> Result<Vec<Pass>, AllocError>
+    fn hand_out(&self, first: Pass, turns: &[u32]) -> Result<Vec<Pass>, AllocError>
         requires some { 1 ≤ self.now.workers }
         requires belongs { BelongsTo first self.now }
         requires crew { first.view.crew ≡ crew_from (run_in self.now) (sees first.view) 0 self.now.workers }
         requires hand { first.view.hand ≡ None }
+        requires lists { first ≡ new_pass first.table first.view }
         requires counted { length turns.now ≡ self.now.workers }
         requires turns { (w : ℕ) → w < self.now.workers
             → slice_index turns.now w ≡ turns_of (record_at (sees first.view)) (length self.now.task.marks) w }
         ensures count { IfOk result (λ passes. length passes.items ≡ self.now.workers) }
         ensures passes { IfOk result (λ passes. (w : ℕ) (pass : PassState) → get_elem? passes.items w ≡ some pass
             → BelongsTo pass self.now × (pass.view.crew ≡ member_of (run_in self.now) (sees first.view) w ∷ [])
-            × (pass.view.most ≡ first.view.most) × (pass.view.hand ≡ None) × (sees pass.view ≡ sees first.view)) }
+            × (pass.view.most ≡ first.view.most) × (pass.view.hand ≡ None) × (sees pass.view ≡ sees first.view)
+            × (pass ≡ new_pass pass.table pass.view)) }
     {
         let mut first = first;
-        let mut passes = Vec::new(alloc);
+        let mut passes = Vec::new(self.alloc);
         for worker in 1..self.workers {
-            passes.push(self.hand_on(&mut first, worker, turns[worker as usize]))?;
+            passes.push(self.hand_on(&mut first, worker, turns[worker as usize])?)?;
         }
         passes.insert(0, first)?;
         Ok(passes)
     }
 
     /// The second worker that the pass stands for gets a pass of its own.
-    fn hand_on(&self, pass: &mut Pass, worker: u32, turn: u32) -> Pass
+    fn hand_on(&self, pass: &mut Pass, worker: u32, turn: u32) -> Result<Pass, AllocError>
         requires belongs { BelongsTo pass.old self.now }
         requires second { second_alone pass.old.view.crew ≡ record { worker = worker; turn = turn } ∷ [] }
-        ensures left { pass.new ≡ with_view pass.old (parted pass.old.view) }
-        ensures right { result ≡ with_view pass.old (worker_apart pass.old.view) }
+        ensures left { OnOk result (pass.new ≡ with_view pass.old (parted pass.old.view)) }
+        ensures right { IfOk result (λ other. other ≡ new_pass pass.old.table (worker_apart pass.old.view)) }
     {
+        let scratch = Scratch::new(self.alloc, self.places.marks() + 1)?;
         let seat = self.table.shared.split_seat::<HandOn>(&mut pass.seat);
-        Pass {
+        Ok(Pass {
             seat,
             member: Some(Member { worker, turn }),
             hand: None,
-        }
+            scratch,
+        })
     }
 }
 

@@ -1,13 +1,14 @@
-use Rattle.std.proofs.Common.{◌≢◌, ◌<◌, refl, ap, sym, subst, ◌∙◌, arith, le_trans, length}
+use Rattle.std.proofs.Common.{◌≢◌, ◌<◌, inl, inr, refl, ap, sym, subst, ◌∙◌, arith, le_trans, length}
 use Rattle.plan_words.proofs.Claiming.{IfNone-any, IsClaimed-exchanged, KeepsHand-trans, belongs_exchanged, counters_changed, counters_twice}
 use Rattle.plan_words.proofs.Claiming.{claim_nearer, kept_exchanged, loaded_before, loaded_since}
+use Rattle.plan_words.proofs.GoingOn.{GoesOn-more, GoesOn-trans}
 use Rattle.plan_words.proofs.shared.Shared.claim.Goals as goal
 use Rattle.plan_words.specs.Claims.{AllFull, IsOpen, KeepsHand}
 use Rattle.plan_words.specs.States.{worker_of}
 use Rattle.step_core.proofs.LaterViews.{IsLater-refl, IsLater-trans}
 
 pub tries-init : goal.tries-init
-tries-init c = record { belongs = c.requires.belongs; kept = record { crew = refl; most = refl; hand = refl }; later = IsLater-refl c.args.pass.now.view; others = λ name apart. refl }
+tries-init c = record { belongs = c.requires.belongs; kept = record { crew = refl; most = refl; hand = refl }; later = IsLater-refl c.args.pass.now.view; goes_on = inl refl; others = λ name apart. refl }
 
 pub first_open-requires-clause-belongs : goal.first_open-requires-clause-belongs
 first_open-requires-clause-belongs c = c.tries.invariant.belongs
@@ -15,8 +16,8 @@ first_open-requires-clause-belongs c = c.tries.invariant.belongs
 pub first_open-requires-clause-part : goal.first_open-requires-clause-part
 first_open-requires-clause-part c = subst (λ crew. 0 < length crew) (sym c.tries.invariant.kept.crew) c.requires.part
 
-pub returns-in_err-next-clause-later : goal.returns-in_err-next-clause-later
-returns-in_err-next-clause-later c = IsLater-trans _ _ _ c.tries.invariant.later c.first_open.ensures.later
+pub returns-in_err-next-clause-goes_on : goal.returns-in_err-next-clause-goes_on
+returns-in_err-next-clause-goes_on c = GoesOn-more _ _ _ c.tries.invariant.goes_on c.first_open.ensures.goes_on
 
 pub returns-in_err-next-clause-loaded : goal.returns-in_err-next-clause-loaded
 returns-in_err-next-clause-loaded c = loaded_before _ _ c.first_open.new.pass.view c.first_open.ensures.loaded c.tries.invariant.later.steps
@@ -34,15 +35,15 @@ exchange-requires-clause-part c =
 pub exchange-requires-clause-idle : goal.exchange-requires-clause-idle
 exchange-requires-clause-idle c = c.first_open.ensures.kept.hand ∙ c.tries.invariant.kept.hand ∙ c.requires.idle
 
-pub returns-then-exchange-from-clause-later : goal.returns-then-exchange-from-clause-later
-returns-then-exchange-from-clause-later c =
-    IsLater-trans _ _ _ (IsLater-trans _ _ _ c.tries.invariant.later c.first_open.ensures.later) c.exchange.ensures.later
+pub returns-then-exchange-from-clause-goes_on : goal.returns-then-exchange-from-clause-goes_on
+returns-then-exchange-from-clause-goes_on c =
+    GoesOn-trans _ _ _ (GoesOn-more _ _ _ c.tries.invariant.goes_on c.first_open.ensures.goes_on) c.exchange.ensures.goes_on
 
 pub returns-then-exchange-from-clause-loaded : goal.returns-then-exchange-from-clause-loaded
 returns-then-exchange-from-clause-loaded c =
     let loaded = loaded_before _ _ c.first_open.new.pass.view c.first_open.ensures.loaded c.tries.invariant.later.steps in
-    loaded_since _ c.first_open.new.pass.view c.exchange.new.pass.view loaded c.exchange.ensures.later
-    (le_trans c.tries.invariant.later.steps c.first_open.ensures.later.steps)
+    loaded_since _ c.first_open.new.pass.view c.exchange.new.pass.view loaded c.exchange.ensures.goes_on.later
+    (le_trans c.tries.invariant.later.steps c.first_open.ensures.goes_on.later.steps)
 
 pub returns-then-exchange-from-clause-some : goal.returns-then-exchange-from-clause-some
 returns-then-exchange-from-clause-some c =
@@ -51,7 +52,7 @@ returns-then-exchange-from-clause-some c =
     let next = c.in_ok-next.next in
     let open_next = subst (λ crew. IsOpen c.first_open.new.pass.view (worker_of crew) c.args.limit next.strip next.round) kept.kept.crew scan.first in
     IsClaimed-exchanged _ _ _ next.strip next.round c.exchange.result c.args.pass.now.view _ _ (ap (λ s. s.task.scene.strips) c.self.view_is)
-    c.first_open.ensures.belongs (KeepsHand-trans _ _ _ kept.kept c.first_open.ensures.kept) (IsLater-trans _ _ _ kept.later c.first_open.ensures.later)
+    c.first_open.ensures.belongs (KeepsHand-trans _ _ _ kept.kept c.first_open.ensures.kept) (IsLater-trans _ _ _ kept.later c.first_open.ensures.goes_on.later)
     open_next (c.if-exchange-from.true ∙ c.from.ensures) c.exchange.ensures.view c.exchange.ensures.seen
 
 pub tries-smaller : goal.tries-smaller
@@ -61,8 +62,8 @@ tries-smaller c =
     claim_nearer _ next.strip next.round c.exchange.result c.tries.pass.view c.first_open.new.pass c.exchange.new.pass (omega (
       arith,
       scan.first.strip,
-    )) c.first_open.ensures.later
-    c.exchange.ensures.later scan.first (λ e. c.if-exchange-from.false (e ∙ sym c.from.ensures)) c.exchange.ensures.seen
+    )) c.first_open.ensures.goes_on.later
+    c.exchange.ensures.goes_on.later scan.first (λ e. c.if-exchange-from.false (e ∙ sym c.from.ensures)) c.exchange.ensures.seen
 
 pub tries-preserved : goal.tries-preserved
 tries-preserved c =
@@ -72,7 +73,8 @@ tries-preserved c =
       belongs = belongs_exchanged _ _ _ next.strip next.round c.args.limit c.exchange.result other c.exchange.ensures.view c.first_open.ensures.belongs;
       kept = kept_exchanged _ _ _ next.strip next.round c.args.limit c.exchange.result other c.exchange.ensures.view
           (KeepsHand-trans _ _ _ c.tries.invariant.kept c.first_open.ensures.kept);
-      later = IsLater-trans _ _ _ (IsLater-trans _ _ _ c.tries.invariant.later c.first_open.ensures.later) c.exchange.ensures.later;
+      later = IsLater-trans _ _ _ (IsLater-trans _ _ _ c.tries.invariant.later c.first_open.ensures.goes_on.later) c.exchange.ensures.goes_on.later;
+      goes_on = inr (GoesOn-trans _ _ _ (GoesOn-more _ _ _ c.tries.invariant.goes_on c.first_open.ensures.goes_on) c.exchange.ensures.goes_on);
       others = counters_changed _ _ _ _ _ (counters_twice _ _ _ c.tries.invariant.others c.first_open.ensures.others) c.exchange.ensures.seen;
     }
 

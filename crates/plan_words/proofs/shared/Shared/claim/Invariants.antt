@@ -1,5 +1,6 @@
 use Rattle.plan_words.specs.Claims.{KeepsHand}
 use Rattle.plan_words.specs.States.{BelongsTo}
+use Rattle.plan_words.proofs.GoingOn.{HasGoneOn}
 use Rattle.plan_words.proofs.Scanning.{left_over}
 use Rattle.plan_words.proofs.shared.Shared.claim.Given as goal
 use Rattle.step_core.specs.LaterViews.{IsLater}
@@ -12,6 +13,7 @@ invariant-tries l = record {
   belongs : BelongsTo l.pass l.self;
   kept : KeepsHand l.fn.pass.view l.pass.view;
   later : IsLater l.fn.pass.view l.pass.view;
+  goes_on : HasGoneOn l.fn.pass.view l.pass.view;
   others : ChangesOnly IsCounter (sees l.fn.pass.view) (sees l.pass.view);
 }
 

@@ -3,6 +3,8 @@ use Rattle.plan_words.proofs.Owning.{may_finish_here, same_run, same_table}
 use Rattle.plan_words.proofs.Tying.{HasMember-held, entry_fits, turn_fits}
 use Rattle.plan_words.proofs.shared.Shared.finish.Goals as goal
 use Rattle.plan_words.specs.States.{turn_of, worker_of}
+use Rattle.std.specs.Prelude.{IfSome}
+use Rattle.step_core.specs.Stages.{MayBeRecorded}
 use Rattle.step_core.specs.WordNames.Word.{RecordOf}
 use Rattle.step_core.specs.WordPlaces.{place_of}
 
@@ -25,8 +27,9 @@ store-requires c =
     let fits = entry_fits _ c.in-Some.hand _ tied.lawful held by at c.requires.nearest c.requires.last in
     let place = c.record-place.ensures ∙ ap (λ sizes. place_of sizes (RecordOf c.in-Some.hand.mark)) c.self.invariant.places_are in
     let low = subst (λ r. c.in-Some.hand.mark < length r.marks) own (tied.lawful.mark c.in-Some.hand held) in
+    let may = subst (λ o. IfSome o (λ hand. MayBeRecorded hand.stage c.args.entry.outcome)) (ap (λ p. p.view.hand) (sym c.pass.view_is) ∙ held) c.requires.may in
     may_finish_here _ _ _ _ c.self.invariant _ _ _ _ _ c.in-Some.hand has.member has.crew c.args.entry same own place low held has.crew_is fits
-    (by ∙ ap worker_of has.crew_is) (at ∙ ap turn_of has.crew_is) c.pack_mark.ensures
+    (by ∙ ap worker_of has.crew_is) (at ∙ ap turn_of has.crew_is) may c.pack_mark.ensures
 
 pub next_turn-pass-inside-requires : goal.next_turn-pass-inside-requires
 next_turn-pass-inside-requires c =

@@ -1,5 +1,6 @@
-use Rattle.std.proofs.Common.{refl, ap, arith}
+use Rattle.std.proofs.Common.{refl, ap, arith, inl, inr}
 use Rattle.plan_words.proofs.Claiming.{belongs_loaded, best_strip, counters_changed, kept_loaded, loaded_more, scan_ends, scan_more}
+use Rattle.plan_words.proofs.GoingOn.{GoesOn-more}
 use Rattle.plan_words.proofs.shared.Shared.first_open.Goals as goal
 use Rattle.step_core.proofs.LaterViews.{IsLater-refl, IsLater-trans}
 
@@ -8,6 +9,7 @@ loop-strip-init c = record {
   belongs = c.requires.belongs;
   kept = record { crew = refl; most = refl; hand = refl };
   later = IsLater-refl c.args.pass.now.view;
+  goes_on = inl (refl, refl);
   others = λ name apart. refl;
   loaded = λ g low. absurd (omega (arith, low));
   scanned = λ h low. absurd (omega (arith, low));
@@ -28,9 +30,13 @@ loop-strip-preserved c =
     record {
       belongs = belongs_loaded _ _ _ _ _ told.view kept.belongs;
       kept = kept_loaded _ _ _ _ _ told.view kept.kept;
-      later = IsLater-trans _ _ _ kept.later told.later;
+      later = IsLater-trans _ _ _ kept.later told.goes_on.later;
+      goes_on = inr (elim kept.goes_on [
+        | inl none ↦ GoesOn-more _ _ _ (inl none.1) told.goes_on
+        | inr first ↦ GoesOn-more _ _ _ (inr first) told.goes_on
+      ]);
       others = counters_changed _ _ _ _ _ kept.others told.seen;
-      loaded = loaded_more _ _ _ _ kept.loaded told.looked kept.later.steps told.later;
+      loaded = loaded_more _ _ _ _ kept.loaded told.looked kept.later.steps told.goes_on.later;
       scanned = scan_more _ _ _ c.worker.result _ _ _ _ _ _ c.loop-strip.best kept.belongs strips workers c.worker.ensures.number told.view told.seen
           kept.scanned c.better-best.ensures;
     }
@@ -41,8 +47,14 @@ returns-clause-belongs c = c.loop-strip.invariant.belongs
 pub returns-clause-kept : goal.returns-clause-kept
 returns-clause-kept c = c.loop-strip.invariant.kept
 
-pub returns-clause-later : goal.returns-clause-later
-returns-clause-later c = c.loop-strip.invariant.later
+pub returns-clause-goes_on : goal.returns-clause-goes_on
+returns-clause-goes_on c =
+    elim c.loop-strip.invariant.goes_on [
+      | inr goes_on ↦ goes_on
+      | inl none ↦ (
+          let strips = ap (λ s. s.task.scene.strips) c.self.view_is in
+          absurd (omega (arith, none.0, c.loop-strip.auto.strip-end, c.loop-strip-test.false, strips, c.self.invariant.run_is.strips.0)))
+    ]
 
 pub returns-clause-loaded : goal.returns-clause-loaded
 returns-clause-loaded c = λ g low.

@@ -1,6 +1,6 @@
-use Rattle.std.proofs.Common.{None, Some, ap, subst, sym, ◌∙◌}
+use Rattle.std.proofs.Common.{◌+◌, None, Some, ap, subst, sym, ◌∙◌}
 use Rattle.plan_words.proofs.Owning.{may_hand_on_here, same_run, same_table}
-use Rattle.plan_words.proofs.Tying.{IsTied-apart, IsTied-parted}
+use Rattle.plan_words.proofs.Tying.{HasRoom-kept, HasRoom-new, IsTied-apart, IsTied-parted}
 use Rattle.plan_words.proofs.shared.Shared.hand_on.Goals as goal
 use Rattle.plan_words.specs.States.{IsTied}
 use Rattle.step_core.specs.ViewSteps.{second_alone}
@@ -16,13 +16,17 @@ invariant_of-pass c =
     let told = c.split_seat-seat.ensures.2 in (
       ap (λ m. m.1) told ∙ c.pass.invariant.0,
       subst (λ v. IsTied v c.pass.inside.member c.pass.inside.hand) (sym (ap (λ m. m.0) told)) (IsTied-parted _ _ _ c.pass.invariant.1),
+      HasRoom-kept _ _ _ _ _ (ap (λ m. m.0.run) told) c.pass.invariant.2,
     )
 
 pub invariant_of-result : goal.invariant_of-result
 invariant_of-result c =
+    let own = same_run _ _ _ _ c.pass.view_is c.self.view_is c.requires.belongs in
     let told = c.split_seat-seat.ensures.4 in
     let second = ap (λ p. second_alone p.view.crew) c.pass.view_is ∙ c.requires.second in (
       ap (λ m. m.1) told,
       subst (λ v. IsTied v (Some (record { worker = c.args.worker; turn = c.args.turn })) None) (sym (ap (λ m. m.0) told))
           (IsTied-apart _ _ c.pass.invariant.1.lawful second),
+      HasRoom-new c.self.inside.places _ _ _ _ _ _ c.self.invariant.places_are (ap (λ m. m.0.run) told ∙ own) (ap (λ n. n + 1) c.marks.ensures)
+          c.in_ok-scratch.ensures.room,
     )

@@ -8,7 +8,8 @@ pub loop-worker-init : goal.loop-worker-init
 loop-worker-init c =
     let none = c.new-passes.ensures.items in
     record {
-      stands = StandsFor-all c.args.self.now c.args.first (omega (arith, c.requires.some)) c.requires.belongs c.requires.crew c.requires.hand;
+      stands = StandsFor-all c.args.self.now c.args.first (omega (arith, c.requires.some)) c.requires.belongs c.requires.crew c.requires.hand
+          c.requires.lists;
       counted = ap (λ l. length l + 1) none;
       passes = subst (each_after (IsPassOf c.args.self.now c.args.first)) (sym none) (λ i pass e. absurd (some-ne-none pass (sym e)));
     }
@@ -29,14 +30,15 @@ pub loop-worker-preserved : goal.loop-worker-preserved
 loop-worker-preserved c =
     let low : c.loop-worker.worker < c.args.self.now.workers = omega (arith, c.loop-worker-test.true, ap (λ s. s.workers) c.self.view_is) in
     let kept = c.loop-worker.invariant in
-    let told = c.hand_on.ensures in
+    let told = c.in_ok-hand_on.ensures in
+    let other = c.in_ok-hand_on.field-0 in
     let pushed = c.in_ok-push.ensures.items in
-    let own = IsPassOf-next c.args.self.now c.args.first c.loop-worker.worker c.loop-worker.first kept.stands c.hand_on.result low told.right in
+    let own = IsPassOf-next c.args.self.now c.args.first c.loop-worker.worker c.loop-worker.first kept.stands other low told.right in
     record {
       stands = StandsFor-next c.args.self.now c.args.first c.loop-worker.worker c.loop-worker.first kept.stands c.hand_on.new.pass low told.left;
-      counted = omega (arith, ap (λ l. length l) pushed, length-append c.loop-worker.passes.items (c.hand_on.result ∷ []), kept.counted);
+      counted = omega (arith, ap (λ l. length l) pushed, length-append c.loop-worker.passes.items (other ∷ []), kept.counted);
       passes =
-          each_after-push (IsPassOf c.args.self.now c.args.first) c.loop-worker.passes.items c.push.new.self.items c.hand_on.result c.loop-worker.worker
+          each_after-push (IsPassOf c.args.self.now c.args.first) c.loop-worker.passes.items c.push.new.self.items other c.loop-worker.worker
           pushed kept.counted kept.passes own;
     }
 

@@ -7,11 +7,11 @@ pub load-requires : goal.load-requires
 load-requires c =
     let same = same_table _ _ _ _ c.pass.view_is c.self.view_is c.requires in
     let own = same_run _ _ _ _ c.pass.view_is c.self.view_is c.requires in
-    may_load_here _ _ _ _ c.self.invariant _ _ _ _ Count same own tt c.count.ensures
+    may_load_here _ _ _ _ c.self.invariant _ _ _ _ Count same own tt tt c.count.ensures
 
 pub overflow_cast-result : goal.overflow_cast-result
-overflow_cast-result c = omega (arith, count_fits _ _ _ c.pass.invariant.1.lawful c.count.ensures c.load.ensures.2.lawful)
+overflow_cast-result c = omega (arith, count_fits _ _ _ c.pass.invariant.1.lawful c.count.ensures c.load.ensures.2.0.goes_on.lawful)
 
 pub returns-clause-seen : goal.returns-clause-seen
 returns-clause-seen c =
-    sees_told _ _ _ Count _ _ (ap (λ p. p.view) c.pass.view_is) c.pass.invariant.1.lawful tt c.count.ensures c.load.ensures.2.view_is
+    sees_told _ _ _ Count _ _ (ap (λ p. p.view) c.pass.view_is) c.pass.invariant.1.lawful tt c.count.ensures c.load.ensures.2.0.view_is

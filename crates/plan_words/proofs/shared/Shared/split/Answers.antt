@@ -1,8 +1,33 @@
-use Rattle.plan_words.proofs.Owning.{may_look_here, same_run, same_table}
+use Rattle.std.proofs.Common.{◌+◌, None, ap, subst, sym, ◌∙◌}
+use Rattle.plan_words.proofs.Owning.{goes_on_told, may_look_here, same_run, same_table}
+use Rattle.plan_words.proofs.Tying.{GoesOn-stepped, HasRoom-kept, HasRoom-new, IsTied-looker, IsTied-stepped}
 use Rattle.plan_words.proofs.shared.Shared.split.Goals as goal
+use Rattle.plan_words.specs.States.{IsTied}
 
 pub split_seat-seat-requires : goal.split_seat-seat-requires
 split_seat-seat-requires c =
     let same = same_table _ _ _ _ c.pass.view_is c.self.view_is c.requires in
     let own = same_run _ _ _ _ c.pass.view_is c.self.view_is c.requires in
     may_look_here _ _ _ _ c.self.invariant _ _ _ same own
+
+pub invariant_of-result : goal.invariant_of-result
+invariant_of-result c =
+    let own = same_run _ _ _ _ c.pass.view_is c.self.view_is c.requires in
+    let told = c.split_seat-seat.ensures.4 in (
+      ap (λ m. m.1) told,
+      subst (λ v. IsTied v None None) (sym (ap (λ m. m.0) told)) (IsTied-looker _ c.pass.invariant.1.lawful),
+      HasRoom-new c.self.inside.places _ _ _ _ _ _ c.self.invariant.places_are (ap (λ m. m.0.run) told ∙ own) (ap (λ n. n + 1) c.marks.ensures)
+          c.in_ok-scratch.ensures.room,
+    )
+
+pub invariant_of-pass : goal.invariant_of-pass
+invariant_of-pass c =
+    let told = c.split_seat-seat.ensures.2 in (
+      ap (λ m. m.1) told ∙ c.pass.invariant.0,
+      subst (λ v. IsTied v c.pass.inside.member c.pass.inside.hand) (sym (ap (λ m. m.0) told)) (IsTied-stepped _ _ _ c.pass.invariant.1),
+      HasRoom-kept _ _ _ _ _ (ap (λ m. m.0.run) told) c.pass.invariant.2,
+    )
+
+pub returns-clause-goes_on : goal.returns-clause-goes_on
+returns-clause-goes_on c =
+    goes_on_told _ _ _ _ c.pass.view_is (ap (λ m. m.0) c.split_seat-seat.ensures.2) (GoesOn-stepped _ c.pass.invariant.1.lawful)

@@ -1,8 +1,9 @@
-use Rattle.std.proofs.Common.{◌∷◌, [], length, Some, None, sym, ap, ◌∙◌, subst, arith}
+use Rattle.std.proofs.Common.{◌∷◌, ◌+◌, [], length, Some, None, sym, ap, ◌∙◌, subst, arith}
 use Rattle.std.specs.Prelude.{slice_index}
 use Rattle.std.proofs.lemmas.List.{get_or_default}
 use Rattle.plan_model.specs.Turns.{turns_of}
-use Rattle.plan_words.proofs.Dealing.{HoldsWorld-started, IsTied-started, MayClaim-starts, StartsAs-pass}
+use Rattle.plan_words.proofs.Dealing.{HoldsWorld-started, IsTableOf-started, IsTied-started, MayClaim-starts, StartsAs-pass}
+use Rattle.plan_words.proofs.Tying.{HasRoom-new}
 use Rattle.plan_words.proofs.shared.Shared.start.Goals as goal
 use Rattle.plan_words.specs.States.{HoldsWorld, IsTied, PassState, first_view, run_of_opening}
 use Rattle.plan_words.specs.declared.openings.Opening.{Opening}
@@ -29,7 +30,27 @@ invariant_of-first c =
       ap (λ m. m.1) me,
       subst (λ view. IsTied view (Some (record { worker = 0; turn = c.index.result.now })) None) (sym (ap (λ m. m.0) me))
           (IsTied-started opening c.into_words-task.ensures.sized c.into_words-task.ensures.run c.requires.some c.requires.few c.index.result.now counted),
+      HasRoom-new c.of-places.result (run_of_opening opening) _ _ _ _ _ c.of-places.ensures (ap (λ m. m.0.run) me) (ap (λ n. n + 1) c.marks.ensures)
+          c.in_ok-scratch.ensures.room,
     )
+
+pub invariant_of-shared : goal.invariant_of-shared
+invariant_of-shared c =
+    let told = c.into_words-task.result in
+    let opening : Opening = record { task = told.0; workers = c.args.workers; limit = told.1; words = told.2 } in
+    let table = c.in_ok-table.ensures in
+    IsTableOf-started opening c.into_words-task.ensures.sized c.into_words-task.ensures.run c.requires.some c.requires.few
+    c.in_ok-table.table.shared.table_id c.in_ok-table.table.shared.key c.of-places.result _ c.as_slice-2.ensures.value table.0 table.1 table.5
+    c.of-places.ensures
+
+pub invariant_of-shared-2 : goal.invariant_of-shared-2
+invariant_of-shared-2 c =
+    let told = c.into_words-task.result in
+    let opening : Opening = record { task = told.0; workers = c.args.workers; limit = told.1; words = told.2 } in
+    let table = c.in_ok-table.ensures in
+    IsTableOf-started opening c.into_words-task.ensures.sized c.into_words-task.ensures.run c.requires.some c.requires.few
+    c.in_ok-table.table.shared.table_id c.in_ok-table.table.shared.key c.of-places.result _ c.as_slice-2.ensures.value table.0 table.1 table.5
+    c.of-places.ensures
 
 pub hand_out-requires-clause-turns : goal.hand_out-requires-clause-turns
 hand_out-requires-clause-turns c w low =
@@ -45,7 +66,7 @@ pub returns-clause-passes : goal.returns-clause-passes
 returns-clause-passes c w pass e =
     let told = c.into_words-task.ensures in
     let me = c.in_ok-table.ensures.4 in
-    let first : PassState = record { table = c.in_ok-table.seat.table_id; view = c.in_ok-table.seat.me.0 } in
+    let first : PassState = record { table = c.in_ok-table.seat.table_id; view = c.in_ok-table.seat.me.0; spots = []; near = []; around = [] } in
     StartsAs-pass _ c.args.grown first w pass (ap (λ m. sees m.0) me ∙ told.words) (ap (λ m. m.0.most) me
     ∙ told.limit) (c.in_ok-passes.ensures.passes w pass e)
 

@@ -8,7 +8,8 @@ load-requires c =
     let same = same_table _ _ _ _ c.pass.view_is c.self.view_is c.requires.belongs in
     let own = same_run _ _ _ _ c.pass.view_is c.self.view_is c.requires.belongs in
     let strip = subst (λ s. c.args.strip < s.task.scene.strips) (sym c.self.view_is) c.requires.strip in
-    may_load_here _ _ _ _ c.self.invariant _ _ _ _ (Counter c.args.strip) same own strip c.counter-place.ensures
+    let here = subst (λ r. c.args.strip < r.strips) (sym own) strip in
+    may_load_here _ _ _ _ c.self.invariant _ _ _ _ (Counter c.args.strip) same own strip here c.counter-place.ensures
 
 pub overflow_cast-result : goal.overflow_cast-result
 overflow_cast-result c =
@@ -16,14 +17,14 @@ overflow_cast-result c =
     let strip = subst (λ s. c.args.strip < s.task.scene.strips) (sym c.self.view_is) c.requires.strip in
     let here = subst (λ r. c.args.strip < r.strips) (sym own) strip in
     let lawful = c.pass.invariant.1.lawful in
-    omega (arith, counter_most _ _ c.args.strip _ lawful here c.counter-place.ensures c.load.ensures.2.lawful, lawful.run.marks)
+    omega (arith, counter_most _ _ c.args.strip _ lawful here c.counter-place.ensures c.load.ensures.2.0.goes_on.lawful, lawful.run.marks)
 
 pub returns-clause-seen : goal.returns-clause-seen
 returns-clause-seen c =
     let own = same_run _ _ _ _ c.pass.view_is c.self.view_is c.requires.belongs in
     let strip = subst (λ s. c.args.strip < s.task.scene.strips) (sym c.self.view_is) c.requires.strip in
     let here = subst (λ r. c.args.strip < r.strips) (sym own) strip in
-    sees_told _ _ _ (Counter c.args.strip) _ _ (ap (λ p. p.view) c.pass.view_is) c.pass.invariant.1.lawful here c.counter-place.ensures c.load.ensures.2.view_is
+    sees_told _ _ _ (Counter c.args.strip) _ _ (ap (λ p. p.view) c.pass.view_is) c.pass.invariant.1.lawful here c.counter-place.ensures c.load.ensures.2.0.view_is
 
 pub returns-clause-looked : goal.returns-clause-looked
 returns-clause-looked c =
@@ -31,4 +32,4 @@ returns-clause-looked c =
     let strip = subst (λ s. c.args.strip < s.task.scene.strips) (sym c.self.view_is) c.requires.strip in
     let here = subst (λ r. c.args.strip < r.strips) (sym own) strip in
     looks_told _ _ _ (Counter c.args.strip) _ _ (ap (λ p. p.view) c.pass.view_is) c.pass.invariant.1.lawful here
-    c.counter-place.ensures c.load.ensures.2.view_is
+    c.counter-place.ensures c.load.ensures.2.0.view_is

@@ -1,0 +1,24 @@
+-- Steps of a pass, one after another.
+use Rattle.std.proofs.Common.{◌≡◌, ◌⊎◌, inl, inr, subst}
+use Rattle.plan_words.specs.States.{GoesOn}
+use Rattle.step_core.proofs.LaterViews.{IsLater-refl, IsLater-trans}
+use Rattle.step_core.specs.LaterViews.{IsLawfulView}
+use Rattle.step_core.specs.declared.views.View.{View}
+
+pub GoesOn-refl : (view : View) → IsLawfulView view → GoesOn view view
+GoesOn-refl view lawful = record { was_lawful = lawful; later = IsLater-refl view; lawful = lawful }
+
+pub GoesOn-trans : (before mid after : View) → GoesOn before mid → GoesOn mid after → GoesOn before after
+GoesOn-trans before mid after first then = record {
+  was_lawful = first.was_lawful;
+  later = IsLater-trans before mid after first.later then.later;
+  lawful = then.lawful;
+}
+
+-- no step was made yet, or some were
+abbrev pub HasGoneOn : View → View → Type 0
+HasGoneOn before after = (after ≡ before) ⊎ GoesOn before after
+
+pub GoesOn-more : (before mid after : View) → HasGoneOn before mid → GoesOn mid after → GoesOn before after
+GoesOn-more before mid after (inl same) then = subst (λ v. GoesOn v after) same then
+GoesOn-more before mid after (inr first) then = GoesOn-trans before mid after first then

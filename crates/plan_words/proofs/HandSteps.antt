@@ -1,0 +1,174 @@
+-- What a pass keeps and has seen after a step for the mark in its hand.
+use Rattle.std.proofs.Common.{◌≡◌, ◌≢◌, ℕ, zero, suc, ◌<◌, ◌≤◌, ◌^◌, Bool, true, false, [], length, Option, Some, None, inr, refl, sym, ap, ◌∙◌, subst, arith}
+use Rattle.std.specs.Prelude.{◌==◌, cond, IfSome, IsSome, is_some}
+use Rattle.std.proofs.lemmas.Bool.{eqb-true, ne_eqb}
+use Rattle.atomic_table.specs.Table.{Me}
+use Rattle.plan_model.specs.Bounds.{IsBounded}
+use Rattle.plan_words.specs.Nodes.{IsLinkedAt, IsNodeWord}
+use Rattle.plan_words.specs.Plays.{Tells}
+use Rattle.plan_words.specs.States.{HasRoom, IsTied, PassState, first_of, with_view}
+use Rattle.plan_words.specs.declared.openings.Aim.{Aim}
+use Rattle.step_core.specs.GrownWords.{child_of_word}
+use Rattle.step_core.specs.LaterViews.{IsLawfulView}
+use Rattle.step_core.specs.Stages.{has_point}
+use Rattle.step_core.specs.ViewSteps.{counted, linked, linked_at, loaded, place_in, saw_at}
+use Rattle.step_core.specs.ViewTrees.{LeadsTo, SeesNode}
+use Rattle.step_core.specs.Views.{run_sizes, sees, tree_seen}
+use Rattle.step_core.specs.WordNames.{ChangesOnly}
+use Rattle.step_core.specs.WordNames.Word.{ChildOf}
+use Rattle.step_core.specs.Words.{point_of_word}
+use Rattle.step_core.specs.declared.views.Hand.{Hand}
+use Rattle.step_core.specs.declared.views.Member.{Member}
+use Rattle.step_core.specs.declared.views.Stage.TheVariants.{Linked, Pointed}
+use Rattle.step_core.specs.declared.views.View.{View}
+use Rattle.step_core.proofs.LawfulSights.{IsBounded-steered}
+use Rattle.step_core.proofs.LinkedViews.{sees-linked}
+use Rattle.step_core.proofs.PackedWords.{point_of_word-packed}
+use Rattle.step_core.proofs.SeenByViews.{WritesWord-saw}
+use Rattle.step_core.proofs.SeenWords.{point_at-seen}
+use Rattle.plan_words.proofs.LookedNodes.{child_fits, child_seen}
+
+-- what is said of a hand holds of the one that there is
+pub at_hand : (has : Hand → Type 0) (o : Option Hand) (hand : Hand) → o ≡ Some hand → IfSome o has → has hand
+at_hand has o hand is held = subst (λ h. IfSome h has) is held
+
+-- there is one
+pub some_hand : (o : Option Hand) → IsSome o → (hand : Hand) × (o ≡ Some hand)
+some_hand None is = cc
+some_hand (Some hand) is = (hand, refl)
+
+-- the pass keeps what it must after a step that leaves it another hand
+pub keeps_hand :
+    (me after : Me Aim View) (view : View) (member : Option Member) (hand : Option Hand) (next : Hand) (for_spots for_near for_around : ℕ)
+    → Tells me view after → (me.1 ≡ []) × IsTied me.0 member hand × HasRoom me.0.run for_spots for_near for_around → view.run ≡ me.0.run
+    → view.crew ≡ me.0.crew → view.hand ≡ Some next
+    → (after.1 ≡ []) × IsTied after.0 member (Some next) × HasRoom after.0.run for_spots for_near for_around
+keeps_hand me after view member hand next for_spots for_near for_around told (none, tied, room) run crew held = (
+  told.slots ∙ none,
+  record {
+    member_is = tied.member_is ∙ ap first_of (sym (ap (λ v. v.crew) told.view_is ∙ crew));
+    hand_is = sym (ap (λ v. v.hand) told.view_is ∙ held);
+    lawful = subst IsLawfulView (sym told.view_is) told.goes_on.lawful;
+  },
+  subst (λ r. HasRoom r for_spots for_near for_around) (sym (ap (λ v. v.run) told.view_is ∙ run)) room,
+)
+
+-- ---- a link that was tried
+
+module _ (view : View) (hand : Hand) (place point_place found : ℕ) (held : view.hand ≡ Some hand) where
+  abbrev tried : Bool → View
+  tried b = cond b (linked_at view hand place point_place) (saw_at view place found found)
+
+  tried_run : (b : Bool) → (tried b).run ≡ view.run
+  tried_run true = refl
+  tried_run false = refl
+
+  tried_crew : (b : Bool) → (tried b).crew ≡ view.crew
+  tried_crew true = refl
+  tried_crew false = refl
+
+  tried_hand : (b : Bool) → (tried b).hand ≡ Some (cond b (record hand { stage = Linked }) hand)
+  tried_hand true = refl
+  tried_hand false = held
+
+  pub keeps_tried :
+      (me after : Me Aim View) (member : Option Member) (own : Option Hand) (next : Hand) (for_spots for_near for_around : ℕ) → me.0 ≡ view
+      → Tells me (tried (found == 0)) after → (me.1 ≡ []) × IsTied me.0 member own × HasRoom me.0.run for_spots for_near for_around
+      → next ≡ cond (found == 0) (record hand { stage = Linked }) hand
+      → (after.1 ≡ []) × IsTied after.0 member (Some next) × HasRoom after.0.run for_spots for_near for_around
+  keeps_tried me after member own next for_spots for_near for_around same told kept is =
+      keeps_hand me after (tried (found == 0)) member own next for_spots for_near for_around told kept
+      (tried_run (found == 0) ∙ sym (ap (λ v. v.run) same)) (tried_crew (found == 0) ∙ sym (ap (λ v. v.crew) same))
+      (tried_hand (found == 0) ∙ ap Some (sym is))
+
+  -- what was found is 0, or the number of a node
+  pub tried_fits :
+      (n : ℕ) (side : Bool) → IsLawfulView view → SeesNode view n → place ≡ place_in view (ChildOf n side) → IsLawfulView (tried (found == 0))
+      → found < 2 ^ 32
+  tried_fits n side lawful seen at_place lawful_then = by_test (found == 0) refl lawful_then
+    where
+      by_test : (b : Bool) → (found == 0) ≡ b → IsLawfulView (tried b) → found < 2 ^ 32
+      by_test true e then = (let none = eqb-true found 0 e in omega (arith, none))
+      by_test false e then = child_fits view (saw_at view place found found) n side place found lawful seen at_place refl then
+
+-- a node to which a way leads is seen
+pub leads_seen : (view : View) (hand : Hand) (n : ℕ) (side : Bool) → IsLawfulView view → LeadsTo view hand.point n side → SeesNode view n
+leads_seen view hand n side lawful leads = lawful.tree.rooted.points n (ap is_some leads.stands)
+
+-- ---- a link that was made
+
+-- it is counted then
+pub linked_view :
+    (old mid new : PassState) (n : ℕ) (side : Bool) (found : ℕ) → found ≡ 0
+    → IfSome old.view.hand (λ hand. mid ≡ with_view old (cond (found == 0) (linked old.view hand n side) (loaded old.view (ChildOf n side) found)))
+    → IfSome mid.view.hand (λ hand. new ≡ with_view mid (counted mid.view hand))
+    → IfSome old.view.hand (λ hand. new ≡ with_view old (counted (linked old.view hand n side) hand))
+linked_view old mid new n side found none first then = by_hand old.view.hand first
+  where
+    by_hand :
+        (o : Option Hand)
+        → IfSome o (λ hand. mid ≡ with_view old (cond (found == 0) (linked old.view hand n side) (loaded old.view (ChildOf n side) found)))
+        → IfSome o (λ hand. new ≡ with_view old (counted (linked old.view hand n side) hand))
+    by_hand None is = tt
+    by_hand (Some hand) is =
+        let made : mid ≡ with_view old (linked old.view hand n side) =
+        is ∙ ap (λ r. with_view old (cond (r == 0) (linked old.view hand n side) (loaded old.view (ChildOf n side) r))) none in
+        subst (λ m. IfSome m.view.hand (λ h. new ≡ with_view m (counted m.view h))) made then
+
+module _ (view then : View) (hand : Hand) (n : ℕ) (side : Bool) (lawful : IsLawfulView view) (held : view.hand ≡ Some hand)
+    (stage : hand.stage ≡ Pointed) (leads : LeadsTo view hand.point n side) (is : then ≡ counted (linked view hand n side) hand) where
+  within : n ≤ length view.run.marks
+  within = lawful.within n (leads_seen view hand n side lawful leads)
+
+  low : hand.mark < length view.run.marks
+  low = lawful.mark hand held
+
+  bounded : IsBounded hand.point
+  bounded =
+      IsBounded-steered view hand.mark hand.nearest hand.point (lawful.run.points hand.mark)
+      ((lawful.tree.holds hand held).steered_from (ap has_point stage))
+
+  -- it is seen where it stands
+  pub IsLinkedAt-counted : IsLinkedAt then n side hand
+  IsLinkedAt-counted =
+      let shows = sees-linked view.run view lawful.of_run hand n side within low in
+      subst (λ v. IsLinkedAt v n side hand) (sym is) (record {
+        child = ap child_of_word shows.child;
+        point =
+            point_at-seen (run_sizes view.run) (sees (linked view hand n side)) (suc hand.mark) (omega (arith, low))
+            ∙ ap point_of_word shows.point ∙ point_of_word-packed hand.point bounded;
+        counted = refl;
+      })
+
+  -- and nothing else is seen anew
+  pub ChangesOnly-linked : ChangesOnly IsNodeWord (sees view) (sees then)
+  ChangesOnly-linked name other =
+      let shows = sees-linked view.run view lawful.of_run hand n side within low in
+      ap (λ v. sees v name) is
+      ∙ shows.others name (λ e. other (subst IsNodeWord (sym e) tt)) (λ e. other (subst IsNodeWord (sym e) tt))
+
+-- ---- a link that met a child
+
+pub met_view :
+    (old mid : PassState) (hand : Hand) (n : ℕ) (side : Bool) (found : ℕ) → found ≢ 0
+    → mid ≡ with_view old (cond (found == 0) (linked old.view hand n side) (loaded old.view (ChildOf n side) found))
+    → mid.view ≡ loaded old.view (ChildOf n side) found
+met_view old mid hand n side found some_child is =
+    ap (λ p. p.view) is ∙ ap (λ b. cond b (linked old.view hand n side) (loaded old.view (ChildOf n side) found)) (ne_eqb found 0 some_child)
+
+module _
+    (view then : View) (n : ℕ) (side : Bool) (c : ℕ) (lawful : IsLawfulView view) (seen : SeesNode view n) (some_child : c ≢ 0)
+    (is : then ≡ loaded view (ChildOf n side) c) where
+  pub child_met : ((tree_seen then).child n side ≡ Some c) × SeesNode then c
+  child_met = by_word c refl some_child
+    where
+      by_word : (word : ℕ) → c ≡ word → word ≢ 0 → ((tree_seen then).child n side ≡ Some word) × SeesNode then word
+      by_word zero e some_word = absurd (some_word refl)
+      by_word (suc m) e some_word =
+          let child = child_seen view then n side (place_in view (ChildOf n side)) c lawful seen refl is ∙ ap child_of_word e in
+          (child, inr (n, side, child))
+
+  pub ChangesOnly-met : ChangesOnly IsNodeWord (sees view) (sees then)
+  ChangesOnly-met name other =
+      ap (λ v. sees v name) is
+      ∙ (WritesWord-saw view.run view lawful.of_run (ChildOf n side) (lawful.within n seen) c c).others name (λ e. other (subst IsNodeWord (sym e) tt))

@@ -1,0 +1,92 @@
+-- What a pass has seen of a node after it has loaded a word of it.
+use Rattle.std.proofs.Common.{◌≡◌, ℕ, zero, suc, ◌<◌, ◌≤◌, ◌^◌, Bool, length, Some, inr, refl, sym, ap, ◌∙◌, subst, arith}
+use Rattle.std.specs.Prelude.{MatchOption, unwrap_or}
+use Rattle.plan_words.specs.Plays.{FindsPoint}
+use Rattle.step_core.specs.GrownWords.{child_of_word}
+use Rattle.step_core.specs.LaterViews.{IsLawfulView}
+use Rattle.step_core.specs.PlacesOfWords.{sizes_in}
+use Rattle.step_core.specs.ViewSteps.{place_in, saw, saw_at}
+use Rattle.step_core.specs.ViewTrees.{SeesNode, SeesPoint}
+use Rattle.step_core.specs.Views.{last_zero, run_sizes, sees, tree_seen}
+use Rattle.step_core.specs.WordNames.{Word}
+use Rattle.step_core.specs.WordNames.Word.{ChildOf, PointOf}
+use Rattle.step_core.specs.WordPlaces.{place_of}
+use Rattle.step_core.specs.Words.{point_in, point_of_word}
+use Rattle.step_core.specs.declared.views.SharedRun.{SharedRun}
+use Rattle.step_core.specs.declared.views.View.{View}
+use Rattle.step_core.specs.declared.word_places.WordPlaces.{WordPlaces}
+use Rattle.step_core.proofs.ReadWords.{if_written-set}
+use Rattle.step_core.proofs.SeenByViews.{WritesWord-saw, WritesWord-zero}
+use Rattle.step_core.proofs.SeenWords.{point_at-seen}
+
+-- the number of a seen node is one of the run's
+pub seen_low : (view : View) (run : SharedRun) (node : ℕ) → IsLawfulView view → view.run ≡ run → SeesNode view node → node ≤ length run.marks
+seen_low view run node lawful own seen = subst (λ r. node ≤ length r.marks) own (lawful.within node seen)
+
+-- the place of a word, by what the tree keeps of places
+pub place_here :
+    (places : WordPlaces) (run : SharedRun) (view : View) (name : Word) (place : ℕ) → sizes_in places ≡ run_sizes run → view.run ≡ run
+    → place ≡ place_of (sizes_in places) name → place ≡ place_in view name
+place_here places run view name place same own is = is ∙ ap (λ s. place_of s name) same ∙ ap (λ r. place_of (run_sizes r) name) (sym own)
+
+-- the word of a child that is read
+pub unwrap_or-child : (word : ℕ) → unwrap_or (child_of_word word) 0 ≡ word
+unwrap_or-child zero = refl
+unwrap_or-child (suc n) = refl
+
+-- ---- children
+
+module _
+    (view then : View) (node : ℕ) (side : Bool) (place x : ℕ) (lawful : IsLawfulView view) (seen : SeesNode view node)
+    (at_place : place ≡ place_in view (ChildOf node side)) (is : then ≡ saw_at view place x x) where
+  then_child : then ≡ saw view (ChildOf node side) x x
+  then_child = is ∙ ap (λ n. saw_at view n x x) at_place
+
+  child_word : sees then (ChildOf node side) ≡ x
+  child_word =
+      ap (λ v. sees v (ChildOf node side)) then_child
+      ∙ (WritesWord-saw view.run view lawful.of_run (ChildOf node side) (lawful.within node seen) x x).here
+
+  pub child_seen : (tree_seen then).child node side ≡ child_of_word x
+  child_seen = ap child_of_word child_word
+
+  -- It is seen, or there was none at this step.
+  pub child_found : MatchOption (child_of_word x) (view.steps < last_zero then (ChildOf node side))
+      (λ c. ((tree_seen then).child node side ≡ Some c) × SeesNode then c)
+  child_found = by_word x refl
+    where
+      by_word : (word : ℕ) → x ≡ word
+          → MatchOption (child_of_word word) (view.steps < last_zero then (ChildOf node side)) (λ c. ((tree_seen then).child node side ≡ Some c) × SeesNode then c)
+      by_word zero e =
+          let looked = ap (λ v. last_zero v (ChildOf node side)) (then_child ∙ ap (λ n. saw view (ChildOf node side) n n) e)
+          ∙ (WritesWord-zero view.run view lawful.of_run (ChildOf node side) (lawful.within node seen) 0).here in
+          omega (arith, looked)
+      by_word (suc n) e =
+          let child = child_seen ∙ ap child_of_word e in
+          (child, inr (node, side, child))
+
+  -- so its number is one of the run's
+  pub child_fits : IsLawfulView then → x < 2 ^ 32
+  child_fits lawful_then = by_word x refl
+    where
+      by_word : (word : ℕ) → x ≡ word → word < 2 ^ 32
+      by_word zero e = omega arith
+      by_word (suc n) e =
+          let low = lawful_then.within (suc n) (inr (node, side, child_seen ∙ ap child_of_word e)) in
+          omega (arith, low, lawful_then.run.marks)
+
+-- ---- points
+
+module _
+    (view then : View) (node place x : ℕ) (lawful : IsLawfulView view) (seen : SeesNode view node) (at_place : place ≡ place_in view (PointOf node))
+    (is : then ≡ saw_at view place x x) (written : FindsPoint view place x) where
+  pub point_word_seen : sees then (PointOf node) ≡ x
+  point_word_seen =
+      ap (λ v. sees v (PointOf node)) (is ∙ ap (λ n. saw_at view n x x) at_place)
+      ∙ (WritesWord-saw view.run view lawful.of_run (PointOf node) (lawful.within node seen) x x).here
+
+  pub point_found : SeesPoint then node (point_in x)
+  point_found =
+      let within = subst (λ v. node ≤ length v.run.marks) (sym is) (lawful.within node seen) in
+      point_at-seen (run_sizes then.run) (sees then) node within
+      ∙ ap point_of_word point_word_seen ∙ if_written-set x (point_in x) (written node seen at_place)

@@ -1,0 +1,197 @@
+//! The steps on nodes: a pass looks at the children and the points of nodes that it has seen, writes the point of the node in
+//! its hand, links that into the kd-tree, and counts it.
+
+ghost use Rattle.std.specs.Prelude.{◌≡◌, ◌≢◌, ℕ, suc, ◌+◌, ◌<◌, ◌≤◌, ◌^◌, ◌==◌, if◌then◌else◌, IfErr, IfOk, IfSome, IsSome, MatchOption, Some, length, unwrap_or};
+ghost use Rattle.plan_model.specs.Bounds.{IsBounded};
+ghost use Rattle.plan_words.specs.Nodes.{IsLinkedAt, IsNodeWord, LeadsOn};
+ghost use Rattle.plan_words.specs.States.{BelongsTo, GoesOn, with_view};
+ghost use Rattle.step_core.specs.GrownWords.{child_of_word};
+ghost use Rattle.step_core.specs.ViewSteps.{counted, linked, loaded, pointed};
+ghost use Rattle.step_core.specs.ViewTrees.{IsSteered, LeadsTo, SeesNode, SeesPoint, sight_in};
+ghost use Rattle.step_core.specs.Views.{sees, tree_seen};
+ghost use Rattle.step_core.specs.WordNames.{ChangesOnly, WritesWord};
+ghost use Rattle.step_core.specs.WordNames.Word.{ChildOf, PointOf};
+ghost use Rattle.step_core.specs.declared.views.Stage.TheVariants.{Claimed, Counted, Linked, Pointed};
+
+use crate::passes::Pass;
+use crate::rules::{Count, Link, Load, SteeredFrom, WritePoint};
+use crate::shared::Shared;
+use plan_model::Point;
+use std::marker::Brand;
+use step_core::{Hand, Stage, pack_point, point_in};
+
+impl Shared {
+    /// The child of a node on its left or its right, or `None` if there was none at this step. The pass has then seen the child.
+    pub fn child(&self, pass: &mut Pass, node: u32, right: bool) -> Option<u32>
+        requires belongs { BelongsTo pass.old self.now }
+        requires seen_node { SeesNode pass.old.view node }
+        ensures view { pass.new ≡ with_view pass.old (loaded pass.old.view (ChildOf node right) (unwrap_or result 0)) }
+        ensures goes_on { GoesOn pass.old.view pass.new.view }
+        // this word is seen as it was found, all others as before
+        ensures seen { WritesWord (ChildOf node right) (unwrap_or result 0) (sees pass.old.view) (sees pass.new.view) }
+        ensures found { MatchOption result (pass.old.view.steps < (sight_in pass.new.view).found_empty node right)
+            (λ c. ((tree_seen pass.new.view).child node right ≡ Some c) × SeesNode pass.new.view c) }
+    {
+        let seat = &mut pass.seat;
+        let place = self.places.child(node as usize, right);
+        child_in(self.table.shared.load::<Load>(seat, place))
+    }
+
+    /// The point of a node.
+    pub fn point(&self, pass: &mut Pass, node: u32) -> Point
+        requires belongs { BelongsTo pass.old self.now }
+        requires seen_node { SeesNode pass.old.view node }
+        ensures view { pass.new ≡ with_view pass.old (loaded pass.old.view (PointOf node) (sees pass.new.view (PointOf node))) }
+        ensures goes_on { GoesOn pass.old.view pass.new.view }
+        // all other words are seen as before
+        ensures seen { WritesWord (PointOf node) (sees pass.new.view (PointOf node)) (sees pass.old.view) (sees pass.new.view) }
+        ensures found { SeesPoint pass.new.view node result }
+        ensures bounded { IsBounded result }
+    {
+        let seat = &mut pass.seat;
+        let place = self.places.point(node as usize);
+        point_in(self.table.shared.load::<Load>(seat, place))
+    }
+
+    /// Writes the point of the node in hand, which is a step from a node that the pass has seen towards the mark.
+    pub fn write_point(&self, pass: &mut Pass, nearest: u32, p: Point)
+        requires belongs { BelongsTo pass.old self.now }
+        requires hand { IsSome pass.old.view.hand }
+        requires claimed { IfSome pass.old.view.hand (λ hand. hand.stage ≡ Claimed) }
+        requires steered { IfSome pass.old.view.hand (λ hand. IsSteered pass.old.view hand.mark nearest p) }
+        ensures view { IfSome pass.old.view.hand (λ hand. pass.new ≡ with_view pass.old (pointed pass.old.view hand nearest p)) }
+        ensures goes_on { GoesOn pass.old.view pass.new.view }
+    {
+        self.store_point::<Brand>(pass, nearest, p);
+    }
+
+    /// Stores the word of that point. The proof alone is told which node it was steered from.
+    fn store_point<S: SteeredFrom>(&self, pass: &mut Pass, nearest: u32, p: Point)
+        requires belongs { BelongsTo pass.old self.now }
+        requires hand { IsSome pass.old.view.hand }
+        requires claimed { IfSome pass.old.view.hand (λ hand. hand.stage ≡ Claimed) }
+        requires steered { IfSome pass.old.view.hand (λ hand. IsSteered pass.old.view hand.mark nearest p) }
+        requires told_nearest { S.nearest ≡ nearest }
+        requires told_point { S.point ≡ p }
+        ensures view { IfSome pass.old.view.hand (λ hand. pass.new ≡ with_view pass.old (pointed pass.old.view hand nearest p)) }
+        ensures goes_on { GoesOn pass.old.view pass.new.view }
+    {
+        let Some(hand) = pass.hand else {
+            unreachable!()
+        };
+        let place = self.places.point(hand.mark as usize + 1);
+        self.table
+            .shared
+            .store::<WritePoint<S>>(&mut pass.seat, place, pack_point(p));
+        pass.hand = Some(Hand {
+            mark: hand.mark,
+            stage: Stage::Pointed,
+            nearest,
+            point: p,
+        });
+    }
+
+    /// Links the node in hand as a child of another, if there is none on that side, and counts it. The way of its point leads
+    /// there over what the pass has seen.
+    ///
+    /// # Errors
+    ///
+    /// The child that is there. The pass has then seen it.
+    pub fn link(&self, pass: &mut Pass, node: u32, right: bool) -> Result<(), u32>
+        requires belongs { BelongsTo pass.old self.now }
+        requires hand { IsSome pass.old.view.hand }
+        requires pointed { IfSome pass.old.view.hand (λ hand. hand.stage ≡ Pointed) }
+        requires leads { IfSome pass.old.view.hand (λ hand. LeadsTo pass.old.view hand.point node right) }
+        ensures view { IfOk result (λ _. IfSome pass.old.view.hand (λ hand. pass.new ≡ with_view pass.old (counted (linked pass.old.view hand node right) hand))) }
+        ensures goes_on { GoesOn pass.old.view pass.new.view }
+        ensures linked { IfOk result (λ _. IfSome pass.old.view.hand (λ hand. IsLinkedAt pass.new.view node right hand)) }
+        ensures view_found { IfErr result (λ c. pass.new ≡ with_view pass.old (loaded pass.old.view (ChildOf node right) c)) }
+        ensures found { IfErr result (λ c. ((tree_seen pass.new.view).child node right ≡ Some c) × SeesNode pass.new.view c) }
+        // the way leads on to the node, or to the child that is there: a try that fails takes it a step deeper
+        ensures on_way { IfOk result (λ _. IfSome pass.old.view.hand (λ hand. LeadsOn pass.old.view pass.new.view hand.point node right (suc hand.mark))) }
+        ensures deeper { IfErr result (λ c. IfSome pass.old.view.hand (λ hand. LeadsOn pass.old.view pass.new.view hand.point node right c)) }
+        // nothing is seen anew but a child and a point
+        ensures others { ChangesOnly IsNodeWord (sees pass.old.view) (sees pass.new.view) }
+    {
+        let child = self.put(pass, node, right);
+        if child != 0 {
+            return Err(child);
+        }
+        self.count(pass);
+        Ok(())
+    }
+
+    /// Puts the node in hand into a child word if that is empty. Returns what the word was.
+    fn put(&self, pass: &mut Pass, node: u32, right: bool) -> u32
+        requires belongs { BelongsTo pass.old self.now }
+        requires hand { IsSome pass.old.view.hand }
+        requires pointed { IfSome pass.old.view.hand (λ hand. hand.stage ≡ Pointed) }
+        requires leads { IfSome pass.old.view.hand (λ hand. LeadsTo pass.old.view hand.point node right) }
+        ensures view { IfSome pass.old.view.hand (λ hand. pass.new ≡ with_view pass.old
+            (if result == 0 then linked pass.old.view hand node right else loaded pass.old.view (ChildOf node right) result)) }
+        ensures goes_on { GoesOn pass.old.view pass.new.view }
+    {
+        let Some(hand) = pass.hand else {
+            unreachable!()
+        };
+        let place = self.places.child(node as usize, right);
+        let found = self
+            .table
+            .shared
+            .compare_exchange::<Link>(&mut pass.seat, place, 0, u64::from(hand.mark + 1));
+        pass.hand = Some(after_link(hand, found));
+        found as u32
+    }
+
+    /// Counts the linked node in hand.
+    fn count(&self, pass: &mut Pass)
+        requires belongs { BelongsTo pass.old self.now }
+        requires hand { IsSome pass.old.view.hand }
+        requires linked { IfSome pass.old.view.hand (λ hand. hand.stage ≡ Linked) }
+        ensures view { IfSome pass.old.view.hand (λ hand. pass.new ≡ with_view pass.old (counted pass.old.view hand)) }
+        ensures goes_on { GoesOn pass.old.view pass.new.view }
+    {
+        let Some(hand) = pass.hand else {
+            unreachable!()
+        };
+        let _count = self
+            .table
+            .shared
+            .fetch_add::<Count>(&mut pass.seat, self.places.count(), 1);
+        pass.hand = Some(at_stage(hand, Stage::Counted));
+    }
+}
+
+/// The child that a word names.
+fn child_in(word: u64) -> Option<u32>
+    requires { word < 2 ^ 32 }
+    ensures { result ≡ child_of_word word }
+{
+    if word == 0 {
+        return None;
+    }
+    Some(word as u32)
+}
+
+/// The hand after a link was tried, by what the word was.
+fn after_link(hand: Hand, found: u64) -> Hand
+    ensures { result ≡ (if found == 0 then record hand { stage = Linked } else hand) }
+{
+    if found == 0 {
+        at_stage(hand, Stage::Linked)
+    } else {
+        hand
+    }
+}
+
+/// The hand, which has come so far.
+fn at_stage(hand: Hand, stage: Stage) -> Hand
+    ensures { result ≡ record hand { stage = stage } }
+{
+    Hand {
+        mark: hand.mark,
+        stage,
+        nearest: hand.nearest,
+        point: hand.point,
+    }
+}

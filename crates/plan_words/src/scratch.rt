@@ -1,0 +1,136 @@
+//! The scratch lists of a pass. Searches keep there what is left to visit, and what they found.
+//!
+//! They are taken when the pass is made, with room for each node of the run, so that no search takes memory.
+
+ghost use Rattle.std.specs.Prelude.{◌≡◌, ℕ, ◌<◌, ◌≤◌, ◌+◌, ◌++◌, ◌∷◌, [], IfOk, IsPermutation, None, Some, length, option_to_list, slice_get};
+ghost use Rattle.std.specs.List.Sorted.{IsNonDecreasing};
+ghost use Rattle.std.specs.Vec.{vec_capacity};
+ghost use Rattle.step_core.specs.LaterViews.{IsLawfulView};
+
+use crate::passes::Pass;
+use plan_model::Point;
+use std::alloc::{AllocError, Global};
+
+/// A node that a search is to visit. A search reads of `gap` and `point` what it has written itself.
+#[derive(Clone, Copy)]
+pub struct Spot {
+    /// The number of the node.
+    pub node: u32,
+    /// Whether it stands at an odd depth, so that its children are split by row, or by column.
+    pub by_rows: bool,
+    /// Of a search for the nearest node: how far the line that splits it off is.
+    pub gap: u32,
+    /// Of a search for near nodes: the point of the node.
+    pub point: Point,
+}
+
+/// The lists.
+#[derive(Drop)]
+pub(crate) struct Scratch {
+    pub(crate) spots: Vec<Spot>,
+    pub(crate) near: Vec<u32>,
+    pub(crate) around: Vec<u32>,
+}
+
+impl Scratch {
+    /// Empty lists with room for so many nodes.
+    pub(crate) fn new(alloc: Global, nodes: usize) -> Result<Scratch, AllocError>
+        ensures empty { IfOk result (λ lists. (lists.spots.items ≡ []) × (lists.near.items ≡ []) × (lists.around.items ≡ [])) }
+        ensures room { IfOk result (λ lists. (nodes ≤ vec_capacity lists.spots) × (nodes ≤ vec_capacity lists.near) × (nodes ≤ vec_capacity lists.around)) }
+    {
+        Ok(Scratch {
+            spots: Vec::with_capacity(alloc, nodes)?,
+            near: Vec::with_capacity(alloc, nodes)?,
+            around: Vec::with_capacity(alloc, nodes)?,
+        })
+    }
+}
+
+impl Pass {
+    /// Empties the list of spots.
+    pub fn clear_spots(&mut self)
+        ensures spots { self.new ≡ record self.old { spots = [] } }
+        // what the law says of a view holds of that of each pass
+        ensures lawful { IsLawfulView self.new.view }
+    {
+        self.scratch.spots.clear();
+    }
+
+    /// Puts a spot at the end of the list.
+    pub fn push_spot(&mut self, spot: Spot)
+        requires { length self.old.spots < length self.old.view.run.marks + 1 }
+        ensures { self.new ≡ record self.old { spots = self.old.spots ++ spot ∷ [] } }
+    {
+        self.scratch.spots.push_reserved(spot);
+    }
+
+    /// Takes the last spot off the list.
+    pub fn pop_spot(&mut self) -> Option<Spot>
+        ensures others { self.new ≡ record self.old { spots = self.new.spots } }
+        ensures popped { self.old.spots ≡ self.new.spots ++ option_to_list result }
+        ensures none { result ≡ None → self.old.spots ≡ [] }
+    {
+        self.scratch.spots.pop()
+    }
+
+    /// The spot at this index of the list.
+    pub fn spot(&self, index: usize) -> Spot
+        requires { index < length self.now.spots }
+        ensures { slice_get self.now.spots index ≡ Some result }
+    {
+        self.scratch.spots[index]
+    }
+
+    /// How many spots are on the list.
+    pub fn spot_count(&self) -> usize
+        ensures { result ≡ length self.now.spots }
+    {
+        self.scratch.spots.len()
+    }
+
+    /// Empties the near list.
+    pub fn clear_near(&mut self)
+        ensures near { self.new ≡ record self.old { near = [] } }
+        ensures lawful { IsLawfulView self.new.view }
+    {
+        self.scratch.near.clear();
+    }
+
+    /// Puts a node at the end of the near list.
+    pub fn push_near(&mut self, node: u32)
+        requires { length self.old.near < length self.old.view.run.marks + 1 }
+        ensures { self.new ≡ record self.old { near = self.old.near ++ node ∷ [] } }
+    {
+        self.scratch.near.push_reserved(node);
+    }
+
+    /// Sorts the near list in rising number.
+    pub fn sort_near(&mut self)
+        ensures others { self.new ≡ record self.old { near = self.new.near } }
+        ensures same { IsPermutation self.old.near self.new.near }
+        ensures rising { IsNonDecreasing self.new.near }
+    {
+        self.scratch.near.sort_unstable();
+    }
+
+    /// The near list.
+    pub fn near_list(&self) -> &[u32]
+        ensures { result.now ≡ self.now.near }
+    {
+        self.scratch.near.as_slice()
+    }
+
+    /// The second list of nodes.
+    pub fn around_list(&self) -> &[u32]
+        ensures { result.now ≡ self.now.around }
+    {
+        self.scratch.around.as_slice()
+    }
+
+    /// The near list and the second list change places.
+    pub fn swap_lists(&mut self)
+        ensures { self.new ≡ record self.old { near = self.old.around; around = self.old.near } }
+    {
+        std::mem::swap(&mut self.scratch.near, &mut self.scratch.around);
+    }
+}
