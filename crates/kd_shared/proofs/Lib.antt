@@ -1,0 +1,16 @@
+pub mod DistinctNumbers
+pub mod Walking
+pub mod SplitSides
+pub mod Searching
+pub mod VisitedOnce
+pub mod LoadedChildren
+pub mod NearestSearch
+pub mod SortedNear
+pub mod NearSearch
+pub mod SearchResults
+pub mod Looking
+pub mod PassLooks
+pub mod Finding
+pub mod PlacedNodes
+pub mod NearestPasses
+pub mod NearPasses

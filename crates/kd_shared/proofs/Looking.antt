@@ -1,0 +1,160 @@
+-- What calls that look at nodes leave of a pass, one after another, and what they show of it.
+use Rattle.std.proofs.Common.{◌≡◌, ℕ, ◌<◌, ◌≤◌, Bool, Option, Some, None, is_some, length, arith, refl, sym, ap, ◌∙◌, subst, inl, inr}
+use Rattle.std.specs.Prelude.{◌≢◌, MatchOption}
+use Rattle.std.proofs.lemmas.Bool.{cases_lt}
+use Rattle.plan_model.specs.declared.geometry.Point.{Point}
+use Rattle.plan_model.specs.PointsByNumber.{point_at}
+use Rattle.plan_model.specs.Sights.{IsLaterMoment, KeepsSight}
+use Rattle.plan_model.proofs.SeenTreeLaws.{IsSeen-more}
+use Rattle.plan_words.specs.Nodes.{IsNodeWord}
+use Rattle.plan_words.specs.States.{BelongsTo, GoesOn, PassState, SharedState}
+use Rattle.step_core.specs.LaterViews.{IsLater, IsLawfulView}
+use Rattle.step_core.specs.SeenWords.{seen_tree_of_words}
+use Rattle.step_core.specs.ViewSteps.{loaded}
+use Rattle.step_core.specs.ViewTrees.{SeesNode, SeesPoint, sight_in}
+use Rattle.step_core.specs.Views.{run_sizes, sees, tree_seen}
+use Rattle.step_core.specs.WordNames.{ChangesOnly, Word, Words}
+use Rattle.step_core.specs.WordNames.Word.{ChildOf, PointOf}
+use Rattle.step_core.specs.WordPlaces.{Sizes}
+use Rattle.step_core.specs.Words.{point_of_word}
+use Rattle.step_core.specs.declared.views.View.{View}
+use Rattle.step_core.proofs.LaterViews.{IsLater-refl, IsLater-trans}
+use Rattle.step_core.proofs.LawfulSights.{IsLaterMoment-later, KeepsSight-lawful}
+use Rattle.step_core.proofs.SeenWords.{point_at-seen, seen-within}
+use Rattle.kd_shared.specs.Loads.{FindsChild, LoadsChild, LoadsPoint}
+use Rattle.kd_shared.specs.Looking.{GoesOnLooking, OnlyLooks}
+
+-- ---- one after another
+
+pub GoesOn-trans : (before mid after : View) → GoesOn before mid → GoesOn mid after → GoesOn before after
+GoesOn-trans before mid after one other = record {
+  was_lawful = one.was_lawful;
+  later = IsLater-trans before mid after one.later other.later;
+  lawful = other.lawful;
+}
+
+pub GoesOnLooking-trans : (before mid after : View) → GoesOnLooking before mid → GoesOnLooking mid after → GoesOnLooking before after
+GoesOnLooking-trans before mid after one other = record {
+  goes_on = GoesOn-trans before mid after one.goes_on other.goes_on;
+  others = λ name k. other.others name k ∙ one.others name k;
+}
+
+pub OnlyLooks-trans : (before mid after : View) → OnlyLooks before mid → OnlyLooks mid after → OnlyLooks before after
+OnlyLooks-trans before mid after one other = record {
+  looks = GoesOnLooking-trans before mid after one.looks other.looks;
+  kept = record {
+    crew = other.kept.crew ∙ one.kept.crew;
+    most = other.kept.most ∙ one.kept.most;
+    hand = other.kept.hand ∙ one.kept.hand;
+  };
+}
+
+pub OnlyLooks-refl : (view : View) → IsLawfulView view → OnlyLooks view view
+OnlyLooks-refl view lawful = record {
+  looks = record {
+    goes_on = record { was_lawful = lawful; later = IsLater-refl view; lawful = lawful };
+    others = λ name k. refl;
+  };
+  kept = record { crew = refl; most = refl; hand = refl };
+}
+
+-- the pass stays that of the same tree
+pub BelongsTo-later : (shared : SharedState) (before after : PassState) → after.table ≡ before.table → IsLater before.view after.view
+    → BelongsTo before shared → BelongsTo after shared
+BelongsTo-later shared before after same later h = record { table = same ∙ h.table; run = later.run ∙ h.run }
+
+-- ---- one load
+
+-- a step that shows no word but that of a child or of a point
+pub OnlyLooks-loaded : (before after : View) (name : Word) (word : ℕ) → after ≡ loaded before name word → GoesOn before after
+    → ChangesOnly IsNodeWord (sees before) (sees after) → OnlyLooks before after
+OnlyLooks-loaded before after name word is goes_on others = record {
+  looks = record { goes_on = goes_on; others = others };
+  kept = record {
+    crew = ap (λ (v : View). v.crew) is;
+    most = ap (λ (v : View). v.most) is;
+    hand = ap (λ (v : View). v.hand) is;
+  };
+}
+
+-- points that are seen by the same words are the same
+point_at-same : (sizes : Sizes) (one other : Words) (n : ℕ) → one (PointOf n) ≡ other (PointOf n)
+    → point_at (seen_tree_of_words sizes one).points n ≡ point_at (seen_tree_of_words sizes other).points n
+point_at-same sizes one other n same =
+    elim (cases_lt sizes.marks n) [
+      | inl past ↦ is_none one past ∙ sym (is_none other past)
+      | inr within ↦ point_at-seen sizes one n within ∙ ap point_of_word same ∙ sym (point_at-seen sizes other n within)
+    ]
+  where
+    is_none : (seen : Words) → sizes.marks < n → point_at (seen_tree_of_words sizes seen).points n ≡ None
+    is_none seen past = by_point (point_at (seen_tree_of_words sizes seen).points n) refl
+      where
+        by_point : (o : Option Point) → point_at (seen_tree_of_words sizes seen).points n ≡ o → point_at (seen_tree_of_words sizes seen).points n ≡ None
+        by_point None e = e
+        by_point (Some p) e = absurd (omega (arith, past, seen-within sizes seen n (ap is_some e)))
+
+pub point_at-kept : (before after : View) (n : ℕ) → IsLater before after → sees after (PointOf n) ≡ sees before (PointOf n)
+    → point_at (tree_seen after).points n ≡ point_at (tree_seen before).points n
+point_at-kept before after n later same =
+    point_at-same (run_sizes after.run) (sees after) (sees before) n same
+    ∙ ap (λ run. point_at (seen_tree_of_words (run_sizes run) (sees before)).points n) later.run
+
+module _ (before after : View) (n : ℕ) (goes_on : GoesOn before after) where
+  pub later_moment : IsLaterMoment (sight_in before) (sight_in after)
+  later_moment = IsLaterMoment-later before after goes_on.later
+
+  pub keeps_sight : KeepsSight (sight_in after)
+  keeps_sight = KeepsSight-lawful after goes_on.lawful
+
+  pub LoadsPoint-point : (p : Point) → SeesPoint after n p → ((other : Word) → other ≢ PointOf n → sees after other ≡ sees before other)
+      → LoadsPoint (sight_in before) (sight_in after) n p
+  LoadsPoint-point p found others = record {
+    later = later_moment;
+    keeps = keeps_sight;
+    stands = found;
+    others = λ m apart. point_at-kept before after m goes_on.later (others (PointOf m) (λ same. apart (node_of same)));
+  }
+    where
+      node_in : Word → ℕ
+      node_in (PointOf m) = m
+      node_in _ = 0
+
+      node_of : {m : ℕ} → PointOf m ≡ PointOf n → m ≡ n
+      node_of same = ap node_in same
+
+  pub LoadsChild-child : (side : Bool) (result : Option ℕ)
+      → MatchOption result (before.steps < (sight_in after).found_empty n side) (λ c. ((tree_seen after).child n side ≡ Some c) × SeesNode after c)
+      → ((other : Word) → other ≢ ChildOf n side → sees after other ≡ sees before other)
+      → LoadsChild (sight_in before) (sight_in after) n side result
+  LoadsChild-child side result found others = record {
+    later = later_moment;
+    keeps = keeps_sight;
+    finds = by_result result found;
+    points = λ m. point_at-kept before after m goes_on.later (others (PointOf m) (λ same. is_no_point same));
+  }
+    where
+      by_result : (o : Option ℕ)
+          → MatchOption o (before.steps < (sight_in after).found_empty n side) (λ c. ((tree_seen after).child n side ≡ Some c) × SeesNode after c)
+          → FindsChild (sight_in before) (sight_in after) n side o
+      by_result None empty = empty
+      by_result (Some c) link = link.0
+
+      is_no_point : {m : ℕ} → PointOf m ≢ ChildOf n side
+      is_no_point same = cc
+
+-- a point that was seen before counts as loaded
+pub LoadsPoint-seen : (view : View) (n : ℕ) (p : Point) → IsLawfulView view → SeesPoint view n p → LoadsPoint (sight_in view) (sight_in view) n p
+LoadsPoint-seen view n p lawful stands = record {
+  later = IsLaterMoment-later view view (IsLater-refl view);
+  keeps = KeepsSight-lawful view lawful;
+  stands = stands;
+  others = λ m apart. refl;
+}
+
+-- no number of a seen node is above that of the last mark
+pub within_marks : (before after : View) → GoesOn before after → (n : ℕ) → SeesNode after n → n ≤ length before.run.marks
+within_marks before after goes_on n seen = subst (λ run. n ≤ length run.marks) goes_on.later.run (goes_on.lawful.within n seen)
+
+-- a seen node stays seen
+pub SeesNode-later : (before after : View) (n : ℕ) → IsLater before after → SeesNode before n → SeesNode after n
+SeesNode-later before after n later = IsSeen-more (tree_seen before) (tree_seen after) (IsLaterMoment-later before after later).seen n

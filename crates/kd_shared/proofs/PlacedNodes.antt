@@ -1,0 +1,84 @@
+-- The node in hand is linked where the walk along the way of its point has come to, or it stays in hand.
+use Rattle.std.proofs.Common.{◌≡◌, ℕ, suc, Bool, Option, Some, None, sym, ap, ◌∙◌, subst}
+use Rattle.std.specs.Prelude.{IfSome, IsSome}
+use Rattle.plan_model.specs.declared.geometry.Point.{Point}
+use Rattle.plan_words.specs.Nodes.{IsLinkedAt, IsNodeWord}
+use Rattle.plan_words.specs.States.{BelongsTo, GoesOn, PassState, SharedState, with_view}
+use Rattle.step_core.specs.ViewSteps.{counted, linked}
+use Rattle.step_core.specs.ViewTrees.{LeadsTo, SeesPoint, sight_in}
+use Rattle.step_core.specs.Views.{sees, tree_seen}
+use Rattle.step_core.specs.WordNames.{ChangesOnly}
+use Rattle.step_core.specs.declared.views.Hand.{Hand}
+use Rattle.step_core.specs.declared.views.View.{View}
+use Rattle.kd_shared.specs.Looking.{GoesOnLooking, OnlyLooks}
+use Rattle.kd_shared.specs.Placings.{IsPlaced, IsSame, KeepsShare}
+use Rattle.kd_shared.proofs.Looking.{BelongsTo-later, GoesOnLooking-trans}
+use Rattle.kd_shared.proofs.PassLooks.{PassLooks}
+use Rattle.kd_shared.proofs.Walking.{IsWalking}
+
+-- the hand of a pass that only looked
+pub IfSome-kept : (before after : View) (Holds : Hand → Type 0) → OnlyLooks before after → IfSome before.hand Holds → IfSome after.hand Holds
+IfSome-kept before after Holds looks = subst (λ o. IfSome o Holds) (sym looks.kept.hand)
+
+-- the way of the point in hand leads where that of p does
+pub IfSome-leads : (now : View) (p : Point) (n : ℕ) (side : Bool) (held : Option Hand) → IfSome held (λ hand. p ≡ hand.point) → LeadsTo now p n side
+    → IfSome held (λ hand. LeadsTo now hand.point n side)
+IfSome-leads now p n side None is leads = tt
+IfSome-leads now p n side (Some hand) is leads = subst (λ q. LeadsTo now q n side) is leads
+
+-- another node stands there
+pub IfSome-same : (now : View) (p : Point) (n : ℕ) (held : Option Hand) → now.hand ≡ held → IfSome held (λ hand. p ≡ hand.point) → SeesPoint now n p
+    → IfSome held (λ hand. IsSame now hand n)
+IfSome-same now p n None kept is stands = tt
+IfSome-same now p n (Some hand) kept is stands = record { stands = subst (SeesPoint now n) is stands; unchanged = kept }
+
+-- or the node in hand is linked
+pub IfSome-placed : (entry now after : View) (p : Point) (depth n : ℕ) (side : Bool) (held : Option Hand) → now.hand ≡ held
+    → IfSome held (λ hand. p ≡ hand.point) → IfSome now.hand (λ hand. IsLinkedAt after n side hand)
+    → ((child : ℕ) → (tree_seen after).child n side ≡ Some child → IsWalking (sight_in entry) (sight_in after) p depth child)
+    → IfSome held (λ hand. IsPlaced after hand)
+IfSome-placed entry now after p depth n side None kept is links comes = tt
+IfSome-placed entry now after p depth n side (Some hand) kept is links comes =
+    let link : IsLinkedAt after n side hand = subst (λ o. IfSome o (λ h. IsLinkedAt after n side h)) kept links in
+    let walk = comes (suc hand.mark) link.child in
+    record {
+      depth = depth;
+      on_way = (subst (λ q. IsWalking (sight_in entry) (sight_in after) q depth (suc hand.mark)) is walk).on_way;
+      stands = link.point;
+      counted = link.counted;
+    }
+
+-- ---- what it leaves
+
+-- A pass of this tree has placed its node: share and limit stay, and nothing but its view changes.
+pub record PassPlaces (shared : SharedState) (before after : PassState) : Type 0 where
+  pub belongs : BelongsTo after shared
+  pub looks : GoesOnLooking before.view after.view
+  pub share : KeepsShare before.view after.view
+  pub view_alone : after ≡ with_view before after.view
+
+pub PassPlaces-looks : (shared : SharedState) (before mid after : PassState) → PassLooks shared before mid → PassPlaces shared mid after
+    → PassPlaces shared before after
+PassPlaces-looks shared before mid after one other = record {
+  belongs = other.belongs;
+  looks = GoesOnLooking-trans before.view mid.view after.view one.looks.looks other.looks;
+  share = record { crew = other.share.crew ∙ one.looks.kept.crew; most = other.share.most ∙ one.looks.kept.most };
+  view_alone = other.view_alone ∙ ap (λ p. with_view p after.view) one.view_alone;
+}
+
+pub PassPlaces-links : (shared : SharedState) (before after : PassState) (n : ℕ) (side : Bool) → BelongsTo before shared → IsSome before.view.hand
+    → IfSome before.view.hand (λ hand. after ≡ with_view before (counted (linked before.view hand n side) hand)) → GoesOn before.view after.view
+    → ChangesOnly IsNodeWord (sees before.view) (sees after.view) → PassPlaces shared before after
+PassPlaces-links shared before after n side belongs held view goes_on others = by_hand before.view.hand held view
+  where
+    by_hand : (o : Option Hand) → IsSome o → IfSome o (λ hand. after ≡ with_view before (counted (linked before.view hand n side) hand))
+        → PassPlaces shared before after
+    by_hand None none is = cc
+    by_hand (Some hand) some_hand is =
+        let view_is : after.view ≡ counted (linked before.view hand n side) hand = ap (λ (p : PassState). p.view) is in
+        record {
+          belongs = BelongsTo-later shared before after (ap (λ (p : PassState). p.table) is) goes_on.later belongs;
+          looks = record { goes_on = goes_on; others = others };
+          share = record { crew = ap (λ (v : View). v.crew) view_is; most = ap (λ (v : View). v.most) view_is };
+          view_alone = is ∙ ap (with_view before) (sym view_is);
+        }

@@ -1,0 +1,108 @@
+-- Near nodes that were found in any order, each once, are the near nodes in rising number once they are sorted.
+use Rattle.std.proofs.Common.{◌≡◌, ℕ, suc, ◌+◌, ◌*◌, ◌<◌, ◌≤◌, Bool, true, false, eqb, eq-eqb, List, [], ◌∷◌, length, Option, Some, None, arith, refl, sym}
+use Rattle.std.proofs.Common.{ap, ◌∙◌, inl, inr}
+use Rattle.std.specs.Prelude.{Contains, nat_le}
+use Rattle.std.specs.List.{range_with_len}
+use Rattle.std.specs.List.Sorted.{IsNonDecreasing, IsPermutation, IsStrictlyIncreasing}
+use Rattle.std.specs.Ordering.{nat_cmp}
+use Rattle.std.proofs.lemmas.Bool.{eqb-true, leb-false, leb-true}
+use Rattle.std.proofs.lemmas.List.Elements.{All-contains, filter_passes}
+use Rattle.std.proofs.lemmas.List.FromFn.{get_or-range_with_len, length-range_with_len}
+use Rattle.std.proofs.lemmas.List.Kept.{IsStrictlyIncreasing-filter}
+use Rattle.std.proofs.lemmas.List.Sorted.{Contains-permutation, IsPermutation-sym}
+use Rattle.std.proofs.lemmas.Map.Keys.{below_from_sorted, IsDistinct-IsPermutation, IsStrictlyIncreasing-from_distinct, sorted_from_strictly_increasing}
+use Rattle.std.proofs.lemmas.Map.Keys.{sorted_tail}
+use Rattle.std.specs.List.Sorted.{IsStrictlySortedBy}
+use Rattle.plan_model.specs.declared.geometry.Point.{Point}
+use Rattle.plan_model.specs.Geometry.{squared_distance}
+use Rattle.plan_model.specs.Nearness.{is_within, near}
+use Rattle.plan_model.specs.PointsByNumber.{point_at}
+use Rattle.plan_model.proofs.NearNodes.{Contains-near}
+use Rattle.kd_shared.proofs.DistinctNumbers.{AreDifferent, Contains-cases, Contains-first, Contains-more, Contains-none, IsDistinct-from_different}
+
+-- ---- lists in rising order
+
+eqb-swap : (m n : ℕ) → eqb m n ≡ eqb n m
+eqb-swap m n = by_tests (eqb m n) (eqb n m) refl refl
+  where
+    by_tests : (one other : Bool) → eqb m n ≡ one → eqb n m ≡ other → one ≡ other
+    by_tests true true e f = refl
+    by_tests false false e f = refl
+    by_tests true false e f = (let same = eq-eqb n m (sym (eqb-true m n e)) in sym same ∙ f)
+    by_tests false true e f = (let same = eq-eqb m n (sym (eqb-true n m f)) in sym e ∙ same)
+
+-- the first number is below the others
+below_others : (m : ℕ) (ns : List ℕ) → IsStrictlySortedBy nat_cmp (m ∷ ns) → (n : ℕ) → Contains ns n → m < n
+below_others m ns rising n (k, below, is) =
+    let less = below_from_sorted (m ∷ ns) 0 (suc k) n rising (omega arith) (omega (arith, below)) in
+    omega (arith, less, is)
+
+-- lists that rise and contain the same numbers are the same
+same_numbers : (ms ns : List ℕ) → IsStrictlySortedBy nat_cmp ms → IsStrictlySortedBy nat_cmp ns
+    → ((n : ℕ) → Contains ms n → Contains ns n) → ((n : ℕ) → Contains ns n → Contains ms n) → ms ≡ ns
+same_numbers [] [] one two to back = refl
+same_numbers [] (n ∷ ns) one two to back = absurd (Contains-none n (back n (Contains-first n ns)))
+same_numbers (m ∷ ms) [] one two to back = absurd (Contains-none m (to m (Contains-first m ms)))
+same_numbers (m ∷ ms) (n ∷ ns) one two to back =
+    let first : m ≡ n =
+    elim (Contains-cases n m ns (to m (Contains-first m ms))) [
+      | inl is ↦ sym is
+      | inr later ↦ elim (Contains-cases m n ms (back n (Contains-first n ns))) [
+        | inl is ↦ is
+        | inr other ↦ absurd (omega (arith, below_others n ns two m later, below_others m ms one n other))
+      ]
+    ] in
+    let rest : ms ≡ ns =
+    same_numbers ms ns (sorted_tail nat_cmp m ms one) (sorted_tail nat_cmp n ns two)
+    (λ k own. elim (Contains-cases n k ns (to k (Contains-more m k ms own))) [
+      | inl is ↦ absurd (omega (arith, below_others m ms one k own, first, is))
+      | inr there ↦ there
+    ])
+    (λ k own. elim (Contains-cases m k ms (back k (Contains-more n k ns own))) [
+      | inl is ↦ absurd (omega (arith, below_others n ns two k own, first, is))
+      | inr there ↦ there
+    ]) in
+    ap (λ k. k ∷ ms) first ∙ ap (λ ks. n ∷ ks) rest
+
+-- ---- near nodes
+
+-- a point is within r if its squared distance is at most that of r,
+pub is_within-near : (p : Point) (r : ℕ) (q : Point) → squared_distance q p ≤ r * r → is_within p r (Some q) ≡ true
+is_within-near p r q close = by_test (nat_le (squared_distance q p) (r * r)) refl
+  where
+    by_test : (b : Bool) → nat_le (squared_distance q p) (r * r) ≡ b → nat_le (squared_distance q p) (r * r) ≡ true
+    by_test true e = e
+    by_test false e = absurd (omega (arith, close, leb-false (squared_distance q p) (r * r) e))
+
+-- and only then
+pub is_within-close : (p : Point) (r : ℕ) (o : Option Point) → is_within p r o ≡ true
+    → (q : Point) × (o ≡ Some q) × (squared_distance q p ≤ r * r)
+is_within-close p r None e = cc
+is_within-close p r (Some q) e = (q, refl, leb-true (squared_distance q p) (r * r) e)
+
+IsStrictlyIncreasing-range : (n : ℕ) → IsStrictlyIncreasing (range_with_len 0 n)
+IsStrictlyIncreasing-range n = λ k l.
+    let m = length-range_with_len 0 n in
+    omega (arith, get_or-range_with_len 0 n k 0 (omega arith), get_or-range_with_len 0 n (k + 1) 0 (omega arith))
+
+module _ (points : List (Option Point)) (p : Point) (r : ℕ) where
+  near-rises : IsStrictlySortedBy nat_cmp (near points p r)
+  near-rises =
+      sorted_from_strictly_increasing (near points p r)
+      (IsStrictlyIncreasing-filter (λ n. is_within p r (point_at points n)) (range_with_len 0 (length points)) (IsStrictlyIncreasing-range (length points)))
+
+  pub near-within : (n : ℕ) → Contains (near points p r) n → is_within p r (point_at points n) ≡ true
+  near-within n =
+      All-contains (λ m. is_within p r (point_at points m) ≡ true) (near points p r) n
+      (filter_passes (λ m. is_within p r (point_at points m)) (range_with_len 0 (length points)))
+
+  -- Exactly the near nodes were found, each once; the list is sorted.
+  pub near-sorted : (found list : List ℕ) → AreDifferent found → IsPermutation found list → IsNonDecreasing list
+      → ((n : ℕ) → Contains found n → is_within p r (point_at points n) ≡ true)
+      → ((n : ℕ) → is_within p r (point_at points n) ≡ true → Contains found n) → list ≡ near points p r
+  near-sorted found list different moved sorted only all =
+      let distinct = IsDistinct-IsPermutation eqb eqb-swap found list moved (IsDistinct-from_different found different) in
+      let rising = IsStrictlyIncreasing-from_distinct list sorted distinct in
+      same_numbers list (near points p r) (sorted_from_strictly_increasing list rising) near-rises
+      (λ n own. Contains-near points p r n (only n (Contains-permutation list found n (IsPermutation-sym found list moved) own)))
+      (λ n own. Contains-permutation found list n moved (all n (near-within n own)))

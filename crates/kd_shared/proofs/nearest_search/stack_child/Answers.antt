@@ -1,0 +1,30 @@
+use Rattle.std.proofs.Common.{not, [], ◌∷◌, ◌++◌, Some, None, refl, sym, ap, ◌∙◌, subst}
+use Rattle.plan_words.specs.States.{PassState}
+use Rattle.plan_words.specs.declared.scratch.Spot.{Spot}
+use Rattle.step_core.specs.ViewTrees.{sight_in}
+use Rattle.kd_shared.specs.Spots.{StacksChild}
+use Rattle.kd_shared.proofs.LoadedChildren.{StacksChild-none, StacksChild-some}
+use Rattle.kd_shared.proofs.Looking.{LoadsChild-child}
+use Rattle.kd_shared.proofs.nearest_search.stack_child.Goals as goal
+
+pub returns-in_default-clause-stacks : goal.returns-in_default-clause-stacks
+returns-in_default-clause-stacks c =
+    StacksChild-none (sight_in c.args.pass.now.view) (sight_in c.child.new.pass.view) c.args.pass.now.spots c.child.new.pass.spots c.args.spot
+    c.args.right c.args.gap
+    (LoadsChild-child c.args.pass.now.view c.child.new.pass.view c.args.spot.node c.child.ensures.goes_on c.args.right None
+    c.in_default.ensures.found c.child.ensures.seen.others)
+    (ap (λ (p : PassState). p.spots) c.child.ensures.view)
+
+pub returns-in-Some-clause-stacks : goal.returns-in-Some-clause-stacks
+returns-in-Some-clause-stacks c =
+    let child : Spot = record { node = c.in-Some.child; by_rows = not c.args.spot.by_rows; gap = c.args.gap; point = c.args.spot.point } in
+    let last = ap (λ (p : PassState). p.spots) c.push_spot.ensures
+    ∙ ap (λ (p : PassState). p.spots ++ child ∷ []) c.child.ensures.view in
+    subst
+    (λ (p : PassState). StacksChild (sight_in c.args.pass.now.view) (sight_in p.view) c.args.pass.now.spots c.push_spot.new.self.spots c.args.spot
+    c.args.right c.args.gap)
+    (sym c.push_spot.ensures)
+    (StacksChild-some (sight_in c.args.pass.now.view) (sight_in c.child.new.pass.view) c.args.pass.now.spots c.push_spot.new.self.spots c.args.spot
+    c.args.right child refl last c.args.gap refl
+    (LoadsChild-child c.args.pass.now.view c.child.new.pass.view c.args.spot.node c.child.ensures.goes_on c.args.right (Some c.in-Some.child)
+    c.in-Some.ensures.found c.child.ensures.seen.others))

@@ -1,0 +1,95 @@
+use Rattle.std.proofs.Common.{◌+◌, None, sym, subst, ◌∙◌, arith}
+use Rattle.plan_model.proofs.SamePoints.{same_point-false, same_point-true}
+use Rattle.step_core.specs.ViewTrees.{SeesPoint, sight_in}
+use Rattle.kd_shared.specs.Searches.{Finds}
+use Rattle.step_core.specs.WordNames.Word.{ChildOf, PointOf}
+use Rattle.kd_shared.proofs.Finding.{IsFinding-begins, IsFinding-depth, IsFinding-ends, IsFinding-goes_on}
+use Rattle.kd_shared.proofs.PassLooks.{PassLooks-load, PassLooks-trans}
+use Rattle.kd_shared.proofs.point_search.find.Goals as goal
+
+pub depths-init : goal.depths-init
+depths-init c =
+    let first = PassLooks-load c.args.shared.now c.args.pass.now c.point-here.new.pass (PointOf 0) _ _ c.requires.belongs tt
+    c.point-here.ensures.view c.point-here.ensures.goes_on c.point-here.ensures.seen in
+    record {
+      passes = first;
+      walks = IsFinding-begins c.args.pass.now.view c.point-here.new.pass.view c.args.p c.point-here.result first.looks c.point-here.ensures.found;
+    }
+
+pub returns-then-eq-clause-belongs : goal.returns-then-eq-clause-belongs
+returns-then-eq-clause-belongs c = c.depths.invariant.passes.belongs
+
+pub returns-then-eq-clause-looks : goal.returns-then-eq-clause-looks
+returns-then-eq-clause-looks c = c.depths.invariant.passes.looks
+
+pub returns-then-eq-clause-view_alone : goal.returns-then-eq-clause-view_alone
+returns-then-eq-clause-view_alone c = c.depths.invariant.passes.view_alone
+
+pub returns-then-eq-clause-found : goal.returns-then-eq-clause-found
+returns-then-eq-clause-found c =
+    subst (SeesPoint c.depths.pass.view c.depths.node) (same_point-true c.depths.here c.args.p (sym c.eq.ensures ∙ c.if-eq.true))
+    c.depths.invariant.walks.stands
+
+pub child-requires-clause-belongs : goal.child-requires-clause-belongs
+child-requires-clause-belongs c = c.depths.invariant.passes.belongs
+
+pub child-requires-clause-seen_node : goal.child-requires-clause-seen_node
+child-requires-clause-seen_node c = c.depths.invariant.walks.walk.seen
+
+-- the last load finds no child
+pub returns-in_default-clause-belongs : goal.returns-in_default-clause-belongs
+returns-in_default-clause-belongs c =
+    (PassLooks-load c.args.shared.now c.depths.pass c.child.new.pass (ChildOf c.depths.node c.goes_right.result) _ _
+    c.depths.invariant.passes.belongs tt c.child.ensures.view c.child.ensures.goes_on c.child.ensures.seen).belongs
+
+pub returns-in_default-clause-looks : goal.returns-in_default-clause-looks
+returns-in_default-clause-looks c =
+    let last = PassLooks-load c.args.shared.now c.depths.pass c.child.new.pass (ChildOf c.depths.node c.goes_right.result) _ _
+    c.depths.invariant.passes.belongs tt c.child.ensures.view c.child.ensures.goes_on c.child.ensures.seen in
+    (PassLooks-trans c.args.shared.now c.args.pass.now c.depths.pass c.child.new.pass c.depths.invariant.passes last).looks
+
+pub returns-in_default-clause-view_alone : goal.returns-in_default-clause-view_alone
+returns-in_default-clause-view_alone c =
+    let last = PassLooks-load c.args.shared.now c.depths.pass c.child.new.pass (ChildOf c.depths.node c.goes_right.result) _ _
+    c.depths.invariant.passes.belongs tt c.child.ensures.view c.child.ensures.goes_on c.child.ensures.seen in
+    (PassLooks-trans c.args.shared.now c.args.pass.now c.depths.pass c.child.new.pass c.depths.invariant.passes last).view_alone
+
+ends_there : (c : goal.In_default) → Finds (sight_in c.args.pass.now.view) (sight_in c.child.new.pass.view) c.args.p None
+ends_there c =
+    let last = PassLooks-load c.args.shared.now c.depths.pass c.child.new.pass (ChildOf c.depths.node c.goes_right.result) _ _
+    c.depths.invariant.passes.belongs tt c.child.ensures.view c.child.ensures.goes_on c.child.ensures.seen in
+    IsFinding-ends c.args.pass.now.view c.depths.pass.view c.args.p c.depths._depth c.depths.node c.depths.by_rows c.depths.here
+    c.depths.invariant.walks (same_point-false c.depths.here c.args.p (sym c.eq.ensures ∙ c.if-eq.false)) c.goes_right.result c.goes_right.ensures
+    c.child.new.pass.view last.looks c.in_default.ensures.found
+
+pub returns-in_default-clause-ends : goal.returns-in_default-clause-ends
+returns-in_default-clause-ends c = (ends_there c).1
+
+pub returns-in_default-clause-missed : goal.returns-in_default-clause-missed
+returns-in_default-clause-missed c = (ends_there c).0
+
+pub point-here-requires-in-depths-clause-belongs : goal.point-here-requires-in-depths-clause-belongs
+point-here-requires-in-depths-clause-belongs c =
+    (PassLooks-load c.args.shared.now c.depths.pass c.child.new.pass (ChildOf c.depths.node c.goes_right.result) _ _
+    c.depths.invariant.passes.belongs tt c.child.ensures.view c.child.ensures.goes_on c.child.ensures.seen).belongs
+
+pub depths-preserved : goal.depths-preserved
+depths-preserved c =
+    let load = PassLooks-load c.args.shared.now c.depths.pass c.child.new.pass (ChildOf c.depths.node c.goes_right.result) _ _
+    c.depths.invariant.passes.belongs tt c.child.ensures.view c.child.ensures.goes_on c.child.ensures.seen in
+    let look = PassLooks-load c.args.shared.now c.child.new.pass c.point-here-in-depths.new.pass (PointOf c.in-Some.child) _ _
+    load.belongs tt c.point-here-in-depths.ensures.view c.point-here-in-depths.ensures.goes_on c.point-here-in-depths.ensures.seen in
+    record {
+      passes = PassLooks-trans c.args.shared.now c.args.pass.now c.depths.pass c.point-here-in-depths.new.pass c.depths.invariant.passes
+          (PassLooks-trans c.args.shared.now c.depths.pass c.child.new.pass c.point-here-in-depths.new.pass load look);
+      walks = IsFinding-goes_on c.args.pass.now.view c.depths.pass.view c.args.p c.depths._depth c.depths.node c.depths.by_rows c.depths.here
+          c.depths.invariant.walks (same_point-false c.depths.here c.args.p (sym c.eq.ensures ∙ c.if-eq.false)) c.goes_right.result
+          c.goes_right.ensures c.child.new.pass.view c.point-here-in-depths.new.pass.view c.in-Some.child (c.depths._depth + 1)
+          c.point-here-in-depths.result load.looks c.in-Some.ensures.found.0 look.looks c.point-here-in-depths.ensures.found (omega arith);
+    }
+
+pub unreachable-requires : goal.unreachable-requires
+unreachable-requires c =
+    let low = IsFinding-depth c.args.pass.now.view c.depths.pass.view c.args.p c.depths._depth c.depths.node c.depths.by_rows c.depths.here
+    c.depths.invariant.walks in
+    absurd (omega (arith, low, c.depths-test.false))

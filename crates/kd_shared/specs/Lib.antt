@@ -1,0 +1,6 @@
+pub mod Sides
+pub mod Loads
+pub mod Spots
+pub mod Searches
+pub mod Looking
+pub mod Placings

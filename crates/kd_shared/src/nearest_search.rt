@@ -1,0 +1,105 @@
+//! The search for the nearest node.
+
+ghost use Rattle.std.specs.Prelude.{◌≡◌, ◌⊎◌, ◌+◌, ◌<◌, length};
+ghost use Rattle.kd_shared.specs.Looking.{KeepsLists, OnlyLooks};
+ghost use Rattle.kd_shared.specs.Searches.{IsNearestSeen};
+ghost use Rattle.kd_shared.specs.Spots.{IsNearer, StacksChild};
+ghost use Rattle.plan_model.specs.Bounds.{IsBounded};
+ghost use Rattle.plan_words.specs.States.{BelongsTo};
+ghost use Rattle.step_core.specs.ViewTrees.{SeesNode, sight_in};
+
+use crate::sides::{distance_to_split, goes_right};
+use crate::squares::square;
+use plan_model::{MOST_NODES, Point};
+use plan_words::{Pass, Shared, Spot};
+
+/// A node and its squared distance from the target.
+#[derive(Clone, Copy)]
+struct Candidate {
+    node: u32,
+    distance: u64,
+}
+
+/// The node nearest to a point, of equally near ones that of the least number. It goes depth first, the near side of each node
+/// first, and leaves out a node only if all points below it are farther than the nearest so far: O(log n) nodes on average for n
+/// random nodes, O(n) at worst.
+pub fn nearest(shared: &Shared, pass: &mut Pass, p: Point) -> u32
+    requires belongs { BelongsTo pass.old shared.now }
+    requires bounded { IsBounded p }
+    ensures belongs { BelongsTo pass.new shared.now }
+    ensures looks { OnlyLooks pass.old.view pass.new.view }
+    ensures lists { KeepsLists pass.old pass.new }
+    ensures nearest { IsNearestSeen (sight_in pass.old.view) (sight_in pass.new.view) p result }
+{
+    let here = shared.point(pass, 0);
+    let mut best = Candidate {
+        node: 0,
+        distance: here.squared_distance(p),
+    };
+    pass.clear_spots();
+    pass.push_spot(Spot {
+        node: 0,
+        by_rows: false,
+        gap: 0,
+        point: here,
+    });
+    'visits: for _visit in 0..MOST_NODES {
+        let Some(spot) = pass.pop_spot() else {
+            return best.node;
+        };
+        if square(spot.gap) <= best.distance {
+            let here = shared.point(pass, spot.node);
+            best = nearer(
+                best,
+                Candidate {
+                    node: spot.node,
+                    distance: here.squared_distance(p),
+                },
+            );
+            let right = goes_right(spot.by_rows, here, p);
+            let far = greater(spot.gap, distance_to_split(spot.by_rows, here, p));
+            stack_child(shared, pass, spot, !right, far);
+            stack_child(shared, pass, spot, right, spot.gap);
+        }
+    }
+    best.node
+}
+
+/// Puts the child on one side on the stack, if there is one.
+fn stack_child(shared: &Shared, pass: &mut Pass, spot: Spot, right: bool, gap: u32)
+    requires belongs { BelongsTo pass.old shared.now }
+    requires seen { SeesNode pass.old.view spot.node }
+    requires room { length pass.old.spots < length pass.old.view.run.marks + 1 }
+    ensures belongs { BelongsTo pass.new shared.now }
+    ensures looks { OnlyLooks pass.old.view pass.new.view }
+    ensures lists { KeepsLists pass.old pass.new }
+    ensures stacks { StacksChild (sight_in pass.old.view) (sight_in pass.new.view) pass.old.spots pass.new.spots spot right gap }
+{
+    if let Some(child) = shared.child(pass, spot.node, right) {
+        pass.push_spot(Spot {
+            node: child,
+            by_rows: !spot.by_rows,
+            gap,
+            point: spot.point,
+        });
+    }
+}
+
+/// The nearer of two nodes, of equally near ones that of the lesser number.
+fn nearer(best: Candidate, other: Candidate) -> Candidate
+    ensures { IsNearer best.distance best.node other.distance other.node result.distance result.node }
+{
+    if other.distance < best.distance {
+        return other;
+    }
+    if other.distance == best.distance && other.node < best.node {
+        return other;
+    }
+    best
+}
+
+fn greater(a: u32, b: u32) -> u32
+    ensures { (result ≡ a) ⊎ (result ≡ b) }
+{
+    if a < b { b } else { a }
+}

@@ -1,0 +1,42 @@
+//! The search for a node at a point.
+
+ghost use Rattle.std.specs.Prelude.{◌≡◌, IfNone, IfSome};
+ghost use Rattle.kd_shared.specs.Looking.{OnlyLooks};
+ghost use Rattle.plan_model.specs.PointsByNumber.{IsFree};
+ghost use Rattle.plan_model.specs.Sights.{EndsSince};
+ghost use Rattle.plan_words.specs.States.{BelongsTo, with_view};
+ghost use Rattle.step_core.specs.ViewTrees.{SeesPoint, sight_in};
+ghost use Rattle.step_core.specs.Views.{tree_seen};
+
+use crate::sides::goes_right;
+use plan_model::{MOST_NODES, Point};
+use plan_words::{Pass, Shared};
+
+/// The node at a point, or `None` if none was seen there before the call. It walks the way of the point from node 0, by one load of
+/// a point and one of a child for each node: O(d) for a tree of depth d.
+pub fn find(shared: &Shared, pass: &mut Pass, p: Point) -> Option<u32>
+    requires belongs { BelongsTo pass.old shared.now }
+    ensures belongs { BelongsTo pass.new shared.now }
+    ensures looks { OnlyLooks pass.old.view pass.new.view }
+    ensures view_alone { pass.new ≡ with_view pass.old pass.new.view }
+    ensures found { IfSome result (λ node. SeesPoint pass.new.view node p) }
+    // its way came to a place that this call found empty
+    ensures ends { IfNone result (EndsSince (sight_in pass.new.view) pass.old.view.steps p) }
+    ensures missed { IfNone result (IsFree (tree_seen pass.old.view).points p) }
+{
+    let mut node = 0;
+    let mut here = shared.point(pass, 0);
+    let mut by_rows = false;
+    'depths: for _depth in 0..MOST_NODES {
+        if here == p {
+            return Some(node);
+        }
+        let Some(child) = shared.child(pass, node, goes_right(by_rows, here, p)) else {
+            return None;
+        };
+        node = child;
+        here = shared.point(pass, child);
+        by_rows = !by_rows;
+    }
+    unreachable!()
+}
