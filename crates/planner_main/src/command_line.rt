@@ -59,79 +59,69 @@ fn words_after_name(alloc: Global, args: io::Result<Args>) -> Result<Vec<String>
 #[cfg(test)]
 mod tests {
     use super::*;
-    use crate::test_calls::{given_words, text_in};
+    use crate::test_calls::{expect_text, expect_that, given_words, sure, text_in};
     use plan_model::{MemSink, SureSource};
     use std::process::Abort;
 
     const SCENE: &[u8] = b"prrt 1\nroom 10 10\nstart 5 5\ngoal 0 0 1 1\nstep 4\n";
 
-    // The code that the program ends with on these arguments, and the sink with what it writes.
-    fn ends<R: Threads + Sync + Wait>(
+    // The code that the program ends with on these arguments over this sink.
+    fn code_on<R: Threads + Sync + Wait + Abort>(
         rt: &R,
         alloc: Global,
         args: io::Result<Args>,
-    ) -> Result<(ExitCode, MemSink), Memory> {
-        let mut source = SureSource::new(alloc, SCENE)?;
-        let mut sink = MemSink::new(alloc, 1000, 1000, &[])?;
-        let code = exit_code(rt, alloc, args, &mut source, &mut sink);
-        Ok((code, sink))
+        sink: &mut MemSink,
+    ) -> ExitCode {
+        match SureSource::new(alloc, SCENE) {
+            Ok(mut source) => exit_code(rt, alloc, args, &mut source, sink),
+            Err(_) => panic!(rt; "no memory"),
+        }
     }
 
-    // Compares that code and that text.
+    // Compares that code, and the text that is written.
     fn expect<R: Threads + Sync + Wait + Abort>(
         rt: &R,
         alloc: Global,
         args: io::Result<Args>,
         code: u8,
         text: &str,
-    ) -> Result<(), Memory> {
-        let (ended, sink) = ends(rt, alloc, args)?;
-        assert_eq!(rt; text_in(&sink), text);
-        assert_eq!(rt; ended, ExitCode::from(code));
-        Ok(())
+    ) {
+        let mut sink = sure(rt, MemSink::new(alloc, 1000, 1000, &[]));
+        let ended = code_on(rt, alloc, args, &mut sink);
+        expect_text(rt, &[], text_in(&sink), text, "what is written");
+        expect_that(rt, ended == ExitCode::from(code), text);
     }
 
-    // The same on arguments that are these words.
-    fn expect_on<R: Threads + Sync + Wait + Abort>(
-        rt: &R,
-        alloc: Global,
-        words: &[&str],
-        code: u8,
-        text: &str,
-    ) -> Result<(), Memory> {
-        let args = given_words(alloc, words)?.into_iter();
-        expect(rt, alloc, Ok(args), code, text)
-    }
+    static CODES: [(&[&str], u8, &str); 6] = [
+        (
+            &["prrt", "plain"],
+            1,
+            "no path\nnodes 1 placed 0 same 0 blocked 0\n",
+        ),
+        (
+            &["prrt", "plain", "full"],
+            1,
+            "no path\nnodes 1 placed 0 same 0 blocked 0\nnode 0 at 5 5 parent 0 cost 0\n",
+        ),
+        (&["plain"], 2, "words refused\n"),
+        (&["prrt", "plain", "full", "full"], 2, "words refused\n"),
+        (&["plain", "show", "show"], 2, "words refused\n"),
+        (&[], 2, "words refused\n"),
+    ];
 
     #[test]
-    fn ends_by_all_words_after_the_name(rt: HostRuntime) -> Result<(), Memory> {
-        let cases: [(&[&str], u8, &str); 6] = [
-            (
-                &["prrt", "plain"],
-                1,
-                "no path\nnodes 1 placed 0 same 0 blocked 0\n",
-            ),
-            (
-                &["prrt", "plain", "full"],
-                1,
-                "no path\nnodes 1 placed 0 same 0 blocked 0\nnode 0 at 5 5 parent 0 cost 0\n",
-            ),
-            (&["plain"], 2, "words refused\n"),
-            (&["prrt", "plain", "full", "full"], 2, "words refused\n"),
-            (&["plain", "show", "show"], 2, "words refused\n"),
-            (&[], 2, "words refused\n"),
-        ];
-        for (words, code, text) in cases {
-            expect_on(&rt, rt.alloc(), words, code, text)?;
+    fn ends_by_all_words_after_the_name(rt: HostRuntime) {
+        for (words, code, text) in &CODES {
+            let args = sure(&rt, given_words(rt.alloc(), words)).into_iter();
+            expect(&rt, rt.alloc(), Ok(args), *code, text);
         }
-        Ok(())
     }
 
     #[test]
-    fn ends_without_words(rt: HostRuntime) -> Result<(), Memory> {
+    fn ends_without_words(rt: HostRuntime) {
         let no_memory = io::Error::from(io::ErrorKind::OutOfMemory);
-        expect(&rt, rt.alloc(), Err(no_memory), 7, "")?;
+        expect(&rt, rt.alloc(), Err(no_memory), 7, "");
         let no_text = io::Error::from(io::ErrorKind::InvalidData);
-        expect(&rt, rt.alloc(), Err(no_text), 2, "words refused\n")
+        expect(&rt, rt.alloc(), Err(no_text), 2, "words refused\n");
     }
 }

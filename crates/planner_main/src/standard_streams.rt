@@ -97,6 +97,7 @@ impl<W: Write> Sink for StdSink<W> {
 #[cfg(test)]
 mod tests {
     use super::*;
+    use crate::test_calls::{expect_number, expect_that};
     use scene_text::{FetchFault, fetch};
     use settle_report::deliver;
     use std::alloc::Global;
@@ -120,15 +121,23 @@ mod tests {
         }
     }
 
+    // What each read gives, and the faults so far.
+    static READS: [(Result<usize, Failed>, u64); 4] = [
+        (Ok(4), 0),
+        (Err(Failed), 1),
+        (Ok(3), 1),
+        (Ok(0), 1),
+    ];
+
     #[test]
     fn source_counts_the_errors_of_its_reader(rt: HostRuntime) {
         let mut source = StdSource::new(FailingReader {
             bytes: b"prrt 1\n",
             reads: 0,
         });
-        for (want, faults) in [(Ok(4), 0), (Err(Failed), 1), (Ok(3), 1), (Ok(0), 1)] {
-            assert!(rt; source.read(&mut [0; 4]) == want);
-            assert_eq!(rt; source.faults(), faults);
+        for (want, faults) in &READS {
+            expect_that(&rt, source.read(&mut [0; 4]) == *want, "a read");
+            expect_number(&rt, source.faults(), *faults, "faults");
         }
     }
 
@@ -138,8 +147,9 @@ mod tests {
             bytes: b"prrt 1\n",
             reads: 0,
         });
-        assert!(rt; fetch(rt.alloc(), &mut source).err() == Some(FetchFault::Read));
-        assert_eq!(rt; source.faults(), 1);
+        let fault = fetch(rt.alloc(), &mut source).err();
+        expect_that(&rt, fault == Some(FetchFault::Read), "a failed read");
+        expect_number(&rt, source.faults(), 1, "faults");
     }
 
     // Whether a sink over a list takes these bytes and no others.
@@ -152,8 +162,8 @@ mod tests {
     fn bytes_pass_unchanged(rt: HostRuntime) -> Result<(), FetchFault> {
         let mut source = StdSource::new(b"prrt 1\n".as_slice());
         let text = fetch(rt.alloc(), &mut source)?;
-        assert!(rt; text.as_slice() == b"prrt 1\n".as_slice());
-        assert!(rt; takes(rt.alloc(), &text));
+        expect_that(&rt, text.as_slice() == b"prrt 1\n".as_slice(), "the source");
+        expect_that(&rt, takes(rt.alloc(), &text), "the sink");
         Ok(())
     }
 
@@ -165,8 +175,8 @@ mod tests {
         want: Result<usize, Failed>,
         faults: u64,
     ) {
-        assert!(rt; sink.write(bytes) == want);
-        assert_eq!(rt; sink.faults(), faults);
+        expect_that(rt, sink.write(bytes) == want, "a write");
+        expect_number(rt, sink.faults(), faults, "faults");
     }
 
     #[test]
@@ -175,6 +185,6 @@ mod tests {
         let mut sink = StdSink::new(room.as_mut_slice());
         expect_write(&rt, &mut sink, b"path", Ok(3), 0);
         expect_write(&rt, &mut sink, b"h", Err(Failed), 1);
-        assert!(rt; room == *b"pat");
+        expect_that(&rt, room == *b"pat", "what is written");
     }
 }

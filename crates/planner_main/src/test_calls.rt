@@ -13,6 +13,21 @@ pub fn sure<R: Abort, T>(rt: &R, made: Result<T, Memory>) -> T {
     }
 }
 
+/// Compares two texts of a call for these words, and says what they show if they differ.
+pub fn expect_text<R: Abort>(rt: &R, words: &[&str], text: &str, want: &str, shows: &str) {
+    assert_eq!(rt; text, want, "{shows}: {words:?}");
+}
+
+/// Compares two numbers.
+pub fn expect_number<R: Abort>(rt: &R, number: u64, want: u64, shows: &str) {
+    assert_eq!(rt; number, want, "{shows}");
+}
+
+/// Compares whether this holds.
+pub fn expect_that<R: Abort>(rt: &R, holds: bool, shows: &str) {
+    assert!(rt; holds, "{shows}");
+}
+
 /// This text in memory of its own.
 pub fn copied(alloc: Global, text: &str) -> Result<String, Memory> {
     let mut copy = String::new(alloc);
@@ -35,15 +50,10 @@ pub fn given_words(alloc: Global, words: &[&str]) -> Result<Vec<String>, Memory>
     Ok(given)
 }
 
-/// The text that these bytes spell.
-pub fn text_of(bytes: &[u8]) -> &str {
-    match str::from_utf8(bytes) {
+/// The text that a sink has taken.
+pub fn text_in(sink: &MemSink) -> &str {
+    match str::from_utf8(sink.bytes()) {
         Ok(text) => text,
         Err(_) => "no text",
     }
-}
-
-/// The text that a sink has taken.
-pub fn text_in(sink: &MemSink) -> &str {
-    text_of(sink.bytes())
 }

@@ -1,11 +1,11 @@
 //! Whole calls, over a source and a sink in memory.
 
-ghost use Rattle.std.specs.Prelude.{◌≤◌};
-
 use super::*;
-use crate::test_calls::{copied, given_words, sure, text_in};
+use crate::test_calls::{
+    copied, expect_number, expect_text, expect_that, given_words, sure, text_in,
+};
 use calls::*;
-use plan_model::{MemSink, MemSource, Memory, SureSource};
+use plan_model::{MemSink, MemSource, Memory, Outcome, Record};
 use plan_work::NoGate;
 use std::process::Abort;
 
@@ -17,6 +17,8 @@ struct Case<'a> {
     scene: &'a str,
     status: u8,
     text: &'a str,
+    // How many nodes and how many marks the run has that is handed out, if one is.
+    run: Option<(u32, u32)>,
 }
 
 // A scene whose only mark is the goal.
@@ -29,39 +31,23 @@ const BLOCKED_START: &str = "prrt 1\nroom 10 10\nstart 11 5\ngoal 0 0 9 9\nstep 
 const MOST_DRAWN_MARKS: &str =
     "prrt 1\nroom 1 1\nstart 0 0\ngoal 1 1 1 1\nstep 4\ngamma 9\nstrips 2\nmarks 262143\n";
 
-// Compares the answer to this text, which is read in pieces of at most so many bytes, with that of a case.
+// Compares the answer to the scene of a case, which is read in pieces of at most so many bytes.
 fn expect_by_pieces<R: Threads + Sync + Wait + Abort>(
     rt: &R,
     alloc: Global,
     words: &[&str],
-    text: &[u8],
     most: usize,
     case: &Case,
-)
-    requires { 1 ≤ most }
-{
-    let called = call_by_pieces(rt, alloc, words, text, most);
-    assert_answer(rt, words, &called, case);
-}
-
-// The same from a source that gives as much as is asked for.
-fn expect_at_once<R: Threads + Sync + Wait + Abort>(
-    rt: &R,
-    alloc: Global,
-    words: &[&str],
-    text: &[u8],
-    case: &Case,
 ) {
-    let called = call_over_text(rt, alloc, words, text);
-    assert_answer(rt, words, &called, case);
+    let called = call(rt, alloc, words, case.scene, most, 0);
+    expect_answer(rt, words, &called, case);
 }
 
-// Compares the answer to the scene of a case, which is read in pieces of several lengths and at once.
+// The same in pieces of several lengths, and at once.
 fn expect<R: Threads + Sync + Wait + Abort>(rt: &R, alloc: Global, words: &[&str], case: &Case) {
-    for most in [1, 2, 7, 1 << 16] {
-        expect_by_pieces(rt, alloc, words, case.scene.as_bytes(), most, case);
+    for most in [1, 2, 7, 1 << 16, 1 << 24] {
+        expect_by_pieces(rt, alloc, words, most, case);
     }
-    expect_at_once(rt, alloc, words, case.scene.as_bytes(), case);
 }
 
 // The same of each case.
@@ -76,97 +62,74 @@ fn expect_each<R: Threads + Sync + Wait + Abort>(
     }
 }
 
-// Compares the first and the last line of a text.
-fn expect_ends<R: Abort>(rt: &R, text: &str, first: &str, last: &str) {
-    expect_text(rt, first_line(text), first, "the first line");
-    expect_text(rt, last_line(text), last, "the last line");
+// Compares how a text begins and ends.
+fn expect_ends<R: Abort>(rt: &R, text: &str, begin: &str, end: &str) {
+    expect_that(rt, text.starts_with(begin), begin);
+    expect_that(rt, text.ends_with(end), end);
 }
 
-// The first line of a text.
-fn first_line(text: &str) -> &str {
-    text.lines().next().unwrap_or("no line")
-}
-
-// The last line of a text.
-fn last_line(text: &str) -> &str {
-    text.lines().last().unwrap_or("no line")
-}
-
-// Compares one line of a text, by number from 0.
-fn expect_line<R: Abort>(rt: &R, text: &str, number: usize, line: &str) {
-    expect_text(rt, line_of(text, number), line, "a line");
-}
-
-// This line of a text, by number from 0.
-fn line_of(text: &str, number: usize) -> &str {
-    text.lines().nth(number).unwrap_or("no line")
-}
-
-// Compares some lines of a text.
-fn expect_lines<R: Abort>(rt: &R, text: &str, lines: &[(usize, &str)]) {
-    for (number, line) in lines {
-        expect_line(rt, text, *number, line);
-    }
-}
-
-// Compares how many lines a text has.
-fn expect_line_count<R: Abort>(rt: &R, text: &str, count: usize) {
-    assert_eq!(rt; text.lines().count(), count);
-}
+static PLANS: [Case; 8] = [
+    Case {
+        shows: "a mark reached in one step",
+        scene: "prrt 1\nroom 100 100\nstart 0 0\ngoal 30 40 30 40\nstep 100\nmark 30 40\n",
+        status: 0,
+        text: "path 2 cost 12800\n0 0\n30 40\nnodes 2 placed 1 same 0 blocked 0\n",
+        run: Some((2, 1)),
+    },
+    Case {
+        shows: "the cost rounded up on a diagonal of 75",
+        scene: "prrt 1\nroom 100 100\nstart 10 10\ngoal 85 85 85 85\nstep 4096\nmark 85 85\n",
+        status: 0,
+        text: "path 2 cost 27153\n10 10\n85 85\nnodes 2 placed 1 same 0 blocked 0\n",
+        run: Some((2, 1)),
+    },
+    Case {
+        shows: "a start that lies in the goal",
+        scene: "prrt 1\nroom 10 10\nstart 5 5\ngoal 0 0 9 9\nstep 4\n",
+        status: 0,
+        text: "path 1 cost 0\n5 5\nnodes 1 placed 0 same 0 blocked 0\n",
+        run: Some((1, 0)),
+    },
+    Case {
+        shows: "a mark past the step",
+        scene: "prrt 1\nroom 100 100\nstart 0 0\ngoal 90 90 99 99\nstep 50\nmark 60 80\n",
+        status: 1,
+        text: "no path\nnodes 2 placed 1 same 0 blocked 0\n",
+        run: Some((2, 1)),
+    },
+    Case {
+        shows: "a mark past the step on the diagonal",
+        scene: "prrt 1\nroom 100 100\nstart 0 0\ngoal 90 90 99 99\nstep 50\nmark 70 70\n",
+        status: 1,
+        text: "no path\nnodes 2 placed 1 same 0 blocked 0\n",
+        run: Some((2, 1)),
+    },
+    Case {
+        shows: "a mark given twice",
+        scene: "prrt 1\nroom 100 100\nstart 0 0\ngoal 30 40 30 40\nstep 100\nmark 30 40\nmark 30 40\n",
+        status: 0,
+        text: "path 2 cost 12800\n0 0\n30 40\nnodes 2 placed 1 same 1 blocked 0\n",
+        run: Some((2, 2)),
+    },
+    Case {
+        shows: "the example of the scene format",
+        scene: "# A robot that starts in the lower left corner.\nprrt 1\nroom 100 100\nstart 0 0\ngoal 30 40 35 45\nstep 25\nmark 15 20\nmark 30 40\n",
+        status: 0,
+        text: "path 3 cost 12800\n0 0\n15 20\n30 40\nnodes 3 placed 2 same 0 blocked 0\n",
+        run: Some((3, 2)),
+    },
+    Case {
+        shows: "a mark outside the room",
+        scene: "prrt 1\nroom 10 10\nstart 5 5\ngoal 0 0 1 1\nstep 100\nmark 20 20\n",
+        status: 1,
+        text: "no path\nnodes 1 placed 0 same 0 blocked 1\n",
+        run: Some((1, 1)),
+    },
+];
 
 #[test]
 fn plans_scenes(rt: HostRuntime) {
-    let cases = [
-        Case {
-            shows: "a mark reached in one step",
-            scene: "prrt 1\nroom 100 100\nstart 0 0\ngoal 30 40 30 40\nstep 100\nmark 30 40\n",
-            status: 0,
-            text: "path 2 cost 12800\n0 0\n30 40\nnodes 2 placed 1 same 0 blocked 0\n",
-        },
-        Case {
-            shows: "the cost rounded up on a diagonal of 75",
-            scene: "prrt 1\nroom 100 100\nstart 10 10\ngoal 85 85 85 85\nstep 4096\nmark 85 85\n",
-            status: 0,
-            text: "path 2 cost 27153\n10 10\n85 85\nnodes 2 placed 1 same 0 blocked 0\n",
-        },
-        Case {
-            shows: "a start that lies in the goal",
-            scene: "prrt 1\nroom 10 10\nstart 5 5\ngoal 0 0 9 9\nstep 4\n",
-            status: 0,
-            text: "path 1 cost 0\n5 5\nnodes 1 placed 0 same 0 blocked 0\n",
-        },
-        Case {
-            shows: "a mark past the step",
-            scene: "prrt 1\nroom 100 100\nstart 0 0\ngoal 90 90 99 99\nstep 50\nmark 60 80\n",
-            status: 1,
-            text: "no path\nnodes 2 placed 1 same 0 blocked 0\n",
-        },
-        Case {
-            shows: "a mark past the step on the diagonal",
-            scene: "prrt 1\nroom 100 100\nstart 0 0\ngoal 90 90 99 99\nstep 50\nmark 70 70\n",
-            status: 1,
-            text: "no path\nnodes 2 placed 1 same 0 blocked 0\n",
-        },
-        Case {
-            shows: "a mark given twice",
-            scene: "prrt 1\nroom 100 100\nstart 0 0\ngoal 30 40 30 40\nstep 100\nmark 30 40\nmark 30 40\n",
-            status: 0,
-            text: "path 2 cost 12800\n0 0\n30 40\nnodes 2 placed 1 same 1 blocked 0\n",
-        },
-        Case {
-            shows: "the example of the scene format",
-            scene: "# A robot that starts in the lower left corner.\nprrt 1\nroom 100 100\nstart 0 0\ngoal 30 40 35 45\nstep 25\nmark 15 20\nmark 30 40\n",
-            status: 0,
-            text: "path 3 cost 12800\n0 0\n15 20\n30 40\nnodes 3 placed 2 same 0 blocked 0\n",
-        },
-        Case {
-            shows: "a mark outside the room",
-            scene: "prrt 1\nroom 10 10\nstart 5 5\ngoal 0 0 1 1\nstep 100\nmark 20 20\n",
-            status: 1,
-            text: "no path\nnodes 1 placed 0 same 0 blocked 1\n",
-        },
-    ];
-    expect_each(&rt, rt.alloc(), &["plain"], &cases);
+    expect_each(&rt, rt.alloc(), &["plain"], &PLANS);
 }
 
 const WALL_WITH_GAP: &str = "\
@@ -184,205 +147,222 @@ const WALL_WITH_GAP: &str = "\
     mark 175 20\n\
     mark 100 30\n";
 
+static REWIRED: [Case; 4] = [
+    Case {
+        shows: "a node that is rewired",
+        scene: "prrt 1\nroom 100 100\nstart 0 0\ngoal 40 79 40 79\nstep 50\ngamma 1000\nmark 0 50\nmark 40 79\nmark 40 30\n",
+        status: 0,
+        text: "path 3 cost 25344\n0 0\n40 30\n40 79\nnodes 4 placed 3 same 0 blocked 0\n",
+        run: Some((4, 3)),
+    },
+    Case {
+        shows: "a node that costs as much through the new one, and keeps its parent",
+        scene: "prrt 1\nroom 100 100\nstart 0 0\ngoal 40 80 40 80\nstep 50\ngamma 1000\nmark 0 50\nmark 40 80\nmark 40 30\n",
+        status: 0,
+        text: "path 3 cost 25600\n0 0\n0 50\n40 80\nnodes 4 placed 3 same 0 blocked 0\n",
+        run: Some((4, 3)),
+    },
+    Case {
+        shows: "without gamma no node is near, and none is rewired",
+        scene: "prrt 1\nroom 100 100\nstart 0 0\ngoal 40 79 40 79\nstep 50\nmark 0 50\nmark 40 79\nmark 40 30\n",
+        status: 0,
+        text: "path 3 cost 25449\n0 0\n0 50\n40 79\nnodes 4 placed 3 same 0 blocked 0\n",
+        run: Some((4, 3)),
+    },
+    Case {
+        shows: "a wall with a gap above",
+        scene: WALL_WITH_GAP,
+        status: 0,
+        text: "path 4 cost 47633\n20 20\n75 65\n115 65\n175 20\nnodes 4 placed 3 same 0 blocked 1\n",
+        run: Some((4, 4)),
+    },
+];
+
 // The nodes near a new one get it as their parent if they get cheaper.
 #[test]
 fn plans_with_rewiring(rt: HostRuntime) {
-    let cases = [
-        Case {
-            shows: "a node that is rewired",
-            scene: "prrt 1\nroom 100 100\nstart 0 0\ngoal 40 79 40 79\nstep 50\ngamma 1000\nmark 0 50\nmark 40 79\nmark 40 30\n",
-            status: 0,
-            text: "path 3 cost 25344\n0 0\n40 30\n40 79\nnodes 4 placed 3 same 0 blocked 0\n",
-        },
-        Case {
-            shows: "a node that costs as much through the new one, and keeps its parent",
-            scene: "prrt 1\nroom 100 100\nstart 0 0\ngoal 40 80 40 80\nstep 50\ngamma 1000\nmark 0 50\nmark 40 80\nmark 40 30\n",
-            status: 0,
-            text: "path 3 cost 25600\n0 0\n0 50\n40 80\nnodes 4 placed 3 same 0 blocked 0\n",
-        },
-        Case {
-            shows: "without gamma no node is near, and none is rewired",
-            scene: "prrt 1\nroom 100 100\nstart 0 0\ngoal 40 79 40 79\nstep 50\nmark 0 50\nmark 40 79\nmark 40 30\n",
-            status: 0,
-            text: "path 3 cost 25449\n0 0\n0 50\n40 79\nnodes 4 placed 3 same 0 blocked 0\n",
-        },
-        Case {
-            shows: "a wall with a gap above",
-            scene: WALL_WITH_GAP,
-            status: 0,
-            text: "path 4 cost 47633\n20 20\n75 65\n115 65\n175 20\nnodes 4 placed 3 same 0 blocked 1\n",
-        },
-    ];
-    expect_each(&rt, rt.alloc(), &["plain"], &cases);
+    expect_each(&rt, rt.alloc(), &["plain"], &REWIRED);
 }
+
+static DRAWN: [Case; 2] = [
+    Case {
+        shows: "the first mark of seed 0",
+        scene: "prrt 1\nroom 99 99\nstart 0 0\ngoal 88 43 88 43\nstep 4096\nseed 0\nstrips 1\nmarks 1\n",
+        status: 0,
+        text: "path 2 cost 25074\n0 0\n88 43\nnodes 2 placed 1 same 0 blocked 0\n",
+        run: Some((2, 1)),
+    },
+    Case {
+        shows: "no mark",
+        scene: "prrt 1\nroom 99 99\nstart 0 0\ngoal 0 0 9 9\nstep 4\nmarks 0\n",
+        status: 0,
+        text: "path 1 cost 0\n0 0\nnodes 1 placed 0 same 0 blocked 0\n",
+        run: Some((1, 0)),
+    },
+];
 
 #[test]
 fn plans_over_drawn_marks(rt: HostRuntime) {
-    let cases = [
-        Case {
-            shows: "the first mark of seed 0",
-            scene: "prrt 1\nroom 99 99\nstart 0 0\ngoal 88 43 88 43\nstep 4096\nseed 0\nstrips 1\nmarks 1\n",
-            status: 0,
-            text: "path 2 cost 25074\n0 0\n88 43\nnodes 2 placed 1 same 0 blocked 0\n",
-        },
-        Case {
-            shows: "no mark",
-            scene: "prrt 1\nroom 99 99\nstart 0 0\ngoal 0 0 9 9\nstep 4\nmarks 0\n",
-            status: 0,
-            text: "path 1 cost 0\n0 0\nnodes 1 placed 0 same 0 blocked 0\n",
-        },
-    ];
-    expect_each(&rt, rt.alloc(), &["plain"], &cases);
+    expect_each(&rt, rt.alloc(), &["plain"], &DRAWN);
 }
 
-// Adds the lines of a corridor before those of its marks.
-fn write_corridor(text: &mut String, length: u32) -> Result<(), Memory> {
-    write!(
-        text,
-        "prrt 1\nroom {length} 10\nstart 0 0\ngoal {length} 0 {length} 0\nstep 4\n"
-    )?;
-    Ok(())
-}
-
-// Adds the line of a mark in a corridor.
-fn write_mark(text: &mut String, x: u32) -> Result<(), Memory> {
-    write!(text, "mark {x} 0\n")?;
-    Ok(())
-}
-
-// A scene of a corridor with a mark at each lattice step, so that the path has a point at each.
-fn corridor(alloc: Global, length: u32) -> Result<String, Memory> {
-    let mut text = String::new(alloc);
-    write_corridor(&mut text, length)?;
-    for x in 1..=length {
-        write_mark(&mut text, x)?;
+// Lines, then one for each number up to the last: this word, the number, and 0; and then lines.
+fn numbered(
+    alloc: Global,
+    head: &str,
+    word: &str,
+    numbers: (u32, u32),
+    tail: &str,
+) -> Result<String, Memory> {
+    let mut text = copied(alloc, head)?;
+    for number in numbers.0..=numbers.1 {
+        write!(text, "{word}{number} 0\n")?;
     }
+    text.push_str(tail)?;
     Ok(text)
 }
 
-// What is written for a scene that has a path.
-fn report_of<R: Threads + Sync + Wait + Abort>(rt: &R, alloc: Global, scene: &str) -> Called {
-    let called = call_by_pieces(rt, alloc, &["plain"], scene.as_bytes(), 1 << 16);
-    assert_status(rt, &["plain"], called.status, 0, "a path");
-    called
-}
-
-// What is written for a corridor.
-fn report_of_corridor<R: Threads + Sync + Wait + Abort>(
-    rt: &R,
-    alloc: Global,
+// A corridor with a mark at each lattice step, so that its path has a point at each.
+struct Corridor<'a> {
     length: u32,
-) -> Called {
-    let scene = sure(rt, corridor(alloc, length));
-    report_of(rt, alloc, &scene)
+    nodes: u32,
+    scene: &'a str,
+    // The first and the last line of the report.
+    path: &'a str,
+    counts: &'a str,
+}
+
+static CORRIDORS: [Corridor; 2] = [
+    Corridor {
+        length: 1000,
+        nodes: 1001,
+        scene: "prrt 1\nroom 1000 10\nstart 0 0\ngoal 1000 0 1000 0\nstep 4\n",
+        path: "path 1001 cost 256000\n",
+        counts: "nodes 1001 placed 1000 same 0 blocked 0\n",
+    },
+    Corridor {
+        length: 4000,
+        nodes: 4001,
+        scene: "prrt 1\nroom 4000 10\nstart 0 0\ngoal 4000 0 4000 0\nstep 4\n",
+        path: "path 4001 cost 1024000\n",
+        counts: "nodes 4001 placed 4000 same 0 blocked 0\n",
+    },
+];
+
+// Compares the report of a corridor.
+fn expect_corridor<R: Threads + Sync + Wait + Abort>(rt: &R, alloc: Global, corridor: &Corridor) {
+    let length = corridor.length;
+    let scene = sure(
+        rt,
+        numbered(alloc, corridor.scene, "mark ", (1, length), ""),
+    );
+    let report = sure(
+        rt,
+        numbered(alloc, corridor.path, "", (0, length), corridor.counts),
+    );
+    let case = Case {
+        shows: "a corridor",
+        scene: &scene,
+        status: 0,
+        text: &report,
+        run: Some((corridor.nodes, length)),
+    };
+    expect_by_pieces(rt, alloc, &["plain"], 1 << 16, &case);
 }
 
 #[test]
-fn plans_one_branch_of_a_thousand_nodes(rt: HostRuntime) {
-    let report = report_of_corridor(&rt, rt.alloc(), 1000);
-    expect_ends(
-        &rt,
-        &report.text,
-        "path 1001 cost 256000",
-        "nodes 1001 placed 1000 same 0 blocked 0",
-    );
+fn plans_one_branch_of_thousands_of_nodes(rt: HostRuntime) {
+    for corridor in &CORRIDORS {
+        expect_corridor(&rt, rt.alloc(), corridor);
+    }
 }
 
-#[test]
-fn plans_one_branch_of_four_thousand_nodes(rt: HostRuntime) {
-    let called = report_of_corridor(&rt, rt.alloc(), 4000);
-    let report = called.text.as_str();
-    expect_ends(
-        &rt,
-        report,
-        "path 4001 cost 1024000",
-        "nodes 4001 placed 4000 same 0 blocked 0",
-    );
-    let points = [(1, "0 0"), (2346, "2345 0"), (4001, "4000 0")];
-    expect_lines(&rt, report, &points);
-    expect_line_count(&rt, report, 4003);
-}
+static PAST_OBSTACLE: [Case; 6] = [
+    Case {
+        shows: "an edge along the top of the obstacle",
+        scene: "prrt 1\nroom 100 100\nobstacle 40 0 60 0 60 60 40 60\nstart 30 60\ngoal 70 60 70 61\nstep 100\nmark 70 60\n",
+        status: 1,
+        text: "no path\nnodes 1 placed 0 same 0 blocked 1\n",
+        run: Some((1, 1)),
+    },
+    Case {
+        shows: "an edge one step above it",
+        scene: "prrt 1\nroom 100 100\nobstacle 40 0 60 0 60 60 40 60\nstart 30 61\ngoal 70 60 70 61\nstep 100\nmark 70 61\n",
+        status: 0,
+        text: "path 2 cost 10240\n30 61\n70 61\nnodes 2 placed 1 same 0 blocked 0\n",
+        run: Some((2, 1)),
+    },
+    Case {
+        shows: "an edge through it between two clear ends",
+        scene: "prrt 1\nroom 100 100\nobstacle 40 0 60 0 60 60 40 60\nstart 30 10\ngoal 70 10 70 10\nstep 100\nmark 70 10\n",
+        status: 1,
+        text: "no path\nnodes 1 placed 0 same 0 blocked 1\n",
+        run: Some((1, 1)),
+    },
+    Case {
+        shows: "an edge that touches a corner at its middle",
+        scene: "prrt 1\nroom 100 100\nobstacle 40 0 60 0 60 60 40 60\nstart 30 70\ngoal 50 50 50 50\nstep 100\nmark 50 50\n",
+        status: 1,
+        text: "no path\nnodes 1 placed 0 same 0 blocked 1\n",
+        run: Some((1, 1)),
+    },
+    Case {
+        shows: "a start at a corner",
+        scene: "prrt 1\nroom 100 100\nobstacle 40 0 60 0 60 60 40 60\nstart 60 60\ngoal 70 60 70 61\nstep 100\nmark 70 60\n",
+        status: 4,
+        text: "start blocked\n",
+        run: None,
+    },
+    Case {
+        shows: "a start within",
+        scene: "prrt 1\nroom 100 100\nobstacle 40 0 60 0 60 60 40 60\nstart 50 30\ngoal 70 60 70 61\nstep 100\nmark 70 60\n",
+        status: 4,
+        text: "start blocked\n",
+        run: None,
+    },
+];
 
 // Obstacles are closed, so to touch one is to collide. This one is 20 wide and 60 high.
 #[test]
 fn plans_past_an_obstacle(rt: HostRuntime) {
-    let cases = [
-        Case {
-            shows: "an edge along the top of the obstacle",
-            scene: "prrt 1\nroom 100 100\nobstacle 40 0 60 0 60 60 40 60\nstart 30 60\ngoal 70 60 70 61\nstep 100\nmark 70 60\n",
-            status: 1,
-            text: "no path\nnodes 1 placed 0 same 0 blocked 1\n",
-        },
-        Case {
-            shows: "an edge one step above it",
-            scene: "prrt 1\nroom 100 100\nobstacle 40 0 60 0 60 60 40 60\nstart 30 61\ngoal 70 60 70 61\nstep 100\nmark 70 61\n",
-            status: 0,
-            text: "path 2 cost 10240\n30 61\n70 61\nnodes 2 placed 1 same 0 blocked 0\n",
-        },
-        Case {
-            shows: "an edge through it between two clear ends",
-            scene: "prrt 1\nroom 100 100\nobstacle 40 0 60 0 60 60 40 60\nstart 30 10\ngoal 70 10 70 10\nstep 100\nmark 70 10\n",
-            status: 1,
-            text: "no path\nnodes 1 placed 0 same 0 blocked 1\n",
-        },
-        Case {
-            shows: "an edge that touches a corner at its middle",
-            scene: "prrt 1\nroom 100 100\nobstacle 40 0 60 0 60 60 40 60\nstart 30 70\ngoal 50 50 50 50\nstep 100\nmark 50 50\n",
-            status: 1,
-            text: "no path\nnodes 1 placed 0 same 0 blocked 1\n",
-        },
-        Case {
-            shows: "a start at a corner",
-            scene: "prrt 1\nroom 100 100\nobstacle 40 0 60 0 60 60 40 60\nstart 60 60\ngoal 70 60 70 61\nstep 100\nmark 70 60\n",
-            status: 4,
-            text: "start blocked\n",
-        },
-        Case {
-            shows: "a start within",
-            scene: "prrt 1\nroom 100 100\nobstacle 40 0 60 0 60 60 40 60\nstart 50 30\ngoal 70 60 70 61\nstep 100\nmark 70 60\n",
-            status: 4,
-            text: "start blocked\n",
-        },
-    ];
-    expect_each(&rt, rt.alloc(), &["plain"], &cases);
+    expect_each(&rt, rt.alloc(), &["plain"], &PAST_OBSTACLE);
 }
+
+static WITH_BODY: [Case; 4] = [
+    Case {
+        shows: "a body that touches the obstacle",
+        scene: "prrt 1\nroom 100 100\nbody 0 0 4 0 4 4 0 4\nobstacle 40 0 60 0 60 60 40 60\nstart 36 0\ngoal 35 0 36 0\nstep 4\n",
+        status: 4,
+        text: "start blocked\n",
+        run: None,
+    },
+    Case {
+        shows: "a body one step before it",
+        scene: "prrt 1\nroom 100 100\nbody 0 0 4 0 4 4 0 4\nobstacle 40 0 60 0 60 60 40 60\nstart 35 0\ngoal 35 0 36 0\nstep 4\n",
+        status: 0,
+        text: "path 1 cost 0\n35 0\nnodes 1 placed 0 same 0 blocked 0\n",
+        run: Some((1, 0)),
+    },
+    Case {
+        shows: "a body that leaves the room",
+        scene: "prrt 1\nroom 100 100\nbody 0 0 4 0 4 4 0 4\nobstacle 40 0 60 0 60 60 40 60\nstart 97 0\ngoal 35 0 36 0\nstep 4\n",
+        status: 4,
+        text: "start blocked\n",
+        run: None,
+    },
+    Case {
+        shows: "a body that touches the right wall",
+        scene: "prrt 1\nroom 100 100\nbody 0 0 4 0 4 4 0 4\nobstacle 40 0 60 0 60 60 40 60\nstart 96 0\ngoal 35 0 36 0\nstep 4\n",
+        status: 1,
+        text: "no path\nnodes 1 placed 0 same 0 blocked 0\n",
+        run: Some((1, 0)),
+    },
+];
 
 // The body may touch a wall, and no obstacle.
 #[test]
 fn plans_for_a_body(rt: HostRuntime) {
-    let cases = [
-        Case {
-            shows: "a body that touches the obstacle",
-            scene: "prrt 1\nroom 100 100\nbody 0 0 4 0 4 4 0 4\nobstacle 40 0 60 0 60 60 40 60\nstart 36 0\ngoal 35 0 36 0\nstep 4\n",
-            status: 4,
-            text: "start blocked\n",
-        },
-        Case {
-            shows: "a body one step before it",
-            scene: "prrt 1\nroom 100 100\nbody 0 0 4 0 4 4 0 4\nobstacle 40 0 60 0 60 60 40 60\nstart 35 0\ngoal 35 0 36 0\nstep 4\n",
-            status: 0,
-            text: "path 1 cost 0\n35 0\nnodes 1 placed 0 same 0 blocked 0\n",
-        },
-        Case {
-            shows: "a body that leaves the room",
-            scene: "prrt 1\nroom 100 100\nbody 0 0 4 0 4 4 0 4\nobstacle 40 0 60 0 60 60 40 60\nstart 97 0\ngoal 35 0 36 0\nstep 4\n",
-            status: 4,
-            text: "start blocked\n",
-        },
-        Case {
-            shows: "a body that touches the right wall",
-            scene: "prrt 1\nroom 100 100\nbody 0 0 4 0 4 4 0 4\nobstacle 40 0 60 0 60 60 40 60\nstart 96 0\ngoal 35 0 36 0\nstep 4\n",
-            status: 1,
-            text: "no path\nnodes 1 placed 0 same 0 blocked 0\n",
-        },
-    ];
-    expect_each(&rt, rt.alloc(), &["plain"], &cases);
-}
-
-// Compares the answer of the commands that read a scene.
-fn expect_by_readers<R: Threads + Sync + Wait + Abort>(rt: &R, alloc: Global, case: &Case) {
-    expect(rt, alloc, &["plain"], case);
-    expect(rt, alloc, &["show"], case);
+    expect_each(&rt, rt.alloc(), &["plain"], &WITH_BODY);
 }
 
 // Compares the refusal of each text by the commands that read a scene. Each is given with what it shows and with the line
@@ -398,189 +378,178 @@ fn expect_refused<R: Threads + Sync + Wait + Abort>(
             scene,
             status: 3,
             text,
+            run: None,
         };
-        expect_by_readers(rt, alloc, &case);
+        expect(rt, alloc, &["plain"], &case);
+        expect(rt, alloc, &["show"], &case);
     }
 }
 
+static NOT_CONVEX: [(&str, &str, &str); 4] = [
+    (
+        "clockwise corners",
+        "prrt 1\nroom 100 100\nobstacle 0 0 0 9 9 9\n",
+        "line 3 kind 7 Corners\n",
+    ),
+    (
+        "a corner on an edge",
+        "prrt 1\nroom 100 100\nobstacle 0 0 5 0 9 0 9 9\n",
+        "line 3 kind 7 Corners\n",
+    ),
+    (
+        "a body with a corner on an edge",
+        "prrt 1\nbody 0 0 5 0 9 0 9 9\n",
+        "line 2 kind 7 Corners\n",
+    ),
+    (
+        "a body of two corners",
+        "prrt 1\nbody 0 0 1 0\n",
+        "line 2 kind 3 Words\n",
+    ),
+];
+
 #[test]
 fn refuses_what_is_not_convex(rt: HostRuntime) {
-    let cases = [
-        (
-            "clockwise corners",
-            "prrt 1\nroom 100 100\nobstacle 0 0 0 9 9 9\n",
-            "line 3 kind 7 Corners\n",
-        ),
-        (
-            "a corner on an edge",
-            "prrt 1\nroom 100 100\nobstacle 0 0 5 0 9 0 9 9\n",
-            "line 3 kind 7 Corners\n",
-        ),
-        (
-            "a body with a corner on an edge",
-            "prrt 1\nbody 0 0 5 0 9 0 9 9\n",
-            "line 2 kind 7 Corners\n",
-        ),
-        (
-            "a body of two corners",
-            "prrt 1\nbody 0 0 1 0\n",
-            "line 2 kind 3 Words\n",
-        ),
-    ];
-    expect_refused(&rt, rt.alloc(), &cases);
+    expect_refused(&rt, rt.alloc(), &NOT_CONVEX);
 }
+
+static FAULTY: [(&str, &str, &str); 16] = [
+    (
+        "a missing key",
+        "prrt 1\nroom 10 10\nstart 5 5\nstep 4\n",
+        "line 5 kind 9 Missing\n",
+    ),
+    (
+        "a repeated step",
+        "prrt 1\nroom 10 10\nstep 4\nstep 4\n",
+        "line 4 kind 6 Repeat\n",
+    ),
+    ("the empty text", "", "line 1 kind 1 Version\n"),
+    (
+        "an unknown key",
+        "prrt 1\nroom 10 10\nstar\n",
+        "line 3 kind 2 Key\n",
+    ),
+    (
+        "a leading zero",
+        "prrt 1\nstep 04\n",
+        "line 2 kind 4 Number\n",
+    ),
+    (
+        "a number of 23 digits",
+        "prrt 1\nstep 99999999999999999999999\n",
+        "line 2 kind 5 Range\n",
+    ),
+    (
+        "a start below 0",
+        "prrt 1\nstart -1 0\n",
+        "line 2 kind 5 Range\n",
+    ),
+    (
+        "a listed mark beside drawn ones",
+        "prrt 1\nmarks 5\nmark 1 1\n",
+        "line 3 kind 6 Repeat\n",
+    ),
+    (
+        "drawn marks beside a listed one",
+        "prrt 1\nmark 1 1\nmarks 5\n",
+        "line 3 kind 6 Repeat\n",
+    ),
+    (
+        "a line of drawn marks without a number",
+        "prrt 1\nmarks\n",
+        "line 2 kind 3 Words\n",
+    ),
+    ("too few words", "prrt 1\nroom 5\n", "line 2 kind 3 Words\n"),
+    (
+        "a tab within a word",
+        "prrt 1\nroom 5\t5\n",
+        "line 2 kind 3 Words\n",
+    ),
+    (
+        "a start below 0 in a room",
+        "prrt 1\nroom 10 10\nstart -1 5\n",
+        "line 3 kind 5 Range\n",
+    ),
+    (
+        "a start with a leading zero",
+        "prrt 1\nroom 10 10\nstart 05 5\n",
+        "line 3 kind 4 Number\n",
+    ),
+    (
+        "a start with one number",
+        "prrt 1\nroom 10 10\nstart 5\n",
+        "line 3 kind 3 Words\n",
+    ),
+    (
+        "a carriage return",
+        "prrt 1\r\nroom 5 5\r\n",
+        "line 1 kind 1 Version\n",
+    ),
+];
 
 #[test]
 fn refuses_texts_with_line_and_kind(rt: HostRuntime) {
-    let cases = [
-        (
-            "a missing key",
-            "prrt 1\nroom 10 10\nstart 5 5\nstep 4\n",
-            "line 5 kind 9 Missing\n",
-        ),
-        (
-            "a repeated step",
-            "prrt 1\nroom 10 10\nstep 4\nstep 4\n",
-            "line 4 kind 6 Repeat\n",
-        ),
-        ("the empty text", "", "line 1 kind 1 Version\n"),
-        (
-            "an unknown key",
-            "prrt 1\nroom 10 10\nstar\n",
-            "line 3 kind 2 Key\n",
-        ),
-        (
-            "a leading zero",
-            "prrt 1\nstep 04\n",
-            "line 2 kind 4 Number\n",
-        ),
-        (
-            "a number of 23 digits",
-            "prrt 1\nstep 99999999999999999999999\n",
-            "line 2 kind 5 Range\n",
-        ),
-        (
-            "a start below 0",
-            "prrt 1\nstart -1 0\n",
-            "line 2 kind 5 Range\n",
-        ),
-        (
-            "a listed mark beside drawn ones",
-            "prrt 1\nmarks 5\nmark 1 1\n",
-            "line 3 kind 6 Repeat\n",
-        ),
-        (
-            "drawn marks beside a listed one",
-            "prrt 1\nmark 1 1\nmarks 5\n",
-            "line 3 kind 6 Repeat\n",
-        ),
-        (
-            "a line of drawn marks without a number",
-            "prrt 1\nmarks\n",
-            "line 2 kind 3 Words\n",
-        ),
-        ("too few words", "prrt 1\nroom 5\n", "line 2 kind 3 Words\n"),
-        (
-            "a tab within a word",
-            "prrt 1\nroom 5\t5\n",
-            "line 2 kind 3 Words\n",
-        ),
-        (
-            "a start below 0 in a room",
-            "prrt 1\nroom 10 10\nstart -1 5\n",
-            "line 3 kind 5 Range\n",
-        ),
-        (
-            "a start with a leading zero",
-            "prrt 1\nroom 10 10\nstart 05 5\n",
-            "line 3 kind 4 Number\n",
-        ),
-        (
-            "a start with one number",
-            "prrt 1\nroom 10 10\nstart 5\n",
-            "line 3 kind 3 Words\n",
-        ),
-        (
-            "a carriage return",
-            "prrt 1\r\nroom 5 5\r\n",
-            "line 1 kind 1 Version\n",
-        ),
-    ];
-    expect_refused(&rt, rt.alloc(), &cases);
+    expect_refused(&rt, rt.alloc(), &FAULTY);
 }
 
-#[test]
-fn shows_a_body_and_obstacles(rt: HostRuntime) {
-    let case = Case {
+static SHOWN: [Case; 4] = [
+    Case {
+        shows: "a comment, two spaces, and no last line feed",
+        scene: "# a note\nprrt  1\nstep 4\ngoal 1 1 2 2\nstart 0 0\nroom 9 9",
+        status: 0,
+        text: "prrt 1\nroom 9 9\nbody 0 0\nstart 0 0\ngoal 1 1 2 2\nstep 4\ngamma 0\nseed 0\nstrips 1\n",
+        run: None,
+    },
+    Case {
+        shows: "listed marks",
+        scene: "prrt 1\nseed 7\nmark 3 4\nstrips 5\ngamma 6\nroom 9 9\nstart 0 0\ngoal 1 1 2 2\nstep 4\nmark 1 2\n",
+        status: 0,
+        text: "prrt 1\nroom 9 9\nbody 0 0\nstart 0 0\ngoal 1 1 2 2\nstep 4\ngamma 6\nseed 7\nstrips 5\nmark 3 4\nmark 1 2\n",
+        run: None,
+    },
+    Case {
+        shows: "drawn marks",
+        scene: "prrt 1\nmarks 5\nroom 9 9\nstart 0 0\ngoal 1 1 2 2\nstep 4\n",
+        status: 0,
+        text: "prrt 1\nroom 9 9\nbody 0 0\nstart 0 0\ngoal 1 1 2 2\nstep 4\ngamma 0\nseed 0\nstrips 1\nmarks 5\n",
+        run: None,
+    },
+    Case {
         shows: "a body and two obstacles",
         scene: "prrt 1\nstep 4\ngoal 1 1 2 2\nobstacle 5 5 6 5 6 6\nstart 0 0\nroom 9 9\nobstacle -1 -1 0 -1 -1 0\nbody -1 0 1 0 0 1\n",
         status: 0,
         text: "prrt 1\nroom 9 9\nbody -1 0 1 0 0 1\nobstacle 5 5 6 5 6 6\nobstacle -1 -1 0 -1 -1 0\nstart 0 0\ngoal 1 1 2 2\nstep 4\n\
                gamma 0\nseed 0\nstrips 1\n",
-    };
-    expect(&rt, rt.alloc(), &["show"], &case);
-}
+        run: None,
+    },
+];
 
 #[test]
-fn shows_a_scattered_scene(rt: HostRuntime) {
-    let cases = [
-        Case {
-            shows: "a comment, two spaces, and no last line feed",
-            scene: "# a note\nprrt  1\nstep 4\ngoal 1 1 2 2\nstart 0 0\nroom 9 9",
-            status: 0,
-            text: "prrt 1\nroom 9 9\nbody 0 0\nstart 0 0\ngoal 1 1 2 2\nstep 4\ngamma 0\nseed 0\nstrips 1\n",
-        },
-        Case {
-            shows: "listed marks",
-            scene: "prrt 1\nseed 7\nmark 3 4\nstrips 5\ngamma 6\nroom 9 9\nstart 0 0\ngoal 1 1 2 2\nstep 4\nmark 1 2\n",
-            status: 0,
-            text: "prrt 1\nroom 9 9\nbody 0 0\nstart 0 0\ngoal 1 1 2 2\nstep 4\ngamma 6\nseed 7\nstrips 5\nmark 3 4\nmark 1 2\n",
-        },
-        Case {
-            shows: "drawn marks",
-            scene: "prrt 1\nmarks 5\nroom 9 9\nstart 0 0\ngoal 1 1 2 2\nstep 4\n",
-            status: 0,
-            text: "prrt 1\nroom 9 9\nbody 0 0\nstart 0 0\ngoal 1 1 2 2\nstep 4\ngamma 0\nseed 0\nstrips 1\nmarks 5\n",
-        },
-    ];
-    expect_each(&rt, rt.alloc(), &["show"], &cases);
+fn shows_scenes(rt: HostRuntime) {
+    expect_each(&rt, rt.alloc(), &["show"], &SHOWN);
 }
 
-// Compares the refusal of a text. No run is handed out.
-fn expect_no_run<R: Threads + Sync + Wait + Abort>(
-    rt: &R,
-    alloc: Global,
-    words: &[&str],
-    case: &Case,
-) {
-    let called = call_over_text(rt, alloc, words, case.scene.as_bytes());
-    assert_refused(rt, words, &called, case);
-}
-
-// What is written for words over a source whose reads would fail, of which there is none. Compares the status.
-fn written_unread<R: Threads + Sync + Wait + Abort>(
-    rt: &R,
-    alloc: Global,
-    words: &[&str],
-    status: u8,
-) -> Called {
-    let called = call_with_faults(rt, alloc, words, b"prrt 1\n", 10, 1, 0);
-    assert_status(rt, words, called.status, status, "nothing read");
+// What a call for words has done over a source whose reads would fail, of which there is none.
+fn call_unread<R: Threads + Sync + Wait + Abort>(rt: &R, alloc: Global, words: &[&str]) -> Called {
+    let called = call(rt, alloc, words, "prrt 1\n", 10, 1);
+    expect_number(rt, called.read_faults, 0, "nothing read");
     called
 }
 
-// Compares the refusal of words over a scene, and over a source whose reads would fail, of which there is none. No run is
-// handed out.
+static NO_COMMAND: Case = Case {
+    shows: "words that ask for nothing",
+    scene: ONE_MARK,
+    status: 2,
+    text: "words refused\n",
+    run: None,
+};
+
+// Compares the refusal of words over a scene, and over a source whose reads would fail, of which there is none.
 fn expect_words_refused<R: Threads + Sync + Wait + Abort>(rt: &R, alloc: Global, words: &[&str]) {
-    let case = Case {
-        shows: "words that ask for nothing",
-        scene: ONE_MARK,
-        status: 2,
-        text: "words refused\n",
-    };
-    expect_no_run(rt, alloc, words, &case);
-    let called = written_unread(rt, alloc, words, case.status);
-    assert_text(rt, words, &called.text, case.text, case.shows);
+    expect(rt, alloc, words, &NO_COMMAND);
+    let called = call_unread(rt, alloc, words);
+    expect_answer(rt, words, &called, &NO_COMMAND);
 }
 
 // The same of each form of words.
@@ -590,106 +559,97 @@ fn expect_each_refused<R: Threads + Sync + Wait + Abort>(rt: &R, alloc: Global, 
     }
 }
 
-// Compares the refusal of a start that lies outside the room.
-fn expect_start_refused<R: Threads + Sync + Wait + Abort>(rt: &R, alloc: Global) {
-    let blocked = Case {
-        shows: "a start outside the room",
-        scene: BLOCKED_START,
-        status: 4,
-        text: "start blocked\n",
-    };
-    expect(rt, alloc, &["plain"], &blocked);
-}
+static NO_COMMANDS: [&[&str]; 20] = [
+    &[],
+    &["plain full"],
+    &["plain  full"],
+    &["plain", "full", "full"],
+    &["plain", "Full"],
+    &["full"],
+    &["full", "plain"],
+    &["show", "full"],
+    &["gen", "0", "full"],
+    &["trial", "3", "full"],
+    &["show", "show"],
+    &["Show"],
+    &["gen"],
+    &["gen", "10000"],
+    &["gen", "01"],
+    &["gen", "-1"],
+    &["gen", "-0"],
+    &["gen", ""],
+    &["gen", "1", "2"],
+    &["trial", "x"],
+];
+
+static OUTSIDE: Case = Case {
+    shows: "a start outside the room",
+    scene: BLOCKED_START,
+    status: 4,
+    text: "start blocked\n",
+    run: None,
+};
 
 #[test]
 fn refuses_with_the_cause(rt: HostRuntime) {
-    let forms: [&[&str]; 20] = [
-        &[],
-        &["plain full"],
-        &["plain  full"],
-        &["plain", "full", "full"],
-        &["plain", "Full"],
-        &["full"],
-        &["full", "plain"],
-        &["show", "full"],
-        &["gen", "0", "full"],
-        &["trial", "3", "full"],
-        &["show", "show"],
-        &["Show"],
-        &["gen"],
-        &["gen", "10000"],
-        &["gen", "01"],
-        &["gen", "-1"],
-        &["gen", "-0"],
-        &["gen", ""],
-        &["gen", "1", "2"],
-        &["trial", "x"],
-    ];
-    expect_each_refused(&rt, rt.alloc(), &forms);
-    expect_start_refused(&rt, rt.alloc());
+    expect_each_refused(&rt, rt.alloc(), &NO_COMMANDS);
+    expect(&rt, rt.alloc(), &["plain"], &OUTSIDE);
 }
 
-// What is written for a command and the number of a generated scene. Nothing is read.
-fn generated<R: Threads + Sync + Wait + Abort>(
-    rt: &R,
-    alloc: Global,
-    command: &str,
-    number: &str,
-) -> Called {
-    written_unread(rt, alloc, &[command, number], 0)
-}
-
-// Compares how the text of a generated scene begins, and its last line.
+// Compares how the text of a generated scene begins and ends.
 fn expect_generated<R: Threads + Sync + Wait + Abort>(
     rt: &R,
     alloc: Global,
     number: &str,
     begin: &str,
-    last: &str,
+    end: &str,
 ) {
-    let scene = generated(rt, alloc, "gen", number);
-    assert!(rt; scene.text.as_str().starts_with(begin));
-    expect_ends(rt, &scene.text, "prrt 1", last);
+    let words = ["gen", number];
+    let called = call_unread(rt, alloc, &words);
+    expect_number(rt, called.status(), 0, "a generated scene");
+    expect_ends(rt, called.text(), begin, end);
 }
 
 #[test]
 fn writes_a_generated_scene(rt: HostRuntime) {
     let first =
         "prrt 1\nroom 9999 9999\nbody 0 0 20 0 20 20 0 20\nobstacle 631 700 961 700 961 1030 631 1030\n";
-    expect_generated(&rt, rt.alloc(), "0", first, "marks 2000");
+    expect_generated(&rt, rt.alloc(), "0", first, "\nmarks 2000\n");
     let any = "prrt 1\nroom 9999 9999\nbody 0 0 20 0 20 20 0 20\nobstacle ";
-    expect_generated(&rt, rt.alloc(), "9999", any, "marks 20000");
+    expect_generated(&rt, rt.alloc(), "9999", any, "\nmarks 20000\n");
 }
 
-// Compares the first and the last line of the plan of a generated scene that has a path.
+// Compares how the plan of a generated scene begins and ends that has a path.
 fn expect_planned<R: Threads + Sync + Wait + Abort>(
     rt: &R,
     alloc: Global,
     number: &str,
-    first: &str,
-    last: &str,
+    begin: &str,
+    end: &str,
 ) {
-    let scene = generated(rt, alloc, "gen", number);
-    let report = report_of(rt, alloc, &scene.text);
-    expect_ends(rt, &report.text, first, last);
+    let scene = call_unread(rt, alloc, &["gen", number]);
+    let called = call(rt, alloc, &["plain"], scene.text(), 1 << 16, 0);
+    expect_number(rt, called.status(), 0, "a path");
+    expect_ends(rt, called.text(), begin, end);
 }
 
 // A trial is the plan of the generated scene without the lines of the points. It was worked out apart from the planner.
 #[test]
 fn tries_a_generated_scene(rt: HostRuntime) {
-    let path = "path 48 cost 3522991";
-    let counts = "nodes 7605 placed 7604 same 0 blocked 396";
+    let path = "path 48 cost 3522991\n";
+    let counts = "\nnodes 7605 placed 7604 same 0 blocked 396\n";
     expect_planned(&rt, rt.alloc(), "3", path, counts);
-    let summary = generated(&rt, rt.alloc(), "trial", "3");
-    let text = "path 48 cost 3522991\nnodes 7605 placed 7604 same 0 blocked 396\n";
-    assert_text(
-        &rt,
-        &["trial", "3"],
-        &summary.text,
-        text,
-        "a generated scene",
-    );
+    let called = call_unread(&rt, rt.alloc(), &["trial", "3"]);
+    expect_answer(&rt, &["trial", "3"], &called, &TRIED);
 }
+
+static TRIED: Case = Case {
+    shows: "a generated scene",
+    scene: "",
+    status: 0,
+    text: "path 48 cost 3522991\nnodes 7605 placed 7604 same 0 blocked 396\n",
+    run: Some((7605, 8000)),
+};
 
 mod calls;
 mod faults;

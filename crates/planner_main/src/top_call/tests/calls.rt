@@ -1,172 +1,202 @@
-//! Calls over a source and a sink in memory, and asserts of what they have done.
+//! Calls over a source and a sink in memory, and comparisons of what they have done.
 
-ghost use Rattle.std.specs.Prelude.{◌≡◌, ◌≤◌, false};
+ghost use Rattle.std.specs.Prelude.{◌≡◌, false};
 
 use super::*;
 
-// What a call has done: the status that it ended with, how many nodes the run that it handed out has and how many marks it
-// has handled, if it handed out one, and what it has written.
+// What is counted in a run that a call has handed out. All is 0 if it handed out none: a run has its start at least.
+#[derive(Clone, Copy)]
+pub struct Run {
+    pub nodes: u32,
+    pub marks: u32,
+    // How many marks were placed, ended at a node, and were blocked.
+    pub outcomes: [u32; 3],
+    // The greatest number of a worker that has handled a mark.
+    pub greatest_worker: u32,
+}
+
+const NO_RUN: Run = Run {
+    nodes: 0,
+    marks: 0,
+    outcomes: [0; 3],
+    greatest_worker: 0,
+};
+
+// How a call has ended: with which status, with which run, and the records of the first two marks of that run, if there are
+// two.
+#[derive(Clone, Copy)]
+pub struct Ended {
+    pub status: u8,
+    pub run: Run,
+    pub records: Option<(Record, Record)>,
+}
+
+// What a call has done: how it ended, how many of its reads failed, and the sink with what it has written.
 #[derive(Drop)]
 pub struct Called {
-    pub status: u8,
-    pub counts: Option<(u32, u32)>,
-    pub text: String,
+    pub ended: Ended,
+    pub read_faults: u64,
+    pub sink: MemSink,
 }
 
-// Asserts the text that a call for these words has written.
-pub fn assert_text<R: Abort>(rt: &R, words: &[&str], written: &str, text: &str, shows: &str) {
-    assert_eq!(rt; written, text, "{shows}: {words:?}");
+impl Called {
+    // What it has written.
+    pub fn text(&self) -> &str {
+        text_in(&self.sink)
+    }
+
+    // The status that it ended with.
+    pub fn status(&self) -> u64 {
+        u64::from(self.ended.status)
+    }
 }
 
-// Compares two texts, and says what they show if they differ.
-pub fn expect_text<R: Abort>(rt: &R, text: &str, want: &str, shows: &str) {
-    assert_eq!(rt; text, want, "{shows}");
+// Compares the status and the run of a call with those of a case.
+pub fn expect_ended<R: Abort>(rt: &R, called: &Called, case: &Case) {
+    expect_number(rt, called.status(), u64::from(case.status), case.shows);
+    let (nodes, marks) = case.run.unwrap_or((0, 0));
+    expect_number(
+        rt,
+        u64::from(called.ended.run.nodes),
+        u64::from(nodes),
+        case.shows,
+    );
+    expect_number(
+        rt,
+        u64::from(called.ended.run.marks),
+        u64::from(marks),
+        case.shows,
+    );
 }
 
-// Compares two numbers.
-pub fn expect_number<R: Abort>(rt: &R, number: u64, want: u64, shows: &str) {
-    assert_eq!(rt; number, want, "{shows}");
+// The same, and the text.
+pub fn expect_answer<R: Abort>(rt: &R, words: &[&str], called: &Called, case: &Case) {
+    expect_text(rt, words, called.text(), case.text, case.shows);
+    expect_ended(rt, called, case);
 }
 
-// Asserts the status that it ended with.
-pub fn assert_status<R: Abort>(rt: &R, words: &[&str], status: u8, want: u8, shows: &str) {
-    assert_eq!(rt; status, want, "{shows}: {words:?}");
+// How many marks of a run were placed, ended at a node, and were blocked.
+fn outcomes(grown: &Grown) -> [u32; 3] {
+    let (mut placed, mut same, mut blocked) = (0_u32, 0_u32, 0_u32);
+    for mark in 0..grown.limit() {
+        match grown.record_of(mark).outcome {
+            Outcome::Placed => placed = placed.saturating_add(1),
+            Outcome::Same(_) => same = same.saturating_add(1),
+            Outcome::Blocked => blocked = blocked.saturating_add(1),
+        }
+    }
+    [placed, same, blocked]
 }
 
-// Asserts the counts of the run that it handed out, if it handed out one.
-pub fn assert_counts<R: Abort>(
-    rt: &R,
-    words: &[&str],
-    counts: Option<(u32, u32)>,
-    want: Option<(u32, u32)>,
-) {
-    assert_eq!(rt; counts, want, "{words:?}");
+// The greatest number of a worker that has handled a mark of the run.
+fn greatest_worker(grown: &Grown) -> u32 {
+    let mut greatest = 0;
+    for mark in 0..grown.limit() {
+        let worker = grown.record_of(mark).worker;
+        if worker > greatest {
+            greatest = worker;
+        }
+    }
+    greatest
 }
 
-// Asserts how many of its reads or writes failed.
-pub fn assert_faults<R: Abort>(rt: &R, words: &[&str], faults: u64, want: u64) {
-    assert_eq!(rt; faults, want, "{words:?}");
+// What is counted in a run.
+fn counted(grown: &Grown) -> Run {
+    Run {
+        nodes: grown.count(),
+        marks: grown.limit(),
+        outcomes: outcomes(grown),
+        greatest_worker: greatest_worker(grown),
+    }
 }
 
-// Asserts that the text and the status are those of a case.
-pub fn assert_answer<R: Abort>(rt: &R, words: &[&str], called: &Called, case: &Case) {
-    assert_text(rt, words, &called.text, case.text, case.shows);
-    assert_status(rt, words, called.status, case.status, case.shows);
+// The records of the first two marks of a run, if there are two.
+fn first_records(grown: &Grown) -> Option<(Record, Record)> {
+    if grown.limit() < 2 {
+        return None;
+    }
+    Some((grown.record_of(0), grown.record_of(1)))
 }
 
-// Asserts that they are those of a refusal, which hands out no run.
-pub fn assert_refused<R: Abort>(rt: &R, words: &[&str], called: &Called, case: &Case) {
-    assert_answer(rt, words, called, case);
-    assert_counts(rt, words, called.counts, None);
+// How a call has ended that has done this.
+fn ending_of(done: &Done) -> Ended {
+    match &done.run {
+        Some(grown) => Ended {
+            status: done.status,
+            run: counted(grown),
+            records: first_records(grown),
+        },
+        None => Ended {
+            status: done.status,
+            run: NO_RUN,
+            records: None,
+        },
+    }
 }
 
-// What the call for these words over this source and this sink has done. The gate is told of the turns of workers.
-pub fn call<R: Threads + Sync + Wait + Abort, S: Source, G: Gate>(
+// How a call over this source and this sink ends. The gate is told of the turns of workers.
+fn call_over<R: Threads + Sync + Wait + Abort, G: Gate>(
     rt: &R,
     alloc: Global,
     words: &[&str],
-    source: &mut S,
+    source: &mut MemSource,
     sink: &mut MemSink,
     gate: &G,
-) -> Done
-    requires { (S.state source.old).has_ended ≡ false }
+) -> Ended
+    requires { source.old.ended ≡ false }
 {
     let given = sure(rt, given_words(alloc, words));
-    run(rt, alloc, &given, source, sink, gate)
+    ending_of(&run(rt, alloc, &given, source, sink, gate))
 }
 
-// A sink that takes all that is written, and does not fail.
-fn sure_sink<R: Abort>(rt: &R, alloc: Global) -> MemSink {
-    sure(rt, MemSink::new(alloc, 1 << 24, 1 << 24, &[]))
-}
-
-// The same over a sink that does not fail, and that sink.
-pub fn call_with_gate<R: Threads + Sync + Wait + Abort, S: Source, G: Gate>(
+// What a call has done over this sink, and over a source that gives this text in pieces of at most so many bytes (of one byte
+// at least), and fails at one of its reads (0: at none).
+pub fn call_into<R: Threads + Sync + Wait + Abort, G: Gate>(
     rt: &R,
     alloc: Global,
     words: &[&str],
-    source: &mut S,
+    text: &str,
+    most: usize,
+    fails: u32,
+    sink: MemSink,
     gate: &G,
-) -> (Done, MemSink)
-    requires { (S.state source.old).has_ended ≡ false }
-{
-    let mut sink = sure_sink(rt, alloc);
-    let done = call(rt, alloc, words, source, &mut sink, gate);
-    (done, sink)
+) -> Called {
+    match MemSource::new(alloc, text.as_bytes(), most.max(1), &[fails]) {
+        Ok(mut source) => {
+            let mut sink = sink;
+            let ended = call_over(rt, alloc, words, &mut source, &mut sink, gate);
+            Called {
+                ended,
+                read_faults: source.faults(),
+                sink,
+            }
+        }
+        Err(_) => panic!(rt; "no memory"),
+    }
+}
+
+// The same over a sink that does not fail.
+pub fn call_with_gate<R: Threads + Sync + Wait + Abort, G: Gate>(
+    rt: &R,
+    alloc: Global,
+    words: &[&str],
+    text: &str,
+    most: usize,
+    fails: u32,
+    gate: &G,
+) -> Called {
+    let sink = sure(rt, MemSink::new(alloc, 1 << 24, 1 << 24, &[]));
+    call_into(rt, alloc, words, text, most, fails, sink, gate)
 }
 
 // The same through the gate that does nothing.
-pub fn call_over<R: Threads + Sync + Wait + Abort, S: Source>(
+pub fn call<R: Threads + Sync + Wait + Abort>(
     rt: &R,
     alloc: Global,
     words: &[&str],
-    source: &mut S,
-) -> Called
-    requires { (S.state source.old).has_ended ≡ false }
-{
-    let (done, sink) = call_with_gate(rt, alloc, words, source, &NoGate);
-    Called {
-        status: done.status,
-        counts: counts_of(&done),
-        text: sure(rt, copied(alloc, text_in(&sink))),
-    }
-}
-
-// The same over a source that gives as much of this text as is asked for.
-pub fn call_over_text<R: Threads + Sync + Wait + Abort>(
-    rt: &R,
-    alloc: Global,
-    words: &[&str],
-    text: &[u8],
-) -> Called {
-    match SureSource::new(alloc, text) {
-        Ok(mut source) => call_over(rt, alloc, words, &mut source),
-        Err(error) => panic!(rt; "{error}"),
-    }
-}
-
-// The same over one that gives it in pieces of at most so many bytes.
-pub fn call_by_pieces<R: Threads + Sync + Wait + Abort>(
-    rt: &R,
-    alloc: Global,
-    words: &[&str],
-    text: &[u8],
-    most: usize,
-) -> Called
-    requires { 1 ≤ most }
-{
-    match MemSource::new(alloc, text, most, &[]) {
-        Ok(mut source) => call_over(rt, alloc, words, &mut source),
-        Err(error) => panic!(rt; "{error}"),
-    }
-}
-
-// The same over one that fails at one of its reads. Asserts how many of them failed.
-pub fn call_with_faults<R: Threads + Sync + Wait + Abort>(
-    rt: &R,
-    alloc: Global,
-    words: &[&str],
-    text: &[u8],
+    text: &str,
     most: usize,
     fails: u32,
-    faults: u64,
-) -> Called
-    requires { 1 ≤ most }
-{
-    match MemSource::new(alloc, text, most, &[fails]) {
-        Ok(mut source) => {
-            let called = call_over(rt, alloc, words, &mut source);
-            assert_faults(rt, words, source.faults(), faults);
-            called
-        }
-        Err(error) => panic!(rt; "{error}"),
-    }
-}
-
-// How many nodes the run that was handed out has and how many marks it has handled, if there is one.
-pub fn counts_of(done: &Done) -> Option<(u32, u32)> {
-    match &done.run {
-        Some(grown) => Some((grown.count(), grown.limit())),
-        None => None,
-    }
+) -> Called {
+    call_with_gate(rt, alloc, words, text, most, fails, &NoGate)
 }

@@ -2,118 +2,226 @@
 
 use super::*;
 
-// These lines, and then one so many times.
-fn repeated(alloc: Global, lines: &str, line: &str, times: u32) -> Result<String, Memory> {
-    let mut text = copied(alloc, lines)?;
+// These lines, then one so many times, and then these lines.
+fn repeated(
+    alloc: Global,
+    head: &str,
+    line: &str,
+    times: u32,
+    tail: &str,
+) -> Result<String, Memory> {
+    let mut text = copied(alloc, head)?;
     for _ in 0..times {
         text.push_str(line)?;
     }
+    text.push_str(tail)?;
     Ok(text)
 }
 
-// Compares the answer to a long scene.
-fn expect_answer<R: Threads + Sync + Wait + Abort>(
-    rt: &R,
-    alloc: Global,
-    words: &[&str],
-    scene: &str,
+// A long scene, which has a line so many times between others and is read in pieces of at most so many bytes; and what is to
+// be answered to it: a text, and after that the line so many times.
+struct Long<'a> {
+    words: &'a [&'a str],
+    most: usize,
+    head: &'a str,
+    line: &'a str,
+    times: u32,
+    tail: &'a str,
     status: u8,
-    text: &str,
-) {
-    let case = Case {
-        shows: "a long scene",
-        scene,
-        status,
-        text,
-    };
-    expect_by_pieces(rt, alloc, words, scene.as_bytes(), 1 << 16, &case);
-}
-
-// A scene of so many obstacles.
-fn among_obstacles(alloc: Global, count: u32) -> Result<String, Memory> {
-    let lines = "prrt 1\nroom 100 100\n";
-    let mut scene = repeated(alloc, lines, "obstacle 40 0 60 0 60 60\n", count)?;
-    scene.push_str("start 0 0\ngoal 0 0 0 0\nstep 4\n")?;
-    Ok(scene)
+    text: &'a str,
+    shown: u32,
+    run: Option<(u32, u32)>,
 }
 
 // Compares the answer to such a scene.
-fn expect_among_obstacles<R: Threads + Sync + Wait + Abort>(
-    rt: &R,
-    alloc: Global,
-    count: u32,
-    status: u8,
-    text: &str,
-) {
-    let scene = sure(rt, among_obstacles(alloc, count));
-    expect_answer(rt, alloc, &["plain"], &scene, status, text);
+fn expect_long<R: Threads + Sync + Wait + Abort>(rt: &R, alloc: Global, long: &Long) {
+    let scene = sure(
+        rt,
+        repeated(alloc, long.head, long.line, long.times, long.tail),
+    );
+    let text = sure(rt, repeated(alloc, long.text, long.line, long.shown, ""));
+    let case = Case {
+        shows: "a long scene",
+        scene: &scene,
+        status: long.status,
+        text: &text,
+        run: long.run,
+    };
+    expect_by_pieces(rt, alloc, long.words, long.most, &case);
 }
+
+// The same of each scene.
+fn expect_each_long<R: Threads + Sync + Wait + Abort>(rt: &R, alloc: Global, longs: &[Long]) {
+    for long in longs {
+        expect_long(rt, alloc, long);
+    }
+}
+
+static OBSTACLES: [Long; 2] = [
+    Long {
+        words: &["plain"],
+        most: 65_536,
+        head: "prrt 1\nroom 100 100\n",
+        line: "obstacle 40 0 60 0 60 60\n",
+        times: 1_024,
+        tail: "start 0 0\ngoal 0 0 0 0\nstep 4\n",
+        status: 0,
+        text: "path 1 cost 0\n0 0\nnodes 1 placed 0 same 0 blocked 0\n",
+        shown: 0,
+        run: Some((1, 0)),
+    },
+    Long {
+        words: &["plain"],
+        most: 65_536,
+        head: "prrt 1\nroom 100 100\n",
+        line: "obstacle 40 0 60 0 60 60\n",
+        times: 1_025,
+        tail: "start 0 0\ngoal 0 0 0 0\nstep 4\n",
+        status: 3,
+        text: "line 1027 kind 8 Many\n",
+        shown: 0,
+        run: None,
+    },
+];
 
 #[test]
 fn plans_among_as_many_obstacles_as_there_may_be(rt: HostRuntime) {
-    let report = "path 1 cost 0\n0 0\nnodes 1 placed 0 same 0 blocked 0\n";
-    expect_among_obstacles(&rt, rt.alloc(), 1_024, 0, report);
-    expect_among_obstacles(&rt, rt.alloc(), 1_025, 3, "line 1027 kind 8 Many\n");
+    expect_each_long(&rt, rt.alloc(), &OBSTACLES);
 }
 
-// A scene of so many marks on its start.
-fn marks_on_start(alloc: Global, count: u32) -> Result<String, Memory> {
-    let lines = "prrt 1\nroom 9 9\nstart 0 0\ngoal 1 1 2 2\nstep 4\n";
-    repeated(alloc, lines, "mark 0 0\n", count)
-}
-
-// Compares how many lines the canonical text of a scene of so many marks has.
-fn expect_shown<R: Threads + Sync + Wait + Abort>(rt: &R, alloc: Global, count: u32, lines: usize) {
-    let scene = sure(rt, marks_on_start(alloc, count));
-    let called = call_by_pieces(rt, alloc, &["show"], scene.as_bytes(), 1 << 16);
-    assert_status(rt, &["show"], called.status, 0, "many lines");
-    expect_line_count(rt, &called.text, lines);
-}
+static MARKS_SHOWN: [Long; 2] = [
+    Long {
+        words: &["show"],
+        most: 65_536,
+        head: "prrt 1\nroom 9 9\nstart 0 0\ngoal 1 1 2 2\nstep 4\n",
+        line: "mark 0 0\n",
+        times: 262_143,
+        tail: "",
+        status: 0,
+        text: "prrt 1\nroom 9 9\nbody 0 0\nstart 0 0\ngoal 1 1 2 2\nstep 4\ngamma 0\nseed 0\nstrips 1\n",
+        shown: 262_143,
+        run: None,
+    },
+    Long {
+        words: &["show"],
+        most: 65_536,
+        head: "prrt 1\nroom 9 9\nstart 0 0\ngoal 1 1 2 2\nstep 4\n",
+        line: "mark 0 0\n",
+        times: 262_144,
+        tail: "",
+        status: 3,
+        text: "line 262149 kind 8 Many\n",
+        shown: 0,
+        run: None,
+    },
+];
 
 #[test]
 fn shows_as_many_marks_as_there_may_be(rt: HostRuntime) {
-    expect_shown(&rt, rt.alloc(), 262_143, 262_152);
-    let more = sure(&rt, marks_on_start(rt.alloc(), 262_144));
-    let refusal = "line 262149 kind 8 Many\n";
-    expect_answer(&rt, rt.alloc(), &["show"], &more, 3, refusal);
+    expect_each_long(&rt, rt.alloc(), &MARKS_SHOWN);
 }
 
 // All marks lie on the start, or on one of the four points of the room.
+static MARKS_PLANNED: [Long; 2] = [
+    Long {
+        words: &["plain"],
+        most: 65_536,
+        head: "prrt 1\nroom 9 9\nstart 0 0\ngoal 1 1 2 2\nstep 4\ngamma 9\n",
+        line: "mark 0 0\n",
+        times: 262_143,
+        tail: "",
+        status: 1,
+        text: "no path\nnodes 1 placed 0 same 262143 blocked 0\n",
+        shown: 0,
+        run: Some((1, 262_143)),
+    },
+    Long {
+        words: &["plain"],
+        most: 65_536,
+        head: MOST_DRAWN_MARKS,
+        line: "",
+        times: 0,
+        tail: "",
+        status: 0,
+        text: "path 2 cost 363\n0 0\n1 1\nnodes 4 placed 3 same 262140 blocked 0\n",
+        shown: 0,
+        run: Some((4, 262_143)),
+    },
+];
+
 #[test]
 fn plans_over_as_many_marks_as_there_may_be(rt: HostRuntime) {
-    let drawn = "path 2 cost 363\n0 0\n1 1\nnodes 4 placed 3 same 262140 blocked 0\n";
-    expect_answer(&rt, rt.alloc(), &["plain"], MOST_DRAWN_MARKS, 0, drawn);
-    let lines = "prrt 1\nroom 9 9\nstart 0 0\ngoal 1 1 2 2\nstep 4\ngamma 9\n";
-    let scene = sure(&rt, repeated(rt.alloc(), lines, "mark 0 0\n", 262_143));
-    let listed = "no path\nnodes 1 placed 0 same 262143 blocked 0\n";
-    expect_answer(&rt, rt.alloc(), &["plain"], &scene, 1, listed);
+    expect_each_long(&rt, rt.alloc(), &MARKS_PLANNED);
 }
 
-// A comment of so many bytes.
-pub fn comment(alloc: Global, length: usize) -> Result<Vec<u8>, Memory> {
-    Ok(vec![in alloc; b'#'; length]?)
-}
+// 64 bytes of a comment: 262,144 times that are as many bytes as a text may have.
+const COMMENT: &str = "################################################################";
 
-// Compares the refusal of a comment of so many bytes, which is no scene, as its first line that is none is missing.
-fn expect_comment_refused<R: Threads + Sync + Wait + Abort>(
-    rt: &R,
-    alloc: Global,
-    length: usize,
-    line: &str,
-) {
-    let text = sure(rt, comment(alloc, length));
-    let refusal = Case {
-        shows: "a text of comments alone",
-        scene: "",
+// Comments alone are no scene, as their first line that is none is missing.
+static COMMENTS: [Long; 5] = [
+    Long {
+        words: &["show"],
+        most: 16_777_216,
+        head: "",
+        line: COMMENT,
+        times: 262_144,
+        tail: "",
         status: 3,
-        text: line,
-    };
-    expect_at_once(rt, alloc, &["show"], &text, &refusal);
-    expect_by_pieces(rt, alloc, &["show"], &text, 5000, &refusal);
-}
+        text: "line 2 kind 1 Version\n",
+        shown: 0,
+        run: None,
+    },
+    Long {
+        words: &["show"],
+        most: 5_000,
+        head: "",
+        line: COMMENT,
+        times: 262_144,
+        tail: "",
+        status: 3,
+        text: "line 2 kind 1 Version\n",
+        shown: 0,
+        run: None,
+    },
+    Long {
+        words: &["show"],
+        most: 16_777_216,
+        head: "",
+        line: COMMENT,
+        times: 262_144,
+        tail: "#",
+        status: 3,
+        text: "text too long\n",
+        shown: 0,
+        run: None,
+    },
+    Long {
+        words: &["show"],
+        most: 5_000,
+        head: "",
+        line: COMMENT,
+        times: 262_144,
+        tail: "#",
+        status: 3,
+        text: "text too long\n",
+        shown: 0,
+        run: None,
+    },
+    Long {
+        words: &["plain", "full"],
+        most: 16_777_216,
+        head: "",
+        line: COMMENT,
+        times: 262_144,
+        tail: "#",
+        status: 3,
+        text: "text too long\n",
+        shown: 0,
+        run: None,
+    },
+];
 
 #[test]
 fn reads_as_many_bytes_as_there_may_be(rt: HostRuntime) {
-    expect_comment_refused(&rt, rt.alloc(), 16_777_216, "line 2 kind 1 Version\n");
-    expect_comment_refused(&rt, rt.alloc(), 16_777_217, "text too long\n");
+    expect_each_long(&rt, rt.alloc(), &COMMENTS);
 }
