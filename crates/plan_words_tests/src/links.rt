@@ -1,0 +1,179 @@
+//! Two passes whose points lead to one place of the kd-tree.
+
+ghost use Rattle.std.specs.Prelude.{◌≡◌, IfErr, IfOk, IfSome, Some, length, true};
+ghost use Rattle.plan_words.specs.States.{MayClaim};
+ghost use Rattle.plan_words_tests.specs.HeldMarks.{HoldsMark};
+ghost use Rattle.step_core.specs.Views.{tree_seen};
+ghost use Rattle.step_core.specs.declared.views.Stage.TheVariants.{Claimed, Counted, Pointed};
+
+use crate::passes::{START, last_pass};
+use edge_cost::steer;
+use plan_model::{Goal, Memory, Outcome, Point, Record, SmallScene};
+use plan_words::{Pass, Shared};
+use std::alloc::Global;
+use std::process::Abort;
+use std::test::Fail;
+use step_core::Grown;
+
+const WALL: Point = Point { x: 0, y: 50 };
+
+const FAR: Point = Point { x: 40, y: 79 };
+
+/// Two passes over three marks, of which the first two lie to the right of the start.
+fn two_passes(alloc: Global) -> Result<(Shared, Pass, Pass), Fail>
+    ensures opening { IfOk result (λ two. two.0.opening ≡ 0) }
+    ensures marks { IfOk result (λ two. length two.0.task.marks ≡ 3) }
+    ensures first { IfOk result (λ two. MayClaim two.0 two.1) }
+    ensures second { IfOk result (λ two. MayClaim two.0 two.2) }
+{
+    let task = SmallScene {
+        room: Point { x: 100, y: 100 },
+        start: START,
+        goal: Goal {
+            low: FAR,
+            high: FAR,
+        },
+        step: 50,
+        gamma: 1000,
+        seed: 0,
+        strips: 1,
+    }
+    .task(alloc, &[WALL, FAR, Point { x: 40, y: 30 }])?;
+    let grown = Grown::new(alloc, task)?;
+    let (shared, mut passes) = Shared::start(alloc, grown, 2)?;
+    let second = last_pass(&shared, &mut passes).ok_or(Memory)?;
+    let first = last_pass(&shared, &mut passes).ok_or(Memory)?;
+    Ok((shared, first, second))
+}
+
+/// Claims a mark.
+fn take_mark(shared: &Shared, pass: &mut Pass) -> Option<u32>
+    requires may_claim { MayClaim shared.now pass.old }
+    requires opening { shared.now.opening ≡ 0 }
+    requires marks { length shared.now.task.marks ≡ 3 }
+    ensures { IfSome result (λ k. HoldsMark shared.now k Claimed pass.new) }
+{
+    shared.claim(pass, 3)
+}
+
+/// Writes the point of the mark in hand, steered from the start.
+fn write_from_start(shared: &Shared, pass: &mut Pass, mark: u32) -> Point
+    requires { HoldsMark shared.now mark Claimed pass.old }
+    ensures { HoldsMark shared.now mark Pointed pass.new }
+{
+    let start = shared.point(pass, 0);
+    let towards = shared.task().marks.as_slice()[mark as usize];
+    let p = steer(start, towards, shared.task().scene.step);
+    shared.write_point(pass, 0, p);
+    p
+}
+
+/// Looks to the right of the start, and finds no node there.
+fn expect_free<R: Abort>(rt: &R, shared: &Shared, pass: &mut Pass, mark: u32)
+    requires { HoldsMark shared.now mark Pointed pass.old }
+    ensures { HoldsMark shared.now mark Pointed pass.new }
+{
+    let child = shared.child(pass, 0, true);
+    assert_eq!(rt; child, None);
+}
+
+/// Links the node in hand to the right of the start.
+fn link_at_start<R: Abort>(rt: &R, shared: &Shared, pass: &mut Pass, mark: u32) -> Result<(), u32>
+    requires { HoldsMark shared.now mark Pointed pass.old }
+    ensures linked { IfOk result (λ _. HoldsMark shared.now mark Counted pass.new) }
+    ensures same { IfErr result (λ _. HoldsMark shared.now mark Pointed pass.new) }
+    ensures met { IfErr result (λ c. (tree_seen pass.new.view).child 0 true ≡ Some c) }
+{
+    let start = shared.point(pass, 0);
+    let p = pass.hand_point();
+    if p.x < start.x {
+        panic!(rt; "the point lies to the left");
+    }
+    if p.y <= start.y {
+        panic!(rt; "the point is not above");
+    }
+    shared.link(pass, 0, true)
+}
+
+/// Meets the node to the right of the start, looks to its left, and links the node in hand there.
+fn link_below<R: Abort>(
+    rt: &R,
+    shared: &Shared,
+    pass: &mut Pass,
+    mark: u32,
+    met: u32,
+) -> Result<(), u32>
+    requires holds { HoldsMark shared.now mark Pointed pass.old }
+    requires met { (tree_seen pass.old.view).child 0 true ≡ Some met }
+    ensures { IfOk result (λ _. HoldsMark shared.now mark Counted pass.new) }
+{
+    let above = shared.point(pass, met);
+    assert_eq!(rt; above, WALL);
+    let child = shared.child(pass, met, false);
+    assert_eq!(rt; child, None);
+    let start = shared.point(pass, 0);
+    let p = pass.hand_point();
+    if p.x < start.x {
+        panic!(rt; "the point lies to the left");
+    }
+    if p.y <= start.y {
+        panic!(rt; "the point is not above");
+    }
+    if above.y <= p.y {
+        panic!(rt; "the point lies on the other side");
+    }
+    shared.link(pass, met, false)
+}
+
+/// Counts the start and two nodes.
+fn expect_three<R: Abort>(rt: &R, shared: &Shared, pass: &mut Pass, mark: u32)
+    requires { HoldsMark shared.now mark Counted pass.old }
+    ensures { HoldsMark shared.now mark Counted pass.new }
+{
+    let nodes = shared.number(pass);
+    assert_eq!(rt; nodes, 3);
+}
+
+/// Records that the mark in hand was placed.
+fn finish_placed(shared: &Shared, pass: &mut Pass, mark: u32)
+    requires { HoldsMark shared.now mark Counted pass.old }
+{
+    let entry = Record {
+        worker: pass.worker(),
+        turn: pass.turn(),
+        nearest: 0,
+        outcome: Outcome::Placed,
+        first_parent: 0,
+        first_cost: 0,
+        class: 1,
+    };
+    shared.finish(pass, entry);
+}
+
+#[test]
+fn two_passes_link_at_one_place(rt: HostRuntime) -> Result<(), Fail> {
+    let (shared, mut first, mut second) = two_passes(rt.alloc())?;
+    let one = take_mark(&shared, &mut first).ok_or(Memory)?;
+    let other = take_mark(&shared, &mut second).ok_or(Memory)?;
+    assert_eq!(rt; (one, other), (0, 1));
+    let wall = write_from_start(&shared, &mut first, one);
+    assert_eq!(rt; wall, WALL);
+    let partway = write_from_start(&shared, &mut second, other);
+    assert_eq!(rt; partway, Point { x: 22, y: 44 });
+    expect_free(&rt, &shared, &mut first, one);
+    expect_free(&rt, &shared, &mut second, other);
+    let Ok(()) = link_at_start(&rt, &shared, &mut first, one) else {
+        panic!(rt; "the place was taken")
+    };
+    let Err(met) = link_at_start(&rt, &shared, &mut second, other) else {
+        panic!(rt; "the place was free")
+    };
+    assert_eq!(rt; met, 1);
+    let Ok(()) = link_below(&rt, &shared, &mut second, other, met) else {
+        panic!(rt; "the place was taken")
+    };
+    expect_three(&rt, &shared, &mut first, one);
+    finish_placed(&shared, &mut first, one);
+    finish_placed(&shared, &mut second, other);
+    Ok(())
+}
