@@ -31,11 +31,11 @@ impl Model for Pass {
     ghost Value = { PassState };
 
     ghost view = { λ p. record {
-        table = p.seat.table_id;
-        view = p.seat.me.0;
-        spots = p.scratch.spots.items;
-        near = p.scratch.near.items;
-        around = p.scratch.around.items;
+      table = p.seat.table_id;
+      view = p.seat.me.0;
+      spots = p.scratch.spots.items;
+      near = p.scratch.near.items;
+      around = p.scratch.around.items;
     } };
 
     ghost invariant = { λ p. (p.seat.me.1 ≡ []) × IsTied p.seat.me.0 p.member p.hand
