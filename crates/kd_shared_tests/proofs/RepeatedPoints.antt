@@ -1,0 +1,31 @@
+-- Points that are pushed one by one, each within the room.
+use Rattle.std.proofs.Common.{◌≡◌, ℕ, ◌+◌, ◌≤◌, ◌<◌, Bool, true, List, [], ◌∷◌, ◌++◌, length, length-append, ap, ◌∙◌, arith, refl}
+use Rattle.std.specs.Prelude.{◌&&◌, nat_le}
+use Rattle.std.specs.List.{list_all}
+use Rattle.std.proofs.lemmas.Bool.{le-leb}
+use Rattle.std.proofs.lemmas.List.Folds.{list_all-append}
+use Rattle.plan_model.specs.Limits.{is_mark, is_plan}
+use Rattle.plan_model.specs.declared.geometry.Point.{Point}
+use Rattle.plan_model.specs.declared.limits.TheConstants.{MOST_MARKS, MOST_SIDE}
+use Rattle.plan_model.specs.declared.scenes.Marks.TheVariants.{Listed}
+
+-- so many points, each one that a mark may have
+pub record AreMarks (points : List Point) (n : ℕ) : Type 0 where
+  pub marks : list_all is_mark points ≡ true
+  pub count : length points ≡ n
+
+pub AreMarks-none : AreMarks [] 0
+AreMarks-none = record { marks = refl; count = refl }
+
+pub AreMarks-push :
+    (points after : List Point) (p : Point) (n : ℕ) → AreMarks points n → after ≡ points ++ p ∷ [] → p.x ≤ MOST_SIDE → p.y ≤ MOST_SIDE → AreMarks after (n + 1)
+AreMarks-push points after p n marks is low high = record {
+  marks =
+      ap (list_all is_mark) is ∙ list_all-append is_mark points (p ∷ []) ∙ ap (λ b. b && list_all is_mark (p ∷ [])) marks.marks
+      ∙ ap (λ b. (b && nat_le p.y MOST_SIDE) && true) (le-leb p.x MOST_SIDE low) ∙ ap (λ b. b && true) (le-leb p.y MOST_SIDE high);
+  count = omega (arith, ap (λ l. length l) is, length-append points (p ∷ []), marks.count);
+}
+
+pub is_plan-marks : (points : List Point) (n : ℕ) → AreMarks points n → n ≤ MOST_MARKS → is_plan (Listed points) ≡ true
+is_plan-marks points n marks few =
+    ap (λ b. b && list_all is_mark points) (le-leb (length points) MOST_MARKS (omega (arith, marks.count, few))) ∙ marks.marks

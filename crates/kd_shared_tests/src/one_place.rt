@@ -1,0 +1,106 @@
+//! Two passes whose points lead to one place of the kd-tree, and a pass that comes to a point second.
+
+ghost use Rattle.std.specs.Prelude.{◌≡◌, IfOk, IsTrue};
+ghost use Rattle.kd_shared_tests.specs.HeldMarks.{HoldsMark};
+ghost use Rattle.plan_model.specs.Limits.{is_plan};
+ghost use Rattle.plan_model.specs.declared.scenes.Marks.TheVariants.{Listed};
+ghost use Rattle.plan_words.specs.States.{MayClaim};
+ghost use Rattle.step_core.specs.declared.views.Stage.TheVariants.{Pointed};
+
+use crate::growing::{last_pass, place_and_finish, take_mark, write_from_start};
+use kd_shared::{Placing, find, near, nearest};
+use plan_model::{Goal, Memory, Point, SmallScene};
+use plan_words::{Pass, Shared};
+use std::alloc::Global;
+use std::process::Abort;
+use std::test::Fail;
+use step_core::Grown;
+
+const ABOVE: Point = Point { x: 0, y: 50 };
+
+const FAR: Point = Point { x: 40, y: 79 };
+
+const MIDDLE: Point = Point { x: 22, y: 44 };
+
+const RIGHT: Point = Point { x: 40, y: 30 };
+
+/// Two passes over these marks, from a corner of a small room.
+fn two_passes(alloc: Global, marks: &[Point]) -> Result<(Shared, Pass, Pass), Fail>
+    requires { IsTrue (is_plan (Listed marks.now)) }
+    ensures opening { IfOk result (λ two. two.0.opening ≡ 0) }
+    ensures marks { IfOk result (λ two. two.0.task.marks ≡ marks.now) }
+    ensures first { IfOk result (λ two. MayClaim two.0 two.1) }
+    ensures second { IfOk result (λ two. MayClaim two.0 two.2) }
+{
+    let task = SmallScene {
+        room: Point { x: 100, y: 100 },
+        start: Point { x: 0, y: 0 },
+        goal: Goal {
+            low: FAR,
+            high: FAR,
+        },
+        step: 50,
+        gamma: 1000,
+        seed: 0,
+        strips: 1,
+    }
+    .task(alloc, marks)?;
+    let grown = Grown::new(alloc, task)?;
+    let (shared, mut passes) = Shared::start(alloc, grown, 2)?;
+    let second = last_pass(&shared, &mut passes).ok_or(Memory)?;
+    let first = last_pass(&shared, &mut passes).ok_or(Memory)?;
+    Ok((shared, first, second))
+}
+
+/// Looks for a node at a point, with a mark in hand.
+fn look_for(shared: &Shared, pass: &mut Pass, mark: u32, p: Point) -> Option<u32>
+    requires { HoldsMark shared.now mark Pointed pass.old }
+    ensures { HoldsMark shared.now mark Pointed pass.new }
+{
+    find(shared, pass, p)
+}
+
+#[test]
+fn the_second_at_a_place_goes_one_node_deeper(rt: HostRuntime) -> Result<(), Fail> {
+    let (shared, mut first, mut second) = two_passes(rt.alloc(), &[ABOVE, FAR, RIGHT])?;
+    let one = take_mark(&shared, &mut first, 3).ok_or(Memory)?;
+    let other = take_mark(&shared, &mut second, 3).ok_or(Memory)?;
+    assert_eq!(rt; (one, other), (0, 1));
+    let upper = write_from_start(&shared, &mut first, one);
+    let middle = write_from_start(&shared, &mut second, other);
+    assert_eq!(rt; (upper, middle), (ABOVE, MIDDLE));
+    // both see that the place is empty
+    let found = look_for(&shared, &mut first, one, ABOVE);
+    let also = look_for(&shared, &mut second, other, MIDDLE);
+    assert_eq!(rt; (found, also), (None, None));
+    let placed = place_and_finish(&shared, &mut first, one);
+    let below = place_and_finish(&shared, &mut second, other);
+    assert_eq!(rt; (placed, below), (Placing::Placed, Placing::Placed));
+    let found = find(&shared, &mut first, MIDDLE);
+    assert_eq!(rt; found, Some(2));
+    let closest = nearest(&shared, &mut first, FAR);
+    assert_eq!(rt; closest, 2);
+    near(&shared, &mut first, ABOVE, 23);
+    assert_eq!(rt; first.near_list(), [1, 2].as_slice());
+    let nodes = shared.number(&mut first);
+    assert_eq!(rt; nodes, 3);
+    Ok(())
+}
+
+#[test]
+fn the_second_at_a_point_is_told_the_first(rt: HostRuntime) -> Result<(), Fail> {
+    let (shared, mut first, mut second) = two_passes(rt.alloc(), &[ABOVE, ABOVE])?;
+    let one = take_mark(&shared, &mut first, 2).ok_or(Memory)?;
+    let other = take_mark(&shared, &mut second, 2).ok_or(Memory)?;
+    let upper = write_from_start(&shared, &mut first, one);
+    let also = write_from_start(&shared, &mut second, other);
+    assert_eq!(rt; (upper, also), (ABOVE, ABOVE));
+    let free = look_for(&shared, &mut first, one, ABOVE);
+    assert_eq!(rt; free, None);
+    let placed = place_and_finish(&shared, &mut second, other);
+    let same = place_and_finish(&shared, &mut first, one);
+    assert_eq!(rt; (placed, same), (Placing::Placed, Placing::Same(2)));
+    let nodes = shared.number(&mut first);
+    assert_eq!(rt; nodes, 2);
+    Ok(())
+}
