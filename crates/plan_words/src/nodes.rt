@@ -184,7 +184,7 @@ fn after_link(hand: Hand, found: u64) -> Hand
     }
 }
 
-/// The hand, which has come so far.
+/// The hand, at this stage.
 fn at_stage(hand: Hand, stage: Stage) -> Hand
     ensures { result ≡ record hand { stage = stage } }
 {

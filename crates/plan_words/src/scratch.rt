@@ -11,7 +11,7 @@ use crate::passes::Pass;
 use plan_model::Point;
 use std::alloc::{AllocError, Global};
 
-/// A node that a search is to visit. A search reads of `gap` and `point` what it has written itself.
+/// A node that a search is to visit. A search uses only one of `gap` and `point`.
 #[derive(Clone, Copy)]
 pub struct Spot {
     /// The number of the node.
@@ -113,14 +113,14 @@ impl Pass {
         self.scratch.near.sort_unstable();
     }
 
-    /// The near list.
+    /// The nodes that the last search for near nodes found, in rising number.
     pub fn near_list(&self) -> &[u32]
         ensures { result.now ≡ self.now.near }
     {
         self.scratch.near.as_slice()
     }
 
-    /// The second list of nodes.
+    /// The nodes that the last search around a point found, in rising number. It leaves the near list as it is.
     pub fn around_list(&self) -> &[u32]
         ensures { result.now ≡ self.now.around }
     {

@@ -15,7 +15,7 @@ use std::process::Abort;
 use std::test::Fail;
 use step_core::Grown;
 
-const WALL: Point = Point { x: 0, y: 50 };
+const ABOVE: Point = Point { x: 0, y: 50 };
 
 const FAR: Point = Point { x: 40, y: 79 };
 
@@ -38,7 +38,7 @@ fn two_passes(alloc: Global) -> Result<(Shared, Pass, Pass), Fail>
         seed: 0,
         strips: 1,
     }
-    .task(alloc, &[WALL, FAR, Point { x: 40, y: 30 }])?;
+    .task(alloc, &[ABOVE, FAR, Point { x: 40, y: 30 }])?;
     let grown = Grown::new(alloc, task)?;
     let (shared, mut passes) = Shared::start(alloc, grown, 2)?;
     let second = last_pass(&shared, &mut passes).ok_or(Memory)?;
@@ -108,7 +108,7 @@ fn link_below<R: Abort>(
     ensures { IfOk result (λ _. HoldsMark shared.now mark Counted pass.new) }
 {
     let above = shared.point(pass, met);
-    assert_eq!(rt; above, WALL);
+    assert_eq!(rt; above, ABOVE);
     let child = shared.child(pass, met, false);
     assert_eq!(rt; child, None);
     let start = shared.point(pass, 0);
@@ -156,8 +156,8 @@ fn two_passes_link_at_one_place(rt: HostRuntime) -> Result<(), Fail> {
     let one = take_mark(&shared, &mut first).ok_or(Memory)?;
     let other = take_mark(&shared, &mut second).ok_or(Memory)?;
     assert_eq!(rt; (one, other), (0, 1));
-    let wall = write_from_start(&shared, &mut first, one);
-    assert_eq!(rt; wall, WALL);
+    let upper = write_from_start(&shared, &mut first, one);
+    assert_eq!(rt; upper, ABOVE);
     let partway = write_from_start(&shared, &mut second, other);
     assert_eq!(rt; partway, Point { x: 22, y: 44 });
     expect_free(&rt, &shared, &mut first, one);
