@@ -16,12 +16,12 @@ use std::alloc::{AllocError, Global};
 pub struct Spot {
     /// The number of the node.
     pub node: u32,
-    /// Whether it stands at an odd depth, so that its children are split by row, or by column.
-    pub by_rows: bool,
     /// Of a search for the nearest node: how far the line that splits it off is.
     pub gap: u32,
     /// Of a search for near nodes: the point of the node.
     pub point: Point,
+    /// Whether it stands at an odd depth, so that its children are split by row, or by column.
+    pub by_rows: bool,
 }
 
 /// The lists.
