@@ -6,7 +6,7 @@ use Rattle.plan_model.specs.declared.geometry.Point.{Point}
 use Rattle.plan_model.specs.PointsByNumber.{point_at}
 use Rattle.plan_model.specs.Sights.{IsLaterMoment, KeepsSight}
 use Rattle.plan_model.proofs.SeenTreeLaws.{IsSeen-more}
-use Rattle.plan_words.specs.Nodes.{IsNodeWord}
+use Rattle.plan_words.specs.Nodes.{IsChildOrPoint}
 use Rattle.plan_words.specs.States.{BelongsTo, GoesOn, PassState, SharedState}
 use Rattle.step_core.specs.LaterViews.{IsLater, IsLawfulView}
 use Rattle.step_core.specs.SeenWords.{seen_tree_of_words}
@@ -67,7 +67,7 @@ BelongsTo-later shared before after same later h = record { table = same ∙ h.t
 
 -- a step that shows no word but that of a child or of a point
 pub OnlyLooks-loaded : (before after : View) (name : Word) (word : ℕ) → after ≡ loaded before name word → GoesOn before after
-    → ChangesOnly IsNodeWord (sees before) (sees after) → OnlyLooks before after
+    → ChangesOnly IsChildOrPoint (sees before) (sees after) → OnlyLooks before after
 OnlyLooks-loaded before after name word is goes_on others = record {
   looks = record { goes_on = goes_on; others = others };
   kept = record {

@@ -1,6 +1,6 @@
 -- What loads leave of a pass: all but what it sees of the loaded words.
 use Rattle.std.proofs.Common.{◌≡◌, ℕ, sym, ap, ◌∙◌, subst}
-use Rattle.plan_words.specs.Nodes.{IsNodeWord}
+use Rattle.plan_words.specs.Nodes.{IsChildOrPoint}
 use Rattle.plan_words.specs.States.{BelongsTo, GoesOn, PassState, SharedState, with_view}
 use Rattle.step_core.specs.ViewSteps.{loaded}
 use Rattle.step_core.specs.Views.{sees}
@@ -24,7 +24,7 @@ PassLooks-trans shared before mid after one other = record {
 
 -- one step that shows no word but that of a child or of a point
 pub PassLooks-step : (shared : SharedState) (before after : PassState) (name : Word) (word : ℕ) → BelongsTo before shared
-    → after ≡ with_view before (loaded before.view name word) → GoesOn before.view after.view → ChangesOnly IsNodeWord (sees before.view) (sees after.view)
+    → after ≡ with_view before (loaded before.view name word) → GoesOn before.view after.view → ChangesOnly IsChildOrPoint (sees before.view) (sees after.view)
     → PassLooks shared before after
 PassLooks-step shared before after name word belongs is goes_on others =
     let view_is : after.view ≡ loaded before.view name word = ap (λ (p : PassState). p.view) is in
@@ -35,9 +35,9 @@ PassLooks-step shared before after name word belongs is goes_on others =
     }
 
 -- one load of it
-pub PassLooks-load : (shared : SharedState) (before after : PassState) (name : Word) (word value : ℕ) → BelongsTo before shared → IsNodeWord name
+pub PassLooks-load : (shared : SharedState) (before after : PassState) (name : Word) (word value : ℕ) → BelongsTo before shared → IsChildOrPoint name
     → after ≡ with_view before (loaded before.view name word) → GoesOn before.view after.view → WritesWord name value (sees before.view) (sees after.view)
     → PassLooks shared before after
 PassLooks-load shared before after name word value belongs node is goes_on writes =
     PassLooks-step shared before after name word belongs is goes_on
-    (λ other k. writes.others other (λ same. k (subst IsNodeWord (sym same) node)))
+    (λ other k. writes.others other (λ same. k (subst IsChildOrPoint (sym same) node)))

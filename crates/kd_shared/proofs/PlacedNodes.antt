@@ -11,9 +11,11 @@ use Rattle.step_core.specs.WordNames.{ChangesOnly}
 use Rattle.step_core.specs.declared.views.Hand.{Hand}
 use Rattle.step_core.specs.declared.views.View.{View}
 use Rattle.kd_shared.specs.Looking.{GoesOnLooking, OnlyLooks}
-use Rattle.kd_shared.specs.Placings.{IsPlaced, IsSame, KeepsShare}
-use Rattle.kd_shared.proofs.Looking.{BelongsTo-later, GoesOnLooking-trans}
+use Rattle.kd_shared.specs.Placings.{GoesOnPlacing, IsPlaced, IsSame, KeepsShare}
+use Rattle.kd_shared.proofs.Looking.{BelongsTo-later}
 use Rattle.kd_shared.proofs.PassLooks.{PassLooks}
+use Rattle.plan_words.proofs.GoingOn.{GoesOn-trans}
+use Rattle.plan_words.proofs.HandSteps.{IsNodeWord-child}
 use Rattle.kd_shared.proofs.Walking.{IsWalking}
 
 -- the hand of a pass that only looked
@@ -45,15 +47,24 @@ IfSome-placed entry now after p depth n side (Some hand) kept is links comes =
       depth = depth;
       on_way = (subst (λ q. IsWalking (sight_in entry) (sight_in after) q depth (suc hand.mark)) is walk).on_way;
       stands = link.point;
+      pair = link.pair;
+      first = link.first;
       counted = link.counted;
     }
 
 -- ---- what it leaves
 
+-- who has only looked has seen nothing anew but words of nodes
+pub GoesOnPlacing-looks : (before after : View) → GoesOnLooking before after → GoesOnPlacing before after
+GoesOnPlacing-looks before after looks = record {
+  goes_on = looks.goes_on;
+  others = λ name off. looks.others name (λ h. off (IsNodeWord-child name h));
+}
+
 -- A pass of this tree has placed its node: share and limit stay, and nothing but its view changes.
 pub record PassPlaces (shared : SharedState) (before after : PassState) : Type 0 where
   pub belongs : BelongsTo after shared
-  pub looks : GoesOnLooking before.view after.view
+  pub goes_on : GoesOnPlacing before.view after.view
   pub share : KeepsShare before.view after.view
   pub view_alone : after ≡ with_view before after.view
 
@@ -61,7 +72,10 @@ pub PassPlaces-looks : (shared : SharedState) (before mid after : PassState) →
     → PassPlaces shared before after
 PassPlaces-looks shared before mid after one other = record {
   belongs = other.belongs;
-  looks = GoesOnLooking-trans before.view mid.view after.view one.looks.looks other.looks;
+  goes_on = record {
+    goes_on = GoesOn-trans before.view mid.view after.view one.looks.looks.goes_on other.goes_on.goes_on;
+    others = λ name off. other.goes_on.others name off ∙ one.looks.looks.others name (λ h. off (IsNodeWord-child name h));
+  };
   share = record { crew = other.share.crew ∙ one.looks.kept.crew; most = other.share.most ∙ one.looks.kept.most };
   view_alone = other.view_alone ∙ ap (λ p. with_view p after.view) one.view_alone;
 }
@@ -78,7 +92,7 @@ PassPlaces-links shared before after n side belongs held view goes_on others = b
         let view_is : after.view ≡ counted (linked before.view hand n side) hand = ap (λ (p : PassState). p.view) is in
         record {
           belongs = BelongsTo-later shared before after (ap (λ (p : PassState). p.table) is) goes_on.later belongs;
-          looks = record { goes_on = goes_on; others = others };
+          goes_on = record { goes_on = goes_on; others = others };
           share = record { crew = ap (λ (v : View). v.crew) view_is; most = ap (λ (v : View). v.most) view_is };
           view_alone = is ∙ ap (with_view before) (sym view_is);
         }

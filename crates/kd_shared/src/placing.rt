@@ -1,10 +1,9 @@
 //! The place of a new node in the kd-tree.
 
 ghost use Rattle.std.specs.Prelude.{◌≡◌, IfSome, IsSome};
-ghost use Rattle.kd_shared.specs.Looking.{GoesOnLooking};
-ghost use Rattle.kd_shared.specs.Placings.{IsPlacing, KeepsShare};
+ghost use Rattle.kd_shared.specs.Placings.{GoesOnPlacing, IsPlacing, KeepsShare};
 ghost use Rattle.plan_words.specs.States.{BelongsTo, with_view};
-ghost use Rattle.step_core.specs.declared.views.Stage.TheVariants.{Pointed};
+ghost use Rattle.step_core.specs.declared.views.Stage.TheVariants.{Treed};
 
 use crate::sides::goes_right;
 use plan_model::{MOST_NODES, Point};
@@ -19,16 +18,16 @@ pub enum Placing {
     Same(u32),
 }
 
-/// Links the node of the mark in hand, whose point is written, as a child in the kd-tree. It walks the way of the point from node
+/// Links the node of the mark in hand, whose words are written, as a child in the kd-tree. It walks the way of the point from node
 /// 0, and tries an exchange at each node: if another's child is there it goes on to that, also if it came a moment ago. So a try
 /// that fails leads one node deeper, and no way is longer than the marks: O(d) for a tree of depth d.
 pub fn place(shared: &Shared, pass: &mut Pass, _mark: u32) -> Placing
     requires belongs { BelongsTo pass.old shared.now }
     requires hand { IsSome pass.old.view.hand }
     requires mark { IfSome pass.old.view.hand (λ hand. hand.mark ≡ _mark) }
-    requires pointed { IfSome pass.old.view.hand (λ hand. hand.stage ≡ Pointed) }
+    requires treed { IfSome pass.old.view.hand (λ hand. hand.stage ≡ Treed) }
     ensures belongs { BelongsTo pass.new shared.now }
-    ensures looks { GoesOnLooking pass.old.view pass.new.view }
+    ensures goes_on { GoesOnPlacing pass.old.view pass.new.view }
     ensures share { KeepsShare pass.old.view pass.new.view }
     ensures view_alone { pass.new ≡ with_view pass.old pass.new.view }
     ensures placed { IfSome pass.old.view.hand (λ hand. IsPlacing pass.new.view hand result) }

@@ -2,6 +2,7 @@
 
 ghost use Rattle.std.specs.Prelude.{◌≡◌, IfOk, IsTrue};
 ghost use Rattle.kd_shared_tests.specs.HeldMarks.{HoldsMark};
+ghost use Rattle.plan_model.specs.ConfigurationSpace.{space_of};
 ghost use Rattle.plan_model.specs.Limits.{is_plan};
 ghost use Rattle.plan_model.specs.declared.scenes.Marks.TheVariants.{Listed};
 ghost use Rattle.plan_words.specs.States.{MayClaim};
@@ -15,6 +16,7 @@ use std::alloc::Global;
 use std::process::Abort;
 use std::test::Fail;
 use step_core::Grown;
+use swept_check::Hall;
 
 const ABOVE: Point = Point { x: 0, y: 50 };
 
@@ -24,13 +26,14 @@ const MIDDLE: Point = Point { x: 22, y: 44 };
 
 const RIGHT: Point = Point { x: 40, y: 30 };
 
-/// Two passes over these marks, from a corner of a small room.
-fn two_passes(alloc: Global, marks: &[Point]) -> Result<(Shared, Pass, Pass), Fail>
+/// Two passes over these marks, from a corner of a small room, and the collision checker of that.
+fn two_passes(alloc: Global, marks: &[Point]) -> Result<(Shared, Hall, Pass, Pass), Fail>
     requires { IsTrue (is_plan (Listed marks.now)) }
     ensures opening { IfOk result (λ two. two.0.opening ≡ 0) }
     ensures marks { IfOk result (λ two. two.0.task.marks ≡ marks.now) }
-    ensures first { IfOk result (λ two. MayClaim two.0 two.1) }
-    ensures second { IfOk result (λ two. MayClaim two.0 two.2) }
+    ensures hall { IfOk result (λ two. two.1 ≡ space_of two.0.task.scene) }
+    ensures first { IfOk result (λ two. MayClaim two.0 two.2) }
+    ensures second { IfOk result (λ two. MayClaim two.0 two.3) }
 {
     let task = SmallScene {
         room: Point { x: 100, y: 100 },
@@ -47,9 +50,10 @@ fn two_passes(alloc: Global, marks: &[Point]) -> Result<(Shared, Pass, Pass), Fa
     .task(alloc, marks)?;
     let grown = Grown::new(alloc, task)?;
     let (shared, mut passes) = Shared::start(alloc, grown, 2)?;
+    let hall = Hall::new(alloc, &shared.task().scene)?;
     let second = last_pass(&shared, &mut passes).ok_or(Memory)?;
     let first = last_pass(&shared, &mut passes).ok_or(Memory)?;
-    Ok((shared, first, second))
+    Ok((shared, hall, first, second))
 }
 
 /// Looks for a node at a point, with a mark in hand.
@@ -62,7 +66,7 @@ fn look_for(shared: &Shared, pass: &mut Pass, mark: u32, p: Point) -> Option<u32
 
 #[test]
 fn the_second_at_a_place_goes_one_node_deeper(rt: HostRuntime) -> Result<(), Fail> {
-    let (shared, mut first, mut second) = two_passes(rt.alloc(), &[ABOVE, FAR, RIGHT])?;
+    let (shared, hall, mut first, mut second) = two_passes(rt.alloc(), &[ABOVE, FAR, RIGHT])?;
     let one = take_mark(&shared, &mut first, 3).ok_or(Memory)?;
     let other = take_mark(&shared, &mut second, 3).ok_or(Memory)?;
     assert_eq!(rt; (one, other), (0, 1));
@@ -73,9 +77,12 @@ fn the_second_at_a_place_goes_one_node_deeper(rt: HostRuntime) -> Result<(), Fai
     let found = look_for(&shared, &mut first, one, ABOVE);
     let also = look_for(&shared, &mut second, other, MIDDLE);
     assert_eq!(rt; (found, also), (None, None));
-    let placed = place_and_finish(&shared, &mut first, one);
-    let below = place_and_finish(&shared, &mut second, other);
-    assert_eq!(rt; (placed, below), (Placing::Placed, Placing::Placed));
+    let placed = place_and_finish(&shared, &hall, &mut first, one);
+    let below = place_and_finish(&shared, &hall, &mut second, other);
+    assert_eq!(rt;
+        (placed, below),
+        (Some(Placing::Placed), Some(Placing::Placed))
+    );
     let found = find(&shared, &mut first, MIDDLE);
     assert_eq!(rt; found, Some(2));
     let closest = nearest(&shared, &mut first, FAR);
@@ -89,7 +96,7 @@ fn the_second_at_a_place_goes_one_node_deeper(rt: HostRuntime) -> Result<(), Fai
 
 #[test]
 fn the_second_at_a_point_is_told_the_first(rt: HostRuntime) -> Result<(), Fail> {
-    let (shared, mut first, mut second) = two_passes(rt.alloc(), &[ABOVE, ABOVE])?;
+    let (shared, hall, mut first, mut second) = two_passes(rt.alloc(), &[ABOVE, ABOVE])?;
     let one = take_mark(&shared, &mut first, 2).ok_or(Memory)?;
     let other = take_mark(&shared, &mut second, 2).ok_or(Memory)?;
     let upper = write_from_start(&shared, &mut first, one);
@@ -97,9 +104,12 @@ fn the_second_at_a_point_is_told_the_first(rt: HostRuntime) -> Result<(), Fail> 
     assert_eq!(rt; (upper, also), (ABOVE, ABOVE));
     let free = look_for(&shared, &mut first, one, ABOVE);
     assert_eq!(rt; free, None);
-    let placed = place_and_finish(&shared, &mut second, other);
-    let same = place_and_finish(&shared, &mut first, one);
-    assert_eq!(rt; (placed, same), (Placing::Placed, Placing::Same(2)));
+    let placed = place_and_finish(&shared, &hall, &mut second, other);
+    let same = place_and_finish(&shared, &hall, &mut first, one);
+    assert_eq!(rt;
+        (placed, same),
+        (Some(Placing::Placed), Some(Placing::Same(2)))
+    );
     let nodes = shared.number(&mut first);
     assert_eq!(rt; nodes, 2);
     Ok(())

@@ -1,6 +1,7 @@
 //! Passes that place the same points, each in a thread of its own.
 
 ghost use Rattle.std.specs.Prelude.{◌≡◌, ◌*◌, All, IfOk, IsTrue, length};
+ghost use Rattle.plan_model.specs.ConfigurationSpace.{space_of};
 ghost use Rattle.plan_model.specs.Limits.{is_plan};
 ghost use Rattle.plan_model.specs.declared.scenes.Marks.TheVariants.{Listed};
 ghost use Rattle.plan_words.specs.States.{MayClaim};
@@ -15,6 +16,7 @@ use std::test::Fail;
 use std::thread;
 use std::thread::Threads;
 use step_core::Grown;
+use swept_check::Hall;
 
 const WORKERS: u32 = 64;
 
@@ -47,28 +49,32 @@ fn repeated_points(alloc: Global) -> Result<Vec<Point>, AllocError>
 }
 
 /// Places the points of the worker's own marks.
-fn work(shared: &Shared, worker: &mut Worker)
+fn work(shared: &Shared, hall: &Hall, worker: &mut Worker)
+    requires hall { hall.now ≡ space_of shared.now.task.scene }
     requires may_claim { MayClaim shared.now worker.old.pass }
     requires opening { shared.now.opening ≡ 0 }
     requires marks { length shared.now.task.marks ≡ POINTS * WORKERS }
 {
     'points: for _ in 0..POINTS {
-        let Some((mark, placing)) = place_next(shared, &mut worker.pass, POINTS * WORKERS) else {
+        let Some((mark, placing)) = place_next(shared, hall, &mut worker.pass, POINTS * WORKERS)
+        else {
             return;
         };
         let node = match placing {
-            Placing::Placed => {
+            Some(Placing::Placed) => {
                 worker.placed = worker.placed.wrapping_add(1);
                 mark.wrapping_add(1)
             }
-            Placing::Same(node) => node,
+            Some(Placing::Same(node)) => node,
+            None => return,
         };
         // a worker that is out of memory loses a node, and the test fails
         let _pushed = worker.nodes.push(node);
     }
 }
 
-fn work_all<R: Threads + Sync>(rt: &R, shared: &Shared, workers: &mut [Worker])
+fn work_all<R: Threads + Sync>(rt: &R, shared: &Shared, hall: &Hall, workers: &mut [Worker])
+    requires hall { hall.now ≡ space_of shared.now.task.scene }
     requires may_claim { All (λ worker. MayClaim shared.now worker.pass) workers.old }
     requires opening { shared.now.opening ≡ 0 }
     requires marks { length shared.now.task.marks ≡ POINTS * WORKERS }
@@ -77,7 +83,7 @@ fn work_all<R: Threads + Sync>(rt: &R, shared: &Shared, workers: &mut [Worker])
         rt,
         workers,
         WORKERS as usize,
-        &|_, worker| work(shared, worker),
+        &|_, worker| work(shared, hall, worker),
     );
 }
 
@@ -110,8 +116,9 @@ fn each_point_stands_once(rt: HostRuntime) -> Result<(), Fail> {
     let task = marks_round(rt.alloc(), START, WORKERS, marks.as_slice())?;
     let grown = Grown::new(rt.alloc(), task)?;
     let (shared, mut passes) = Shared::start(rt.alloc(), grown, WORKERS)?;
+    let hall = Hall::new(rt.alloc(), &shared.task().scene)?;
     let mut workers = workers_of(rt.alloc(), &shared, &mut passes)?;
-    work_all(&rt, &shared, workers.as_mut_slice());
+    work_all(&rt, &shared, &hall, workers.as_mut_slice());
     assert_eq!(rt; workers.len(), WORKERS as usize);
     let mut placed = 0u32;
     for worker in workers.iter() {

@@ -1,8 +1,8 @@
 -- The steps of a seat, as the table asks for them: whatever its words are then, the law of worlds holds after the step.
 use Rattle.std.proofs.Common.{◌≡◌, ℕ, suc, ◌+◌, ◌%◌, ◌<◌, ◌≤◌, ◌^◌, Bool, true, false, List, ◌∷◌}
 use Rattle.std.proofs.Common.{length, set, Some, None, refl, sym, ap, ◌∙◌, subst, arith}
-use Rattle.std.specs.Prelude.{◌==◌, cond, slice_index, slice_set}
-use Rattle.std.proofs.lemmas.Bool.{eqb-true}
+use Rattle.std.specs.Prelude.{◌≢◌, ◌==◌, cond, slice_index, slice_set}
+use Rattle.std.proofs.lemmas.Bool.{eqb-false, eqb-true}
 use Rattle.std.proofs.lemmas.List.{length-set, set-get_or}
 use Rattle.std.proofs.lemmas.Option.{same_Some}
 use mathlib.Core.Option.{none, some}
@@ -11,25 +11,25 @@ use lib.ListN.{get_elem?}
 use Rattle.atomic_table.specs.Table.{State, Me, Act, step, stepped, Valid, carried_after, Allows, Splits, Joins}
 use Rattle.atomic_table.specs.Table.Act.{keeps}
 use Rattle.plan_words.specs.declared.openings.Aim.{Aim}
-use Rattle.plan_words.specs.Plays.{Claims, Counts, Finishes, FindsPoint, Links, Loads, TellsHand, WritesPoint}
+use Rattle.plan_words.specs.Plays.{Claims, Counts, FindsPoint, FindsTree, Finishes, Links, Loads, Lowers, TellsHand, WritesFirst, WritesPoint, WritesTree}
 use Rattle.plan_words.specs.States.{GoesOn, HoldsWorld}
 use Rattle.step_core.specs.LaterViews.{IsLater}
 use Rattle.step_core.specs.Stages.{MayBeRecorded}
-use Rattle.step_core.specs.ViewSteps.{claimed, counted, finished, finished_at, joined, linked, linked_at, loaded, looker}
-use Rattle.step_core.specs.ViewSteps.{mark_of, parted, place_in, pointed, saw_at, stepped as one_step, worker_apart}
-use Rattle.step_core.specs.ViewTrees.{IsSteered, LeadsTo, MayLoad}
-use Rattle.step_core.specs.Views.{run_sizes, share, spent, words_of_run}
+use Rattle.step_core.specs.ViewSteps.{claimed, counted, finished, finished_at, half, joined, linked, linked_at, loaded, looker, lowered}
+use Rattle.step_core.specs.ViewSteps.{mark_of, pair_in_hand, parted, place_in, pointed, saw_at, stepped as one_step, treed, worker_apart}
+use Rattle.step_core.specs.ViewTrees.{IsSteered, LeadsTo, MayHang, MayLoad, MayLower}
+use Rattle.step_core.specs.Views.{run_sizes, sees, share, spent, words_of_run}
 use Rattle.step_core.specs.WordNames.{Word, Words, WritesWord}
-use Rattle.step_core.specs.WordNames.Word.{ChildOf, Count, Counter, PointOf, RecordOf}
+use Rattle.step_core.specs.WordNames.Word.{ChildOf, Count, Counter, FirstOf, PointOf, RecordOf, TreeOf}
 use Rattle.step_core.specs.WordPlaces.{HasWord, place_of}
 use Rattle.plan_model.specs.declared.geometry.Point.{Point}
 use Rattle.plan_model.specs.declared.records.Record.{Record}
-use Rattle.step_core.specs.Words.{FitsWord, point_word, record_word}
+use Rattle.step_core.specs.Words.{FitsWord, cost_in, parent_in, point_word, record_word, tree_word}
 use Rattle.step_core.specs.Worlds.{IsWorld}
 use Rattle.step_core.specs.declared.views.Hand.{Hand}
 use Rattle.step_core.specs.declared.views.Member.{Member}
 use Rattle.step_core.specs.declared.views.SharedRun.{SharedRun}
-use Rattle.step_core.specs.declared.views.Stage.TheVariants.{Claimed, Linked, Pointed}
+use Rattle.step_core.specs.declared.views.Stage.TheVariants.{Claimed, Half, Linked, Pointed, Treed}
 use Rattle.step_core.specs.declared.views.View.{View}
 use Rattle.step_core.proofs.FinishedMarks.{IsTurnWord-packed, IsWorld-recorded, in_hand}
 use Rattle.step_core.proofs.LaterViews.{IsLater-claimed, IsLater-finished, IsLater-loaded, IsLawfulView-world}
@@ -38,8 +38,9 @@ use Rattle.step_core.proofs.WordReads.{WritesWord-set, word-found}
 use Rattle.step_core.proofs.WorldJoins.{IsWorld-joined}
 use Rattle.step_core.proofs.WorldSplits.{IsCut-looker, IsCut-parted, IsWorld-cut}
 use Rattle.step_core.proofs.WorldLinks.{count-most}
-use Rattle.step_core.proofs.WorldNodes.{IsLater-link, IsWorld-counted, IsWorld-linked, IsWorld-pointed}
-use Rattle.step_core.proofs.LaterSteps.{IsLater-counted, IsLater-pointed}
+use Rattle.step_core.proofs.WorldLowers.{IsLater-lowered, IsWorld-lowered, lower-found, tree-written}
+use Rattle.step_core.proofs.WorldNodes.{IsLater-link, IsWorld-counted, IsWorld-half, IsWorld-linked, IsWorld-pointed, IsWorld-treed}
+use Rattle.step_core.proofs.LaterSteps.{IsLater-counted, IsLater-half, IsLater-pointed, IsLater-treed}
 use Rattle.step_core.proofs.WorldSteps.{IsWorld-claimed, IsWorld-loaded, seen_within}
 use Rattle.plan_words.proofs.WrittenPoints.{written-seen}
 
@@ -116,20 +117,28 @@ module _ (run : SharedRun) where
         ap (slice_index s.words) (is ∙ ap (λ r. place_of (run_sizes r) (PointOf n)) own) ∙ found_is s (PointOf n) there in
         omega (arith, same, written-seen run words s.views id me.0 holds.world at own n seen)
 
+    finds_tree : FindsTree me.0 place found
+    finds_tree n seen is =
+        let there = seen_within run words s.views id me.0 holds.world at own n seen in
+        let same : found ≡ words (TreeOf n) =
+        ap (slice_index s.words) (is ∙ ap (λ r. place_of (run_sizes r) (TreeOf n)) own) ∙ found_is s (TreeOf n) there in
+        omega (arith, same, tree-written run words s.views id me.0 holds.world at own n seen)
+
   pub may_load :
       (slots id place : ℕ) (me : Me Aim View) (name : Word) → HasWord (run_sizes run) name → place ≡ place_of (run_sizes run) name → me.0.run ≡ run
       → MayLoad me.0 name → Allows (Holds run) slots id me place (λ x. x) (Loads (step slots place 0 0 none) me)
   may_load slots id place me name here at_place own may s holds homes at fits =
       let x : ℕ = slice_index s.words place in
       owes slots id place x me s (saw_at me.0 place x x) (Loads (step slots place 0 0 none) me x) holds
-      (world_kept slots id place me name here at_place own s holds at may) (
-        record {
+      (world_kept slots id place me name here at_place own s holds at may) record {
+        told = record {
           view_is = refl;
           goes_on = goes_on_loaded slots id place me name here at_place own s holds at may;
           slots = refl;
-        },
-        finds_point slots id place me name here at_place own s holds at may,
-      )
+        };
+        point = finds_point slots id place me name here at_place own s holds at may;
+        tree = finds_tree slots id place me name here at_place own s holds at may;
+      }
 
   -- ---- claims
 
@@ -236,10 +245,113 @@ module _ (run : SharedRun) where
       (of_hand me then (λ h. pointed me.0 h m p) hand held refl
       (goes_on words after s.views id me.0 then holds.world at own world (IsLater-pointed me.0 hand m p)))
 
+  pub may_first :
+      (slots id place x : ℕ) (me : Me Aim View) (hand : Hand) (parent cost : ℕ) → place ≡ place_of (run_sizes run) (FirstOf (suc hand.mark))
+      → me.0.run ≡ run → me.0.hand ≡ Some hand → hand.stage ≡ Pointed → MayHang me.0 hand parent cost → x ≡ tree_word parent cost → parent ≡ parent_in x
+      → cost ≡ cost_in x → Allows (Holds run) slots id me place (λ y. x) (λ y. WritesFirst (step slots place x 0 none) me x)
+  may_first slots id place x me hand parent cost at_place own held stage may is is_parent is_cost s holds homes at low =
+      let words : Words = words_of_run run s.words in
+      let after : Words = words_of_run run (slice_set s.words place x) in
+      let mark = in_hand run words s.views id me.0 holds.world at hand held in
+      let here : suc hand.mark ≤ length run.marks = omega (arith, mark.low) in
+      let writes : WritesWord (FirstOf (suc hand.mark)) (tree_word parent cost) words after =
+      WritesWord-set (run_sizes run) s.words place x (tree_word parent cost) (FirstOf (suc hand.mark)) holds.sized here at_place is in
+      let then : View = half me.0 hand parent cost in
+      let world = IsWorld-half run words after s.views id me.0 holds.world at own hand held stage parent cost may writes in
+      owes slots id place x me s then (WritesFirst (step slots place x 0 none) me x) holds world
+      (of_hand me then (λ h. half me.0 h (parent_in x) (cost_in x)) hand held
+      (ap (λ p. half me.0 hand p cost) is_parent ∙ ap (half me.0 hand (parent_in x)) is_cost)
+      (goes_on words after s.views id me.0 then holds.world at own world (IsLater-half me.0 hand parent cost)))
+
+  pub may_tree :
+      (slots id place x : ℕ) (me : Me Aim View) (hand : Hand) → place ≡ place_of (run_sizes run) (TreeOf (suc hand.mark)) → me.0.run ≡ run
+      → me.0.hand ≡ Some hand → hand.stage ≡ Half → x ≡ pair_in_hand hand
+      → Allows (Holds run) slots id me place (λ y. x) (λ y. WritesTree (step slots place x 0 none) me x)
+  may_tree slots id place x me hand at_place own held stage is s holds homes at low =
+      let words : Words = words_of_run run s.words in
+      let after : Words = words_of_run run (slice_set s.words place x) in
+      let mark = in_hand run words s.views id me.0 holds.world at hand held in
+      let here : suc hand.mark ≤ length run.marks = omega (arith, mark.low) in
+      let writes : WritesWord (TreeOf (suc hand.mark)) (pair_in_hand hand) words after =
+      WritesWord-set (run_sizes run) s.words place x (pair_in_hand hand) (TreeOf (suc hand.mark)) holds.sized here at_place is in
+      let then : View = treed me.0 hand in
+      let world = IsWorld-treed run words after s.views id me.0 holds.world at own hand held stage writes in
+      owes slots id place x me s then (WritesTree (step slots place x 0 none) me x) holds world
+      (of_hand me then (λ h. treed me.0 h) hand held refl
+      (goes_on words after s.views id me.0 then holds.world at own world (IsLater-treed me.0 hand)))
+
+  pub may_lower :
+      (slots id place seen word n parent cost : ℕ) (me : Me Aim View) → n ≤ length run.marks → place ≡ place_of (run_sizes run) (TreeOf n) → me.0.run ≡ run
+      → MayLower me.0 n parent cost → MayLoad me.0 (TreeOf n) → seen ≡ sees me.0 (TreeOf n) → word ≡ tree_word parent cost
+      → Allows (Holds run) slots id me place (λ x. either (x == seen) word x) (Lowers (step slots place seen word none) me)
+  may_lower slots id place seen word n parent cost me within at_place own may may_load_it seen_is word_is s holds homes at fits =
+      pick (slice_index s.words place == seen) refl
+    where
+      words : Words
+      words = words_of_run run s.words
+
+      own_place : place ≡ place_in me.0 (TreeOf n)
+      own_place = at_place ∙ ap (λ r. place_of (run_sizes r) (TreeOf n)) (sym own)
+
+      is : slice_index s.words place ≡ words (TreeOf n)
+      is = ap (slice_index s.words) at_place ∙ found_is s (TreeOf n) within
+
+      leaves : ℕ → View
+      leaves found = saw_at me.0 place found (cond (found == seen) word found)
+
+      pick :
+          (b : Bool) → (slice_index s.words place == seen) ≡ b
+          → Owes run slots id me s place (either b word (slice_index s.words place)) (Lowers (step slots place seen word none) me (slice_index s.words place))
+      pick true e =
+          let x : ℕ = slice_index s.words place in
+          let same : x ≡ seen = eqb-true x seen e in
+          let as_seen : words (TreeOf n) ≡ sees me.0 (TreeOf n) = sym is ∙ same ∙ seen_is in
+          let after : Words = words_of_run run (slice_set s.words place word) in
+          let writes : WritesWord (TreeOf n) (tree_word parent cost) words after =
+          WritesWord-set (run_sizes run) s.words place word (tree_word parent cost) (TreeOf n) holds.sized within at_place word_is in
+          let then : View = lowered me.0 n parent cost in
+          let world = IsWorld-lowered run words s.views id me.0 holds.world at own n parent cost may as_seen after writes in
+          let later = IsLater-lowered run words s.views id me.0 holds.world at own n parent cost may as_seen in
+          let view_is : then ≡ leaves x =
+          ap (λ i. saw_at me.0 i (sees me.0 (TreeOf n)) (tree_word parent cost)) (sym own_place)
+          ∙ ap (λ found. saw_at me.0 place found (tree_word parent cost)) (sym (same ∙ seen_is)) ∙ ap (saw_at me.0 place x) (sym word_is)
+          ∙ ap (λ b. saw_at me.0 place x (cond b word x)) (sym e) in
+          owes slots id place word me s then (Lowers (step slots place seen word none) me x) holds world
+          record {
+            told = record {
+              view_is = view_is;
+              goes_on = subst (GoesOn me.0) view_is (goes_on words after s.views id me.0 then holds.world at own world later);
+              slots = refl;
+            };
+            fell = λ other. absurd (other same);
+          }
+      pick false e =
+          let x : ℕ = slice_index s.words place in
+          let other : x ≢ seen = eqb-false x seen e in
+          let then : View = saw_at me.0 place x x in
+          let view_is : then ≡ leaves x = ap (λ b. saw_at me.0 place x (cond b word x)) (sym e) in
+          let less = lower-found run words s.views id me.0 holds.world at n (seen_written may) (λ same. other (is ∙ same ∙ sym seen_is)) in
+          owes slots id place x me s then (Lowers (step slots place seen word none) me x) holds
+          (world_kept slots id place me (TreeOf n) within at_place own s holds at may_load_it)
+          record {
+            told = record {
+              view_is = view_is;
+              goes_on = subst (GoesOn me.0) view_is (goes_on_loaded slots id place me (TreeOf n) within at_place own s holds at may_load_it);
+              slots = refl;
+            };
+            fell = λ off. record {
+              written = omega (arith, is, less.0);
+              less = omega (arith, ap cost_in is, ap cost_in seen_is, less.1);
+            };
+          }
+        where
+          seen_written : MayLower me.0 n parent cost → 2 ^ 63 ≤ sees me.0 (TreeOf n)
+          seen_written m = m.seen.written
+
   pub may_link :
       (slots id place : ℕ) (me : Me Aim View) (hand : Hand) (n : ℕ) (side : Bool) → n ≤ length run.marks
       → place ≡ place_of (run_sizes run) (ChildOf n side)
-      → me.0.run ≡ run → me.0.hand ≡ Some hand → hand.stage ≡ Pointed → LeadsTo me.0 hand.point n side → MayLoad me.0 (ChildOf n side)
+      → me.0.run ≡ run → me.0.hand ≡ Some hand → hand.stage ≡ Treed → LeadsTo me.0 hand.point n side → MayLoad me.0 (ChildOf n side)
       → Allows (Holds run) slots id me place (λ x. either (x == 0) (hand.mark + 1) x) (Links (step slots place 0 (hand.mark + 1) none) me)
   may_link slots id place me hand n side within at_place own held stage leads may s holds homes at fits =
       pick (slice_index s.words place == 0) refl
@@ -251,7 +363,7 @@ module _ (run : SharedRun) where
       own_place = at_place ∙ ap (λ r. place_of (run_sizes r) (ChildOf n side)) (sym own)
 
       leaves : ℕ → Hand → View
-      leaves found h = cond (found == 0) (linked_at me.0 h place (place_in me.0 (PointOf (suc h.mark)))) (saw_at me.0 place found found)
+      leaves found h = cond (found == 0) (linked_at me.0 h place) (saw_at me.0 place found found)
 
       pick :
           (b : Bool) → (slice_index s.words place == 0) ≡ b
@@ -268,8 +380,7 @@ module _ (run : SharedRun) where
           let world = IsWorld-linked run words after s.views id me.0 holds.world at own hand held stage n side leads empty writes in
           let later = IsLater-link run words after s.views id me.0 holds.world at own hand held stage n side leads empty in
           let view_is : then ≡ leaves x hand =
-          ap (λ i. linked_at me.0 hand i (place_in me.0 (PointOf (suc hand.mark)))) (sym own_place)
-          ∙ ap (λ b. cond b (linked_at me.0 hand place (place_in me.0 (PointOf (suc hand.mark)))) (saw_at me.0 place x x)) (sym e) in
+          ap (λ i. linked_at me.0 hand i) (sym own_place) ∙ ap (λ b. cond b (linked_at me.0 hand place) (saw_at me.0 place x x)) (sym e) in
           owes slots id place (hand.mark + 1) me s then (Links (step slots place 0 (hand.mark + 1) none) me x) holds world
           (of_hand me then (leaves x) hand held view_is (goes_on words after s.views id me.0 then holds.world at own world later))
       pick false e =
@@ -278,7 +389,7 @@ module _ (run : SharedRun) where
           owes slots id place x me s then (Links (step slots place 0 (hand.mark + 1) none) me x) holds
           (world_kept slots id place me (ChildOf n side) within at_place own s holds at may)
           (of_hand me then (leaves x) hand held
-          (ap (λ b. cond b (linked_at me.0 hand place (place_in me.0 (PointOf (suc hand.mark)))) (saw_at me.0 place x x)) (sym e))
+          (ap (λ b. cond b (linked_at me.0 hand place) (saw_at me.0 place x x)) (sym e))
           (goes_on_loaded slots id place me (ChildOf n side) within at_place own s holds at may))
 
   pub may_count :

@@ -1,25 +1,21 @@
 -- What a pass keeps and has seen after a step for the mark in its hand.
-use Rattle.std.proofs.Common.{◌≡◌, ◌≢◌, ℕ, zero, suc, ◌<◌, ◌≤◌, ◌^◌, Bool, true, false, [], length, Option, Some, None, inr, refl, sym, ap, ◌∙◌, subst, arith}
+use Rattle.std.proofs.Common.{◌≡◌, ◌≢◌, ℕ, zero, suc, ◌<◌, ◌≤◌, ◌^◌, Bool, true, false, length, Option, Some, None, inr, refl, sym, ap, ◌∙◌, subst, arith}
 use Rattle.std.specs.Prelude.{◌==◌, cond, IfSome, IsSome, is_some}
 use Rattle.std.proofs.lemmas.Bool.{eqb-true, ne_eqb}
-use Rattle.atomic_table.specs.Table.{Me}
 use Rattle.plan_model.specs.Bounds.{IsBounded}
-use Rattle.plan_words.specs.Nodes.{IsLinkedAt, IsNodeWord}
-use Rattle.plan_words.specs.Plays.{Tells}
-use Rattle.plan_words.specs.States.{HasRoom, IsTied, PassState, first_of, with_view}
-use Rattle.plan_words.specs.declared.openings.Aim.{Aim}
+use Rattle.plan_words.specs.Nodes.{IsChildOrPoint, IsLinkedAt, IsNodeWord}
+use Rattle.plan_words.specs.States.{PassState, with_view}
 use Rattle.step_core.specs.GrownWords.{child_of_word}
 use Rattle.step_core.specs.LaterViews.{IsLawfulView}
 use Rattle.step_core.specs.Stages.{has_point}
 use Rattle.step_core.specs.ViewSteps.{counted, linked, linked_at, loaded, place_in, saw_at}
 use Rattle.step_core.specs.ViewTrees.{LeadsTo, SeesNode}
 use Rattle.step_core.specs.Views.{run_sizes, sees, tree_seen}
-use Rattle.step_core.specs.WordNames.{ChangesOnly}
-use Rattle.step_core.specs.WordNames.Word.{ChildOf}
+use Rattle.step_core.specs.WordNames.{ChangesOnly, Word}
+use Rattle.step_core.specs.WordNames.Word.{ChildOf, Count, Counter, FirstOf, PointOf, RecordOf, TreeOf}
 use Rattle.step_core.specs.Words.{point_of_word}
 use Rattle.step_core.specs.declared.views.Hand.{Hand}
-use Rattle.step_core.specs.declared.views.Member.{Member}
-use Rattle.step_core.specs.declared.views.Stage.TheVariants.{Linked, Pointed}
+use Rattle.step_core.specs.declared.views.Stage.TheVariants.{Treed}
 use Rattle.step_core.specs.declared.views.View.{View}
 use Rattle.step_core.proofs.LawfulSights.{IsBounded-steered}
 use Rattle.step_core.proofs.LinkedViews.{sees-linked}
@@ -27,6 +23,16 @@ use Rattle.step_core.proofs.PackedWords.{point_of_word-packed}
 use Rattle.step_core.proofs.SeenByViews.{WritesWord-saw}
 use Rattle.step_core.proofs.SeenWords.{point_at-seen}
 use Rattle.plan_words.proofs.LookedNodes.{child_fits, child_seen}
+
+-- children and points are words of nodes
+pub IsNodeWord-child : (name : Word) → IsChildOrPoint name → IsNodeWord name
+IsNodeWord-child Count h = h
+IsNodeWord-child (Counter g) h = h
+IsNodeWord-child (PointOf n) h = tt
+IsNodeWord-child (ChildOf n side) h = tt
+IsNodeWord-child (TreeOf n) h = tt
+IsNodeWord-child (FirstOf n) h = tt
+IsNodeWord-child (RecordOf k) h = h
 
 -- what is said of a hand holds of the one that there is
 pub at_hand : (has : Hand → Type 0) (o : Option Hand) (hand : Hand) → o ≡ Some hand → IfSome o has → has hand
@@ -37,49 +43,11 @@ pub some_hand : (o : Option Hand) → IsSome o → (hand : Hand) × (o ≡ Some 
 some_hand None is = cc
 some_hand (Some hand) is = (hand, refl)
 
--- the pass keeps what it must after a step that leaves it another hand
-pub keeps_hand :
-    (me after : Me Aim View) (view : View) (member : Option Member) (hand : Option Hand) (next : Hand) (for_spots for_near for_around : ℕ)
-    → Tells me view after → (me.1 ≡ []) × IsTied me.0 member hand × HasRoom me.0.run for_spots for_near for_around → view.run ≡ me.0.run
-    → view.crew ≡ me.0.crew → view.hand ≡ Some next
-    → (after.1 ≡ []) × IsTied after.0 member (Some next) × HasRoom after.0.run for_spots for_near for_around
-keeps_hand me after view member hand next for_spots for_near for_around told (none, tied, room) run crew held = (
-  told.slots ∙ none,
-  record {
-    member_is = tied.member_is ∙ ap first_of (sym (ap (λ v. v.crew) told.view_is ∙ crew));
-    hand_is = sym (ap (λ v. v.hand) told.view_is ∙ held);
-    lawful = subst IsLawfulView (sym told.view_is) told.goes_on.lawful;
-  },
-  subst (λ r. HasRoom r for_spots for_near for_around) (sym (ap (λ v. v.run) told.view_is ∙ run)) room,
-)
-
 -- ---- a link that was tried
 
-module _ (view : View) (hand : Hand) (place point_place found : ℕ) (held : view.hand ≡ Some hand) where
+module _ (view : View) (hand : Hand) (place found : ℕ) (held : view.hand ≡ Some hand) where
   abbrev tried : Bool → View
-  tried b = cond b (linked_at view hand place point_place) (saw_at view place found found)
-
-  tried_run : (b : Bool) → (tried b).run ≡ view.run
-  tried_run true = refl
-  tried_run false = refl
-
-  tried_crew : (b : Bool) → (tried b).crew ≡ view.crew
-  tried_crew true = refl
-  tried_crew false = refl
-
-  tried_hand : (b : Bool) → (tried b).hand ≡ Some (cond b (record hand { stage = Linked }) hand)
-  tried_hand true = refl
-  tried_hand false = held
-
-  pub keeps_tried :
-      (me after : Me Aim View) (member : Option Member) (own : Option Hand) (next : Hand) (for_spots for_near for_around : ℕ) → me.0 ≡ view
-      → Tells me (tried (found == 0)) after → (me.1 ≡ []) × IsTied me.0 member own × HasRoom me.0.run for_spots for_near for_around
-      → next ≡ cond (found == 0) (record hand { stage = Linked }) hand
-      → (after.1 ≡ []) × IsTied after.0 member (Some next) × HasRoom after.0.run for_spots for_near for_around
-  keeps_tried me after member own next for_spots for_near for_around same told kept is =
-      keeps_hand me after (tried (found == 0)) member own next for_spots for_near for_around told kept
-      (tried_run (found == 0) ∙ sym (ap (λ v. v.run) same)) (tried_crew (found == 0) ∙ sym (ap (λ v. v.crew) same))
-      (tried_hand (found == 0) ∙ ap Some (sym is))
+  tried b = cond b (linked_at view hand place) (saw_at view place found found)
 
   -- what was found is 0, or the number of a node
   pub tried_fits :
@@ -116,7 +84,7 @@ linked_view old mid new n side found none first then = by_hand old.view.hand fir
         subst (λ m. IfSome m.view.hand (λ h. new ≡ with_view m (counted m.view h))) made then
 
 module _ (view then : View) (hand : Hand) (n : ℕ) (side : Bool) (lawful : IsLawfulView view) (held : view.hand ≡ Some hand)
-    (stage : hand.stage ≡ Pointed) (leads : LeadsTo view hand.point n side) (is : then ≡ counted (linked view hand n side) hand) where
+    (stage : hand.stage ≡ Treed) (leads : LeadsTo view hand.point n side) (is : then ≡ counted (linked view hand n side) hand) where
   within : n ≤ length view.run.marks
   within = lawful.within n (leads_seen view hand n side lawful leads)
 
@@ -137,6 +105,8 @@ module _ (view then : View) (hand : Hand) (n : ℕ) (side : Bool) (lawful : IsLa
         point =
             point_at-seen (run_sizes view.run) (sees (linked view hand n side)) (suc hand.mark) (omega (arith, low))
             ∙ ap point_of_word shows.point ∙ point_of_word-packed hand.point bounded;
+        pair = shows.tree;
+        first = shows.first;
         counted = refl;
       })
 
@@ -145,7 +115,8 @@ module _ (view then : View) (hand : Hand) (n : ℕ) (side : Bool) (lawful : IsLa
   ChangesOnly-linked name other =
       let shows = sees-linked view.run view lawful.of_run hand n side within low in
       ap (λ v. sees v name) is
-      ∙ shows.others name (λ e. other (subst IsNodeWord (sym e) tt)) (λ e. other (subst IsNodeWord (sym e) tt))
+      ∙ shows.others name (λ e. other (subst IsNodeWord (sym e) tt)) (λ e. other (subst IsNodeWord (sym e) tt)) (λ e. other (subst IsNodeWord (sym e) tt))
+      (λ e. other (subst IsNodeWord (sym e) tt))
 
 -- ---- a link that met a child
 
@@ -168,7 +139,10 @@ module _
           let child = child_seen view then n side (place_in view (ChildOf n side)) c lawful seen refl is ∙ ap child_of_word e in
           (child, inr (n, side, child))
 
-  pub ChangesOnly-met : ChangesOnly IsNodeWord (sees view) (sees then)
+  pub ChangesOnly-met : ChangesOnly IsChildOrPoint (sees view) (sees then)
   ChangesOnly-met name other =
       ap (λ v. sees v name) is
-      ∙ (WritesWord-saw view.run view lawful.of_run (ChildOf n side) (lawful.within n seen) c c).others name (λ e. other (subst IsNodeWord (sym e) tt))
+      ∙ (WritesWord-saw view.run view lawful.of_run (ChildOf n side) (lawful.within n seen) c c).others name (λ e. other (subst IsChildOrPoint (sym e) tt))
+
+  pub ChangesOnly-met_node : ChangesOnly IsNodeWord (sees view) (sees then)
+  ChangesOnly-met_node name other = ChangesOnly-met name (λ h. other (IsNodeWord-child name h))

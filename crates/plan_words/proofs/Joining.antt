@@ -1,13 +1,22 @@
 -- A pass goes on by a join and the load that follows it.
-use Rattle.std.proofs.Common.{◌≡◌, sym, ap, subst}
+use Rattle.std.proofs.Common.{◌≡◌, ℕ, ◌<◌, ◌≤◌, List, [], ◌∷◌, ◌++◌, length, Option, Some, None, false, true, refl, sym, ap, ◌∙◌, subst, arith}
+use Rattle.std.specs.Prelude.{is_some, slice_index}
 use Rattle.atomic_table.specs.Table.{Me}
 use Rattle.plan_words.specs.declared.openings.Aim.{Aim}
 use Rattle.plan_words.specs.Plays.{Tells}
-use Rattle.plan_words.specs.States.{GoesOn, PassState}
+use Rattle.plan_words.specs.States.{GoesOn, HasPairs, HasRoom, PassState, first_of}
 use Rattle.step_core.specs.LaterViews.{IsLater, IsLawfulView}
-use Rattle.step_core.specs.ViewSteps.{joined}
+use Rattle.step_core.specs.ViewSteps.{joined, place_in, saw_at}
+use Rattle.step_core.specs.Views.{run_sizes, sees, words_of_run}
+use Rattle.step_core.specs.WordKinds.{later_word}
+use Rattle.step_core.specs.WordKinds.WordKind.{Falling}
+use Rattle.step_core.specs.WordNames.Word.{Count, TreeOf}
+use Rattle.step_core.specs.declared.views.Hand.{Hand}
+use Rattle.step_core.specs.declared.views.Member.{Member}
 use Rattle.step_core.specs.declared.views.View.{View}
 use Rattle.step_core.proofs.LaterViews.{IsLater-joined, IsLater-trans}
+use Rattle.step_core.proofs.LaterWords.{word_at-merged}
+use Rattle.plan_words.proofs.KeptPairs.{Keeps, keeps_saw}
 
 IsLater-taken_over :
     (pass inner : PassState) (other : View) (me mid after : Me Aim View) → inner ≡ pass → mid ≡ (joined inner.view other, me.1) → {view : View}
@@ -26,3 +35,54 @@ GoesOn-taken_over pass inner other me mid after lawful pass_is mid_is told = rec
   later = IsLater-taken_over pass inner other me mid after pass_is mid_is told;
   lawful = subst IsLawfulView (sym told.view_is) told.goes_on.lawful;
 }
+
+-- ---- what the pass keeps
+
+-- the first of both crews is that of the one, or of the other if the one is empty
+pub first-own : (crew other : List Member) → is_some (first_of crew) ≡ true → first_of (crew ++ other) ≡ first_of crew
+first-own [] other h = cc
+first-own (member ∷ crew) other h = refl
+
+pub first-theirs : (crew other : List Member) → first_of crew ≡ None → first_of (crew ++ other) ≡ first_of other
+first-theirs [] other h = refl
+first-theirs (member ∷ crew) other h = cc
+
+-- the tree words that either has seen, at the lower costs
+HasPairs-joined :
+    (view other : View) (pairs others now : List ℕ) → other.run ≡ view.run → HasPairs view pairs → HasPairs other others → length now ≡ length pairs
+    → ((n : ℕ) → n < length pairs → slice_index now n ≡ later_word Falling (slice_index pairs n) (slice_index others n)) → HasPairs (joined view other) now
+HasPairs-joined view other pairs others now same has theirs sized taken = record {
+  for_each = sized ∙ has.for_each;
+  seen = λ n within.
+      taken n (omega (arith, has.for_each, within)) ∙ ap (λ w. later_word Falling w (slice_index others n)) (has.seen n within)
+      ∙ ap (later_word Falling (sees view (TreeOf n)))
+      (theirs.seen n (subst (λ r. n ≤ length r.marks) (sym same) within) ∙ ap (λ r. words_of_run r other.seen (TreeOf n)) same)
+      ∙ sym (word_at-merged (run_sizes view.run) view.seen other.seen (TreeOf n));
+}
+
+pub keeps_taken_over :
+    (me mid after : Me Aim View) (other : View) (own member : Option Member) (hand : Option Hand) (for_spots for_near for_around : ℕ)
+    (pairs others now : List ℕ) (place x : ℕ) → mid ≡ (joined me.0 other, me.1) → Tells mid (saw_at mid.0 place x x) after → place ≡ place_in mid.0 Count
+    → Keeps me own hand for_spots for_near for_around pairs → other.run ≡ me.0.run → HasPairs other others → member ≡ first_of (me.0.crew ++ other.crew)
+    → length now ≡ length pairs
+    → ((n : ℕ) → n < length pairs → slice_index now n ≡ later_word Falling (slice_index pairs n) (slice_index others n))
+    → Keeps after member hand for_spots for_near for_around now
+keeps_taken_over me mid after other own member hand for_spots for_near for_around pairs others now place x mid_is told at_place (none, tied, room, has) same theirs
+    member_is sized taken =
+    let kept : Keeps mid member hand for_spots for_near for_around now = (
+      ap (λ m. m.1) mid_is ∙ none,
+      record {
+        member_is = member_is ∙ ap (λ m. first_of m.0.crew) (sym mid_is);
+        hand_is = tied.hand_is ∙ ap (λ m. m.0.hand) (sym mid_is);
+        lawful = told.goes_on.was_lawful;
+      },
+      subst (λ r. HasRoom r for_spots for_near for_around) (sym (ap (λ m. m.0.run) mid_is)) room,
+      subst (λ m. HasPairs m.0 now) (sym mid_is) (HasPairs-joined me.0 other pairs others now same has theirs sized taken),
+    ) in
+    keeps_saw mid after member hand for_spots for_near for_around now Count place x x told kept tt at_place (λ n e. cc)
+
+-- ---- whether the pass has a worker of its own
+
+pub none-member : (o : Option Member) → is_some o ≡ false → o ≡ None
+none-member None h = refl
+none-member (Some member) h = cc

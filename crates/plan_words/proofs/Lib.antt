@@ -5,8 +5,11 @@ pub mod Owning
 pub mod LookedNodes
 pub mod Tying
 pub mod HandSteps
+pub mod KeptPairs
 pub mod Joining
+pub mod LoweredNodes
 pub mod Scanning
 pub mod Claiming
 pub mod CountedTurns
 pub mod Dealing
+pub mod NearestParents

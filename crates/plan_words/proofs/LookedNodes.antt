@@ -1,6 +1,7 @@
 -- What a pass has seen of a node after it has loaded a word of it.
 use Rattle.std.proofs.Common.{◌≡◌, ℕ, zero, suc, ◌<◌, ◌≤◌, ◌^◌, Bool, length, Some, inr, refl, sym, ap, ◌∙◌, subst, arith}
 use Rattle.std.specs.Prelude.{MatchOption, unwrap_or}
+use Rattle.plan_words.specs.Parents.{IsPairIn}
 use Rattle.plan_words.specs.Plays.{FindsPoint}
 use Rattle.step_core.specs.GrownWords.{child_of_word}
 use Rattle.step_core.specs.LaterViews.{IsLawfulView}
@@ -9,9 +10,9 @@ use Rattle.step_core.specs.ViewSteps.{place_in, saw, saw_at}
 use Rattle.step_core.specs.ViewTrees.{SeesNode, SeesPoint}
 use Rattle.step_core.specs.Views.{last_zero, run_sizes, sees, tree_seen}
 use Rattle.step_core.specs.WordNames.{Word}
-use Rattle.step_core.specs.WordNames.Word.{ChildOf, PointOf}
+use Rattle.step_core.specs.WordNames.Word.{ChildOf, PointOf, TreeOf}
 use Rattle.step_core.specs.WordPlaces.{place_of}
-use Rattle.step_core.specs.Words.{point_in, point_of_word}
+use Rattle.step_core.specs.Words.{cost_in, parent_in, point_in, point_of_word}
 use Rattle.step_core.specs.declared.views.SharedRun.{SharedRun}
 use Rattle.step_core.specs.declared.views.View.{View}
 use Rattle.step_core.specs.declared.word_places.WordPlaces.{WordPlaces}
@@ -90,3 +91,20 @@ module _
       let within = subst (λ v. node ≤ length v.run.marks) (sym is) (lawful.within node seen) in
       point_at-seen (run_sizes then.run) (sees then) node within
       ∙ ap point_of_word point_word_seen ∙ if_written-set x (point_in x) (written node seen at_place)
+
+-- ---- parents and costs
+
+module _
+    (view then : View) (node place x : ℕ) (lawful : IsLawfulView view) (seen : SeesNode view node) (at_place : place ≡ place_in view (TreeOf node))
+    (is : then ≡ saw_at view place x x) where
+  pub tree_word_seen : sees then (TreeOf node) ≡ x
+  tree_word_seen =
+      ap (λ v. sees v (TreeOf node)) (is ∙ ap (λ n. saw_at view n x x) at_place)
+      ∙ (WritesWord-saw view.run view lawful.of_run (TreeOf node) (lawful.within node seen) x x).here
+
+  pub pair_found : (pair : ℕ × ℕ) → pair.0 ≡ parent_in x → pair.1 ≡ cost_in x → 2 ^ 63 ≤ x → IsPairIn (sees then (TreeOf node)) pair
+  pair_found pair parent cost written = record {
+    written = omega (arith, tree_word_seen, written);
+    parent = parent ∙ ap parent_in (sym tree_word_seen);
+    cost = cost ∙ ap cost_in (sym tree_word_seen);
+  }

@@ -8,19 +8,19 @@ use Rattle.atomic_table.specs.Table.{Allows, Joins, Me, Splits, State, step}
 use Rattle.plan_words.specs.declared.openings.Aim.{Aim}
 use Rattle.plan_words.specs.declared.openings.Opening.{Opening}
 use Rattle.plan_model.specs.declared.geometry.Point.{Point}
-use Rattle.plan_words.specs.Plays.{Claims, Counts, Finishes, Links, Loads, Tells, WritesPoint}
+use Rattle.plan_words.specs.Plays.{Claims, Counts, Finishes, Links, Loads, Lowers, Tells, WritesFirst, WritesPoint, WritesTree}
 use Rattle.plan_words.specs.States.{BelongsTo, GoesOn, HoldsWorld, IsTableOf, PassState, SharedState, run_in, run_of_opening, with_view}
 use Rattle.step_core.specs.LaterViews.{IsLawfulView}
 use Rattle.step_core.specs.Stages.{MayBeRecorded}
-use Rattle.step_core.specs.ViewTrees.{IsSteered, LeadsTo, MayLoad}
-use Rattle.step_core.specs.declared.views.Stage.TheVariants.{Claimed, Linked, Pointed}
-use Rattle.step_core.specs.ViewSteps.{claimed, joined, loaded, looker, mark_of, parted, place_in, saw_at, stepped as one_step, worker_apart}
+use Rattle.step_core.specs.ViewTrees.{IsSteered, LeadsTo, MayHang, MayLoad, MayLower}
+use Rattle.step_core.specs.declared.views.Stage.TheVariants.{Claimed, Half, Linked, Pointed, Treed}
+use Rattle.step_core.specs.ViewSteps.{claimed, joined, loaded, looker, mark_of, pair_in_hand, parted, place_in, saw_at, stepped as one_step, worker_apart}
 use Rattle.step_core.specs.Views.{last_look, run_sizes, sees, share, spent}
 use Rattle.step_core.specs.WordNames.{Word, WritesWord}
-use Rattle.step_core.specs.WordNames.Word.{ChildOf, Count, Counter, PointOf, RecordOf}
+use Rattle.step_core.specs.WordNames.Word.{ChildOf, Count, Counter, FirstOf, PointOf, RecordOf, TreeOf}
 use Rattle.step_core.specs.WordPlaces.{HasWord, place_of}
 use Rattle.plan_model.specs.declared.records.Record.{Record}
-use Rattle.step_core.specs.Words.{FitsWord, point_word, record_word}
+use Rattle.step_core.specs.Words.{FitsWord, cost_in, parent_in, point_word, record_word, tree_word}
 use Rattle.step_core.specs.declared.views.Hand.{Hand}
 use Rattle.step_core.specs.declared.views.Member.{Member}
 use Rattle.step_core.specs.declared.views.SharedRun.{SharedRun}
@@ -28,7 +28,8 @@ use Rattle.step_core.specs.declared.views.View.{View}
 use Rattle.step_core.specs.declared.word_places.WordPlaces.{WordPlaces}
 use Rattle.step_core.proofs.SeenByViews.{WritesWord-looked, WritesWord-saw}
 use Rattle.step_core.proofs.WordReads.{place_of-within}
-use Rattle.plan_words.proofs.Allowing.{Holds, may_claim, may_count, may_finish, may_hand_on, may_link, may_load, may_look, may_point, may_take_over}
+use Rattle.plan_words.proofs.Allowing.{Holds, may_claim, may_count, may_finish, may_first, may_hand_on, may_link, may_load, may_look, may_lower}
+use Rattle.plan_words.proofs.Allowing.{may_point, may_take_over, may_tree}
 
 -- the rule by what the table was told
 abbrev pub Kept : Opening → State Aim View → Type 0
@@ -92,9 +93,46 @@ module _ (table : TableId) (key : Opening) (run : SharedRun) (places : WordPlace
         (may_point run table.slots id place x me hand m p at_place own held stage steered is),
   )
 
+  pub may_first_here :
+      (seat : TableId) (id place x : ℕ) (me : Me Aim View) (hand : Hand) (parent cost : ℕ) → seat ≡ table → me.0.run ≡ run
+      → place ≡ place_of (run_sizes run) (FirstOf (suc hand.mark)) → hand.mark < length run.marks → me.0.hand ≡ Some hand → hand.stage ≡ Pointed
+      → MayHang me.0 hand parent cost → x ≡ tree_word parent cost → parent ≡ parent_in x → cost ≡ cost_in x
+      → (seat ≡ table) × (place < table.words) × Allows (Kept key) table.slots id me place (λ y. x) (λ y. WritesFirst (step table.slots place x 0 none) me x)
+  may_first_here seat id place x me hand parent cost same own at_place low held stage may is is_parent is_cost = (
+    same,
+    within (FirstOf (suc hand.mark)) place (omega (arith, low)) at_place,
+    subst (λ r. Allows (Holds r) table.slots id me place (λ y. x) (λ y. WritesFirst (step table.slots place x 0 none) me x)) (sym fits.key_is)
+        (may_first run table.slots id place x me hand parent cost at_place own held stage may is is_parent is_cost),
+  )
+
+  pub may_tree_here :
+      (seat : TableId) (id place x : ℕ) (me : Me Aim View) (hand : Hand) → seat ≡ table → me.0.run ≡ run
+      → place ≡ place_of (run_sizes run) (TreeOf (suc hand.mark)) → hand.mark < length run.marks → me.0.hand ≡ Some hand → hand.stage ≡ Half
+      → x ≡ pair_in_hand hand
+      → (seat ≡ table) × (place < table.words) × Allows (Kept key) table.slots id me place (λ y. x) (λ y. WritesTree (step table.slots place x 0 none) me x)
+  may_tree_here seat id place x me hand same own at_place low held stage is = (
+    same,
+    within (TreeOf (suc hand.mark)) place (omega (arith, low)) at_place,
+    subst (λ r. Allows (Holds r) table.slots id me place (λ y. x) (λ y. WritesTree (step table.slots place x 0 none) me x)) (sym fits.key_is)
+        (may_tree run table.slots id place x me hand at_place own held stage is),
+  )
+
+  pub may_lower_here :
+      (seat : TableId) (id place seen word n parent cost : ℕ) (me : Me Aim View) → seat ≡ table → me.0.run ≡ run → n ≤ length run.marks
+      → place ≡ place_of (run_sizes run) (TreeOf n) → MayLower me.0 n parent cost → MayLoad me.0 (TreeOf n) → seen ≡ sees me.0 (TreeOf n)
+      → word ≡ tree_word parent cost
+      → (seat ≡ table) × (place < table.words) × Allows (Kept key) table.slots id me place (λ x. either (x == seen) word x)
+      (Lowers (step table.slots place seen word none) me)
+  may_lower_here seat id place seen word n parent cost me same own low at_place may may_load_it seen_is word_is = (
+    same,
+    within (TreeOf n) place low at_place,
+    subst (λ r. Allows (Holds r) table.slots id me place (λ x. either (x == seen) word x) (Lowers (step table.slots place seen word none) me)) (sym fits.key_is)
+        (may_lower run table.slots id place seen word n parent cost me low at_place own may may_load_it seen_is word_is),
+  )
+
   pub may_link_here :
       (seat : TableId) (id place x : ℕ) (me : Me Aim View) (hand : Hand) (n : ℕ) (side : Bool) → seat ≡ table → me.0.run ≡ run → n ≤ length run.marks
-      → place ≡ place_of (run_sizes run) (ChildOf n side) → me.0.hand ≡ Some hand → hand.stage ≡ Pointed → LeadsTo me.0 hand.point n side
+      → place ≡ place_of (run_sizes run) (ChildOf n side) → me.0.hand ≡ Some hand → hand.stage ≡ Treed → LeadsTo me.0 hand.point n side
       → MayLoad me.0 (ChildOf n side) → x ≡ hand.mark + 1
       → (seat ≡ table) × (place < table.words) × Allows (Kept key) table.slots id me place (λ y. either (y == 0) x y)
       (Links (step table.slots place 0 x none) me)

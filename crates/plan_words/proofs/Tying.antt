@@ -11,7 +11,8 @@ use Rattle.plan_words.specs.States.{BelongsTo, GoesOn, HasRoom, IsTied, MayClaim
 use Rattle.step_core.specs.LaterViews.{IsLawfulView}
 use Rattle.step_core.specs.ViewSteps.{finished_at, looker, one_turn_more, parted, second_alone, stepped, without_second, worker_apart}
 use Rattle.step_core.specs.PlacesOfWords.{sizes_in}
-use Rattle.step_core.specs.Views.{IsViewOf, run_sizes, words_of_run}
+use Rattle.step_core.specs.ViewTrees.{IsSeenPair}
+use Rattle.step_core.specs.Views.{IsViewOf, run_sizes, spent, words_of_run}
 use Rattle.step_core.specs.Words.{FitsWord, last_field}
 use Rattle.step_core.specs.declared.views.Hand.{Hand}
 use Rattle.step_core.specs.declared.views.Member.{Member}
@@ -111,6 +112,19 @@ IsViewOf-later view then of_run order run_is seen looked found_zero = subst (λ 
       omega (arith, same, of_run.zero_looks name, order);
 })
 
+-- what is said of seen pairs is said of the run and of what is seen alone
+abbrev bare : View → View
+bare view = record spent { run = view.run; seen = view.seen }
+
+IsSeenPair-bare : (view : View) (n : ℕ) → IsSeenPair view n → IsSeenPair (bare view) n
+IsSeenPair-bare view n pair =
+    record { low = pair.low; within = pair.within; start = pair.start; other = pair.other; edge = pair.edge; first = pair.first }
+
+IsSeenPair-again : (view then : View) (n : ℕ) → bare view ≡ bare then → IsSeenPair view n → IsSeenPair then n
+IsSeenPair-again view then n same pair =
+    let own = subst (λ v. IsSeenPair v n) same (IsSeenPair-bare view n pair) in
+    record { low = own.low; within = own.within; start = own.start; other = own.other; edge = own.edge; first = own.first }
+
 IsLawfulView-stepped : (view : View) → IsLawfulView view → IsLawfulView (stepped view)
 IsLawfulView-stepped view lawful = record {
   run = lawful.run;
@@ -128,6 +142,8 @@ IsLawfulView-stepped view lawful = record {
   within = lawful.within;
   unseen = lawful.unseen;
   start = lawful.start;
+  pair_fits = lawful.pair_fits;
+  pairs = λ n written. IsSeenPair-again view (stepped view) n refl (lawful.pairs n written);
   count = lawful.count;
   counter = lawful.counter;
 }
@@ -160,6 +176,8 @@ IsLawfulView-looker view lawful = record {
   within = lawful.within;
   unseen = λ hand held. cc;
   start = lawful.start;
+  pair_fits = λ hand held. cc;
+  pairs = λ n written. IsSeenPair-again view (looker view) n refl (lawful.pairs n written);
   count = lawful.count;
   counter = lawful.counter;
 }
@@ -215,6 +233,8 @@ IsTied-parted view member hand tied =
         within = lawful.within;
         unseen = lawful.unseen;
         start = lawful.start;
+        pair_fits = lawful.pair_fits;
+        pairs = λ n written. IsSeenPair-again view (parted view) n refl (lawful.pairs n written);
         count = lawful.count;
         counter = lawful.counter;
       };
@@ -240,6 +260,8 @@ IsTied-apart view member lawful second = record {
     within = lawful.within;
     unseen = λ hand held. cc;
     start = lawful.start;
+    pair_fits = λ hand held. cc;
+    pairs = λ n written. IsSeenPair-again view (worker_apart view) n refl (lawful.pairs n written);
     count = lawful.count;
     counter = lawful.counter;
   };

@@ -2,3 +2,4 @@ pub mod States
 pub mod Plays
 pub mod Claims
 pub mod Nodes
+pub mod Parents

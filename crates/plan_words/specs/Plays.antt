@@ -1,13 +1,15 @@
 -- What each kind of step tells the pass that makes it: its view then, and that its steps go on to that.
-use Rattle.std.specs.Prelude.{◌≡◌, ℕ, suc, ◌≤◌, ◌==◌, ◌^◌, Some, if◌then◌else◌}
+use Rattle.std.specs.Prelude.{◌≡◌, ◌≢◌, ℕ, ◌≤◌, ◌==◌, ◌^◌, Some, if◌then◌else◌}
 use mathlib.Core.Option.{Option, some, none}
 use Rattle.atomic_table.specs.Table.{Me, Step}
 use Rattle.plan_model.specs.declared.geometry.Point.{Point}
 use Rattle.plan_words.specs.declared.openings.Aim.{Aim}
+use Rattle.plan_words.specs.Parents.{FindsLess}
 use Rattle.plan_words.specs.States.{GoesOn}
-use Rattle.step_core.specs.ViewSteps.{claimed, counted, finished_at, linked_at, place_in, pointed, saw_at}
+use Rattle.step_core.specs.ViewSteps.{claimed, counted, finished_at, half, linked_at, place_in, pointed, saw_at, treed}
 use Rattle.step_core.specs.ViewTrees.{SeesNode}
-use Rattle.step_core.specs.WordNames.Word.{PointOf}
+use Rattle.step_core.specs.WordNames.Word.{PointOf, TreeOf}
+use Rattle.step_core.specs.Words.{cost_in, parent_in}
 use Rattle.step_core.specs.declared.views.Hand.{Hand}
 use Rattle.step_core.specs.declared.views.View.{View}
 
@@ -27,9 +29,15 @@ TellsHand before view after = (hand : Hand) → before.0.hand ≡ Some hand → 
 abbrev pub FindsPoint : View → ℕ → ℕ → Type 0
 FindsPoint view place found = (n : ℕ) → SeesNode view n → place ≡ place_in view (PointOf n) → 2 ^ 63 ≤ found
 
+-- and so it was if it is a tree word of one
+abbrev pub FindsTree : View → ℕ → ℕ → Type 0
+FindsTree view place found = (n : ℕ) → SeesNode view n → place ≡ place_in view (TreeOf n) → 2 ^ 63 ≤ found
+
 -- the view sees the word as it was found
-abbrev pub Loads : Step Aim → Me Aim View → ℕ → Me Aim View → Type 0
-Loads step before found after = Tells before (saw_at before.0 step.word found found) after × FindsPoint before.0 step.word found
+pub record Loads (step : Step Aim) (before : Me Aim View) (found : ℕ) (after : Me Aim View) : Type 0 where
+  pub told : Tells before (saw_at before.0 step.word found found) after
+  pub point : FindsPoint before.0 step.word found
+  pub tree : FindsTree before.0 step.word found
 
 -- ---- claims and records
 
@@ -55,12 +63,23 @@ Finishes step before found after = Tells before (finished_at before.0 step.word 
 abbrev pub WritesPoint : ℕ → Point → Step Aim → Me Aim View → ℕ → Me Aim View → Type 0
 WritesPoint m p step before found after = TellsHand before (λ hand. pointed before.0 hand m p) after
 
+-- its first word is written
+abbrev pub WritesFirst : Step Aim → Me Aim View → ℕ → Me Aim View → Type 0
+WritesFirst step before found after = TellsHand before (λ hand. half before.0 hand (parent_in step.first) (cost_in step.first)) after
+
+-- its tree word is written
+abbrev pub WritesTree : Step Aim → Me Aim View → ℕ → Me Aim View → Type 0
+WritesTree step before found after = TellsHand before (λ hand. treed before.0 hand) after
+
+-- a tree word that was as it was seen last gave way to another, or was found otherwise, of a lower cost
+pub record Lowers (step : Step Aim) (before : Me Aim View) (found : ℕ) (after : Me Aim View) : Type 0 where
+  pub told : Tells before (saw_at before.0 step.word found (if found == step.first then step.second else found)) after
+  pub fell : found ≢ step.first → FindsLess step.first found
+
 -- the node in hand is linked, or a child was found there
 abbrev pub Links : Step Aim → Me Aim View → ℕ → Me Aim View → Type 0
 Links step before found after =
-    TellsHand before
-    (λ hand. if found == 0 then linked_at before.0 hand step.word (place_in before.0 (PointOf (suc hand.mark))) else saw_at before.0 step.word found found)
-    after
+    TellsHand before (λ hand. if found == 0 then linked_at before.0 hand step.word else saw_at before.0 step.word found found) after
 
 -- the node in hand is counted
 abbrev pub Counts : Step Aim → Me Aim View → ℕ → Me Aim View → Type 0

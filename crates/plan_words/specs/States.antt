@@ -1,5 +1,5 @@
 -- What contracts see of a shared tree and of a pass, and what a table of words keeps.
-use Rattle.std.specs.Prelude.{◌≡◌, ℕ, ◌+◌, ◌<◌, ◌≤◌, Option, Some, None, List, [], ◌∷◌, length}
+use Rattle.std.specs.Prelude.{◌≡◌, ℕ, ◌+◌, ◌<◌, ◌≤◌, Option, Some, None, List, [], ◌∷◌, length, slice_index}
 use Rattle.atomic_table.specs.Seated.{TableId}
 use Rattle.plan_model.specs.declared.tasks.Task.{Task}
 use Rattle.plan_words.specs.declared.openings.Opening.{Opening}
@@ -9,6 +9,7 @@ use Rattle.step_core.specs.LaterViews.{IsLater, IsLawfulView}
 use Rattle.step_core.specs.PlacesOfWords.{sizes_in}
 use Rattle.step_core.specs.ViewStarts.{member_of, newcomer}
 use Rattle.step_core.specs.Views.{IsSharedRun, run_of, run_sizes, sees, share, words_of_run}
+use Rattle.step_core.specs.WordNames.Word.{TreeOf}
 use Rattle.step_core.specs.WordPlaces.{word_count}
 use Rattle.step_core.specs.Worlds.{IsWorld}
 use Rattle.step_core.specs.declared.grown.Grown.{Grown}
@@ -110,6 +111,11 @@ pub record IsTied (view : View) (member : Option Member) (hand : Option Hand) : 
   pub member_is : member ≡ first_of view.crew
   pub hand_is : hand ≡ view.hand
   pub lawful : IsLawfulView view
+
+-- the list has the tree word of each node, as the view has seen it
+pub record HasPairs (view : View) (pairs : List ℕ) : Type 0 where
+  pub for_each : length pairs ≡ length view.run.marks + 1
+  pub seen : (n : ℕ) → n ≤ length view.run.marks → slice_index pairs n ≡ sees view (TreeOf n)
 
 -- each scratch list may hold as many as the run may have nodes
 pub record HasRoom (run : SharedRun) (for_spots for_near for_around : ℕ) : Type 0 where

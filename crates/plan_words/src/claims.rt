@@ -113,6 +113,8 @@ impl Shared {
                 stage: Stage::Claimed,
                 nearest: 0,
                 point: Point { x: 0, y: 0 },
+                parent: 0,
+                cost: 0,
             });
         }
         found

@@ -12,13 +12,15 @@
 //! Between the two a pass grows the tree as PRRT* (Ichnowski and Alterovitz, IROS 2012) has it: [`Shared::write_point`] writes
 //! where the node of the mark is to stand, and [`Shared::link`] makes it the child of another in one kd-tree (Bentley, CACM
 //! 1975). Others meet it there by [`Shared::child`] and [`Shared::point`]. What a link needs is that the way of the point leads
-//! there over what the pass has seen; a pass that comes second is told the child that came first. Parents and costs are not
-//! shared yet.
+//! there over what the pass has seen; a pass that comes second is told the child that came first. Before that
+//! [`Shared::write_tree`] writes its parent and its cost. Later a pass that knows a cheaper parent lowers the cost by
+//! [`Shared::lower`]: one word holds both, so no other pass sees the one without the other, and no cost ever rises.
 #![tactic(auto)]
 
 mod claims;
 mod nodes;
 mod openings;
+mod parents;
 mod passes;
 mod rules;
 mod scratch;

@@ -3,7 +3,7 @@
 
 ghost use Rattle.std.specs.Prelude.{◌≡◌, ◌≢◌, ℕ, suc, ◌+◌, ◌<◌, ◌≤◌, ◌^◌, ◌==◌, if◌then◌else◌, IfErr, IfOk, IfSome, IsSome, MatchOption, Some, length, unwrap_or};
 ghost use Rattle.plan_model.specs.Bounds.{IsBounded};
-ghost use Rattle.plan_words.specs.Nodes.{IsLinkedAt, IsNodeWord, LeadsOn};
+ghost use Rattle.plan_words.specs.Nodes.{IsChildOrPoint, IsLinkedAt, IsNodeWord, LeadsOn};
 ghost use Rattle.plan_words.specs.States.{BelongsTo, GoesOn, with_view};
 ghost use Rattle.step_core.specs.GrownWords.{child_of_word};
 ghost use Rattle.step_core.specs.ViewSteps.{counted, linked, loaded, pointed};
@@ -11,14 +11,14 @@ ghost use Rattle.step_core.specs.ViewTrees.{IsSteered, LeadsTo, SeesNode, SeesPo
 ghost use Rattle.step_core.specs.Views.{sees, tree_seen};
 ghost use Rattle.step_core.specs.WordNames.{ChangesOnly, WritesWord};
 ghost use Rattle.step_core.specs.WordNames.Word.{ChildOf, PointOf};
-ghost use Rattle.step_core.specs.declared.views.Stage.TheVariants.{Claimed, Counted, Linked, Pointed};
+ghost use Rattle.step_core.specs.declared.views.Stage.TheVariants.{Claimed, Counted, Linked, Treed};
 
 use crate::passes::Pass;
 use crate::rules::{Count, Link, Load, SteeredFrom, WritePoint};
 use crate::shared::Shared;
 use plan_model::Point;
 use std::marker::Brand;
-use step_core::{Hand, Stage, pack_point, point_in};
+use step_core::{Hand, Stage, pack_point, pack_tree, point_in};
 
 impl Shared {
     /// The child of a node on its left or its right, or `None` if there was none at this step. The pass has then seen the child.
@@ -88,11 +88,13 @@ impl Shared {
             stage: Stage::Pointed,
             nearest,
             point: p,
+            parent: hand.parent,
+            cost: hand.cost,
         });
     }
 
-    /// Links the node in hand as a child of another, if there is none on that side, and counts it. The way of its point leads
-    /// there over what the pass has seen.
+    /// Links the node in hand, whose words are written, as a child of another, if there is none on that side, and counts it. The
+    /// way of its point leads there over what the pass has seen.
     ///
     /// # Errors
     ///
@@ -100,7 +102,7 @@ impl Shared {
     pub fn link(&self, pass: &mut Pass, node: u32, right: bool) -> Result<(), u32>
         requires belongs { BelongsTo pass.old self.now }
         requires hand { IsSome pass.old.view.hand }
-        requires pointed { IfSome pass.old.view.hand (λ hand. hand.stage ≡ Pointed) }
+        requires treed { IfSome pass.old.view.hand (λ hand. hand.stage ≡ Treed) }
         requires leads { IfSome pass.old.view.hand (λ hand. LeadsTo pass.old.view hand.point node right) }
         ensures view { IfOk result (λ _. IfSome pass.old.view.hand (λ hand. pass.new ≡ with_view pass.old (counted (linked pass.old.view hand node right) hand))) }
         ensures goes_on { GoesOn pass.old.view pass.new.view }
@@ -110,8 +112,9 @@ impl Shared {
         // the way leads on to the node, or to the child that is there: a try that fails takes it a step deeper
         ensures on_way { IfOk result (λ _. IfSome pass.old.view.hand (λ hand. LeadsOn pass.old.view pass.new.view hand.point node right (suc hand.mark))) }
         ensures deeper { IfErr result (λ c. IfSome pass.old.view.hand (λ hand. LeadsOn pass.old.view pass.new.view hand.point node right c)) }
-        // nothing is seen anew but a child and a point
+        // nothing is seen anew but words of nodes, and by a try that fails but children and points
         ensures others { ChangesOnly IsNodeWord (sees pass.old.view) (sees pass.new.view) }
+        ensures others_found { IfErr result (λ _. ChangesOnly IsChildOrPoint (sees pass.old.view) (sees pass.new.view)) }
     {
         let child = self.put(pass, node, right);
         if child != 0 {
@@ -125,7 +128,7 @@ impl Shared {
     fn put(&self, pass: &mut Pass, node: u32, right: bool) -> u32
         requires belongs { BelongsTo pass.old self.now }
         requires hand { IsSome pass.old.view.hand }
-        requires pointed { IfSome pass.old.view.hand (λ hand. hand.stage ≡ Pointed) }
+        requires treed { IfSome pass.old.view.hand (λ hand. hand.stage ≡ Treed) }
         requires leads { IfSome pass.old.view.hand (λ hand. LeadsTo pass.old.view hand.point node right) }
         ensures view { IfSome pass.old.view.hand (λ hand. pass.new ≡ with_view pass.old
             (if result == 0 then linked pass.old.view hand node right else loaded pass.old.view (ChildOf node right) result)) }
@@ -140,6 +143,9 @@ impl Shared {
             .shared
             .compare_exchange::<Link>(&mut pass.seat, place, 0, u64::from(hand.mark + 1));
         pass.hand = Some(after_link(hand, found));
+        if found == 0 {
+            pass.pairs[hand.mark as usize + 1] = pack_tree(hand.parent, hand.cost);
+        }
         found as u32
     }
 
@@ -185,13 +191,8 @@ fn after_link(hand: Hand, found: u64) -> Hand
 }
 
 /// The hand, at this stage.
-fn at_stage(hand: Hand, stage: Stage) -> Hand
+pub(crate) fn at_stage(hand: Hand, stage: Stage) -> Hand
     ensures { result ≡ record hand { stage = stage } }
 {
-    Hand {
-        mark: hand.mark,
-        stage,
-        nearest: hand.nearest,
-        point: hand.point,
-    }
+    Hand { stage, ..hand }
 }

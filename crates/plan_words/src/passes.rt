@@ -21,12 +21,14 @@ pub struct Pass {
     /// The worker that it works as, and its next turn.
     pub(crate) member: Option<Member>,
     pub(crate) hand: Option<Hand>,
+    /// The tree word of each node as it saw that last, 0 if it did not.
+    pub(crate) pairs: Vec<u64>,
     pub(crate) scratch: Scratch,
 }
 
 impl Model for Pass {
     ghost use Rattle.std.specs.Prelude.{◌≡◌, [], vec_capacity};
-    ghost use Rattle.plan_words.specs.States.{HasRoom, IsTied, PassState};
+    ghost use Rattle.plan_words.specs.States.{HasPairs, HasRoom, IsTied, PassState};
 
     ghost Value = { PassState };
 
@@ -39,7 +41,8 @@ impl Model for Pass {
     } };
 
     ghost invariant = { λ p. (p.seat.me.1 ≡ []) × IsTied p.seat.me.0 p.member p.hand
-        × HasRoom p.seat.me.0.run (vec_capacity p.scratch.spots) (vec_capacity p.scratch.near) (vec_capacity p.scratch.around) };
+        × HasRoom p.seat.me.0.run (vec_capacity p.scratch.spots) (vec_capacity p.scratch.near) (vec_capacity p.scratch.around)
+        × HasPairs p.seat.me.0 p.pairs.items };
 }
 
 impl Pass {

@@ -71,6 +71,33 @@ impl<S: SteeredFrom> Play<Aim, View> for WritePoint<S> {
     ghost then = { WritesPoint S.nearest S.point };
 }
 
+/// A store of a first word.
+pub(crate) struct WriteFirst;
+
+impl Play<Aim, View> for WriteFirst {
+    ghost use Rattle.plan_words.specs.Plays.{WritesFirst};
+
+    ghost then = { WritesFirst };
+}
+
+/// A store of a tree word.
+pub(crate) struct WriteTree;
+
+impl Play<Aim, View> for WriteTree {
+    ghost use Rattle.plan_words.specs.Plays.{WritesTree};
+
+    ghost then = { WritesTree };
+}
+
+/// An exchange of a tree word for one of lower cost.
+pub(crate) struct Lower;
+
+impl Play<Aim, View> for Lower {
+    ghost use Rattle.plan_words.specs.Plays.{Lowers};
+
+    ghost then = { Lowers };
+}
+
 /// An exchange of an empty child word.
 pub(crate) struct Link;
 

@@ -1,12 +1,13 @@
 //! The shared words, and the steps that look at a number, record a mark, split a pass and join two.
 
-ghost use Rattle.std.specs.Prelude.{◌≡◌, ℕ, ◌+◌, ◌<◌, ◌^◌, IfOk, None, OnErr, OnOk, IsSome, IfSome};
+ghost use Rattle.std.specs.Prelude.{◌≡◌, ℕ, ◌+◌, ◌<◌, ◌^◌, length, slice_index, IfOk, None, OnErr, OnOk, IsSome, IfSome};
 ghost use Rattle.plan_model.specs.declared.limits.TheConstants.{MOST_MARKS};
 ghost use Rattle.plan_words.specs.States.{BelongsTo, GoesOn, MayClaim, new_pass, turn_of, turned, with_view, worker_of};
 ghost use Rattle.step_core.specs.Stages.{MayBeRecorded};
 ghost use Rattle.step_core.specs.ViewSteps.{finished, joined, loaded, looker, stepped};
 ghost use Rattle.step_core.specs.Views.{last_look, sees, share};
-ghost use Rattle.step_core.specs.WordKinds.{AreBehind};
+ghost use Rattle.step_core.specs.WordKinds.{AreBehind, later_word};
+ghost use Rattle.step_core.specs.WordKinds.WordKind.{Falling};
 ghost use Rattle.step_core.specs.WordNames.{WritesWord};
 ghost use Rattle.step_core.specs.WordNames.Word.{Count, Counter};
 ghost use Rattle.step_core.specs.Words.{last_field, record_word};
@@ -19,7 +20,7 @@ use atomic_table::Table;
 use plan_model::{Memory, Record, Task};
 use std::alloc::Global;
 use std::marker::Model;
-use step_core::{Member, View, WordPlaces, pack_mark};
+use step_core::{Member, View, WordPlaces, pack_mark, pair_in, read_tree};
 
 /// The tree that several workers grow, as words of one table.
 #[derive(Drop)]
@@ -114,12 +115,14 @@ impl Shared {
         ensures unchanged { OnErr result (pass.new ≡ pass.old) }
         ensures right { IfOk result (λ other. other ≡ new_pass pass.old.table (looker pass.old.view)) }
     {
+        let pairs = Vec::from_slice(self.alloc, pass.pairs.as_slice())?;
         let scratch = Scratch::new(self.alloc, self.places.marks() + 1)?;
         let seat = self.table.shared.split_seat::<Look>(&mut pass.seat);
         Ok(Pass {
             seat,
             member: None,
             hand: None,
+            pairs,
             scratch,
         })
     }
@@ -143,11 +146,13 @@ impl Shared {
             seat,
             member,
             hand: _,
+            pairs,
             scratch: _,
         } = other;
         self.table
             .shared
             .join_seat::<TakeOver>(&mut pass.seat, seat);
+        take_cheaper(&mut pass.pairs, pairs.as_slice());
         let _count = self
             .table
             .shared
@@ -168,4 +173,29 @@ fn next_turn(member: Option<Member>) -> Option<Member>
         worker: member.worker,
         turn: member.turn + 1,
     })
+}
+
+/// Each tree word becomes the later of the two that were seen, the one of lower cost. O(n).
+fn take_cheaper(pairs: &mut Vec<u64>, others: &[u64])
+    requires { length others.now ≡ length pairs.old.items }
+    ensures each { (n : ℕ) → n < length pairs.old.items
+        → slice_index pairs.new.items n ≡ later_word Falling (slice_index pairs.old.items n) (slice_index others.now n) }
+    ensures as_many { length pairs.new.items ≡ length pairs.old.items }
+{
+    for node in 0..others.len() {
+        pairs[node] = later_pair(pairs[node], others[node]);
+    }
+}
+
+/// The later of two tree words of one node, by their costs. A word of 0 was not seen.
+fn later_pair(one: u64, other: u64) -> u64
+    ensures { result ≡ later_word Falling one other }
+{
+    if one == 0 {
+        return other;
+    }
+    match read_tree(other) {
+        Some((_, cost)) if cost < pair_in(one).1 => other,
+        _ => one,
+    }
 }

@@ -1,6 +1,6 @@
 //! How a shared tree begins: with the words of a closed run, and a pass for each worker.
 
-ghost use Rattle.std.specs.Prelude.{◌≡◌, ℕ, ◌≤◌, ◌<◌, None, [], ◌∷◌, All, length, IfOk, OnOk, slice_index};
+ghost use Rattle.std.specs.Prelude.{◌≡◌, ℕ, ◌+◌, ◌≤◌, ◌<◌, None, [], ◌∷◌, All, length, IfOk, OnOk, slice_index};
 ghost use lib.ListN.{get_elem?};
 ghost use mathlib.Core.Option.{some};
 ghost use Rattle.plan_model.specs.Turns.{turns_of};
@@ -10,6 +10,7 @@ ghost use Rattle.step_core.specs.GrownWords.{record_at, run_words, sizes_of};
 ghost use Rattle.step_core.specs.ViewSteps.{parted, second_alone, worker_apart};
 ghost use Rattle.step_core.specs.ViewStarts.{crew_from, member_of};
 ghost use Rattle.step_core.specs.Views.{sees};
+ghost use Rattle.step_core.specs.WordNames.Word.{TreeOf};
 ghost use Rattle.step_core.specs.WordPlaces.{word_count};
 
 use crate::openings::Opening;
@@ -43,6 +44,7 @@ impl Shared {
     {
         let (task, limit, words) = grown.into_words();
         let turns = count_turns(alloc, &task, words.as_slice(), workers)?;
+        let pairs = tree_words(alloc, &task, words.as_slice())?;
         let opening = Opening {
             task,
             workers,
@@ -73,6 +75,7 @@ impl Shared {
                 turn: turns[0],
             }),
             hand: None,
+            pairs,
             scratch,
         };
         let passes = shared.hand_out(first, turns.as_slice())?;
@@ -111,12 +114,14 @@ impl Shared {
         ensures left { OnOk result (pass.new ≡ with_view pass.old (parted pass.old.view)) }
         ensures right { IfOk result (λ other. other ≡ new_pass pass.old.table (worker_apart pass.old.view)) }
     {
+        let pairs = Vec::from_slice(self.alloc, pass.pairs.as_slice())?;
         let scratch = Scratch::new(self.alloc, self.places.marks() + 1)?;
         let seat = self.table.shared.split_seat::<HandOn>(&mut pass.seat);
         Ok(Pass {
             seat,
             member: Some(Member { worker, turn }),
             hand: None,
+            pairs,
             scratch,
         })
     }
@@ -144,4 +149,20 @@ fn count_turns(
         }
     }
     Ok(turns)
+}
+
+/// The tree word of each number, in the words of a run. O(n) for n marks.
+fn tree_words(alloc: Global, task: &Task, words: &[u64]) -> Result<Vec<u64>, AllocError>
+    requires sized { length words.now ≡ word_count (sizes_of task.now) }
+    ensures count { IfOk result (λ pairs. length pairs.items ≡ length task.now.marks + 1) }
+    ensures each { IfOk result (λ pairs. (n : ℕ) → n ≤ length task.now.marks
+        → slice_index pairs.items n ≡ run_words task.now words.now (TreeOf n)) }
+{
+    let places = WordPlaces::of(task);
+    let nodes = places.marks() + 1;
+    let mut pairs = Vec::from_elem(alloc, 0u64, nodes)?;
+    for node in 0..nodes {
+        pairs[node] = words[places.tree(node)];
+    }
+    Ok(pairs)
 }

@@ -1,30 +1,33 @@
 //! Two passes whose points lead to one place of the kd-tree.
 
 ghost use Rattle.std.specs.Prelude.{◌≡◌, IfErr, IfOk, IfSome, Some, length, true};
+ghost use Rattle.plan_model.specs.ConfigurationSpace.{space_of};
 ghost use Rattle.plan_words.specs.States.{MayClaim};
 ghost use Rattle.plan_words_tests.specs.HeldMarks.{HoldsMark};
 ghost use Rattle.step_core.specs.Views.{tree_seen};
-ghost use Rattle.step_core.specs.declared.views.Stage.TheVariants.{Claimed, Counted, Pointed};
+ghost use Rattle.step_core.specs.declared.views.Stage.TheVariants.{Claimed, Counted, Pointed, Treed};
 
 use crate::passes::{START, last_pass};
-use edge_cost::steer;
+use edge_cost::{cost, steer};
 use plan_model::{Goal, Memory, Outcome, Point, Record, SmallScene};
 use plan_words::{Pass, Shared};
 use std::alloc::Global;
 use std::process::Abort;
 use std::test::Fail;
 use step_core::Grown;
+use swept_check::{Clearing, Hall};
 
 const ABOVE: Point = Point { x: 0, y: 50 };
 
 const FAR: Point = Point { x: 40, y: 79 };
 
-/// Two passes over three marks, of which the first two lie to the right of the start.
-fn two_passes(alloc: Global) -> Result<(Shared, Pass, Pass), Fail>
+/// Two passes over three marks, of which the first two lie to the right of the start, and the collision checker of their room.
+fn two_passes(alloc: Global) -> Result<(Shared, Hall, Pass, Pass), Fail>
     ensures opening { IfOk result (λ two. two.0.opening ≡ 0) }
     ensures marks { IfOk result (λ two. length two.0.task.marks ≡ 3) }
-    ensures first { IfOk result (λ two. MayClaim two.0 two.1) }
-    ensures second { IfOk result (λ two. MayClaim two.0 two.2) }
+    ensures hall { IfOk result (λ two. two.1 ≡ space_of two.0.task.scene) }
+    ensures first { IfOk result (λ two. MayClaim two.0 two.2) }
+    ensures second { IfOk result (λ two. MayClaim two.0 two.3) }
 {
     let task = SmallScene {
         room: Point { x: 100, y: 100 },
@@ -41,9 +44,10 @@ fn two_passes(alloc: Global) -> Result<(Shared, Pass, Pass), Fail>
     .task(alloc, &[ABOVE, FAR, Point { x: 40, y: 30 }])?;
     let grown = Grown::new(alloc, task)?;
     let (shared, mut passes) = Shared::start(alloc, grown, 2)?;
+    let hall = Hall::new(alloc, &shared.task().scene)?;
     let second = last_pass(&shared, &mut passes).ok_or(Memory)?;
     let first = last_pass(&shared, &mut passes).ok_or(Memory)?;
-    Ok((shared, first, second))
+    Ok((shared, hall, first, second))
 }
 
 /// Claims a mark.
@@ -68,10 +72,34 @@ fn write_from_start(shared: &Shared, pass: &mut Pass, mark: u32) -> Point
     p
 }
 
+/// Writes the parent and the cost of the node in hand, below the start. Returns the cost.
+fn hang_from_start<R: Abort>(
+    rt: &R,
+    shared: &Shared,
+    hall: &Hall,
+    pass: &mut Pass,
+    mark: u32,
+) -> u64
+    requires holds { HoldsMark shared.now mark Pointed pass.old }
+    requires hall { hall.now ≡ space_of shared.now.task.scene }
+    ensures { HoldsMark shared.now mark Treed pass.new }
+{
+    let start = shared.point(pass, 0);
+    let pair = shared.tree(pass, 0);
+    assert_eq!(rt; pair, (0, 0));
+    let p = pass.hand_point();
+    if !hall.clear(start, p) {
+        panic!(rt; "the segment is not clear");
+    }
+    let edge = cost(start, p);
+    shared.write_tree(pass, 0, edge);
+    edge
+}
+
 /// Looks to the right of the start, and finds no node there.
 fn expect_free<R: Abort>(rt: &R, shared: &Shared, pass: &mut Pass, mark: u32)
-    requires { HoldsMark shared.now mark Pointed pass.old }
-    ensures { HoldsMark shared.now mark Pointed pass.new }
+    requires { HoldsMark shared.now mark Treed pass.old }
+    ensures { HoldsMark shared.now mark Treed pass.new }
 {
     let child = shared.child(pass, 0, true);
     assert_eq!(rt; child, None);
@@ -79,9 +107,9 @@ fn expect_free<R: Abort>(rt: &R, shared: &Shared, pass: &mut Pass, mark: u32)
 
 /// Links the node in hand to the right of the start.
 fn link_at_start<R: Abort>(rt: &R, shared: &Shared, pass: &mut Pass, mark: u32) -> Result<(), u32>
-    requires { HoldsMark shared.now mark Pointed pass.old }
+    requires { HoldsMark shared.now mark Treed pass.old }
     ensures linked { IfOk result (λ _. HoldsMark shared.now mark Counted pass.new) }
-    ensures same { IfErr result (λ _. HoldsMark shared.now mark Pointed pass.new) }
+    ensures same { IfErr result (λ _. HoldsMark shared.now mark Treed pass.new) }
     ensures met { IfErr result (λ c. (tree_seen pass.new.view).child 0 true ≡ Some c) }
 {
     let start = shared.point(pass, 0);
@@ -103,7 +131,7 @@ fn link_below<R: Abort>(
     mark: u32,
     met: u32,
 ) -> Result<(), u32>
-    requires holds { HoldsMark shared.now mark Pointed pass.old }
+    requires holds { HoldsMark shared.now mark Treed pass.old }
     requires met { (tree_seen pass.old.view).child 0 true ≡ Some met }
     ensures { IfOk result (λ _. HoldsMark shared.now mark Counted pass.new) }
 {
@@ -152,7 +180,7 @@ fn finish_placed(shared: &Shared, pass: &mut Pass, mark: u32)
 
 #[test]
 fn two_passes_link_at_one_place(rt: HostRuntime) -> Result<(), Fail> {
-    let (shared, mut first, mut second) = two_passes(rt.alloc())?;
+    let (shared, hall, mut first, mut second) = two_passes(rt.alloc())?;
     let one = take_mark(&shared, &mut first).ok_or(Memory)?;
     let other = take_mark(&shared, &mut second).ok_or(Memory)?;
     assert_eq!(rt; (one, other), (0, 1));
@@ -160,6 +188,9 @@ fn two_passes_link_at_one_place(rt: HostRuntime) -> Result<(), Fail> {
     assert_eq!(rt; upper, ABOVE);
     let partway = write_from_start(&shared, &mut second, other);
     assert_eq!(rt; partway, Point { x: 22, y: 44 });
+    let above = hang_from_start(&rt, &shared, &hall, &mut first, one);
+    let beside = hang_from_start(&rt, &shared, &hall, &mut second, other);
+    assert_eq!(rt; (above, beside), (12_800, 12_594));
     expect_free(&rt, &shared, &mut first, one);
     expect_free(&rt, &shared, &mut second, other);
     let Ok(()) = link_at_start(&rt, &shared, &mut first, one) else {

@@ -17,7 +17,7 @@ use Rattle.step_core.specs.ViewSteps.{finished, one_turn_more, saw}
 use Rattle.step_core.specs.Views.{IsViewOf, holds, run_sizes, sees, share}
 use Rattle.step_core.specs.WordKinds.{AreBehind}
 use Rattle.step_core.specs.WordNames.{Words, WritesWord}
-use Rattle.step_core.specs.WordNames.Word.{Counter, FirstOf, PointOf, RecordOf, TreeOf}
+use Rattle.step_core.specs.WordNames.Word.{ChildOf, Counter, FirstOf, PointOf, RecordOf, TreeOf}
 use Rattle.step_core.specs.WordPlaces.{HasWord}
 use Rattle.step_core.specs.Words.{FitsWord, IsTurnWord, last_field, number_of_outcome, record_of_word, record_word, turn_in, worker_in}
 use Rattle.step_core.specs.Worlds.{IsRecordWord, IsWorld, counters, is_recorded, limit_of}
@@ -26,6 +26,7 @@ use Rattle.step_core.specs.declared.views.Member.{Member}
 use Rattle.step_core.specs.declared.views.SharedRun.{SharedRun}
 use Rattle.step_core.specs.declared.views.View.{View}
 use Rattle.step_core.proofs.FinishedTurns.{Turns-finished, change}
+use Rattle.step_core.proofs.LinkedStates.{GrowsInto-behind}
 use Rattle.step_core.proofs.MarksInHand.{IsInHand, IsInHand-held}
 use Rattle.step_core.proofs.PlacedWords.{has_placed-record_word}
 use Rattle.step_core.proofs.SawWords.{AreBehind-saw, AreBehind-seen, AreBehind-write, HaveWholePairs-saw, IsFair-saw}
@@ -35,8 +36,11 @@ use Rattle.step_core.proofs.ViewLists.{greatest-set}
 use Rattle.step_core.proofs.WordKinds.{AreBehind-trans}
 use Rattle.step_core.proofs.WorldHands.{Hands-recorded}
 use Rattle.step_core.proofs.WorldLinks.{Links-recorded}
+use Rattle.step_core.proofs.WorldPairs.{Pairs-recorded}
 use Rattle.step_core.proofs.WorldParts.{Numbers-step, record_word-none, Seen-step, Shares-step, limit_of-up, of_run-step, quotas-kept}
+use Rattle.step_core.proofs.WorldSeenPairs.{AreSeenLawfully-own, SeenPairs-set}
 use Rattle.step_core.proofs.WorldSteps.{Sights-set, live, tree}
+use Rattle.step_core.proofs.WorldTrees.{Trees-kept}
 
 -- a mark in hand has no record, and is one of the marks
 pub in_hand :
@@ -111,13 +115,21 @@ module _ (run : SharedRun) (words after : Words) (views : List View) (id : ℕ) 
       let saw_it = WritesWord-saw run view of_run (RecordOf k) here x x in
       let behind = AreBehind-trans (sees view) words after (world.seen.behind id view at) go in
       let seen = AreBehind-seen (RecordOf k) x (sees view) (sees then) after saw_it writes.here behind in
+      let numbers = Numbers-step run words after views id view then at world.numbers
+      (quotas-kept run words after views (set views id then) world.numbers (λ g within. writes.others (Counter g) (λ e. cc))
+      (greatest-set limit_of views id view then at (limit_of-up view then same_share (le_refl view.most))))
+      balance (world.numbers.limits id view at) packed in
+      let links = Links-recorded run words after views id view then at world.numbers world.links hand held x placed reads linked counted writes refl in
+      let grows = GrowsInto-behind run words after views (set views id then) world.numbers world.links numbers links world.trees go in
+      let trees = Trees-kept run words after views (set views id then) world.numbers world.links numbers links world.trees go record {
+        links = record { children = λ n side. writes.others (ChildOf n side) (λ e. cc); points = λ n h. writes.others (PointOf n) (λ e. cc) };
+        trees = λ n h. writes.others (TreeOf n) (λ e. cc);
+        firsts = λ n h. writes.others (FirstOf n) (λ e. cc);
+      } in
       record {
         run_is = world.run_is;
         of_run = of_run-step run views id then world.of_run (by_fields (IsViewOf-saw run view of_run (RecordOf k) here x x));
-        numbers = Numbers-step run words after views id view then at world.numbers
-            (quotas-kept run words after views (set views id then) world.numbers (λ g within. writes.others (Counter g) (λ e. cc))
-            (greatest-set limit_of views id view then at (limit_of-up view then same_share (le_refl view.most))))
-            balance (world.numbers.limits id view at) packed;
+        numbers = numbers;
         turns = Turns-finished run words after views id view member crew k x world.turns at crew_is mark.low mark.absent writes written worker turn saw_it;
         shares = Shares-step run words after views id view then at world.shares same_share (λ none. refl);
         seen = Seen-step words after views id view then at world.seen go
@@ -125,8 +137,15 @@ module _ (run : SharedRun) (words after : Words) (views : List View) (id : ℕ) 
             (AreBehind-trans _ (sees view) (sees then) (world.seen.took id view at) seen) pairs
             (HaveWholePairs-saw (RecordOf k) x (sees view) (sees then) after saw_it writes.here behind (world.seen.whole id view at) pairs)
             (IsFair-saw (RecordOf k) x (sees view) (sees then) after saw_it writes.here behind);
-        links = Links-recorded run words after views id view then at world.numbers world.links hand held x placed reads linked counted writes refl;
+        links = links;
+        trees = trees;
         hands = Hands-recorded words after views id view then at world.hands hand held refl (λ n. writes.others (PointOf n) (λ e. cc)) recorded others;
+        pairs = Pairs-recorded run words after views id view then at world.numbers world.links world.pairs grows (λ n. writes.others (FirstOf n) (λ e. cc))
+            (λ n h. writes.others (TreeOf n) (λ e. cc)) hand held refl recorded others;
+        seen_pairs = SeenPairs-set run words after views id then grows world.seen_pairs
+            (λ of. AreSeenLawfully-own run words after view then trees links.ways of grows own (world.seen_pairs id view at own)
+            (AreBehind-saw (RecordOf k) x (sees view) (sees then) after saw_it writes.here behind) tree_then
+            (IsFair-saw (RecordOf k) x (sees view) (sees then) after saw_it writes.here behind));
         sights = Sights-set run words views id view world at own then (λ of. tree_then);
       }
     where

@@ -1,22 +1,37 @@
--- A view is a later one after the point of its node is written, after the node is linked, and after it is counted.
-use Rattle.std.proofs.Common.{◌≡◌, ℕ, suc, ◌<◌, ◌≤◌, Bool, length, refl, ap, ◌∙◌, inl, inr, arith}
+-- A view is a later one after the words of its node are written, after the node is linked, and after it is counted.
+use Rattle.std.proofs.Common.{ℕ, ◌<◌, ◌≤◌, Bool, length, refl, ap, ◌∙◌, inl, inr, arith}
 use Rattle.plan_model.specs.declared.geometry.Point.{Point}
 use Rattle.step_core.specs.LaterViews.{IsLater}
-use Rattle.step_core.specs.ViewSteps.{counted, linked, pointed}
+use Rattle.step_core.specs.ViewSteps.{counted, half, linked, pointed, treed}
 use Rattle.step_core.specs.Views.{IsViewOf, last_look, last_zero, sees}
-use Rattle.step_core.specs.WordKinds.{MayBecome}
-use Rattle.step_core.specs.WordKinds.WordKind.{Once}
-use Rattle.step_core.specs.WordNames.Word.{ChildOf, PointOf}
-use Rattle.step_core.specs.Words.{point_word}
+use Rattle.step_core.specs.WordNames.Word.{ChildOf}
 use Rattle.step_core.specs.declared.views.Hand.{Hand}
 use Rattle.step_core.specs.declared.views.SharedRun.{SharedRun}
 use Rattle.step_core.specs.declared.views.View.{View}
-use Rattle.step_core.proofs.LinkedViews.{AreBehind-shown, WritesWord-look_linked, WritesWord-zero_linked, sees-linked}
+use Rattle.step_core.proofs.LinkedViews.{AreBehind-shown, MayShow, WritesWord-look_linked, WritesWord-zero_linked}
 use Rattle.step_core.proofs.Looks.{same_name}
 use Rattle.step_core.proofs.WordKinds.{AreBehind-refl}
 
 pub IsLater-pointed : (view : View) (hand : Hand) (m : ℕ) (p : Point) → IsLater view (pointed view hand m p)
 IsLater-pointed view hand m p = record {
+  run = refl;
+  seen = AreBehind-refl (sees view);
+  steps = omega arith;
+  looked = λ name. inl refl;
+  zero_found = λ name. inl refl;
+}
+
+pub IsLater-half : (view : View) (hand : Hand) (parent cost : ℕ) → IsLater view (half view hand parent cost)
+IsLater-half view hand parent cost = record {
+  run = refl;
+  seen = AreBehind-refl (sees view);
+  steps = omega arith;
+  looked = λ name. inl refl;
+  zero_found = λ name. inl refl;
+}
+
+pub IsLater-treed : (view : View) (hand : Hand) → IsLater view (treed view hand)
+IsLater-treed view hand = record {
   run = refl;
   seen = AreBehind-refl (sees view);
   steps = omega arith;
@@ -33,18 +48,17 @@ IsLater-counted view hand = record {
   zero_found = λ name. inl refl;
 }
 
--- if no child was seen where the node is linked, and no other point of it
+-- if no child was seen where the node is linked, and no other words of it
 pub IsLater-linked :
     (run : SharedRun) (view : View) → IsViewOf run view → (hand : Hand) (n : ℕ) (side : Bool) → n ≤ length run.marks → hand.mark < length run.marks
-    → sees view (ChildOf n side) ≡ 0 → MayBecome Once (sees view (PointOf (suc hand.mark))) (point_word hand.point) → IsLater view (linked view hand n side)
-IsLater-linked run view of_run hand n side within low none point =
+    → MayShow n side hand (sees view) → IsLater view (linked view hand n side)
+IsLater-linked run view of_run hand n side within low may =
     let then : View = linked view hand n side in
     let looks = WritesWord-look_linked run view of_run hand n side within low in
     let zeros = WritesWord-zero_linked run view of_run hand n side within low in
     record {
       run = refl;
-      seen =
-          AreBehind-shown n side (suc hand.mark) hand.point (sees view) (sees then) (sees-linked run view of_run hand n side within low) (inl none) point;
+      seen = AreBehind-shown run view of_run hand n side within low may;
       steps = omega arith;
       looked = λ name.
           elim (same_name name (ChildOf n side)) [
@@ -53,7 +67,7 @@ IsLater-linked run view of_run hand n side within low none point =
           ];
       zero_found = λ name.
           elim (same_name name (ChildOf n side)) [
-            | inl e ↦ inr (omega (arith, ap (last_zero then) e, zeros.here), ap (sees view) e ∙ none)
+            | inl e ↦ inr (omega (arith, ap (last_zero then) e, zeros.here), ap (sees view) e ∙ may.child)
             | inr apart ↦ inl (zeros.others name apart)
           ];
     }

@@ -27,7 +27,9 @@ use Rattle.step_core.specs.declared.views.SharedRun.{SharedRun}
 use Rattle.step_core.specs.declared.views.View.{View}
 use Rattle.step_core.proofs.FinishedMarks.{in_hand}
 use Rattle.step_core.proofs.Looks.{same_name}
+use Rattle.step_core.proofs.LawfulPairs.{IsSeenPair-lawful}
 use Rattle.step_core.proofs.LawfulSights.{AreDistinct-seen, FollowSeenWays-seen, SeesNode-within, SeesPoint-start, is_linked-seen}
+use Rattle.step_core.proofs.LinkedStates.{few_nodes, first_cost-linked, linked-present}
 use Rattle.step_core.proofs.MarksInHand.{greatest_limit-most}
 use Rattle.step_core.proofs.SawWords.{AreBehind-write}
 use Rattle.step_core.proofs.SeenByViews.{WritesWord-looked, WritesWord-saw, WritesWord-zero, last_zero-other}
@@ -209,6 +211,10 @@ module _ (run : SharedRun) (words : Words) (views : List View) (id : ℕ) (view 
         cc;
     start = SeesPoint-start view words behind sees_tree ways (world.links.start ∙ sym (ap (λ r. point_word r.start) own))
         (subst (λ r. IsBounded r.start) (sym own) world.run_is.start);
+    pair_fits = λ hand held far. (world.pairs.first id view at hand held far).fits;
+    pairs = λ n written. IsSeenPair-lawful view words behind sees_tree ways here.run_is here.trees (here.seen_pairs id view at refl)
+        (first_cost-linked view.run words views here.numbers here.links here.trees.start_first) (linked-present (run_sizes view.run) words)
+        (few_nodes view.run words here.run_is) n written;
     count = subst (λ r. sees view Count ≤ length r.marks + 1) (sym own)
         (le_trans (world.seen.behind id view at Count) (count-most run words views world.numbers world.links));
     counter = λ g strip. subst (λ r. sees view (Counter g) ≤ length r.marks) (sym own)
@@ -223,6 +229,9 @@ module _ (run : SharedRun) (words : Words) (views : List View) (id : ℕ) (view 
 
       ways : FollowWays (children_of_words words) (linked_points (run_sizes view.run) words)
       ways = follow run words views id view world at own
+
+      here : IsWorld view.run words views
+      here = subst (λ r. IsWorld r words views) (sym own) world
 
 -- ---- splits and joins
 

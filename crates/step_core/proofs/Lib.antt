@@ -11,8 +11,10 @@ pub mod HeldRuns
 pub mod HeldNodes
 pub mod LoweredWords
 pub mod StartWords
+pub mod HungNodes
 pub mod KdWays
 pub mod LinkedPresence
+pub mod LinkedStates
 pub mod LinkedWords
 pub mod PackedWritings
 pub mod LinkedNodes
@@ -36,10 +38,12 @@ pub mod Looks
 pub mod ViewLists
 pub mod SeenByViews
 pub mod LaterWords
+pub mod WorldPairs
 pub mod WorldParts
 pub mod SawWords
 pub mod SeenViews
 pub mod LinkedViews
+pub mod LawfulPairs
 pub mod LawfulSights
 pub mod LaterSteps
 pub mod SeenTreesOfViews
@@ -51,9 +55,12 @@ pub mod HandsAt
 pub mod WorldLinks
 pub mod WorldHands
 pub mod WorldSteps
+pub mod WorldTrees
 pub mod FinishedTurns
 pub mod FinishedMarks
+pub mod WorldLowers
 pub mod WorldNodes
+pub mod WorldSeenPairs
 pub mod WorldSplits
 pub mod WorldJoins
 pub mod WholeShares

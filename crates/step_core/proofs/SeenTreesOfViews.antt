@@ -11,20 +11,22 @@ use Rattle.plan_model.specs.declared.records.Record.{Record}
 use Rattle.step_core.specs.GrownWords.{child_of_word, has_node, has_placed}
 use Rattle.step_core.specs.SeenWords.{MayLookAt}
 use Rattle.step_core.specs.Stages.{MayBeRecorded, has_link, has_point}
-use Rattle.step_core.specs.ViewSteps.{claimed, counted, finished, linked, loaded, looker, mark_of, new_hand, parted, pointed, saw, stepped, worker_apart}
+use Rattle.step_core.specs.ViewSteps.{claimed, counted, finished, half, linked, loaded, looker, lowered, mark_of, new_hand}
+use Rattle.step_core.specs.ViewSteps.{pair_in_hand, parted, pointed, stepped, treed, worker_apart}
 use Rattle.step_core.specs.ViewTrees.{SeesHand, IsSteered, LeadsTo, MayLoad, SeesNode, SeesPoint, SeesTree}
 use Rattle.step_core.specs.Views.{IsViewOf, run_sizes, sees, tree_seen}
 use Rattle.step_core.specs.WordKinds.{AreBehind, MayBecome}
-use Rattle.step_core.specs.WordKinds.WordKind.{Once}
+use Rattle.step_core.specs.WordKinds.WordKind.{Falling}
 use Rattle.step_core.specs.WordNames.{Word, Words, WritesWord}
 use Rattle.step_core.specs.WordNames.Word.{Count, Counter, PointOf, ChildOf, TreeOf, FirstOf, RecordOf}
 use Rattle.step_core.specs.WordPlaces.{HasWord}
-use Rattle.step_core.specs.Words.{FitsWord, point_of_word, point_word, record_of_word, record_word}
+use Rattle.step_core.specs.Words.{FitsWord, point_of_word, point_word, record_of_word, record_word, tree_word}
 use Rattle.step_core.specs.declared.views.Hand.{Hand}
 use Rattle.step_core.specs.declared.views.SharedRun.{SharedRun}
-use Rattle.step_core.specs.declared.views.Stage.TheVariants.{Counted, Linked, Pointed}
+use Rattle.step_core.specs.declared.views.Stage.TheVariants.{Counted, Half, Linked, Pointed, Treed}
 use Rattle.step_core.specs.declared.views.View.{View}
-use Rattle.step_core.proofs.LinkedViews.{AreBehind-shown, ShowsNode, WritesWord-child, WritesWord-point, sees-linked}
+use Rattle.step_core.proofs.LinkedViews.{AreBehind-child, AreBehind-first, AreBehind-point, AreBehind-shown, AreBehind-tree, MayShow, ShowsNode}
+use Rattle.step_core.proofs.LinkedViews.{WritesWord-child, WritesWord-first, WritesWord-point, WritesWord-tree, child_shown, pair_shown, point_shown, sees-linked}
 use Rattle.step_core.proofs.Looks.{same_name}
 use Rattle.step_core.proofs.PackedWords.{point_of_word-packed}
 use Rattle.step_core.proofs.PlacedWords.{has_node-same, has_placed-record_word}
@@ -71,6 +73,21 @@ SeesTree-loaded run view words of_run behind tree name here may =
       holds = λ hand held. SeesHand-later view then refl go hand (tree.holds hand held);
     }
 
+-- After the tree word of a seen node was lowered a view sees its tree.
+pub SeesTree-lowered : (run : SharedRun) (view : View) → IsViewOf run view → SeesTree view → (n parent cost : ℕ) → n ≤ length run.marks → SeesNode view n
+    → MayBecome Falling (sees view (TreeOf n)) (tree_word parent cost) → SeesTree (lowered view n parent cost)
+SeesTree-lowered run view of_run tree n parent cost within seen_node may =
+    let then : View = lowered view n parent cost in
+    let here : HasWord (run_sizes run) (TreeOf n) = within in
+    let word : ℕ = tree_word parent cost in
+    let writes : WritesWord (TreeOf n) word (sees view) (sees then) = WritesWord-saw run view of_run (TreeOf n) here (sees view (TreeOf n)) word in
+    let go = AreBehind-write (TreeOf n) word (sees view) (sees then) writes may in
+    record {
+      rooted = IsRooted-write (run_sizes view.run) (TreeOf n) word (sees view) (sees then) writes go seen_node tree.rooted;
+      placed = λ k. placed_still view then refl go tree k (writes.others (RecordOf k) (λ e. cc));
+      holds = λ hand held. SeesHand-later view then refl go hand (tree.holds hand held);
+    }
+
 -- ---- a mark in hand
 
 -- a view with this one mark in hand holds it
@@ -106,6 +123,40 @@ SeesTree-pointed view tree hand m p step apart =
       holds = holds_one then (record hand { stage = Pointed; nearest = m; point = p }) record {
         steered_from = λ on. record { from = step.from; seen = step.seen; reached = step.reached };
         other = λ on. apart;
+        shown = λ on. cc;
+      };
+    }
+
+-- After its first word and its tree word are written it holds what it held.
+pub SeesTree-half :
+    (view : View) → SeesTree view → (hand : Hand) → view.hand ≡ Some hand → hand.stage ≡ Pointed → (parent cost : ℕ) → SeesTree (half view hand parent cost)
+SeesTree-half view tree hand held stage parent cost =
+    let then : View = half view hand parent cost in
+    let node = SeesHand-later view then refl (AreBehind-refl (sees view)) hand (tree.holds hand held) in
+    record {
+      rooted = tree.rooted;
+      placed = tree.placed;
+      holds = holds_one then (record hand { stage = Half; parent = parent; cost = cost }) record {
+        steered_from = λ on.
+            let step = node.steered_from (ap has_point stage) in
+            record { from = step.from; seen = step.seen; reached = step.reached };
+        other = λ on. node.other (ap has_point stage);
+        shown = λ on. cc;
+      };
+    }
+
+pub SeesTree-treed : (view : View) → SeesTree view → (hand : Hand) → view.hand ≡ Some hand → hand.stage ≡ Half → SeesTree (treed view hand)
+SeesTree-treed view tree hand held stage =
+    let then : View = treed view hand in
+    let node = SeesHand-later view then refl (AreBehind-refl (sees view)) hand (tree.holds hand held) in
+    record {
+      rooted = tree.rooted;
+      placed = tree.placed;
+      holds = holds_one then (record hand { stage = Treed }) record {
+        steered_from = λ on.
+            let step = node.steered_from (ap has_point stage) in
+            record { from = step.from; seen = step.seen; reached = step.reached };
+        other = λ on. node.other (ap has_point stage);
         shown = λ on. cc;
       };
     }
@@ -159,44 +210,54 @@ SeesTree-finished run view of_run tree hand held low none entry fits may =
 
 -- ---- a link
 
--- the node is seen below node n, at its point
-point_shown : (view : View) (m : ℕ) (p : Point) → sees view (PointOf m) ≡ point_word p → IsBounded p → m ≤ length view.run.marks
+-- the node is seen at its point
+point_shown_at : (view : View) (m : ℕ) (p : Point) → sees view (PointOf m) ≡ point_word p → IsBounded p → m ≤ length view.run.marks
     → SeesPoint view m p
-point_shown view m p is bounded within =
+point_shown_at view m p is bounded within =
     point_at-seen (run_sizes view.run) (sees view) m within ∙ ap point_of_word is ∙ point_of_word-packed p bounded
 
--- After a link the node is seen too, if no child was seen where it stands, and no other point of it.
+-- After a link the node is seen too, if what was seen allows it.
 pub SeesTree-linked :
-    (run : SharedRun) (view : View) → IsViewOf run view → SeesTree view → (hand : Hand) → view.hand ≡ Some hand → hand.stage ≡ Pointed
+    (run : SharedRun) (view : View) → IsViewOf run view → SeesTree view → (hand : Hand) → view.hand ≡ Some hand → hand.stage ≡ Treed
     → hand.mark < length run.marks → IsBounded hand.point → (n : ℕ) (side : Bool) → n ≤ length run.marks → LeadsTo view hand.point n side
-    → sees view (ChildOf n side) ≡ 0 → MayBecome Once (sees view (PointOf (suc hand.mark))) (point_word hand.point) → SeesTree (linked view hand n side)
-SeesTree-linked run view of_run tree hand held stage low bounded n side within leads none point =
+    → MayShow n side hand (sees view) → SeesTree (linked view hand n side)
+SeesTree-linked run view of_run tree hand held stage low bounded n side within leads may =
     let then : View = linked view hand n side in
     let m : ℕ = suc hand.mark in
-    let middle : View = saw view (ChildOf n side) 0 m in
-    let shows : ShowsNode n side m hand.point (sees view) (sees then) = sees-linked run view of_run hand n side within low in
-    let child : WritesWord (ChildOf n side) m (sees view) (sees middle) = WritesWord-child run view of_run hand n side within low in
-    let half : WritesWord (PointOf m) (point_word hand.point) (sees middle) (sees then) = WritesWord-point run view of_run hand n side within low in
-    let go = AreBehind-shown n side m hand.point (sees view) (sees then) shows (inl none) point in
-    let unseen = subst (λ w. MayBecome Once w (point_word hand.point)) (sym (child.others (PointOf m) (λ e. cc))) point in
+    let one : View = child_shown run view of_run hand n side within low in
+    let two : View = point_shown run view of_run hand n side within low in
+    let three : View = pair_shown run view of_run hand n side within low in
+    let shows : ShowsNode n side hand (sees view) (sees then) = sees-linked run view of_run hand n side within low in
+    let child : WritesWord (ChildOf n side) m (sees view) (sees one) = WritesWord-child run view of_run hand n side within low in
+    let point : WritesWord (PointOf m) (point_word hand.point) (sees one) (sees two) = WritesWord-point run view of_run hand n side within low in
+    let pair : WritesWord (TreeOf m) (pair_in_hand hand) (sees two) (sees three) = WritesWord-tree run view of_run hand n side within low in
+    let first : WritesWord (FirstOf m) (pair_in_hand hand) (sees three) (sees then) = WritesWord-first run view of_run hand n side within low in
+    let go = AreBehind-shown run view of_run hand n side within low may in
     let above = tree.rooted.points n (ap is_some leads.stands) in
-    let rooted : IsRooted (tree_seen middle) =
-    IsRooted-write (run_sizes view.run) (ChildOf n side) m (sees view) (sees middle) child
-    (AreBehind-write (ChildOf n side) m (sees view) (sees middle) child (inl none)) above tree.rooted in
-    let below : SeesNode middle m = inr (n, side, ap child_of_word child.here) in
+    let rooted : IsRooted (tree_seen one) =
+    IsRooted-write (run_sizes view.run) (ChildOf n side) m (sees view) (sees one) child (AreBehind-child run view of_run hand n side within low may) above
+    tree.rooted in
+    let below : SeesNode one m = inr (n, side, ap child_of_word child.here) in
+    let rooted_too : IsRooted (tree_seen two) =
+    IsRooted-write (run_sizes view.run) (PointOf m) (point_word hand.point) (sees one) (sees two) point
+    (AreBehind-point run view of_run hand n side within low may) below rooted in
+    let below_too : SeesNode two m = inr (n, side, ap child_of_word (point.others (ChildOf n side) (λ e. cc) ∙ child.here)) in
+    let rooted_pair : IsRooted (tree_seen three) =
+    IsRooted-write (run_sizes view.run) (TreeOf m) (pair_in_hand hand) (sees two) (sees three) pair
+    (AreBehind-tree run view of_run hand n side within low may) below_too rooted_too in
     let node = SeesHand-later view then refl go hand (tree.holds hand held) in
     record {
       rooted =
-          IsRooted-write (run_sizes view.run) (PointOf m) (point_word hand.point) (sees middle) (sees then) half
-          (AreBehind-write (PointOf m) (point_word hand.point) (sees middle) (sees then) half unseen) below rooted;
-      placed = λ k. placed_still view then refl go tree k (shows.others (RecordOf k) (λ e. cc) (λ e. cc));
+          IsRooted-write (run_sizes view.run) (FirstOf m) (pair_in_hand hand) (sees three) (sees then) first
+          (AreBehind-first run view of_run hand n side within low may) tt rooted_pair;
+      placed = λ k. placed_still view then refl go tree k (shows.others (RecordOf k) (λ e. cc) (λ e. cc) (λ e. cc) (λ e. cc));
       holds = holds_one then (record hand { stage = Linked }) record {
         steered_from = λ on.
             let step = node.steered_from (ap has_point stage) in
             record { from = step.from; seen = step.seen; reached = step.reached };
         other = λ on. node.other (ap has_point stage);
         shown = λ on.
-            point_shown then m hand.point shows.point bounded (subst (λ r. m ≤ length r.marks) (sym of_run.run_is) (omega (arith, low)));
+            point_shown_at then m hand.point shows.point bounded (subst (λ r. m ≤ length r.marks) (sym of_run.run_is) (omega (arith, low)));
       };
     }
 

@@ -1,23 +1,25 @@
 -- A join keeps the law of worlds: shares are added, and what either has seen is seen.
 use Rattle.std.proofs.Common.{◌≡◌, ◌≢◌, ℕ, zero, suc, ◌≤◌, ◌^◌, max, Bool, true, false, List, [], ◌∷◌}
-use Rattle.std.proofs.Common.{◌++◌, length, length-append, set, None, refl, sym, ap, ◌∙◌, subst, inl, inr, arith, zero-le}
+use Rattle.std.proofs.Common.{◌++◌, length, length-append, set, Some, None, refl, sym, ap, ◌∙◌, subst, inl, inr, arith, zero-le}
 use Rattle.std.specs.Prelude.{◌⊎◌, ◌==◌, ◌&&◌, nat_le, nat_lt, cond, slice_index}
 use Rattle.std.proofs.lemmas.Bool.{cases_eq, eqb-true, eqb-false, ne_eqb}
 use Rattle.std.proofs.lemmas.List.Sums.{sum_by-append}
 use mathlib.Core.Option.{some, some-ne-none, some-injective}
 use lib.ListN.{get_elem?}
 use Rattle.plan_model.specs.Turns.{once_if}
-use Rattle.step_core.specs.Stages.{has_count, has_link, has_point, holds_at}
+use Rattle.plan_model.specs.SeenParents.{AreSeenLawfully}
+use Rattle.plan_model.proofs.SeenParentLaws.{AreSeenLawfully-either}
+use Rattle.step_core.specs.Stages.{has_count, has_first, has_link, has_point, has_tree, holds_at}
 use Rattle.step_core.specs.ViewSteps.{joined}
 use Rattle.step_core.specs.ViewTrees.{SeesTree}
-use Rattle.step_core.specs.Views.{IsViewOf, holds, no_run, run_sizes, sees, share, spent, times, took_over, words_of_run}
+use Rattle.step_core.specs.Views.{IsViewOf, holds, no_run, run_sizes, sees, setup_in, share, spent, times, took_over, tree_seen, words_of_run}
 use Rattle.step_core.specs.WordKinds.{AreBehind, HaveWholePairs, MayBecome, WordKind, kind_of, later_word}
 use Rattle.step_core.specs.WordKinds.WordKind.{Rising, Once, Falling}
 use Rattle.step_core.specs.WordNames.{Word, Words}
 use Rattle.step_core.specs.WordNames.Word.{Count, Counter, PointOf, ChildOf, TreeOf, FirstOf, RecordOf}
 use Rattle.step_core.specs.WordPlaces.{Sizes, has_word, place_of, word_at, word_count}
-use Rattle.step_core.specs.Words.{cost_in}
-use Rattle.step_core.specs.Worlds.{Agree, EachView, IsMember, IsWorld, greatest_limit, hands_at, limit_of}
+use Rattle.step_core.specs.Words.{cost_in, tree_of_word}
+use Rattle.step_core.specs.Worlds.{Agree, EachView, IsMember, IsWorld, greatest_limit, hands_at, limit_of, state_in}
 use Rattle.step_core.specs.declared.views.Member.{Member}
 use Rattle.step_core.specs.declared.views.SharedRun.{SharedRun}
 use Rattle.step_core.specs.declared.views.Stage.{Stage}
@@ -27,6 +29,7 @@ use Rattle.step_core.proofs.ViewLists.{at-set, at-set_other, each-set, greatest-
 use Rattle.step_core.proofs.SeenTreesTogether.{SeesTree-joined}
 use Rattle.step_core.proofs.WorldHands.{Hands-views, IsWrittenFor}
 use Rattle.step_core.proofs.WorldLinks.{Links-views}
+use Rattle.step_core.proofs.WorldPairs.{HasFirst, HasFirst-none, HasTree, HasTree-none, Pairs-views}
 use Rattle.step_core.proofs.WorldParts.{agree-set, quotas-kept}
 use Rattle.step_core.proofs.WorldSteps.{live}
 
@@ -301,6 +304,15 @@ module _ (run : SharedRun) (words : Words) (views : List View) (id : ℕ) (view 
       links = Links-views run words views after world.links (hands_both has_link) (hands_both has_count);
       hands = Hands-views words views after world.hands
           (each (IsWrittenFor words) world.hands.written (λ hand held. world.hands.written id view at hand held) (λ hand held. cc)) (hands_both has_point);
+      trees = world.trees;
+      pairs = Pairs-views run words views after world.pairs
+          (each (HasFirst run words) world.pairs.first (λ hand held. world.pairs.first id view at hand held) (HasFirst-none run words spent refl))
+          (each (HasTree words) world.pairs.tree (λ hand held. world.pairs.tree id view at hand held) (HasTree-none words spent refl))
+          (hands_both has_first) (hands_both has_tree);
+      seen_pairs = each (λ u. u.run ≡ run → AreSeenLawfully (setup_in run) (tree_seen u) (state_in run words)) world.seen_pairs
+          (λ of. AreSeenLawfully-either (setup_in run) (tree_seen view) (tree_seen other) (tree_seen both) (state_in run words) pair_seen
+          (world.seen_pairs id view at own) (world.seen_pairs j other was own_too))
+          (λ of. absurd (live_spent of));
       sights = each (λ u. u.run ≡ run → SeesTree u) world.sights
           (λ of. SeesTree-joined view other (own_too ∙ sym own) (AreBehind-joined view other) AreBehind-other idle_too (world.sights id view at own)
           (world.sights j other was own_too))
@@ -315,6 +327,15 @@ module _ (run : SharedRun) (words : Words) (views : List View) (id : ℕ) (view 
               sum-set (λ u. once_if (holds_at test k u.hand)) middle j other spent there,
               ap (λ h. once_if (holds_at test k h)) idle,
             )
+
+        pair_seen :
+            (n : ℕ) (pair : ℕ × ℕ) → (tree_seen both).parent_and_cost n ≡ Some pair
+            → ((tree_seen view).parent_and_cost n ≡ Some pair) ⊎ ((tree_seen other).parent_and_cost n ≡ Some pair)
+        pair_seen n pair e =
+            elim (pair_of_one n) [
+              | inl mine ↦ inl (ap tree_of_word (sym mine) ∙ e)
+              | inr theirs ↦ inr (ap tree_of_word (sym theirs) ∙ e)
+            ]
 
         live_spent : no_run ≡ run → ⊥
         live_spent of = let none : run.workers ≡ 0 = ap (λ r. r.workers) (sym of) in omega (arith, none, world.run_is.workers.0)

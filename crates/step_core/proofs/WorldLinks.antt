@@ -9,7 +9,7 @@ use Rattle.std.proofs.lemmas.List.FromFn.{get_or-map-range_with_len, length-map-
 use mathlib.Core.Option.{some}
 use lib.ListN.{get_elem?}
 use Rattle.plan_model.specs.Outcomes.{is_placed}
-use Rattle.plan_model.specs.PointsByNumber.{point_at}
+use Rattle.plan_model.specs.PointsByNumber.{IsPresent, StandsAt, point_at}
 use Rattle.plan_model.specs.Turns.{once_if}
 use Rattle.plan_model.specs.Ways.{EndsBelow, FollowWays, goes_right}
 use Rattle.plan_model.specs.declared.geometry.Point.{Point}
@@ -45,7 +45,7 @@ pub has_node-kept_records : (before after : Words) → KeepsRecords before after
 has_node-kept_records before after kept k = has_node-same before after k (kept k)
 
 -- what was placed is recorded
-has_node-recorded : (words : Words) (k : ℕ) → once_if (has_node words (suc k)) ≤ once_if (is_recorded words k)
+pub has_node-recorded : (words : Words) (k : ℕ) → once_if (has_node words (suc k)) ≤ once_if (is_recorded words k)
 has_node-recorded words k = by_record (record_at words k)
   where
     by_record : (o : Option Record) → once_if (has_placed o) ≤ once_if (is_some o)
@@ -88,7 +88,7 @@ module _ (sizes : Sizes) (before after : Words) (keeps : KeepsLinks sizes before
           ap (λ b. if b then point_of_word (after (PointOf n)) else None) (is_linked-kept n ∙ e)
           ∙ sym (ap (λ b. if b then point_of_word (before (PointOf n)) else None) e)
 
-  linked_points-kept : linked_points sizes after ≡ linked_points sizes before
+  pub linked_points-kept : linked_points sizes after ≡ linked_points sizes before
   linked_points-kept = λ t. map (λ n. linked_point-kept n t) (range_with_len 0 (sizes.marks + 1))
 
   pub FollowWays-kept : FollowWays (children_of_words before) (linked_points sizes before) → FollowWays (children_of_words after) (linked_points sizes after)
@@ -232,21 +232,25 @@ module _ (sizes : Sizes) (before after : Words) (ways : FollowWays (children_of_
     past words m beyond =
         get_or_past (linked_points sizes words) m None (omega (arith, beyond, length-map-range_with_len (linked_point sizes words) 0 (sizes.marks + 1)))
 
-    elsewhere : (m : ℕ) → m ≢ suc k → point_at (linked_points sizes after) m ≡ point_at (linked_points sizes before) m
-    elsewhere m apart =
+    pub point_at-others : (m : ℕ) → m ≢ suc k → point_at (linked_points sizes after) m ≡ point_at (linked_points sizes before) m
+    point_at-others m apart =
         elim (cases_lt sizes.marks m) [
           | inl beyond ↦ past after m beyond ∙ sym (past before m beyond)
           | inr within ↦ at_within after m within ∙ same_point m apart ∙ sym (at_within before m within)
         ]
+
+    pub absent-new : ¬ IsPresent (linked_points sizes before) (suc k)
+    absent-new h = let none = sym h ∙ ap is_some (at_within before (suc k) low ∙ no_point) in cc
+
+    pub stands-new : StandsAt (linked_points sizes after) (suc k) p
+    stands-new = at_within after (suc k) low ∙ new_point
 
     -- Each linked node is where its way leads, the new one too.
     pub FollowWays-linked : FollowWays (children_of_words after) (linked_points sizes after)
     FollowWays-linked =
         FollowWays-links (children_of_words before) (children_of_words after) (linked_points sizes before) (linked_points sizes after) p depth n (suc k) at ways
         ends
-        (AddsPoint-stands (linked_points sizes before) (linked_points sizes after) (suc k) p
-        (λ h. let none = sym h ∙ ap is_some (at_within before (suc k) low ∙ no_point) in cc)
-        (at_within after (suc k) low ∙ new_point) elsewhere)
+        (AddsPoint-stands (linked_points sizes before) (linked_points sizes after) (suc k) p absent-new stands-new point_at-others)
         record {
           was_empty = ap child_of_word empty;
           linked = ap child_of_word writes.here;

@@ -7,14 +7,16 @@ use Rattle.std.proofs.lemmas.List.Sums.{sum_by_push}
 use mathlib.Core.Option.{some, some-ne-none}
 use lib.ListN.{get_elem?}
 use Rattle.plan_model.specs.Turns.{once_if}
-use Rattle.step_core.specs.Stages.{has_count, has_link, has_point, holds_at}
+use Rattle.plan_model.specs.SeenParents.{AreSeenLawfully}
+use Rattle.step_core.specs.Stages.{has_count, has_first, has_link, has_point, has_tree, holds_at}
 use Rattle.step_core.specs.ViewSteps.{looker, parted, second_alone, stepped, without_second, worker_apart}
 use Rattle.step_core.specs.ViewTrees.{SeesTree}
-use Rattle.step_core.specs.Views.{IsViewOf, holds, sees, share, spent, times, took_over, words_of_run}
+use Rattle.step_core.specs.Views.{IsViewOf, holds, sees, setup_in, share, spent, times, took_over, tree_seen, words_of_run}
 use Rattle.step_core.specs.WordKinds.{AreBehind, HaveWholePairs}
 use Rattle.step_core.specs.WordNames.{Words}
-use Rattle.step_core.specs.WordNames.Word.{RecordOf}
-use Rattle.step_core.specs.Worlds.{Agree, EachView, IsMember, IsWorld, hands_at, limit_of}
+use Rattle.step_core.specs.WordNames.Word.{RecordOf, TreeOf}
+use Rattle.step_core.specs.Words.{tree_of_word}
+use Rattle.step_core.specs.Worlds.{Agree, EachView, IsMember, IsWorld, hands_at, limit_of, state_in}
 use Rattle.step_core.specs.declared.views.Member.{Member}
 use Rattle.step_core.specs.declared.views.SharedRun.{SharedRun}
 use Rattle.step_core.specs.declared.views.Stage.{Stage}
@@ -24,7 +26,9 @@ use Rattle.step_core.proofs.SeenTreesOfViews.{SeesTree-apart, SeesTree-looker, S
 use Rattle.step_core.proofs.ViewLists.{each-push, each-set, greatest-push, greatest-set, sum-set}
 use Rattle.step_core.proofs.WorldHands.{Hands-views, IsWrittenFor}
 use Rattle.step_core.proofs.WorldLinks.{Links-views}
+use Rattle.step_core.proofs.WorldPairs.{HasFirst, HasFirst-none, HasTree, HasTree-none, Pairs-views}
 use Rattle.step_core.proofs.WorldParts.{Agree-sym, agree-set, quotas-kept}
+use Rattle.step_core.proofs.WorldSeenPairs.{AreSeenLawfully-same}
 use Rattle.step_core.proofs.WorldSteps.{live, tree}
 
 -- the one view has looked at the same words as the other
@@ -184,6 +188,21 @@ module _ (run : SharedRun) (words : Words) (views : List View) (id : ℕ) (view 
             (λ hand held. world.hands.written id view at hand (sym cut.hand ∙ held)))
             (λ hand held. let none = sym cut.no_hand ∙ held in cc))
             (hands_cut has_point);
+        trees = world.trees;
+        pairs = Pairs-views run words views (rest ++ right ∷ []) world.pairs
+            (each-push rest right (HasFirst run words)
+            (each-set views id left (HasFirst run words) (λ i u apart e. world.pairs.first i u e)
+            (λ hand held. world.pairs.first id view at hand (sym cut.hand ∙ held)))
+            (HasFirst-none run words right cut.no_hand))
+            (each-push rest right (HasTree words)
+            (each-set views id left (HasTree words) (λ i u apart e. world.pairs.tree i u e)
+            (λ hand held. world.pairs.tree id view at hand (sym cut.hand ∙ held)))
+            (HasTree-none words right cut.no_hand))
+            (hands_cut has_first) (hands_cut has_tree);
+        seen_pairs = each-push rest right (λ u. u.run ≡ run → AreSeenLawfully (setup_in run) (tree_seen u) (state_in run words))
+            (each-set views id left (λ u. u.run ≡ run → AreSeenLawfully (setup_in run) (tree_seen u) (state_in run words))
+            (λ i u apart e. world.seen_pairs i u e) (λ of. pairs_same left cut.tables_left))
+            (λ of. pairs_same right cut.tables_right);
         sights = each-push rest right (λ u. u.run ≡ run → SeesTree u)
             (each-set views id left (λ u. u.run ≡ run → SeesTree u) (λ i u apart e. world.sights i u e)
             (λ of. cut.tree_left (tree run words views id view world at own)))
@@ -199,6 +218,11 @@ module _ (run : SharedRun) (words : Words) (views : List View) (id : ℕ) (view 
             ap (λ h. once_if (holds_at test k h)) cut.hand,
             ap (λ h. once_if (holds_at test k h)) cut.no_hand,
           )
+
+      pairs_same : (then : View) → SeesAsMuch view then → AreSeenLawfully (setup_in run) (tree_seen then) (state_in run words)
+      pairs_same then same =
+          AreSeenLawfully-same (setup_in run) (tree_seen view) (tree_seen then) (state_in run words)
+          (λ n. ap (λ w. tree_of_word (w (TreeOf n))) (sees-same view then same)) (world.seen_pairs id view at own)
 
       took_as_much : (then : View) → SeesAsMuch view then → AreBehind (took_over then) (sees then)
       took_as_much then same =

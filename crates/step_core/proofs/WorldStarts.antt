@@ -12,34 +12,43 @@ use Rattle.std.proofs.lemmas.Nat.{mod_below}
 use Rattle.std.proofs.lemmas.Option.{same_Some}
 use Rattle.std.proofs.lemmas.List.Sums.{sum_by-cons}
 use Rattle.plan_model.specs.MarkPoints.{is_claimed}
+use Rattle.plan_model.specs.OrderLaw.{KeepsFirstCosts, KeepsOrder}
+use Rattle.plan_model.specs.SeenParents.{AreSeenLawfully}
+use Rattle.plan_model.specs.Textbook.{setup_of}
 use Rattle.plan_model.specs.Turns.{once_if, turns_of}
 use Rattle.plan_model.specs.declared.records.Record.{Record}
 use Rattle.plan_model.specs.declared.tasks.Task.{Task}
 use Rattle.plan_model.specs.declared.limits.TheConstants.{MOST_WORKERS}
+use Rattle.plan_model.proofs.ClosedLaws.{KeepsFirstCosts-closed}
 use Rattle.plan_model.proofs.CountsBelow.{count-none, count-single}
 use Rattle.plan_model.proofs.MarkBounds.{length-marks}
 use Rattle.plan_model.proofs.StripMarks.{is_claimed-below, is_claimed-past}
 use Rattle.plan_model.proofs.WorkerTurns.{AreTurns-longer}
-use Rattle.step_core.specs.GrownWords.{HoldRun, has_node, record_at, run_words, sizes_of}
+use Rattle.step_core.specs.GrownWords.{HoldRun, has_node, record_at, run_words, sizes_of, state_of_words}
 use Rattle.step_core.specs.ViewStarts.{crew_from, member_of, newcomer}
 use Rattle.step_core.specs.ViewTrees.{SeesTree}
-use Rattle.step_core.specs.Views.{IsViewOf, run_of, run_sizes, sees, share, spent, times, took_over}
+use Rattle.step_core.specs.Views.{IsViewOf, run_of, run_sizes, sees, setup_in, share, spent, times, took_over, tree_seen}
 use Rattle.step_core.specs.WordKinds.{AreBehind, HaveWholePairs}
 use Rattle.step_core.specs.WordNames.{Word, Words}
 use Rattle.step_core.specs.WordNames.Word.{FirstOf, RecordOf}
 use Rattle.step_core.specs.WordPlaces.{Sizes, has_word, place_of, word_at, word_count}
 use Rattle.step_core.specs.Words.{FitsWord, fourth_in, outcome_in, record_in, record_of_word}
-use Rattle.step_core.specs.Worlds.{Agree, EachView, IsMember, IsRecordWord, IsWorld, counted_once, counters, greatest_limit, is_recorded}
+use Rattle.step_core.specs.Worlds.{Agree, EachView, IsMember, IsRecordWord, IsWorld, counted_once, Trees, counters, greatest_limit, is_recorded, state_in}
 use Rattle.step_core.specs.declared.views.Member.{Member}
 use Rattle.step_core.specs.declared.views.SharedRun.{SharedRun}
 use Rattle.step_core.specs.declared.views.View.{View}
 use Rattle.step_core.proofs.FinishedTurns.{times-cons}
-use Rattle.step_core.proofs.LinkedPresence.{is_linked-closed, node_present}
+use Rattle.step_core.proofs.LinkedPresence.{is_linked-closed, node_present, state_by-closed}
+use Rattle.step_core.proofs.LawfulSights.{IsPresent-seen}
+use Rattle.step_core.proofs.MarksInHand.{once_if-false}
 use Rattle.step_core.proofs.SeenTreesAtStart.{SeesTree-started}
 use Rattle.step_core.proofs.StartLinks.{FollowWays-held, IsBounded-mark, IsBounded-start, blank-held, count-held, start-held}
 use Rattle.step_core.proofs.SumsBelow.{sum-same}
 use Rattle.step_core.proofs.WordKinds.{AreBehind-refl}
 use Rattle.step_core.proofs.WorldHands.{IsWrittenFor}
+use Rattle.step_core.proofs.WorldLinks.{has_node-recorded}
+use Rattle.step_core.proofs.WorldPairs.{HasFirst, HasTree}
+use Rattle.step_core.proofs.WorldSeenPairs.{AreSeenLawfully-all}
 use Rattle.step_core.proofs.WorldJoins.{AreBehind-nothing}
 use Rattle.step_core.proofs.WorldParts.{quota-up}
 
@@ -164,6 +173,16 @@ module _ (task : Task) (limit : ℕ) (words : Words) (held : HoldRun task limit 
             | inr past ↦ inl (held.unrecorded k past)
           ]
 
+  -- the linked nodes keep the order law, as the closed law says
+  Trees-held : (workers : ℕ) → Trees (run_of task workers limit) words
+  Trees-held workers = record {
+    order = subst (KeepsOrder (setup_of task.scene)) (sym (state_by-closed task limit words held)) held.closed.order;
+    first_costs = subst (KeepsFirstCosts (setup_of task.scene)) (sym (state_by-closed task limit words held))
+        (KeepsFirstCosts-closed (setup_of task.scene) task.marks limit (state_of_words (sizes_of task) words) held.closed);
+    written = λ n linked. held.written n (node_present task limit words held n (sym (is_linked-closed task limit words held n) ∙ linked));
+    start_first = held.start_first;
+  }
+
 -- ---- the first world
 
 -- each word of a list of zeros is 0
@@ -193,12 +212,15 @@ IsWorld-started task limit workers items sized held some_worker few =
     let words : Words = run_words task items in
     let first : View = newcomer run items in
     let all : share first ≡ workers = length-crew run words in
+    let trees : Trees run words = Trees-held task limit words held workers in
+    let sees_tree : SeesTree first = SeesTree-started task limit workers items held in
     record {
       run_is = record {
         strips = (omega (arith, task.scene.strips_low), task.scene.strips_high);
         marks = length-marks task;
         points = IsBounded-mark task;
         start = IsBounded-start task limit words held;
+        step = task.scene.step_high;
         workers = (some_worker, few);
         opening = held.closed.within;
       };
@@ -244,13 +266,27 @@ IsWorld-started task limit workers items sized held some_worker few =
         count = count-held task limit words held
             ∙ ap (λ n. 1 + n) (sum-same (λ k. once_if (has_node words (suc k))) (counted_once words (first ∷ [])) (length task.marks) (λ k low. omega arith));
       };
+      trees = trees;
+      pairs = record {
+        first = only first (HasFirst run words) (λ hand held. cc);
+        tree = only first (HasTree words) (λ hand held. cc);
+        no_first = λ k none no_hand. (held.blank (suc k) (unplaced k none)).first;
+        no_tree = λ k none no_hand. (held.blank (suc k) (unplaced k none)).tree;
+      };
+      seen_pairs = only first (λ u. u.run ≡ run → AreSeenLawfully (setup_in run) (tree_seen u) (state_in run words))
+          (λ of. AreSeenLawfully-all run words trees first (λ n. refl) sees_tree
+          (IsPresent-seen first words (AreBehind-refl words) sees_tree (FollowWays-held task limit words held)));
       hands = record {
         written = only first (IsWrittenFor words) (λ hand held. cc);
         blank = λ k none no_hand. blank-held task limit words held k none;
       };
-      sights = only first (λ u. u.run ≡ run → SeesTree u) (λ of. SeesTree-started task limit workers items held);
+      sights = only first (λ u. u.run ≡ run → SeesTree u) (λ of. sees_tree);
     }
   where
+    unplaced : (k : ℕ) → is_recorded (run_words task items) k ≡ false → has_node (run_words task items) (suc k) ≡ false
+    unplaced k none =
+        once_if-false (has_node (run_words task items) (suc k)) (omega (arith, has_node-recorded (run_words task items) k, ap once_if none))
+
     binds : share (newcomer (run_of task workers limit) items) ≡ workers → limit ≤ greatest_limit (newcomer (run_of task workers limit) items ∷ [])
     binds all = subst (λ n. limit ≤ max (cond (n == 0) 0 limit) 0) (sym all) (by_test (workers == 0) refl)
       where

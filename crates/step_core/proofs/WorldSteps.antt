@@ -8,11 +8,12 @@ use Rattle.std.proofs.lemmas.Bool.{cases_eq, eqb-true}
 use Rattle.plan_model.specs.MarkPoints.{is_claimed, quota_of}
 use Rattle.plan_model.specs.Turns.{once_if}
 use Rattle.plan_model.proofs.QuotaLaws.{IsCutAt-quota}
+use Rattle.plan_model.proofs.TreeStateLaws.{GrowsInto-refl}
 use Rattle.std.proofs.lemmas.Option.{same_Some}
 use Rattle.plan_model.specs.Ways.{FollowWays}
 use Rattle.step_core.specs.GrownWords.{children_of_words}
 use Rattle.step_core.specs.SharedWords.{linked_points}
-use Rattle.step_core.specs.Stages.{has_count, has_link, has_point, holds_at}
+use Rattle.step_core.specs.Stages.{has_count, has_first, has_link, has_point, has_tree, holds_at}
 use Rattle.step_core.specs.ViewSteps.{claimed, loaded, mark_of, new_hand, saw}
 use Rattle.step_core.specs.ViewTrees.{MayLoad, SeesNode, SeesTree}
 use Rattle.step_core.specs.Views.{IsSharedRun, IsViewOf, holds, run_sizes, sees, share, spent}
@@ -20,13 +21,14 @@ use Rattle.step_core.specs.WordKinds.{AreBehind}
 use Rattle.step_core.specs.WordNames.{Word, Words, WritesWord}
 use Rattle.step_core.specs.WordNames.Word.{ChildOf, Count, Counter, FirstOf, PointOf, RecordOf, TreeOf}
 use Rattle.step_core.specs.WordPlaces.{HasWord}
-use Rattle.step_core.specs.Worlds.{IsWorld, Sights, counters, greatest_limit, is_recorded, limit_of}
+use Rattle.step_core.specs.Worlds.{IsWorld, Sights, counters, greatest_limit, is_recorded, limit_of, state_in}
 use Rattle.step_core.specs.declared.views.SharedRun.{SharedRun}
 use Rattle.step_core.specs.declared.views.Stage.{Stage}
 use Rattle.step_core.specs.declared.views.Stage.TheVariants.{Claimed}
 use Rattle.step_core.specs.declared.views.View.{View}
 use Rattle.step_core.proofs.HandsAt.{holds_at-new}
 use Rattle.step_core.proofs.LawfulSights.{SeesNode-within}
+use Rattle.step_core.proofs.LinkedStates.{GrowsInto-behind}
 use Rattle.step_core.proofs.MarksInHand.{once_if-claimed}
 use Rattle.step_core.proofs.SawWords.{AreBehind-saw, AreBehind-seen, AreBehind-write, HaveWholePairs-saw, IsFair-saw, same-saw}
 use Rattle.step_core.proofs.SeenByViews.{IsViewOf-saw, WritesWord-saw}
@@ -35,8 +37,11 @@ use Rattle.step_core.proofs.ViewLists.{at-set, each-set, greatest-one, greatest-
 use Rattle.step_core.proofs.WordKinds.{AreBehind-refl, AreBehind-trans}
 use Rattle.step_core.proofs.WorldHands.{Hands-step}
 use Rattle.step_core.proofs.WorldLinks.{KeepsLinks, Links-kept}
+use Rattle.step_core.proofs.WorldPairs.{Pairs-same, Pairs-step}
 use Rattle.step_core.proofs.WorldParts.{KeepsRecords, Numbers-step, Seen-step, Shares-step, Turns-step}
 use Rattle.step_core.proofs.WorldParts.{packed-kept, is_recorded-kept, limit_of-up, of_run-step, quota-up, quotas-kept}
+use Rattle.step_core.proofs.WorldSeenPairs.{AreSeenLawfully-own, SeenPairs-set}
+use Rattle.step_core.proofs.WorldTrees.{Trees-kept}
 
 -- a view of the run is not spent
 pub IsViewOf-live : (run : SharedRun) (view : View) → IsSharedRun run → view.run ≡ run → (view ≡ spent) ⊎ IsViewOf run view → IsViewOf run view
@@ -90,6 +95,7 @@ module _ (run : SharedRun) (words : Words) (views : List View) (id : ℕ) (view 
       let writes = WritesWord-saw run view live name here x x in
       let behind = world.seen.behind id view at in
       let seen = AreBehind-loaded name may in
+      let sees_tree = SeesTree-loaded run view words live behind tree name here may in
       record {
         run_is = world.run_is;
         of_run = of_run-step run views id then world.of_run (IsViewOf-saw run view live name here x x);
@@ -107,8 +113,15 @@ module _ (run : SharedRun) (words : Words) (views : List View) (id : ℕ) (view 
             (IsFair-saw name x (sees view) (sees then) words writes refl behind);
         links = Links-kept run words words views id view then at world.links (record { children = λ n side. refl; points = λ n h. refl }) (λ k. refl) refl
             (λ k. refl) (λ k. refl);
+        trees = world.trees;
         hands = Hands-step words words views id view then at world.hands (λ n. refl) (λ k. refl) (world.hands.written id view at) (λ k. refl);
-        sights = Sights-set then (λ of. SeesTree-loaded run view words live behind tree name here may);
+        pairs = Pairs-same run words words views id view then at world.numbers world.links world.pairs (GrowsInto-refl (state_in run words)) (λ n. refl)
+            (λ n h. refl) (λ k. refl) refl;
+        seen_pairs = SeenPairs-set run words words views id then (GrowsInto-refl (state_in run words)) world.seen_pairs
+            (λ of. AreSeenLawfully-own run words words view then world.trees world.links.ways of (GrowsInto-refl (state_in run words)) own
+            (world.seen_pairs id view at own) (AreBehind-saw name x (sees view) (sees then) words writes refl behind) sees_tree
+            (IsFair-saw name x (sees view) (sees then) words writes refl behind));
+        sights = Sights-set then (λ of. sees_tree);
       }
 
   -- a claim: the counter goes up by one, and the mark is in this hand
@@ -165,11 +178,21 @@ module _ (run : SharedRun) (words : Words) (views : List View) (id : ℕ) (view 
         let writes = WritesWord-saw run view live (Counter g) here c (c + 1) in
         let behind = AreBehind-trans (sees view) words after (world.seen.behind id view at) go in
         let seen = AreBehind-seen (Counter g) (c + 1) (sees view) (sees then) after writes counts.here behind in
+        let sees_tree = SeesTree-claimed run view words live (world.seen.behind id view at) tree g c limit strip is in
+        let numbers = Numbers-step run words after views id view then at world.numbers quotas balance
+        (omega (arith, world.numbers.limits id view at, most)) (packed-kept words after records world.numbers.packed) in
+        let links = Links-kept run words after views id view then at world.links keeps records (counts.others Count (λ e. cc)) (none has_link refl)
+        (none has_count refl) in
+        let grows = GrowsInto-behind run words after views (set views id then) world.numbers world.links numbers links world.trees go in
+        let trees = Trees-kept run words after views (set views id then) world.numbers world.links numbers links world.trees go record {
+          links = keeps;
+          trees = λ n linked. counts.others (TreeOf n) (λ e. cc);
+          firsts = λ n linked. counts.others (FirstOf n) (λ e. cc);
+        } in
         record {
           run_is = world.run_is;
           of_run = of_run-step run views id then world.of_run (by_fields (IsViewOf-saw run view live (Counter g) here c (c + 1)));
-          numbers = Numbers-step run words after views id view then at world.numbers quotas balance
-              (omega (arith, world.numbers.limits id view at, most)) (packed-kept words after records world.numbers.packed);
+          numbers = numbers;
           turns = Turns-step run words after views id view then at world.turns records refl
               (λ k same. writes.others (RecordOf k) (λ e. cc) ∙ same);
           shares = Shares-step run words after views id view then at world.shares refl (λ none. absurd (omega (arith, none, part)));
@@ -178,13 +201,22 @@ module _ (run : SharedRun) (words : Words) (views : List View) (id : ℕ) (view 
               (AreBehind-trans _ (sees view) (sees then) (world.seen.took id view at) seen) pairs
               (HaveWholePairs-saw (Counter g) (c + 1) (sees view) (sees then) after writes counts.here behind (world.seen.whole id view at) pairs)
               (IsFair-saw (Counter g) (c + 1) (sees view) (sees then) after writes counts.here behind);
-          links = Links-kept run words after views id view then at world.links keeps records (counts.others Count (λ e. cc)) (none has_link refl)
-              (none has_count refl);
+          links = links;
+          trees = trees;
           hands = Hands-step words after views id view then at world.hands (λ n. counts.others (PointOf n) (λ e. cc)) (is_recorded-kept words after records)
               (λ hand held far. let new = same_Some (new_hand (mark_of view.run g c)) hand held in
               let no = ap (λ h. has_point h.stage) new ∙ far in cc)
               (none has_point refl);
-          sights = Sights-set then (λ of. SeesTree-claimed run view words live (world.seen.behind id view at) tree g c limit strip is);
+          pairs = Pairs-step run words after views id view then at world.numbers world.links world.pairs grows (λ n. counts.others (FirstOf n) (λ e. cc))
+              (λ n h. counts.others (TreeOf n) (λ e. cc)) (is_recorded-kept words after records)
+              (λ hand held far. let no = ap (λ h. has_first h.stage) (same_Some (new_hand (mark_of view.run g c)) hand held) ∙ far in cc)
+              (λ hand held far not_yet. let no = ap (λ h. has_tree h.stage) (same_Some (new_hand (mark_of view.run g c)) hand held) ∙ far in cc)
+              (none has_first refl) (none has_tree refl);
+          seen_pairs = SeenPairs-set run words after views id then grows world.seen_pairs
+              (λ of. AreSeenLawfully-own run words after view then trees links.ways of grows own (world.seen_pairs id view at own)
+              (AreBehind-saw (Counter g) (c + 1) (sees view) (sees then) after writes counts.here behind) sees_tree
+              (IsFair-saw (Counter g) (c + 1) (sees view) (sees then) after writes counts.here behind));
+          sights = Sights-set then (λ of. sees_tree);
         }
       where
         by_fields : IsViewOf run (saw view (Counter g) c (c + 1)) → IsViewOf run (claimed view g c limit)

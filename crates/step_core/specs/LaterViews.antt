@@ -1,17 +1,17 @@
 -- What steps of a pass leave of what it knew, and what the law of worlds says of one view.
-use Rattle.std.specs.Prelude.{◌≡◌, ℕ, suc, ◌+◌, ◌<◌, ◌≤◌, ◌⊎◌, false, Some, None, length}
+use Rattle.std.specs.Prelude.{◌≡◌, ℕ, suc, ◌+◌, ◌^◌, ◌<◌, ◌≤◌, ◌⊎◌, true, false, Some, None, length}
 use lib.ListN.{get_elem?}
 use mathlib.Core.Option.{some}
 use Rattle.plan_model.specs.PointsByNumber.{AreDistinct}
 use Rattle.plan_model.specs.SeenTrees.{FollowSeenWays}
 use Rattle.plan_model.specs.Turns.{turns_of}
 use Rattle.step_core.specs.GrownWords.{record_at}
-use Rattle.step_core.specs.Stages.{has_link}
-use Rattle.step_core.specs.ViewTrees.{SeesNode, SeesPoint, SeesTree}
+use Rattle.step_core.specs.Stages.{has_first, has_link}
+use Rattle.step_core.specs.ViewTrees.{IsSeenPair, SeesNode, SeesPoint, SeesTree}
 use Rattle.step_core.specs.Views.{IsSharedRun, IsViewOf, last_look, last_zero, sees, share, took_over, tree_seen}
 use Rattle.step_core.specs.WordKinds.{AreBehind}
 use Rattle.step_core.specs.WordNames.{Word}
-use Rattle.step_core.specs.WordNames.Word.{Count, Counter}
+use Rattle.step_core.specs.WordNames.Word.{Count, Counter, TreeOf}
 use Rattle.step_core.specs.declared.views.Hand.{Hand}
 use Rattle.step_core.specs.declared.views.Member.{Member}
 use Rattle.step_core.specs.declared.views.View.{View}
@@ -29,6 +29,7 @@ pub record IsLater (before after : View) : Type 0 where
 -- that it has seen, and a worker's next turn while a mark is in hand. Without a share nothing is in hand. Its workers' turns are the numbers
 -- of their records seen. It has seen at least what the pass had that it last took over. It sees its tree from node 0 on: each node is
 -- where its way leads, no two are at one point, no number is past the last mark's, and none is that of the node in hand before it is linked.
+-- The parents and the costs that it has seen are those of a tree within the limits, and those in hand fit a word.
 pub record IsLawfulView (view : View) : Type 0 where
   pub run : IsSharedRun view.run
   pub of_run : IsViewOf view.run view
@@ -46,5 +47,7 @@ pub record IsLawfulView (view : View) : Type 0 where
   pub within : (n : ℕ) → SeesNode view n → n ≤ length view.run.marks
   pub unseen : (hand : Hand) → view.hand ≡ Some hand → has_link hand.stage ≡ false → ¬ SeesNode view (suc hand.mark)
   pub start : SeesPoint view 0 view.run.start
+  pub pair_fits : (hand : Hand) → view.hand ≡ Some hand → has_first hand.stage ≡ true → (hand.parent < 2 ^ 18) × (hand.cost < 2 ^ 44)
+  pub pairs : (n : ℕ) → 2 ^ 63 ≤ sees view (TreeOf n) → IsSeenPair view n
   pub count : sees view Count ≤ length view.run.marks + 1
   pub counter : (g : ℕ) → g < view.run.strips → sees view (Counter g) ≤ length view.run.marks

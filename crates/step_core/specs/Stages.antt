@@ -15,6 +15,24 @@ has_point Treed = true
 has_point Linked = true
 has_point Counted = true
 
+-- the first word of its node is written
+abbrev pub has_first : Stage → Bool
+has_first Claimed = false
+has_first Pointed = false
+has_first Half = true
+has_first Treed = true
+has_first Linked = true
+has_first Counted = true
+
+-- the tree word of its node is written
+abbrev pub has_tree : Stage → Bool
+has_tree Claimed = false
+has_tree Pointed = false
+has_tree Half = false
+has_tree Treed = true
+has_tree Linked = true
+has_tree Counted = true
+
 -- its node stands in a child word
 abbrev pub has_link : Stage → Bool
 has_link Claimed = false

@@ -2,16 +2,16 @@
 use Rattle.std.specs.Prelude.{ℕ, suc, Bool, ◌+◌, ◌*◌, ◌==◌, max, Some, None, List, [], ◌∷◌, ◌++◌, map, slice_index, slice_set, if◌then◌else◌}
 use Rattle.std.specs.List.{range_with_len}
 use Rattle.plan_model.specs.declared.geometry.Point.{Point}
-use Rattle.step_core.specs.Views.{run_sizes}
+use Rattle.step_core.specs.Views.{run_sizes, sees}
 use Rattle.step_core.specs.WordKinds.{kind_at, later_word}
 use Rattle.step_core.specs.WordNames.{Word}
-use Rattle.step_core.specs.WordNames.Word.{ChildOf, Counter, PointOf, RecordOf}
+use Rattle.step_core.specs.WordNames.Word.{ChildOf, Counter, FirstOf, PointOf, RecordOf, TreeOf}
 use Rattle.step_core.specs.WordPlaces.{Sizes, place_of, word_count}
-use Rattle.step_core.specs.Words.{point_word}
+use Rattle.step_core.specs.Words.{point_word, tree_word}
 use Rattle.step_core.specs.declared.views.Hand.{Hand}
 use Rattle.step_core.specs.declared.views.Member.{Member}
 use Rattle.step_core.specs.declared.views.SharedRun.{SharedRun}
-use Rattle.step_core.specs.declared.views.Stage.TheVariants.{Claimed, Counted, Linked, Pointed}
+use Rattle.step_core.specs.declared.views.Stage.TheVariants.{Claimed, Counted, Half, Linked, Pointed, Treed}
 use Rattle.step_core.specs.declared.views.View.{View}
 
 -- the place of a word in the tables of a view
@@ -46,7 +46,7 @@ mark_of run g c = c * run.strips + g
 
 -- a mark in hand for which nothing is written
 abbrev pub new_hand : ℕ → Hand
-new_hand k = record { mark = k; stage = Claimed; nearest = 0; point = record { x = 0; y = 0 } }
+new_hand k = record { mark = k; stage = Claimed; nearest = 0; point = record { x = 0; y = 0 }; parent = 0; cost = 0 }
 
 -- The counter of strip g went from c to c + 1, and the mark is in hand.
 abbrev pub claimed : View → ℕ → ℕ → ℕ → View
@@ -66,7 +66,7 @@ finished_at view place word = record (saw_at view place word word) { hand = None
 abbrev pub finished : View → ℕ → ℕ → View
 finished view k word = finished_at view (place_in view (RecordOf k)) word
 
--- ---- points, links and counts
+-- ---- points, parents, links and counts
 
 -- one step more, by which no word is seen
 abbrev pub stepped : View → View
@@ -76,15 +76,39 @@ stepped view = record view { steps = view.steps + 1 }
 abbrev pub pointed : View → Hand → ℕ → Point → View
 pointed view hand m p = record (stepped view) { hand = Some (record hand { stage = Pointed; nearest = m; point = p }) }
 
--- The node in hand stands in the child word at this place, which was found empty. It is seen there, and its point at the other place.
-abbrev pub linked_at : View → Hand → ℕ → ℕ → View
-linked_at view hand place point_place =
+-- The first word of the node in hand is written, with this parent and this cost.
+abbrev pub half : View → Hand → ℕ → ℕ → View
+half view hand parent cost = record (stepped view) { hand = Some (record hand { stage = Half; parent = parent; cost = cost }) }
+
+-- Its tree word is written too, with the same.
+abbrev pub treed : View → Hand → View
+treed view hand = record (stepped view) { hand = Some (record hand { stage = Treed }) }
+
+-- the parent and the cost in hand, as a word
+abbrev pub pair_in_hand : Hand → ℕ
+pair_in_hand hand = tree_word hand.parent hand.cost
+
+-- seen words, with those that the hand has written for its node
+abbrev pub with_node : SharedRun → Hand → List ℕ → List ℕ
+with_node run hand seen =
+    let at : Word → ℕ = place_of (run_sizes run) in
+    let node : ℕ = suc hand.mark in
+    slice_set (slice_set (slice_set seen (at (PointOf node)) (point_word hand.point)) (at (TreeOf node)) (pair_in_hand hand)) (at (FirstOf node))
+    (pair_in_hand hand)
+
+-- The node in hand stands in the child word at this place, which was found empty. It is seen there, with its point, its parent and its cost.
+abbrev pub linked_at : View → Hand → ℕ → View
+linked_at view hand place =
     let shown = saw_at view place 0 (suc hand.mark) in
-    record shown { seen = slice_set shown.seen point_place (point_word hand.point); hand = Some (record hand { stage = Linked }) }
+    record shown { seen = with_node view.run hand shown.seen; hand = Some (record hand { stage = Linked }) }
 
 -- it stands in the child word of node n on this side
 abbrev pub linked : View → Hand → ℕ → Bool → View
-linked view hand n side = linked_at view hand (place_in view (ChildOf n side)) (place_in view (PointOf (suc hand.mark)))
+linked view hand n side = linked_at view hand (place_in view (ChildOf n side))
+
+-- The tree word of node n was the one seen last, and has this parent and this cost now.
+abbrev pub lowered : View → ℕ → ℕ → ℕ → View
+lowered view n parent cost = saw view (TreeOf n) (sees view (TreeOf n)) (tree_word parent cost)
 
 -- The node in hand is counted. How many there are, the step does not tell: the class of a mark is that of the count loaded last.
 abbrev pub counted : View → Hand → View

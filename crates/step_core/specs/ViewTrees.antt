@@ -1,7 +1,9 @@
 -- What a view has seen of the tree, and which steps on nodes that allows it.
-use Rattle.std.specs.Prelude.{◌≡◌, ◌≢◌, ℕ, suc, ◌<◌, Bool, true, Some}
+use Rattle.std.specs.Prelude.{◌≡◌, ◌≢◌, ℕ, suc, ◌+◌, ◌^◌, ◌<◌, ◌≤◌, Bool, true, Some, length}
 use Rattle.plan_model.specs.declared.geometry.Point.{Point}
 use Rattle.plan_model.specs.ClosedLaw.{mark_at}
+use Rattle.plan_model.specs.Cost.{cost_of}
+use Rattle.plan_model.specs.OrderLaw.{IsAllowedEdge}
 use Rattle.plan_model.specs.PointsByNumber.{IsPresent, StandsAt}
 use Rattle.plan_model.specs.SeenTrees.{IsRooted, IsSeen}
 use Rattle.plan_model.specs.Sights.{Sight}
@@ -10,9 +12,10 @@ use Rattle.plan_model.specs.Ways.{IsOnWay, goes_right}
 use Rattle.step_core.specs.GrownWords.{has_node}
 use Rattle.step_core.specs.SeenWords.{sight_of_words}
 use Rattle.step_core.specs.Stages.{has_link, has_point}
-use Rattle.step_core.specs.Views.{run_sizes, seen_words, sees, tree_seen}
+use Rattle.step_core.specs.Views.{run_sizes, seen_words, sees, setup_in, tree_seen}
 use Rattle.step_core.specs.WordNames.{Word}
 use Rattle.step_core.specs.WordNames.Word.{Count, Counter, PointOf, ChildOf, TreeOf, FirstOf, RecordOf}
+use Rattle.step_core.specs.Words.{cost_in, parent_in}
 use Rattle.step_core.specs.declared.views.Hand.{Hand}
 use Rattle.step_core.specs.declared.views.View.{View}
 
@@ -53,6 +56,50 @@ pub record SeesTree (view : View) : Type 0 where
 -- node n is on the way of p over what is seen, at this depth
 abbrev pub IsOnWayOf : View → Point → ℕ → ℕ → Type 0
 IsOnWayOf view p depth n = IsOnWay (tree_seen view).child (tree_seen view).points p depth n
+
+-- ---- parents and costs
+
+-- node n is seen at p, with a parent and this cost
+pub record SeesCost (view : View) (n : ℕ) (p : Point) (cost : ℕ) : Type 0 where
+  pub stands : SeesPoint view n p
+  pub written : 2 ^ 63 ≤ sees view (TreeOf n)
+  pub cost_is : cost ≡ cost_in (sees view (TreeOf n))
+
+-- What a node at p may cost below this parent, by what was seen of it: the edge is allowed, and the cost is the parent's and the edge.
+pub record IsCostBelow (view : View) (p : Point) (parent cost : ℕ) : Type 0 where
+  pub from : Point
+  pub parent_cost : ℕ
+  pub seen : SeesCost view parent from parent_cost
+  pub edge : IsAllowedEdge (setup_in view.run) from p
+  pub cost_is : cost ≡ parent_cost + cost_of from p
+
+-- the parent and the cost that a node in hand may be placed with: it costs no more than below its nearest node
+pub record MayHang (view : View) (hand : Hand) (parent cost : ℕ) : Type 0 where
+  pub below : IsCostBelow view hand.point parent cost
+  pub nearest_at : Point
+  pub nearest_cost : ℕ
+  pub nearest : SeesCost view hand.nearest nearest_at nearest_cost
+  pub chosen : cost ≤ nearest_cost + cost_of nearest_at hand.point
+
+-- Node n may get this parent and this cost: that is less than it was seen to cost.
+pub record MayLower (view : View) (n parent cost : ℕ) : Type 0 where
+  pub at : Point
+  pub old_cost : ℕ
+  pub seen : SeesCost view n at old_cost
+  pub below : IsCostBelow view at parent cost
+  pub cheaper : cost < old_cost
+
+-- What the law says of the parent and the cost that were seen of node n. The cost is one of a tree within the limits. The start is its own
+-- parent, at no cost. The parent of any other is another node; if both are seen with their points, the edge is allowed. The cost is at most
+-- that of the first word, if that is seen.
+pub record IsSeenPair (view : View) (n : ℕ) : Type 0 where
+  pub low : cost_in (sees view (TreeOf n)) < 2 ^ 38
+  pub within : parent_in (sees view (TreeOf n)) ≤ length view.run.marks
+  pub start : n ≡ 0 → (parent_in (sees view (TreeOf n)) ≡ 0) × (cost_in (sees view (TreeOf n)) ≡ 0)
+  pub other : 0 < n → parent_in (sees view (TreeOf n)) ≢ n
+  pub edge : 0 < n → (at from : Point) → SeesPoint view n at → SeesPoint view (parent_in (sees view (TreeOf n))) from
+      → IsAllowedEdge (setup_in view.run) from at
+  pub first : 2 ^ 63 ≤ sees view (FirstOf n) → cost_in (sees view (TreeOf n)) ≤ cost_in (sees view (FirstOf n))
 
 -- ---- steps
 

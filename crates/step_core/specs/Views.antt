@@ -3,7 +3,8 @@ use Rattle.std.specs.Prelude.{◌≡◌, ℕ, ◌<◌, ◌≤◌, ◌==◌, Bool
 use Rattle.plan_model.specs.Bounds.{IsBounded}
 use Rattle.plan_model.specs.ClosedLaw.{mark_at}
 use Rattle.plan_model.specs.SeenTrees.{SeenTree}
-use Rattle.plan_model.specs.declared.limits.TheConstants.{MOST_MARKS, MOST_STRIPS, MOST_WORKERS}
+use Rattle.plan_model.specs.Textbook.{Setup}
+use Rattle.plan_model.specs.declared.limits.TheConstants.{MOST_MARKS, MOST_STEP, MOST_STRIPS, MOST_WORKERS}
 use Rattle.plan_model.specs.declared.tasks.Task.{Task}
 use Rattle.step_core.specs.SeenWords.{SeenWords, seen_tree_of_words}
 use Rattle.step_core.specs.WordNames.{Word, Words}
@@ -31,6 +32,11 @@ run_of task workers opening =
       opening = opening;
     }
 
+-- what the tree depends on besides the marks
+abbrev pub setup_in : SharedRun → Setup
+setup_in run =
+    record { space = record { room = run.room; body = run.body; obstacles = run.obstacles }; start = run.start; step = run.step; gamma = run.gamma }
+
 -- how many strips and marks it has
 abbrev pub run_sizes : SharedRun → Sizes
 run_sizes run = record { strips = run.strips; marks = length run.marks }
@@ -45,6 +51,7 @@ pub record IsSharedRun (run : SharedRun) : Type 0 where
   pub marks : length run.marks ≤ MOST_MARKS
   pub points : (k : ℕ) → IsBounded (mark_at run.marks k)
   pub start : IsBounded run.start
+  pub step : run.step ≤ MOST_STEP
   pub workers : (0 < run.workers) × (run.workers ≤ MOST_WORKERS)
   pub opening : run.opening ≤ length run.marks
 

@@ -8,16 +8,22 @@ use mathlib.Core.Option.{some}
 use Rattle.plan_model.specs.MarkPoints.{quota_of, is_claimed}
 use Rattle.plan_model.specs.declared.records.Record.{Record}
 use Rattle.plan_model.specs.Turns.{AreTurns, is_of_worker, once_if, turns_of}
+use Rattle.plan_model.specs.OrderLaw.{Hangs, KeepsFirstCosts, KeepsOrder, most_cost_of}
+use Rattle.plan_model.specs.PointsByNumber.{IsPresent, node_count}
+use Rattle.plan_model.specs.RecordLaw.{first_cost_through}
+use Rattle.plan_model.specs.SeenParents.{AreSeenLawfully}
+use Rattle.plan_model.specs.TreeStates.{TreeState}
 use Rattle.plan_model.specs.Ways.{FollowWays}
-use Rattle.step_core.specs.GrownWords.{children_of_words, has_node, is_linked, record_at}
-use Rattle.step_core.specs.SharedWords.{linked_points}
-use Rattle.step_core.specs.Stages.{has_count, has_link, has_point, holds_at}
+use Rattle.step_core.specs.GrownWords.{IsWritten, children_of_words, has_node, is_linked, record_at}
+use Rattle.step_core.specs.SharedWords.{linked_points, state_of_links}
+use Rattle.step_core.specs.Stages.{has_count, has_first, has_link, has_point, has_tree, holds_at}
+use Rattle.step_core.specs.ViewSteps.{pair_in_hand}
 use Rattle.step_core.specs.ViewTrees.{SeesTree}
-use Rattle.step_core.specs.Views.{IsSharedRun, IsViewOf, holds, run_sizes, sees, share, spent, times, took_over}
+use Rattle.step_core.specs.Views.{IsSharedRun, IsViewOf, holds, run_sizes, sees, setup_in, share, spent, times, took_over, tree_seen}
 use Rattle.step_core.specs.WordKinds.{AreBehind, HaveWholePairs}
 use Rattle.step_core.specs.WordNames.{Words}
-use Rattle.step_core.specs.Words.{FitsWord, cost_in, point_word, record_word}
-use Rattle.step_core.specs.WordNames.Word.{Count, Counter, PointOf, RecordOf, TreeOf}
+use Rattle.step_core.specs.Words.{FitsWord, cost_in, point_word, record_word, tree_word}
+use Rattle.step_core.specs.WordNames.Word.{Count, Counter, FirstOf, PointOf, RecordOf, TreeOf}
 use Rattle.step_core.specs.declared.views.Hand.{Hand}
 use Rattle.step_core.specs.declared.views.Member.{Member}
 use Rattle.step_core.specs.declared.views.SharedRun.{SharedRun}
@@ -96,6 +102,43 @@ pub record Hands (words : Words) (views : List View) : Type 0 where
       → words (PointOf (suc hand.mark)) ≡ point_word hand.point)
   pub blank : (k : ℕ) → is_recorded words k ≡ false → hands_at has_point k views ≡ 0 → words (PointOf (suc k)) ≡ 0
 
+-- ---- parents and costs
+
+-- the linked nodes with their costs and records
+abbrev pub state_in : SharedRun → Words → TreeState
+state_in run words = state_of_links (run_sizes run) words
+
+-- The linked nodes keep the order law. None costs more than by its first word, and first costs are within the bound. Their words are written
+-- as they are packed.
+pub record Trees (run : SharedRun) (words : Words) : Type 0 where
+  pub order : KeepsOrder (setup_in run) (state_in run words)
+  pub first_costs : KeepsFirstCosts (setup_in run) (state_in run words)
+  pub written : (n : ℕ) → is_linked (run_sizes run) words n ≡ true → IsWritten words n
+  pub start_first : words (FirstOf 0) ≡ tree_word 0 0
+
+-- The first word of the node in hand: the node may hang below its parent at its cost, by what the parent costs now. The cost is at most what
+-- the parent, and what the nearest node, was placed at and the edge, and within the bound if the node is linked.
+pub record IsFirstOf (run : SharedRun) (words : Words) (hand : Hand) : Type 0 where
+  pub word : words (FirstOf (suc hand.mark)) ≡ pair_in_hand hand
+  pub fits : (hand.parent < 2 ^ 18) × (hand.cost < 2 ^ 44)
+  pub hangs : Hangs (setup_in run) (state_in run words) (suc hand.mark) hand.point hand.parent hand.cost
+  pub below_first : hand.cost ≤ first_cost_through (state_in run words) hand.point hand.parent
+  pub nearest : IsPresent (linked_points (run_sizes run) words) hand.nearest
+  pub below_nearest : hand.cost ≤ first_cost_through (state_in run words) hand.point hand.nearest
+  pub bounded : hand.cost ≤ most_cost_of (setup_in run) (suc (node_count (linked_points (run_sizes run) words)))
+
+-- The first word of a mark's node is written by the hand that has the mark, and then its tree word, with the same; neither is before.
+pub record Pairs (run : SharedRun) (words : Words) (views : List View) : Type 0 where
+  pub first : EachView views (λ view. (hand : Hand) → view.hand ≡ Some hand → has_first hand.stage ≡ true → IsFirstOf run words hand)
+  pub tree : EachView views (λ view. (hand : Hand) → view.hand ≡ Some hand → has_tree hand.stage ≡ true → has_link hand.stage ≡ false
+      → words (TreeOf (suc hand.mark)) ≡ pair_in_hand hand)
+  pub no_first : (k : ℕ) → is_recorded words k ≡ false → hands_at has_first k views ≡ 0 → words (FirstOf (suc k)) ≡ 0
+  pub no_tree : (k : ℕ) → is_recorded words k ≡ false → hands_at has_tree k views ≡ 0 → words (TreeOf (suc k)) ≡ 0
+
+-- Each node may hang below the parent that a view has seen of it, at the cost that was seen, and cost no less than that when it was placed.
+abbrev pub SeenPairs : SharedRun → Words → List View → Type 0
+SeenPairs run words views = EachView views (λ view. view.run ≡ run → AreSeenLawfully (setup_in run) (tree_seen view) (state_in run words))
+
 -- ---- turns
 
 -- The member's next turn is the number of its worker's records, and the view has seen them all.
@@ -147,5 +190,8 @@ pub record IsWorld (run : SharedRun) (words : Words) (views : List View) : Type 
   pub shares : Shares run views
   pub seen : Seen words views
   pub links : Links run words views
+  pub trees : Trees run words
   pub hands : Hands words views
+  pub pairs : Pairs run words views
+  pub seen_pairs : SeenPairs run words views
   pub sights : Sights run views

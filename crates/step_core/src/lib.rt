@@ -32,6 +32,6 @@ mod world_laws;
 pub use grown::Grown;
 pub use point_words::{pack_point, point_in, read_point};
 pub use record_words::{pack_mark, read_mark};
-pub use tree_words::{pack_tree, read_tree};
+pub use tree_words::{pack_tree, pair_in, read_tree};
 pub use views::{Hand, Member, SharedRun, Stage, View};
 pub use word_places::WordPlaces;

@@ -42,3 +42,11 @@ pub(crate) fn cost_in(word: u64) -> u64
 {
     word >> COST_SHIFT & COST_MASK
 }
+
+/// The parent and the cost in a word that is written.
+pub fn pair_in(word: u64) -> (u32, u64)
+    ensures parent { result.0 ≡ parent_in word }
+    ensures cost { result.1 ≡ cost_in word }
+{
+    (parent_in(word), cost_in(word))
+}

@@ -65,6 +65,10 @@ pub struct Hand {
     pub nearest: u32,
     /// The point of its node; (0, 0) before it is written.
     pub point: Point,
+    /// The parent in the first word of its node; 0 before that is written.
+    pub parent: u32,
+    /// The cost in it, in 256ths of a lattice step; 0 before it is written.
+    pub cost: u64,
 }
 
 /// What a pass knows and has in hand.

@@ -15,19 +15,19 @@ ghost use Rattle.step_core.specs.GrownWords.{HoldRun, IsLinked, is_linked, recor
 ghost use Rattle.step_core.specs.LaterViews.{IsLater, IsLawfulView};
 ghost use Rattle.step_core.specs.ViewStarts.{newcomer};
 ghost use Rattle.step_core.specs.Stages.{MayBeRecorded};
-ghost use Rattle.step_core.specs.ViewSteps.{claimed, counted, finished, joined, linked, loaded, looker, mark_of, parted, pointed, stepped, worker_apart};
-ghost use Rattle.step_core.specs.ViewTrees.{IsOnWayOf, IsSteered, LeadsTo, MayLoad, SeesNode, sight_in};
+ghost use Rattle.step_core.specs.ViewSteps.{claimed, counted, finished, half, joined, linked, loaded, looker, lowered, mark_of, pair_in_hand, parted, pointed, stepped, treed, worker_apart};
+ghost use Rattle.step_core.specs.ViewTrees.{IsOnWayOf, IsSteered, LeadsTo, MayHang, MayLoad, MayLower, SeesNode, sight_in};
 ghost use Rattle.step_core.specs.Views.{holds, run_of, run_sizes, sees, share, spent, tree_seen};
 ghost use Rattle.step_core.specs.WordKinds.{AreBehind};
 ghost use Rattle.step_core.specs.WordNames.{Word, Words, WritesWord};
-ghost use Rattle.step_core.specs.WordNames.Word.{ChildOf, Count, Counter, PointOf, RecordOf};
+ghost use Rattle.step_core.specs.WordNames.Word.{ChildOf, Count, Counter, FirstOf, PointOf, RecordOf, TreeOf};
 ghost use Rattle.step_core.specs.WordPlaces.{word_count};
-ghost use Rattle.step_core.specs.Words.{FitsWord, point_of_word, point_word, record_word};
+ghost use Rattle.step_core.specs.Words.{FitsWord, cost_in, point_of_word, point_word, record_word, tree_of_word, tree_word};
 ghost use Rattle.step_core.specs.Worlds.{IsWorld, counters, is_recorded};
 ghost use Rattle.step_core.specs.declared.views.Hand.{Hand};
 ghost use Rattle.step_core.specs.declared.views.Member.{Member};
 ghost use Rattle.step_core.specs.declared.views.SharedRun.{SharedRun};
-ghost use Rattle.step_core.specs.declared.views.Stage.TheVariants.{Claimed, Linked, Pointed};
+ghost use Rattle.step_core.specs.declared.views.Stage.TheVariants.{Claimed, Half, Linked, Pointed, Treed};
 ghost use Rattle.step_core.specs.declared.views.View.{View};
 
 /// The words of a closed run are a lawful world with one view, which has the share of all workers and has seen all words.
@@ -47,6 +47,9 @@ pub fn loads_keep_the_law()
     // the point of a seen node is written
     ensures written { (run : SharedRun) (words : Words) (views : List View) (id : ℕ) (view : View) → IsWorld run words views
         → get_elem? views id ≡ some view → view.run ≡ run → (n : ℕ) → SeesNode view n → IsSome (point_of_word (words (PointOf n))) }
+    // and so are its parent and its cost
+    ensures written_trees { (run : SharedRun) (words : Words) (views : List View) (id : ℕ) (view : View) → IsWorld run words views
+        → get_elem? views id ≡ some view → view.run ≡ run → (n : ℕ) → SeesNode view n → IsSome (tree_of_word (words (TreeOf n))) }
 {}
 
 /// A claim keeps the law: the counter of strip `g` goes up from `c`, and the mark of that number in the strip is in hand. It is
@@ -74,11 +77,46 @@ pub fn points_keep_the_law()
         → WritesWord (PointOf (suc hand.mark)) (point_word p) words after → AreBehind words after }
 {}
 
-/// A link keeps the law. It puts the node in hand, whose point is written, into an empty child word, to which the way of the
+/// Writing the first word and then the tree word of the node in hand keeps the law. Both hold the parent and the cost that the
+/// node is placed with. The parent is seen, with an edge that is allowed; the cost is what the parent was seen to cost and the
+/// edge, and is no more than below the nearest node.
+pub fn trees_keep_the_law()
+    ensures first { (run : SharedRun) (words after : Words) (views : List View) (id : ℕ) (view : View) → IsWorld run words views
+        → get_elem? views id ≡ some view → view.run ≡ run → (hand : Hand) → view.hand ≡ Some hand → hand.stage ≡ Pointed → (parent cost : ℕ)
+        → MayHang view hand parent cost → WritesWord (FirstOf (suc hand.mark)) (tree_word parent cost) words after
+        → IsWorld run after (slice_set views id (half view hand parent cost)) }
+    ensures tree { (run : SharedRun) (words after : Words) (views : List View) (id : ℕ) (view : View) → IsWorld run words views
+        → get_elem? views id ≡ some view → view.run ≡ run → (hand : Hand) → view.hand ≡ Some hand → hand.stage ≡ Half
+        → WritesWord (TreeOf (suc hand.mark)) (pair_in_hand hand) words after → IsWorld run after (slice_set views id (treed view hand)) }
+    ensures first_words { (run : SharedRun) (words after : Words) (views : List View) (id : ℕ) (view : View) → IsWorld run words views
+        → get_elem? views id ≡ some view → view.run ≡ run → (hand : Hand) → view.hand ≡ Some hand → hand.stage ≡ Pointed → (word : ℕ)
+        → WritesWord (FirstOf (suc hand.mark)) word words after → AreBehind words after }
+    ensures tree_words { (run : SharedRun) (words after : Words) (views : List View) (id : ℕ) (view : View) → IsWorld run words views
+        → get_elem? views id ≡ some view → view.run ≡ run → (hand : Hand) → view.hand ≡ Some hand → hand.stage ≡ Half → (word : ℕ)
+        → WritesWord (TreeOf (suc hand.mark)) word words after → AreBehind words after }
+{}
+
+/// Lowering the cost of a node keeps the law. The tree word that was seen last gives way to one of strictly lower cost: that of
+/// a seen parent and the edge, which is allowed. Whatever the parent costs by now, it is no more than what was seen.
+pub fn lowers_keep_the_law()
+    ensures law { (run : SharedRun) (words after : Words) (views : List View) (id : ℕ) (view : View) → IsWorld run words views
+        → get_elem? views id ≡ some view → view.run ≡ run → 0 < share view → (n parent cost : ℕ) → MayLower view n parent cost
+        → words (TreeOf n) ≡ sees view (TreeOf n) → WritesWord (TreeOf n) (tree_word parent cost) words after
+        → IsWorld run after (slice_set views id (lowered view n parent cost)) }
+    ensures words { (run : SharedRun) (words after : Words) (views : List View) (id : ℕ) (view : View) → IsWorld run words views
+        → get_elem? views id ≡ some view → view.run ≡ run → (n parent cost : ℕ) → MayLower view n parent cost
+        → words (TreeOf n) ≡ sees view (TreeOf n) → WritesWord (TreeOf n) (tree_word parent cost) words after → AreBehind words after }
+    // one that finds another word than was seen finds a lower cost
+    ensures failed { (run : SharedRun) (words : Words) (views : List View) (id : ℕ) (view : View) → IsWorld run words views
+        → get_elem? views id ≡ some view → (n : ℕ) → 2 ^ 63 ≤ sees view (TreeOf n) → words (TreeOf n) ≢ sees view (TreeOf n)
+        → (2 ^ 63 ≤ words (TreeOf n)) × (cost_in (words (TreeOf n)) < cost_in (sees view (TreeOf n))) }
+{}
+
+/// A link keeps the law. It puts the node in hand, whose words are written, into an empty child word, to which the way of the
 /// point leads over what the view has seen. If that word is not 0, the step only loads it.
 pub fn links_keep_the_law()
     ensures law { (run : SharedRun) (words after : Words) (views : List View) (id : ℕ) (view : View) → IsWorld run words views
-        → get_elem? views id ≡ some view → view.run ≡ run → (hand : Hand) → view.hand ≡ Some hand → hand.stage ≡ Pointed → (n : ℕ) (side : Bool)
+        → get_elem? views id ≡ some view → view.run ≡ run → (hand : Hand) → view.hand ≡ Some hand → hand.stage ≡ Treed → (n : ℕ) (side : Bool)
         → LeadsTo view hand.point n side → words (ChildOf n side) ≡ 0 → WritesWord (ChildOf n side) (suc hand.mark) words after
         → IsWorld run after (slice_set views id (linked view hand n side)) }
     ensures words { (words after : Words) (n m : ℕ) (side : Bool) → words (ChildOf n side) ≡ 0 → WritesWord (ChildOf n side) m words after
@@ -161,8 +199,13 @@ pub fn steps_lead_to_later_views()
         → get_elem? views id ≡ some view → view.run ≡ run → (hand : Hand) → view.hand ≡ Some hand → (word : ℕ) → 2 ^ 63 ≤ word
         → IsLater view (finished view hand.mark word) }
     ensures point { (view : View) (hand : Hand) (m : ℕ) (p : Point) → IsLater view (pointed view hand m p) }
+    ensures first { (view : View) (hand : Hand) (parent cost : ℕ) → IsLater view (half view hand parent cost) }
+    ensures tree { (view : View) (hand : Hand) → IsLater view (treed view hand) }
+    ensures lower { (run : SharedRun) (words : Words) (views : List View) (id : ℕ) (view : View) → IsWorld run words views → get_elem? views id ≡ some view
+        → view.run ≡ run → (n parent cost : ℕ) → MayLower view n parent cost → words (TreeOf n) ≡ sees view (TreeOf n)
+        → IsLater view (lowered view n parent cost) }
     ensures link { (run : SharedRun) (words : Words) (views : List View) (id : ℕ) (view : View) → IsWorld run words views → get_elem? views id ≡ some view
-        → view.run ≡ run → (hand : Hand) → view.hand ≡ Some hand → hand.stage ≡ Pointed → (n : ℕ) (side : Bool)
+        → view.run ≡ run → (hand : Hand) → view.hand ≡ Some hand → hand.stage ≡ Treed → (n : ℕ) (side : Bool)
         → LeadsTo view hand.point n side → words (ChildOf n side) ≡ 0 → IsLater view (linked view hand n side) }
     ensures count { (view : View) (hand : Hand) → IsLater view (counted view hand) }
     ensures split { (view : View) → IsLater view (stepped view) }

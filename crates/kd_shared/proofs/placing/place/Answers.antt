@@ -3,10 +3,10 @@ use Rattle.std.specs.Prelude.{IsSome}
 use Rattle.plan_model.proofs.SamePoints.{same_point-false, same_point-true}
 use Rattle.step_core.specs.ViewTrees.{SeesPoint}
 use Rattle.step_core.specs.WordNames.Word.{ChildOf, PointOf}
-use Rattle.step_core.specs.declared.views.Stage.TheVariants.{Pointed}
+use Rattle.step_core.specs.declared.views.Stage.TheVariants.{Treed}
 use Rattle.kd_shared.proofs.Finding.{IsFinding-begins, IsFinding-comes, IsFinding-depth, IsFinding-goes_on, IsFinding-leads}
 use Rattle.kd_shared.proofs.PassLooks.{PassLooks-load, PassLooks-step, PassLooks-trans}
-use Rattle.kd_shared.proofs.PlacedNodes.{IfSome-kept, IfSome-leads, IfSome-placed, IfSome-same, PassPlaces, PassPlaces-links, PassPlaces-looks}
+use Rattle.kd_shared.proofs.PlacedNodes.{GoesOnPlacing-looks, IfSome-kept, IfSome-leads, IfSome-placed, IfSome-same, PassPlaces, PassPlaces-links, PassPlaces-looks}
 use Rattle.kd_shared.proofs.placing.place.Goals as goal
 
 pub depths-init : goal.depths-init
@@ -23,8 +23,8 @@ depths-init c =
 pub returns-then-eq-clause-belongs : goal.returns-then-eq-clause-belongs
 returns-then-eq-clause-belongs c = c.depths.invariant.passes.belongs
 
-pub returns-then-eq-clause-looks : goal.returns-then-eq-clause-looks
-returns-then-eq-clause-looks c = c.depths.invariant.passes.looks.looks
+pub returns-then-eq-clause-goes_on : goal.returns-then-eq-clause-goes_on
+returns-then-eq-clause-goes_on c = GoesOnPlacing-looks c.args.pass.now.view c.depths.pass.view c.depths.invariant.passes.looks.looks
 
 pub returns-then-eq-clause-share : goal.returns-then-eq-clause-share
 returns-then-eq-clause-share c =
@@ -48,9 +48,9 @@ link-requires-clause-belongs c = c.depths.invariant.passes.belongs
 pub link-requires-clause-hand : goal.link-requires-clause-hand
 link-requires-clause-hand c = subst IsSome (sym c.depths.invariant.passes.looks.kept.hand) c.requires.hand
 
-pub link-requires-clause-pointed : goal.link-requires-clause-pointed
-link-requires-clause-pointed c =
-    IfSome-kept c.args.pass.now.view c.depths.pass.view (λ hand. hand.stage ≡ Pointed) c.depths.invariant.passes.looks c.requires.pointed
+pub link-requires-clause-treed : goal.link-requires-clause-treed
+link-requires-clause-treed c =
+    IfSome-kept c.args.pass.now.view c.depths.pass.view (λ hand. hand.stage ≡ Treed) c.depths.invariant.passes.looks c.requires.treed
 
 pub link-requires-clause-leads : goal.link-requires-clause-leads
 link-requires-clause-leads c =
@@ -72,8 +72,8 @@ places_there c =
 pub returns-in_default-clause-belongs : goal.returns-in_default-clause-belongs
 returns-in_default-clause-belongs c = (places_there c).belongs
 
-pub returns-in_default-clause-looks : goal.returns-in_default-clause-looks
-returns-in_default-clause-looks c = (places_there c).looks
+pub returns-in_default-clause-goes_on : goal.returns-in_default-clause-goes_on
+returns-in_default-clause-goes_on c = (places_there c).goes_on
 
 pub returns-in_default-clause-share : goal.returns-in_default-clause-share
 returns-in_default-clause-share c = (places_there c).share
@@ -93,12 +93,12 @@ returns-in_default-clause-placed c =
 pub point-here-requires-in-depths-clause-belongs : goal.point-here-requires-in-depths-clause-belongs
 point-here-requires-in-depths-clause-belongs c =
     (PassLooks-step c.args.shared.now c.depths.pass c.link.new.pass (ChildOf c.depths.node c.goes_right.result) _
-    c.depths.invariant.passes.belongs c.in-Err.ensures.view_found c.link.ensures.goes_on c.link.ensures.others).belongs
+    c.depths.invariant.passes.belongs c.in-Err.ensures.view_found c.link.ensures.goes_on c.in-Err.ensures.others_found).belongs
 
 pub depths-preserved : goal.depths-preserved
 depths-preserved c =
     let fails = PassLooks-step c.args.shared.now c.depths.pass c.link.new.pass (ChildOf c.depths.node c.goes_right.result) _
-    c.depths.invariant.passes.belongs c.in-Err.ensures.view_found c.link.ensures.goes_on c.link.ensures.others in
+    c.depths.invariant.passes.belongs c.in-Err.ensures.view_found c.link.ensures.goes_on c.in-Err.ensures.others_found in
     let look = PassLooks-load c.args.shared.now c.link.new.pass c.point-here-in-depths.new.pass (PointOf c.in-Err.child) _ _
     fails.belongs tt c.point-here-in-depths.ensures.view c.point-here-in-depths.ensures.goes_on c.point-here-in-depths.ensures.seen in
     record {

@@ -1,6 +1,7 @@
 use Rattle.step_core.proofs.LaterViews.{IsLater-claimed, IsLater-finished, IsLater-joined, IsLater-loaded}
 use Rattle.step_core.proofs.LaterViews.{IsLater-parted, IsLater-refl, IsLater-stepped, IsLater-trans}
-use Rattle.step_core.proofs.LaterSteps.{IsLater-counted, IsLater-pointed}
+use Rattle.step_core.proofs.LaterSteps.{IsLater-counted, IsLater-half, IsLater-pointed, IsLater-treed}
+use Rattle.step_core.proofs.WorldLowers.{IsLater-lowered}
 use Rattle.step_core.proofs.WorldNodes.{IsLater-link}
 use Rattle.step_core.proofs.world_laws.steps_lead_to_later_views.Goals as goal
 
@@ -38,3 +39,12 @@ returns-clause-link c =
 
 pub returns-clause-count : goal.returns-clause-count
 returns-clause-count c = IsLater-counted
+
+pub returns-clause-first : goal.returns-clause-first
+returns-clause-first c = IsLater-half
+
+pub returns-clause-tree : goal.returns-clause-tree
+returns-clause-tree c = IsLater-treed
+
+pub returns-clause-lower : goal.returns-clause-lower
+returns-clause-lower c = IsLater-lowered

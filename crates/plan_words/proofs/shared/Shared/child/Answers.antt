@@ -1,3 +1,4 @@
+use Rattle.plan_words.proofs.KeptPairs.{keeps_saw}
 use Rattle.std.proofs.Common.{◌≡◌, ◌<◌, ◌≤◌, Some, ap, sym, subst, refl, ◌∙◌}
 use Rattle.std.specs.Prelude.{MatchOption, unwrap_or}
 use Rattle.plan_words.proofs.LookedNodes.{child_fits, child_found, place_here, seen_low, unwrap_or-child}
@@ -30,7 +31,7 @@ child_in-requires c =
     let own = same_run _ _ _ _ c.pass.view_is c.self.view_is c.requires.belongs in
     let seen = subst (λ p. SeesNode p.view c.args.node) (sym c.pass.view_is) c.requires.seen_node in
     let place = place_here c.self.inside.places _ c.pass.inside.seat.me.0 (ChildOf c.args.node c.args.right) _ c.self.invariant.places_are own c.child-place.ensures in
-    child_fits _ _ c.args.node c.args.right _ _ c.pass.invariant.1.lawful seen place refl c.load.ensures.2.0.goes_on.lawful
+    child_fits _ _ c.args.node c.args.right _ _ c.pass.invariant.1.lawful seen place refl c.load.ensures.2.told.goes_on.lawful
 
 pub returns-clause-seen : goal.returns-clause-seen
 returns-clause-seen c =
@@ -41,7 +42,7 @@ returns-clause-seen c =
     let word = ap (λ o. unwrap_or o 0) c.child_in.ensures ∙ unwrap_or-child c.load.result in
     subst (λ w. WritesWord (ChildOf c.args.node c.args.right) w (sees c.args.pass.now.view) (sees c.load.new.seat.me.0)) (sym word)
     (sees_told _ _ _ (ChildOf c.args.node c.args.right) _ _ (ap (λ p. p.view) c.pass.view_is) lawful (lawful.within c.args.node seen) place
-    c.load.ensures.2.0.view_is)
+    c.load.ensures.2.told.view_is)
 
 pub returns-clause-found : goal.returns-clause-found
 returns-clause-found c =
@@ -57,4 +58,12 @@ returns-clause-found c =
     (λ p. MatchOption (child_of_word c.load.result) (p.view.steps < last_zero then (ChildOf c.args.node c.args.right))
     (λ child. ((tree_seen then).child c.args.node c.args.right ≡ Some child) × SeesNode then child))
     c.pass.view_is
-    (child_found _ then c.args.node c.args.right _ _ c.pass.invariant.1.lawful seen place c.load.ensures.2.0.view_is))
+    (child_found _ then c.args.node c.args.right _ _ c.pass.invariant.1.lawful seen place c.load.ensures.2.told.view_is))
+
+pub invariant_of-pass : goal.invariant_of-pass
+invariant_of-pass c =
+    let own = same_run _ _ _ _ c.pass.view_is c.self.view_is c.requires.belongs in
+    let seen = subst (λ p. SeesNode p.view c.args.node) (sym c.pass.view_is) c.requires.seen_node in
+    let place = place_here c.self.inside.places _ c.pass.inside.seat.me.0 (ChildOf c.args.node c.args.right) _ c.self.invariant.places_are own c.child-place.ensures in
+    keeps_saw c.pass.inside.seat.me c.load.new.seat.me _ _ _ _ _ c.pass.inside.pairs.items (ChildOf c.args.node c.args.right) _ _ _ c.load.ensures.2.told
+    c.pass.invariant (c.pass.invariant.1.lawful.within c.args.node seen) place (λ n e. cc)

@@ -1,8 +1,10 @@
-use Rattle.std.proofs.Common.{◌≡◌, subst, sym, ◌∙◌}
+use Rattle.std.proofs.Common.{◌≡◌, Some, ap, refl, subst, sym, ◌∙◌}
 use Rattle.std.specs.Prelude.{IfSome}
 use Rattle.plan_words.proofs.HandSteps.{at_hand}
+use Rattle.plan_words.proofs.KeptPairs.{keeps_hand}
 use Rattle.plan_words.proofs.Owning.{may_count_here, same_run, same_table}
 use Rattle.plan_words.proofs.shared.Shared.count.Goals as goal
+use Rattle.step_core.specs.ViewSteps.{counted}
 use Rattle.step_core.specs.declared.views.Stage.TheVariants.{Linked}
 
 pub fetch_add-count-requires : goal.fetch_add-count-requires
@@ -14,3 +16,11 @@ fetch_add-count-requires c =
     let stage = at_hand (λ h. h.stage ≡ Linked) _ hand held
     (subst (λ p. IfSome p.view.hand (λ h. h.stage ≡ Linked)) (sym c.pass.view_is) c.requires.linked) in
     may_count_here _ _ _ _ c.self.invariant _ _ _ _ hand same own c.count.ensures held stage
+
+pub invariant_of-pass : goal.invariant_of-pass
+invariant_of-pass c =
+    let hand = c.in-Some.hand in
+    let held = sym c.pass.invariant.1.hand_is ∙ c.in-Some.is in
+    let me = c.pass.inside.seat.me in
+    keeps_hand me c.fetch_add-count.new.seat.me (counted me.0 hand) _ _ c.at_stage.result _ _ _ _ (c.fetch_add-count.ensures.2 hand held) c.pass.invariant refl
+    refl (ap Some (sym c.at_stage.ensures)) (λ n. refl)

@@ -1,8 +1,11 @@
-use Rattle.std.proofs.Common.{◌≡◌, ◌+◌, ◌<◌, ◌≤◌, ◌==◌, None, ap, cond, length, subst, sym}
+use Rattle.std.proofs.Common.{◌≡◌, ◌*◌, ◌+◌, ◌<◌, ◌≤◌, ◌==◌, None, Some, ap, cond, length, refl, subst, sym, ◌∙◌}
+use Rattle.std.proofs.lemmas.Bool.{eq-eqb, ne_eqb}
+use Rattle.plan_words.proofs.KeptPairs.{HasPairs-claimed, keeps_saw, keeps_view}
 use Rattle.plan_words.proofs.Owning.{may_claim_here, same_run, same_table, sees_exchanged}
 use Rattle.plan_words.proofs.shared.Shared.exchange.Goals as goal
+use Rattle.plan_words.specs.Plays.{Tells}
 use Rattle.plan_words.specs.States.{run_in}
-use Rattle.step_core.specs.ViewSteps.{mark_of}
+use Rattle.step_core.specs.ViewSteps.{claimed, mark_of, new_hand, saw_at}
 use Rattle.step_core.specs.Views.{sees, share}
 use Rattle.step_core.specs.WordNames.{WritesWord}
 use Rattle.step_core.specs.WordNames.Word.{Counter}
@@ -41,3 +44,31 @@ returns-else-found-round-clause-seen c =
     subst (λ round. WritesWord (Counter c.args.next.strip) (cond (x == round) (round + 1) x) (sees c.args.pass.now.view) (sees then)) c.from-round.ensures
     (sees_exchanged _ _ _ c.args.next.strip c.from-round.result c.args.limit _ x (ap (λ p. p.view) c.pass.view_is) c.pass.invariant.1.lawful here
     c.counter-place.ensures c.compare_exchange_with-found.ensures.2.view_is)
+
+pub invariant_of-pass : goal.invariant_of-pass
+invariant_of-pass c =
+    let own = same_run _ _ _ _ c.pass.view_is c.self.view_is c.requires.belongs in
+    let strip = subst (λ s. c.args.next.strip < s.task.scene.strips) (sym c.self.view_is) c.requires.strip in
+    let here = subst (λ r. c.args.next.strip < r.strips) (sym own) strip in
+    let me = c.pass.inside.seat.me in
+    let after = c.compare_exchange_with-found.new.seat.me in
+    let x = c.compare_exchange_with-found.result in
+    let then = claimed me.0 c.args.next.strip c.from-round.result c.args.limit in
+    let told = subst (λ b. Tells me (cond b then (saw_at me.0 c.counter-place.result x x)) after) (eq-eqb x c.from-round.result c.if-found-round.true)
+    c.compare_exchange_with-found.ensures.2 in
+    keeps_view me after then _ _ _ _ _ _ _ c.pass.inside.pairs.items _ told c.pass.invariant refl c.pass.invariant.1.member_is
+    (ap (λ k. Some (new_hand k)) (ap (λ n. n * c.self.inside.task.scene.strips + c.args.next.strip) (sym c.from-round.ensures)
+    ∙ ap (λ r. c.from-round.result * r.strips + c.args.next.strip) (sym own)))
+    (HasPairs-claimed me.0 c.pass.inside.pairs.items c.args.next.strip c.from-round.result c.args.limit c.pass.invariant.1.lawful here)
+
+pub invariant_of-pass-else-found-round : goal.invariant_of-pass-else-found-round
+invariant_of-pass-else-found-round c =
+    let own = same_run _ _ _ _ c.pass.view_is c.self.view_is c.requires.belongs in
+    let strip = subst (λ s. c.args.next.strip < s.task.scene.strips) (sym c.self.view_is) c.requires.strip in
+    let here = subst (λ r. c.args.next.strip < r.strips) (sym own) strip in
+    let me = c.pass.inside.seat.me in
+    let after = c.compare_exchange_with-found.new.seat.me in
+    let x = c.compare_exchange_with-found.result in
+    let told = subst (λ b. Tells me (cond b (claimed me.0 c.args.next.strip c.from-round.result c.args.limit) (saw_at me.0 c.counter-place.result x x)) after)
+    (ne_eqb x c.from-round.result c.if-found-round.false) c.compare_exchange_with-found.ensures.2 in
+    keeps_saw me after _ _ _ _ _ c.pass.inside.pairs.items (Counter c.args.next.strip) _ _ _ told c.pass.invariant here c.counter-place.ensures (λ n e. cc)

@@ -1,9 +1,12 @@
-use Rattle.std.proofs.Common.{◌<◌, length, ap, subst, sym, ◌∙◌}
+use Rattle.std.proofs.Common.{◌<◌, length, refl, ap, subst, sym, ◌∙◌}
+use Rattle.plan_words.proofs.KeptPairs.{HasPairs-finished, keeps_view, turned-first}
+use Rattle.plan_words.proofs.LookedNodes.{place_here}
 use Rattle.plan_words.proofs.Owning.{may_finish_here, same_run, same_table}
 use Rattle.plan_words.proofs.Tying.{HasMember-held, entry_fits, turn_fits}
 use Rattle.plan_words.proofs.shared.Shared.finish.Goals as goal
-use Rattle.plan_words.specs.States.{turn_of, worker_of}
+use Rattle.plan_words.specs.States.{turn_of, turned, worker_of}
 use Rattle.std.specs.Prelude.{IfSome}
+use Rattle.step_core.specs.ViewSteps.{finished_at}
 use Rattle.step_core.specs.Stages.{MayBeRecorded}
 use Rattle.step_core.specs.WordNames.Word.{RecordOf}
 use Rattle.step_core.specs.WordPlaces.{place_of}
@@ -35,3 +38,15 @@ pub next_turn-pass-inside-requires : goal.next_turn-pass-inside-requires
 next_turn-pass-inside-requires c =
     let tied = c.pass.invariant.1 in
     turn_fits _ c.in-Some.hand _ tied.lawful (sym tied.hand_is ∙ c.in-Some.is) tied.member_is
+
+pub invariant_of-pass : goal.invariant_of-pass
+invariant_of-pass c =
+    let own = same_run _ _ _ _ c.pass.view_is c.self.view_is c.requires.belongs in
+    let me = c.pass.inside.seat.me in
+    let tied = c.pass.invariant.1 in
+    let hand = c.in-Some.hand in
+    let held = sym tied.hand_is ∙ c.in-Some.is in
+    let place = place_here c.self.inside.places _ me.0 (RecordOf hand.mark) _ c.self.invariant.places_are own c.record-place.ensures in
+    keeps_view me c.store.new.seat.me (finished_at me.0 c.record-place.result c.pack_mark.result) _ _ _ _ _ _ _ c.pass.inside.pairs.items _ c.store.ensures.2
+    c.pass.invariant refl (c.next_turn-pass-inside.ensures ∙ ap turned tied.member_is ∙ turned-first me.0.crew) refl
+    (HasPairs-finished me.0 c.pass.inside.pairs.items hand.mark _ _ tied.lawful (tied.lawful.mark hand held) place)

@@ -1,9 +1,12 @@
 use Rattle.std.proofs.Common.{◌+◌, None, Some, ap, subst, sym, ◌∙◌}
+use Rattle.plan_words.proofs.KeptPairs.{HasPairs-kept}
 use Rattle.plan_words.proofs.Owning.{may_hand_on_here, same_run, same_table}
 use Rattle.plan_words.proofs.Tying.{HasRoom-kept, HasRoom-new, IsTied-apart, IsTied-parted}
 use Rattle.plan_words.proofs.shared.Shared.hand_on.Goals as goal
-use Rattle.plan_words.specs.States.{IsTied}
+use Rattle.plan_words.specs.States.{HasPairs, IsTied}
 use Rattle.step_core.specs.ViewSteps.{second_alone}
+use Rattle.step_core.specs.Views.{sees}
+use Rattle.step_core.specs.WordNames.Word.{TreeOf}
 
 pub split_seat-seat-requires : goal.split_seat-seat-requires
 split_seat-seat-requires c =
@@ -17,6 +20,7 @@ invariant_of-pass c =
       ap (λ m. m.1) told ∙ c.pass.invariant.0,
       subst (λ v. IsTied v c.pass.inside.member c.pass.inside.hand) (sym (ap (λ m. m.0) told)) (IsTied-parted _ _ _ c.pass.invariant.1),
       HasRoom-kept _ _ _ _ _ (ap (λ m. m.0.run) told) c.pass.invariant.2,
+      HasPairs-kept _ _ _ (ap (λ m. m.0.run) told) (λ n. ap (λ m. sees m.0 (TreeOf n)) told) c.pass.invariant.3,
     )
 
 pub invariant_of-result : goal.invariant_of-result
@@ -29,4 +33,5 @@ invariant_of-result c =
           (IsTied-apart _ _ c.pass.invariant.1.lawful second),
       HasRoom-new c.self.inside.places _ _ _ _ _ _ c.self.invariant.places_are (ap (λ m. m.0.run) told ∙ own) (ap (λ n. n + 1) c.marks.ensures)
           c.in_ok-scratch.ensures.room,
+      subst (HasPairs _) (sym (c.in_ok-pairs.ensures.items ∙ c.as_slice.ensures.value)) (HasPairs-kept _ _ _ (ap (λ m. m.0.run) told) (λ n. ap (λ m. sees m.0 (TreeOf n)) told) c.pass.invariant.3),
     )

@@ -1,7 +1,10 @@
-use Rattle.std.proofs.Common.{◌≡◌, None, ap, subst, sym, ◌∙◌}
-use Rattle.plan_words.proofs.Joining.{GoesOn-taken_over}
+use Rattle.std.proofs.Common.{◌≡◌, ◌+◌, None, length, ap, subst, sym, ◌∙◌}
+use Rattle.std.specs.Prelude.{is_some, not, slice_index}
+use Rattle.plan_words.proofs.Joining.{GoesOn-taken_over, first-own, first-theirs, keeps_taken_over, none-member}
 use Rattle.plan_words.proofs.Owning.{may_load_here, may_take_over_here, same_run, same_table}
 use Rattle.plan_words.proofs.shared.Shared.join.Goals as goal
+use Rattle.step_core.specs.WordKinds.{later_word}
+use Rattle.step_core.specs.WordKinds.WordKind.{Falling}
 use Rattle.step_core.specs.WordNames.Word.{Count}
 
 pub join_seat-requires : goal.join_seat-requires
@@ -24,9 +27,44 @@ load-count-requires c =
 pub returns-then-is_none-clause-goes_on : goal.returns-then-is_none-clause-goes_on
 returns-then-is_none-clause-goes_on c =
     GoesOn-taken_over _ _ c.other.inside.seat.me.0 c.pass.inside.seat.me _ _ c.pass.invariant.1.lawful c.pass.view_is c.join_seat.ensures.2
-    c.load-count.ensures.2.0
+    c.load-count.ensures.2.told
 
 pub returns-clause-goes_on : goal.returns-clause-goes_on
 returns-clause-goes_on c =
     GoesOn-taken_over _ _ c.other.inside.seat.me.0 c.pass.inside.seat.me _ _ c.pass.invariant.1.lawful c.pass.view_is c.join_seat.ensures.2
-    c.load-count.ensures.2.0
+    c.load-count.ensures.2.told
+
+pub take_cheaper-requires : goal.take_cheaper-requires
+take_cheaper-requires c =
+    let own = same_run _ _ _ _ c.pass.view_is c.self.view_is c.requires.belongs in
+    let own_too = same_run _ _ _ _ c.other.view_is c.self.view_is c.requires.belongs_too in
+    ap (λ l. length l) c.as_slice.ensures.value ∙ c.other.invariant.3.for_each ∙ ap (λ r. length r.marks + 1) (own_too ∙ sym own) ∙ sym c.pass.invariant.3.for_each
+
+pub invariant_of-pass : goal.invariant_of-pass
+invariant_of-pass c =
+    let own = same_run _ _ _ _ c.pass.view_is c.self.view_is c.requires.belongs in
+    let own_too = same_run _ _ _ _ c.other.view_is c.self.view_is c.requires.belongs_too in
+    let none = none-member c.pass.inside.member (c.is_none.ensures ∙ ap not c.if-is_none.true) in
+    let place = c.count.ensures in
+    keeps_taken_over c.pass.inside.seat.me c.join_seat.new.seat.me c.load-count.new.seat.me c.other.inside.seat.me.0 _ _ _ _ _ _ c.pass.inside.pairs.items
+    c.other.inside.pairs.items c.take_cheaper.new.pairs.items _ _ c.join_seat.ensures.2 c.load-count.ensures.2.told place c.pass.invariant (own_too ∙ sym own)
+    c.other.invariant.3
+    (c.other.invariant.1.member_is
+    ∙ sym (first-theirs c.pass.inside.seat.me.0.crew c.other.inside.seat.me.0.crew (sym c.pass.invariant.1.member_is ∙ none)))
+    c.take_cheaper.ensures.as_many
+    (λ n low. c.take_cheaper.ensures.each n low
+    ∙ ap (λ l. later_word Falling (slice_index c.pass.inside.pairs.items n) (slice_index l n)) c.as_slice.ensures.value)
+
+pub invariant_of-pass-else-is_none : goal.invariant_of-pass-else-is_none
+invariant_of-pass-else-is_none c =
+    let own = same_run _ _ _ _ c.pass.view_is c.self.view_is c.requires.belongs in
+    let own_too = same_run _ _ _ _ c.other.view_is c.self.view_is c.requires.belongs_too in
+    let some_member = c.is_none.ensures ∙ ap not c.if-is_none.false in
+    keeps_taken_over c.pass.inside.seat.me c.join_seat.new.seat.me c.load-count.new.seat.me c.other.inside.seat.me.0 _ _ _ _ _ _ c.pass.inside.pairs.items
+    c.other.inside.pairs.items c.take_cheaper.new.pairs.items _ _ c.join_seat.ensures.2 c.load-count.ensures.2.told c.count.ensures c.pass.invariant
+    (own_too ∙ sym own) c.other.invariant.3
+    (c.pass.invariant.1.member_is
+    ∙ sym (first-own c.pass.inside.seat.me.0.crew c.other.inside.seat.me.0.crew (ap is_some (sym c.pass.invariant.1.member_is) ∙ some_member)))
+    c.take_cheaper.ensures.as_many
+    (λ n low. c.take_cheaper.ensures.each n low
+    ∙ ap (λ l. later_word Falling (slice_index c.pass.inside.pairs.items n) (slice_index l n)) c.as_slice.ensures.value)

@@ -1,7 +1,7 @@
 use Rattle.std.proofs.Common.{◌≡◌, ap, subst, suc, sym}
 use Rattle.std.specs.Prelude.{◌==◌, IfSome, cond}
 use Rattle.plan_words.proofs.GoingOn.{GoesOn-trans}
-use Rattle.plan_words.proofs.HandSteps.{ChangesOnly-linked, ChangesOnly-met, IsLinkedAt-counted, at_hand}
+use Rattle.plan_words.proofs.HandSteps.{ChangesOnly-linked, ChangesOnly-met, ChangesOnly-met_node, IsLinkedAt-counted, at_hand}
 use Rattle.plan_words.proofs.HandSteps.{child_met, leads_seen, linked_view, met_view, some_hand}
 use Rattle.plan_words.proofs.shared.Shared.link.Goals as goal
 use Rattle.plan_words.specs.Nodes.{IsLinkedAt, LeadsOn}
@@ -9,7 +9,7 @@ use Rattle.plan_words.specs.States.{with_view}
 use Rattle.step_core.specs.ViewSteps.{counted, linked, loaded}
 use Rattle.step_core.specs.ViewTrees.{LeadsTo}
 use Rattle.step_core.specs.WordNames.Word.{ChildOf}
-use Rattle.step_core.specs.declared.views.Stage.TheVariants.{Pointed}
+use Rattle.step_core.specs.declared.views.Stage.TheVariants.{Treed}
 use Rattle.step_core.proofs.LinkedWays.{IsOnWayOf-found}
 
 pub returns-then-child-ne0-clause-found : goal.returns-then-child-ne0-clause-found
@@ -50,6 +50,19 @@ returns-then-child-ne0-clause-others c =
     let made = at_hand
     (λ h. c.put-child.new.pass ≡ with_view pass (cond (found == 0) (linked pass.view h c.args.node c.args.right) (loaded pass.view (ChildOf c.args.node c.args.right) found)))
     _ of.0 of.1 c.put-child.ensures.view in
+    ChangesOnly-met_node pass.view _ c.args.node c.args.right found lawful (leads_seen pass.view of.0 c.args.node c.args.right lawful leads) c.if-child-ne0.true
+    (met_view pass c.put-child.new.pass of.0 c.args.node c.args.right found c.if-child-ne0.true made)
+
+pub returns-then-child-ne0-clause-others_found : goal.returns-then-child-ne0-clause-others_found
+returns-then-child-ne0-clause-others_found c =
+    let pass = c.args.pass.now in
+    let found = c.put-child.result in
+    let of = some_hand pass.view.hand c.requires.hand in
+    let leads = at_hand (λ h. LeadsTo pass.view h.point c.args.node c.args.right) _ of.0 of.1 c.requires.leads in
+    let lawful = c.put-child.ensures.goes_on.was_lawful in
+    let made = at_hand
+    (λ h. c.put-child.new.pass ≡ with_view pass (cond (found == 0) (linked pass.view h c.args.node c.args.right) (loaded pass.view (ChildOf c.args.node c.args.right) found)))
+    _ of.0 of.1 c.put-child.ensures.view in
     ChangesOnly-met pass.view _ c.args.node c.args.right found lawful (leads_seen pass.view of.0 c.args.node c.args.right lawful leads) c.if-child-ne0.true
     (met_view pass c.put-child.new.pass of.0 c.args.node c.args.right found c.if-child-ne0.true made)
 
@@ -60,7 +73,7 @@ pub returns-clause-linked : goal.returns-clause-linked
 returns-clause-linked c =
     let pass = c.args.pass.now in
     let of = some_hand pass.view.hand c.requires.hand in
-    let stage = at_hand (λ h. h.stage ≡ Pointed) _ of.0 of.1 c.requires.pointed in
+    let stage = at_hand (λ h. h.stage ≡ Treed) _ of.0 of.1 c.requires.treed in
     let leads = at_hand (λ h. LeadsTo pass.view h.point c.args.node c.args.right) _ of.0 of.1 c.requires.leads in
     let whole = linked_view pass c.put-child.new.pass c.count.new.pass c.args.node c.args.right c.put-child.result c.if-child-ne0.false
     c.put-child.ensures.view c.count.ensures.view in
@@ -73,7 +86,7 @@ pub returns-clause-on_way : goal.returns-clause-on_way
 returns-clause-on_way c =
     let pass = c.args.pass.now in
     let of = some_hand pass.view.hand c.requires.hand in
-    let stage = at_hand (λ h. h.stage ≡ Pointed) _ of.0 of.1 c.requires.pointed in
+    let stage = at_hand (λ h. h.stage ≡ Treed) _ of.0 of.1 c.requires.treed in
     let leads = at_hand (λ h. LeadsTo pass.view h.point c.args.node c.args.right) _ of.0 of.1 c.requires.leads in
     let whole = linked_view pass c.put-child.new.pass c.count.new.pass c.args.node c.args.right c.put-child.result c.if-child-ne0.false
     c.put-child.ensures.view c.count.ensures.view in
@@ -88,7 +101,7 @@ pub returns-clause-others : goal.returns-clause-others
 returns-clause-others c =
     let pass = c.args.pass.now in
     let of = some_hand pass.view.hand c.requires.hand in
-    let stage = at_hand (λ h. h.stage ≡ Pointed) _ of.0 of.1 c.requires.pointed in
+    let stage = at_hand (λ h. h.stage ≡ Treed) _ of.0 of.1 c.requires.treed in
     let leads = at_hand (λ h. LeadsTo pass.view h.point c.args.node c.args.right) _ of.0 of.1 c.requires.leads in
     let whole = linked_view pass c.put-child.new.pass c.count.new.pass c.args.node c.args.right c.put-child.result c.if-child-ne0.false
     c.put-child.ensures.view c.count.ensures.view in

@@ -1,3 +1,4 @@
+use Rattle.plan_words.proofs.KeptPairs.{keeps_saw}
 use Rattle.std.proofs.Common.{ap, arith}
 use Rattle.plan_words.proofs.Owning.{count_fits, may_load_here, sees_told, same_run, same_table}
 use Rattle.plan_words.proofs.shared.Shared.number.Goals as goal
@@ -10,8 +11,13 @@ load-requires c =
     may_load_here _ _ _ _ c.self.invariant _ _ _ _ Count same own tt tt c.count.ensures
 
 pub overflow_cast-result : goal.overflow_cast-result
-overflow_cast-result c = omega (arith, count_fits _ _ _ c.pass.invariant.1.lawful c.count.ensures c.load.ensures.2.0.goes_on.lawful)
+overflow_cast-result c = omega (arith, count_fits _ _ _ c.pass.invariant.1.lawful c.count.ensures c.load.ensures.2.told.goes_on.lawful)
 
 pub returns-clause-seen : goal.returns-clause-seen
 returns-clause-seen c =
-    sees_told _ _ _ Count _ _ (ap (λ p. p.view) c.pass.view_is) c.pass.invariant.1.lawful tt c.count.ensures c.load.ensures.2.0.view_is
+    sees_told _ _ _ Count _ _ (ap (λ p. p.view) c.pass.view_is) c.pass.invariant.1.lawful tt c.count.ensures c.load.ensures.2.told.view_is
+
+pub invariant_of-pass : goal.invariant_of-pass
+invariant_of-pass c =
+    keeps_saw c.pass.inside.seat.me c.load.new.seat.me _ _ _ _ _ c.pass.inside.pairs.items Count _ _ _ c.load.ensures.2.told c.pass.invariant tt
+    c.count.ensures (λ n e. cc)

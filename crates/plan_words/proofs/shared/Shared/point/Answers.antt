@@ -1,3 +1,4 @@
+use Rattle.plan_words.proofs.KeptPairs.{keeps_saw}
 use Rattle.std.proofs.Common.{◌≤◌, ap, sym, subst, ◌∙◌}
 use Rattle.plan_words.proofs.LookedNodes.{place_here, point_found, point_word_seen, seen_low}
 use Rattle.plan_words.proofs.Owning.{may_load_here, same_run, same_table, sees_told, with_view_told}
@@ -32,10 +33,10 @@ returns-clause-view c =
     let place = place_here c.self.inside.places _ c.pass.inside.seat.me.0 (PointOf c.args.node) _ c.self.invariant.places_are own c.point-place.ensures in
     let told = c.load.ensures.2 in
     let x = c.load.result in
-    let word = point_word_seen _ c.load.new.seat.me.0 c.args.node _ x c.pass.invariant.1.lawful seen place told.0.view_is told.1 in
+    let word = point_word_seen _ c.load.new.seat.me.0 c.args.node _ x c.pass.invariant.1.lawful seen place told.told.view_is told.point in
     let then = c.load.new.seat.me.0 in
     with_view_told _ _ _ then (λ v. loaded v (PointOf c.args.node) (sees then (PointOf c.args.node))) c.pass.view_is c.load.ensures.0
-    (told.0.view_is ∙ ap (λ n. saw_at c.pass.inside.seat.me.0 n x x) place ∙ ap (λ w. loaded c.pass.inside.seat.me.0 (PointOf c.args.node) w) (sym word))
+    (told.told.view_is ∙ ap (λ n. saw_at c.pass.inside.seat.me.0 n x x) place ∙ ap (λ w. loaded c.pass.inside.seat.me.0 (PointOf c.args.node) w) (sym word))
 
 pub returns-clause-seen : goal.returns-clause-seen
 returns-clause-seen c =
@@ -44,9 +45,9 @@ returns-clause-seen c =
     let lawful = c.pass.invariant.1.lawful in
     let place = place_here c.self.inside.places _ c.pass.inside.seat.me.0 (PointOf c.args.node) _ c.self.invariant.places_are own c.point-place.ensures in
     let told = c.load.ensures.2 in
-    let word = point_word_seen _ c.load.new.seat.me.0 c.args.node _ _ lawful seen place told.0.view_is told.1 in
+    let word = point_word_seen _ c.load.new.seat.me.0 c.args.node _ _ lawful seen place told.told.view_is told.point in
     subst (λ w. WritesWord (PointOf c.args.node) w (sees c.args.pass.now.view) (sees c.load.new.seat.me.0)) (sym word)
-    (sees_told _ _ _ (PointOf c.args.node) _ _ (ap (λ p. p.view) c.pass.view_is) lawful (lawful.within c.args.node seen) place told.0.view_is)
+    (sees_told _ _ _ (PointOf c.args.node) _ _ (ap (λ p. p.view) c.pass.view_is) lawful (lawful.within c.args.node seen) place told.told.view_is)
 
 pub returns-clause-found : goal.returns-clause-found
 returns-clause-found c =
@@ -55,7 +56,15 @@ returns-clause-found c =
     let place = place_here c.self.inside.places _ c.pass.inside.seat.me.0 (PointOf c.args.node) _ c.self.invariant.places_are own c.point-place.ensures in
     let told = c.load.ensures.2 in
     subst (λ p. SeesPoint c.load.new.seat.me.0 c.args.node p) (sym c.point_in.ensures)
-    (point_found _ c.load.new.seat.me.0 c.args.node _ _ c.pass.invariant.1.lawful seen place told.0.view_is told.1)
+    (point_found _ c.load.new.seat.me.0 c.args.node _ _ c.pass.invariant.1.lawful seen place told.told.view_is told.point)
 
 pub returns-clause-bounded : goal.returns-clause-bounded
 returns-clause-bounded c = IsBounded-seen c.load.new.seat.me.0 c.args.node _ (returns-clause-found c)
+
+pub invariant_of-pass : goal.invariant_of-pass
+invariant_of-pass c =
+    let own = same_run _ _ _ _ c.pass.view_is c.self.view_is c.requires.belongs in
+    let seen = subst (λ p. SeesNode p.view c.args.node) (sym c.pass.view_is) c.requires.seen_node in
+    let place = place_here c.self.inside.places _ c.pass.inside.seat.me.0 (PointOf c.args.node) _ c.self.invariant.places_are own c.point-place.ensures in
+    keeps_saw c.pass.inside.seat.me c.load.new.seat.me _ _ _ _ _ c.pass.inside.pairs.items (PointOf c.args.node) _ _ _ c.load.ensures.2.told c.pass.invariant
+    (c.pass.invariant.1.lawful.within c.args.node seen) place (λ n e. cc)

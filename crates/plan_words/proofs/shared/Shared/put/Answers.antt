@@ -1,14 +1,20 @@
-use Rattle.std.proofs.Common.{◌≡◌, suc, ◌≤◌, ap, arith, refl, subst, sym, ◌∙◌}
+use Rattle.std.proofs.Common.{◌≡◌, ◌≤◌, Some, ap, arith, cond, refl, subst, sym, ◌∙◌}
+use Rattle.std.proofs.lemmas.Bool.{eq-eqb, ne_eqb}
 use Rattle.std.specs.Prelude.{IfSome}
-use Rattle.plan_words.proofs.HandSteps.{at_hand, keeps_tried, leads_seen, tried_fits}
+use Rattle.plan_words.proofs.HandSteps.{at_hand, leads_seen, tried_fits}
+use Rattle.plan_words.proofs.KeptPairs.{HasPairs-linked, HasPairs-saw, keeps_view}
 use Rattle.plan_words.proofs.LookedNodes.{place_here, seen_low}
 use Rattle.plan_words.proofs.Owning.{may_link_here, same_run, same_table, tells_on}
 use Rattle.plan_words.proofs.shared.Shared.put.Goals as goal
-use Rattle.step_core.specs.ViewSteps.{place_in}
+use Rattle.plan_words.proofs.shared.Shared.put.Goals.{else-found-eq0, then-found-eq0}
+use Rattle.plan_words.specs.States.{GoesOn}
+use Rattle.plan_words.specs.Plays.{Tells}
+use Rattle.step_core.specs.Stages.{has_first}
+use Rattle.step_core.specs.ViewSteps.{linked_at, saw_at}
 use Rattle.step_core.specs.ViewTrees.{LeadsTo}
-use Rattle.step_core.specs.WordNames.Word.{ChildOf, PointOf}
+use Rattle.step_core.specs.WordNames.Word.{ChildOf}
 use Rattle.step_core.specs.WordPlaces.{place_of}
-use Rattle.step_core.specs.declared.views.Stage.TheVariants.{Pointed}
+use Rattle.step_core.specs.declared.views.Stage.TheVariants.{Linked, Treed}
 
 pub child-place-requires : goal.child-place-requires
 child-place-requires c =
@@ -29,27 +35,14 @@ compare_exchange-found-requires c =
     let hand = c.in-Some.hand in
     let tied = c.pass.invariant.1 in
     let held = sym tied.hand_is ∙ c.in-Some.is in
-    let stage = at_hand (λ h. h.stage ≡ Pointed) _ hand held
-    (subst (λ p. IfSome p.view.hand (λ h. h.stage ≡ Pointed)) (sym c.pass.view_is) c.requires.pointed) in
+    let stage = at_hand (λ h. h.stage ≡ Treed) _ hand held
+    (subst (λ p. IfSome p.view.hand (λ h. h.stage ≡ Treed)) (sym c.pass.view_is) c.requires.treed) in
     let leads = at_hand (λ h. LeadsTo view h.point c.args.node c.args.right) _ hand held
     (subst (λ p. IfSome p.view.hand (λ h. LeadsTo p.view h.point c.args.node c.args.right)) (sym c.pass.view_is) c.requires.leads) in
     let seen = leads_seen view hand c.args.node c.args.right tied.lawful leads in
     let low = seen_low _ _ c.args.node tied.lawful own seen in
     let place = c.child-place.ensures ∙ ap (λ s. place_of s (ChildOf c.args.node c.args.right)) c.self.invariant.places_are in
     may_link_here _ _ _ _ c.self.invariant _ _ _ _ _ hand c.args.node c.args.right same own low place held stage leads seen c.from.ensures
-
-pub invariant_of-pass : goal.invariant_of-pass
-invariant_of-pass c =
-    let me = c.pass.inside.seat.me in
-    let after = c.compare_exchange-found.new.seat.me in
-    let hand = c.in-Some.hand in
-    let held = sym c.pass.invariant.1.hand_is ∙ c.in-Some.is in
-    let found = c.compare_exchange-found.result in
-    let told = c.compare_exchange-found.ensures.2 hand held in
-    let place = c.child-place.result in
-    let point_place = place_in me.0 (PointOf (suc hand.mark)) in
-    keeps_tried me.0 hand place point_place found held me after c.pass.inside.member c.pass.inside.hand c.after_link.result _ _ _ refl told c.pass.invariant
-    c.after_link.ensures
 
 pub overflow_cast-result : goal.overflow_cast-result
 overflow_cast-result c =
@@ -63,10 +56,70 @@ overflow_cast-result c =
     let seen = leads_seen view hand c.args.node c.args.right tied.lawful leads in
     let place = place_here c.self.inside.places _ view (ChildOf c.args.node c.args.right) _ c.self.invariant.places_are own c.child-place.ensures in
     let told = c.compare_exchange-found.ensures.2 hand held in
-    omega (arith, tried_fits view hand _ _ _ held c.args.node c.args.right tied.lawful seen place told.goes_on.lawful)
+    omega (arith, tried_fits view hand _ _ held c.args.node c.args.right tied.lawful seen place told.goes_on.lawful)
+
+pub pack_tree-requires-clause-parent : goal.pack_tree-requires-clause-parent
+pack_tree-requires-clause-parent c =
+    let held = sym c.pass.invariant.1.hand_is ∙ c.in-Some.is in
+    let stage = at_hand (λ h. h.stage ≡ Treed) _ c.in-Some.hand held
+    (subst (λ p. IfSome p.view.hand (λ h. h.stage ≡ Treed)) (sym c.pass.view_is) c.requires.treed) in
+    omega (arith, (c.pass.invariant.1.lawful.pair_fits c.in-Some.hand held (ap has_first stage)).0)
+
+pub pack_tree-requires-clause-cost : goal.pack_tree-requires-clause-cost
+pack_tree-requires-clause-cost c =
+    let held = sym c.pass.invariant.1.hand_is ∙ c.in-Some.is in
+    let stage = at_hand (λ h. h.stage ≡ Treed) _ c.in-Some.hand held
+    (subst (λ p. IfSome p.view.hand (λ h. h.stage ≡ Treed)) (sym c.pass.view_is) c.requires.treed) in
+    omega (arith, (c.pass.invariant.1.lawful.pair_fits c.in-Some.hand held (ap has_first stage)).1)
+
+pub invariant_of-pass : goal.invariant_of-pass
+invariant_of-pass c =
+    let own = same_run _ _ _ _ c.pass.view_is c.self.view_is c.requires.belongs in
+    let me = c.pass.inside.seat.me in
+    let after = c.compare_exchange-found.new.seat.me in
+    let hand = c.in-Some.hand in
+    let tied = c.pass.invariant.1 in
+    let held = sym tied.hand_is ∙ c.in-Some.is in
+    let found = c.compare_exchange-found.result in
+    let leads = at_hand (λ h. LeadsTo me.0 h.point c.args.node c.args.right) _ hand held
+    (subst (λ p. IfSome p.view.hand (λ h. LeadsTo p.view h.point c.args.node c.args.right)) (sym c.pass.view_is) c.requires.leads) in
+    let seen = leads_seen me.0 hand c.args.node c.args.right tied.lawful leads in
+    let place = place_here c.self.inside.places _ me.0 (ChildOf c.args.node c.args.right) _ c.self.invariant.places_are own c.child-place.ensures in
+    let none = eq-eqb found 0 c.if-found-eq0.true in
+    let told = subst (λ b. Tells me (cond b (linked_at me.0 hand c.child-place.result) (saw_at me.0 c.child-place.result found found)) after) none
+    (c.compare_exchange-found.ensures.2 hand held) in
+    keeps_view me after (linked_at me.0 hand c.child-place.result) _ _ _ _ _ _ _ c.pass.inside.pairs.items _ told c.pass.invariant refl tied.member_is
+    (ap Some (c.after_link.ensures ∙ ap (λ b. cond b (record hand { stage = Linked }) hand) none))
+    (HasPairs-linked me.0 hand c.args.node c.args.right _ c.pass.inside.pairs.items c.pack_tree.result tied.lawful held (tied.lawful.within c.args.node seen)
+    place c.pack_tree.ensures)
+
+pub invariant_of-pass-else-found-eq0 : goal.invariant_of-pass-else-found-eq0
+invariant_of-pass-else-found-eq0 c =
+    let own = same_run _ _ _ _ c.pass.view_is c.self.view_is c.requires.belongs in
+    let me = c.pass.inside.seat.me in
+    let after = c.compare_exchange-found.new.seat.me in
+    let hand = c.in-Some.hand in
+    let tied = c.pass.invariant.1 in
+    let held = sym tied.hand_is ∙ c.in-Some.is in
+    let found = c.compare_exchange-found.result in
+    let leads = at_hand (λ h. LeadsTo me.0 h.point c.args.node c.args.right) _ hand held
+    (subst (λ p. IfSome p.view.hand (λ h. LeadsTo p.view h.point c.args.node c.args.right)) (sym c.pass.view_is) c.requires.leads) in
+    let seen = leads_seen me.0 hand c.args.node c.args.right tied.lawful leads in
+    let place = place_here c.self.inside.places _ me.0 (ChildOf c.args.node c.args.right) _ c.self.invariant.places_are own c.child-place.ensures in
+    let some_child = ne_eqb found 0 c.if-found-eq0.false in
+    let told = subst (λ b. Tells me (cond b (linked_at me.0 hand c.child-place.result) (saw_at me.0 c.child-place.result found found)) after) some_child
+    (c.compare_exchange-found.ensures.2 hand held) in
+    keeps_view me after (saw_at me.0 c.child-place.result found found) _ _ _ _ _ _ _ c.pass.inside.pairs.items _ told c.pass.invariant refl tied.member_is
+    (ap Some (c.after_link.ensures ∙ ap (λ b. cond b (record hand { stage = Linked }) hand) some_child) ∙ sym held)
+    (HasPairs-saw me.0 (saw_at me.0 c.child-place.result found found) c.pass.inside.pairs.items (ChildOf c.args.node c.args.right) _ _ _ tied.lawful
+    (tied.lawful.within c.args.node seen) place refl (λ m e. cc))
 
 pub returns-clause-goes_on : goal.returns-clause-goes_on
 returns-clause-goes_on c =
     let held = sym c.pass.invariant.1.hand_is ∙ c.in-Some.is in
     let told = c.compare_exchange-found.ensures.2 c.in-Some.hand held in
-    tells_on _ c.pass.inside.seat.me c.compare_exchange-found.new.seat.me _ (ap (λ p. p.view) c.pass.view_is) told
+    let on = tells_on _ c.pass.inside.seat.me c.compare_exchange-found.new.seat.me _ (ap (λ p. p.view) c.pass.view_is) told in
+    elim c.if-found-eq0.branch [
+      | then-found-eq0 w ↦ subst (λ p. GoesOn c.args.pass.now.view p.view) (sym w.pass-is) on
+      | else-found-eq0 w ↦ subst (λ p. GoesOn c.args.pass.now.view p.view) (sym w.pass-is) on
+    ]

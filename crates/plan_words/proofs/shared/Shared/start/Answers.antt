@@ -1,4 +1,4 @@
-use Rattle.std.proofs.Common.{◌∷◌, ◌+◌, [], length, Some, None, sym, ap, ◌∙◌, subst, arith}
+use Rattle.std.proofs.Common.{◌∷◌, ◌+◌, ◌≤◌, [], length, Some, None, sym, ap, ◌∙◌, subst, arith}
 use Rattle.std.specs.Prelude.{slice_index}
 use Rattle.std.proofs.lemmas.List.{get_or_default}
 use Rattle.plan_model.specs.Turns.{turns_of}
@@ -9,12 +9,13 @@ use Rattle.plan_words.specs.States.{HoldsWorld, IsTied, PassState, first_view, r
 use Rattle.plan_words.specs.declared.openings.Opening.{Opening}
 use Rattle.step_core.specs.GrownWords.{record_at, run_words}
 use Rattle.step_core.specs.Views.{sees}
+use Rattle.step_core.specs.WordNames.Word.{TreeOf}
 
 pub of_words-requires : goal.of_words-requires
 of_words-requires c =
     let told = c.into_words-task.result in
     let opening : Opening = record { task = told.0; workers = c.args.workers; limit = told.1; words = told.2 } in
-    subst (λ items. HoldsWorld (run_of_opening opening) items (first_view opening ∷ [])) (sym c.as_slice-2.ensures.value)
+    subst (λ items. HoldsWorld (run_of_opening opening) items (first_view opening ∷ [])) (sym c.as_slice-3.ensures.value)
     (HoldsWorld-started opening c.into_words-task.ensures.sized c.into_words-task.ensures.run c.requires.some c.requires.few)
 
 pub invariant_of-first : goal.invariant_of-first
@@ -32,6 +33,12 @@ invariant_of-first c =
           (IsTied-started opening c.into_words-task.ensures.sized c.into_words-task.ensures.run c.requires.some c.requires.few c.index.result.now counted),
       HasRoom-new c.of-places.result (run_of_opening opening) _ _ _ _ _ c.of-places.ensures (ap (λ m. m.0.run) me) (ap (λ n. n + 1) c.marks.ensures)
           c.in_ok-scratch.ensures.room,
+      record {
+        for_each = c.in_ok-pairs.ensures.count ∙ sym (ap (λ m. length m.0.run.marks + 1) me);
+        seen = λ n within.
+            c.in_ok-pairs.ensures.each n (subst (λ m. n ≤ length m.0.run.marks) me within)
+            ∙ ap (λ items. run_words told.0 items (TreeOf n)) c.as_slice-2.ensures.value ∙ sym (ap (λ m. sees m.0 (TreeOf n)) me);
+      },
     )
 
 pub invariant_of-shared : goal.invariant_of-shared
@@ -40,7 +47,7 @@ invariant_of-shared c =
     let opening : Opening = record { task = told.0; workers = c.args.workers; limit = told.1; words = told.2 } in
     let table = c.in_ok-table.ensures in
     IsTableOf-started opening c.into_words-task.ensures.sized c.into_words-task.ensures.run c.requires.some c.requires.few
-    c.in_ok-table.table.shared.table_id c.in_ok-table.table.shared.key c.of-places.result _ c.as_slice-2.ensures.value table.0 table.1 table.5
+    c.in_ok-table.table.shared.table_id c.in_ok-table.table.shared.key c.of-places.result _ c.as_slice-3.ensures.value table.0 table.1 table.5
     c.of-places.ensures
 
 pub invariant_of-shared-2 : goal.invariant_of-shared-2
@@ -49,13 +56,13 @@ invariant_of-shared-2 c =
     let opening : Opening = record { task = told.0; workers = c.args.workers; limit = told.1; words = told.2 } in
     let table = c.in_ok-table.ensures in
     IsTableOf-started opening c.into_words-task.ensures.sized c.into_words-task.ensures.run c.requires.some c.requires.few
-    c.in_ok-table.table.shared.table_id c.in_ok-table.table.shared.key c.of-places.result _ c.as_slice-2.ensures.value table.0 table.1 table.5
+    c.in_ok-table.table.shared.table_id c.in_ok-table.table.shared.key c.of-places.result _ c.as_slice-3.ensures.value table.0 table.1 table.5
     c.of-places.ensures
 
 pub hand_out-requires-clause-turns : goal.hand_out-requires-clause-turns
 hand_out-requires-clause-turns c w low =
     let told = c.into_words-task.result in
-    ap (λ l. slice_index l w) c.as_slice-3.ensures.value ∙ c.in_ok-turns.ensures.each w low
+    ap (λ l. slice_index l w) c.as_slice-4.ensures.value ∙ c.in_ok-turns.ensures.each w low
     ∙ ap (λ items. turns_of (record_at (run_words told.0 items)) (length told.0.marks) w) c.as_slice.ensures.value
     ∙ sym (ap (λ m. turns_of (record_at (sees m.0)) (length told.0.marks) w) c.in_ok-table.ensures.4)
 

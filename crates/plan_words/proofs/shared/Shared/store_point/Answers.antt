@@ -1,6 +1,7 @@
 use Rattle.std.proofs.Common.{◌≡◌, ◌<◌, ◌+◌, suc, ap, arith, length, refl, subst, sym, ◌∙◌}
 use Rattle.std.specs.Prelude.{IfSome}
-use Rattle.plan_words.proofs.HandSteps.{at_hand, keeps_hand}
+use Rattle.plan_words.proofs.HandSteps.{at_hand}
+use Rattle.plan_words.proofs.KeptPairs.{keeps_hand}
 use Rattle.plan_words.proofs.Owning.{goes_on_told, may_point_here, same_run, same_table}
 use Rattle.plan_words.proofs.shared.Shared.store_point.Goals as goal
 use Rattle.plan_words.specs.Plays.{Tells}
@@ -51,7 +52,7 @@ invariant_of-pass g c =
     let held = sym c.pass.invariant.1.hand_is ∙ c.in-Some.is in
     let told = subst (λ m. Tells me (pointed me.0 hand m c.args.p) after) c.requires.told_nearest
     (subst (λ p. Tells me (pointed me.0 hand g.S.SteeredFrom.nearest p) after) c.requires.told_point (c.store.ensures.2 hand held)) in
-    keeps_hand me after (pointed me.0 hand c.args.nearest c.args.p) _ _ _ _ _ _ told c.pass.invariant refl refl refl
+    keeps_hand me after (pointed me.0 hand c.args.nearest c.args.p) _ _ _ _ _ _ _ told c.pass.invariant refl refl refl (λ n. refl)
 
 pub returns-clause-goes_on : goal.returns-clause-goes_on
 returns-clause-goes_on g c =

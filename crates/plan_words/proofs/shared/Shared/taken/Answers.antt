@@ -1,3 +1,4 @@
+use Rattle.plan_words.proofs.KeptPairs.{keeps_saw}
 use Rattle.std.proofs.Common.{◌<◌, ap, arith, subst, sym}
 use Rattle.plan_words.proofs.Owning.{counter_most, looks_told, may_load_here, sees_told, same_run, same_table}
 use Rattle.plan_words.proofs.shared.Shared.taken.Goals as goal
@@ -17,14 +18,14 @@ overflow_cast-result c =
     let strip = subst (λ s. c.args.strip < s.task.scene.strips) (sym c.self.view_is) c.requires.strip in
     let here = subst (λ r. c.args.strip < r.strips) (sym own) strip in
     let lawful = c.pass.invariant.1.lawful in
-    omega (arith, counter_most _ _ c.args.strip _ lawful here c.counter-place.ensures c.load.ensures.2.0.goes_on.lawful, lawful.run.marks)
+    omega (arith, counter_most _ _ c.args.strip _ lawful here c.counter-place.ensures c.load.ensures.2.told.goes_on.lawful, lawful.run.marks)
 
 pub returns-clause-seen : goal.returns-clause-seen
 returns-clause-seen c =
     let own = same_run _ _ _ _ c.pass.view_is c.self.view_is c.requires.belongs in
     let strip = subst (λ s. c.args.strip < s.task.scene.strips) (sym c.self.view_is) c.requires.strip in
     let here = subst (λ r. c.args.strip < r.strips) (sym own) strip in
-    sees_told _ _ _ (Counter c.args.strip) _ _ (ap (λ p. p.view) c.pass.view_is) c.pass.invariant.1.lawful here c.counter-place.ensures c.load.ensures.2.0.view_is
+    sees_told _ _ _ (Counter c.args.strip) _ _ (ap (λ p. p.view) c.pass.view_is) c.pass.invariant.1.lawful here c.counter-place.ensures c.load.ensures.2.told.view_is
 
 pub returns-clause-looked : goal.returns-clause-looked
 returns-clause-looked c =
@@ -32,4 +33,12 @@ returns-clause-looked c =
     let strip = subst (λ s. c.args.strip < s.task.scene.strips) (sym c.self.view_is) c.requires.strip in
     let here = subst (λ r. c.args.strip < r.strips) (sym own) strip in
     looks_told _ _ _ (Counter c.args.strip) _ _ (ap (λ p. p.view) c.pass.view_is) c.pass.invariant.1.lawful here
-    c.counter-place.ensures c.load.ensures.2.0.view_is
+    c.counter-place.ensures c.load.ensures.2.told.view_is
+
+pub invariant_of-pass : goal.invariant_of-pass
+invariant_of-pass c =
+    let own = same_run _ _ _ _ c.pass.view_is c.self.view_is c.requires.belongs in
+    let strip = subst (λ s. c.args.strip < s.task.scene.strips) (sym c.self.view_is) c.requires.strip in
+    let here = subst (λ r. c.args.strip < r.strips) (sym own) strip in
+    keeps_saw c.pass.inside.seat.me c.load.new.seat.me _ _ _ _ _ c.pass.inside.pairs.items (Counter c.args.strip) _ _ _ c.load.ensures.2.told c.pass.invariant here
+    c.counter-place.ensures (λ n e. cc)

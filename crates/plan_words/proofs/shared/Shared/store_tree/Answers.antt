@@ -1,0 +1,49 @@
+use Rattle.std.proofs.Common.{◌≡◌, ◌<◌, ◌+◌, Some, suc, ap, arith, length, refl, subst, sym, ◌∙◌}
+use Rattle.std.specs.Prelude.{IfSome}
+use Rattle.plan_words.proofs.HandSteps.{at_hand}
+use Rattle.plan_words.proofs.KeptPairs.{keeps_hand}
+use Rattle.plan_words.proofs.Owning.{may_tree_here, same_run, same_table}
+use Rattle.plan_words.proofs.shared.Shared.store_tree.Goals as goal
+use Rattle.step_core.specs.PlacesOfWords.{sizes_in}
+use Rattle.step_core.specs.Stages.{has_first}
+use Rattle.step_core.specs.ViewSteps.{treed}
+use Rattle.step_core.specs.WordNames.Word.{TreeOf}
+use Rattle.step_core.specs.WordPlaces.{place_of}
+use Rattle.step_core.specs.declared.views.Stage.TheVariants.{Half}
+
+pub pack_tree-requires-clause-parent : goal.pack_tree-requires-clause-parent
+pack_tree-requires-clause-parent c =
+    let held = sym c.pass.invariant.1.hand_is ∙ c.in-Some.is in
+    let stage = at_hand (λ h. h.stage ≡ Half) _ c.in-Some.hand held
+    (subst (λ p. IfSome p.view.hand (λ h. h.stage ≡ Half)) (sym c.pass.view_is) c.requires.half) in
+    omega (arith, (c.pass.invariant.1.lawful.pair_fits c.in-Some.hand held (ap has_first stage)).0)
+
+pub pack_tree-requires-clause-cost : goal.pack_tree-requires-clause-cost
+pack_tree-requires-clause-cost c =
+    let held = sym c.pass.invariant.1.hand_is ∙ c.in-Some.is in
+    let stage = at_hand (λ h. h.stage ≡ Half) _ c.in-Some.hand held
+    (subst (λ p. IfSome p.view.hand (λ h. h.stage ≡ Half)) (sym c.pass.view_is) c.requires.half) in
+    omega (arith, (c.pass.invariant.1.lawful.pair_fits c.in-Some.hand held (ap has_first stage)).1)
+
+pub store-requires : goal.store-requires
+store-requires c =
+    let same = same_table _ _ _ _ c.pass.view_is c.self.view_is c.requires.belongs in
+    let own = same_run _ _ _ _ c.pass.view_is c.self.view_is c.requires.belongs in
+    let hand = c.in-Some.hand in
+    let tied = c.pass.invariant.1 in
+    let held = sym tied.hand_is ∙ c.in-Some.is in
+    let stage = at_hand (λ h. h.stage ≡ Half) _ hand held
+    (subst (λ p. IfSome p.view.hand (λ h. h.stage ≡ Half)) (sym c.pass.view_is) c.requires.half) in
+    let next : hand.mark + 1 ≡ suc hand.mark = omega arith in
+    let place = c.tree-place.ensures ∙ ap (λ n. place_of (sizes_in c.self.inside.places) (TreeOf n)) next
+    ∙ ap (λ s. place_of s (TreeOf (suc hand.mark))) c.self.invariant.places_are in
+    let low = subst (λ r. hand.mark < length r.marks) own (tied.lawful.mark hand held) in
+    may_tree_here _ _ _ _ c.self.invariant _ _ _ _ _ hand same own place low held stage c.pack_tree.ensures
+
+pub invariant_of-pass : goal.invariant_of-pass
+invariant_of-pass c =
+    let hand = c.in-Some.hand in
+    let held = sym c.pass.invariant.1.hand_is ∙ c.in-Some.is in
+    let me = c.pass.inside.seat.me in
+    keeps_hand me c.store.new.seat.me (treed me.0 hand) _ _ c.at_stage.result _ _ _ _ (c.store.ensures.2 hand held) c.pass.invariant refl refl
+    (ap Some (sym c.at_stage.ensures)) (λ n. refl)

@@ -1,0 +1,13 @@
+use Rattle.std.proofs.Common.{◌≡◌, ℕ, ◌<◌, List, length}
+use Rattle.std.specs.Prelude.{slice_index}
+use Rattle.plan_words.proofs.starts.tree_words.Given as goal
+use Rattle.step_core.specs.GrownWords.{run_words}
+use Rattle.step_core.specs.WordNames.Word.{TreeOf}
+
+-- the words of the numbers so far
+pub record AreRead (words : ℕ → ℕ) (nodes : ℕ) (node : ℕ) (pairs : List ℕ) : Type 0 where
+  pub sized : length pairs ≡ nodes
+  pub read : (n : ℕ) → n < node → slice_index pairs n ≡ words n
+
+abbrev pub invariant-loop-node : goal.invariant-loop-node
+invariant-loop-node l = AreRead (λ n. run_words l.task l.words (TreeOf n)) l.nodes l.node l.pairs.items

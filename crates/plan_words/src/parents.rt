@@ -1,0 +1,159 @@
+//! The steps on parents and costs: a pass looks at the tree words of nodes that it has seen, writes the first word and the tree
+//! word of the node in its hand, and lowers the cost of a node below a parent by which it is cheaper.
+
+ghost use Rattle.std.specs.Prelude.{◌≡◌, ◌≢◌, ℕ, ◌<◌, ◌≤◌, ◌^◌, ◌==◌, if◌then◌else◌, IfErr, IfOk, IfSome, IsSome};
+ghost use Rattle.plan_words.specs.Parents.{FindsLess, IsPairIn};
+ghost use Rattle.plan_words.specs.States.{BelongsTo, GoesOn, with_view};
+ghost use Rattle.step_core.specs.ViewSteps.{half, loaded, lowered, pair_in_hand, treed};
+ghost use Rattle.step_core.specs.ViewTrees.{MayHang, MayLower, SeesNode};
+ghost use Rattle.step_core.specs.Views.{sees, share};
+ghost use Rattle.step_core.specs.WordNames.{WritesWord};
+ghost use Rattle.step_core.specs.WordNames.Word.{TreeOf};
+ghost use Rattle.step_core.specs.Words.{cost_in, tree_word};
+ghost use Rattle.step_core.specs.declared.views.Stage.TheVariants.{Half, Pointed};
+
+use crate::nodes::at_stage;
+use crate::passes::Pass;
+use crate::rules::{Load, Lower, WriteFirst, WriteTree};
+use crate::shared::Shared;
+use step_core::{Hand, Stage, pack_tree, pair_in};
+
+impl Shared {
+    /// The parent of a node, and its cost in 256ths of a lattice step. The cost is no more than the pass had seen of the node.
+    pub fn tree(&self, pass: &mut Pass, node: u32) -> (u32, u64)
+        requires belongs { BelongsTo pass.old self.now }
+        requires seen_node { SeesNode pass.old.view node }
+        ensures view { pass.new ≡ with_view pass.old (loaded pass.old.view (TreeOf node) (sees pass.new.view (TreeOf node))) }
+        ensures goes_on { GoesOn pass.old.view pass.new.view }
+        // all other words are seen as before
+        ensures seen { WritesWord (TreeOf node) (sees pass.new.view (TreeOf node)) (sees pass.old.view) (sees pass.new.view) }
+        ensures found { IsPairIn (sees pass.new.view (TreeOf node)) result }
+    {
+        let seat = &mut pass.seat;
+        let place = self.places.tree(node as usize);
+        let word = self.table.shared.load::<Load>(seat, place);
+        pass.pairs[node as usize] = word;
+        pair_in(word)
+    }
+
+    /// Writes the parent and the cost of the node in hand, in its first word and then in its tree word. The parent is seen, with an
+    /// edge that is allowed. The cost is what the parent was seen to cost and the edge, and no more than below the nearest node.
+    pub fn write_tree(&self, pass: &mut Pass, parent: u32, cost: u64)
+        requires belongs { BelongsTo pass.old self.now }
+        requires hand { IsSome pass.old.view.hand }
+        requires pointed { IfSome pass.old.view.hand (λ hand. hand.stage ≡ Pointed) }
+        requires may { IfSome pass.old.view.hand (λ hand. MayHang pass.old.view hand parent cost) }
+        ensures view { IfSome pass.old.view.hand (λ hand. pass.new ≡ with_view pass.old
+            (treed (half pass.old.view hand parent cost) (record hand { stage = Half; parent = parent; cost = cost }))) }
+        ensures goes_on { GoesOn pass.old.view pass.new.view }
+    {
+        self.store_first(pass, parent, cost);
+        self.store_tree(pass);
+    }
+
+    /// Stores the first word.
+    fn store_first(&self, pass: &mut Pass, parent: u32, cost: u64)
+        requires belongs { BelongsTo pass.old self.now }
+        requires hand { IsSome pass.old.view.hand }
+        requires pointed { IfSome pass.old.view.hand (λ hand. hand.stage ≡ Pointed) }
+        requires may { IfSome pass.old.view.hand (λ hand. MayHang pass.old.view hand parent cost) }
+        ensures view { IfSome pass.old.view.hand (λ hand. pass.new ≡ with_view pass.old (half pass.old.view hand parent cost)) }
+        ensures goes_on { GoesOn pass.old.view pass.new.view }
+    {
+        let Some(hand) = pass.hand else {
+            unreachable!()
+        };
+        let place = self.places.first(hand.mark as usize + 1);
+        self.table
+            .shared
+            .store::<WriteFirst>(&mut pass.seat, place, pack_tree(parent, cost));
+        pass.hand = Some(Hand {
+            mark: hand.mark,
+            stage: Stage::Half,
+            nearest: hand.nearest,
+            point: hand.point,
+            parent,
+            cost,
+        });
+    }
+
+    /// Stores the tree word, as the first word is.
+    fn store_tree(&self, pass: &mut Pass)
+        requires belongs { BelongsTo pass.old self.now }
+        requires hand { IsSome pass.old.view.hand }
+        requires half { IfSome pass.old.view.hand (λ hand. hand.stage ≡ Half) }
+        ensures view { IfSome pass.old.view.hand (λ hand. pass.new ≡ with_view pass.old (treed pass.old.view hand)) }
+        ensures goes_on { GoesOn pass.old.view pass.new.view }
+    {
+        let Some(hand) = pass.hand else {
+            unreachable!()
+        };
+        let place = self.places.tree(hand.mark as usize + 1);
+        self.table
+            .shared
+            .store::<WriteTree>(&mut pass.seat, place, pack_tree(hand.parent, hand.cost));
+        pass.hand = Some(at_stage(hand, Stage::Treed));
+    }
+
+    /// Lowers the cost of a node, which gets another parent or keeps its own. The cost is less than the pass has seen of the node:
+    /// it is what the parent was seen to cost and the edge, which is allowed.
+    ///
+    /// # Errors
+    ///
+    /// The parent and the cost that the node has by now, if it has changed since the pass saw it last. They are seen then, and the
+    /// cost is less than was seen.
+    pub fn lower(
+        &self,
+        pass: &mut Pass,
+        node: u32,
+        parent: u32,
+        cost: u64,
+    ) -> Result<(), (u32, u64)>
+        requires belongs { BelongsTo pass.old self.now }
+        requires part { 0 < share pass.old.view }
+        requires may { MayLower pass.old.view node parent cost }
+        ensures view { IfOk result (λ _. pass.new ≡ with_view pass.old (lowered pass.old.view node parent cost)) }
+        ensures goes_on { GoesOn pass.old.view pass.new.view }
+        ensures view_found { IfErr result (λ _. pass.new ≡ with_view pass.old (loaded pass.old.view (TreeOf node) (sees pass.new.view (TreeOf node)))) }
+        ensures found { IfErr result (λ pair. IsPairIn (sees pass.new.view (TreeOf node)) pair) }
+        // all other words are seen as before
+        ensures seen { WritesWord (TreeOf node) (sees pass.new.view (TreeOf node)) (sees pass.old.view) (sees pass.new.view) }
+        // the cost that is seen falls, whichever it is
+        ensures falls { FindsLess (sees pass.old.view (TreeOf node)) (sees pass.new.view (TreeOf node)) }
+    {
+        let seen = pass.pairs[node as usize];
+        let found = self.exchange_tree(pass, node, parent, cost);
+        if found == seen {
+            return Ok(());
+        }
+        Err(pair_in(found))
+    }
+
+    /// Exchanges the tree word of a node if it is the one that the pass saw last. Returns what it was.
+    fn exchange_tree(&self, pass: &mut Pass, node: u32, parent: u32, cost: u64) -> u64
+        requires belongs { BelongsTo pass.old self.now }
+        requires part { 0 < share pass.old.view }
+        requires may { MayLower pass.old.view node parent cost }
+        ensures view { pass.new ≡ with_view pass.old
+            (if result == sees pass.old.view (TreeOf node) then lowered pass.old.view node parent cost else loaded pass.old.view (TreeOf node) result) }
+        ensures goes_on { GoesOn pass.old.view pass.new.view }
+        ensures found { result ≢ sees pass.old.view (TreeOf node) → FindsLess (sees pass.old.view (TreeOf node)) result }
+    {
+        let seen = pass.pairs[node as usize];
+        let place = self.places.tree(node as usize);
+        let word = pack_tree(parent, cost);
+        let found = self
+            .table
+            .shared
+            .compare_exchange::<Lower>(&mut pass.seat, place, seen, word);
+        pass.pairs[node as usize] = after_exchange(found, seen, word);
+        found
+    }
+}
+
+/// The word after an exchange was tried, by what the word was.
+fn after_exchange(found: u64, expected: u64, word: u64) -> u64
+    ensures { result ≡ (if found == expected then word else found) }
+{
+    if found == expected { word } else { found }
+}

@@ -1,0 +1,31 @@
+use Rattle.std.proofs.Common.{◌≡◌, true, ap, sym, subst, ◌∙◌}
+use Rattle.std.specs.Prelude.{IfSome}
+use Rattle.plan_model.specs.Bounds.{IsBounded}
+use Rattle.plan_model.specs.Clearance.{Clear}
+use Rattle.plan_words.proofs.HandSteps.{at_hand}
+use Rattle.plan_words.proofs.NearestParents.{IsBounded-hand, MayHang-start}
+use Rattle.step_core.specs.Stages.{has_point}
+use Rattle.step_core.proofs.SeenViews.{SeesPoint-later}
+use Rattle.plan_words_tests.proofs.links.hang_from_start.Goals as goal
+
+pub cost-edge-requires-clause-to : goal.cost-edge-requires-clause-to
+cost-edge-requires-clause-to g c =
+    let view = c.tree-pair.new.pass.view in
+    let holds = c.requires.holds in
+    let held = ap (λ p. p.view.hand) c.tree-pair.ensures.view ∙ ap (λ p. p.view.hand) c.point-start.ensures.view ∙ holds.held in
+    let is = at_hand (λ hand. c.hand_point-p.result ≡ hand.point) _ holds.hand held c.hand_point-p.ensures in
+    subst IsBounded (sym is) (IsBounded-hand view holds.hand c.tree-pair.ensures.goes_on.lawful held (ap has_point holds.stage_is))
+
+pub write_tree-requires-clause-may : goal.write_tree-requires-clause-may
+write_tree-requires-clause-may g c =
+    let before = c.point-start.new.pass.view in
+    let view = c.tree-pair.new.pass.view in
+    let holds = c.requires.holds in
+    let later = c.tree-pair.ensures.goes_on.later in
+    let held = ap (λ p. p.view.hand) c.tree-pair.ensures.view ∙ ap (λ p. p.view.hand) c.point-start.ensures.view ∙ holds.held in
+    let own = ap (λ p. p.view.run) c.tree-pair.ensures.view ∙ ap (λ p. p.view.run) c.point-start.ensures.view ∙ holds.belongs.run in
+    let clear = subst (λ space. Clear space c.point-start.result c.hand_point-p.result) c.requires.hall (c.clear.ensures.0 c.if-not-clear.false) in
+    MayHang-start c.args.shared.now view holds.hand c.point-start.result c.hand_point-p.result c.cost-edge.result own c.tree-pair.ensures.goes_on.lawful held
+    (ap has_point holds.stage_is) holds.from_start
+    (SeesPoint-later before view later.run later.seen 0 c.point-start.result c.point-start.ensures.found) c.tree-pair.ensures.found.written clear
+    c.hand_point-p.ensures c.cost-edge.ensures.value
