@@ -1,1 +1,3 @@
 pub mod RepeatedPoints
+pub mod SteeredMarks
+pub mod SteeredRecords

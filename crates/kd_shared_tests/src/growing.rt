@@ -1,7 +1,7 @@
-//! What the tests do with a pass: it places the points of marks that are at most a step from the start.
+//! What the tests do with a pass: it places the points of marks below the nearest nodes, in scenes whose radius is 0.
 
-ghost use Rattle.std.specs.Prelude.{◌≡◌, ◌<◌, ◌≤◌, All, IfNone, IfOk, IfSome, IsFalse, IsTrue, length};
-ghost use Rattle.kd_shared_tests.specs.HeldMarks.{HoldsMark, HoldsPlaced};
+ghost use Rattle.std.specs.Prelude.{◌≡◌, ◌+◌, ◌<◌, ◌≤◌, All, IfNone, IfOk, IfSome, IsTrue, length};
+ghost use Rattle.kd_shared_tests.specs.HeldMarks.{HangsBelow, HoldsMark, HoldsPlaced, IsClassBetween, SeesHandPoint, SteersFrom};
 ghost use Rattle.plan_model.specs.Clearance.{ClearAt};
 ghost use Rattle.plan_model.specs.ConfigurationSpace.{space_of};
 ghost use Rattle.plan_model.specs.EmptyRooms.{IsInRoom};
@@ -9,11 +9,10 @@ ghost use Rattle.plan_model.specs.Limits.{is_plan};
 ghost use Rattle.plan_model.specs.declared.limits.TheConstants.{LEAST_STRIPS, MOST_STRIPS};
 ghost use Rattle.plan_model.specs.declared.scenes.Marks.TheVariants.{Listed};
 ghost use Rattle.plan_words.specs.States.{MayClaim};
-ghost use Rattle.step_core.specs.ViewTrees.{SeesNode};
 ghost use Rattle.step_core.specs.declared.views.Stage.TheVariants.{Claimed, Counted, Pointed, Treed};
 
-use edge_cost::{cost, steer};
-use kd_shared::{Placing, place};
+use edge_cost::{class, cost, steer};
+use kd_shared::{Placing, nearest, place};
 use plan_model::{Goal, Memory, Outcome, Point, Record, SmallScene, Task};
 use plan_words::{Pass, Shared};
 use std::alloc::Global;
@@ -43,7 +42,7 @@ pub(crate) fn marks_round(
             high: Point { x: 0, y: 0 },
         },
         step: 4096,
-        gamma: 1000,
+        gamma: 0,
         seed: 0,
         strips,
     }
@@ -70,98 +69,153 @@ pub(crate) fn take_mark(shared: &Shared, pass: &mut Pass, limit: u32) -> Option<
     shared.claim(pass, limit)
 }
 
-/// Writes the point of the mark in hand, steered from the start.
-pub(crate) fn write_from_start(shared: &Shared, pass: &mut Pass, mark: u32) -> Point
-    requires { HoldsMark shared.now mark Claimed pass.old }
-    ensures { HoldsMark shared.now mark Pointed pass.new }
-{
-    let start = shared.point(pass, 0);
-    let towards = shared.task().marks.as_slice()[mark as usize];
-    let p = steer(start, towards, shared.task().scene.step);
-    shared.write_point(pass, 0, p);
-    p
+/// The node that steers towards a mark, and where to.
+#[derive(Clone, Copy)]
+pub(crate) struct Steering {
+    pub(crate) nearest: u32,
+    pub(crate) point: Point,
 }
 
-/// Writes the parent and the cost of the node in hand, below the start, if the segment from there is clear. Returns whether it is.
-pub(crate) fn hang_from_start(shared: &Shared, hall: &Hall, pass: &mut Pass, mark: u32) -> bool
-    requires holds { HoldsMark shared.now mark Pointed pass.old }
-    requires hall { hall.now ≡ space_of shared.now.task.scene }
-    ensures hung { IsTrue result → HoldsMark shared.now mark Treed pass.new }
-    ensures blocked { IsFalse result → HoldsMark shared.now mark Pointed pass.new }
+/// Writes the point of the mark in hand, steered from the nearest node.
+pub(crate) fn write_from_nearest(shared: &Shared, pass: &mut Pass, mark: u32) -> Steering
+    requires { HoldsMark shared.now mark Claimed pass.old }
+    ensures holds { HoldsMark shared.now mark Pointed pass.new }
+    ensures steers { SteersFrom result.nearest pass.new.view }
 {
-    let start = shared.point(pass, 0);
-    let _pair = shared.tree(pass, 0);
-    let p = pass.hand_point();
-    if !hall.clear(start, p) {
-        return false;
+    let towards = shared.task().marks.as_slice()[mark as usize];
+    let closest = nearest(shared, pass, towards);
+    let from = shared.point(pass, closest);
+    let point = steer(from, towards, shared.task().scene.step);
+    shared.write_point(pass, closest, point);
+    Steering {
+        nearest: closest,
+        point,
     }
-    shared.write_tree(pass, 0, cost(start, p));
-    true
+}
+
+/// Writes the parent and the cost of the node in hand, below the node that it was steered from, and returns the cost. Returns
+/// `None` if the segment from there is not clear.
+pub(crate) fn hang_from_nearest(
+    shared: &Shared,
+    hall: &Hall,
+    pass: &mut Pass,
+    mark: u32,
+    closest: u32,
+) -> Option<u64>
+    requires holds { HoldsMark shared.now mark Pointed pass.old }
+    requires steers { SteersFrom closest pass.old.view }
+    requires hall { hall.now ≡ space_of shared.now.task.scene }
+    ensures holds { IfSome result (λ _. HoldsMark shared.now mark Treed pass.new) }
+    ensures hangs { IfSome result (λ cost. HangsBelow closest cost pass.new.view) }
+{
+    let from = shared.point(pass, closest);
+    let (_, cost_to_come) = shared.tree(pass, closest);
+    let p = pass.hand_point();
+    if !hall.clear(from, p) {
+        return None;
+    }
+    let through = cost_to_come + cost(from, p);
+    shared.write_tree(pass, closest, through);
+    Some(through)
 }
 
 /// Places the node of the mark in hand.
-pub(crate) fn place_mark(shared: &Shared, pass: &mut Pass, mark: u32) -> Placing
-    requires { HoldsMark shared.now mark Treed pass.old }
-    ensures { HoldsPlaced shared.now mark result pass.new }
+pub(crate) fn place_mark(
+    shared: &Shared,
+    pass: &mut Pass,
+    mark: u32,
+    closest: u32,
+    cost: u64,
+) -> Placing
+    requires holds { HoldsMark shared.now mark Treed pass.old }
+    requires hangs { HangsBelow closest cost pass.old.view }
+    ensures holds { HoldsPlaced shared.now mark result pass.new }
+    ensures hangs { HangsBelow closest cost pass.new.view }
 {
     place(shared, pass, mark)
 }
 
-/// Records that the mark in hand was placed.
-fn finish_placed(shared: &Shared, pass: &mut Pass, mark: u32)
-    requires { HoldsMark shared.now mark Counted pass.old }
-    ensures { MayClaim shared.now pass.new }
+/// The class of so many nodes, if it is not below that of the nodes that a worker may have placed before this turn, and the start.
+fn class_seen(turn: u32, nodes: u32) -> Option<u32>
+    ensures { IfSome result (λ class. IsClassBetween (turn + 1) nodes class) }
 {
-    let entry = Record {
-        worker: pass.worker(),
-        turn: pass.turn(),
-        nearest: 0,
-        outcome: Outcome::Placed,
-        first_parent: 0,
-        first_cost: 0,
-        class: 1,
-    };
-    shared.finish(pass, entry);
+    if nodes == 0 {
+        return None;
+    }
+    let seen = class(u64::from(nodes));
+    if seen < class(u64::from(turn) + 1) {
+        return None;
+    }
+    Some(seen)
 }
 
-/// Records that the segment to the point of the mark in hand is not clear.
-fn finish_blocked(shared: &Shared, pass: &mut Pass, mark: u32)
-    requires { HoldsMark shared.now mark Pointed pass.old }
-    ensures { MayClaim shared.now pass.new }
+/// Records that the mark in hand was placed below its nearest node, in a scene whose radius is 0. Returns `None` if there is
+/// another radius, or if fewer nodes are counted than the worker has handled marks.
+fn finish_placed(
+    shared: &Shared,
+    pass: &mut Pass,
+    mark: u32,
+    closest: u32,
+    cost: u64,
+) -> Option<()>
+    requires holds { HoldsMark shared.now mark Counted pass.old }
+    requires hangs { HangsBelow closest cost pass.old.view }
+    ensures { IfSome result (λ _. MayClaim shared.now pass.new) }
 {
-    let entry = Record::unplaced(pass.worker(), pass.turn(), 0, Outcome::Blocked);
+    if shared.task().scene.gamma != 0 {
+        return None;
+    }
+    let nodes = shared.number(pass);
+    let turn = pass.turn();
+    let entry = Record {
+        worker: pass.worker(),
+        turn,
+        nearest: closest,
+        outcome: Outcome::Placed,
+        first_parent: closest,
+        first_cost: cost,
+        class: class_seen(turn, nodes)?,
+    };
     shared.finish(pass, entry);
+    Some(())
 }
 
 /// Records that another node stands at the point of the mark in hand.
-fn finish_same(shared: &Shared, pass: &mut Pass, mark: u32, node: u32)
+fn finish_same(
+    shared: &Shared,
+    pass: &mut Pass,
+    mark: u32,
+    closest: u32,
+    node: u32,
+)
     requires holds { HoldsMark shared.now mark Treed pass.old }
-    requires seen { SeesNode pass.old.view node }
+    requires steers { SteersFrom closest pass.old.view }
+    requires seen { SeesHandPoint pass.old.view node }
     ensures { MayClaim shared.now pass.new }
 {
-    let entry = Record::unplaced(pass.worker(), pass.turn(), 0, Outcome::Same(node));
+    let entry = Record::unplaced(pass.worker(), pass.turn(), closest, Outcome::Same(node));
     shared.finish(pass, entry);
 }
 
-/// Places the node of the mark in hand below the start, and records how it ended. Returns `None` if the way there is blocked.
+/// Places the node of the mark in hand below the node that it was steered from, and records how it ended. Returns `None` if the
+/// way there is blocked, or the record cannot be made.
 pub(crate) fn place_and_finish(
     shared: &Shared,
     hall: &Hall,
     pass: &mut Pass,
     mark: u32,
+    closest: u32,
 ) -> Option<Placing>
     requires holds { HoldsMark shared.now mark Pointed pass.old }
+    requires steers { SteersFrom closest pass.old.view }
     requires hall { hall.now ≡ space_of shared.now.task.scene }
-    ensures { MayClaim shared.now pass.new }
+    ensures { IfSome result (λ _. MayClaim shared.now pass.new) }
 {
-    if !hang_from_start(shared, hall, pass, mark) {
-        finish_blocked(shared, pass, mark);
-        return None;
-    }
-    let placing = place_mark(shared, pass, mark);
+    let cost = hang_from_nearest(shared, hall, pass, mark, closest)?;
+    let placing = place_mark(shared, pass, mark, closest, cost);
     match placing {
-        Placing::Placed => finish_placed(shared, pass, mark),
-        Placing::Same(node) => finish_same(shared, pass, mark, node),
+        Placing::Placed => finish_placed(shared, pass, mark, closest, cost)?,
+        Placing::Same(node) => finish_same(shared, pass, mark, closest, node),
     }
     Some(placing)
 }
@@ -172,16 +226,16 @@ pub(crate) fn place_next(
     hall: &Hall,
     pass: &mut Pass,
     limit: u32,
-) -> Option<(u32, Option<Placing>)>
+) -> Option<(u32, Placing)>
     requires may_claim { MayClaim shared.now pass.old }
     requires hall { hall.now ≡ space_of shared.now.task.scene }
     requires low { shared.now.opening ≤ limit }
     requires limit { limit ≤ length shared.now.task.marks }
-    ensures { MayClaim shared.now pass.new }
+    ensures { IfSome result (λ _. MayClaim shared.now pass.new) }
 {
     let mark = take_mark(shared, pass, limit)?;
-    let _point = write_from_start(shared, pass, mark);
-    let placing = place_and_finish(shared, hall, pass, mark);
+    let steering = write_from_nearest(shared, pass, mark);
+    let placing = place_and_finish(shared, hall, pass, mark, steering.nearest)?;
     Some((mark, placing))
 }
 
@@ -198,7 +252,7 @@ pub(crate) fn tree_of(alloc: Global, start: Point, points: &[Point]) -> Result<(
     let mut pass = last_pass(&shared, &mut passes).ok_or(Memory)?;
     let limit = points.len() as u32;
     'marks: for _ in 0..limit {
-        let _placed = place_next(&shared, &hall, &mut pass, limit);
+        let _placed = place_next(&shared, &hall, &mut pass, limit).ok_or(Memory)?;
     }
     Ok((shared, pass))
 }

@@ -1,14 +1,14 @@
 //! Two passes whose points lead to one place of the kd-tree, and a pass that comes to a point second.
 
 ghost use Rattle.std.specs.Prelude.{◌≡◌, IfOk, IsTrue};
-ghost use Rattle.kd_shared_tests.specs.HeldMarks.{HoldsMark};
+ghost use Rattle.kd_shared_tests.specs.HeldMarks.{HoldsMark, SteersFrom};
 ghost use Rattle.plan_model.specs.ConfigurationSpace.{space_of};
 ghost use Rattle.plan_model.specs.Limits.{is_plan};
 ghost use Rattle.plan_model.specs.declared.scenes.Marks.TheVariants.{Listed};
 ghost use Rattle.plan_words.specs.States.{MayClaim};
 ghost use Rattle.step_core.specs.declared.views.Stage.TheVariants.{Pointed};
 
-use crate::growing::{last_pass, place_and_finish, take_mark, write_from_start};
+use crate::growing::{Steering, last_pass, place_and_finish, take_mark, write_from_nearest};
 use kd_shared::{Placing, find, near, nearest};
 use plan_model::{Goal, Memory, Point, SmallScene};
 use plan_words::{Pass, Shared};
@@ -43,7 +43,7 @@ fn two_passes(alloc: Global, marks: &[Point]) -> Result<(Shared, Hall, Pass, Pas
             high: FAR,
         },
         step: 50,
-        gamma: 1000,
+        gamma: 0,
         seed: 0,
         strips: 1,
     }
@@ -56,12 +56,14 @@ fn two_passes(alloc: Global, marks: &[Point]) -> Result<(Shared, Hall, Pass, Pas
     Ok((shared, hall, first, second))
 }
 
-/// Looks for a node at a point, with a mark in hand.
-fn look_for(shared: &Shared, pass: &mut Pass, mark: u32, p: Point) -> Option<u32>
-    requires { HoldsMark shared.now mark Pointed pass.old }
-    ensures { HoldsMark shared.now mark Pointed pass.new }
+/// Looks for a node at the point that was written for the mark in hand.
+fn look_for(shared: &Shared, pass: &mut Pass, mark: u32, steering: Steering) -> Option<u32>
+    requires holds { HoldsMark shared.now mark Pointed pass.old }
+    requires steers { SteersFrom steering.nearest pass.old.view }
+    ensures holds { HoldsMark shared.now mark Pointed pass.new }
+    ensures steers { SteersFrom steering.nearest pass.new.view }
 {
-    find(shared, pass, p)
+    find(shared, pass, steering.point)
 }
 
 #[test]
@@ -70,18 +72,18 @@ fn the_second_at_a_place_goes_one_node_deeper(rt: HostRuntime) -> Result<(), Fai
     let one = take_mark(&shared, &mut first, 3).ok_or(Memory)?;
     let other = take_mark(&shared, &mut second, 3).ok_or(Memory)?;
     assert_eq!(rt; (one, other), (0, 1));
-    let upper = write_from_start(&shared, &mut first, one);
-    let middle = write_from_start(&shared, &mut second, other);
-    assert_eq!(rt; (upper, middle), (ABOVE, MIDDLE));
+    let upper = write_from_nearest(&shared, &mut first, one);
+    let middle = write_from_nearest(&shared, &mut second, other);
+    assert_eq!(rt; (upper.point, middle.point), (ABOVE, MIDDLE));
     // both see that the place is empty
-    let found = look_for(&shared, &mut first, one, ABOVE);
-    let also = look_for(&shared, &mut second, other, MIDDLE);
+    let found = look_for(&shared, &mut first, one, upper);
+    let also = look_for(&shared, &mut second, other, middle);
     assert_eq!(rt; (found, also), (None, None));
-    let placed = place_and_finish(&shared, &hall, &mut first, one);
-    let below = place_and_finish(&shared, &hall, &mut second, other);
+    let placed = place_and_finish(&shared, &hall, &mut first, one, upper.nearest).ok_or(Memory)?;
+    let below = place_and_finish(&shared, &hall, &mut second, other, middle.nearest).ok_or(Memory)?;
     assert_eq!(rt;
         (placed, below),
-        (Some(Placing::Placed), Some(Placing::Placed))
+        (Placing::Placed, Placing::Placed)
     );
     let found = find(&shared, &mut first, MIDDLE);
     assert_eq!(rt; found, Some(2));
@@ -99,16 +101,16 @@ fn the_second_at_a_point_is_told_the_first(rt: HostRuntime) -> Result<(), Fail> 
     let (shared, hall, mut first, mut second) = two_passes(rt.alloc(), &[ABOVE, ABOVE])?;
     let one = take_mark(&shared, &mut first, 2).ok_or(Memory)?;
     let other = take_mark(&shared, &mut second, 2).ok_or(Memory)?;
-    let upper = write_from_start(&shared, &mut first, one);
-    let also = write_from_start(&shared, &mut second, other);
-    assert_eq!(rt; (upper, also), (ABOVE, ABOVE));
-    let free = look_for(&shared, &mut first, one, ABOVE);
+    let upper = write_from_nearest(&shared, &mut first, one);
+    let also = write_from_nearest(&shared, &mut second, other);
+    assert_eq!(rt; (upper.point, also.point), (ABOVE, ABOVE));
+    let free = look_for(&shared, &mut first, one, upper);
     assert_eq!(rt; free, None);
-    let placed = place_and_finish(&shared, &hall, &mut second, other);
-    let same = place_and_finish(&shared, &hall, &mut first, one);
+    let placed = place_and_finish(&shared, &hall, &mut second, other, also.nearest).ok_or(Memory)?;
+    let same = place_and_finish(&shared, &hall, &mut first, one, upper.nearest).ok_or(Memory)?;
     assert_eq!(rt;
         (placed, same),
-        (Some(Placing::Placed), Some(Placing::Same(2)))
+        (Placing::Placed, Placing::Same(2))
     );
     let nodes = shared.number(&mut first);
     assert_eq!(rt; nodes, 2);

@@ -61,12 +61,11 @@ fn work(shared: &Shared, hall: &Hall, worker: &mut Worker)
             return;
         };
         let node = match placing {
-            Some(Placing::Placed) => {
+            Placing::Placed => {
                 worker.placed = worker.placed.wrapping_add(1);
                 mark.wrapping_add(1)
             }
-            Some(Placing::Same(node)) => node,
-            None => return,
+            Placing::Same(node) => node,
         };
         // a worker that is out of memory loses a node, and the test fails
         let _pushed = worker.nodes.push(node);

@@ -11,9 +11,10 @@ use lib.ListN.{get_elem?}
 use Rattle.atomic_table.specs.Table.{State, Me, Act, step, stepped, Valid, carried_after, Allows, Splits, Joins}
 use Rattle.atomic_table.specs.Table.Act.{keeps}
 use Rattle.plan_words.specs.declared.openings.Aim.{Aim}
-use Rattle.plan_words.specs.Plays.{Claims, Counts, FindsPoint, FindsTree, Finishes, Links, Loads, Lowers, TellsHand, WritesFirst, WritesPoint, WritesTree}
+use Rattle.plan_words.specs.Plays.{Claims, Counts, FindsCount, FindsPoint, FindsTree, Finishes, Links, Loads, Lowers, TellsHand, WritesFirst, WritesPoint, WritesTree}
 use Rattle.plan_words.specs.States.{GoesOn, HoldsWorld}
 use Rattle.step_core.specs.LaterViews.{IsLater}
+use Rattle.step_core.specs.SeenRecords.{MayRecord}
 use Rattle.step_core.specs.Stages.{MayBeRecorded}
 use Rattle.step_core.specs.ViewSteps.{claimed, counted, finished, finished_at, half, joined, linked, linked_at, loaded, looker, lowered}
 use Rattle.step_core.specs.ViewSteps.{mark_of, pair_in_hand, parted, place_in, pointed, saw_at, stepped as one_step, treed, worker_apart}
@@ -33,6 +34,7 @@ use Rattle.step_core.specs.declared.views.Stage.TheVariants.{Claimed, Half, Link
 use Rattle.step_core.specs.declared.views.View.{View}
 use Rattle.step_core.proofs.FinishedMarks.{IsTurnWord-packed, IsWorld-recorded, in_hand}
 use Rattle.step_core.proofs.LaterViews.{IsLater-claimed, IsLater-finished, IsLater-loaded, IsLawfulView-world}
+use Rattle.step_core.proofs.LawfulRecords.{own_count-most}
 use Rattle.step_core.proofs.ViewLists.{at-set}
 use Rattle.step_core.proofs.WordReads.{WritesWord-set, word-found}
 use Rattle.step_core.proofs.WorldJoins.{IsWorld-joined}
@@ -124,6 +126,12 @@ module _ (run : SharedRun) where
         ap (slice_index s.words) (is ∙ ap (λ r. place_of (run_sizes r) (TreeOf n)) own) ∙ found_is s (TreeOf n) there in
         omega (arith, same, tree-written run words s.views id me.0 holds.world at own n seen)
 
+    finds_count : FindsCount me.0 place found
+    finds_count is entry =
+        let same : found ≡ words Count =
+        ap (slice_index s.words) (is ∙ ap (λ r. place_of (run_sizes r) Count) own) ∙ found_is s Count tt in
+        omega (arith, same, own_count-most run words s.views id me.0 holds.world at own entry)
+
   pub may_load :
       (slots id place : ℕ) (me : Me Aim View) (name : Word) → HasWord (run_sizes run) name → place ≡ place_of (run_sizes run) name → me.0.run ≡ run
       → MayLoad me.0 name → Allows (Holds run) slots id me place (λ x. x) (Loads (step slots place 0 0 none) me)
@@ -138,6 +146,7 @@ module _ (run : SharedRun) where
         };
         point = finds_point slots id place me name here at_place own s holds at may;
         tree = finds_tree slots id place me name here at_place own s holds at may;
+        count = finds_count slots id place me name here at_place own s holds at may;
       }
 
   -- ---- claims
@@ -195,9 +204,10 @@ module _ (run : SharedRun) where
   pub may_finish :
       (slots id place x : ℕ) (me : Me Aim View) (hand : Hand) (member : Member) (crew : List Member) (entry : Record)
       → place ≡ place_of (run_sizes run) (RecordOf hand.mark) → me.0.run ≡ run → me.0.hand ≡ Some hand → me.0.crew ≡ member ∷ crew → FitsWord entry
-      → entry.worker ≡ member.worker → entry.turn ≡ member.turn → MayBeRecorded hand.stage entry.outcome → x ≡ record_word entry
+      → entry.worker ≡ member.worker → entry.turn ≡ member.turn → MayBeRecorded hand.stage entry.outcome → MayRecord me.0 hand entry
+      → x ≡ record_word entry
       → Allows (Holds run) slots id me place (λ y. x) (λ y. Finishes (step slots place x 0 none) me x)
-  may_finish slots id place x me hand member crew entry at_place own held crew_is fits worker turn may is s holds homes at low =
+  may_finish slots id place x me hand member crew entry at_place own held crew_is fits worker turn stage may is s holds homes at low =
       let words : Words = words_of_run run s.words in
       let after : Words = words_of_run run (slice_set s.words place x) in
       let mark = in_hand run words s.views id me.0 holds.world at hand held in
@@ -207,7 +217,7 @@ module _ (run : SharedRun) where
       let writes : WritesWord (RecordOf hand.mark) (record_word entry) words after =
       WritesWord-set (run_sizes run) s.words place x (record_word entry) (RecordOf hand.mark) holds.sized mark.low at_place is in
       let world : IsWorld run after (set s.views id (finished me.0 hand.mark (record_word entry))) =
-      IsWorld-recorded run words after s.views id me.0 holds.world at own hand held member crew crew_is entry fits worker turn may writes in
+      IsWorld-recorded run words after s.views id me.0 holds.world at own hand held member crew crew_is entry fits worker turn stage may writes in
       let written = (IsTurnWord-packed entry fits).written in
       owes slots id place x me s (finished_at me.0 place x) (Finishes (step slots place x 0 none) me x) holds
       (subst (λ v. IsWorld run after (set s.views id v)) same world)

@@ -7,6 +7,7 @@ use mathlib.Core.Option.{some, some-injective, some-ne-none}
 use Rattle.atomic_table.specs.Seated.{TableId}
 use Rattle.plan_model.specs.Turns.{turns_of}
 use Rattle.plan_model.specs.declared.limits.TheConstants.{MOST_WORKERS}
+use Rattle.plan_words.specs.Chains.{HasParentsWithin}
 use Rattle.plan_words.specs.States.{BelongsTo, HoldsWorld, IsTableOf, IsTied, MayClaim, PassState, SharedState}
 use Rattle.plan_words.specs.States.{StartsAs, first_of, first_view, new_pass, run_in, run_of_opening, with_view}
 use Rattle.plan_words.specs.declared.openings.Opening.{Opening}
@@ -16,7 +17,9 @@ use Rattle.step_core.specs.PlacesOfWords.{sizes_in}
 use Rattle.step_core.specs.ViewStarts.{crew_from, member_of}
 use Rattle.step_core.specs.ViewSteps.{parted, second_alone, without_second, worker_apart}
 use Rattle.step_core.specs.Views.{sees}
+use Rattle.step_core.specs.LaterViews.{IsLawfulView}
 use Rattle.step_core.specs.WordNames.{Words}
+use Rattle.step_core.specs.WordNames.Word.{TreeOf}
 use Rattle.step_core.specs.WordPlaces.{word_count}
 use Rattle.step_core.specs.declared.grown.Grown.{Grown}
 use Rattle.step_core.specs.declared.views.SharedRun.{SharedRun}
@@ -43,6 +46,15 @@ module _
     world = IsWorld-started opening.task opening.limit opening.workers opening.words.items sized held some_worker few;
   }
 
+  -- the law holds of the first view, and so parents are among the nodes
+  IsLawfulView-started : IsLawfulView (first_view opening)
+  IsLawfulView-started =
+      IsLawfulView-world (run_of_opening opening) (run_words opening.task opening.words.items) (first_view opening ∷ []) 0 (first_view opening)
+      HoldsWorld-started.world refl refl
+
+  pub HasParentsWithin-started : HasParentsWithin (length opening.task.marks) (λ n. run_words opening.task opening.words.items (TreeOf n))
+  HasParentsWithin-started n within written = (IsLawfulView-started.pairs n written).within
+
   -- the first pass works as worker 0
   pub IsTied-started :
       (turn : ℕ) → turn ≡ turns_of (record_at (run_words opening.task opening.words.items)) (length opening.task.marks) 0
@@ -56,7 +68,7 @@ module _
             ap (λ n. Some (record { worker = 0; turn = n })) is
             ∙ sym (ap first_of (ap (crew_from run words 0) all ∙ crew-more run words 0 opening.workers some_worker));
         hand_is = refl;
-        lawful = IsLawfulView-world run words (first_view opening ∷ []) 0 (first_view opening) HoldsWorld-started.world refl refl;
+        lawful = IsLawfulView-started;
       }
 
   -- and the table is of this run

@@ -1,6 +1,6 @@
 -- A pass goes on by a join and the load that follows it.
-use Rattle.std.proofs.Common.{◌≡◌, ℕ, ◌<◌, ◌≤◌, List, [], ◌∷◌, ◌++◌, length, Option, Some, None, false, true, refl, sym, ap, ◌∙◌, subst, arith}
-use Rattle.std.specs.Prelude.{is_some, slice_index}
+use Rattle.std.proofs.Common.{◌≡◌, ℕ, ◌<◌, ◌≤◌, ◌^◌, Bool, List, [], ◌∷◌, ◌++◌, length, Option, Some, None, false, true, refl, sym, ap, ◌∙◌, subst, arith}
+use Rattle.std.specs.Prelude.{◌==◌, ◌&&◌, cond, is_some, nat_le, nat_lt, slice_index}
 use Rattle.atomic_table.specs.Table.{Me}
 use Rattle.plan_words.specs.declared.openings.Aim.{Aim}
 use Rattle.plan_words.specs.Plays.{Tells}
@@ -11,6 +11,7 @@ use Rattle.step_core.specs.Views.{run_sizes, sees, words_of_run}
 use Rattle.step_core.specs.WordKinds.{later_word}
 use Rattle.step_core.specs.WordKinds.WordKind.{Falling}
 use Rattle.step_core.specs.WordNames.Word.{Count, TreeOf}
+use Rattle.step_core.specs.Words.{cost_in}
 use Rattle.step_core.specs.declared.views.Hand.{Hand}
 use Rattle.step_core.specs.declared.views.Member.{Member}
 use Rattle.step_core.specs.declared.views.View.{View}
@@ -61,28 +62,39 @@ HasPairs-joined view other pairs others now same has theirs sized taken = record
 }
 
 pub keeps_taken_over :
-    (me mid after : Me Aim View) (other : View) (own member : Option Member) (hand : Option Hand) (for_spots for_near for_around : ℕ)
+    (me mid after : Me Aim View) (other : View) (own member : Option Member) (hand : Option Hand) (for_spots for_near waiting : ℕ)
     (pairs others now : List ℕ) (place x : ℕ) → mid ≡ (joined me.0 other, me.1) → Tells mid (saw_at mid.0 place x x) after → place ≡ place_in mid.0 Count
-    → Keeps me own hand for_spots for_near for_around pairs → other.run ≡ me.0.run → HasPairs other others → member ≡ first_of (me.0.crew ++ other.crew)
+    → Keeps me own hand for_spots for_near waiting pairs → other.run ≡ me.0.run → HasPairs other others → member ≡ first_of (me.0.crew ++ other.crew)
     → length now ≡ length pairs
     → ((n : ℕ) → n < length pairs → slice_index now n ≡ later_word Falling (slice_index pairs n) (slice_index others n))
-    → Keeps after member hand for_spots for_near for_around now
-keeps_taken_over me mid after other own member hand for_spots for_near for_around pairs others now place x mid_is told at_place (none, tied, room, has) same theirs
+    → Keeps after member hand for_spots for_near waiting now
+keeps_taken_over me mid after other own member hand for_spots for_near waiting pairs others now place x mid_is told at_place (none, tied, room, has) same theirs
     member_is sized taken =
-    let kept : Keeps mid member hand for_spots for_near for_around now = (
+    let kept : Keeps mid member hand for_spots for_near waiting now = (
       ap (λ m. m.1) mid_is ∙ none,
       record {
         member_is = member_is ∙ ap (λ m. first_of m.0.crew) (sym mid_is);
         hand_is = tied.hand_is ∙ ap (λ m. m.0.hand) (sym mid_is);
         lawful = told.goes_on.was_lawful;
       },
-      subst (λ r. HasRoom r for_spots for_near for_around) (sym (ap (λ m. m.0.run) mid_is)) room,
+      subst (λ r. HasRoom r for_spots for_near waiting) (sym (ap (λ m. m.0.run) mid_is)) room,
       subst (λ m. HasPairs m.0 now) (sym mid_is) (HasPairs-joined me.0 other pairs others now same has theirs sized taken),
     ) in
-    keeps_saw mid after member hand for_spots for_near for_around now Count place x x told kept tt at_place (λ n e. cc)
+    keeps_saw mid after member hand for_spots for_near waiting now Count place x x told kept tt at_place (λ n e. cc)
 
 -- ---- whether the pass has a worker of its own
 
 pub none-member : (o : Option Member) → is_some o ≡ false → o ≡ None
 none-member None h = refl
 none-member (Some member) h = cc
+
+-- ---- the later of two tree words
+
+-- it is one of them
+pub later_word-either : (has : ℕ → Type 0) (one other : ℕ) → has one → has other → has (later_word Falling one other)
+later_word-either has one other own theirs = by_tests (one == 0) (nat_le (2 ^ 63) other && nat_lt (cost_in other) (cost_in one))
+  where
+    by_tests : (none cheaper : Bool) → has (cond none other (cond cheaper other one))
+    by_tests true cheaper = theirs
+    by_tests false true = theirs
+    by_tests false false = own

@@ -3,6 +3,7 @@ pub mod GoingOn
 pub mod Allowing
 pub mod Owning
 pub mod LookedNodes
+pub mod FittingRecords
 pub mod Tying
 pub mod HandSteps
 pub mod KeptPairs
@@ -13,3 +14,8 @@ pub mod Claiming
 pub mod CountedTurns
 pub mod Dealing
 pub mod NearestParents
+pub mod Ending
+pub mod MovedChildren
+pub mod MarkedNodes
+pub mod ChainWalks
+pub mod SeenChildren

@@ -11,6 +11,7 @@ use Rattle.plan_model.specs.declared.geometry.Point.{Point}
 use Rattle.plan_words.specs.Plays.{Claims, Counts, Finishes, Links, Loads, Lowers, Tells, WritesFirst, WritesPoint, WritesTree}
 use Rattle.plan_words.specs.States.{BelongsTo, GoesOn, HoldsWorld, IsTableOf, PassState, SharedState, run_in, run_of_opening, with_view}
 use Rattle.step_core.specs.LaterViews.{IsLawfulView}
+use Rattle.step_core.specs.SeenRecords.{MayRecord}
 use Rattle.step_core.specs.Stages.{MayBeRecorded}
 use Rattle.step_core.specs.ViewTrees.{IsSteered, LeadsTo, MayHang, MayLoad, MayLower}
 use Rattle.step_core.specs.declared.views.Stage.TheVariants.{Claimed, Half, Linked, Pointed, Treed}
@@ -72,13 +73,13 @@ module _ (table : TableId) (key : Opening) (run : SharedRun) (places : WordPlace
       (seat : TableId) (id place x : ℕ) (me : Me Aim View) (hand : Hand) (member : Member) (crew : List Member) (entry : Record) → seat ≡ table
       → me.0.run ≡ run → place ≡ place_of (run_sizes run) (RecordOf hand.mark) → hand.mark < length run.marks → me.0.hand ≡ Some hand
       → me.0.crew ≡ member ∷ crew → FitsWord entry → entry.worker ≡ member.worker → entry.turn ≡ member.turn
-      → MayBeRecorded hand.stage entry.outcome → x ≡ record_word entry
+      → MayBeRecorded hand.stage entry.outcome → MayRecord me.0 hand entry → x ≡ record_word entry
       → (seat ≡ table) × (place < table.words) × Allows (Kept key) table.slots id me place (λ y. x) (λ y. Finishes (step table.slots place x 0 none) me x)
-  may_finish_here seat id place x me hand member crew entry same own at_place low held crew_is entry_fits worker turn may is = (
+  may_finish_here seat id place x me hand member crew entry same own at_place low held crew_is entry_fits worker turn stage may is = (
     same,
     within (RecordOf hand.mark) place low at_place,
     subst (λ r. Allows (Holds r) table.slots id me place (λ y. x) (λ y. Finishes (step table.slots place x 0 none) me x)) (sym fits.key_is)
-        (may_finish run table.slots id place x me hand member crew entry at_place own held crew_is entry_fits worker turn may is),
+        (may_finish run table.slots id place x me hand member crew entry at_place own held crew_is entry_fits worker turn stage may is),
   )
 
   pub may_point_here :

@@ -1,5 +1,5 @@
 -- What a pass keeps beside its view, after steps that the law tells nothing of, and the word that it stores for its turn.
-use Rattle.std.proofs.Common.{◌≡◌, ℕ, ◌+◌, ◌^◌, ◌<◌, ◌≤◌, List}
+use Rattle.std.proofs.Common.{◌≡◌, ℕ, ◌+◌, ◌<◌, ◌≤◌, List}
 use Rattle.std.proofs.Common.{[], ◌∷◌, length, Option, Some, None, refl, sym, ap, ◌∙◌, subst, arith}
 use Rattle.std.specs.Prelude.{IfSome, IsSome, is_some}
 use mathlib.Core.Option.{some, some-ne-none}
@@ -11,9 +11,10 @@ use Rattle.plan_words.specs.States.{BelongsTo, GoesOn, HasRoom, IsTied, MayClaim
 use Rattle.step_core.specs.LaterViews.{IsLawfulView}
 use Rattle.step_core.specs.ViewSteps.{finished_at, looker, one_turn_more, parted, second_alone, stepped, without_second, worker_apart}
 use Rattle.step_core.specs.PlacesOfWords.{sizes_in}
+use Rattle.step_core.specs.SeenRecords.{MayRecord}
 use Rattle.step_core.specs.ViewTrees.{IsSeenPair}
 use Rattle.step_core.specs.Views.{IsViewOf, run_sizes, spent, words_of_run}
-use Rattle.step_core.specs.Words.{FitsWord, last_field}
+use Rattle.step_core.specs.Words.{FitsWord}
 use Rattle.step_core.specs.declared.views.Hand.{Hand}
 use Rattle.step_core.specs.declared.views.Member.{Member}
 use Rattle.step_core.specs.declared.views.SharedRun.{SharedRun}
@@ -22,6 +23,7 @@ use Rattle.step_core.specs.declared.word_places.WordPlaces.{WordPlaces}
 use Rattle.step_core.proofs.LaterViews.{IsLater-stepped}
 use Rattle.step_core.proofs.SeenTreesOfViews.{SeesTree-apart, SeesTree-looker, SeesTree-parted, SeesTree-stepped}
 use Rattle.step_core.proofs.WorldSplits.{goes_at, stays_at}
+use Rattle.plan_words.proofs.FittingRecords.{last_fits, nearest_fits}
 
 -- ---- a pass with a mark in hand
 
@@ -65,18 +67,18 @@ turn_few view member lawful is held = by_hand view.hand refl
     by_hand None e = (let none = sym held ∙ ap is_some e in cc)
     by_hand (Some own) e = omega (arith, lawful.turn own 0 member e (first_at member view.crew is), lawful.run.marks)
 
--- its record fits a word, if the other fields do
+-- its record fits a word
 pub entry_fits :
     (view : View) (hand : Hand) (entry : Record) → IsLawfulView view → view.hand ≡ Some hand → entry.worker ≡ worker_of view.crew
-    → entry.turn ≡ turn_of view.crew → entry.nearest < 2 ^ 18 → last_field entry.outcome entry.class < 2 ^ 18 → FitsWord entry
-entry_fits view hand entry lawful held worker turn nearest last =
+    → entry.turn ≡ turn_of view.crew → MayRecord view hand entry → FitsWord entry
+entry_fits view hand entry lawful held worker turn may =
     let has = HasMember-held view hand lawful held in
     let first = ap (λ l. get_elem? l 0) has.crew_is in
     record {
       worker = omega (arith, worker, ap worker_of has.crew_is, lawful.worker 0 has.member first, lawful.run.workers.1);
       turn = omega (arith, turn, ap turn_of has.crew_is, lawful.turn hand 0 has.member held first, lawful.run.marks);
-      nearest = nearest;
-      last = last;
+      nearest = nearest_fits view hand entry lawful may;
+      last = last_fits view hand entry lawful may;
     }
 
 -- once its record is stored, it may claim again
@@ -187,18 +189,18 @@ IsTied-looker view lawful = record { member_is = refl; hand_is = refl; lawful = 
 
 -- lists with room for one more than there are marks have room for each node
 pub HasRoom-new :
-    (places : WordPlaces) (run own : SharedRun) (nodes for_spots for_near for_around : ℕ) → sizes_in places ≡ run_sizes run → own ≡ run
-    → nodes ≡ (sizes_in places).marks + 1 → (nodes ≤ for_spots) × (nodes ≤ for_near) × (nodes ≤ for_around)
-    → HasRoom own for_spots for_near for_around
-HasRoom-new places run own nodes for_spots for_near for_around same own_is nodes_is (spots, near, around) =
+    (places : WordPlaces) (run own : SharedRun) (nodes for_spots for_near waiting : ℕ) → sizes_in places ≡ run_sizes run → own ≡ run
+    → nodes ≡ (sizes_in places).marks + 1 → (nodes ≤ for_spots) × (nodes ≤ for_near) × (waiting ≡ nodes)
+    → HasRoom own for_spots for_near waiting
+HasRoom-new places run own nodes for_spots for_near waiting same own_is nodes_is (spots, near, around) =
     let marks : length own.marks + 1 ≡ nodes = ap (λ r. length r.marks + 1) own_is ∙ sym (ap (λ s. s.marks + 1) same) ∙ sym nodes_is in
     record { spots = omega (arith, marks, spots); near = omega (arith, marks, near); around = omega (arith, marks, around) }
 
 -- and keep it for the same run
 pub HasRoom-kept :
-    (run own : SharedRun) (for_spots for_near for_around : ℕ) → own ≡ run → HasRoom run for_spots for_near for_around
-    → HasRoom own for_spots for_near for_around
-HasRoom-kept run own for_spots for_near for_around same room = subst (λ r. HasRoom r for_spots for_near for_around) (sym same) room
+    (run own : SharedRun) (for_spots for_near waiting : ℕ) → own ≡ run → HasRoom run for_spots for_near waiting
+    → HasRoom own for_spots for_near waiting
+HasRoom-kept run own for_spots for_near waiting same room = subst (λ r. HasRoom r for_spots for_near waiting) (sym same) room
 
 -- the first of the crew stays
 first_stays : (crew : List Member) → first_of (without_second crew) ≡ first_of crew

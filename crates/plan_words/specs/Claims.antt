@@ -37,6 +37,12 @@ AllLoaded view steps = (g : ℕ) → g < view.run.strips → steps < last_look v
 abbrev pub AllFull : View → ℕ → Type 0
 AllFull view limit = (g : ℕ) → g < view.run.strips → quota_of view.run.strips g limit ≤ sees view (Counter g)
 
+-- No mark below its greatest limit is left: it has seen each strip's counter at or above its quota below a limit that is no less.
+pub record HasNoneLeft (view : View) : Type 0 where
+  pub limit : ℕ
+  pub most : view.most ≤ limit
+  pub full : AllFull view limit
+
 -- share, hand and limit stay
 pub record KeepsHand (before after : View) : Type 0 where
   pub crew : after.crew ≡ before.crew

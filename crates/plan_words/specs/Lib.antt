@@ -3,3 +3,5 @@ pub mod Plays
 pub mod Claims
 pub mod Nodes
 pub mod Parents
+pub mod Chains
+pub mod Waiting

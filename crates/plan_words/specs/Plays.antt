@@ -3,12 +3,14 @@ use Rattle.std.specs.Prelude.{◌≡◌, ◌≢◌, ℕ, ◌≤◌, ◌==◌, �
 use mathlib.Core.Option.{Option, some, none}
 use Rattle.atomic_table.specs.Table.{Me, Step}
 use Rattle.plan_model.specs.declared.geometry.Point.{Point}
+use Rattle.plan_model.specs.declared.records.Record.{Record}
 use Rattle.plan_words.specs.declared.openings.Aim.{Aim}
 use Rattle.plan_words.specs.Parents.{FindsLess}
 use Rattle.plan_words.specs.States.{GoesOn}
+use Rattle.step_core.specs.SeenRecords.{own_count}
 use Rattle.step_core.specs.ViewSteps.{claimed, counted, finished_at, half, linked_at, place_in, pointed, saw_at, treed}
 use Rattle.step_core.specs.ViewTrees.{SeesNode}
-use Rattle.step_core.specs.WordNames.Word.{PointOf, TreeOf}
+use Rattle.step_core.specs.WordNames.Word.{Count, PointOf, TreeOf}
 use Rattle.step_core.specs.Words.{cost_in, parent_in}
 use Rattle.step_core.specs.declared.views.Hand.{Hand}
 use Rattle.step_core.specs.declared.views.View.{View}
@@ -33,11 +35,16 @@ FindsPoint view place found = (n : ℕ) → SeesNode view n → place ≡ place_
 abbrev pub FindsTree : View → ℕ → ℕ → Type 0
 FindsTree view place found = (n : ℕ) → SeesNode view n → place ≡ place_in view (TreeOf n) → 2 ^ 63 ≤ found
 
+-- if the word is the count, it is no less than how many nodes a worker has placed, by the records seen, and the start
+abbrev pub FindsCount : View → ℕ → ℕ → Type 0
+FindsCount view place found = place ≡ place_in view Count → (entry : Record) → own_count view entry ≤ found
+
 -- the view sees the word as it was found
 pub record Loads (step : Step Aim) (before : Me Aim View) (found : ℕ) (after : Me Aim View) : Type 0 where
   pub told : Tells before (saw_at before.0 step.word found found) after
   pub point : FindsPoint before.0 step.word found
   pub tree : FindsTree before.0 step.word found
+  pub count : FindsCount before.0 step.word found
 
 -- ---- claims and records
 

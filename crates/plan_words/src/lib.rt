@@ -15,17 +15,25 @@
 //! there over what the pass has seen; a pass that comes second is told the child that came first. Before that
 //! [`Shared::write_tree`] writes its parent and its cost. Later a pass that knows a cheaper parent lowers the cost by
 //! [`Shared::lower`]: one word holds both, so no other pass sees the one without the other, and no cost ever rises.
+//!
+//! If one pass has taken over all others, and no mark is left, [`Shared::end`] gives the closed run.
+//! A pass remembers the tree words that it saw, with an index from each node to its children by these words, and keeps a list
+//! of nodes that wait to be looked at: [`Pass::queue_children`] and [`Pass::pop_waiting`] are no steps on the table.
 #![tactic(auto)]
 
+mod children;
 mod claims;
+mod ends;
 mod nodes;
 mod openings;
 mod parents;
 mod passes;
 mod rules;
 mod scratch;
+mod seen_pairs;
 mod shared;
 mod starts;
+mod waiting;
 
 pub use passes::Pass;
 pub use scratch::Spot;

@@ -144,7 +144,8 @@ impl Shared {
             .compare_exchange::<Link>(&mut pass.seat, place, 0, u64::from(hand.mark + 1));
         pass.hand = Some(after_link(hand, found));
         if found == 0 {
-            pass.pairs[hand.mark as usize + 1] = pack_tree(hand.parent, hand.cost);
+            pass.pairs
+                .set(hand.mark + 1, pack_tree(hand.parent, hand.cost));
         }
         found as u32
     }

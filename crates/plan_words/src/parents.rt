@@ -32,7 +32,7 @@ impl Shared {
         let seat = &mut pass.seat;
         let place = self.places.tree(node as usize);
         let word = self.table.shared.load::<Load>(seat, place);
-        pass.pairs[node as usize] = word;
+        pass.pairs.set(node, word);
         pair_in(word)
     }
 
@@ -121,7 +121,7 @@ impl Shared {
         // the cost that is seen falls, whichever it is
         ensures falls { FindsLess (sees pass.old.view (TreeOf node)) (sees pass.new.view (TreeOf node)) }
     {
-        let seen = pass.pairs[node as usize];
+        let seen = pass.pairs.word(node);
         let found = self.exchange_tree(pass, node, parent, cost);
         if found == seen {
             return Ok(());
@@ -139,14 +139,14 @@ impl Shared {
         ensures goes_on { GoesOn pass.old.view pass.new.view }
         ensures found { result ≢ sees pass.old.view (TreeOf node) → FindsLess (sees pass.old.view (TreeOf node)) result }
     {
-        let seen = pass.pairs[node as usize];
+        let seen = pass.pairs.word(node);
         let place = self.places.tree(node as usize);
         let word = pack_tree(parent, cost);
         let found = self
             .table
             .shared
             .compare_exchange::<Lower>(&mut pass.seat, place, seen, word);
-        pass.pairs[node as usize] = after_exchange(found, seen, word);
+        pass.pairs.set(node, after_exchange(found, seen, word));
         found
     }
 }

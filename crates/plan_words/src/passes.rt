@@ -1,17 +1,21 @@
 //! What one worker steps with.
 
-ghost use Rattle.std.specs.Prelude.{◌≡◌, ◌<◌, IfSome, IsSome, IsTrue};
+ghost use Rattle.std.specs.Prelude.{◌≡◌, ◌<◌, ◌≤◌, ◌^◌, IfNone, IfSome, IsSome, IsTrue, length};
 ghost use Rattle.plan_model.specs.declared.limits.TheConstants.{MOST_MARKS, MOST_WORKERS};
 ghost use Rattle.step_core.specs.Stages.{has_point};
-ghost use Rattle.step_core.specs.Views.{share};
+ghost use Rattle.step_core.specs.Views.{sees, share};
+ghost use Rattle.step_core.specs.WordNames.Word.{TreeOf};
+ghost use Rattle.step_core.specs.Words.{tree_of_word};
+ghost use Rattle.plan_words.specs.Parents.{IsPairIn};
 ghost use Rattle.plan_words.specs.States.{turn_of, worker_of};
 
 use crate::openings::Aim;
 use crate::scratch::Scratch;
+use crate::seen_pairs::SeenPairs;
 use atomic_table::Seat;
 use plan_model::Point;
 use std::marker::Model;
-use step_core::{Hand, Member, View};
+use step_core::{Hand, Member, View, read_tree};
 
 /// The handle of one worker on a shared tree, of several after a join, or of none: then it only looks. A contract sees it
 /// as its table, its view, which is what it has seen and has in hand, and its scratch lists.
@@ -22,7 +26,7 @@ pub struct Pass {
     pub(crate) member: Option<Member>,
     pub(crate) hand: Option<Hand>,
     /// The tree word of each node as it saw that last, 0 if it did not.
-    pub(crate) pairs: Vec<u64>,
+    pub(crate) pairs: SeenPairs,
     pub(crate) scratch: Scratch,
 }
 
@@ -37,12 +41,13 @@ impl Model for Pass {
       view = p.seat.me.0;
       spots = p.scratch.spots.items;
       near = p.scratch.near.items;
-      around = p.scratch.around.items;
+      around = p.scratch.around.nodes;
+      waits = p.scratch.around.waits;
     } };
 
     ghost invariant = { λ p. (p.seat.me.1 ≡ []) × IsTied p.seat.me.0 p.member p.hand
-        × HasRoom p.seat.me.0.run (vec_capacity p.scratch.spots) (vec_capacity p.scratch.near) (vec_capacity p.scratch.around)
-        × HasPairs p.seat.me.0 p.pairs.items };
+        × HasRoom p.seat.me.0.run (vec_capacity p.scratch.spots) (vec_capacity p.scratch.near) p.scratch.around.size
+        × HasPairs p.seat.me.0 p.pairs };
 }
 
 impl Pass {
@@ -70,6 +75,16 @@ impl Pass {
             Some(member) => member.turn,
             None => 0,
         }
+    }
+
+    /// The parent and the cost that it saw last of a node, or `None` if it saw none. This is no step.
+    pub fn pair(&self, node: u32) -> Option<(u32, u64)>
+        requires { node ≤ length self.now.view.run.marks }
+        ensures word { result ≡ tree_of_word (sees self.now.view (TreeOf node)) }
+        ensures found { IfSome result (λ pair. IsPairIn (sees self.now.view (TreeOf node)) pair) }
+        ensures none { IfNone result (sees self.now.view (TreeOf node) < 2 ^ 63) }
+    {
+        read_tree(self.pairs.word(node))
     }
 
     /// The point that it has written for the mark in hand.

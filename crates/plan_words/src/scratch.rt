@@ -2,12 +2,14 @@
 //!
 //! They are taken when the pass is made, with room for each node of the run, so that no search takes memory.
 
-ghost use Rattle.std.specs.Prelude.{◌≡◌, ℕ, ◌<◌, ◌≤◌, ◌+◌, ◌++◌, ◌∷◌, [], IfOk, IsPermutation, None, Some, length, option_to_list, slice_get};
+ghost use Rattle.std.specs.Prelude.{◌≡◌, ◌⊎◌, ℕ, ◌<◌, ◌≤◌, ◌+◌, ◌++◌, ◌∷◌, [], true, false, IfOk, IfSome, IsPermutation, None, Some, length, option_to_list, slice_get};
 ghost use Rattle.std.specs.List.Sorted.{IsNonDecreasing};
 ghost use Rattle.std.specs.Vec.{vec_capacity};
+ghost use Rattle.plan_words.specs.Waiting.{HasSeenParent, IsOn};
 ghost use Rattle.step_core.specs.LaterViews.{IsLawfulView};
 
 use crate::passes::Pass;
+use crate::waiting::Waiting;
 use plan_model::Point;
 use std::alloc::{AllocError, Global};
 
@@ -29,19 +31,20 @@ pub struct Spot {
 pub(crate) struct Scratch {
     pub(crate) spots: Vec<Spot>,
     pub(crate) near: Vec<u32>,
-    pub(crate) around: Vec<u32>,
+    /// The second list, which is also that of the nodes that wait.
+    pub(crate) around: Waiting,
 }
 
 impl Scratch {
     /// Empty lists with room for so many nodes.
     pub(crate) fn new(alloc: Global, nodes: usize) -> Result<Scratch, AllocError>
-        ensures empty { IfOk result (λ lists. (lists.spots.items ≡ []) × (lists.near.items ≡ []) × (lists.around.items ≡ [])) }
-        ensures room { IfOk result (λ lists. (nodes ≤ vec_capacity lists.spots) × (nodes ≤ vec_capacity lists.near) × (nodes ≤ vec_capacity lists.around)) }
+        ensures empty { IfOk result (λ lists. (lists.spots.items ≡ []) × (lists.near.items ≡ []) × (lists.around ≡ record { nodes = []; waits = false; size = nodes })) }
+        ensures room { IfOk result (λ lists. (nodes ≤ vec_capacity lists.spots) × (nodes ≤ vec_capacity lists.near) × (lists.around.size ≡ nodes)) }
     {
         Ok(Scratch {
             spots: Vec::with_capacity(alloc, nodes)?,
             near: Vec::with_capacity(alloc, nodes)?,
-            around: Vec::with_capacity(alloc, nodes)?,
+            around: Waiting::new(alloc, nodes)?,
         })
     }
 }
@@ -127,10 +130,61 @@ impl Pass {
         self.scratch.around.as_slice()
     }
 
-    /// The near list and the second list change places.
+    /// The near list and the second list change places. No node waits then.
     pub fn swap_lists(&mut self)
-        ensures { self.new ≡ record self.old { near = self.old.around; around = self.old.near } }
+        ensures { self.new ≡ record self.old { near = self.old.around; around = self.old.near; waits = false } }
     {
-        std::mem::swap(&mut self.scratch.near, &mut self.scratch.around);
+        self.scratch.around.swap(&mut self.scratch.near);
+    }
+
+    /// Empties the second list. What comes on it from now on waits to be looked at.
+    pub fn begin_waiting(&mut self)
+        ensures waits { self.new ≡ record self.old { around = []; waits = true } }
+        ensures lawful { IsLawfulView self.new.view }
+    {
+        self.scratch.around.begin();
+    }
+
+    /// Puts a node on the second list, if it is not there. O(1).
+    pub fn push_waiting(&mut self, node: u32)
+        requires waits { self.old.waits ≡ true }
+        requires low { node ≤ length self.old.view.run.marks }
+        ensures others { self.new ≡ record self.old { around = self.new.around } }
+        ensures here { IsOn self.new.around node }
+        ensures keeps { (n : ℕ) → IsOn self.old.around n → IsOn self.new.around n }
+        ensures only { (n : ℕ) → IsOn self.new.around n → IsOn self.old.around n ⊎ (n ≡ node) }
+    {
+        self.scratch.around.push(node);
+    }
+
+    /// Puts all nodes on the second list that are not there and whose parent is this node, by their tree words as the pass saw them
+    /// last. O(k) for k children.
+    pub fn queue_children(&mut self, node: u32)
+        requires waits { self.old.waits ≡ true }
+        requires low { node ≤ length self.old.view.run.marks }
+        ensures others { self.new ≡ record self.old { around = self.new.around } }
+        ensures all { (n : ℕ) → HasSeenParent self.old.view node n → IsOn self.new.around n }
+        ensures keeps { (n : ℕ) → IsOn self.old.around n → IsOn self.new.around n }
+        ensures only { (n : ℕ) → IsOn self.new.around n → IsOn self.old.around n ⊎ HasSeenParent self.old.view node n }
+    {
+        self.pairs.queue_children(node, &mut self.scratch.around);
+    }
+
+    /// Takes the last node off the second list.
+    pub fn pop_waiting(&mut self) -> Option<u32>
+        requires { self.old.waits ≡ true }
+        ensures others { self.new ≡ record self.old { around = self.new.around } }
+        ensures popped { self.old.around ≡ self.new.around ++ option_to_list result }
+        ensures none { result ≡ None → self.old.around ≡ [] }
+        ensures low { IfSome result (λ n. n ≤ length self.old.view.run.marks) }
+        // it was on the list, which has all others still, and is shorter
+        ensures was_on { IfSome result (λ n. IsOn self.old.around n) }
+        ensures keeps { (n : ℕ) → IsOn self.old.around n → IsOn self.new.around n ⊎ (result ≡ Some n) }
+        ensures only { (n : ℕ) → IsOn self.new.around n → IsOn self.old.around n }
+        ensures shorter { IfSome result (λ n. length self.new.around < length self.old.around) }
+        // what the law says of a view holds of that of each pass
+        ensures lawful { IsLawfulView self.new.view }
+    {
+        self.scratch.around.pop()
     }
 }

@@ -1,8 +1,12 @@
 //! The shared words, and the steps that look at a number, record a mark, split a pass and join two.
 
-ghost use Rattle.std.specs.Prelude.{◌≡◌, ℕ, ◌+◌, ◌<◌, ◌^◌, length, slice_index, IfOk, None, OnErr, OnOk, IsSome, IfSome};
+ghost use Rattle.std.specs.Prelude.{◌≡◌, ℕ, ◌+◌, ◌<◌, ◌≤◌, length, slice_index, IfOk, None, OnErr, OnOk, IsSome, IfSome};
 ghost use Rattle.plan_model.specs.declared.limits.TheConstants.{MOST_MARKS};
+ghost use Rattle.plan_model.specs.declared.records.Record.{Record};
+ghost use Rattle.plan_words.specs.Chains.{HasParentsBelow};
 ghost use Rattle.plan_words.specs.States.{BelongsTo, GoesOn, MayClaim, new_pass, turn_of, turned, with_view, worker_of};
+ghost use Rattle.step_core.specs.PlacesOfWords.{sizes_in};
+ghost use Rattle.step_core.specs.SeenRecords.{MayRecord, own_count};
 ghost use Rattle.step_core.specs.Stages.{MayBeRecorded};
 ghost use Rattle.step_core.specs.ViewSteps.{finished, joined, loaded, looker, stepped};
 ghost use Rattle.step_core.specs.Views.{last_look, sees, share};
@@ -10,12 +14,14 @@ ghost use Rattle.step_core.specs.WordKinds.{AreBehind, later_word};
 ghost use Rattle.step_core.specs.WordKinds.WordKind.{Falling};
 ghost use Rattle.step_core.specs.WordNames.{WritesWord};
 ghost use Rattle.step_core.specs.WordNames.Word.{Count, Counter};
-ghost use Rattle.step_core.specs.Words.{last_field, record_word};
+ghost use Rattle.step_core.specs.WordPlaces.{word_count};
+ghost use Rattle.step_core.specs.Words.{record_word};
 
 use crate::openings::{Aim, Opening};
 use crate::passes::Pass;
 use crate::rules::{Finish, Load, Look, TakeOver, WorldLaw};
 use crate::scratch::Scratch;
+use crate::seen_pairs::SeenPairs;
 use atomic_table::Table;
 use plan_model::{Memory, Record, Task};
 use std::alloc::Global;
@@ -31,6 +37,9 @@ pub struct Shared {
     pub(crate) opening: u32,
     pub(crate) places: WordPlaces,
     pub(crate) alloc: Global,
+    /// The list that the words came from; they go back into it when the tree ends.
+    pub(crate) spare: Vec<u64>,
+    ghost sized: { length spare.items ≡ word_count (sizes_in places) },
 }
 
 impl Model for Shared {
@@ -59,6 +68,8 @@ impl Shared {
         ensures goes_on { GoesOn pass.old.view pass.new.view }
         // this word is seen as it was found, all others as before
         ensures seen { WritesWord Count result (sees pass.old.view) (sees pass.new.view) }
+        // there are no fewer nodes than a worker has placed, by the records that were seen
+        ensures own { (entry : Record) → own_count pass.old.view entry ≤ result }
     {
         self.table
             .shared
@@ -80,15 +91,14 @@ impl Shared {
     }
 
     /// Stores the record of the mark in hand, which leaves the hand. It says that the mark was placed if its node is counted,
-    /// and anything else only if its node is not linked.
+    /// and anything else only if its node is not linked; and what it says is borne out by what the pass has seen.
     pub fn finish(&self, pass: &mut Pass, entry: Record)
         requires belongs { BelongsTo pass.old self.now }
         requires hand { IsSome pass.old.view.hand }
         requires worker { entry.worker ≡ worker_of pass.old.view.crew }
         requires turn { entry.turn ≡ turn_of pass.old.view.crew }
-        requires nearest { entry.nearest < 2 ^ 18 }
-        requires last { last_field entry.outcome entry.class < 2 ^ 18 }
-        requires may { IfSome pass.old.view.hand (λ hand. MayBeRecorded hand.stage entry.outcome) }
+        requires stage { IfSome pass.old.view.hand (λ hand. MayBeRecorded hand.stage entry.outcome) }
+        requires may { IfSome pass.old.view.hand (λ hand. MayRecord pass.old.view hand entry) }
         ensures view { IfSome pass.old.view.hand (λ hand. pass.new ≡ with_view pass.old (finished pass.old.view hand.mark (record_word entry))) }
         ensures goes_on { GoesOn pass.old.view pass.new.view }
         ensures may_claim { MayClaim self.now pass.new }
@@ -115,7 +125,7 @@ impl Shared {
         ensures unchanged { OnErr result (pass.new ≡ pass.old) }
         ensures right { IfOk result (λ other. other ≡ new_pass pass.old.table (looker pass.old.view)) }
     {
-        let pairs = Vec::from_slice(self.alloc, pass.pairs.as_slice())?;
+        let pairs = pass.pairs.copy(self.alloc)?;
         let scratch = Scratch::new(self.alloc, self.places.marks() + 1)?;
         let seat = self.table.shared.split_seat::<Look>(&mut pass.seat);
         Ok(Pass {
@@ -152,7 +162,7 @@ impl Shared {
         self.table
             .shared
             .join_seat::<TakeOver>(&mut pass.seat, seat);
-        take_cheaper(&mut pass.pairs, pairs.as_slice());
+        take_cheaper(&mut pass.pairs, &pairs);
         let _count = self
             .table
             .shared
@@ -176,14 +186,17 @@ fn next_turn(member: Option<Member>) -> Option<Member>
 }
 
 /// Each tree word becomes the later of the two that were seen, the one of lower cost. O(n).
-fn take_cheaper(pairs: &mut Vec<u64>, others: &[u64])
-    requires { length others.now ≡ length pairs.old.items }
-    ensures each { (n : ℕ) → n < length pairs.old.items
-        → slice_index pairs.new.items n ≡ later_word Falling (slice_index pairs.old.items n) (slice_index others.now n) }
-    ensures as_many { length pairs.new.items ≡ length pairs.old.items }
+fn take_cheaper(pairs: &mut SeenPairs, others: &SeenPairs)
+    requires sized { length others.now ≡ length pairs.old }
+    requires parents { HasParentsBelow (length pairs.old) pairs.old }
+    requires parents_too { HasParentsBelow (length pairs.old) others.now }
+    ensures each { (n : ℕ) → n < length pairs.old
+        → slice_index pairs.new n ≡ later_word Falling (slice_index pairs.old n) (slice_index others.now n) }
+    ensures as_many { length pairs.new ≡ length pairs.old }
 {
     for node in 0..others.len() {
-        pairs[node] = later_pair(pairs[node], others[node]);
+        let word = later_pair(pairs.word(node), others.word(node));
+        pairs.set(node, word);
     }
 }
 

@@ -5,6 +5,7 @@ ghost use lib.ListN.{get_elem?};
 ghost use mathlib.Core.Option.{some};
 ghost use Rattle.plan_model.specs.Turns.{turns_of};
 ghost use Rattle.plan_model.specs.declared.limits.TheConstants.{MOST_WORKERS};
+ghost use Rattle.plan_words.specs.Chains.{HasParentsWithin};
 ghost use Rattle.plan_words.specs.States.{BelongsTo, MayClaim, PassState, StartsAs, new_pass, run_in, with_view};
 ghost use Rattle.step_core.specs.GrownWords.{record_at, run_words, sizes_of};
 ghost use Rattle.step_core.specs.ViewSteps.{parted, second_alone, worker_apart};
@@ -17,6 +18,7 @@ use crate::openings::Opening;
 use crate::passes::Pass;
 use crate::rules::HandOn;
 use crate::scratch::Scratch;
+use crate::seen_pairs::SeenPairs;
 use crate::shared::Shared;
 use atomic_table::Table;
 use plan_model::{Memory, Task};
@@ -56,7 +58,7 @@ impl Shared {
             task,
             workers,
             limit,
-            words: _,
+            words,
         } = opening;
         let places = WordPlaces::of(&task);
         let shared = Shared {
@@ -66,6 +68,7 @@ impl Shared {
             opening: limit,
             places,
             alloc,
+            spare: words,
         };
         let scratch = Scratch::new(alloc, places.marks() + 1)?;
         let first = Pass {
@@ -114,7 +117,7 @@ impl Shared {
         ensures left { OnOk result (pass.new ≡ with_view pass.old (parted pass.old.view)) }
         ensures right { IfOk result (λ other. other ≡ new_pass pass.old.table (worker_apart pass.old.view)) }
     {
-        let pairs = Vec::from_slice(self.alloc, pass.pairs.as_slice())?;
+        let pairs = pass.pairs.copy(self.alloc)?;
         let scratch = Scratch::new(self.alloc, self.places.marks() + 1)?;
         let seat = self.table.shared.split_seat::<HandOn>(&mut pass.seat);
         Ok(Pass {
@@ -152,17 +155,17 @@ fn count_turns(
 }
 
 /// The tree word of each number, in the words of a run. O(n) for n marks.
-fn tree_words(alloc: Global, task: &Task, words: &[u64]) -> Result<Vec<u64>, AllocError>
+fn tree_words(alloc: Global, task: &Task, words: &[u64]) -> Result<SeenPairs, AllocError>
     requires sized { length words.now ≡ word_count (sizes_of task.now) }
-    ensures count { IfOk result (λ pairs. length pairs.items ≡ length task.now.marks + 1) }
+    requires parents { HasParentsWithin (length task.now.marks) (λ n. run_words task.now words.now (TreeOf n)) }
+    ensures count { IfOk result (λ pairs. length pairs ≡ length task.now.marks + 1) }
     ensures each { IfOk result (λ pairs. (n : ℕ) → n ≤ length task.now.marks
-        → slice_index pairs.items n ≡ run_words task.now words.now (TreeOf n)) }
+        → slice_index pairs n ≡ run_words task.now words.now (TreeOf n)) }
 {
     let places = WordPlaces::of(task);
-    let nodes = places.marks() + 1;
-    let mut pairs = Vec::from_elem(alloc, 0u64, nodes)?;
-    for node in 0..nodes {
-        pairs[node] = words[places.tree(node)];
+    let mut pairs = SeenPairs::new(alloc, places.marks() + 1)?;
+    for node in 0..pairs.len() {
+        pairs.set(node, words[places.tree(node as usize)]);
     }
     Ok(pairs)
 }

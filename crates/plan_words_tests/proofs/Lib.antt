@@ -1,1 +1,3 @@
+pub mod FirstRecords
 pub mod LinkedPlaces
+pub mod Elements

@@ -1,9 +1,16 @@
 -- Passes with a mark in hand, as the tests follow them.
-use Rattle.std.specs.Prelude.{◌≡◌, ℕ, Some}
+use Rattle.std.specs.Prelude.{◌≡◌, ℕ, ◌^◌, ◌≤◌, Some}
+use Rattle.plan_model.specs.Clearance.{Clear}
+use Rattle.plan_model.specs.Cost.{cost_of}
+use Rattle.plan_model.specs.declared.geometry.Point.{Point}
 use Rattle.plan_words.specs.States.{BelongsTo, PassState, SharedState}
 use Rattle.step_core.specs.LaterViews.{IsLawfulView}
+use Rattle.step_core.specs.ViewTrees.{SeesPoint}
+use Rattle.step_core.specs.Views.{sees, setup_in}
+use Rattle.step_core.specs.WordNames.Word.{TreeOf}
 use Rattle.step_core.specs.declared.views.Hand.{Hand}
 use Rattle.step_core.specs.declared.views.Stage.{Stage}
+use Rattle.step_core.specs.declared.views.View.{View}
 
 -- a pass of the tree that has the mark in hand, which has come so far, with no other nearest node than the start
 pub record HoldsMark (shared : SharedState) (k : ℕ) (stage : Stage) (pass : PassState) : Type 0 where
@@ -14,3 +21,15 @@ pub record HoldsMark (shared : SharedState) (k : ℕ) (stage : Stage) (pass : Pa
   pub mark : hand.mark ≡ k
   pub stage_is : hand.stage ≡ stage
   pub from_start : hand.nearest ≡ 0
+
+-- The node in hand hangs below the start at this cost, by a clear segment. The tree word of the start is seen.
+pub record HangsFromStart (cost : ℕ) (view : View) : Type 0 where
+  pub hand : Hand
+  pub held : view.hand ≡ Some hand
+  pub parent_is : hand.parent ≡ 0
+  pub cost_is : hand.cost ≡ cost
+  pub start : Point
+  pub seen : SeesPoint view 0 start
+  pub edge : cost ≡ cost_of start hand.point
+  pub clear : Clear (setup_in view.run).space start hand.point
+  pub written : 2 ^ 63 ≤ sees view (TreeOf 0)

@@ -1,1 +1,2 @@
 pub mod HeldMarks
+pub mod Sharers

@@ -3,7 +3,7 @@
 ghost use Rattle.std.specs.Prelude.{◌≡◌, IfErr, IfOk, IfSome, Some, length, true};
 ghost use Rattle.plan_model.specs.ConfigurationSpace.{space_of};
 ghost use Rattle.plan_words.specs.States.{MayClaim};
-ghost use Rattle.plan_words_tests.specs.HeldMarks.{HoldsMark};
+ghost use Rattle.plan_words_tests.specs.HeldMarks.{HangsFromStart, HoldsMark};
 ghost use Rattle.step_core.specs.Views.{tree_seen};
 ghost use Rattle.step_core.specs.declared.views.Stage.TheVariants.{Claimed, Counted, Pointed, Treed};
 
@@ -82,7 +82,8 @@ fn hang_from_start<R: Abort>(
 ) -> u64
     requires holds { HoldsMark shared.now mark Pointed pass.old }
     requires hall { hall.now ≡ space_of shared.now.task.scene }
-    ensures { HoldsMark shared.now mark Treed pass.new }
+    ensures holds { HoldsMark shared.now mark Treed pass.new }
+    ensures hangs { HangsFromStart result pass.new.view }
 {
     let start = shared.point(pass, 0);
     let pair = shared.tree(pass, 0);
@@ -97,17 +98,27 @@ fn hang_from_start<R: Abort>(
 }
 
 /// Looks to the right of the start, and finds no node there.
-fn expect_free<R: Abort>(rt: &R, shared: &Shared, pass: &mut Pass, mark: u32)
-    requires { HoldsMark shared.now mark Treed pass.old }
-    ensures { HoldsMark shared.now mark Treed pass.new }
+fn expect_free<R: Abort>(rt: &R, shared: &Shared, pass: &mut Pass, mark: u32, cost: u64)
+    requires holds { HoldsMark shared.now mark Treed pass.old }
+    requires hangs { HangsFromStart cost pass.old.view }
+    ensures holds { HoldsMark shared.now mark Treed pass.new }
+    ensures hangs { HangsFromStart cost pass.new.view }
 {
     let child = shared.child(pass, 0, true);
     assert_eq!(rt; child, None);
 }
 
 /// Links the node in hand to the right of the start.
-fn link_at_start<R: Abort>(rt: &R, shared: &Shared, pass: &mut Pass, mark: u32) -> Result<(), u32>
-    requires { HoldsMark shared.now mark Treed pass.old }
+fn link_at_start<R: Abort>(
+    rt: &R,
+    shared: &Shared,
+    pass: &mut Pass,
+    mark: u32,
+    cost: u64,
+) -> Result<(), u32>
+    requires holds { HoldsMark shared.now mark Treed pass.old }
+    requires hangs { HangsFromStart cost pass.old.view }
+    ensures hangs { HangsFromStart cost pass.new.view }
     ensures linked { IfOk result (λ _. HoldsMark shared.now mark Counted pass.new) }
     ensures same { IfErr result (λ _. HoldsMark shared.now mark Treed pass.new) }
     ensures met { IfErr result (λ c. (tree_seen pass.new.view).child 0 true ≡ Some c) }
@@ -129,11 +140,14 @@ fn link_below<R: Abort>(
     shared: &Shared,
     pass: &mut Pass,
     mark: u32,
+    cost: u64,
     met: u32,
 ) -> Result<(), u32>
     requires holds { HoldsMark shared.now mark Treed pass.old }
+    requires hangs { HangsFromStart cost pass.old.view }
     requires met { (tree_seen pass.old.view).child 0 true ≡ Some met }
-    ensures { IfOk result (λ _. HoldsMark shared.now mark Counted pass.new) }
+    ensures hangs { HangsFromStart cost pass.new.view }
+    ensures linked { IfOk result (λ _. HoldsMark shared.now mark Counted pass.new) }
 {
     let above = shared.point(pass, met);
     assert_eq!(rt; above, ABOVE);
@@ -154,25 +168,35 @@ fn link_below<R: Abort>(
 }
 
 /// Counts the start and two nodes.
-fn expect_three<R: Abort>(rt: &R, shared: &Shared, pass: &mut Pass, mark: u32)
-    requires { HoldsMark shared.now mark Counted pass.old }
-    ensures { HoldsMark shared.now mark Counted pass.new }
+fn expect_three<R: Abort>(rt: &R, shared: &Shared, pass: &mut Pass, mark: u32, cost: u64)
+    requires holds { HoldsMark shared.now mark Counted pass.old }
+    requires hangs { HangsFromStart cost pass.old.view }
+    ensures holds { HoldsMark shared.now mark Counted pass.new }
+    ensures hangs { HangsFromStart cost pass.new.view }
 {
     let nodes = shared.number(pass);
     assert_eq!(rt; nodes, 3);
 }
 
-/// Records that the mark in hand was placed.
-fn finish_placed(shared: &Shared, pass: &mut Pass, mark: u32)
-    requires { HoldsMark shared.now mark Counted pass.old }
+/// Records that the mark in hand was placed below the start, in the first turn of its worker, at this cost.
+fn finish_placed<R: Abort>(rt: &R, shared: &Shared, pass: &mut Pass, mark: u32, cost: u64)
+    requires holds { HoldsMark shared.now mark Counted pass.old }
+    requires hangs { HangsFromStart cost pass.old.view }
 {
+    let nodes = shared.number(pass);
+    if nodes == 0 {
+        panic!(rt; "the start is not counted");
+    }
+    if pass.turn() != 0 {
+        panic!(rt; "the worker has handled a mark before");
+    }
     let entry = Record {
         worker: pass.worker(),
-        turn: pass.turn(),
+        turn: 0,
         nearest: 0,
         outcome: Outcome::Placed,
         first_parent: 0,
-        first_cost: 0,
+        first_cost: cost,
         class: 1,
     };
     shared.finish(pass, entry);
@@ -191,20 +215,20 @@ fn two_passes_link_at_one_place(rt: HostRuntime) -> Result<(), Fail> {
     let above = hang_from_start(&rt, &shared, &hall, &mut first, one);
     let beside = hang_from_start(&rt, &shared, &hall, &mut second, other);
     assert_eq!(rt; (above, beside), (12_800, 12_594));
-    expect_free(&rt, &shared, &mut first, one);
-    expect_free(&rt, &shared, &mut second, other);
-    let Ok(()) = link_at_start(&rt, &shared, &mut first, one) else {
+    expect_free(&rt, &shared, &mut first, one, above);
+    expect_free(&rt, &shared, &mut second, other, beside);
+    let Ok(()) = link_at_start(&rt, &shared, &mut first, one, above) else {
         panic!(rt; "the place was taken")
     };
-    let Err(met) = link_at_start(&rt, &shared, &mut second, other) else {
+    let Err(met) = link_at_start(&rt, &shared, &mut second, other, beside) else {
         panic!(rt; "the place was free")
     };
     assert_eq!(rt; met, 1);
-    let Ok(()) = link_below(&rt, &shared, &mut second, other, met) else {
+    let Ok(()) = link_below(&rt, &shared, &mut second, other, beside, met) else {
         panic!(rt; "the place was taken")
     };
-    expect_three(&rt, &shared, &mut first, one);
-    finish_placed(&shared, &mut first, one);
-    finish_placed(&shared, &mut second, other);
+    expect_three(&rt, &shared, &mut first, one, above);
+    finish_placed(&rt, &shared, &mut first, one, above);
+    finish_placed(&rt, &shared, &mut second, other, beside);
     Ok(())
 }

@@ -2,14 +2,20 @@
 
 ghost use Rattle.std.specs.Prelude.{◌≡◌, ◌≤◌, All, IfOk, IfSome, IsTrue, length};
 ghost use Rattle.plan_model.specs.Clearance.{ClearAt};
+ghost use Rattle.plan_model.specs.ClosedLaw.{mark_at};
 ghost use Rattle.plan_model.specs.ConfigurationSpace.{space_of};
 ghost use Rattle.plan_model.specs.Limits.{is_plan};
 ghost use Rattle.plan_model.specs.declared.scenes.Marks.TheVariants.{Listed};
 ghost use Rattle.plan_words.specs.States.{MayClaim};
+ghost use Rattle.plan_words_tests.specs.HeldMarks.{HoldsMark};
+ghost use Rattle.step_core.specs.ViewTrees.{SeesPoint};
+ghost use Rattle.step_core.specs.Views.{share};
+ghost use Rattle.step_core.specs.declared.views.Stage.TheVariants.{Claimed};
 
 use plan_model::{Goal, Memory, Outcome, Point, Record, SmallScene, Task};
 use plan_words::{Pass, Shared};
 use std::alloc::Global;
+use std::process::Abort;
 use std::test::Fail;
 use step_core::Grown;
 
@@ -79,14 +85,34 @@ pub(crate) fn three_passes(alloc: Global, marks: &[Point]) -> Result<Three, Fail
     passes_from(alloc, grown)
 }
 
-/// Claims a mark, and records that it ended at the start.
-pub(crate) fn take_turn(shared: &Shared, pass: &mut Pass, limit: u32) -> Option<u32>
+/// Sees that the mark in hand lies on the start.
+fn expect_on_start<R: Abort>(rt: &R, shared: &Shared, pass: &mut Pass, mark: u32)
+    requires { HoldsMark shared.now mark Claimed pass.old }
+    ensures holds { HoldsMark shared.now mark Claimed pass.new }
+    ensures on_start { SeesPoint pass.new.view 0 (mark_at shared.now.task.marks mark) }
+    ensures part { share pass.new.view ≡ share pass.old.view }
+{
+    let start = shared.point(pass, 0);
+    if shared.task().marks.as_slice()[mark as usize] != start {
+        panic!(rt; "the mark does not lie on the start");
+    }
+}
+
+/// Claims a mark that lies on the start, and records that it ended there.
+pub(crate) fn take_turn<R: Abort>(
+    rt: &R,
+    shared: &Shared,
+    pass: &mut Pass,
+    limit: u32,
+) -> Option<u32>
     requires may_claim { MayClaim shared.now pass.old }
     requires low { shared.now.opening ≤ limit }
     requires limit { limit ≤ length shared.now.task.marks }
     ensures may_claim { MayClaim shared.now pass.new }
+    ensures part { share pass.new.view ≡ share pass.old.view }
 {
     let mark = shared.claim(pass, limit)?;
+    expect_on_start(rt, shared, pass, mark);
     let entry = Record::unplaced(pass.worker(), pass.turn(), 0, Outcome::Same(0));
     shared.finish(pass, entry);
     Some(mark)

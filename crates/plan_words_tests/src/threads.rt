@@ -7,6 +7,7 @@ use crate::passes::{START, take_turn, three_passes};
 use plan_model::Memory;
 use plan_words::{Pass, Shared};
 use std::alloc::Global;
+use std::process::Abort;
 use std::test::Fail;
 use std::thread;
 use std::thread::Threads;
@@ -19,13 +20,13 @@ struct Worker {
 }
 
 /// Claims and records marks until none below the limit is left.
-fn work(shared: &Shared, worker: &mut Worker, limit: u32)
+fn work<R: Abort>(rt: &R, shared: &Shared, worker: &mut Worker, limit: u32)
     requires may_claim { MayClaim shared.now worker.old.pass }
     requires low { shared.now.opening ≤ limit }
     requires limit { limit ≤ length shared.now.task.marks }
 {
     'marks: for _ in 0..limit {
-        match take_turn(shared, &mut worker.pass, limit) {
+        match take_turn(rt, shared, &mut worker.pass, limit) {
             Some(mark) => {
                 // a worker that is out of memory loses a mark, and the test fails
                 let _pushed = worker.marks.push(mark);
@@ -47,12 +48,12 @@ fn worker_of(alloc: Global, shared: &Shared, pass: Pass) -> Worker
 }
 
 /// The workers claim marks, each in a thread of its own.
-fn work_all<R: Threads + Sync>(rt: &R, shared: &Shared, workers: &mut [Worker], limit: u32)
+fn work_all<R: Threads + Sync + Abort>(rt: &R, shared: &Shared, workers: &mut [Worker], limit: u32)
     requires may_claim { All (λ worker. MayClaim shared.now worker.pass) workers.old }
     requires low { shared.now.opening ≤ limit }
     requires limit { limit ≤ length shared.now.task.marks }
 {
-    thread::for_each_mut(rt, workers, 3, &|_, worker| work(shared, worker, limit));
+    thread::for_each_mut(rt, workers, 3, &|_, worker| work(rt, shared, worker, limit));
 }
 
 /// The marks of all workers, in rising number.

@@ -23,7 +23,7 @@ fn expect_turn<R: Abort>(rt: &R, shared: &Shared, pass: &mut Pass, limit: u32, w
     requires limit { limit ≤ length shared.now.task.marks }
     ensures may_claim { MayClaim shared.now pass.new }
 {
-    let mark = take_turn(shared, pass, limit);
+    let mark = take_turn(rt, shared, pass, limit);
     assert_eq!(rt; mark, want);
 }
 

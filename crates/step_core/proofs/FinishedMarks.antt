@@ -1,5 +1,5 @@
 -- The record of the mark in hand keeps the law of worlds.
-use Rattle.std.proofs.Common.{◌≡◌, ℕ, ◌*◌, suc, ◌+◌, ◌/◌, ◌%◌, ◌≤◌, ◌^◌, ◌≢◌, Bool, true, List, ◌∷◌, length, set, Some, refl, sym}
+use Rattle.std.proofs.Common.{◌≡◌, ℕ, ◌*◌, suc, ◌+◌, ◌/◌, ◌%◌, ◌<◌, ◌≤◌, ◌^◌, ◌≢◌, Bool, true, List, ◌∷◌, length, set, Some, refl, sym}
 use Rattle.std.proofs.Common.{ap, ◌∙◌, subst, inl, inr, arith, le_refl}
 use Rattle.std.specs.Prelude.{◌⊎◌, ◌==◌, nat_lt, is_some}
 use mathlib.Core.Option.{some}
@@ -7,10 +7,12 @@ use lib.ListN.{get_elem?}
 use Rattle.std.proofs.lemmas.Bool.{cases_eq, eq-eqb, ne_eqb}
 use Rattle.std.proofs.lemmas.Nat.{div-mul-add, mod-mul-add}
 use Rattle.plan_model.specs.MarkPoints.{is_claimed}
-use Rattle.plan_model.specs.Turns.{once_if}
+use Rattle.plan_model.specs.TreeStates.{GrowsInto}
+use Rattle.plan_model.specs.Turns.{once_if, turns_of}
 use Rattle.plan_model.specs.declared.records.Record.{Record}
 use Rattle.plan_model.specs.Outcomes.{is_placed}
 use Rattle.step_core.specs.GrownWords.{has_placed, record_at}
+use Rattle.step_core.specs.SeenRecords.{MayRecord}
 use Rattle.step_core.specs.Stages.{MayBeRecorded, has_count, has_link}
 use Rattle.step_core.specs.ViewTrees.{SeesTree}
 use Rattle.step_core.specs.ViewSteps.{finished, one_turn_more, saw}
@@ -19,15 +21,17 @@ use Rattle.step_core.specs.WordKinds.{AreBehind}
 use Rattle.step_core.specs.WordNames.{Words, WritesWord}
 use Rattle.step_core.specs.WordNames.Word.{ChildOf, Counter, FirstOf, PointOf, RecordOf, TreeOf}
 use Rattle.step_core.specs.WordPlaces.{HasWord}
-use Rattle.step_core.specs.Words.{FitsWord, IsTurnWord, last_field, number_of_outcome, record_of_word, record_word, turn_in, worker_in}
-use Rattle.step_core.specs.Worlds.{IsRecordWord, IsWorld, counters, is_recorded, limit_of}
+use Rattle.step_core.specs.Words.{FitsWord, IsFirstWord, IsTurnWord, last_field, number_of_outcome, record_of_word, record_word, turn_in, worker_in}
+use Rattle.step_core.specs.Worlds.{IsRecordWord, IsWorld, Records, counters, is_recorded, limit_of, state_in}
 use Rattle.step_core.specs.declared.views.Hand.{Hand}
 use Rattle.step_core.specs.declared.views.Member.{Member}
 use Rattle.step_core.specs.declared.views.SharedRun.{SharedRun}
 use Rattle.step_core.specs.declared.views.View.{View}
 use Rattle.step_core.proofs.FinishedTurns.{Turns-finished, change}
 use Rattle.step_core.proofs.LinkedStates.{GrowsInto-behind}
-use Rattle.step_core.proofs.MarksInHand.{IsInHand, IsInHand-held}
+use Rattle.step_core.proofs.LawfulRecords.{IsFirstWord-seen, IsLawfulRecord-seen}
+use Rattle.step_core.proofs.MarksInHand.{IsInHand, IsInHand-held, claimed-below, greatest_limit-most, once_if-true}
+use Rattle.step_core.proofs.PackedRecords.{record_of_word-packed}
 use Rattle.step_core.proofs.PlacedWords.{has_placed-record_word}
 use Rattle.step_core.proofs.SawWords.{AreBehind-saw, AreBehind-seen, AreBehind-write, HaveWholePairs-saw, IsFair-saw}
 use Rattle.step_core.proofs.SeenByViews.{IsViewOf-saw, WritesWord-saw}
@@ -40,6 +44,8 @@ use Rattle.step_core.proofs.WorldPairs.{Pairs-recorded}
 use Rattle.step_core.proofs.WorldParts.{Numbers-step, record_word-none, Seen-step, Shares-step, limit_of-up, of_run-step, quotas-kept}
 use Rattle.step_core.proofs.WorldSeenPairs.{AreSeenLawfully-own, SeenPairs-set}
 use Rattle.step_core.proofs.WorldSteps.{Sights-set, live, tree}
+use Rattle.step_core.proofs.WholeShares.{worker-below}
+use Rattle.step_core.proofs.WorldRecords.{Records-recorded}
 use Rattle.step_core.proofs.WorldTrees.{Trees-kept}
 
 -- a mark in hand has no record, and is one of the marks
@@ -55,7 +61,7 @@ module _ (run : SharedRun) (words after : Words) (views : List View) (id : ℕ) 
     (crew : List Member) (crew_is : view.crew ≡ member ∷ crew) (x : ℕ) (written : 2 ^ 63 ≤ x) (worker : worker_in x ≡ member.worker)
     (turn : turn_in x ≡ member.turn) (is_packed : IsRecordWord x) (writes : WritesWord (RecordOf hand.mark) x words after) (placed : Bool)
     (reads : (first : ℕ) → has_placed (record_of_word x first) ≡ placed) (linked : placed ≡ has_link hand.stage) (counted : placed ≡ has_count hand.stage)
-    (tree_then : SeesTree (finished view hand.mark x)) where
+    (tree_then : SeesTree (finished view hand.mark x)) (records_then : GrowsInto (state_in run words) (state_in run after) → Records run after) where
   abbrev k : ℕ
   k = hand.mark
 
@@ -146,6 +152,7 @@ module _ (run : SharedRun) (words after : Words) (views : List View) (id : ℕ) 
             (λ of. AreSeenLawfully-own run words after view then trees links.ways of grows own (world.seen_pairs id view at own)
             (AreBehind-saw (RecordOf k) x (sees view) (sees then) after saw_it writes.here behind) tree_then
             (IsFair-saw (RecordOf k) x (sees view) (sees then) after saw_it writes.here behind));
+        records = records_then grows;
         sights = Sights-set run words views id view world at own then (λ of. tree_then);
       }
     where
@@ -158,6 +165,18 @@ module _ (run : SharedRun) (words after : Words) (views : List View) (id : ℕ) 
       others j apart =
           ap is_some
           ((change run words after views id view member crew k x world.turns at crew_is mark.low mark.absent writes written worker turn).others j apart)
+
+-- a mark with a record is one of the marks
+recorded-below : (run : SharedRun) (words : Words) (views : List View) → IsWorld run words views → (j : ℕ) (own : Record) → record_at words j ≡ Some own
+    → j < length run.marks
+recorded-below run words views world j own e =
+    let one : once_if (is_recorded words j) ≡ 1 = ap (λ o. once_if (is_some o)) e in
+    let claimed = once_if-true (is_claimed run.strips (counters words) j) (omega (arith, one, world.numbers.each_once j)) in
+    omega (
+      arith,
+      claimed-below run words views world.run_is.strips.0 world.numbers j claimed,
+      greatest_limit-most run words views world.run_is.strips.0 world.numbers,
+    )
 
 -- and no record of it was seen
 pub none_seen :
@@ -197,16 +216,44 @@ IsTurnWord-packed entry fits =
           ∙ mod-mul-add upper (2 ^ 18) entry.turn fits.turn;
     }
 
+-- the records with it
+Records-finished :
+    (run : SharedRun) (words after : Words) (views : List View) (id : ℕ) (view : View) → IsWorld run words views → get_elem? views id ≡ some view
+    → view.run ≡ run → (hand : Hand) → view.hand ≡ Some hand → (member : Member) (crew : List Member) → view.crew ≡ member ∷ crew → (entry : Record)
+    → FitsWord entry → entry.worker ≡ member.worker → entry.turn ≡ member.turn → MayBeRecorded hand.stage entry.outcome → MayRecord view hand entry
+    → WritesWord (RecordOf hand.mark) (record_word entry) words after → GrowsInto (state_in run words) (state_in run after) → Records run after
+Records-finished run words after views id view world at own hand held member crew crew_is entry fits worker turn stage may writes grows =
+    let says = IsTurnWord-packed entry fits in
+    let mark = in_hand run words views id view world at hand held in
+    let stored = change run words after views id view member crew hand.mark (record_word entry) world.turns at crew_is mark.low mark.absent writes
+    says.written (says.worker_is ∙ worker) (says.turn_is ∙ turn) in
+    let same_first : after (FirstOf (suc hand.mark)) ≡ words (FirstOf (suc hand.mark)) = writes.others (FirstOf (suc hand.mark)) (λ e. cc) in
+    let first = subst (IsFirstWord entry) (sym same_first)
+    (IsFirstWord-seen run words views id view world at own hand held member crew crew_is entry worker may stage) in
+    let mate : get_elem? view.crew 0 ≡ some member = ap (λ l. get_elem? l 0) crew_is in
+    let is_member = world.turns.members id view at 0 member mate in
+    Records-recorded run words after views world.numbers world.links world.trees grows world.records hand.mark entry
+    record {
+      absent = mark.absent;
+      recorded = ap (λ w. record_of_word w (after (FirstOf (suc hand.mark)))) writes.here ∙ record_of_word-packed entry (after (FirstOf (suc hand.mark))) fits first;
+      others = stored.others;
+    }
+    world.run_is.workers.1 (recorded-below run words views world) world.turns.workers
+    (omega (arith, worker, worker-below run words views id view world at 0 member mate))
+    (turn ∙ is_member.turn ∙ ap (turns_of (record_at words) (length run.marks)) (sym worker))
+    (IsLawfulRecord-seen run words views id view world at own hand held member crew crew_is entry worker may stage)
+
 -- the record of the mark in hand, by the first of the crew in its next turn, keeps the law
 pub IsWorld-recorded :
     (run : SharedRun) (words after : Words) (views : List View) (id : ℕ) (view : View) → IsWorld run words views → get_elem? views id ≡ some view
     → view.run ≡ run → (hand : Hand) → view.hand ≡ Some hand → (member : Member) (crew : List Member) → view.crew ≡ member ∷ crew → (entry : Record)
-    → FitsWord entry → entry.worker ≡ member.worker → entry.turn ≡ member.turn → MayBeRecorded hand.stage entry.outcome
+    → FitsWord entry → entry.worker ≡ member.worker → entry.turn ≡ member.turn → MayBeRecorded hand.stage entry.outcome → MayRecord view hand entry
     → WritesWord (RecordOf hand.mark) (record_word entry) words after → IsWorld run after (set views id (finished view hand.mark (record_word entry)))
-IsWorld-recorded run words after views id view world at own hand held member crew crew_is entry fits worker turn may writes =
+IsWorld-recorded run words after views id view world at own hand held member crew crew_is entry fits worker turn stage may writes =
     let says = IsTurnWord-packed entry fits in
     let mark = in_hand run words views id view world at hand held in
     IsWorld-finished run words after views id view world at own hand held member crew crew_is (record_word entry) says.written (says.worker_is ∙ worker)
-    (says.turn_is ∙ turn) (inr (entry, fits, refl)) writes (is_placed entry.outcome) (λ first. has_placed-record_word entry first fits) may.linked may.counted
+    (says.turn_is ∙ turn) (inr (entry, fits, refl)) writes (is_placed entry.outcome) (λ first. has_placed-record_word entry first fits) stage.linked stage.counted
     (SeesTree-finished run view (live run words views id view world at own) (tree run words views id view world at own) hand held mark.low
-    (none_seen run words views id view world at hand held) entry fits may)
+    (none_seen run words views id view world at hand held) entry fits stage)
+    (Records-finished run words after views id view world at own hand held member crew crew_is entry fits worker turn stage may writes)

@@ -44,6 +44,9 @@ pub mod SawWords
 pub mod SeenViews
 pub mod LinkedViews
 pub mod LawfulPairs
+pub mod LinkedCounts
+pub mod WorldRecords
+pub mod LawfulRecords
 pub mod LawfulSights
 pub mod LaterSteps
 pub mod SeenTreesOfViews
@@ -64,6 +67,7 @@ pub mod WorldSeenPairs
 pub mod WorldSplits
 pub mod WorldJoins
 pub mod WholeShares
+pub mod ClosedWorlds
 pub mod StartLinks
 pub mod WorldStarts
 pub mod LinkedWays

@@ -84,7 +84,7 @@ placed-first word first entry e placed = by_test (nat_lt word (2 ^ 63)) (outcome
     by_test false (suc (suc (suc n))) is = (let no = sym (fourth_unplaced word) ∙ ap has_placed is ∙ placed in cc)
 
 -- of any other mark it does not look at it
-record-unplaced : (word first other : ℕ) → has_placed (record_of_word word first) ≡ false → record_of_word word other ≡ record_of_word word first
+pub record-unplaced : (word first other : ℕ) → has_placed (record_of_word word first) ≡ false → record_of_word word other ≡ record_of_word word first
 record-unplaced word first other not_placed = by_test (nat_lt word (2 ^ 63)) (outcome_in word) not_placed
   where
     by_test : (b : Bool) (number : ℕ) → has_placed (cond b None (Some (record_in number word first))) ≡ false
@@ -96,7 +96,7 @@ record-unplaced word first other not_placed = by_test (nat_lt word (2 ^ 63)) (ou
     by_test false (suc (suc (suc n))) h = refl
 
 -- a word that holds a record is not 0
-record-written : (word first : ℕ) (entry : Record) → record_of_word word first ≡ Some entry → 0 < word
+pub record-written : (word first : ℕ) (entry : Record) → record_of_word word first ≡ Some entry → 0 < word
 record-written zero first entry e = cc
 record-written (suc n) first entry e = omega arith
 

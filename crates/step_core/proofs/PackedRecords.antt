@@ -2,6 +2,7 @@
 use Rattle.std.proofs.Common.{◌≡◌, ℕ, ◌+◌, ◌*◌, ◌<◌, ◌≤◌, ◌^◌, Some, refl, sym, ap, subst, ◌∙◌, arith}
 use Rattle.std.specs.Prelude.{IsTrue, ◌==◌, ◌&&◌, unwrap_or}
 use Rattle.std.proofs.lemmas.Bool.Decides.{nat_tests}
+use Rattle.std.proofs.lemmas.Option.{same_Some}
 use Rattle.plan_model.specs.declared.records.Outcome.{Outcome}
 use Rattle.plan_model.specs.declared.records.Outcome.TheVariants.{Placed, Same, Blocked}
 use Rattle.plan_model.specs.declared.records.Record.{Record}
@@ -54,17 +55,17 @@ outcome_in-record_word entry h = (record_word-fields entry h).number_is
 -- ---- records
 
 -- what is 0 of an unplaced mark
-record AreZero (parent cost class : ℕ) : Type 0 where
-  parent_is : parent ≡ 0
-  cost_is : cost ≡ 0
-  class_is : class ≡ 0
+pub record AreZero (parent cost class : ℕ) : Type 0 where
+  pub parent_is : parent ≡ 0
+  pub cost_is : cost ≡ 0
+  pub class_is : class ≡ 0
 
-zeros : (parent cost class : ℕ) → IsTrue (parent == 0 && (cost == 0 && class == 0)) → AreZero parent cost class
+pub zeros : (parent cost class : ℕ) → IsTrue (parent == 0 && (cost == 0 && class == 0)) → AreZero parent cost class
 zeros parent cost class h =
     record { parent_is = grind (arith, nat_tests); cost_is = grind (arith, nat_tests); class_is = grind (arith, nat_tests) }
 
 -- what a record keeps of its unplaced mark, at its outcome
-unplaced_at : (entry : Record) (outcome : Outcome) → entry.outcome ≡ outcome
+pub unplaced_at : (entry : Record) (outcome : Outcome) → entry.outcome ≡ outcome
     → IsTrue (is_zero_unless_placed outcome entry.first_parent entry.first_cost entry.class)
 unplaced_at entry outcome e =
     subst (λ o. IsTrue (is_zero_unless_placed o entry.first_parent entry.first_cost entry.class)) e entry.unplaced
@@ -129,3 +130,55 @@ record_word-one one other first h g f k e =
     let read : Some one ≡ Some other =
     sym (record_of_word-packed one first h f) ∙ ap (λ word. record_of_word word first) e ∙ record_of_word-packed other first g k in
     ap (λ found. unwrap_or found one) read
+
+-- a record that is read from a packed word is packed to that word again
+pub record_word-again : (one entry : Record) (first : ℕ) → FitsWord one → record_of_word (record_word one) first ≡ Some entry
+    → record_word entry ≡ record_word one
+record_word-again one entry first h e = by_outcome one.outcome refl
+  where
+    read : record_in (outcome_in (record_word one)) (record_word one) first ≡ entry
+    read =
+        let set : 2 ^ 63 ≤ record_word one = omega arith in
+        same_Some (record_in (outcome_in (record_word one)) (record_word one) first) entry
+        (sym (if_written-set (record_word one) (record_in (outcome_in (record_word one)) (record_word one) first) set) ∙ e)
+
+    by_number : (number : ℕ) → number_of_outcome one.outcome ≡ number → record_in number (record_word one) first ≡ entry
+    by_number number is = ap (λ n. record_in n (record_word one) first) (sym is ∙ sym (record_word-fields one h).number_is) ∙ read
+
+    by_outcome : (outcome : Outcome) → one.outcome ≡ outcome → record_word entry ≡ record_word one
+    by_outcome Placed is =
+        let fields = record_word-fields one h in
+        ap record_word (sym (by_number 0 (ap number_of_outcome is)))
+        ∙ omega (
+          arith,
+          fields.last_is,
+          fields.nearest_is,
+          fields.turn_is,
+          fields.worker_is,
+          ap number_of_outcome is,
+          ap (λ o. last_field o one.class) is,
+        )
+    by_outcome (Same j) is =
+        let fields = record_word-fields one h in
+        ap record_word (sym (by_number 1 (ap number_of_outcome is)))
+        ∙ omega (
+          arith,
+          fields.last_is,
+          fields.nearest_is,
+          fields.turn_is,
+          fields.worker_is,
+          ap number_of_outcome is,
+          ap (λ o. last_field o one.class) is,
+        )
+    by_outcome Blocked is =
+        let fields = record_word-fields one h in
+        ap record_word (sym (by_number 2 (ap number_of_outcome is)))
+        ∙ omega (
+          arith,
+          fields.last_is,
+          fields.nearest_is,
+          fields.turn_is,
+          fields.worker_is,
+          ap number_of_outcome is,
+          ap (λ o. last_field o one.class) is,
+        )

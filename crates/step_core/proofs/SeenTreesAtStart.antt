@@ -1,5 +1,5 @@
 -- The first view of a shared run, which has seen all words of a closed run, sees its tree.
-use Rattle.std.proofs.Common.{◌≡◌, ℕ, zero, suc, Bool, true, List, Some, refl, sym, ap, ◌∙◌, inl, inr}
+use Rattle.std.proofs.Common.{◌≡◌, ℕ, zero, suc, ◌≤◌, ◌^◌, Bool, true, List, Some, refl, sym, ap, ◌∙◌, inl, inr, arith}
 use Rattle.std.specs.Prelude.{IsSome, is_some}
 use Rattle.std.proofs.lemmas.Bool.{cases_Bool}
 use Rattle.plan_model.specs.declared.geometry.Point.{Point}
@@ -15,6 +15,7 @@ use Rattle.step_core.specs.ViewStarts.{newcomer}
 use Rattle.step_core.specs.ViewTrees.{SeesTree}
 use Rattle.step_core.specs.Views.{run_of}
 use Rattle.step_core.specs.WordNames.{Words}
+use Rattle.step_core.specs.WordNames.Word.{FirstOf}
 use Rattle.step_core.specs.WordPlaces.{Sizes}
 use Rattle.step_core.specs.Words.{point_of_word, tree_of_word}
 use Rattle.step_core.proofs.GrownPoints.{has_node-present, point_of_word-stands, present-within}
@@ -84,11 +85,16 @@ module _ (task : Task) (limit : ℕ) (words : Words) (held : HoldRun task limit 
   pub IsPresent-held : (k : ℕ) → has_node words (suc k) ≡ true → IsPresent all.points (suc k)
   IsPresent-held k h = point_shown (suc k) h
 
+  -- what it was placed at is shown too
+  pub first-held : (k : ℕ) → has_node words (suc k) ≡ true → 2 ^ 63 ≤ words (FirstOf (suc k))
+  first-held k h = omega (arith, (held.written (suc k) (node_present task limit words held (suc k) h)).first)
+
 -- So the first view sees its tree.
 pub SeesTree-started : (task : Task) (limit workers : ℕ) (items : List ℕ) → HoldRun task limit (run_words task items)
     → SeesTree (newcomer (run_of task workers limit) items)
 SeesTree-started task limit workers items held = record {
   rooted = IsRooted-held task limit (run_words task items) held;
   placed = IsPresent-held task limit (run_words task items) held;
+  placed_first = first-held task limit (run_words task items) held;
   holds = λ hand e. cc;
 }

@@ -1,5 +1,5 @@
 -- A view still sees its tree after a step of its own: from node 0 on, with the nodes that it has placed, and the node in its hand.
-use Rattle.std.proofs.Common.{◌≡◌, ◌≢◌, ℕ, suc, ◌+◌, ◌<◌, ◌≤◌, Bool, true, length, Some, refl, sym, ap, ◌∙◌, subst, inl, inr, arith}
+use Rattle.std.proofs.Common.{◌≡◌, ◌≢◌, ℕ, suc, ◌+◌, ◌<◌, ◌≤◌, ◌^◌, Bool, true, length, Some, refl, sym, ap, ◌∙◌, subst, inl, inr, arith}
 use Rattle.std.specs.Prelude.{is_some}
 use Rattle.std.proofs.lemmas.Option.{same_Some}
 use Rattle.plan_model.specs.Bounds.{IsBounded}
@@ -32,7 +32,7 @@ use Rattle.step_core.proofs.PackedWords.{point_of_word-packed}
 use Rattle.step_core.proofs.PlacedWords.{has_node-same, has_placed-record_word}
 use Rattle.step_core.proofs.SawWords.{AreBehind-write}
 use Rattle.step_core.proofs.SeenByViews.{WritesWord-saw}
-use Rattle.step_core.proofs.SeenViews.{SeesHand-later, IsPresent-later, IsRooted-write, SeesPoint-later}
+use Rattle.step_core.proofs.SeenViews.{SeesHand-later, IsPresent-later, IsRooted-write, SeesPoint-later, first-later}
 use Rattle.step_core.proofs.SeenWords.{point_at-seen}
 use Rattle.step_core.proofs.WordKinds.{AreBehind-refl}
 
@@ -59,6 +59,12 @@ placed_still :
 placed_still view then run go tree k same h =
     IsPresent-later view then run go (suc k) (tree.placed k (sym (has_node-same (sees view) (sees then) k same) ∙ h))
 
+first_still :
+    (view then : View) → then.run ≡ view.run → AreBehind (sees view) (sees then) → SeesTree view → (k : ℕ)
+    → sees then (RecordOf k) ≡ sees view (RecordOf k) → has_node (sees then) (suc k) ≡ true → 2 ^ 63 ≤ sees then (FirstOf (suc k))
+first_still view then run go tree k same h =
+    first-later view then run go (suc k) (tree.placed_first k (sym (has_node-same (sees view) (sees then) k same) ∙ h))
+
 -- After a load of a word of the run a view sees its tree.
 pub SeesTree-loaded : (run : SharedRun) (view : View) (words : Words) → IsViewOf run view → AreBehind (sees view) words → SeesTree view
     → (name : Word) → HasWord (run_sizes run) name → MayLoad view name → SeesTree (loaded view name (words name))
@@ -70,6 +76,7 @@ SeesTree-loaded run view words of_run behind tree name here may =
       rooted =
           IsRooted-write (run_sizes view.run) name (words name) (sees view) (sees then) writes go (MayLookAt-load view name may) tree.rooted;
       placed = λ k. placed_still view then refl go tree k (writes.others (RecordOf k) (no_record view name may k));
+      placed_first = λ k. first_still view then refl go tree k (writes.others (RecordOf k) (no_record view name may k));
       holds = λ hand held. SeesHand-later view then refl go hand (tree.holds hand held);
     }
 
@@ -85,6 +92,7 @@ SeesTree-lowered run view of_run tree n parent cost within seen_node may =
     record {
       rooted = IsRooted-write (run_sizes view.run) (TreeOf n) word (sees view) (sees then) writes go seen_node tree.rooted;
       placed = λ k. placed_still view then refl go tree k (writes.others (RecordOf k) (λ e. cc));
+      placed_first = λ k. first_still view then refl go tree k (writes.others (RecordOf k) (λ e. cc));
       holds = λ hand held. SeesHand-later view then refl go hand (tree.holds hand held);
     }
 
@@ -105,10 +113,12 @@ SeesTree-claimed run view words of_run behind tree g c limit strip is =
     record {
       rooted = IsRooted-write (run_sizes view.run) (Counter g) (c + 1) (sees view) (sees then) writes go tt tree.rooted;
       placed = λ k. placed_still view then refl go tree k (writes.others (RecordOf k) (λ e. cc));
+      placed_first = λ k. first_still view then refl go tree k (writes.others (RecordOf k) (λ e. cc));
       holds = holds_one then (new_hand (mark_of view.run g c)) record {
         steered_from = λ on. cc;
         other = λ on. cc;
         shown = λ on. cc;
+        first_shown = λ on. cc;
       };
     }
 
@@ -120,10 +130,12 @@ SeesTree-pointed view tree hand m p step apart =
     record {
       rooted = tree.rooted;
       placed = tree.placed;
+      placed_first = tree.placed_first;
       holds = holds_one then (record hand { stage = Pointed; nearest = m; point = p }) record {
         steered_from = λ on. record { from = step.from; seen = step.seen; reached = step.reached };
         other = λ on. apart;
         shown = λ on. cc;
+        first_shown = λ on. cc;
       };
     }
 
@@ -136,12 +148,14 @@ SeesTree-half view tree hand held stage parent cost =
     record {
       rooted = tree.rooted;
       placed = tree.placed;
+      placed_first = tree.placed_first;
       holds = holds_one then (record hand { stage = Half; parent = parent; cost = cost }) record {
         steered_from = λ on.
             let step = node.steered_from (ap has_point stage) in
             record { from = step.from; seen = step.seen; reached = step.reached };
         other = λ on. node.other (ap has_point stage);
         shown = λ on. cc;
+        first_shown = λ on. cc;
       };
     }
 
@@ -152,12 +166,14 @@ SeesTree-treed view tree hand held stage =
     record {
       rooted = tree.rooted;
       placed = tree.placed;
+      placed_first = tree.placed_first;
       holds = holds_one then (record hand { stage = Treed }) record {
         steered_from = λ on.
             let step = node.steered_from (ap has_point stage) in
             record { from = step.from; seen = step.seen; reached = step.reached };
         other = λ on. node.other (ap has_point stage);
         shown = λ on. cc;
+        first_shown = λ on. cc;
       };
     }
 
@@ -169,12 +185,14 @@ SeesTree-counted view tree hand held stage =
     record {
       rooted = tree.rooted;
       placed = tree.placed;
+      placed_first = tree.placed_first;
       holds = holds_one then (record hand { stage = Counted }) record {
         steered_from = λ on.
             let step = node.steered_from (ap has_point stage) in
             record { from = step.from; seen = step.seen; reached = step.reached };
         other = λ on. node.other (ap has_point stage);
         shown = λ on. node.shown (ap has_link stage);
+        first_shown = λ on. node.first_shown (ap has_link stage);
       };
     }
 
@@ -197,16 +215,34 @@ SeesTree-finished run view of_run tree hand held low none entry fits may =
           elim (same_name (RecordOf k) (RecordOf hand.mark)) [
             | inr apart ↦ placed_still view then refl go tree k (writes.others (RecordOf k) apart) h
             | inl e ↦ (
-                let placed : is_placed entry.outcome ≡ true =
-                sym (has_placed-record_word entry (sees then (FirstOf (suc k))) fits)
-                ∙ ap (λ w. has_placed (record_of_word w (sees then (FirstOf (suc k))))) (sym (ap (sees then) e ∙ writes.here)) ∙ h in
-                let stands = (tree.holds hand held).shown (sym may.linked ∙ placed) in
+                let stands = (tree.holds hand held).shown (linked_now k e h) in
                 let own : k ≡ hand.mark = cc in
                 subst (λ m. IsPresent (tree_seen then).points (suc m)) (sym own)
                 (ap is_some (SeesPoint-later view then refl go (suc hand.mark) hand.point stands)))
           ];
+      placed_first = λ k h.
+          elim (same_name (RecordOf k) (RecordOf hand.mark)) [
+            | inr apart ↦ first_still view then refl go tree k (writes.others (RecordOf k) apart) h
+            | inl e ↦ (
+                let written = (tree.holds hand held).first_shown (linked_now k e h) in
+                let own : k ≡ hand.mark = cc in
+                subst (λ m. 2 ^ 63 ≤ sees then (FirstOf (suc m))) (sym own) (first-later view then refl go (suc hand.mark) written))
+          ];
       holds = λ other e. cc;
     }
+  where
+    placed_here : (k : ℕ) → RecordOf k ≡ RecordOf hand.mark → has_node (sees (finished view hand.mark (record_word entry))) (suc k) ≡ true
+        → is_placed entry.outcome ≡ true
+    placed_here k e h =
+        let then : View = finished view hand.mark (record_word entry) in
+        let here : HasWord (run_sizes run) (RecordOf hand.mark) = low in
+        let writes = WritesWord-saw run view of_run (RecordOf hand.mark) here (record_word entry) (record_word entry) in
+        sym (has_placed-record_word entry (sees then (FirstOf (suc k))) fits)
+        ∙ ap (λ w. has_placed (record_of_word w (sees then (FirstOf (suc k))))) (sym (ap (sees then) e ∙ writes.here)) ∙ h
+
+    linked_now : (k : ℕ) → RecordOf k ≡ RecordOf hand.mark → has_node (sees (finished view hand.mark (record_word entry))) (suc k) ≡ true
+        → has_link hand.stage ≡ true
+    linked_now k e h = sym may.linked ∙ placed_here k e h
 
 -- ---- a link
 
@@ -251,6 +287,7 @@ SeesTree-linked run view of_run tree hand held stage low bounded n side within l
           IsRooted-write (run_sizes view.run) (FirstOf m) (pair_in_hand hand) (sees three) (sees then) first
           (AreBehind-first run view of_run hand n side within low may) tt rooted_pair;
       placed = λ k. placed_still view then refl go tree k (shows.others (RecordOf k) (λ e. cc) (λ e. cc) (λ e. cc) (λ e. cc));
+      placed_first = λ k. first_still view then refl go tree k (shows.others (RecordOf k) (λ e. cc) (λ e. cc) (λ e. cc) (λ e. cc));
       holds = holds_one then (record hand { stage = Linked }) record {
         steered_from = λ on.
             let step = node.steered_from (ap has_point stage) in
@@ -258,6 +295,7 @@ SeesTree-linked run view of_run tree hand held stage low bounded n side within l
         other = λ on. node.other (ap has_point stage);
         shown = λ on.
             point_shown_at then m hand.point shows.point bounded (subst (λ r. m ≤ length r.marks) (sym of_run.run_is) (omega (arith, low)));
+        first_shown = λ on. omega (arith, shows.first);
       };
     }
 
@@ -269,6 +307,7 @@ module _ (view : View) (tree : SeesTree view) where
   SeesTree-stepped = record {
     rooted = tree.rooted;
     placed = tree.placed;
+    placed_first = tree.placed_first;
     holds = λ hand held. SeesHand-later view (stepped view) refl (AreBehind-refl (sees view)) hand (tree.holds hand held);
   }
 
@@ -276,11 +315,12 @@ module _ (view : View) (tree : SeesTree view) where
   SeesTree-parted = record {
     rooted = tree.rooted;
     placed = tree.placed;
+    placed_first = tree.placed_first;
     holds = λ hand held. SeesHand-later view (parted view) refl (AreBehind-refl (sees view)) hand (tree.holds hand held);
   }
 
   pub SeesTree-looker : SeesTree (looker view)
-  SeesTree-looker = record { rooted = tree.rooted; placed = tree.placed; holds = λ hand held. cc }
+  SeesTree-looker = record { rooted = tree.rooted; placed = tree.placed; placed_first = tree.placed_first; holds = λ hand held. cc }
 
   pub SeesTree-apart : SeesTree (worker_apart view)
-  SeesTree-apart = record { rooted = tree.rooted; placed = tree.placed; holds = λ hand held. cc }
+  SeesTree-apart = record { rooted = tree.rooted; placed = tree.placed; placed_first = tree.placed_first; holds = λ hand held. cc }

@@ -20,7 +20,7 @@ use Rattle.step_core.specs.Words.{cost_in, point_of_word, tree_of_word}
 use Rattle.step_core.specs.declared.views.View.{View}
 use Rattle.step_core.proofs.LaterWords.{word_at-merged}
 use Rattle.step_core.proofs.PlacedWords.{has_node-same}
-use Rattle.step_core.proofs.SeenViews.{IsPresent-later}
+use Rattle.step_core.proofs.SeenViews.{IsPresent-later, first-later}
 use Rattle.step_core.proofs.SeenWords.{HasSeenAtLeast-words, point_at-seen, seen-within}
 
 -- the later of two words is one of them
@@ -115,6 +115,11 @@ module _ (view other : View) (same : other.run ≡ view.run) where
         elim (either (RecordOf k)) [
           | inl e ↦ IsPresent-later view both refl first (suc k) (tree.placed k (sym (has_node-same (sees view) (sees both) k e) ∙ h))
           | inr e ↦ IsPresent-later other both (sym same) second (suc k) (also.placed k (sym (has_node-same (sees other) (sees both) k e) ∙ h))
+        ];
+    placed_first = λ k h.
+        elim (either (RecordOf k)) [
+          | inl e ↦ first-later view both refl first (suc k) (tree.placed_first k (sym (has_node-same (sees view) (sees both) k e) ∙ h))
+          | inr e ↦ first-later other both (sym same) second (suc k) (also.placed_first k (sym (has_node-same (sees other) (sees both) k e) ∙ h))
         ];
     holds = λ hand held. (let none = sym idle ∙ held in cc);
   }

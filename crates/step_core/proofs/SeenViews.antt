@@ -1,5 +1,5 @@
 -- What a view has seen of the tree, a later view of the same run has seen too.
-use Rattle.std.proofs.Common.{◌≡◌, ℕ, suc, refl, sym, ap, ◌∙◌, subst}
+use Rattle.std.proofs.Common.{◌≡◌, ℕ, suc, ◌≤◌, ◌^◌, refl, sym, ap, ◌∙◌, subst, inl, inr, arith}
 use Rattle.plan_model.specs.ClosedLaw.{mark_at}
 use Rattle.plan_model.specs.declared.geometry.Point.{Point}
 use Rattle.plan_model.specs.PointsByNumber.{IsPresent, point_of}
@@ -11,6 +11,7 @@ use Rattle.step_core.specs.ViewTrees.{SeesHand, IsSteered, SeesPoint}
 use Rattle.step_core.specs.Views.{run_sizes, sees, tree_seen}
 use Rattle.step_core.specs.WordKinds.{AreBehind}
 use Rattle.step_core.specs.WordNames.{Word, Words, WritesWord}
+use Rattle.step_core.specs.WordNames.Word.{FirstOf}
 use Rattle.step_core.specs.WordPlaces.{Sizes}
 use Rattle.step_core.specs.declared.views.Hand.{Hand}
 use Rattle.step_core.specs.declared.views.View.{View}
@@ -38,11 +39,16 @@ module _ (before after : View) (same : after.run ≡ before.run) (go : AreBehind
     reached = step.reached ∙ ap (λ run. steered step.from (mark_at run.marks k) run.step) (sym same);
   }
 
+  -- a first word that is seen stays seen
+  pub first-later : (n : ℕ) → 2 ^ 63 ≤ sees before (FirstOf n) → 2 ^ 63 ≤ sees after (FirstOf n)
+  first-later n written = elim (go (FirstOf n)) [ inl none ↦ absurd (omega (arith, none, written)) | inr same ↦ omega (arith, same, written) ]
+
   pub SeesHand-later : (hand : Hand) → SeesHand before hand → SeesHand after hand
   SeesHand-later hand holds = record {
     steered_from = λ on. IsSteered-later hand.mark hand.nearest hand.point (holds.steered_from on);
     other = holds.other;
     shown = λ on. SeesPoint-later (suc hand.mark) hand.point (holds.shown on);
+    first_shown = λ on. first-later (suc hand.mark) (holds.first_shown on);
   }
 
 -- If a word is seen anew, and is of a seen node or of none, all is seen from node 0 on as before.

@@ -55,10 +55,13 @@ module _ (run : SharedRun) (words : Words) (views : List View) (id : ℕ) (view 
   -- ---- the whole share
 
   module _ (whole : share view ≡ run.workers) (idle : view.hand ≡ None) where
-    -- no other view has a share, and so none has a mark in hand
-    others_idle : (i : ℕ) (u : View) → i ≢ id → get_elem? views i ≡ some u → u.hand ≡ None
-    others_idle i u apart e =
-        world.shares.idle i u e (omega (arith, sum-two share views i id u view apart e at, world.shares.whole, whole))
+    -- no other view has a share,
+    pub others_shareless : (i : ℕ) (u : View) → i ≢ id → get_elem? views i ≡ some u → share u ≡ 0
+    others_shareless i u apart e = omega (arith, sum-two share views i id u view apart e at, world.shares.whole, whole)
+
+    -- and so none has a mark in hand
+    pub others_idle : (i : ℕ) (u : View) → i ≢ id → get_elem? views i ≡ some u → u.hand ≡ None
+    others_idle i u apart e = world.shares.idle i u e (others_shareless i u apart e)
 
     none_holds : (k i : ℕ) (u : View) → get_elem? views i ≡ some u → once_if (holds k u.hand) ≡ 0
     none_holds k i u e =

@@ -313,6 +313,7 @@ module _ (run : SharedRun) (words : Words) (views : List View) (id : ℕ) (view 
           (λ of. AreSeenLawfully-either (setup_in run) (tree_seen view) (tree_seen other) (tree_seen both) (state_in run words) pair_seen
           (world.seen_pairs id view at own) (world.seen_pairs j other was own_too))
           (λ of. absurd (live_spent of));
+      records = world.records;
       sights = each (λ u. u.run ≡ run → SeesTree u) world.sights
           (λ of. SeesTree-joined view other (own_too ∙ sym own) (AreBehind-joined view other) AreBehind-other idle_too (world.sights id view at own)
           (world.sights j other was own_too))

@@ -49,6 +49,7 @@ use Rattle.step_core.proofs.WorldLinks.{KeepsLinks, Links-counted, Links-kept, L
 use Rattle.step_core.proofs.WorldPairs.{IsFirstOf-grows, IsFirstOf-stage, Pairs-hand, first-held, tree-held}
 use Rattle.step_core.proofs.WorldParts.{IsFair, KeepsRecords, Numbers-step, Seen-step, Shares-step, Turns-step, is_recorded-kept, limit_of-up, of_run-step}
 use Rattle.step_core.proofs.WorldParts.{packed-kept, quotas-kept}
+use Rattle.step_core.proofs.WorldRecords.{Records-kept}
 use Rattle.step_core.proofs.WorldSeenPairs.{AreSeenLawfully-own, SeenPairs-set}
 use Rattle.step_core.proofs.WorldSteps.{Sights-set, follow, live, seen_within, tree}
 use Rattle.step_core.proofs.WorldTrees.{Trees-kept, Trees-linked}
@@ -107,6 +108,7 @@ module _ (run : SharedRun) (words after : Words) (views : List View) (id : ℕ) 
     seen_pairs = SeenPairs-set run words after views id then (grows_kept go links) world.seen_pairs
         (λ of. AreSeenLawfully-own run words after view then trees links.ways of (grows_kept go links) own (world.seen_pairs id view at own) behind tree_then
         keeps.fair);
+    records = Records-kept run words after views world.numbers world.links world.trees (grows_kept go links) world.records keeps.records;
     sights = Sights-set run words views id view world at own then (λ of. tree_then);
   }
 

@@ -203,6 +203,7 @@ module _ (run : SharedRun) (words : Words) (views : List View) (id : ℕ) (view 
             (each-set views id left (λ u. u.run ≡ run → AreSeenLawfully (setup_in run) (tree_seen u) (state_in run words))
             (λ i u apart e. world.seen_pairs i u e) (λ of. pairs_same left cut.tables_left))
             (λ of. pairs_same right cut.tables_right);
+        records = world.records;
         sights = each-push rest right (λ u. u.run ≡ run → SeesTree u)
             (each-set views id left (λ u. u.run ≡ run → SeesTree u) (λ i u apart e. world.sights i u e)
             (λ of. cut.tree_left (tree run words views id view world at own)))

@@ -48,6 +48,7 @@ use Rattle.step_core.proofs.WordKinds.{AreBehind-refl}
 use Rattle.step_core.proofs.WorldHands.{IsWrittenFor}
 use Rattle.step_core.proofs.WorldLinks.{has_node-recorded}
 use Rattle.step_core.proofs.WorldPairs.{HasFirst, HasTree}
+use Rattle.step_core.proofs.WorldRecords.{Records-held}
 use Rattle.step_core.proofs.WorldSeenPairs.{AreSeenLawfully-all}
 use Rattle.step_core.proofs.WorldJoins.{AreBehind-nothing}
 use Rattle.step_core.proofs.WorldParts.{quota-up}
@@ -280,6 +281,7 @@ IsWorld-started task limit workers items sized held some_worker few =
         written = only first (IsWrittenFor words) (λ hand held. cc);
         blank = λ k none no_hand. blank-held task limit words held k none;
       };
+      records = Records-held task limit workers words held;
       sights = only first (λ u. u.run ≡ run → SeesTree u) (λ of. sees_tree);
     }
   where

@@ -41,6 +41,7 @@ use Rattle.step_core.proofs.WorldPairs.{Pairs-same, Pairs-step}
 use Rattle.step_core.proofs.WorldParts.{KeepsRecords, Numbers-step, Seen-step, Shares-step, Turns-step}
 use Rattle.step_core.proofs.WorldParts.{packed-kept, is_recorded-kept, limit_of-up, of_run-step, quota-up, quotas-kept}
 use Rattle.step_core.proofs.WorldSeenPairs.{AreSeenLawfully-own, SeenPairs-set}
+use Rattle.step_core.proofs.WorldRecords.{Records-kept}
 use Rattle.step_core.proofs.WorldTrees.{Trees-kept}
 
 -- a view of the run is not spent
@@ -121,6 +122,7 @@ module _ (run : SharedRun) (words : Words) (views : List View) (id : ℕ) (view 
             (λ of. AreSeenLawfully-own run words words view then world.trees world.links.ways of (GrowsInto-refl (state_in run words)) own
             (world.seen_pairs id view at own) (AreBehind-saw name x (sees view) (sees then) words writes refl behind) sees_tree
             (IsFair-saw name x (sees view) (sees then) words writes refl behind));
+        records = world.records;
         sights = Sights-set then (λ of. sees_tree);
       }
 
@@ -216,6 +218,7 @@ module _ (run : SharedRun) (words : Words) (views : List View) (id : ℕ) (view 
               (λ of. AreSeenLawfully-own run words after view then trees links.ways of grows own (world.seen_pairs id view at own)
               (AreBehind-saw (Counter g) (c + 1) (sees view) (sees then) after writes counts.here behind) sees_tree
               (IsFair-saw (Counter g) (c + 1) (sees view) (sees then) after writes counts.here behind));
+          records = Records-kept run words after views world.numbers world.links world.trees grows world.records records;
           sights = Sights-set then (λ of. sees_tree);
         }
       where

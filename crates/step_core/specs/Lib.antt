@@ -11,6 +11,7 @@ pub mod KdLinks
 pub mod PackedRuns
 pub mod MarkWrites
 pub mod SharedWords
+pub mod SeenRecords
 pub mod SeenWords
 pub mod Views
 pub mod Stages
@@ -19,3 +20,4 @@ pub mod Worlds
 pub mod ViewSteps
 pub mod ViewStarts
 pub mod LaterViews
+pub mod LastViews

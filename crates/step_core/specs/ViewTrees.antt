@@ -39,18 +39,21 @@ pub record IsSteered (view : View) (k m : ℕ) (p : Point) : Type 0 where
   pub seen : SeesPoint view m from
   pub reached : p ≡ steered from (mark_at view.run.marks k) view.run.step
 
--- Once its point is written, a node in hand is steered from a seen node, which is another. Once it is linked, it is seen at its point.
+-- Once its point is written, a node in hand is steered from a seen node, which is another. Once it is linked, it is seen at its point, and
+-- its first word is seen.
 pub record SeesHand (view : View) (hand : Hand) : Type 0 where
   pub steered_from : has_point hand.stage ≡ true → IsSteered view hand.mark hand.nearest hand.point
   pub other : has_point hand.stage ≡ true → hand.nearest ≢ suc hand.mark
   pub shown : has_link hand.stage ≡ true → SeesPoint view (suc hand.mark) hand.point
+  pub first_shown : has_link hand.stage ≡ true → 2 ^ 63 ≤ sees view (FirstOf (suc hand.mark))
 
 -- ---- all that is seen
 
--- A view sees its tree from node 0 on, and each node of a placed mark whose record it has seen, with its point.
+-- A view sees its tree from node 0 on, and each node of a placed mark whose record it has seen, with its point and its first word.
 pub record SeesTree (view : View) : Type 0 where
   pub rooted : IsRooted (tree_seen view)
   pub placed : (k : ℕ) → has_node (sees view) (suc k) ≡ true → IsPresent (tree_seen view).points (suc k)
+  pub placed_first : (k : ℕ) → has_node (sees view) (suc k) ≡ true → 2 ^ 63 ≤ sees view (FirstOf (suc k))
   pub holds : (hand : Hand) → view.hand ≡ Some hand → SeesHand view hand
 
 -- node n is on the way of p over what is seen, at this depth

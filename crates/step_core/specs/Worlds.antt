@@ -5,12 +5,14 @@ use Rattle.std.specs.Prelude.{Some, None, List, [], ◌∷◌, length, map, if�
 use Rattle.std.specs.List.{range_with_len, sum_by}
 use lib.ListN.{get_elem?}
 use mathlib.Core.Option.{some}
+use Rattle.plan_model.specs.ClosedLaw.{mark_at}
 use Rattle.plan_model.specs.MarkPoints.{quota_of, is_claimed}
+use Rattle.plan_model.specs.declared.limits.TheConstants.{MOST_WORKERS}
 use Rattle.plan_model.specs.declared.records.Record.{Record}
 use Rattle.plan_model.specs.Turns.{AreTurns, is_of_worker, once_if, turns_of}
 use Rattle.plan_model.specs.OrderLaw.{Hangs, KeepsFirstCosts, KeepsOrder, most_cost_of}
 use Rattle.plan_model.specs.PointsByNumber.{IsPresent, node_count}
-use Rattle.plan_model.specs.RecordLaw.{first_cost_through}
+use Rattle.plan_model.specs.RecordLaw.{IsLawfulRecord, first_cost_through}
 use Rattle.plan_model.specs.SeenParents.{AreSeenLawfully}
 use Rattle.plan_model.specs.TreeStates.{TreeState}
 use Rattle.plan_model.specs.Ways.{FollowWays}
@@ -175,9 +177,19 @@ pub record Seen (words : Words) (views : List View) : Type 0 where
   pub whole : EachView views (λ view. HaveWholePairs (sees view))
   pub agree : EachView views (λ one. EachView views (λ other. Agree (sees one) (sees other)))
 
--- Each view that is not spent sees its tree from node 0 on, and with its points the nodes that it has seen recorded as placed.
+-- Each view that is not spent sees its tree from node 0 on, and with their points and first words the nodes that it has seen recorded as
+-- placed.
 abbrev pub Sights : SharedRun → List View → Type 0
 Sights run views = EachView views (λ view. view.run ≡ run → SeesTree view)
+
+-- ---- records
+
+-- Each record is borne out by the linked nodes. Its worker is one of the run's, if it was made in this run, or else within the limit.
+pub record Records (run : SharedRun) (words : Words) : Type 0 where
+  pub lawful : (k : ℕ) (entry : Record) → record_at words k ≡ Some entry
+      → IsLawfulRecord (setup_in run) (state_in run words) k (mark_at run.marks k) entry
+  pub workers : (k : ℕ) (entry : Record) → record_at words k ≡ Some entry → entry.worker < MOST_WORKERS
+  pub own_workers : (k : ℕ) (entry : Record) → record_at words k ≡ Some entry → run.opening ≤ k → entry.worker < run.workers
 
 -- ---- the law
 
@@ -194,4 +206,5 @@ pub record IsWorld (run : SharedRun) (words : Words) (views : List View) : Type 
   pub hands : Hands words views
   pub pairs : Pairs run words views
   pub seen_pairs : SeenPairs run words views
+  pub records : Records run words
   pub sights : Sights run views

@@ -5,15 +5,17 @@
 ghost use Rattle.std.specs.Prelude.{◌≡◌, ◌≢◌, ◌↔◌, ℕ, suc, ◌+◌, ◌<◌, ◌≤◌, ◌^◌, Bool, true, List, [], ◌∷◌, ◌++◌, length, slice_set, IsSome, Some, None};
 ghost use lib.ListN.{get_elem?};
 ghost use mathlib.Core.Option.{some};
-ghost use Rattle.plan_model.specs.MarkPoints.{is_claimed};
+ghost use Rattle.plan_model.specs.MarkPoints.{is_claimed, quota_of};
 ghost use Rattle.plan_model.specs.Sights.{IsLaterMoment, KeepsSight};
 ghost use Rattle.plan_model.specs.declared.geometry.Point.{Point};
 ghost use Rattle.plan_model.specs.declared.limits.TheConstants.{MOST_WORKERS};
 ghost use Rattle.plan_model.specs.declared.records.Record.{Record};
 ghost use Rattle.plan_model.specs.declared.tasks.Task.{Task};
-ghost use Rattle.step_core.specs.GrownWords.{HoldRun, IsLinked, is_linked, record_at, run_words, sizes_of};
+ghost use Rattle.step_core.specs.GrownWords.{HoldRun, IsLinked, cleared, is_linked, record_at, run_words, sizes_of, state_of_words};
+ghost use Rattle.step_core.specs.LastViews.{StandsAsSeen};
 ghost use Rattle.step_core.specs.LaterViews.{IsLater, IsLawfulView};
 ghost use Rattle.step_core.specs.ViewStarts.{newcomer};
+ghost use Rattle.step_core.specs.SeenRecords.{MayRecord, own_count};
 ghost use Rattle.step_core.specs.Stages.{MayBeRecorded};
 ghost use Rattle.step_core.specs.ViewSteps.{claimed, counted, finished, half, joined, linked, loaded, looker, lowered, mark_of, pair_in_hand, parted, pointed, stepped, treed, worker_apart};
 ghost use Rattle.step_core.specs.ViewTrees.{IsOnWayOf, IsSteered, LeadsTo, MayHang, MayLoad, MayLower, SeesNode, sight_in};
@@ -137,15 +139,19 @@ pub fn counts_keep_the_law()
     ensures words { (words after : Words) → WritesWord Count (words Count + 1) words after → AreBehind words after }
     // no more nodes are counted than there may be
     ensures most { (run : SharedRun) (words : Words) (views : List View) → IsWorld run words views → words Count ≤ length run.marks + 1 }
+    // and no fewer than a worker has placed, by the records that a view has seen
+    ensures own { (run : SharedRun) (words : Words) (views : List View) (id : ℕ) (view : View) → IsWorld run words views → get_elem? views id ≡ some view
+        → view.run ≡ run → (entry : Record) → own_count view entry ≤ words Count }
 {}
 
 /// A record of the mark in hand keeps the law. It is of the first worker of the view's crew, and of its next turn. It says that
-/// the mark was placed if its node is counted, and anything else only if its node is not linked.
+/// the mark was placed if its node is counted, and anything else only if its node is not linked. What it says is borne out by what
+/// the view has seen.
 pub fn records_keep_the_law()
     ensures law { (run : SharedRun) (words after : Words) (views : List View) (id : ℕ) (view : View) → IsWorld run words views
         → get_elem? views id ≡ some view → view.run ≡ run → (hand : Hand) → view.hand ≡ Some hand → (member : Member) (crew : List Member)
         → view.crew ≡ member ∷ crew → (entry : Record) → FitsWord entry → entry.worker ≡ member.worker → entry.turn ≡ member.turn
-        → MayBeRecorded hand.stage entry.outcome → WritesWord (RecordOf hand.mark) (record_word entry) words after
+        → MayBeRecorded hand.stage entry.outcome → MayRecord view hand entry → WritesWord (RecordOf hand.mark) (record_word entry) words after
         → IsWorld run after (slice_set views id (finished view hand.mark (record_word entry))) }
     ensures words { (run : SharedRun) (words after : Words) (views : List View) (id : ℕ) (view : View) → IsWorld run words views
         → get_elem? views id ≡ some view → (hand : Hand) → view.hand ≡ Some hand → (word : ℕ) → WritesWord (RecordOf hand.mark) word words after
@@ -185,6 +191,26 @@ pub fn marks_in_hand_are_in_one_hand()
 pub fn whole_shares_have_all_recorded()
     ensures { (run : SharedRun) (words : Words) (views : List View) (id : ℕ) (view : View) → IsWorld run words views → get_elem? views id ≡ some view
         → share view ≡ run.workers → view.hand ≡ None → (k : ℕ) → is_recorded words k ≡ is_claimed run.strips (counters words) k }
+{}
+
+/// If one view has the whole share and nothing in hand, and has seen each counter at or above its quota below a limit no less than
+/// its greatest, the words are those of a run that is closed at its greatest limit, once those of numbers without a node are
+/// cleared.
+pub fn whole_shares_close_runs()
+    ensures run { (task : Task) (workers opening : ℕ) (words : Words) (views : List View) (id : ℕ) (view : View)
+        → IsWorld (run_of task workers opening) words views → get_elem? views id ≡ some view → share view ≡ workers → view.hand ≡ None → (limit : ℕ)
+        → view.most ≤ limit → ((g : ℕ) → g < task.scene.strips → quota_of task.scene.strips g limit ≤ sees view (Counter g))
+        → HoldRun task view.most (cleared words) }
+    // all that the view has seen stands in that run
+    ensures seen { (task : Task) (workers opening : ℕ) (words : Words) (views : List View) (id : ℕ) (view : View)
+        → IsWorld (run_of task workers opening) words views → get_elem? views id ≡ some view → share view ≡ workers → view.hand ≡ None → (limit : ℕ)
+        → view.most ≤ limit → ((g : ℕ) → g < task.scene.strips → quota_of task.scene.strips g limit ≤ sees view (Counter g))
+        → view.run ≡ run_of task workers opening → StandsAsSeen view (state_of_words (sizes_of task) (cleared words)) }
+    // the records of marks from the opening limit on are by workers of the run
+    ensures workers { (task : Task) (workers opening : ℕ) (words : Words) (views : List View) (id : ℕ) (view : View)
+        → IsWorld (run_of task workers opening) words views → get_elem? views id ≡ some view → share view ≡ workers → view.hand ≡ None → (limit : ℕ)
+        → view.most ≤ limit → ((g : ℕ) → g < task.scene.strips → quota_of task.scene.strips g limit ≤ sees view (Counter g))
+        → (k : ℕ) (entry : Record) → opening ≤ k → record_at (cleared words) k ≡ Some entry → entry.worker < workers }
 {}
 
 /// A view after steps of its own is a later one: what was seen may become what is seen, and the numbers of steps go on.

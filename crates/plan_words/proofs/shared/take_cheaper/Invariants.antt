@@ -11,4 +11,4 @@ pub record AreTaken (was others : List ℕ) (node : ℕ) (pairs : List ℕ) : Ty
   pub left : (n : ℕ) → node ≤ n → slice_index pairs n ≡ slice_index was n
 
 abbrev pub invariant-loop-node : goal.invariant-loop-node
-invariant-loop-node l = AreTaken l.fn.pairs.items l.fn.others l.node l.pairs.items
+invariant-loop-node l = AreTaken l.fn.pairs l.fn.others l.node l.pairs

@@ -1,4 +1,4 @@
-use Rattle.std.proofs.Common.{◌≡◌, ℕ, ◌<◌, List, length}
+use Rattle.std.proofs.Common.{◌≡◌, ℕ, ◌+◌, ◌<◌, List, length}
 use Rattle.std.specs.Prelude.{slice_index}
 use Rattle.plan_words.proofs.starts.tree_words.Given as goal
 use Rattle.step_core.specs.GrownWords.{run_words}
@@ -10,4 +10,4 @@ pub record AreRead (words : ℕ → ℕ) (nodes : ℕ) (node : ℕ) (pairs : Lis
   pub read : (n : ℕ) → n < node → slice_index pairs n ≡ words n
 
 abbrev pub invariant-loop-node : goal.invariant-loop-node
-invariant-loop-node l = AreRead (λ n. run_words l.task l.words (TreeOf n)) l.nodes l.node l.pairs.items
+invariant-loop-node l = AreRead (λ n. run_words l.task l.words (TreeOf n)) (length l.task.marks + 1) l.node l.pairs

@@ -2,4 +2,4 @@ use Rattle.plan_words.specs.States.{MayClaim}
 use Rattle.plan_words_tests.proofs.threads.work.Given as goal
 
 abbrev pub invariant-marks : goal.invariant-marks
-invariant-marks l = record { may_claim : MayClaim l.shared l.worker.pass }
+invariant-marks g l = record { may_claim : MayClaim l.shared l.worker.pass }

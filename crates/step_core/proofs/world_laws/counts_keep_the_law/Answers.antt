@@ -1,3 +1,4 @@
+use Rattle.step_core.proofs.LawfulRecords.{own_count-most}
 use Rattle.step_core.proofs.WorldLinks.{count-most}
 use Rattle.step_core.proofs.WorldNodes.{IsWorld-counted}
 use Rattle.step_core.proofs.world_laws.counts_keep_the_law.Goals as goal
@@ -9,3 +10,6 @@ returns-clause-law c =
 
 pub returns-clause-most : goal.returns-clause-most
 returns-clause-most c = λ run words views world. count-most run words views world.numbers world.links
+
+pub returns-clause-own : goal.returns-clause-own
+returns-clause-own c = own_count-most

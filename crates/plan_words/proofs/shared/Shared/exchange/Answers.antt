@@ -56,10 +56,10 @@ invariant_of-pass c =
     let then = claimed me.0 c.args.next.strip c.from-round.result c.args.limit in
     let told = subst (λ b. Tells me (cond b then (saw_at me.0 c.counter-place.result x x)) after) (eq-eqb x c.from-round.result c.if-found-round.true)
     c.compare_exchange_with-found.ensures.2 in
-    keeps_view me after then _ _ _ _ _ _ _ c.pass.inside.pairs.items _ told c.pass.invariant refl c.pass.invariant.1.member_is
+    keeps_view me after then _ _ _ _ _ _ _ c.pass.inside.pairs _ told c.pass.invariant refl c.pass.invariant.1.member_is
     (ap (λ k. Some (new_hand k)) (ap (λ n. n * c.self.inside.task.scene.strips + c.args.next.strip) (sym c.from-round.ensures)
     ∙ ap (λ r. c.from-round.result * r.strips + c.args.next.strip) (sym own)))
-    (HasPairs-claimed me.0 c.pass.inside.pairs.items c.args.next.strip c.from-round.result c.args.limit c.pass.invariant.1.lawful here)
+    (HasPairs-claimed me.0 c.pass.inside.pairs c.args.next.strip c.from-round.result c.args.limit c.pass.invariant.1.lawful here)
 
 pub invariant_of-pass-else-found-round : goal.invariant_of-pass-else-found-round
 invariant_of-pass-else-found-round c =
@@ -71,4 +71,4 @@ invariant_of-pass-else-found-round c =
     let x = c.compare_exchange_with-found.result in
     let told = subst (λ b. Tells me (cond b (claimed me.0 c.args.next.strip c.from-round.result c.args.limit) (saw_at me.0 c.counter-place.result x x)) after)
     (ne_eqb x c.from-round.result c.if-found-round.false) c.compare_exchange_with-found.ensures.2 in
-    keeps_saw me after _ _ _ _ _ c.pass.inside.pairs.items (Counter c.args.next.strip) _ _ _ told c.pass.invariant here c.counter-place.ensures (λ n e. cc)
+    keeps_saw me after _ _ _ _ _ c.pass.inside.pairs (Counter c.args.next.strip) _ _ _ told c.pass.invariant here c.counter-place.ensures (λ n e. cc)

@@ -1,7 +1,6 @@
 use Rattle.std.proofs.Common.{◌≤◌, ap, arith, subst, sym, ◌∙◌}
 use Rattle.std.specs.Prelude.{◌==◌, cond, is_some}
-use Rattle.std.proofs.lemmas.List.{get_or_default}
-use Rattle.plan_words.proofs.KeptPairs.{fits_word, keeps_pair, lower_view}
+use Rattle.plan_words.proofs.KeptPairs.{fits_word, keeps_pair, keeps_parent, lower_view}
 use Rattle.plan_words.proofs.LookedNodes.{place_here, seen_low}
 use Rattle.plan_words.proofs.Owning.{may_lower_here, same_run, same_table, with_view_told}
 use Rattle.plan_words.proofs.shared.Shared.exchange_tree.Goals as goal
@@ -13,12 +12,12 @@ use Rattle.step_core.specs.Views.{sees}
 use Rattle.step_core.specs.WordNames.Word.{TreeOf}
 use Rattle.step_core.specs.WordPlaces.{place_of}
 
-pub index-seen-requires : goal.index-seen-requires
-index-seen-requires c =
+pub word-seen-requires : goal.word-seen-requires
+word-seen-requires c =
     let lawful = c.pass.invariant.1.lawful in
     let may = subst (λ p. MayLower p.view c.args.node c.args.parent c.args.cost) (sym c.pass.view_is) c.requires.may in
     let node = lawful.tree.rooted.points c.args.node (ap is_some may.seen.stands) in
-    omega (arith, c.pass.inside.pairs.ok, c.pass.invariant.3.for_each, lawful.within c.args.node node)
+    omega (arith, c.pass.invariant.3.for_each, lawful.within c.args.node node)
 
 pub tree-place-requires : goal.tree-place-requires
 tree-place-requires c =
@@ -48,17 +47,32 @@ compare_exchange-found-requires c =
     let within = lawful.within c.args.node node in
     let low = seen_low _ _ c.args.node lawful own node in
     let place = c.tree-place.ensures ∙ ap (λ s. place_of s (TreeOf c.args.node)) c.self.invariant.places_are in
-    let pairs = c.pass.inside.pairs.items in
-    let seen = c.index-seen.ensures ∙ get_or_default pairs c.args.node _ 0 (omega (arith, c.pass.invariant.3.for_each, within))
+    let seen = c.word-seen.ensures
     ∙ c.pass.invariant.3.seen c.args.node within in
     may_lower_here _ _ _ _ c.self.invariant _ _ _ _ _ c.args.node c.args.parent c.args.cost _ same own low place may node seen c.pack_tree-word.ensures
 
-pub index_mut-requires : goal.index_mut-requires
-index_mut-requires c =
+pub set-requires-clause-node : goal.set-requires-clause-node
+set-requires-clause-node c =
     let lawful = c.pass.invariant.1.lawful in
     let may = subst (λ p. MayLower p.view c.args.node c.args.parent c.args.cost) (sym c.pass.view_is) c.requires.may in
     let node = lawful.tree.rooted.points c.args.node (ap is_some may.seen.stands) in
-    omega (arith, c.pass.inside.pairs.ok, c.pass.invariant.3.for_each, lawful.within c.args.node node)
+    omega (arith, c.pass.invariant.3.for_each, lawful.within c.args.node node)
+
+pub set-requires-clause-parent : goal.set-requires-clause-parent
+set-requires-clause-parent c =
+    let own = same_run _ _ _ _ c.pass.view_is c.self.view_is c.requires.belongs in
+    let me = c.pass.inside.seat.me in
+    let after = c.compare_exchange-found.new.seat.me in
+    let lawful = c.pass.invariant.1.lawful in
+    let may = subst (λ p. MayLower p.view c.args.node c.args.parent c.args.cost) (sym c.pass.view_is) c.requires.may in
+    let node = lawful.tree.rooted.points c.args.node (ap is_some may.seen.stands) in
+    let place = place_here c.self.inside.places _ me.0 (TreeOf c.args.node) _ c.self.invariant.places_are own c.tree-place.ensures in
+    let told = subst (λ x. Tells me (saw_at me.0 c.tree-place.result c.compare_exchange-found.result x) after) (sym c.after_exchange.ensures)
+    c.compare_exchange-found.ensures.2.told in
+    let within = lawful.within c.args.node node in
+    keeps_parent after _ _ _ _ _ c.pass.inside.pairs c.args.node _
+    (keeps_pair me after _ _ _ _ _ c.pass.inside.pairs c.args.node _ _ _ told c.pass.invariant within place)
+    (omega (arith, c.pass.invariant.3.for_each, within))
 
 pub invariant_of-pass : goal.invariant_of-pass
 invariant_of-pass c =
@@ -71,7 +85,8 @@ invariant_of-pass c =
     let place = place_here c.self.inside.places _ me.0 (TreeOf c.args.node) _ c.self.invariant.places_are own c.tree-place.ensures in
     let told = subst (λ x. Tells me (saw_at me.0 c.tree-place.result c.compare_exchange-found.result x) after) (sym c.after_exchange.ensures)
     c.compare_exchange-found.ensures.2.told in
-    keeps_pair me after _ _ _ _ _ c.pass.inside.pairs.items c.args.node _ _ _ told c.pass.invariant (lawful.within c.args.node node) place
+    rw c.set.ensures
+    (keeps_pair me after _ _ _ _ _ c.pass.inside.pairs c.args.node _ _ _ told c.pass.invariant (lawful.within c.args.node node) place)
 
 pub returns-clause-view : goal.returns-clause-view
 returns-clause-view c =
@@ -84,7 +99,7 @@ returns-clause-view c =
     let node = lawful.tree.rooted.points c.args.node (ap is_some may.seen.stands) in
     let within = lawful.within c.args.node node in
     let place = place_here c.self.inside.places _ me.0 (TreeOf c.args.node) _ c.self.invariant.places_are own c.tree-place.ensures in
-    let seen = c.index-seen.ensures ∙ get_or_default c.pass.inside.pairs.items c.args.node _ 0 (omega (arith, c.pass.invariant.3.for_each, within))
+    let seen = c.word-seen.ensures
     ∙ c.pass.invariant.3.seen c.args.node within in
     with_view_told _ _ _ then
     (λ v. cond (found == sees v (TreeOf c.args.node)) (lowered v c.args.node c.args.parent c.args.cost) (loaded v (TreeOf c.args.node) found)) c.pass.view_is
@@ -98,6 +113,6 @@ returns-clause-found c off =
     let may = subst (λ p. MayLower p.view c.args.node c.args.parent c.args.cost) (sym c.pass.view_is) c.requires.may in
     let node = lawful.tree.rooted.points c.args.node (ap is_some may.seen.stands) in
     let within = lawful.within c.args.node node in
-    let seen = c.index-seen.ensures ∙ get_or_default c.pass.inside.pairs.items c.args.node _ 0 (omega (arith, c.pass.invariant.3.for_each, within))
+    let seen = c.word-seen.ensures
     ∙ c.pass.invariant.3.seen c.args.node within ∙ ap (λ p. sees p.view (TreeOf c.args.node)) c.pass.view_is in
     subst (λ w. FindsLess w c.compare_exchange-found.result) seen (c.compare_exchange-found.ensures.2.fell (λ same. off (same ∙ seen)))

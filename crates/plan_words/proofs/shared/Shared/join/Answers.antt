@@ -1,10 +1,10 @@
 use Rattle.std.proofs.Common.{◌≡◌, ◌+◌, None, length, ap, subst, sym, ◌∙◌}
-use Rattle.std.specs.Prelude.{is_some, not, slice_index}
+use Rattle.std.specs.Prelude.{is_some, not}
 use Rattle.plan_words.proofs.Joining.{GoesOn-taken_over, first-own, first-theirs, keeps_taken_over, none-member}
 use Rattle.plan_words.proofs.Owning.{may_load_here, may_take_over_here, same_run, same_table}
+use Rattle.plan_words.proofs.SeenChildren.{HasParentsBelow-seen}
 use Rattle.plan_words.proofs.shared.Shared.join.Goals as goal
-use Rattle.step_core.specs.WordKinds.{later_word}
-use Rattle.step_core.specs.WordKinds.WordKind.{Falling}
+use Rattle.plan_words.specs.Chains.{HasParentsBelow}
 use Rattle.step_core.specs.WordNames.Word.{Count}
 
 pub join_seat-requires : goal.join_seat-requires
@@ -34,11 +34,21 @@ returns-clause-goes_on c =
     GoesOn-taken_over _ _ c.other.inside.seat.me.0 c.pass.inside.seat.me _ _ c.pass.invariant.1.lawful c.pass.view_is c.join_seat.ensures.2
     c.load-count.ensures.2.told
 
-pub take_cheaper-requires : goal.take_cheaper-requires
-take_cheaper-requires c =
+pub take_cheaper-requires-clause-sized : goal.take_cheaper-requires-clause-sized
+take_cheaper-requires-clause-sized c =
     let own = same_run _ _ _ _ c.pass.view_is c.self.view_is c.requires.belongs in
     let own_too = same_run _ _ _ _ c.other.view_is c.self.view_is c.requires.belongs_too in
-    ap (λ l. length l) c.as_slice.ensures.value ∙ c.other.invariant.3.for_each ∙ ap (λ r. length r.marks + 1) (own_too ∙ sym own) ∙ sym c.pass.invariant.3.for_each
+    c.other.invariant.3.for_each ∙ ap (λ r. length r.marks + 1) (own_too ∙ sym own) ∙ sym c.pass.invariant.3.for_each
+
+pub take_cheaper-requires-clause-parents : goal.take_cheaper-requires-clause-parents
+take_cheaper-requires-clause-parents c = HasParentsBelow-seen _ _ c.pass.invariant.1.lawful c.pass.invariant.3
+
+pub take_cheaper-requires-clause-parents_too : goal.take_cheaper-requires-clause-parents_too
+take_cheaper-requires-clause-parents_too c =
+    let own = same_run _ _ _ _ c.pass.view_is c.self.view_is c.requires.belongs in
+    let own_too = same_run _ _ _ _ c.other.view_is c.self.view_is c.requires.belongs_too in
+    let sized = c.other.invariant.3.for_each ∙ ap (λ r. length r.marks + 1) (own_too ∙ sym own) ∙ sym c.pass.invariant.3.for_each in
+    subst (λ count. HasParentsBelow count c.other.inside.pairs) sized (HasParentsBelow-seen _ _ c.other.invariant.1.lawful c.other.invariant.3)
 
 pub invariant_of-pass : goal.invariant_of-pass
 invariant_of-pass c =
@@ -46,25 +56,23 @@ invariant_of-pass c =
     let own_too = same_run _ _ _ _ c.other.view_is c.self.view_is c.requires.belongs_too in
     let none = none-member c.pass.inside.member (c.is_none.ensures ∙ ap not c.if-is_none.true) in
     let place = c.count.ensures in
-    keeps_taken_over c.pass.inside.seat.me c.join_seat.new.seat.me c.load-count.new.seat.me c.other.inside.seat.me.0 _ _ _ _ _ _ c.pass.inside.pairs.items
-    c.other.inside.pairs.items c.take_cheaper.new.pairs.items _ _ c.join_seat.ensures.2 c.load-count.ensures.2.told place c.pass.invariant (own_too ∙ sym own)
+    keeps_taken_over c.pass.inside.seat.me c.join_seat.new.seat.me c.load-count.new.seat.me c.other.inside.seat.me.0 _ _ _ _ _ _ c.pass.inside.pairs
+    c.other.inside.pairs c.take_cheaper.new.pairs _ _ c.join_seat.ensures.2 c.load-count.ensures.2.told place c.pass.invariant (own_too ∙ sym own)
     c.other.invariant.3
     (c.other.invariant.1.member_is
     ∙ sym (first-theirs c.pass.inside.seat.me.0.crew c.other.inside.seat.me.0.crew (sym c.pass.invariant.1.member_is ∙ none)))
     c.take_cheaper.ensures.as_many
-    (λ n low. c.take_cheaper.ensures.each n low
-    ∙ ap (λ l. later_word Falling (slice_index c.pass.inside.pairs.items n) (slice_index l n)) c.as_slice.ensures.value)
+    c.take_cheaper.ensures.each
 
 pub invariant_of-pass-else-is_none : goal.invariant_of-pass-else-is_none
 invariant_of-pass-else-is_none c =
     let own = same_run _ _ _ _ c.pass.view_is c.self.view_is c.requires.belongs in
     let own_too = same_run _ _ _ _ c.other.view_is c.self.view_is c.requires.belongs_too in
     let some_member = c.is_none.ensures ∙ ap not c.if-is_none.false in
-    keeps_taken_over c.pass.inside.seat.me c.join_seat.new.seat.me c.load-count.new.seat.me c.other.inside.seat.me.0 _ _ _ _ _ _ c.pass.inside.pairs.items
-    c.other.inside.pairs.items c.take_cheaper.new.pairs.items _ _ c.join_seat.ensures.2 c.load-count.ensures.2.told c.count.ensures c.pass.invariant
+    keeps_taken_over c.pass.inside.seat.me c.join_seat.new.seat.me c.load-count.new.seat.me c.other.inside.seat.me.0 _ _ _ _ _ _ c.pass.inside.pairs
+    c.other.inside.pairs c.take_cheaper.new.pairs _ _ c.join_seat.ensures.2 c.load-count.ensures.2.told c.count.ensures c.pass.invariant
     (own_too ∙ sym own) c.other.invariant.3
     (c.pass.invariant.1.member_is
     ∙ sym (first-own c.pass.inside.seat.me.0.crew c.other.inside.seat.me.0.crew (ap is_some (sym c.pass.invariant.1.member_is) ∙ some_member)))
     c.take_cheaper.ensures.as_many
-    (λ n low. c.take_cheaper.ensures.each n low
-    ∙ ap (λ l. later_word Falling (slice_index c.pass.inside.pairs.items n) (slice_index l n)) c.as_slice.ensures.value)
+    c.take_cheaper.ensures.each

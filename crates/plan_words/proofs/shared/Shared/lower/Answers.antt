@@ -1,6 +1,5 @@
 use Rattle.std.proofs.Common.{◌≢◌, ap, arith, subst, sym, ◌∙◌}
 use Rattle.std.specs.Prelude.{is_some}
-use Rattle.std.proofs.lemmas.List.{get_or_default}
 use Rattle.plan_words.proofs.LoweredNodes.{found_less, found_pair, found_pass, found_writes, lowered_less, lowered_pass, lowered_writes}
 use Rattle.plan_words.proofs.shared.Shared.lower.Goals as goal
 use Rattle.step_core.specs.LaterViews.{IsLawfulView}
@@ -8,19 +7,19 @@ use Rattle.step_core.specs.ViewTrees.{MayLower}
 use Rattle.step_core.specs.Views.{sees}
 use Rattle.step_core.specs.WordNames.Word.{TreeOf}
 
-pub index-seen-requires : goal.index-seen-requires
-index-seen-requires c =
+pub word-seen-requires : goal.word-seen-requires
+word-seen-requires c =
     let lawful = c.pass.invariant.1.lawful in
     let may = subst (λ p. MayLower p.view c.args.node c.args.parent c.args.cost) (sym c.pass.view_is) c.requires.may in
     let node = lawful.tree.rooted.points c.args.node (ap is_some may.seen.stands) in
-    omega (arith, c.pass.inside.pairs.ok, c.pass.invariant.3.for_each, lawful.within c.args.node node)
+    omega (arith, c.pass.invariant.3.for_each, lawful.within c.args.node node)
 
 pub returns-then-found-seen-clause-view : goal.returns-then-found-seen-clause-view
 returns-then-found-seen-clause-view c =
     let lawful = c.pass.invariant.1.lawful in
     let may = subst (λ p. MayLower p.view c.args.node c.args.parent c.args.cost) (sym c.pass.view_is) c.requires.may in
     let within = lawful.within c.args.node (lawful.tree.rooted.points c.args.node (ap is_some may.seen.stands)) in
-    let seen = c.index-seen.ensures ∙ get_or_default c.pass.inside.pairs.items c.args.node _ 0 (omega (arith, c.pass.invariant.3.for_each, within))
+    let seen = c.word-seen.ensures
     ∙ c.pass.invariant.3.seen c.args.node within ∙ ap (λ p. sees p.view (TreeOf c.args.node)) c.pass.view_is in
     let was = subst (λ p. IsLawfulView p.view) c.pass.view_is lawful in
     lowered_pass _ _ c.args.node c.args.parent c.args.cost _ was c.requires.may c.exchange_tree-found.ensures.view (c.if-found-seen.true ∙ seen)
@@ -30,7 +29,7 @@ returns-then-found-seen-clause-seen c =
     let lawful = c.pass.invariant.1.lawful in
     let may = subst (λ p. MayLower p.view c.args.node c.args.parent c.args.cost) (sym c.pass.view_is) c.requires.may in
     let within = lawful.within c.args.node (lawful.tree.rooted.points c.args.node (ap is_some may.seen.stands)) in
-    let seen = c.index-seen.ensures ∙ get_or_default c.pass.inside.pairs.items c.args.node _ 0 (omega (arith, c.pass.invariant.3.for_each, within))
+    let seen = c.word-seen.ensures
     ∙ c.pass.invariant.3.seen c.args.node within ∙ ap (λ p. sees p.view (TreeOf c.args.node)) c.pass.view_is in
     let was = subst (λ p. IsLawfulView p.view) c.pass.view_is lawful in
     lowered_writes _ _ c.args.node c.args.parent c.args.cost _ was c.requires.may c.exchange_tree-found.ensures.view (c.if-found-seen.true ∙ seen)
@@ -40,7 +39,7 @@ returns-then-found-seen-clause-falls c =
     let lawful = c.pass.invariant.1.lawful in
     let may = subst (λ p. MayLower p.view c.args.node c.args.parent c.args.cost) (sym c.pass.view_is) c.requires.may in
     let within = lawful.within c.args.node (lawful.tree.rooted.points c.args.node (ap is_some may.seen.stands)) in
-    let seen = c.index-seen.ensures ∙ get_or_default c.pass.inside.pairs.items c.args.node _ 0 (omega (arith, c.pass.invariant.3.for_each, within))
+    let seen = c.word-seen.ensures
     ∙ c.pass.invariant.3.seen c.args.node within ∙ ap (λ p. sees p.view (TreeOf c.args.node)) c.pass.view_is in
     let was = subst (λ p. IsLawfulView p.view) c.pass.view_is lawful in
     lowered_less _ _ c.args.node c.args.parent c.args.cost _ was c.requires.may c.exchange_tree-found.ensures.view (c.if-found-seen.true ∙ seen)
@@ -50,7 +49,7 @@ returns-clause-view_found c =
     let lawful = c.pass.invariant.1.lawful in
     let may = subst (λ p. MayLower p.view c.args.node c.args.parent c.args.cost) (sym c.pass.view_is) c.requires.may in
     let within = lawful.within c.args.node (lawful.tree.rooted.points c.args.node (ap is_some may.seen.stands)) in
-    let seen = c.index-seen.ensures ∙ get_or_default c.pass.inside.pairs.items c.args.node _ 0 (omega (arith, c.pass.invariant.3.for_each, within))
+    let seen = c.word-seen.ensures
     ∙ c.pass.invariant.3.seen c.args.node within ∙ ap (λ p. sees p.view (TreeOf c.args.node)) c.pass.view_is in
     let was = subst (λ p. IsLawfulView p.view) c.pass.view_is lawful in
     let other : c.exchange_tree-found.result ≢ sees c.args.pass.now.view (TreeOf c.args.node) = λ same. c.if-found-seen.false (same ∙ sym seen) in
@@ -61,7 +60,7 @@ returns-clause-found c =
     let lawful = c.pass.invariant.1.lawful in
     let may = subst (λ p. MayLower p.view c.args.node c.args.parent c.args.cost) (sym c.pass.view_is) c.requires.may in
     let within = lawful.within c.args.node (lawful.tree.rooted.points c.args.node (ap is_some may.seen.stands)) in
-    let seen = c.index-seen.ensures ∙ get_or_default c.pass.inside.pairs.items c.args.node _ 0 (omega (arith, c.pass.invariant.3.for_each, within))
+    let seen = c.word-seen.ensures
     ∙ c.pass.invariant.3.seen c.args.node within ∙ ap (λ p. sees p.view (TreeOf c.args.node)) c.pass.view_is in
     let was = subst (λ p. IsLawfulView p.view) c.pass.view_is lawful in
     let other : c.exchange_tree-found.result ≢ sees c.args.pass.now.view (TreeOf c.args.node) = λ same. c.if-found-seen.false (same ∙ sym seen) in
@@ -73,7 +72,7 @@ returns-clause-seen c =
     let lawful = c.pass.invariant.1.lawful in
     let may = subst (λ p. MayLower p.view c.args.node c.args.parent c.args.cost) (sym c.pass.view_is) c.requires.may in
     let within = lawful.within c.args.node (lawful.tree.rooted.points c.args.node (ap is_some may.seen.stands)) in
-    let seen = c.index-seen.ensures ∙ get_or_default c.pass.inside.pairs.items c.args.node _ 0 (omega (arith, c.pass.invariant.3.for_each, within))
+    let seen = c.word-seen.ensures
     ∙ c.pass.invariant.3.seen c.args.node within ∙ ap (λ p. sees p.view (TreeOf c.args.node)) c.pass.view_is in
     let was = subst (λ p. IsLawfulView p.view) c.pass.view_is lawful in
     let other : c.exchange_tree-found.result ≢ sees c.args.pass.now.view (TreeOf c.args.node) = λ same. c.if-found-seen.false (same ∙ sym seen) in
@@ -84,7 +83,7 @@ returns-clause-falls c =
     let lawful = c.pass.invariant.1.lawful in
     let may = subst (λ p. MayLower p.view c.args.node c.args.parent c.args.cost) (sym c.pass.view_is) c.requires.may in
     let within = lawful.within c.args.node (lawful.tree.rooted.points c.args.node (ap is_some may.seen.stands)) in
-    let seen = c.index-seen.ensures ∙ get_or_default c.pass.inside.pairs.items c.args.node _ 0 (omega (arith, c.pass.invariant.3.for_each, within))
+    let seen = c.word-seen.ensures
     ∙ c.pass.invariant.3.seen c.args.node within ∙ ap (λ p. sees p.view (TreeOf c.args.node)) c.pass.view_is in
     let was = subst (λ p. IsLawfulView p.view) c.pass.view_is lawful in
     let other : c.exchange_tree-found.result ≢ sees c.args.pass.now.view (TreeOf c.args.node) = λ same. c.if-found-seen.false (same ∙ sym seen) in

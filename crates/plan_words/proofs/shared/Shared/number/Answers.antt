@@ -1,7 +1,9 @@
 use Rattle.plan_words.proofs.KeptPairs.{keeps_saw}
-use Rattle.std.proofs.Common.{ap, arith}
+use Rattle.std.proofs.Common.{◌≤◌, ap, arith, subst}
+use Rattle.plan_words.proofs.LookedNodes.{place_here}
 use Rattle.plan_words.proofs.Owning.{count_fits, may_load_here, sees_told, same_run, same_table}
 use Rattle.plan_words.proofs.shared.Shared.number.Goals as goal
+use Rattle.step_core.specs.SeenRecords.{own_count}
 use Rattle.step_core.specs.WordNames.Word.{Count}
 
 pub load-requires : goal.load-requires
@@ -19,5 +21,11 @@ returns-clause-seen c =
 
 pub invariant_of-pass : goal.invariant_of-pass
 invariant_of-pass c =
-    keeps_saw c.pass.inside.seat.me c.load.new.seat.me _ _ _ _ _ c.pass.inside.pairs.items Count _ _ _ c.load.ensures.2.told c.pass.invariant tt
+    keeps_saw c.pass.inside.seat.me c.load.new.seat.me _ _ _ _ _ c.pass.inside.pairs Count _ _ _ c.load.ensures.2.told c.pass.invariant tt
     c.count.ensures (λ n e. cc)
+
+pub returns-clause-own : goal.returns-clause-own
+returns-clause-own c entry =
+    let own = same_run _ _ _ _ c.pass.view_is c.self.view_is c.requires in
+    let place = place_here c.self.inside.places _ c.pass.inside.seat.me.0 Count _ c.self.invariant.places_are own c.count.ensures in
+    subst (λ p. own_count p.view entry ≤ c.load.result) c.pass.view_is (c.load.ensures.2.count place entry)

@@ -1,8 +1,8 @@
-use Rattle.std.proofs.Common.{◌≡◌, ◌≤◌, Some, ap, arith, cond, refl, subst, sym, ◌∙◌}
+use Rattle.std.proofs.Common.{◌+◌, ◌≡◌, ◌≤◌, Some, ap, arith, cond, refl, subst, sym, ◌∙◌}
 use Rattle.std.proofs.lemmas.Bool.{eq-eqb, ne_eqb}
 use Rattle.std.specs.Prelude.{IfSome}
 use Rattle.plan_words.proofs.HandSteps.{at_hand, leads_seen, tried_fits}
-use Rattle.plan_words.proofs.KeptPairs.{HasPairs-linked, HasPairs-saw, keeps_view}
+use Rattle.plan_words.proofs.KeptPairs.{HasPairs-linked, HasPairs-saw, keeps_parent, keeps_view}
 use Rattle.plan_words.proofs.LookedNodes.{place_here, seen_low}
 use Rattle.plan_words.proofs.Owning.{may_link_here, same_run, same_table, tells_on}
 use Rattle.plan_words.proofs.shared.Shared.put.Goals as goal
@@ -72,6 +72,29 @@ pack_tree-requires-clause-cost c =
     (subst (λ p. IfSome p.view.hand (λ h. h.stage ≡ Treed)) (sym c.pass.view_is) c.requires.treed) in
     omega (arith, (c.pass.invariant.1.lawful.pair_fits c.in-Some.hand held (ap has_first stage)).1)
 
+pub set-requires-clause-parent : goal.set-requires-clause-parent
+set-requires-clause-parent c =
+    let own = same_run _ _ _ _ c.pass.view_is c.self.view_is c.requires.belongs in
+    let me = c.pass.inside.seat.me in
+    let after = c.compare_exchange-found.new.seat.me in
+    let hand = c.in-Some.hand in
+    let tied = c.pass.invariant.1 in
+    let held = sym tied.hand_is ∙ c.in-Some.is in
+    let found = c.compare_exchange-found.result in
+    let leads = at_hand (λ h. LeadsTo me.0 h.point c.args.node c.args.right) _ hand held
+    (subst (λ p. IfSome p.view.hand (λ h. LeadsTo p.view h.point c.args.node c.args.right)) (sym c.pass.view_is) c.requires.leads) in
+    let seen = leads_seen me.0 hand c.args.node c.args.right tied.lawful leads in
+    let place = place_here c.self.inside.places _ me.0 (ChildOf c.args.node c.args.right) _ c.self.invariant.places_are own c.child-place.ensures in
+    let none = eq-eqb found 0 c.if-found-eq0.true in
+    let told = subst (λ b. Tells me (cond b (linked_at me.0 hand c.child-place.result) (saw_at me.0 c.child-place.result found found)) after) none
+    (c.compare_exchange-found.ensures.2 hand held) in
+    let kept =
+    keeps_view me after (linked_at me.0 hand c.child-place.result) _ _ _ _ _ _ _ c.pass.inside.pairs _ told c.pass.invariant refl tied.member_is
+    (ap Some (c.after_link.ensures ∙ ap (λ b. cond b (record hand { stage = Linked }) hand) none))
+    (HasPairs-linked me.0 hand c.args.node c.args.right _ c.pass.inside.pairs c.pack_tree.result tied.lawful held (tied.lawful.within c.args.node seen)
+    place c.pack_tree.ensures) in
+    keeps_parent after _ _ _ _ _ c.pass.inside.pairs (hand.mark + 1) _ kept (omega (arith, c.pass.invariant.3.for_each, tied.lawful.mark hand held))
+
 pub invariant_of-pass : goal.invariant_of-pass
 invariant_of-pass c =
     let own = same_run _ _ _ _ c.pass.view_is c.self.view_is c.requires.belongs in
@@ -88,10 +111,11 @@ invariant_of-pass c =
     let none = eq-eqb found 0 c.if-found-eq0.true in
     let told = subst (λ b. Tells me (cond b (linked_at me.0 hand c.child-place.result) (saw_at me.0 c.child-place.result found found)) after) none
     (c.compare_exchange-found.ensures.2 hand held) in
-    keeps_view me after (linked_at me.0 hand c.child-place.result) _ _ _ _ _ _ _ c.pass.inside.pairs.items _ told c.pass.invariant refl tied.member_is
+    rw c.set.ensures
+    (keeps_view me after (linked_at me.0 hand c.child-place.result) _ _ _ _ _ _ _ c.pass.inside.pairs _ told c.pass.invariant refl tied.member_is
     (ap Some (c.after_link.ensures ∙ ap (λ b. cond b (record hand { stage = Linked }) hand) none))
-    (HasPairs-linked me.0 hand c.args.node c.args.right _ c.pass.inside.pairs.items c.pack_tree.result tied.lawful held (tied.lawful.within c.args.node seen)
-    place c.pack_tree.ensures)
+    (HasPairs-linked me.0 hand c.args.node c.args.right _ c.pass.inside.pairs c.pack_tree.result tied.lawful held (tied.lawful.within c.args.node seen)
+    place c.pack_tree.ensures))
 
 pub invariant_of-pass-else-found-eq0 : goal.invariant_of-pass-else-found-eq0
 invariant_of-pass-else-found-eq0 c =
@@ -109,9 +133,9 @@ invariant_of-pass-else-found-eq0 c =
     let some_child = ne_eqb found 0 c.if-found-eq0.false in
     let told = subst (λ b. Tells me (cond b (linked_at me.0 hand c.child-place.result) (saw_at me.0 c.child-place.result found found)) after) some_child
     (c.compare_exchange-found.ensures.2 hand held) in
-    keeps_view me after (saw_at me.0 c.child-place.result found found) _ _ _ _ _ _ _ c.pass.inside.pairs.items _ told c.pass.invariant refl tied.member_is
+    keeps_view me after (saw_at me.0 c.child-place.result found found) _ _ _ _ _ _ _ c.pass.inside.pairs _ told c.pass.invariant refl tied.member_is
     (ap Some (c.after_link.ensures ∙ ap (λ b. cond b (record hand { stage = Linked }) hand) some_child) ∙ sym held)
-    (HasPairs-saw me.0 (saw_at me.0 c.child-place.result found found) c.pass.inside.pairs.items (ChildOf c.args.node c.args.right) _ _ _ tied.lawful
+    (HasPairs-saw me.0 (saw_at me.0 c.child-place.result found found) c.pass.inside.pairs (ChildOf c.args.node c.args.right) _ _ _ tied.lawful
     (tied.lawful.within c.args.node seen) place refl (λ m e. cc))
 
 pub returns-clause-goes_on : goal.returns-clause-goes_on

@@ -1,15 +1,23 @@
-use Rattle.std.proofs.Common.{◌∷◌, ◌+◌, ◌≤◌, [], length, Some, None, sym, ap, ◌∙◌, subst, arith}
+use Rattle.std.proofs.Common.{◌∷◌, ◌+◌, ◌≤◌, [], false, length, Some, None, sym, ap, ◌∙◌, subst, arith}
 use Rattle.std.specs.Prelude.{slice_index}
 use Rattle.std.proofs.lemmas.List.{get_or_default}
 use Rattle.plan_model.specs.Turns.{turns_of}
-use Rattle.plan_words.proofs.Dealing.{HoldsWorld-started, IsTableOf-started, IsTied-started, MayClaim-starts, StartsAs-pass}
+use Rattle.plan_words.proofs.Dealing.{HasParentsWithin-started, HoldsWorld-started, IsTableOf-started, IsTied-started, MayClaim-starts, StartsAs-pass}
 use Rattle.plan_words.proofs.Tying.{HasRoom-new}
 use Rattle.plan_words.proofs.shared.Shared.start.Goals as goal
+use Rattle.plan_words.specs.Chains.{HasParentsWithin}
 use Rattle.plan_words.specs.States.{HoldsWorld, IsTied, PassState, first_view, run_of_opening}
 use Rattle.plan_words.specs.declared.openings.Opening.{Opening}
 use Rattle.step_core.specs.GrownWords.{record_at, run_words}
 use Rattle.step_core.specs.Views.{sees}
 use Rattle.step_core.specs.WordNames.Word.{TreeOf}
+
+pub tree_words-requires-clause-parents : goal.tree_words-requires-clause-parents
+tree_words-requires-clause-parents c =
+    let told = c.into_words-task.result in
+    let opening : Opening = record { task = told.0; workers = c.args.workers; limit = told.1; words = told.2 } in
+    subst (λ items. HasParentsWithin (length told.0.marks) (λ n. run_words told.0 items (TreeOf n))) (sym c.as_slice-2.ensures.value)
+    (HasParentsWithin-started opening c.into_words-task.ensures.sized c.into_words-task.ensures.run c.requires.some c.requires.few)
 
 pub of_words-requires : goal.of_words-requires
 of_words-requires c =
@@ -73,7 +81,7 @@ pub returns-clause-passes : goal.returns-clause-passes
 returns-clause-passes c w pass e =
     let told = c.into_words-task.ensures in
     let me = c.in_ok-table.ensures.4 in
-    let first : PassState = record { table = c.in_ok-table.seat.table_id; view = c.in_ok-table.seat.me.0; spots = []; near = []; around = [] } in
+    let first : PassState = record { table = c.in_ok-table.seat.table_id; view = c.in_ok-table.seat.me.0; spots = []; near = []; around = []; waits = false } in
     StartsAs-pass _ c.args.grown first w pass (ap (λ m. sees m.0) me ∙ told.words) (ap (λ m. m.0.most) me
     ∙ told.limit) (c.in_ok-passes.ensures.passes w pass e)
 

@@ -1,5 +1,5 @@
 use Rattle.std.proofs.Common.{◌≤◌, ap, arith, subst, sym, ◌∙◌}
-use Rattle.plan_words.proofs.KeptPairs.{keeps_pair}
+use Rattle.plan_words.proofs.KeptPairs.{keeps_pair, keeps_parent}
 use Rattle.plan_words.proofs.LookedNodes.{pair_found, place_here, seen_low, tree_word_seen}
 use Rattle.plan_words.proofs.Owning.{may_load_here, same_run, same_table, sees_told, with_view_told}
 use Rattle.plan_words.proofs.shared.Shared.tree.Goals as goal
@@ -25,18 +25,30 @@ load-word-requires c =
     let place = c.tree-place.ensures ∙ ap (λ s. place_of s (TreeOf c.args.node)) c.self.invariant.places_are in
     may_load_here _ _ _ _ c.self.invariant _ _ _ _ (TreeOf c.args.node) same own low seen place
 
-pub index_mut-requires : goal.index_mut-requires
-index_mut-requires c =
+pub set-requires-clause-node : goal.set-requires-clause-node
+set-requires-clause-node c =
     let seen = subst (λ p. SeesNode p.view c.args.node) (sym c.pass.view_is) c.requires.seen_node in
-    omega (arith, c.pass.inside.pairs.ok, c.pass.invariant.3.for_each, c.pass.invariant.1.lawful.within c.args.node seen)
+    omega (arith, c.pass.invariant.3.for_each, c.pass.invariant.1.lawful.within c.args.node seen)
+
+pub set-requires-clause-parent : goal.set-requires-clause-parent
+set-requires-clause-parent c =
+    let own = same_run _ _ _ _ c.pass.view_is c.self.view_is c.requires.belongs in
+    let seen = subst (λ p. SeesNode p.view c.args.node) (sym c.pass.view_is) c.requires.seen_node in
+    let place = place_here c.self.inside.places _ c.pass.inside.seat.me.0 (TreeOf c.args.node) _ c.self.invariant.places_are own c.tree-place.ensures in
+    let within = c.pass.invariant.1.lawful.within c.args.node seen in
+    keeps_parent c.load-word.new.seat.me _ _ _ _ _ c.pass.inside.pairs c.args.node _
+    (keeps_pair c.pass.inside.seat.me c.load-word.new.seat.me _ _ _ _ _ c.pass.inside.pairs c.args.node _ _ _ c.load-word.ensures.2.told c.pass.invariant
+    within place)
+    (omega (arith, c.pass.invariant.3.for_each, within))
 
 pub invariant_of-pass : goal.invariant_of-pass
 invariant_of-pass c =
     let own = same_run _ _ _ _ c.pass.view_is c.self.view_is c.requires.belongs in
     let seen = subst (λ p. SeesNode p.view c.args.node) (sym c.pass.view_is) c.requires.seen_node in
     let place = place_here c.self.inside.places _ c.pass.inside.seat.me.0 (TreeOf c.args.node) _ c.self.invariant.places_are own c.tree-place.ensures in
-    keeps_pair c.pass.inside.seat.me c.load-word.new.seat.me _ _ _ _ _ c.pass.inside.pairs.items c.args.node _ _ _ c.load-word.ensures.2.told c.pass.invariant
-    (c.pass.invariant.1.lawful.within c.args.node seen) place
+    rw c.set.ensures
+    (keeps_pair c.pass.inside.seat.me c.load-word.new.seat.me _ _ _ _ _ c.pass.inside.pairs c.args.node _ _ _ c.load-word.ensures.2.told c.pass.invariant
+    (c.pass.invariant.1.lawful.within c.args.node seen) place)
 
 pub returns-clause-view : goal.returns-clause-view
 returns-clause-view c =

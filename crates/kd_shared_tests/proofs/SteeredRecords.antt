@@ -1,0 +1,175 @@
+-- What may be recorded of a mark that was steered from the nearest node: that another node stands at its point, or, where the radius is 0, that its node was placed below the nearest.
+use Rattle.std.proofs.Common.{◌≡◌, ℕ, zero, suc, ◌+◌, ◌-◌, ◌*◌, ◌<◌, ◌≤◌, ◌^◌, Bool, true, false, cond, Option, Some, None, length, inl, inr, refl, sym, ap, ◌∙◌, subst, arith}
+use Rattle.std.specs.Prelude.{◌==◌, ◌&&◌, ◌⊎◌, IfSome, IsTrue, count_by, nat_le, nat_lt}
+use Rattle.std.specs.List.{range_with_len}
+use Rattle.std.proofs.Math.Nat.{mul-pos}
+use Rattle.std.proofs.lemmas.Bool.{and_parts, cases_lt, le-leb, leb-true}
+use Rattle.std.proofs.lemmas.Int.Digits.{length-digits_of-le}
+use Rattle.std.proofs.lemmas.List.Sums.{length-filter}
+use Rattle.std.proofs.lemmas.Nat.{pow_pos}
+use Rattle.plan_model.specs.Clearance.{Clear}
+use Rattle.plan_model.specs.ClosedLaw.{mark_at}
+use Rattle.plan_model.specs.LeastPairs.{IsNotAbove}
+use Rattle.plan_model.specs.Nearness.{distance_to, is_within}
+use Rattle.plan_model.specs.Outcomes.{is_placed}
+use Rattle.plan_model.specs.PointsByNumber.{IsPresent, point_at, point_of}
+use Rattle.plan_model.specs.Radius.{class_of, radius_of_class}
+use Rattle.plan_model.specs.RecordLaw.{is_earlier_record}
+use Rattle.plan_model.specs.Steering.{steered}
+use Rattle.plan_model.specs.Turns.{is_of_worker}
+use Rattle.plan_model.specs.declared.geometry.Point.{Point}
+use Rattle.plan_model.specs.declared.records.Outcome.TheVariants.{Placed, Same}
+use Rattle.plan_model.specs.declared.records.Record.{Record}
+use Rattle.plan_model.proofs.ClassLaws.{below_digits}
+use Rattle.plan_model.proofs.CountsBelow.{count-more, count-wider}
+use Rattle.plan_model.proofs.FreePoints.{same-from_distance}
+use Rattle.plan_model.proofs.NewNodes.{point_of-stands}
+use Rattle.plan_model.proofs.RadiusLaws.{greatest-passes}
+use Rattle.plan_words.specs.States.{turn_of, worker_of}
+use Rattle.plan_words.proofs.KeptPairs.{if_hand}
+use Rattle.plan_words.proofs.Tying.{HasMember-held}
+use Rattle.step_core.specs.GrownWords.{has_node, has_placed, record_at}
+use Rattle.step_core.specs.LaterViews.{IsLawfulView}
+use Rattle.step_core.specs.SeenRecords.{IsOwnNeighbour, MayBePlaced, MayEnd, MayRecord, is_own, own_count}
+use Rattle.step_core.specs.Stages.{has_link}
+use Rattle.step_core.specs.ViewTrees.{SeesPoint}
+use Rattle.step_core.specs.Views.{sees, setup_in, tree_seen}
+use Rattle.step_core.specs.WordNames.Word.{Count}
+use Rattle.step_core.specs.declared.views.Hand.{Hand}
+use Rattle.step_core.specs.declared.views.View.{View}
+use Rattle.kd_shared_tests.specs.HeldMarks.{HangsBelow, IsClassBetween, SeesHandPoint, SteersFrom}
+use Rattle.kd_shared_tests.proofs.SteeredMarks.{present_nearest}
+use lib.ListN.{get_elem?}
+
+-- ---- classes and radii
+
+pub class_of-below : (n k : ℕ) → n < 2 ^ k → class_of n ≤ k
+class_of-below n k fits = length-digits_of-le 2 k n (omega arith) fits
+
+class_of-le : (n m : ℕ) → n ≤ m → class_of n ≤ class_of m
+class_of-le n m order = class_of-below n (class_of m) (omega (arith, order, below_digits m))
+
+radius-zero : (step gamma class : ℕ) → gamma ≡ 0 → radius_of_class step gamma class ≡ 0
+radius-zero step gamma class none = ap (λ g. radius_of_class step g class) none ∙ by_test (cases_lt 0 (radius_of_class step 0 class))
+  where
+    m : ℕ
+    m = 2 ^ (class - 1)
+
+    r : ℕ
+    r = radius_of_class step 0 class
+
+    passes : r * r * m ≤ 0 * 0 * class
+    passes =
+        leb-true (r * r * m) (0 * 0 * class)
+        (greatest-passes (λ n. nat_le (n * n * 2 ^ (class - 1)) (0 * 0 * class)) step (le-leb (0 * 0 * 2 ^ (class - 1)) (0 * 0 * class) (omega arith)))
+
+    by_test : (0 < r) ⊎ (r ≤ 0) → r ≡ 0
+    by_test (inl some) =
+        absurd (omega (arith, passes, mul-pos (mul-pos some some) (pow_pos (class - 1))))
+    by_test (inr low) = omega (arith, low)
+
+-- within radius 0 of p there is p alone
+within_zero : (p : Point) (o : Option Point) → is_within p 0 o ≡ true → o ≡ Some p
+within_zero p None near = cc
+within_zero p (Some q) near = ap Some (same-from_distance q p (omega (arith, leb-true _ _ near)))
+
+-- ---- a worker's own nodes
+
+-- the record of each is seen
+own_recorded : (view : View) (entry : Record) (n : ℕ) → IsTrue (is_own view entry n) → has_node (sees view) n ≡ true
+own_recorded view entry zero own = refl
+own_recorded view entry (suc k) own = by_record (record_at (sees view) k) own
+  where
+    by_record : (o : Option Record) → is_earlier_record entry o ≡ true → has_placed o ≡ true
+    by_record None h = h
+    by_record (Some other) h = (and_parts (is_placed other.outcome) (other.worker == entry.worker && nat_lt other.turn entry.turn) h).0
+
+-- and is of the worker
+own_of_worker : (entry : Record) (o : Option Record) → is_earlier_record entry o ≡ true → is_of_worker entry.worker o ≡ true
+own_of_worker entry None h = h
+own_of_worker entry (Some other) h =
+    let parts = and_parts (is_placed other.outcome) (other.worker == entry.worker && nat_lt other.turn entry.turn) h in
+    (and_parts (other.worker == entry.worker) (nat_lt other.turn entry.turn) parts.1).0
+
+-- the first number apart
+count-first :
+    (test : ℕ → Bool) (n : ℕ) → count_by test (range_with_len 0 (suc n)) ≡ cond (test 0) 1 0 + count_by (λ k. test (suc k)) (range_with_len 0 n)
+count-first test zero = omega (arith, count-more test 0)
+count-first test (suc n) = omega (arith, count-more test (suc n), count-first test n, count-more (λ k. test (suc k)) n)
+
+-- they are no more than the start and the marks that the worker has handled
+own_count-turns :
+    (view : View) (hand : Hand) (entry : Record) → IsLawfulView view → view.hand ≡ Some hand → entry.worker ≡ worker_of view.crew
+    → own_count view entry ≤ turn_of view.crew + 1
+own_count-turns view hand entry lawful held worker =
+    let has = HasMember-held view hand lawful held in
+    let same : has.member.worker ≡ entry.worker = sym (worker ∙ ap worker_of has.crew_is) in
+    let turns = lawful.own_turn 0 has.member (ap (λ l. get_elem? l 0) has.crew_is) in
+    let marks : ℕ = length view.run.marks in
+    let next : marks + 1 ≡ suc marks = omega arith in
+    let of_worker : ℕ → Bool = λ k. is_of_worker entry.worker (record_at (sees view) k) in
+    let all = length-filter (is_own view entry) (range_with_len 0 (marks + 1)) ∙ ap (λ n. count_by (is_own view entry) (range_with_len 0 n)) next in
+    let wider = count-wider (λ k. is_own view entry (suc k)) of_worker marks (λ k own. own_of_worker entry (record_at (sees view) k) own) in
+    let mine = ap (λ w. count_by (λ k. is_of_worker w (record_at (sees view) k)) (range_with_len 0 marks)) same in
+    omega (arith, all, count-first (is_own view entry) marks, wider, mine, turns, ap turn_of has.crew_is)
+
+-- ---- records
+
+module _ (view : View) (nearest : ℕ) (entry : Record) (lawful : IsLawfulView view) (steers : SteersFrom nearest view) (is : entry.nearest ≡ nearest) where
+  -- where the hand was steered from, and where to
+  reached : steers.hand.point ≡ steered (point_of (tree_seen view).points entry.nearest) (mark_at view.run.marks steers.hand.mark) view.run.step
+  reached =
+      let step = (lawful.tree.holds steers.hand steers.held).steered_from steers.written in
+      let at = ap (point_of (tree_seen view).points) (is ∙ sym steers.nearest_is) ∙ point_of-stands (tree_seen view).points steers.hand.nearest step.from step.seen in
+      step.reached ∙ ap (λ p. steered p (mark_at view.run.marks steers.hand.mark) view.run.step) (sym at)
+
+  MayRecord-steered : MayEnd view steers.hand entry steers.hand.point entry.outcome → IfSome view.hand (λ h. MayRecord view h entry)
+  MayRecord-steered ended =
+      if_hand (λ h. MayRecord view h entry) view.hand steers.hand steers.held (record {
+        present = subst (IsPresent (tree_seen view).points) (sym is) (present_nearest view nearest lawful steers);
+        nearest = λ i own.
+            subst (λ m. IsNotAbove (distance_to (mark_at view.run.marks steers.hand.mark) (tree_seen view).points) m i) (sym is)
+            (steers.not_above i (own_recorded view entry i own));
+        outcome = subst (λ p. MayEnd view steers.hand entry p entry.outcome) reached ended;
+      })
+
+pub may_finish-same :
+    (view : View) (nearest j : ℕ) (entry : Record) → IsLawfulView view → SteersFrom nearest view → SeesHandPoint view j → entry.nearest ≡ nearest
+    → entry.outcome ≡ Same j → IfSome view.hand (λ h. MayRecord view h entry)
+may_finish-same view nearest j entry lawful steers seen is outcome =
+    let same : seen.hand ≡ steers.hand = cc (seen.held, steers.held) in
+    MayRecord-steered view nearest entry lawful steers is
+    (subst (MayEnd view steers.hand entry steers.hand.point) (sym outcome) (subst (λ h. SeesPoint view j h.point) same seen.stands))
+
+module _ (view : View) (nearest cost : ℕ) (entry : Record) (lawful : IsLawfulView view) (hangs : HangsBelow nearest cost view)
+    (linked : has_link hangs.steers.hand.stage ≡ true) (gamma : view.run.gamma ≡ 0) where
+  -- no own node is a neighbour: it would stand at the very point
+  no_neighbour : (i : ℕ) → IsOwnNeighbour view entry hangs.steers.hand.point i → ⊥
+  no_neighbour i near =
+      let hand : Hand = hangs.steers.hand in
+      let within = subst (λ r. is_within hand.point r (point_at (tree_seen view).points i) ≡ true) (radius-zero view.run.step view.run.gamma entry.class gamma) near.near in
+      let stands = within_zero hand.point (point_at (tree_seen view).points i) within in
+      let here = (lawful.tree.holds hand hangs.steers.held).shown linked in
+      let same = lawful.distinct i (suc hand.mark) hand.point stands here in
+      let recorded = ap (has_node (sees view)) (sym same) ∙ own_recorded view entry i near.own in
+      let gone = sym hangs.unrecorded ∙ recorded in
+      cc
+
+  pub may_finish-placed :
+      entry.nearest ≡ nearest → entry.outcome ≡ Placed → entry.first_parent ≡ nearest → entry.first_cost ≡ cost → entry.worker ≡ worker_of view.crew
+      → IsClassBetween (turn_of view.crew + 1) (sees view Count) entry.class → IfSome view.hand (λ h. MayRecord view h entry)
+  may_finish-placed is outcome parent cost_is worker class =
+      let hand : Hand = hangs.steers.hand in
+      let few = class_of-le (own_count view entry) (turn_of view.crew + 1) (own_count-turns view hand entry lawful hangs.steers.held worker) in
+      let placed : MayBePlaced view hand entry =
+      record {
+        nearest_is = is ∙ sym hangs.steers.nearest_is;
+        parent_is = parent ∙ sym hangs.parent_is;
+        cost_is = cost_is ∙ sym hangs.cost_is;
+        clear = subst (λ n. Clear (setup_in view.run).space (point_of (tree_seen view).points n) hand.point) (sym is) hangs.clear;
+        low = omega (arith, few, class.low);
+        high = class.high;
+        chosen = λ i near. absurd (no_neighbour i near);
+        rewired = λ i near. absurd (no_neighbour i near);
+      } in
+      MayRecord-steered view nearest entry lawful hangs.steers is (subst (MayEnd view hand entry hand.point) (sym outcome) placed)

@@ -1,0 +1,101 @@
+-- From the last words of a table to the closed run that they are.
+use Rattle.std.proofs.Common.{◌≡◌, ◌≢◌, ℕ, zero, suc, ◌<◌, ◌≤◌, List, [], ◌∷◌, get_or, length, Some, None, sym, ap, ◌∙◌, subst, inl, inr, arith}
+use Rattle.std.specs.Prelude.{is_some}
+use Rattle.std.proofs.lemmas.Bool.{cases_eq, cases_lt}
+use mathlib.Core.Option.{some, some-injective, some-ne-none}
+use lib.ListN.{get_elem?}
+use Rattle.atomic_table.specs.Table.{Final, Seen, State}
+use Rattle.plan_model.specs.MarkPoints.{quota_of}
+use Rattle.plan_model.specs.declared.records.Record.{Record}
+use Rattle.plan_model.specs.declared.tasks.Task.{Task}
+use Rattle.plan_words.specs.Claims.{HasNoneLeft}
+use Rattle.plan_words.specs.declared.openings.Aim.{Aim}
+use Rattle.plan_words.specs.declared.openings.Opening.{Opening}
+use Rattle.plan_words.specs.States.{HoldsWorld, run_of_opening}
+use Rattle.step_core.specs.GrownWords.{HoldRun, cleared, record_at, run_words, sizes_of, state_of_words}
+use Rattle.step_core.specs.GrownRuns.{state_of_grown, words_of_grown}
+use Rattle.step_core.specs.LastViews.{StandsAsSeen}
+use Rattle.step_core.specs.Views.{run_of, sees, share, words_of_run}
+use Rattle.step_core.specs.WordNames.{Words}
+use Rattle.step_core.specs.WordNames.Word.{Counter, FirstOf, RecordOf}
+use Rattle.step_core.specs.WordPlaces.{Sizes, word_at}
+use Rattle.step_core.specs.Words.{record_of_word}
+use Rattle.step_core.specs.Worlds.{IsWorld}
+use Rattle.step_core.specs.declared.grown.Grown.{Grown}
+use Rattle.step_core.specs.declared.views.View.{View}
+use Rattle.step_core.proofs.ClosedWorlds.{HoldRun-whole, StandsAsSeen-whole, own_workers-whole}
+
+-- an element that is there is read
+pub read-there : (items : List ℕ) (i x d : ℕ) → get_elem? items i ≡ some x → get_or items i d ≡ x
+read-there [] i x d e = absurd (some-ne-none x (sym e))
+read-there (y ∷ items) zero x d e = some-injective y x e
+read-there (y ∷ items) (suc i) x d e = read-there items i x d e
+
+-- the rule of the table, with the view of a seat
+abbrev pub EndsWith : Opening → ℕ → View → State Aim View → Type 0
+EndsWith key id view = Seen (λ s. HoldsWorld (run_of_opening key) s.words s.views) id view
+
+module _ (task : Task) (workers opening : ℕ) (key : Opening) (view : View) (id : ℕ) (items : List ℕ) (slots : List Aim)
+    (key_is : run_of_opening key ≡ run_of task workers opening) (own : view.run ≡ run_of task workers opening)
+    (final : Final (EndsWith key id view) items slots) (whole : share view ≡ workers) (idle : view.hand ≡ None) (left : HasNoneLeft view) where
+  abbrev words : Words
+  words = run_words task items
+
+  views : List View
+  views = final.0.views
+
+  world : IsWorld (run_of task workers opening) words final.0.views
+  world =
+      subst (λ list. IsWorld (run_of task workers opening) (run_words task list) final.0.views) final.2
+      (subst (λ run. IsWorld run (words_of_run run final.0.words) final.0.views) key_is final.1.0.world)
+
+  full : (g : ℕ) → g < task.scene.strips → quota_of task.scene.strips g left.limit ≤ sees view (Counter g)
+  full = subst (λ run. (g : ℕ) → g < run.strips → quota_of run.strips g left.limit ≤ sees view (Counter g)) own left.full
+
+  -- they are those of a closed run
+  pub HoldRun-ended : HoldRun task view.most (cleared words)
+  HoldRun-ended = HoldRun-whole task workers opening words final.0.views id view world final.1.1 whole idle left.limit left.most full
+
+  pub StandsAsSeen-ended : StandsAsSeen view (state_of_words (sizes_of task) (cleared words))
+  StandsAsSeen-ended = StandsAsSeen-whole task workers opening words final.0.views id view world final.1.1 whole idle left.limit left.most full own
+
+  pub own_workers-ended : (k : ℕ) (entry : Record) → opening ≤ k → record_at (cleared words) k ≡ Some entry → entry.worker < workers
+  own_workers-ended = own_workers-whole task workers opening words final.0.views id view world final.1.1 whole idle left.limit left.most full
+
+-- its limit is the least mark without a record
+pub limit-ended :
+    (task : Task) (last limit : ℕ) (words : Words) → HoldRun task last (cleared words) → ((k : ℕ) → k < limit → words (RecordOf k) ≢ 0)
+    → (limit < length task.marks → words (RecordOf limit) ≡ 0) → limit ≤ length task.marks → limit ≡ last
+limit-ended task last limit words held before first most =
+    elim (cases_lt limit last) [
+      | inl less ↦ (
+          let none = first (omega (arith, less, held.closed.within)) in
+          let recorded = held.closed.records.recorded limit less in
+          let gone = sym (ap (λ w. is_some (record_of_word w (cleared words (FirstOf (suc limit))))) none) ∙ recorded in
+          cc)
+      | inr enough ↦ elim (cases_eq limit last) [
+        | inl same ↦ same
+        | inr apart ↦ absurd (before last (omega (arith, enough, apart)) (held.unrecorded last (omega arith)))
+      ]
+    ]
+
+-- the same by the words as they were looked at
+pub limit-found :
+    (task : Task) (last limit : ℕ) (sizes : Sizes) (shown items : List ℕ) → sizes ≡ sizes_of task → shown ≡ items
+    → HoldRun task last (cleared (run_words task items)) → ((k : ℕ) → k < limit → word_at sizes shown (RecordOf k) ≢ 0)
+    → (limit < sizes.marks → word_at sizes shown (RecordOf limit) ≡ 0) → limit ≤ sizes.marks → limit ≡ last
+limit-found task last limit sizes shown items of_task same held before first most =
+    let read : word_at sizes shown ≡ run_words task items = ap (λ s. word_at s shown) of_task ∙ ap (run_words task) same in
+    let marks : sizes.marks ≡ length task.marks = ap (λ s. s.marks) of_task in
+    limit-ended task last limit (run_words task items) held (λ k low none. before k low (ap (λ w. w (RecordOf k)) read ∙ none))
+    (λ low. sym (ap (λ w. w (RecordOf limit)) read) ∙ first (omega (arith, low, marks))) (omega (arith, most, marks))
+
+-- what stands in the words stands in the run that is made of them
+pub stands_in_run :
+    (task : Task) (view : View) (items : List ℕ) (shown : View) (grown : Grown) → view ≡ shown → grown.task ≡ task
+    → words_of_grown grown ≡ cleared (run_words task items) → StandsAsSeen view (state_of_words (sizes_of task) (cleared (run_words task items)))
+    → StandsAsSeen shown (state_of_grown grown)
+stands_in_run task view items shown grown same of_task words stands =
+    subst (λ v. StandsAsSeen v (state_of_grown grown)) same
+    (subst (λ t. StandsAsSeen view (state_of_words (sizes_of t) (words_of_grown grown))) (sym of_task)
+    (subst (λ w. StandsAsSeen view (state_of_words (sizes_of task) w)) (sym words) stands))

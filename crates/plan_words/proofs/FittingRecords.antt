@@ -1,0 +1,42 @@
+-- What a pass may record fits the word of a record.
+use Rattle.std.proofs.Common.{ℕ, ◌<◌, ◌≤◌, ◌^◌, ap, arith}
+use Rattle.std.specs.Prelude.{is_some}
+use Rattle.plan_model.specs.ClosedLaw.{mark_at}
+use Rattle.plan_model.specs.PointsByNumber.{IsPresent, point_of}
+use Rattle.plan_model.specs.Radius.{class_of}
+use Rattle.plan_model.specs.Steering.{steered}
+use Rattle.plan_model.specs.declared.records.Outcome.{Outcome}
+use Rattle.plan_model.specs.declared.records.Outcome.TheVariants.{Blocked, Placed, Same}
+use Rattle.plan_model.specs.declared.records.Record.{Record}
+use Rattle.plan_model.proofs.ClassLaws.{class_from_powers}
+use Rattle.plan_model.proofs.RecordLaws.{class_of-le}
+use Rattle.step_core.specs.LaterViews.{IsLawfulView}
+use Rattle.step_core.specs.SeenRecords.{MayEnd, MayRecord}
+use Rattle.step_core.specs.Views.{sees, tree_seen}
+use Rattle.step_core.specs.WordNames.Word.{Count}
+use Rattle.step_core.specs.Words.{last_field}
+use Rattle.step_core.specs.declared.views.Hand.{Hand}
+use Rattle.step_core.specs.declared.views.View.{View}
+
+module _ (view : View) (hand : Hand) (entry : Record) (lawful : IsLawfulView view) (may : MayRecord view hand entry) where
+  small_number : (n : ℕ) → IsPresent (tree_seen view).points n → n < 2 ^ 18
+  small_number n h = omega (arith, lawful.within n (lawful.tree.rooted.points n h), lawful.run.marks)
+
+  pub nearest_fits : entry.nearest < 2 ^ 18
+  nearest_fits = small_number entry.nearest may.present
+
+  low_class : entry.class ≤ class_of (sees view Count) → entry.class < 2 ^ 18
+  low_class high =
+      let most = class_of-le (sees view Count) 262144 (omega (arith, lawful.count, lawful.run.marks)) in
+      let last = class_from_powers 262144 18 (omega arith) (omega arith) in
+      omega (arith, high, most, last)
+
+  pub last_fits : last_field entry.outcome entry.class < 2 ^ 18
+  last_fits = by_outcome entry.outcome may.outcome
+    where
+      by_outcome : (o : Outcome)
+          → MayEnd view hand entry (steered (point_of (tree_seen view).points entry.nearest) (mark_at view.run.marks hand.mark) view.run.step) o
+          → last_field o entry.class < 2 ^ 18
+      by_outcome Placed h = low_class h.high
+      by_outcome (Same j) h = small_number j (ap is_some h)
+      by_outcome Blocked h = omega arith

@@ -1,0 +1,88 @@
+use Rattle.std.proofs.Common.{◌≡◌, length, sym, ap, ◌∙◌, subst, arith}
+use Rattle.std.proofs.lemmas.List.{with_items_is}
+use Rattle.std.specs.Mem.Slots.{slots_items}
+use Rattle.plan_words.proofs.Ending.{HoldRun-ended, StandsAsSeen-ended, limit-found, own_workers-ended, stands_in_run}
+use Rattle.plan_words.proofs.Owning.{same_run}
+use Rattle.plan_words.proofs.shared.Shared.end.Goals as goal
+use Rattle.plan_words.specs.Claims.{HasNoneLeft}
+use Rattle.step_core.specs.GrownWords.{HoldRun, cleared, record_at, run_words}
+use Rattle.step_core.specs.PlacesOfWords.{sizes_in}
+use Rattle.step_core.specs.Views.{share}
+
+pub from_words-requires-clause-run : goal.from_words-requires-clause-run
+from_words-requires-clause-run c =
+    let shared = c.self.inside in
+    let view = c.pass.inside.seat.me.0 in
+    let closed = c.close_with-closed.result in
+    let items = slots_items closed.words in
+    let own = same_run _ _ _ _ c.pass.view_is c.self.view_is c.requires.belongs in
+    let whole = ap (λ p. share p.view) c.pass.view_is ∙ c.requires.whole ∙ sym (ap (λ s. s.workers) c.self.view_is) in
+    let idle = ap (λ p. p.view.hand) c.pass.view_is ∙ c.requires.idle in
+    let left = subst (λ p. HasNoneLeft p.view) (sym c.pass.view_is) c.requires.none_left in
+    let held =
+    HoldRun-ended shared.task shared.workers shared.opening shared.table.shared.key view c.pass.inside.seat.id items _ c.self.invariant.key_is own
+    c.close_with-closed.ensures.values.2 whole idle left in
+    let long : length c.copy_words.new.words ≡ shared.spare.len = c.copy_words.auto.words ∙ c.deref_mut.ensures.len in
+    let copied = with_items_is shared.spare c.copy_words.new.words long ∙ c.copy_words.ensures in
+    let found = c.first_unrecorded-limit.ensures in
+    let last =
+    limit-found shared.task view.most c.first_unrecorded-limit.result (sizes_in shared.places) c.as_slice.result.now items c.self.invariant.places_are
+    (c.as_slice.ensures.value ∙ copied) held found.before found.first found.most in
+    subst (λ list. HoldRun shared.task c.first_unrecorded-limit.result (cleared (run_words shared.task list))) (sym copied)
+    (subst (λ n. HoldRun shared.task n (cleared (run_words shared.task items))) (sym last) held)
+
+pub returns-clause-limit : goal.returns-clause-limit
+returns-clause-limit c =
+    let shared = c.self.inside in
+    let view = c.pass.inside.seat.me.0 in
+    let items = slots_items c.close_with-closed.result.words in
+    let own = same_run _ _ _ _ c.pass.view_is c.self.view_is c.requires.belongs in
+    let whole = ap (λ p. share p.view) c.pass.view_is ∙ c.requires.whole ∙ sym (ap (λ s. s.workers) c.self.view_is) in
+    let idle = ap (λ p. p.view.hand) c.pass.view_is ∙ c.requires.idle in
+    let left = subst (λ p. HasNoneLeft p.view) (sym c.pass.view_is) c.requires.none_left in
+    let held =
+    HoldRun-ended shared.task shared.workers shared.opening shared.table.shared.key view c.pass.inside.seat.id items _ c.self.invariant.key_is own
+    c.close_with-closed.ensures.values.2 whole idle left in
+    let long : length c.copy_words.new.words ≡ shared.spare.len = c.copy_words.auto.words ∙ c.deref_mut.ensures.len in
+    let copied = with_items_is shared.spare c.copy_words.new.words long ∙ c.copy_words.ensures in
+    let found = c.first_unrecorded-limit.ensures in
+    c.from_words.ensures.limit
+    ∙ limit-found shared.task view.most c.first_unrecorded-limit.result (sizes_in shared.places) c.as_slice.result.now items c.self.invariant.places_are
+    (c.as_slice.ensures.value ∙ copied) held found.before found.first found.most
+    ∙ ap (λ p. p.view.most) c.pass.view_is
+
+pub returns-clause-seen : goal.returns-clause-seen
+returns-clause-seen c =
+    let shared = c.self.inside in
+    let view = c.pass.inside.seat.me.0 in
+    let items = slots_items c.close_with-closed.result.words in
+    let own = same_run _ _ _ _ c.pass.view_is c.self.view_is c.requires.belongs in
+    let whole = ap (λ p. share p.view) c.pass.view_is ∙ c.requires.whole ∙ sym (ap (λ s. s.workers) c.self.view_is) in
+    let idle = ap (λ p. p.view.hand) c.pass.view_is ∙ c.requires.idle in
+    let left = subst (λ p. HasNoneLeft p.view) (sym c.pass.view_is) c.requires.none_left in
+    let stands =
+    StandsAsSeen-ended shared.task shared.workers shared.opening shared.table.shared.key view c.pass.inside.seat.id items _ c.self.invariant.key_is own
+    c.close_with-closed.ensures.values.2 whole idle left in
+    let long : length c.copy_words.new.words ≡ shared.spare.len = c.copy_words.auto.words ∙ c.deref_mut.ensures.len in
+    let copied = with_items_is shared.spare c.copy_words.new.words long ∙ c.copy_words.ensures in
+    stands_in_run shared.task view items c.args.pass.view c.from_words.result (ap (λ p. p.view) c.pass.view_is) c.from_words.ensures.task
+    (c.from_words.ensures.words ∙ ap (λ list. cleared (run_words shared.task list)) copied) stands
+
+pub returns-clause-workers : goal.returns-clause-workers
+returns-clause-workers c k entry past recorded =
+    let shared = c.self.inside in
+    let view = c.pass.inside.seat.me.0 in
+    let items = slots_items c.close_with-closed.result.words in
+    let own = same_run _ _ _ _ c.pass.view_is c.self.view_is c.requires.belongs in
+    let whole = ap (λ p. share p.view) c.pass.view_is ∙ c.requires.whole ∙ sym (ap (λ s. s.workers) c.self.view_is) in
+    let idle = ap (λ p. p.view.hand) c.pass.view_is ∙ c.requires.idle in
+    let left = subst (λ p. HasNoneLeft p.view) (sym c.pass.view_is) c.requires.none_left in
+    let long : length c.copy_words.new.words ≡ shared.spare.len = c.copy_words.auto.words ∙ c.deref_mut.ensures.len in
+    let copied = with_items_is shared.spare c.copy_words.new.words long ∙ c.copy_words.ensures in
+    let words = c.from_words.ensures.words ∙ ap (λ list. cleared (run_words shared.task list)) copied in
+    let opening = ap (λ s. s.opening) c.self.view_is in
+    let low =
+    own_workers-ended shared.task shared.workers shared.opening shared.table.shared.key view c.pass.inside.seat.id items _ c.self.invariant.key_is own
+    c.close_with-closed.ensures.values.2 whole idle left k entry (omega (arith, past, opening))
+    (ap (λ w. record_at w k) (sym words) ∙ recorded) in
+    omega (arith, low, ap (λ s. s.workers) c.self.view_is)

@@ -1,0 +1,87 @@
+//! How a shared tree ends: with the closed run that its words have come to.
+
+ghost use Rattle.std.specs.Prelude.{◌≡◌, ◌≢◌, ℕ, ◌<◌, ◌≤◌, None, Some, length};
+ghost use Rattle.std.specs.Mem.Slots.{IsFull, slots_items, slots_len};
+ghost use Rattle.plan_model.specs.declared.records.Record.{Record};
+ghost use Rattle.plan_words.specs.Claims.{HasNoneLeft};
+ghost use Rattle.plan_words.specs.States.{BelongsTo};
+ghost use Rattle.step_core.specs.GrownRuns.{state_of_grown};
+ghost use Rattle.step_core.specs.LastViews.{StandsAsSeen};
+ghost use Rattle.step_core.specs.PlacesOfWords.{sizes_in, words_in};
+ghost use Rattle.step_core.specs.Views.{share};
+ghost use Rattle.step_core.specs.WordNames.Word.{RecordOf};
+ghost use Rattle.step_core.specs.WordPlaces.{word_count};
+
+use crate::openings::Aim;
+use crate::passes::Pass;
+use crate::shared::Shared;
+use atomic_table::Closed;
+use std::alloc::Global;
+use step_core::{Grown, WordPlaces};
+
+impl Shared {
+    /// The closed run that the words have come to. Its limit is the greatest that the pass knows of: that of the opening run, of
+    /// its claims, or of those of the passes that it took over. What the pass has seen stands in it, and no node costs more than it
+    /// was seen to cost. The pass has the whole share and nothing in hand, and `claim` has found no mark below its greatest limit.
+    /// Takes no memory, since the words go into the list that they came from. O(n) for n words.
+    pub fn end(self, pass: Pass) -> Grown
+        requires belongs { BelongsTo pass self }
+        requires whole { share pass.view ≡ self.workers }
+        requires idle { pass.view.hand ≡ None }
+        requires none_left { HasNoneLeft pass.view }
+        ensures task { result.task ≡ self.task }
+        ensures limit { result.limit ≡ pass.view.most }
+        ensures seen { StandsAsSeen pass.view (state_of_grown result) }
+        // records that the opening run did not have are by workers of this one
+        ensures workers { (k : ℕ) (entry : Record) → self.opening ≤ k → (state_of_grown result).record_of k ≡ Some entry → entry.worker < self.workers }
+    {
+        let Shared {
+            table,
+            task,
+            workers: _,
+            opening: _,
+            places,
+            alloc: _,
+            spare,
+        } = self;
+        let Pass {
+            seat,
+            member: _,
+            hand: _,
+            pairs: _,
+            scratch: _,
+        } = pass;
+        let closed = table.close_with(seat);
+        let mut words = spare;
+        copy_words(&closed, &mut words);
+        closed.free();
+        let limit = first_unrecorded(words.as_slice(), places);
+        Grown::from_words(task, limit, words)
+    }
+}
+
+/// Copies the words of a table that is closed.
+fn copy_words(closed: &Closed<Aim, Global>, words: &mut [u64])
+    requires full { IsFull closed.now.words }
+    requires sized { length words.old ≡ slots_len closed.now.words }
+    ensures { words.new ≡ slots_items closed.now.words }
+{
+    for place in 0..words.len() {
+        words[place] = closed.word(place);
+    }
+}
+
+/// The least mark without a record, or the number of marks.
+fn first_unrecorded(words: &[u64], places: WordPlaces) -> u32
+    requires { length words.now ≡ word_count (sizes_in places) }
+    ensures most { result ≤ (sizes_in places).marks }
+    ensures before { (k : ℕ) → k < result → words_in places words.now (RecordOf k) ≢ 0 }
+    ensures first { result < (sizes_in places).marks → words_in places words.now (RecordOf result) ≡ 0 }
+{
+    for mark in 0..places.marks() {
+        if words[places.record(mark)] == 0 {
+            return mark as u32;
+        }
+    }
+    places.marks() as u32
+}

@@ -1,0 +1,117 @@
+//! A list of nodes that may wait to be looked at, each once.
+
+ghost use Rattle.std.specs.Prelude.{◌≡◌, ◌⊎◌, ℕ, ◌<◌, ◌≤◌, ◌++◌, [], true, false, length, option_to_list, IfOk, IfSome, None};
+ghost use Rattle.std.specs.Vec.{vec_capacity};
+ghost use Rattle.plan_words.specs.Waiting.{AreMarked, IsOn, NoneMarked};
+
+use std::alloc::{AllocError, Global};
+use std::marker::Model;
+
+/// A list of nodes. While they wait, exactly those on the list are marked, and so each comes on it once and there is room for all;
+/// else no node is marked, and the list may hold what it will.
+#[derive(Drop)]
+pub(crate) struct Waiting {
+    nodes: Vec<u32>,
+    marked: Vec<bool>,
+    waits: bool,
+}
+
+impl Model for Waiting {
+    ghost use Rattle.std.specs.Prelude.{length, vec_capacity};
+    ghost use Rattle.plan_words.specs.Waiting.{IsWaitingList, WaitingState};
+
+    ghost Value = { WaitingState };
+
+    ghost view = { λ w. record { nodes = w.nodes.items; waits = w.waits; size = length w.marked.items } };
+
+    ghost invariant = { λ w. IsWaitingList w.waits w.nodes.items w.marked.items (vec_capacity w.nodes) };
+}
+
+impl Waiting {
+    /// An empty list with room for so many nodes, of which none waits.
+    pub(crate) fn new(alloc: Global, nodes: usize) -> Result<Waiting, AllocError>
+        ensures { IfOk result (λ r. r ≡ record { nodes = []; waits = false; size = nodes }) }
+    {
+        Ok(Waiting {
+            nodes: Vec::with_capacity(alloc, nodes)?,
+            marked: Vec::from_elem(alloc, false, nodes)?,
+            waits: false,
+        })
+    }
+
+    /// The nodes on the list.
+    pub(crate) fn as_slice(&self) -> &[u32]
+        ensures { result.now ≡ self.now.nodes }
+    {
+        self.nodes.as_slice()
+    }
+
+    /// Empties the list. What comes on it from now on waits.
+    pub(crate) fn begin(&mut self)
+        ensures { self.new ≡ record self.old { nodes = []; waits = true } }
+    {
+        self.stop();
+        self.nodes.clear();
+        self.waits = true;
+    }
+
+    /// Puts a node on the list, if it is not there.
+    pub(crate) fn push(&mut self, node: u32)
+        requires waits { self.old.waits ≡ true }
+        requires low { node < self.old.size }
+        ensures kept { self.new ≡ record self.old { nodes = self.new.nodes } }
+        ensures here { IsOn self.new.nodes node }
+        ensures keeps { (n : ℕ) → IsOn self.old.nodes n → IsOn self.new.nodes n }
+        ensures only { (n : ℕ) → IsOn self.new.nodes n → IsOn self.old.nodes n ⊎ (n ≡ node) }
+    {
+        if !self.marked[node as usize] {
+            self.nodes.push_reserved(node);
+            self.marked[node as usize] = true;
+        }
+    }
+
+    /// Takes the last node off the list.
+    pub(crate) fn pop(&mut self) -> Option<u32>
+        requires waits { self.old.waits ≡ true }
+        ensures kept { self.new ≡ record self.old { nodes = self.new.nodes } }
+        ensures popped { self.old.nodes ≡ self.new.nodes ++ option_to_list result }
+        ensures none { result ≡ None → self.old.nodes ≡ [] }
+        ensures low { IfSome result (λ n. n < self.old.size) }
+    {
+        let node = self.nodes.pop()?;
+        self.marked[node as usize] = false;
+        Some(node)
+    }
+
+    /// Changes the nodes with those of another list. None waits then.
+    pub(crate) fn swap(&mut self, others: &mut Vec<u32>)
+        requires room { self.old.size ≤ vec_capacity others.old }
+        ensures nodes { self.new ≡ record self.old { nodes = others.old.items; waits = false } }
+        ensures others { others.new.items ≡ self.old.nodes }
+        ensures room { self.old.size ≤ vec_capacity others.new }
+    {
+        self.stop();
+        std::mem::swap(&mut self.nodes, others);
+    }
+
+    /// None waits then. The list stays.
+    fn stop(&mut self)
+        ensures { self.new ≡ record self.old { waits = false } }
+    {
+        if self.waits {
+            unmark(&mut self.marked, self.nodes.as_slice());
+            self.waits = false;
+        }
+    }
+}
+
+/// Takes the marks off these nodes.
+fn unmark(marked: &mut Vec<bool>, nodes: &[u32])
+    requires { AreMarked nodes.now marked.old.items }
+    ensures none { NoneMarked marked.new.items }
+    ensures as_many { length marked.new.items ≡ length marked.old.items }
+{
+    for index in 0..nodes.len() {
+        marked[nodes[index] as usize] = false;
+    }
+}

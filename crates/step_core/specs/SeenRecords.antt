@@ -1,0 +1,79 @@
+-- What a pass may record of the mark in its hand, by what it has seen: each fact of the record law is one of the view alone.
+use Rattle.std.specs.Prelude.{◌≡◌, ℕ, zero, suc, ◌+◌, ◌^◌, ◌≤◌, Bool, true, IsTrue, length, filter}
+use Rattle.std.specs.List.{range_with_len}
+use Rattle.plan_model.specs.Clearance.{Clear}
+use Rattle.plan_model.specs.ClosedLaw.{mark_at}
+use Rattle.plan_model.specs.Cost.{cost_of}
+use Rattle.plan_model.specs.LeastPairs.{IsNotAbove}
+use Rattle.plan_model.specs.Nearness.{distance_to, is_within}
+use Rattle.plan_model.specs.PointsByNumber.{IsPresent, point_at, point_of}
+use Rattle.plan_model.specs.Radius.{class_of, radius_of_class}
+use Rattle.plan_model.specs.RecordLaw.{is_earlier_record}
+use Rattle.plan_model.specs.Steering.{steered}
+use Rattle.plan_model.specs.declared.geometry.Point.{Point}
+use Rattle.plan_model.specs.declared.records.Outcome.{Outcome}
+use Rattle.plan_model.specs.declared.records.Outcome.TheVariants.{Blocked, Placed, Same}
+use Rattle.plan_model.specs.declared.records.Record.{Record}
+use Rattle.step_core.specs.GrownWords.{record_at}
+use Rattle.step_core.specs.ViewTrees.{SeesPoint}
+use Rattle.step_core.specs.Views.{sees, setup_in, tree_seen}
+use Rattle.step_core.specs.WordNames.Word.{Count, FirstOf, TreeOf}
+use Rattle.step_core.specs.Words.{cost_in}
+use Rattle.step_core.specs.declared.views.Hand.{Hand}
+use Rattle.step_core.specs.declared.views.View.{View}
+
+-- ---- the worker's own nodes
+
+-- node n stood already when the worker of this record handled its mark, by the worker's own records: the start, or a node that it placed
+abbrev pub is_own : View → Record → ℕ → Bool
+is_own view entry zero = true
+is_own view entry (suc k) = is_earlier_record entry (record_at (sees view) k)
+
+-- how many they are
+abbrev pub own_count : View → Record → ℕ
+own_count view entry = length (filter (is_own view entry) (range_with_len 0 (length view.run.marks + 1)))
+
+-- what such a node was placed at
+abbrev pub own_first_cost : View → ℕ → ℕ
+own_first_cost view zero = 0
+own_first_cost view (suc k) = cost_in (sees view (FirstOf (suc k)))
+
+-- Node i is one of them within the radius of the record's class of p, with a clear edge.
+pub record IsOwnNeighbour (view : View) (entry : Record) (p : Point) (i : ℕ) : Type 0 where
+  pub own : IsTrue (is_own view entry i)
+  pub near : IsTrue (is_within p (radius_of_class view.run.step view.run.gamma entry.class) (point_at (tree_seen view).points i))
+  pub clear : Clear (setup_in view.run).space (point_of (tree_seen view).points i) p
+
+-- ---- outcomes
+
+-- The mark was placed at the point in hand, with the parent and the cost in hand. The segment to it is clear, the class is that of a number
+-- of nodes between the own ones and the count seen, no own neighbour was a cheaper parent, and none is seen dearer than by way of the node.
+pub record MayBePlaced (view : View) (hand : Hand) (entry : Record) : Type 0 where
+  pub nearest_is : entry.nearest ≡ hand.nearest
+  pub parent_is : entry.first_parent ≡ hand.parent
+  pub cost_is : entry.first_cost ≡ hand.cost
+  pub clear : Clear (setup_in view.run).space (point_of (tree_seen view).points entry.nearest) hand.point
+  pub low : class_of (own_count view entry) ≤ entry.class
+  pub high : entry.class ≤ class_of (sees view Count)
+  pub chosen : (i : ℕ) → IsOwnNeighbour view entry hand.point i → hand.cost ≤ own_first_cost view i + cost_of (point_of (tree_seen view).points i) hand.point
+  pub rewired : (i : ℕ) → IsOwnNeighbour view entry hand.point i
+      → (2 ^ 63 ≤ sees view (TreeOf i)) × (cost_in (sees view (TreeOf i)) ≤ hand.cost + cost_of (point_of (tree_seen view).points i) hand.point)
+
+-- The segment to p is not clear, and no own node stands at p.
+pub record MayBeBlocked (view : View) (entry : Record) (p : Point) : Type 0 where
+  pub blocked : ¬ Clear (setup_in view.run).space (point_of (tree_seen view).points entry.nearest) p
+  pub free : (i : ℕ) → IsTrue (is_own view entry i) → ¬ SeesPoint view i p
+
+-- what the outcome asks, where the nearest node steered to p
+abbrev pub MayEnd : View → Hand → Record → Point → Outcome → Type 0
+MayEnd view hand entry p Placed = MayBePlaced view hand entry
+MayEnd view hand entry p (Same j) = SeesPoint view j p
+MayEnd view hand entry p Blocked = MayBeBlocked view entry p
+
+-- The nearest node is seen, no own node is nearer to the mark, and the outcome is what it says.
+pub record MayRecord (view : View) (hand : Hand) (entry : Record) : Type 0 where
+  pub present : IsPresent (tree_seen view).points entry.nearest
+  pub nearest : (i : ℕ) → IsTrue (is_own view entry i)
+      → IsNotAbove (distance_to (mark_at view.run.marks hand.mark) (tree_seen view).points) entry.nearest i
+  pub outcome :
+      MayEnd view hand entry (steered (point_of (tree_seen view).points entry.nearest) (mark_at view.run.marks hand.mark) view.run.step) entry.outcome
