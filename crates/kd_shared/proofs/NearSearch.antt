@@ -1,10 +1,10 @@
 -- The search for all near nodes, by a queue whose front is visited: the nodes found, and the points that wait.
-use Rattle.std.proofs.Common.{◌≡◌, ◌⊎◌, ℕ, suc, ◌+◌, ◌*◌, ◌<◌, ◌≤◌, Bool, true, false, not, List, [], ◌∷◌, ◌++◌, length, length-append, drop, get_or, arith}
+use Rattle.std.proofs.Common.{◌≡◌, ◌⊎◌, ℕ, suc, ◌*◌, ◌≤◌, Bool, true, false, not, List, [], ◌∷◌, ◌++◌, length, arith}
 use Rattle.std.proofs.Common.{sym, ap, ◌∙◌, subst, inl, inr}
 use Rattle.std.specs.Prelude.{Contains}
 use Rattle.std.specs.List.Sorted.{IsNonDecreasing, IsPermutation}
 use Rattle.std.proofs.lemmas.Bool.{cases_eq}
-use Rattle.std.proofs.lemmas.List.{append-nil, drop_all, drop-append-le, drop_more, length-drop}
+use Rattle.std.proofs.lemmas.List.{append-nil, nil_from_length}
 use Rattle.std.proofs.lemmas.List.Elements.{Contains-append_left, Contains-push, Contains-push_cases}
 use Rattle.plan_model.specs.declared.geometry.Point.{Point}
 use Rattle.plan_model.specs.Geometry.{squared_distance}
@@ -24,29 +24,10 @@ use Rattle.kd_shared.proofs.DistinctNumbers.{Contains-none, length-one_more}
 use Rattle.kd_shared.proofs.Searching.{GoesBelow, GoesTo, IsMet, IsSearch, IsSearch-begins, IsSearch-ends, IsSearch-leaves, IsSearch-opens_far}
 use Rattle.kd_shared.proofs.Searching.{IsSearch-opens_near, IsSearch-takes, IsSearch-visits, Nothing}
 use Rattle.kd_shared.proofs.SortedNear.{is_within-close, is_within-near, near-sorted}
-use Rattle.kd_shared.proofs.VisitedOnce.{AreOnce, AreOnce-few, AreOnce-leaves, AreOnce-opens_far, AreOnce-opens_near, AreOnce-room_for, AreOnce-takes, IsDone}
-use Rattle.kd_shared.proofs.VisitedOnce.{IsDoneOrAt, is_not_done, is_other_side, IsVisiting, IsVisiting-begins, IsVisiting-few}
+use Rattle.kd_shared.proofs.VisitedOnce.{AreOnce, AreOnce-leaves, AreOnce-opens_far, AreOnce-opens_near, AreOnce-takes, HasRoomFor-far, HasRoomFor-near}
+use Rattle.kd_shared.proofs.VisitedOnce.{IsDone, IsDoneOrAt, is_not_done, IsVisiting, IsVisiting-begins, IsVisiting-beside, IsVisiting-few, Opens-few}
 
--- ---- a queue and its rest
-
--- what goes into a queue goes into its rest
-Opens-rest : (before after : Sight) (queue put : List Spot) (spot : Spot) (side : Bool) (gap visits : ℕ) → visits ≤ length queue
-    → Opens before after queue put spot side gap → Opens before after (drop visits queue) (drop visits put) spot side gap
-Opens-rest before after queue put spot side gap visits few (inl (empty, same)) = inl (empty, ap (drop visits) same)
-Opens-rest before after queue put spot side gap visits few (inr new) = inr (record {
-  child = new.child;
-  link = new.link;
-  by_rows = new.by_rows;
-  gap_is = new.gap_is;
-  last = ap (drop visits) new.last ∙ drop-append-le visits queue (new.child ∷ []) few;
-})
-
-Opens-longer : (before after : Sight) (queue put : List Spot) (spot : Spot) (side : Bool) (gap : ℕ) → Opens before after queue put spot side gap
-    → length queue ≤ length put
-Opens-longer before after queue put spot side gap (inl (empty, same)) = let e = ap (λ (xs : List Spot). length xs) same in omega (arith, e)
-Opens-longer before after queue put spot side gap (inr new) =
-    let e = ap (λ (xs : List Spot). length xs) new.last in
-    omega (arith, e, length-append queue (new.child ∷ []))
+-- ---- the points of what waits, and of what is found
 
 QueuesChild-opens : (before after : Sight) (queue put : List Spot) (spot : Spot) (side : Bool) → QueuesChild before after queue put spot side
     → Opens before after queue put spot side 0
@@ -55,8 +36,6 @@ QueuesChild-opens before after queue put spot side h =
       | inl (empty, same, points) ↦ inl (empty, same)
       | inr (new, stands, others) ↦ inr new
     ]
-
--- ---- the points of what waits, and of what is found
 
 -- the points of the spots that wait are seen
 abbrev pub AreSeenSpots : Sight → List Spot → Type 0
@@ -81,37 +60,34 @@ module _ (now after : Sight) (later : IsLaterMoment now after) (queue put : List
   AreFreshFound-same before target bound found h n q stands close =
       subst (λ xs. StandsAt before.seen.points n q ⊎ IsFoundOrWaits found xs n) (sym same) (h n q (sym (points n) ∙ stands) close)
 
-module _ (now after : Sight) (queue put : List Spot) (spot : Spot) (side : Bool) (h : QueuesChild now after queue put spot side) (visits : ℕ)
-    (few : visits ≤ length queue) where
-  QueuesChild-stands : AreSeenSpots now (drop visits queue) → AreSeenSpots after (drop visits put)
+module _ (now after : Sight) (queue put : List Spot) (spot : Spot) (side : Bool) (h : QueuesChild now after queue put spot side) where
+  QueuesChild-stands : AreSeenSpots now queue → AreSeenSpots after put
   QueuesChild-stands old =
       elim h.queues [
-        | inl (empty, same, points) ↦ AreSeenSpots-same now after h.later (drop visits queue) (drop visits put) (ap (drop visits) same) points old
+        | inl (empty, same, points) ↦ AreSeenSpots-same now after h.later queue put same points old
         | inr (new, stands, others) ↦ (
-            let last = ap (drop visits) new.last ∙ drop-append-le visits queue (new.child ∷ []) few in
-            λ other k. elim (Contains-push_cases (drop visits queue) new.child other (subst (λ xs. Contains xs other) last k)) [
+            λ other k. elim (Contains-push_cases queue new.child other (subst (λ xs. Contains xs other) new.last k)) [
               | inl before ↦ h.later.seen.places.nodes other.node other.point (old other before)
               | inr is ↦ subst (λ (s : Spot). StandsAt after.seen.points s.node s.point) is stands
             ])
       ]
 
   QueuesChild-fresh : (before : Sight) (target : Point) (bound : ℕ) (found : List ℕ)
-      → AreFreshFound before now target bound found (drop visits queue) → AreFreshFound before after target bound found (drop visits put)
+      → AreFreshFound before now target bound found queue → AreFreshFound before after target bound found put
   QueuesChild-fresh before target bound found old =
       elim h.queues [
         | inl (empty, same, points) ↦
-            AreFreshFound-same now after h.later (drop visits queue) (drop visits put) (ap (drop visits) same) points before target bound found old
+            AreFreshFound-same now after h.later queue put same points before target bound found old
         | inr (new, stands, others) ↦ (
-            let last = ap (drop visits) new.last ∙ drop-append-le visits queue (new.child ∷ []) few in
             λ n q own close. elim (cases_eq n new.child.node) [
               | inl child ↦
-                  inr (inr (new.child, subst (λ xs. Contains xs new.child) (sym last) (Contains-push (drop visits queue) new.child), sym child))
+                  inr (inr (new.child, subst (λ xs. Contains xs new.child) (sym new.last) (Contains-push queue new.child), sym child))
               | inr apart ↦ elim (old n q (sym (others n apart) ∙ own) close) [
                 | inl entry ↦ inl entry
                 | inr (inl k) ↦ inr (inl k)
                 | inr (inr (other, k, is)) ↦ inr (inr (
                   other,
-                  subst (λ xs. Contains xs other) (sym last) (Contains-append_left (drop visits queue) (new.child ∷ []) other k),
+                  subst (λ xs. Contains xs other) (sym new.last) (Contains-append_left queue (new.child ∷ []) other k),
                   is,
                 ))
               ]
@@ -157,37 +133,35 @@ module _ (found noted : List ℕ) (node distance bound : ℕ) (notes : Notes fou
 
 -- ---- the search
 
--- So many spots of the queue were visited, and the rest waits with its points. The nodes found are visited ones, different, and near, and
+-- So many spots were visited, and those of the queue wait with their points. The nodes found are visited ones, different, and near, and
 -- each near node whose point was seen since the search began is found, or waits.
 pub record IsGathering (before now : Sight) (target : Point) (r : ℕ) (queue : List Spot) (found : List ℕ) (visits : ℕ) : Type 0 where
-  pub few : visits ≤ length queue
-  pub search : IsSearch before now target (r * r) (λ n q. Contains found n) (drop visits queue) Nothing
-  pub visiting : IsVisiting now (drop visits queue) visits
-  pub stand : AreSeenSpots now (drop visits queue)
+  pub search : IsSearch before now target (r * r) (λ n q. Contains found n) queue Nothing
+  pub visiting : IsVisiting now queue visits
+  pub stand : AreSeenSpots now queue
   pub different : AreDifferent found
   pub among : (n : ℕ) → Contains found n → Contains visiting.done n
   pub only : (n : ℕ) → Contains found n → (q : Point) × StandsAt now.seen.points n q × (squared_distance q target ≤ r * r)
-  pub fresh : AreFreshFound before now target (r * r) found (drop visits queue)
+  pub fresh : AreFreshFound before now target (r * r) found queue
 
 -- the squared distance of the target from the line that splits the children of a spot
 abbrev pub line_square : Spot → Point → ℕ
 line_square spot target = split_distance spot.by_rows spot.point target * split_distance spot.by_rows spot.point target
 
 -- After the far side of a node: it is noted, and its far child is left out or waits.
-pub record IsHalfWay (before now half : Sight) (target : Point) (bound : ℕ) (mid : List Spot) (noted done : List ℕ) (next : ℕ) (spot : Spot)
-    (right : Bool) : Type 0 where
+pub record IsHalfWay (before now half : Sight) (target : Point) (bound : ℕ) (mid : List Spot) (noted done : List ℕ) (spot : Spot) (right : Bool)
+    : Type 0 where
   pub later : IsLaterMoment now half
   pub keeps : KeepsSight half
-  pub few : next ≤ length mid
-  pub search : IsSearch before half target bound (λ n q. Contains noted n) (drop next mid) (GoesTo half target spot spot.point right)
-  pub once : AreOnce half (drop next mid) (spot.node ∷ done) (IsDoneOrAt done spot.node (not right))
-  pub stand : AreSeenSpots half (drop next mid)
-  pub fresh : AreFreshFound before half target bound noted (drop next mid)
+  pub few : length mid ≤ suc (length done)
+  pub search : IsSearch before half target bound (λ n q. Contains noted n) mid (GoesTo half target spot spot.point right)
+  pub once : AreOnce half mid (spot.node ∷ done) (IsDoneOrAt done spot.node (not right))
+  pub stand : AreSeenSpots half mid
+  pub fresh : AreFreshFound before half target bound noted mid
 
 begins_with : (before now : Sight) (target : Point) (r : ℕ) (spot : Spot) → LoadsPoint before now 0 spot.point → spot.node ≡ 0
     → spot.by_rows ≡ false → spot.gap ≡ 0 → IsGathering before now target r (spot ∷ []) [] 0
 begins_with before now target r spot load node by_rows gap = record {
-  few = omega arith;
   search = IsSearch-begins before now target (r * r) (λ n q. Contains {X = ℕ} [] n) spot load.later node by_rows gap;
   visiting = IsVisiting-begins now spot node;
   stand = λ other k. elim (Contains-cases spot other [] k) [
@@ -214,17 +188,9 @@ IsGathering-begins before now target r spot queue found load node by_rows gap on
 
 module _ (before now : Sight) (target : Point) (r : ℕ) (queue : List Spot) (found : List ℕ) (visits : ℕ)
     (h : IsGathering before now target r queue found visits) where
-  module _ (spot : Spot) (below : visits < length queue) (read : spot ≡ get_or queue visits spot) (next : ℕ) (more : next ≡ suc visits) where
-    -- the spot at this number is the first that waits
-    abbrev rest : List Spot
-    rest = drop next queue
-
-    first_waits : drop visits queue ≡ spot ∷ rest
-    first_waits =
-        let up : visits + 1 ≡ next = omega (arith, more) in
-        drop_more queue visits spot below ∙ ap (λ s. s ∷ drop (visits + 1) queue) (sym read) ∙ ap (λ k. spot ∷ drop k queue) up
-
-    first_in : Contains (drop visits queue) spot
+  -- The first spot that waits is taken,
+  module _ (spot : Spot) (rest : List Spot) (first_waits : queue ≡ spot ∷ rest) where
+    first_in : Contains queue spot
     first_in = subst (λ xs. Contains xs spot) (sym first_waits) (Contains-first spot rest)
 
     -- and its node is seen, with its point.
@@ -238,7 +204,10 @@ module _ (before now : Sight) (target : Point) (r : ℕ) (queue : List Spot) (fo
     done = h.visiting.done
 
     taken : AreOnce now rest (spot.node ∷ done) (IsDone done)
-    taken = AreOnce-takes now spot (drop visits queue) rest done h.visiting.once first_waits
+    taken = AreOnce-takes now spot queue rest done h.visiting.once first_waits
+
+    beside : length rest ≤ length done
+    beside = IsVisiting-beside now queue rest visits (ap (λ (xs : List Spot). length xs) first_waits) h.visiting
 
     not_found : ¬ Contains found spot.node
     not_found k = is_not_done now rest spot.node done (IsDone done) taken (h.among spot.node k)
@@ -253,35 +222,22 @@ module _ (before now : Sight) (target : Point) (r : ℕ) (queue : List Spot) (fo
         ] in
         omega (arith, AreDifferent-few (spot.node ∷ found) marks (not_found, h.different) low, length-one_more spot.node found)
 
-    -- No more are in the queue than there are marks, and node 0.
-    pub IsGathering-few : (marks : ℕ) → ((n : ℕ) → IsSeen now.seen n → n ≤ marks) → length queue ≤ suc marks
-    IsGathering-few marks within =
-        let few = AreOnce-few now marks within rest (spot.node ∷ done) (IsDone done) taken in
-        omega (arith, few, length-one_more spot.node done, h.visiting.count, length-drop next queue, below, more)
-
-    -- There is room for a child of the node, if there is one.
-    pub IsGathering-room_far : (marks : ℕ) (side : Bool) → HasRoomFor now marks spot side (length queue)
-    IsGathering-room_far marks side seen child later keeps within link =
-        let few =
-        AreOnce-room_for now seen later (spot.node ∷ done) (IsDone done) (IsDone done) (λ a b used. used) rest taken keeps spot.node side
-        (is_not_done now rest spot.node done (IsDone done) taken) marks child within link in
-        omega (arith, few, length-one_more spot.node done, h.visiting.count, length-drop next queue, below, more)
+    -- There is room in the queue for a child of the node, if there is one.
+    pub IsGathering-room_far : (marks : ℕ) (side : Bool) → HasRoomFor now marks spot side (length rest)
+    IsGathering-room_far marks side = HasRoomFor-far now spot done marks rest side beside taken
 
     -- ---- one visit
 
     module _ (half : Sight) (mid : List Spot) (noted : List ℕ) (right : Bool) (keeps : KeepsSight now)
         (own : right ≡ goes_right_by spot.by_rows spot.point target)
         (notes : Notes found noted spot.node (squared_distance spot.point target) (r * r))
-        (far_side : QueuesWithin now half queue mid spot (not right) (line_square spot target) (r * r)) where
-      few_next : next ≤ length queue
-      few_next = omega (arith, below, more)
-
+        (far_side : QueuesWithin now half rest mid spot (not right) (line_square spot target) (r * r)) where
       visited : IsSearch before now target (r * r) (λ n q. Contains noted n) rest (GoesBelow now target spot spot.point)
       visited =
           IsSearch-visits before now target (r * r) (λ n q. Contains found n) spot rest spot.point (r * r) (λ n q. Contains noted n)
           IsGathering-stands (omega arith) (λ n q. Notes-old found noted spot.node (squared_distance spot.point target) (r * r) notes n)
           (Notes-new found noted spot.node (squared_distance spot.point target) (r * r) notes)
-          (IsSearch-takes before now target (r * r) (λ n q. Contains found n) spot (drop visits queue) rest first_waits h.search)
+          (IsSearch-takes before now target (r * r) (λ n q. Contains found n) spot queue rest first_waits h.search)
 
       stand_rest : AreSeenSpots now rest
       stand_rest other k = h.stand other (subst (λ xs. Contains xs other) (sym first_waits) (Contains-more spot other rest k))
@@ -305,41 +261,40 @@ module _ (before now : Sight) (target : Point) (r : ℕ) (queue : List Spot) (fo
             ]
           ]
 
-      half_way-leaves : LeavesChild now half queue mid (line_square spot target) (r * r)
-          → IsHalfWay before now half target (r * r) mid noted done next spot right
+      half_way-leaves : LeavesChild now half rest mid (line_square spot target) (r * r)
+          → IsHalfWay before now half target (r * r) mid noted done spot right
       half_way-leaves leaves =
-          let same : drop next mid ≡ rest = ap (drop next) leaves.same in
           let long = ap (λ (xs : List Spot). length xs) leaves.same in
           record {
             later = leaves.later;
             keeps = leaves.keeps;
-            few = omega (arith, few_next, long);
-            search = subst (λ xs. IsSearch before half target (r * r) (λ n q. Contains noted n) xs (GoesTo half target spot spot.point right)) (sym same)
+            few = omega (arith, beside, long);
+            search = subst (λ xs. IsSearch before half target (r * r) (λ n q. Contains noted n) xs (GoesTo half target spot spot.point right))
+                (sym leaves.same)
                 (IsSearch-leaves before now half target (r * r) (λ n q. Contains noted n) spot spot.point IsGathering-stands leaves.later keeps right own
                 rest leaves.beyond visited);
-            once = subst (λ xs. AreOnce half xs (spot.node ∷ done) (IsDoneOrAt done spot.node (not right))) (sym same)
+            once = subst (λ xs. AreOnce half xs (spot.node ∷ done) (IsDoneOrAt done spot.node (not right))) (sym leaves.same)
                 (AreOnce-leaves now half leaves.later rest spot done (not right) taken);
-            stand = AreSeenSpots-same now half leaves.later rest (drop next mid) same leaves.points stand_rest;
-            fresh = AreFreshFound-same now half leaves.later rest (drop next mid) same leaves.points before target (r * r) noted fresh_noted;
+            stand = AreSeenSpots-same now half leaves.later rest mid leaves.same leaves.points stand_rest;
+            fresh = AreFreshFound-same now half leaves.later rest mid leaves.same leaves.points before target (r * r) noted fresh_noted;
           }
 
-      half_way-queues : QueuesChild now half queue mid spot (not right)
-          → IsHalfWay before now half target (r * r) mid noted done next spot right
+      half_way-queues : QueuesChild now half rest mid spot (not right)
+          → IsHalfWay before now half target (r * r) mid noted done spot right
       half_way-queues queues =
-          let opens = QueuesChild-opens now half queue mid spot (not right) queues in
-          let rest_opens = Opens-rest now half queue mid spot (not right) 0 next few_next opens in
+          let opens = QueuesChild-opens now half rest mid spot (not right) queues in
           record {
             later = queues.later;
             keeps = queues.keeps;
-            few = omega (arith, few_next, Opens-longer now half queue mid spot (not right) 0 opens);
+            few = omega (arith, beside, Opens-few now half rest mid spot (not right) 0 opens);
             search = IsSearch-opens_far before now half target (r * r) (λ n q. Contains noted n) spot spot.point IsGathering-stands queues.later keeps
-                right own rest (drop next mid) 0 (inl (omega arith)) rest_opens visited;
-            once = AreOnce-opens_far now half queues.later rest spot done queues.keeps (drop next mid) (not right) 0 taken rest_opens;
-            stand = QueuesChild-stands now half queue mid spot (not right) queues next few_next stand_rest;
-            fresh = QueuesChild-fresh now half queue mid spot (not right) queues next few_next before target (r * r) noted fresh_noted;
+                right own rest mid 0 (inl (omega arith)) opens visited;
+            once = AreOnce-opens_far now half queues.later rest spot done queues.keeps mid (not right) 0 taken opens;
+            stand = QueuesChild-stands now half rest mid spot (not right) queues stand_rest;
+            fresh = QueuesChild-fresh now half rest mid spot (not right) queues before target (r * r) noted fresh_noted;
           }
 
-      half_way : IsHalfWay before now half target (r * r) mid noted done next spot right
+      half_way : IsHalfWay before now half target (r * r) mid noted done spot right
       half_way =
           elim far_side [
             | inl leaves ↦ half_way-leaves leaves
@@ -351,33 +306,26 @@ module _ (before now : Sight) (target : Point) (r : ℕ) (queue : List Spot) (fo
 
       -- There is room for a child of the near side, too.
       pub IsGathering-room_near : (marks : ℕ) → HasRoomFor half marks spot right (length mid)
-      IsGathering-room_near marks seen child later keeps within link =
-          let Used : ℕ → Bool → Type 0 = IsDoneOrAt done spot.node (not right) in
-          let few =
-          AreOnce-room_for half seen later (spot.node ∷ done) Used Used (λ a b used. used) (drop next mid) half_way.once keeps spot.node right
-          (is_other_side half seen later (drop next mid) spot done right half_way.once) marks child within link in
-          omega (arith, few, length-one_more spot.node done, h.visiting.count, length-drop next mid, half_way.few, more)
+      IsGathering-room_near marks = HasRoomFor-near half spot done marks mid right half_way.few half_way.once
 
       -- The node is noted, and then its children are queued.
-      pub IsGathering-visits : (after : Sight) (put : List Spot) → QueuesChild half after mid put spot right
+      pub IsGathering-visits : (after : Sight) (put : List Spot) (next : ℕ) → next ≡ suc visits → QueuesChild half after mid put spot right
           → IsGathering before after target r put noted next
-      IsGathering-visits after put near_side =
+      IsGathering-visits after put next more near_side =
           let opens = QueuesChild-opens half after mid put spot right near_side in
-          let rest_opens = Opens-rest half after mid put spot right 0 next half_way.few opens in
           let later = IsLaterMoment-trans now half after half_way.later near_side.later in
           let distance : ℕ = squared_distance spot.point target in
           record {
-            few = omega (arith, half_way.few, Opens-longer half after mid put spot right 0 opens);
             search = IsSearch-opens_near before half after target (r * r) (λ n q. Contains noted n) spot spot.point
-                (half_way.later.seen.places.nodes spot.node spot.point IsGathering-stands) near_side.later half_way.keeps right (drop next mid)
-                (drop next put) 0 (omega arith) rest_opens half_way.search;
+                (half_way.later.seen.places.nodes spot.node spot.point IsGathering-stands) near_side.later half_way.keeps right mid put 0 (omega arith)
+                opens half_way.search;
             visiting = record {
               done = spot.node ∷ done;
               count = ap suc h.visiting.count ∙ sym more;
-              once = AreOnce-opens_near half after near_side.later (drop next mid) spot done near_side.keeps (drop next put) right 0 half_way.once
-                  rest_opens;
+              few = omega (arith, half_way.few, Opens-few half after mid put spot right 0 opens, h.visiting.count, more);
+              once = AreOnce-opens_near half after near_side.later mid spot done near_side.keeps put right 0 half_way.once opens;
             };
-            stand = QueuesChild-stands half after mid put spot right near_side next half_way.few half_way.stand;
+            stand = QueuesChild-stands half after mid put spot right near_side half_way.stand;
             different = Notes-different found noted spot.node distance (r * r) notes h.different not_found;
             among = λ n k. elim (Notes-cases found noted spot.node distance (r * r) notes n k) [
               | inl old ↦ Contains-more spot.node n done (h.among n old)
@@ -388,21 +336,18 @@ module _ (before now : Sight) (target : Point) (r : ℕ) (queue : List Spot) (fo
               | inr (same, near) ↦
                   (spot.point, later.seen.places.nodes n spot.point (subst (λ m. StandsAt now.seen.points m spot.point) same IsGathering-stands), near)
             ];
-            fresh = QueuesChild-fresh half after mid put spot right near_side next half_way.few before target (r * r) noted half_way.fresh;
+            fresh = QueuesChild-fresh half after mid put spot right near_side before target (r * r) noted half_way.fresh;
           }
 
   -- After as many visits as there are marks, and node 0, nothing waits.
-  pub IsGathering-all_visited : (marks : ℕ) → ((n : ℕ) → IsSeen now.seen n → n ≤ marks) → suc marks ≤ visits → length queue ≤ visits
+  pub IsGathering-all_visited : (marks : ℕ) → ((n : ℕ) → IsSeen now.seen n → n ≤ marks) → suc marks ≤ visits → queue ≡ []
   IsGathering-all_visited marks within all =
-      omega (arith, IsVisiting-few now marks within (drop visits queue) visits h.visiting, length-drop visits queue, all)
+      nil_from_length queue (omega (arith, IsVisiting-few now marks within queue visits h.visiting, all))
 
   -- It ends when nothing waits: sorted, the list has the near nodes.
-  module _ (visited : length queue ≤ visits) (sight : KeepsSight before) (keeps : KeepsSight now) (distinct : AreDistinct now.seen.points) where
-    none_waits : drop visits queue ≡ []
-    none_waits = drop_all visits queue visited
-
+  module _ (none_waits : queue ≡ []) (sight : KeepsSight before) (keeps : KeepsSight now) (distinct : AreDistinct now.seen.points) where
     met : (q : Point) → squared_distance q target ≤ r * r → IsMet before now (λ n p. Contains found n) q
-    met = IsSearch-ends before now target (r * r) (λ n q. Contains found n) (drop visits queue) none_waits h.search
+    met = IsSearch-ends before now target (r * r) (λ n q. Contains found n) queue none_waits h.search
 
     all_found : (n : ℕ) (q : Point) → StandsAt now.seen.points n q → squared_distance q target ≤ r * r → Contains found n
     all_found n q stands close =

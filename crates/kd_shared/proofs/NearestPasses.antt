@@ -1,5 +1,5 @@
 -- The search of a pass for the nearest node: what its list of spots holds at each stage.
-use Rattle.std.proofs.Common.{◌≡◌, ◌⊎◌, ℕ, suc, ◌+◌, ◌*◌, ◌<◌, ◌≤◌, Bool, false, not, List, [], ◌∷◌, ◌++◌, length, length-append, arith, refl, sym, ap, ◌∙◌, subst}
+use Rattle.std.proofs.Common.{◌≡◌, ◌⊎◌, ℕ, suc, ◌*◌, ◌<◌, ◌≤◌, Bool, false, not, [], ◌∷◌, ◌++◌, length, arith, refl, sym, ap, ◌∙◌, subst}
 use Rattle.std.proofs.lemmas.List.{nil_from_length}
 use Rattle.plan_model.specs.declared.geometry.Point.{Point}
 use Rattle.plan_model.specs.declared.limits.TheConstants.{MOST_NODES}
@@ -8,15 +8,15 @@ use Rattle.plan_model.specs.Sights.{KeepsSight}
 use Rattle.plan_words.specs.States.{BelongsTo, PassState, SharedState}
 use Rattle.plan_words.specs.declared.scratch.Spot.{Spot}
 use Rattle.step_core.specs.ViewTrees.{SeesNode, sight_in}
-use Rattle.step_core.specs.declared.views.View.{View}
 use Rattle.step_core.proofs.LawfulSights.{KeepsSight-lawful}
 use Rattle.kd_shared.specs.Loads.{LoadsPoint}
 use Rattle.kd_shared.specs.Looking.{KeepsLists, OnlyLooks}
 use Rattle.kd_shared.specs.Searches.{IsNearestSeen}
 use Rattle.kd_shared.specs.Sides.{goes_right_by, split_distance}
-use Rattle.kd_shared.specs.Spots.{IsNearer, StacksChild}
+use Rattle.kd_shared.specs.Spots.{HasRoomFor, IsNearer, StacksChild}
 use Rattle.kd_shared.proofs.Looking.{OnlyLooks-trans}
-use Rattle.kd_shared.proofs.NearestSearch.{IsSeeking, IsSeeking-begins, IsSeeking-ends, IsSeeking-room, IsSeeking-seen, IsSeeking-skips, IsSeeking-visits}
+use Rattle.kd_shared.proofs.NearestSearch.{IsSeeking, IsSeeking-begins, IsSeeking-ends, IsSeeking-room_far, IsSeeking-room_near, IsSeeking-seen}
+use Rattle.kd_shared.proofs.NearestSearch.{IsSeeking-skips, IsSeeking-visits}
 use Rattle.kd_shared.proofs.PassLooks.{PassLooks}
 use Rattle.kd_shared.proofs.VisitedOnce.{IsVisiting-few}
 
@@ -101,15 +101,15 @@ module _ (shared : SharedState) (entry now : PassState) (p : Point) (distance be
     }
 
     -- or its node is looked at. The list has room for a child,
-    pub looked_room : (spot : Spot) → now.spots ≡ popped.spots ++ spot ∷ [] → (looked : PassState) → PassLooks shared popped looked
-        → length looked.spots < length looked.view.run.marks + 1
-    looked_room spot is looked load =
-        let lawful = h.looks.looks.goes_on.lawful in
-        let few = IsVisiting-few (sight_in now.view) (length now.view.run.marks) lawful.within now.spots visits h.seeks.visiting in
-        let long = ap (λ (xs : List Spot). length xs) is in
-        let same_spots = ap (λ (s : PassState). length s.spots) load.view_alone in
-        let same_marks = ap (λ run. length run.marks) load.looks.looks.goes_on.later.run ∙ ap (λ (v : View). length v.run.marks) view_same in
-        omega (arith, few, long, length-append popped.spots (spot ∷ []), same_spots, same_marks)
+    pub looked_room : (spot : Spot) → now.spots ≡ popped.spots ++ spot ∷ [] → (looked : PassState) (here : Point) (side : Bool)
+        → PassLooks shared popped looked → LoadsPoint (sight_in popped.view) (sight_in looked.view) spot.node here
+        → HasRoomFor (sight_in looked.view) (length looked.view.run.marks) spot side (length looked.spots)
+    looked_room spot is looked here side load point =
+        let same_spots = ap (λ (s : PassState). s.spots) load.view_alone in
+        subst (λ xs. HasRoomFor (sight_in looked.view) (length looked.view.run.marks) spot side (length xs)) (sym same_spots)
+        (IsSeeking-room_far (sight_in entry.view) (sight_in now.view) p distance best now.spots visits h.seeks spot popped.spots is
+        (sight_in looked.view) here (length looked.view.run.marks) side
+        (subst (λ v. LoadsPoint (sight_in v) (sight_in looked.view) spot.node here) view_same point))
 
     -- and for the other one. So it is visited.
     module _
@@ -128,13 +128,11 @@ module _ (shared : SharedState) (entry now : PassState) (p : Point) (distance be
       keeps_now = KeepsSight-lawful now.view h.looks.looks.goes_on.lawful
 
       -- (the list has room for the other child)
-      pub half_room : length half.spots < length half.view.run.marks + 1
+      pub half_room : HasRoomFor (sight_in half.view) (length half.view.run.marks) spot right (length half.spots)
       half_room =
-          let few =
-          IsSeeking-room (sight_in entry.view) (sight_in now.view) p distance best now.spots visits h.seeks (sight_in looked.view) (sight_in half.view)
-          here spot looked.spots half.spots far less nearer right keeps_now spots_are loads_here nearest own far_is far_side (length half.view.run.marks)
-          far_looks.looks.goes_on.lawful.within in
-          omega (arith, few)
+          IsSeeking-room_near (sight_in entry.view) (sight_in now.view) p distance best now.spots visits h.seeks (sight_in looked.view)
+          (sight_in half.view) here spot looked.spots half.spots far less nearer right keeps_now spots_are loads_here nearest own far_is far_side
+          (length half.view.run.marks)
 
       pub IsSeekingPass-visits : (after : PassState) (next : ℕ) → BelongsTo after shared → OnlyLooks half.view after.view → KeepsLists looked half
           → KeepsLists half after → StacksChild (sight_in half.view) (sight_in after.view) half.spots after.spots spot right spot.gap

@@ -1,5 +1,5 @@
 -- The search for the nearest node, by a stack: the nearest so far, and the points that wait.
-use Rattle.std.proofs.Common.{◌≡◌, ◌⊎◌, ℕ, suc, ◌*◌, ◌<◌, ◌≤◌, Bool, false, not, List, [], ◌∷◌, ◌++◌, length, arith, sym, ap, ◌∙◌, subst, inl, inr}
+use Rattle.std.proofs.Common.{◌≡◌, ◌⊎◌, ℕ, suc, ◌*◌, ◌<◌, ◌≤◌, Bool, false, not, List, [], ◌∷◌, ◌++◌, length, length-append, arith, sym, ap, ◌∙◌, subst, inl, inr}
 use Rattle.std.specs.Prelude.{Contains}
 use Rattle.std.proofs.lemmas.Bool.{cases_eq, cases_lt}
 use Rattle.std.proofs.lemmas.List.Elements.{Contains-push}
@@ -15,13 +15,12 @@ use Rattle.plan_model.proofs.SightLaws.{IsFree-ends}
 use Rattle.kd_shared.specs.Loads.{LoadsPoint}
 use Rattle.kd_shared.specs.Searches.{IsNearestSeen}
 use Rattle.kd_shared.specs.Sides.{goes_right_by, split_distance}
-use Rattle.kd_shared.specs.Spots.{IsNearer, IsNotFurther, StacksChild}
+use Rattle.kd_shared.specs.Spots.{HasRoomFor, IsNearer, IsNotFurther, StacksChild}
 use Rattle.plan_words.specs.declared.scratch.Spot.{Spot}
-use Rattle.kd_shared.proofs.DistinctNumbers.{length-one_more}
 use Rattle.kd_shared.proofs.Searching.{GoesTo, IsMet, IsSearch, IsSearch-begins, IsSearch-ends, IsSearch-later, IsSearch-opens_far, IsSearch-opens_near}
 use Rattle.kd_shared.proofs.Searching.{IsSearch-pops, IsSearch-skips, IsSearch-visits, Nothing, WaitsAt, WaitsAt-later}
-use Rattle.kd_shared.proofs.VisitedOnce.{AreOnce, AreOnce-few, AreOnce-later, AreOnce-opens_far, AreOnce-opens_near, AreOnce-pops, IsDone, IsDoneOrAt}
-use Rattle.kd_shared.proofs.VisitedOnce.{IsVisiting, IsVisiting-begins, IsVisiting-skips}
+use Rattle.kd_shared.proofs.VisitedOnce.{AreOnce, AreOnce-later, AreOnce-opens_far, AreOnce-opens_near, AreOnce-pops, HasRoomFor-far, HasRoomFor-near}
+use Rattle.kd_shared.proofs.VisitedOnce.{IsDone, IsDoneOrAt, IsVisiting, IsVisiting-begins, IsVisiting-beside, IsVisiting-skips, Opens-few}
 
 -- ---- the nearest so far
 
@@ -81,6 +80,23 @@ module _ (before now : Sight) (target : Point) (distance best : ℕ) (stack : Li
   pub IsSeeking-seen : (spot : Spot) (rest : List Spot) → stack ≡ rest ++ spot ∷ [] → IsSeen now.seen spot.node
   IsSeeking-seen spot rest is = h.search.seen spot (subst (λ xs. Contains xs spot) (sym is) (Contains-push rest spot))
 
+  module _ (spot : Spot) (rest : List Spot) (is : stack ≡ rest ++ spot ∷ []) where
+    beside : length rest ≤ length h.visiting.done
+    beside =
+        let e = ap (λ (xs : List Spot). length xs) is in
+        IsVisiting-beside now stack rest visits (omega (arith, e, length-append rest (spot ∷ []))) h.visiting
+
+    once_popped : (found : Sight) (p : Point) → LoadsPoint now found spot.node p → AreOnce found rest (spot.node ∷ h.visiting.done) (IsDone h.visiting.done)
+    once_popped found p load =
+        AreOnce-later now found load.later (spot.node ∷ h.visiting.done) (IsDone h.visiting.done) (IsDone h.visiting.done) (λ a side used. used) rest
+        (AreOnce-pops now spot stack rest h.visiting.done h.visiting.once is)
+
+    -- and the stack has room for a child of it, once its point is loaded
+    pub IsSeeking-room_far : (found : Sight) (p : Point) (marks : ℕ) (side : Bool) → LoadsPoint now found spot.node p
+        → HasRoomFor found marks spot side (length rest)
+    IsSeeking-room_far found p marks side load =
+        HasRoomFor-far found spot h.visiting.done marks rest side beside (once_popped found p load)
+
   -- pops a spot that is too far,
   pub IsSeeking-skips : (spot : Spot) (rest : List Spot) (next : ℕ) → stack ≡ rest ++ spot ∷ [] → next ≡ suc visits
       → distance < spot.gap * spot.gap → IsSeeking before now target distance best rest next
@@ -134,9 +150,11 @@ module _ (before now : Sight) (target : Point) (distance best : ℕ) (stack : Li
 
     once_half : AreOnce half mid (spot.node ∷ done) (IsDoneOrAt done spot.node (not right))
     once_half =
-        let popped = AreOnce-pops now spot stack rest done h.visiting.once is in
-        let loaded = AreOnce-later now found load.later (spot.node ∷ done) (IsDone done) (IsDone done) (λ a side used. used) rest popped in
-        AreOnce-opens_far found half far_side.later rest spot done far_side.keeps mid (not right) far loaded far_side.opens
+        AreOnce-opens_far found half far_side.later rest spot done far_side.keeps mid (not right) far (once_popped spot rest is found p load)
+        far_side.opens
+
+    few_half : length mid ≤ suc (length done)
+    few_half = omega (arith, beside spot rest is, Opens-few found half rest mid spot (not right) far far_side.opens)
 
     fresh_half : (n : ℕ) (q : Point) → StandsAt half.seen.points n q → StandsAt before.seen.points n q ⊎ IsOutdone target less nearer n q
     fresh_half n q stands =
@@ -152,11 +170,9 @@ module _ (before now : Sight) (target : Point) (distance best : ℕ) (stack : Li
           ]
         ]
 
-    -- (the stack has room for one more)
-    pub IsSeeking-room : (marks : ℕ) → ((n : ℕ) → IsSeen half.seen n → n ≤ marks) → length mid ≤ marks
-    IsSeeking-room marks within =
-        let few = AreOnce-few half marks within mid (spot.node ∷ done) (IsDoneOrAt done spot.node (not right)) once_half in
-        omega (arith, few, length-one_more spot.node done)
+    -- (the stack has room for another)
+    pub IsSeeking-room_near : (marks : ℕ) → HasRoomFor half marks spot right (length mid)
+    IsSeeking-room_near marks = HasRoomFor-near half spot done marks mid right few_half once_half
 
     -- and that of the near side,
     pub IsSeeking-visits : (after : Sight) (put : List Spot) (near next : ℕ) → StacksChild half after mid put spot right near → near ≤ spot.gap
@@ -173,6 +189,7 @@ module _ (before now : Sight) (target : Point) (distance best : ℕ) (stack : Li
       visiting = record {
         done = spot.node ∷ done;
         count = ap suc h.visiting.count ∙ sym more;
+        few = omega (arith, few_half, Opens-few half after mid put spot right near near_side.opens, h.visiting.count, more);
         once = AreOnce-opens_near half after near_side.later mid spot done near_side.keeps put right near once_half near_side.opens;
       };
     }

@@ -5,7 +5,7 @@ use Rattle.std.specs.Prelude.{Contains, map}
 use Rattle.std.proofs.lemmas.List.{length-map}
 use Rattle.plan_model.specs.SeenTrees.{IsSeen}
 use Rattle.plan_model.specs.Sights.{IsLaterMoment, KeepsSight, Sight}
-use Rattle.kd_shared.specs.Spots.{Opens}
+use Rattle.kd_shared.specs.Spots.{HasRoomFor, Opens}
 use Rattle.plan_words.specs.declared.scratch.Spot.{Spot}
 use Rattle.kd_shared.proofs.DistinctNumbers.{AreDifferent, AreDifferent-after, AreDifferent-few, AreDifferent-within, Contains-cases, Contains-first}
 use Rattle.kd_shared.proofs.DistinctNumbers.{Contains-more, Contains-none, Contains-within, length-one_more}
@@ -166,18 +166,51 @@ module _ (now after : Sight) (later : IsLaterMoment now after) (spots : List Spo
       ])
       spots h keeps spot.node right (is_other_side right h) spot put gap refl (Contains-first spot.node done) opens
 
+-- ---- room for the children
+
+-- one more waits at most
+pub Opens-few : (before after : Sight) (spots put : List Spot) (spot : Spot) (side : Bool) (gap : ℕ) → Opens before after spots put spot side gap
+    → length put ≤ suc (length spots)
+Opens-few before after spots put spot side gap (inl (empty, same)) = let e = ap (λ (xs : List Spot). length xs) same in omega (arith, e)
+Opens-few before after spots put spot side gap (inr new) =
+    let e = ap (λ (xs : List Spot). length xs) new.last in
+    omega (arith, e, length-append spots (new.child ∷ []))
+
+-- A node is visited. Half of the nodes may wait: those that do and those that are done are no more than all, and no more wait than are done.
+module _ (now : Sight) (spot : Spot) (done : List ℕ) (marks : ℕ) where
+  -- So there is room for the child on the one side,
+  pub HasRoomFor-far : (rest : List Spot) (side : Bool) → length rest ≤ length done → AreOnce now rest (spot.node ∷ done) (IsDone done)
+      → HasRoomFor now marks spot side (length rest)
+  HasRoomFor-far rest side few once seen child later keeps within link =
+      let room =
+      AreOnce-room_for now seen later (spot.node ∷ done) (IsDone done) (IsDone done) (λ a b used. used) rest once keeps spot.node side
+      (is_not_done now rest spot.node done (IsDone done) once) marks child within link in
+      omega (arith, few, room, length-one_more spot.node done)
+
+  -- and then for that on the other.
+  pub HasRoomFor-near : (mid : List Spot) (right : Bool) → length mid ≤ suc (length done)
+      → AreOnce now mid (spot.node ∷ done) (IsDoneOrAt done spot.node (not right)) → HasRoomFor now marks spot right (length mid)
+  HasRoomFor-near mid right few once seen child later keeps within link =
+      let Used : ℕ → Bool → Type 0 = IsDoneOrAt done spot.node (not right) in
+      let room =
+      AreOnce-room_for now seen later (spot.node ∷ done) Used Used (λ a b used. used) mid once keeps spot.node right
+      (is_other_side now seen later mid spot done right once) marks child within link in
+      omega (arith, few, room, length-one_more spot.node done)
+
 -- ---- so many visits
 
--- So many nodes are done, and those that wait are others.
+-- So many nodes are done, and those that wait are others, at most one more than are done.
 pub record IsVisiting (now : Sight) (spots : List Spot) (visits : ℕ) : Type 0 where
   pub done : List ℕ
   pub count : length done ≡ visits
+  pub few : length spots ≤ suc visits
   pub once : AreOnce now spots done (IsDone done)
 
 pub IsVisiting-begins : (now : Sight) (spot : Spot) → spot.node ≡ 0 → IsVisiting now (spot ∷ []) 0
 IsVisiting-begins now spot node = record {
   done = [];
   count = refl;
+  few = omega arith;
   once = record {
     different = (Contains-none spot.node, tt);
     known = λ n k. elim (Contains-cases spot.node n [] k) [
@@ -192,6 +225,7 @@ pub IsVisiting-later : (now after : Sight) (spots : List Spot) (visits : ℕ) �
 IsVisiting-later now after spots visits later h = record {
   done = h.done;
   count = h.count;
+  few = h.few;
   once = AreOnce-later now after later h.done (IsDone h.done) (IsDone h.done) (λ a side used. used) spots h.once;
 }
 
@@ -201,6 +235,7 @@ pub IsVisiting-skips : (now : Sight) (spot : Spot) (spots rest : List Spot) (vis
 IsVisiting-skips now spot spots rest visits next is more h = record {
   done = spot.node ∷ h.done;
   count = ap suc h.count ∙ sym more;
+  few = omega (arith, h.few, more, popped_few);
   once = record {
     different = (AreOnce-pops now spot spots rest h.done h.once is).different;
     known = λ n k. elim ((AreOnce-pops now spot spots rest h.done h.once is).known n k) [
@@ -209,6 +244,14 @@ IsVisiting-skips now spot spots rest visits next is more h = record {
     ];
   };
 }
+  where
+    popped_few : length rest ≤ length spots
+    popped_few = (let e = ap (λ (xs : List Spot). length xs) is in omega (arith, e, length-append rest (spot ∷ [])))
+
+-- no more wait beside the spot that is taken than are done
+pub IsVisiting-beside : (now : Sight) (spots rest : List Spot) (visits : ℕ) → length spots ≡ suc (length rest) → (h : IsVisiting now spots visits)
+    → length rest ≤ length h.done
+IsVisiting-beside now spots rest visits one_less h = omega (arith, one_less, h.few, h.count)
 
 -- No more nodes wait and are done than there are marks, and node 0.
 pub AreOnce-few : (now : Sight) (marks : ℕ) → ((n : ℕ) → IsSeen now.seen n → n ≤ marks) → (spots : List Spot) (done : List ℕ) (Used : ℕ → Bool → Type 0)

@@ -1,5 +1,5 @@
 -- What the steps of a search do to the nodes that wait to be visited, and to what it has found.
-use Rattle.std.specs.Prelude.{◌≡◌, ◌⊎◌, ℕ, ◌<◌, ◌≤◌, Bool, not, Some, List, [], ◌∷◌, ◌++◌}
+use Rattle.std.specs.Prelude.{◌≡◌, ◌⊎◌, ℕ, ◌*◌, ◌<◌, ◌≤◌, Bool, not, Some, List, [], ◌∷◌, ◌++◌}
 use Rattle.plan_model.specs.PointsByNumber.{StandsAt}
 use Rattle.plan_model.specs.SeenTrees.{IsSeen}
 use Rattle.plan_model.specs.Sights.{IsLaterMoment, KeepsSight, Sight}
@@ -38,11 +38,11 @@ pub record QueuesChild (before after : Sight) (queue put : List Spot) (spot : Sp
   pub keeps : KeepsSight after
   pub queues : (FindsEmpty before after spot.node side × (put ≡ queue) × KeepsPoints before after) ⊎ PutsWithPoint before after queue put spot side
 
--- Room for a child on this side, if it is found that there is one: so many wait or waited, no more than there are marks.
+-- Room for a child on this side, if it is found that there is one: so many wait, no more than half as many as there are marks.
 abbrev pub HasRoomFor : Sight → ℕ → Spot → Bool → ℕ → Type 0
 HasRoomFor before marks spot side long =
     (after : Sight) (child : ℕ) → IsLaterMoment before after → KeepsSight after → ((n : ℕ) → IsSeen after.seen n → n ≤ marks)
-    → after.seen.child spot.node side ≡ Some child → long ≤ marks
+    → after.seen.child spot.node side ≡ Some child → 2 * long ≤ marks
 
 -- The child on a side is not loaded, as its split distance has a square above the bound.
 pub record LeavesChild (before after : Sight) (queue put : List Spot) (square bound : ℕ) : Type 0 where

@@ -35,11 +35,10 @@ pub fn near(shared: &Shared, pass: &mut Pass, p: Point, r: u32)
         gap: 0,
         point: start,
     });
-    'visits: for visit in 0..MOST_NODES as usize {
-        if visit >= pass.spot_count() {
+    'visits: for _visit in 0..MOST_NODES {
+        let Some(spot) = pass.take_first_spot() else {
             break;
-        }
-        let spot = pass.spot(visit);
+        };
         note(pass, spot.node, spot.point.squared_distance(p), most);
         let right = goes_right(spot.by_rows, spot.point, p);
         let gap = distance_to_split(spot.by_rows, spot.point, p);

@@ -1,9 +1,9 @@
 //! The search for the nearest node.
 
-ghost use Rattle.std.specs.Prelude.{◌≡◌, ◌⊎◌, ◌+◌, ◌<◌, length};
+ghost use Rattle.std.specs.Prelude.{◌≡◌, ◌⊎◌, length};
 ghost use Rattle.kd_shared.specs.Looking.{KeepsLists, OnlyLooks};
 ghost use Rattle.kd_shared.specs.Searches.{IsNearestSeen};
-ghost use Rattle.kd_shared.specs.Spots.{IsNearer, StacksChild};
+ghost use Rattle.kd_shared.specs.Spots.{HasRoomFor, IsNearer, StacksChild};
 ghost use Rattle.plan_model.specs.Bounds.{IsBounded};
 ghost use Rattle.plan_words.specs.States.{BelongsTo};
 ghost use Rattle.step_core.specs.ViewTrees.{SeesNode, sight_in};
@@ -69,7 +69,7 @@ pub fn nearest(shared: &Shared, pass: &mut Pass, p: Point) -> u32
 fn stack_child(shared: &Shared, pass: &mut Pass, spot: Spot, right: bool, gap: u32)
     requires belongs { BelongsTo pass.old shared.now }
     requires seen { SeesNode pass.old.view spot.node }
-    requires room { length pass.old.spots < length pass.old.view.run.marks + 1 }
+    requires room { HasRoomFor (sight_in pass.old.view) (length pass.old.view.run.marks) spot right (length pass.old.spots) }
     ensures belongs { BelongsTo pass.new shared.now }
     ensures looks { OnlyLooks pass.old.view pass.new.view }
     ensures lists { KeepsLists pass.old pass.new }

@@ -151,13 +151,7 @@ fn class_seen(turn: u32, nodes: u32) -> Option<u32>
 
 /// Records that the mark in hand was placed below its nearest node, in a scene whose radius is 0. Returns `None` if there is
 /// another radius, or if fewer nodes are counted than the worker has handled marks.
-fn finish_placed(
-    shared: &Shared,
-    pass: &mut Pass,
-    mark: u32,
-    closest: u32,
-    cost: u64,
-) -> Option<()>
+fn finish_placed(shared: &Shared, pass: &mut Pass, mark: u32, closest: u32, cost: u64) -> Option<()>
     requires holds { HoldsMark shared.now mark Counted pass.old }
     requires hangs { HangsBelow closest cost pass.old.view }
     ensures { IfSome result (λ _. MayClaim shared.now pass.new) }
@@ -181,13 +175,7 @@ fn finish_placed(
 }
 
 /// Records that another node stands at the point of the mark in hand.
-fn finish_same(
-    shared: &Shared,
-    pass: &mut Pass,
-    mark: u32,
-    closest: u32,
-    node: u32,
-)
+fn finish_same(shared: &Shared, pass: &mut Pass, mark: u32, closest: u32, node: u32)
     requires holds { HoldsMark shared.now mark Treed pass.old }
     requires steers { SteersFrom closest pass.old.view }
     requires seen { SeesHandPoint pass.old.view node }
@@ -239,6 +227,20 @@ pub(crate) fn place_next(
     Some((mark, placing))
 }
 
+/// Places so many marks. Returns `None` if one cannot be placed and recorded.
+fn place_all(shared: &Shared, hall: &Hall, pass: &mut Pass, limit: u32) -> Option<()>
+    requires may_claim { MayClaim shared.now pass.old }
+    requires hall { hall.now ≡ space_of shared.now.task.scene }
+    requires low { shared.now.opening ≤ limit }
+    requires limit { limit ≤ length shared.now.task.marks }
+    ensures { IfSome result (λ _. MayClaim shared.now pass.new) }
+{
+    'marks: for _ in 0..limit {
+        let _placed = place_next(shared, hall, pass, limit)?;
+    }
+    Some(())
+}
+
 /// A tree with nodes at these points round the start, each linked by the pass.
 pub(crate) fn tree_of(alloc: Global, start: Point, points: &[Point]) -> Result<(Shared, Pass), Fail>
     requires start { IsInRoom (record { x = 65535; y = 65535 }) start }
@@ -251,8 +253,6 @@ pub(crate) fn tree_of(alloc: Global, start: Point, points: &[Point]) -> Result<(
     let hall = Hall::new(alloc, &shared.task().scene)?;
     let mut pass = last_pass(&shared, &mut passes).ok_or(Memory)?;
     let limit = points.len() as u32;
-    'marks: for _ in 0..limit {
-        let _placed = place_next(&shared, &hall, &mut pass, limit).ok_or(Memory)?;
-    }
+    place_all(&shared, &hall, &mut pass, limit).ok_or(Memory)?;
     Ok((shared, pass))
 }

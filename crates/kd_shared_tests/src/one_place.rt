@@ -56,14 +56,36 @@ fn two_passes(alloc: Global, marks: &[Point]) -> Result<(Shared, Hall, Pass, Pas
     Ok((shared, hall, first, second))
 }
 
-/// Looks for a node at the point that was written for the mark in hand.
-fn look_for(shared: &Shared, pass: &mut Pass, mark: u32, steering: Steering) -> Option<u32>
+/// Finds no node at the point that was written for the mark in hand.
+fn expect_free<R: Abort>(rt: &R, shared: &Shared, pass: &mut Pass, mark: u32, steering: Steering)
     requires holds { HoldsMark shared.now mark Pointed pass.old }
     requires steers { SteersFrom steering.nearest pass.old.view }
     ensures holds { HoldsMark shared.now mark Pointed pass.new }
     ensures steers { SteersFrom steering.nearest pass.new.view }
 {
-    find(shared, pass, steering.point)
+    let found = find(shared, pass, steering.point);
+    assert_eq!(rt; found, None);
+}
+
+/// Places the node of the mark in hand, and compares how that ended.
+fn expect_placing<R: Abort>(
+    rt: &R,
+    shared: &Shared,
+    hall: &Hall,
+    pass: &mut Pass,
+    mark: u32,
+    steering: Steering,
+    want: Placing,
+)
+    requires holds { HoldsMark shared.now mark Pointed pass.old }
+    requires steers { SteersFrom steering.nearest pass.old.view }
+    requires hall { hall.now ≡ space_of shared.now.task.scene }
+    ensures { MayClaim shared.now pass.new }
+{
+    let Some(placing) = place_and_finish(shared, hall, pass, mark, steering.nearest) else {
+        panic!(rt; "the mark is not recorded");
+    };
+    assert_eq!(rt; placing, want);
 }
 
 #[test]
@@ -76,14 +98,17 @@ fn the_second_at_a_place_goes_one_node_deeper(rt: HostRuntime) -> Result<(), Fai
     let middle = write_from_nearest(&shared, &mut second, other);
     assert_eq!(rt; (upper.point, middle.point), (ABOVE, MIDDLE));
     // both see that the place is empty
-    let found = look_for(&shared, &mut first, one, upper);
-    let also = look_for(&shared, &mut second, other, middle);
-    assert_eq!(rt; (found, also), (None, None));
-    let placed = place_and_finish(&shared, &hall, &mut first, one, upper.nearest).ok_or(Memory)?;
-    let below = place_and_finish(&shared, &hall, &mut second, other, middle.nearest).ok_or(Memory)?;
-    assert_eq!(rt;
-        (placed, below),
-        (Placing::Placed, Placing::Placed)
+    expect_free(&rt, &shared, &mut first, one, upper);
+    expect_free(&rt, &shared, &mut second, other, middle);
+    expect_placing(&rt, &shared, &hall, &mut first, one, upper, Placing::Placed);
+    expect_placing(
+        &rt,
+        &shared,
+        &hall,
+        &mut second,
+        other,
+        middle,
+        Placing::Placed,
     );
     let found = find(&shared, &mut first, MIDDLE);
     assert_eq!(rt; found, Some(2));
@@ -104,13 +129,24 @@ fn the_second_at_a_point_is_told_the_first(rt: HostRuntime) -> Result<(), Fail> 
     let upper = write_from_nearest(&shared, &mut first, one);
     let also = write_from_nearest(&shared, &mut second, other);
     assert_eq!(rt; (upper.point, also.point), (ABOVE, ABOVE));
-    let free = look_for(&shared, &mut first, one, upper);
-    assert_eq!(rt; free, None);
-    let placed = place_and_finish(&shared, &hall, &mut second, other, also.nearest).ok_or(Memory)?;
-    let same = place_and_finish(&shared, &hall, &mut first, one, upper.nearest).ok_or(Memory)?;
-    assert_eq!(rt;
-        (placed, same),
-        (Placing::Placed, Placing::Same(2))
+    expect_free(&rt, &shared, &mut first, one, upper);
+    expect_placing(
+        &rt,
+        &shared,
+        &hall,
+        &mut second,
+        other,
+        also,
+        Placing::Placed,
+    );
+    expect_placing(
+        &rt,
+        &shared,
+        &hall,
+        &mut first,
+        one,
+        upper,
+        Placing::Same(2),
     );
     let nodes = shared.number(&mut first);
     assert_eq!(rt; nodes, 2);

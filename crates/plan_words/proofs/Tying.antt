@@ -1,5 +1,5 @@
 -- What a pass keeps beside its view, after steps that the law tells nothing of, and the word that it stores for its turn.
-use Rattle.std.proofs.Common.{◌≡◌, ℕ, ◌+◌, ◌<◌, ◌≤◌, List}
+use Rattle.std.proofs.Common.{◌≡◌, ℕ, ◌+◌, ◌*◌, ◌<◌, ◌≤◌, List}
 use Rattle.std.proofs.Common.{[], ◌∷◌, length, Option, Some, None, refl, sym, ap, ◌∙◌, subst, arith}
 use Rattle.std.specs.Prelude.{IfSome, IsSome, is_some}
 use mathlib.Core.Option.{some, some-ne-none}
@@ -190,7 +190,7 @@ IsTied-looker view lawful = record { member_is = refl; hand_is = refl; lawful = 
 -- lists with room for one more than there are marks have room for each node
 pub HasRoom-new :
     (places : WordPlaces) (run own : SharedRun) (nodes for_spots for_near waiting : ℕ) → sizes_in places ≡ run_sizes run → own ≡ run
-    → nodes ≡ (sizes_in places).marks + 1 → (nodes ≤ for_spots) × (nodes ≤ for_near) × (waiting ≡ nodes)
+    → nodes ≡ (sizes_in places).marks + 1 → (nodes ≤ 2 * for_spots) × (nodes ≤ for_near) × (waiting ≡ nodes)
     → HasRoom own for_spots for_near waiting
 HasRoom-new places run own nodes for_spots for_near waiting same own_is nodes_is (spots, near, around) =
     let marks : length own.marks + 1 ≡ nodes = ap (λ r. length r.marks + 1) own_is ∙ sym (ap (λ s. s.marks + 1) same) ∙ sym nodes_is in

@@ -1,5 +1,5 @@
 -- What contracts see of a shared tree and of a pass, and what a table of words keeps.
-use Rattle.std.specs.Prelude.{◌≡◌, ℕ, ◌+◌, ◌<◌, ◌≤◌, Bool, false, Option, Some, None, List, [], ◌∷◌, length, slice_index}
+use Rattle.std.specs.Prelude.{◌≡◌, ℕ, ◌+◌, ◌*◌, ◌<◌, ◌≤◌, Bool, false, Option, Some, None, List, [], ◌∷◌, length, slice_index}
 use Rattle.atomic_table.specs.Seated.{TableId}
 use Rattle.plan_model.specs.declared.tasks.Task.{Task}
 use Rattle.plan_words.specs.declared.openings.Opening.{Opening}
@@ -118,9 +118,9 @@ pub record HasPairs (view : View) (pairs : List ℕ) : Type 0 where
   pub for_each : length pairs ≡ length view.run.marks + 1
   pub seen : (n : ℕ) → n ≤ length view.run.marks → slice_index pairs n ≡ sees view (TreeOf n)
 
--- each scratch list may hold as many as the run may have nodes, and as many may wait
+-- each list of found nodes may hold as many as the run may have nodes, that of spots half as many, and each node may wait
 pub record HasRoom (run : SharedRun) (for_spots for_near waiting : ℕ) : Type 0 where
-  pub spots : length run.marks + 1 ≤ for_spots
+  pub spots : length run.marks + 1 ≤ 2 * for_spots
   pub near : length run.marks + 1 ≤ for_near
   pub around : length run.marks + 1 ≡ waiting
 

@@ -32,6 +32,7 @@ pub struct Pass {
 
 impl Model for Pass {
     ghost use Rattle.std.specs.Prelude.{◌≡◌, [], vec_capacity};
+    ghost use Rattle.std.specs.VecDeque.{deque_capacity};
     ghost use Rattle.plan_words.specs.States.{HasPairs, HasRoom, IsTied, PassState};
 
     ghost Value = { PassState };
@@ -46,7 +47,7 @@ impl Model for Pass {
     } };
 
     ghost invariant = { λ p. (p.seat.me.1 ≡ []) × IsTied p.seat.me.0 p.member p.hand
-        × HasRoom p.seat.me.0.run (vec_capacity p.scratch.spots) (vec_capacity p.scratch.near) p.scratch.around.size
+        × HasRoom p.seat.me.0.run (deque_capacity p.scratch.spots) (vec_capacity p.scratch.near) p.scratch.around.size
         × HasPairs p.seat.me.0 p.pairs };
 }
 

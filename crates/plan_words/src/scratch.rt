@@ -1,10 +1,13 @@
 //! The scratch lists of a pass. Searches keep there what is left to visit, and what they found.
 //!
-//! They are taken when the pass is made, with room for each node of the run, so that no search takes memory.
+//! They are taken when the pass is made, with all the room that a search may need, so that no search takes memory. Each node of the
+//! run may be found. No more than half of them wait to be visited: a visit takes one off and puts at most two on, so after n visits
+//! at most n + 1 other nodes wait.
 
-ghost use Rattle.std.specs.Prelude.{◌≡◌, ◌⊎◌, ℕ, ◌<◌, ◌≤◌, ◌+◌, ◌++◌, ◌∷◌, [], true, false, IfOk, IfSome, IsPermutation, None, Some, length, option_to_list, slice_get};
+ghost use Rattle.std.specs.Prelude.{◌≡◌, ◌⊎◌, ℕ, ◌<◌, ◌≤◌, ◌+◌, ◌*◌, ◌++◌, ◌∷◌, [], true, false, IfOk, IfSome, IsPermutation, None, Some, length, option_to_list, slice_get};
 ghost use Rattle.std.specs.List.Sorted.{IsNonDecreasing};
 ghost use Rattle.std.specs.Vec.{vec_capacity};
+ghost use Rattle.std.specs.VecDeque.{deque_capacity};
 ghost use Rattle.plan_words.specs.Waiting.{HasSeenParent, IsOn};
 ghost use Rattle.step_core.specs.LaterViews.{IsLawfulView};
 
@@ -12,6 +15,7 @@ use crate::passes::Pass;
 use crate::waiting::Waiting;
 use plan_model::Point;
 use std::alloc::{AllocError, Global};
+use std::collections::VecDeque;
 
 /// A node that a search is to visit. A search uses only one of `gap` and `point`.
 #[derive(Clone, Copy)]
@@ -29,20 +33,20 @@ pub struct Spot {
 /// The lists.
 #[derive(Drop)]
 pub(crate) struct Scratch {
-    pub(crate) spots: Vec<Spot>,
+    pub(crate) spots: VecDeque<Spot>,
     pub(crate) near: Vec<u32>,
     /// The second list, which is also that of the nodes that wait.
     pub(crate) around: Waiting,
 }
 
 impl Scratch {
-    /// Empty lists with room for so many nodes.
+    /// Empty lists with room for so many nodes, and for spots of half of them.
     pub(crate) fn new(alloc: Global, nodes: usize) -> Result<Scratch, AllocError>
         ensures empty { IfOk result (λ lists. (lists.spots.items ≡ []) × (lists.near.items ≡ []) × (lists.around ≡ record { nodes = []; waits = false; size = nodes })) }
-        ensures room { IfOk result (λ lists. (nodes ≤ vec_capacity lists.spots) × (nodes ≤ vec_capacity lists.near) × (lists.around.size ≡ nodes)) }
+        ensures room { IfOk result (λ lists. (nodes ≤ 2 * deque_capacity lists.spots) × (nodes ≤ vec_capacity lists.near) × (lists.around.size ≡ nodes)) }
     {
         Ok(Scratch {
-            spots: Vec::with_capacity(alloc, nodes)?,
+            spots: VecDeque::with_capacity(alloc, nodes - nodes / 2)?,
             near: Vec::with_capacity(alloc, nodes)?,
             around: Waiting::new(alloc, nodes)?,
         })
@@ -61,10 +65,10 @@ impl Pass {
 
     /// Puts a spot at the end of the list.
     pub fn push_spot(&mut self, spot: Spot)
-        requires { length self.old.spots < length self.old.view.run.marks + 1 }
+        requires { 2 * length self.old.spots ≤ length self.old.view.run.marks }
         ensures { self.new ≡ record self.old { spots = self.old.spots ++ spot ∷ [] } }
     {
-        self.scratch.spots.push_reserved(spot);
+        self.scratch.spots.push_back_reserved(spot);
     }
 
     /// Takes the last spot off the list.
@@ -73,22 +77,16 @@ impl Pass {
         ensures popped { self.old.spots ≡ self.new.spots ++ option_to_list result }
         ensures none { result ≡ None → self.old.spots ≡ [] }
     {
-        self.scratch.spots.pop()
+        self.scratch.spots.pop_back()
     }
 
-    /// The spot at this index of the list.
-    pub fn spot(&self, index: usize) -> Spot
-        requires { index < length self.now.spots }
-        ensures { slice_get self.now.spots index ≡ Some result }
+    /// Takes the first spot off the list.
+    pub fn take_first_spot(&mut self) -> Option<Spot>
+        ensures others { self.new ≡ record self.old { spots = self.new.spots } }
+        ensures taken { self.old.spots ≡ option_to_list result ++ self.new.spots }
+        ensures none { result ≡ None → self.old.spots ≡ [] }
     {
-        self.scratch.spots[index]
-    }
-
-    /// How many spots are on the list.
-    pub fn spot_count(&self) -> usize
-        ensures { result ≡ length self.now.spots }
-    {
-        self.scratch.spots.len()
+        self.scratch.spots.pop_front()
     }
 
     /// Empties the near list.
@@ -121,6 +119,23 @@ impl Pass {
         ensures { result.now ≡ self.now.near }
     {
         self.scratch.near.as_slice()
+    }
+
+    /// The node at this index of the near list. Whoever steps with the pass while it walks the list reads it by index.
+    pub fn near_node(&self, index: usize) -> u32
+        requires { index < length self.now.near }
+        ensures { slice_get self.now.near index ≡ Some result }
+    {
+        self.scratch.near[index]
+    }
+
+    /// How many nodes are on the near list.
+    pub fn near_count(&self) -> usize
+        ensures count { result ≡ length self.now.near }
+        // what the law says of a view holds of that of each pass
+        ensures lawful { IsLawfulView self.now.view }
+    {
+        self.scratch.near.len()
     }
 
     /// The nodes that the last search around a point found, in rising number. It leaves the near list as it is.

@@ -1,34 +1,30 @@
 -- What a worker may record in its first turn, when the start alone is its own node: that a node was placed below it.
-use Rattle.std.proofs.Common.{◌≡◌, ◌≢◌, ℕ, zero, suc, ◌+◌, ◌*◌, ◌<◌, ◌≤◌, ◌^◌, Bool, true, false, Option, Some, None, length, inl, inr, refl, sym, ap, ◌∙◌, subst, arith}
+use Rattle.std.proofs.Common.{◌≡◌, ◌≢◌, ℕ, zero, suc, ◌+◌, ◌≤◌, ◌^◌, Bool, true, false, Option, Some, None, length, inl, inr, refl, sym, ap, ◌∙◌, subst, arith}
 use Rattle.std.specs.Prelude.{◌==◌, ◌&&◌, IfErr, IfOk, IfSome, IsTrue, Result, Ok, Err, nat_lt}
-use Rattle.std.specs.Int.{abs_diff}
 use Rattle.std.proofs.lemmas.Bool.{and_parts, cases_Bool, cases_lt, le-ltb}
 use Rattle.std.proofs.lemmas.List.Sums.{length-filter}
 use Rattle.plan_model.specs.Clearance.{Clear}
 use Rattle.plan_model.specs.ClosedLaw.{mark_at}
 use Rattle.plan_model.specs.ConfigurationSpace.{space_of}
 use Rattle.plan_model.specs.Cost.{cost_of}
-use Rattle.plan_model.specs.Geometry.{squared_distance}
 use Rattle.plan_model.specs.LeastPairs.{IsNotAbove}
 use Rattle.plan_model.specs.Nearness.{distance_to}
 use Rattle.plan_model.specs.Outcomes.{is_placed}
 use Rattle.plan_model.specs.PointsByNumber.{IsPresent, point_of}
 use Rattle.plan_model.specs.Radius.{class_of}
 use Rattle.plan_model.specs.RecordLaw.{is_earlier_record}
-use Rattle.plan_model.specs.Steering.{steered}
 use Rattle.plan_model.specs.declared.geometry.Point.{Point}
-use Rattle.plan_model.specs.declared.records.Outcome.TheVariants.{Placed, Same}
+use Rattle.plan_model.specs.declared.records.Outcome.TheVariants.{Placed}
 use Rattle.plan_model.specs.declared.records.Record.{Record}
 use Rattle.plan_model.proofs.ClassLaws.{below_digits, class_from_powers}
 use Rattle.plan_model.proofs.CountsBelow.{count-single}
 use Rattle.plan_model.proofs.NewNodes.{IsPresent-stands, point_of-stands}
-use Rattle.plan_model.proofs.SteeringLaws.{steered-near}
 use Rattle.plan_words.specs.States.{PassState, SharedState, run_in, with_view}
 use Rattle.plan_words.proofs.HandSteps.{at_hand}
 use Rattle.plan_words.proofs.KeptPairs.{if_hand}
 use Rattle.step_core.specs.GrownWords.{record_at}
 use Rattle.step_core.specs.LaterViews.{IsLater, IsLawfulView}
-use Rattle.step_core.specs.SeenRecords.{IsOwnNeighbour, MayBePlaced, MayEnd, MayRecord, is_own, own_count, own_first_cost}
+use Rattle.step_core.specs.SeenRecords.{MayBePlaced, MayEnd, MayRecord, is_own, own_count, own_first_cost}
 use Rattle.step_core.specs.ViewSteps.{counted, linked, loaded}
 use Rattle.step_core.specs.ViewTrees.{SeesPoint}
 use Rattle.step_core.specs.Views.{sees, setup_in, tree_seen}

@@ -1,4 +1,4 @@
-use Rattle.std.proofs.Common.{◌+◌, [], ◌∷◌, ◌++◌, false, arith, refl, ap, ◌∙◌, subst, inl, inr}
+use Rattle.std.proofs.Common.{◌+◌, not, [], ◌∷◌, ◌++◌, false, arith, refl, ap, ◌∙◌, subst, inl, inr}
 use Rattle.plan_words.specs.States.{PassState}
 use Rattle.plan_words.specs.declared.scratch.Spot.{Spot}
 use Rattle.step_core.specs.WordNames.Word.{PointOf}
@@ -86,9 +86,12 @@ stack_child-requires-clause-room c =
     c.visits.invariant.seeks c.pop_spot.new.self c.pop_spot.ensures.others in
     let load = PassLooks-load c.args.shared.now c.pop_spot.new.self c.point-here-then-square-best.new.pass (PointOf c.in-Some.spot.node) _ _ popped tt
     c.point-here-then-square-best.ensures.view c.point-here-then-square-best.ensures.goes_on c.point-here-then-square-best.ensures.seen in
+    let point = LoadsPoint-point c.pop_spot.new.self.view c.point-here-then-square-best.new.pass.view c.in-Some.spot.node
+    c.point-here-then-square-best.ensures.goes_on c.point-here-then-square-best.result c.point-here-then-square-best.ensures.found
+    c.point-here-then-square-best.ensures.seen.others in
     looked_room c.args.shared.now c.args.pass.now c.visits.pass c.args.p c.visits.best.distance c.visits.best.node c.visits._visit
     c.visits.invariant.seeks c.pop_spot.new.self c.pop_spot.ensures.others c.in-Some.spot c.in-Some.ensures.popped
-    c.point-here-then-square-best.new.pass load
+    c.point-here-then-square-best.new.pass c.point-here-then-square-best.result (not c.goes_right-right.result) load point
 
 -- and then its children
 pub stack_child-requires-then-square-best-clause-seen : goal.stack_child-requires-then-square-best-clause-seen

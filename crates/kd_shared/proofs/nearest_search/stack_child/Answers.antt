@@ -1,11 +1,22 @@
-use Rattle.std.proofs.Common.{not, [], ◌∷◌, ◌++◌, Some, None, refl, sym, ap, ◌∙◌, subst}
+use Rattle.std.proofs.Common.{not, [], ◌∷◌, ◌++◌, length, Some, None, arith, refl, sym, ap, ◌∙◌, subst}
 use Rattle.plan_words.specs.States.{PassState}
 use Rattle.plan_words.specs.declared.scratch.Spot.{Spot}
 use Rattle.step_core.specs.ViewTrees.{sight_in}
 use Rattle.kd_shared.specs.Spots.{StacksChild}
 use Rattle.kd_shared.proofs.LoadedChildren.{StacksChild-none, StacksChild-some}
-use Rattle.kd_shared.proofs.Looking.{LoadsChild-child}
+use Rattle.kd_shared.proofs.Looking.{LoadsChild-child, keeps_sight, later_moment, within_marks}
 use Rattle.kd_shared.proofs.nearest_search.stack_child.Goals as goal
+
+pub push_spot-requires : goal.push_spot-requires
+push_spot-requires c =
+    let goes_on = c.child.ensures.goes_on in
+    let room = c.requires.room (sight_in c.child.new.pass.view) c.in-Some.child
+    (later_moment c.args.pass.now.view c.child.new.pass.view c.args.spot.node goes_on)
+    (keeps_sight c.args.pass.now.view c.child.new.pass.view c.args.spot.node goes_on)
+    (within_marks c.args.pass.now.view c.child.new.pass.view goes_on) c.in-Some.ensures.found.0 in
+    let spots = ap (λ (p : PassState). length p.spots) c.child.ensures.view in
+    let marks = ap (λ run. length run.marks) goes_on.later.run in
+    omega (arith, room, spots, marks)
 
 pub returns-in_default-clause-stacks : goal.returns-in_default-clause-stacks
 returns-in_default-clause-stacks c =

@@ -1,0 +1,154 @@
+-- The choice of the best parent among nodes whose costs were seen.
+use Rattle.std.proofs.Common.{◌≡◌, ℕ, ◌+◌, ◌≤◌, ◌*◌, List, ◌∷◌, [], ◌++◌, Some, take, inl, inr, arith, refl, sym, ap, ◌∙◌, subst}
+use Rattle.std.specs.Prelude.{All, Contains, slice_get}
+use Rattle.std.proofs.lemmas.List.{take_more}
+use Rattle.std.proofs.lemmas.List.Elements.{All-contains, All-push, Contains-get_or}
+use Rattle.std.proofs.lemmas.Option.{get_or_from_slice_get, slice_get_within}
+use Rattle.edge_cost.specs.LeastParents.{IsLeastParent}
+use Rattle.edge_cost.specs.declared.parents.Parent.{Parent}
+use Rattle.plan_model.specs.declared.geometry.Point.{Point}
+use Rattle.plan_model.specs.Clearance.{Clear}
+use Rattle.plan_model.specs.ConfigurationSpace.{ConfigurationSpace, space_of}
+use Rattle.plan_model.specs.Cost.{cost_of}
+use Rattle.plan_model.specs.Geometry.{squared_distance}
+use Rattle.plan_model.specs.LeastPairs.{IsFirstLeast, IsNotAbove}
+use Rattle.plan_model.specs.OpenNodes.{IsOpenTo}
+use Rattle.plan_model.specs.PointsByNumber.{IsPresent, point_of}
+use Rattle.plan_model.proofs.NewNodes.{StandsAt-present}
+use Rattle.plan_model.proofs.ParentChoices.{IsFirstLeast-keeps, IsFirstLeast-takes}
+use Rattle.plan_words.specs.States.{GoesOn, SharedState, run_in}
+use Rattle.step_core.specs.ViewTrees.{IsCostBelow, SeesPoint}
+use Rattle.step_core.specs.Views.{setup_in, tree_seen}
+use Rattle.step_core.specs.declared.views.View.{View}
+use Rattle.step_core.proofs.SeenViews.{IsPresent-later}
+use Rattle.tree_rewire.specs.Choices.{IsBetter}
+use Rattle.tree_rewire.specs.SeenCosts.{IsInReach, IsNoWord, SeesAnew, SeesPair, cost_seen, cost_through}
+use Rattle.tree_rewire.proofs.CostSteps.{cost_through-same, point_of-same}
+use Rattle.tree_rewire.proofs.SeenCosts.{point_later}
+
+-- what holds of all on a list holds of the one that is read
+pub All-read : (P : ℕ → Type 0) (ns : List ℕ) (i n : ℕ) → slice_get ns i ≡ Some n → All P ns → P n
+All-read P ns i n read all =
+    All-contains P ns n all
+    (subst (Contains ns) (get_or_from_slice_get ns i n 0 read) (Contains-get_or ns i 0 (slice_get_within ns i n read)))
+
+-- and so of one that is read of the same list later
+pub near_read : (P : ℕ → Type 0) (ns now : List ℕ) (i n : ℕ) → now ≡ ns → slice_get now i ≡ Some n → All P ns → P n
+near_read P ns now i n same read all = All-read P ns i n (ap (λ ms. slice_get ms i) (sym same) ∙ read) all
+
+-- the first i on a list, and the one that is read there
+pub take_read : (ns now : List ℕ) (i n : ℕ) → now ≡ ns → slice_get now i ≡ Some n → take (i + 1) ns ≡ take i ns ++ n ∷ []
+take_read ns now i n same read =
+    let here : slice_get ns i ≡ Some n = ap (λ ms. slice_get ms i) (sym same) ∙ read in
+    take_more ns i 0 (slice_get_within ns i n here) ∙ ap (λ m. take i ns ++ m ∷ []) (get_or_from_slice_get ns i n 0 here)
+
+-- one more
+pub All-more : (P : ℕ → Type 0) (ns more : List ℕ) (n : ℕ) → more ≡ ns ++ n ∷ [] → All P ns → P n → All P more
+All-more P ns more n e all here = subst (All P) (sym e) (All-push P ns n all here)
+
+-- the cost through a node, by its cost seen and its point that was loaded
+pub read_through : (before after : View) (p from : Point) (n cost : ℕ) → GoesOn before after → IsPresent (tree_seen before).points n
+    → SeesPoint after n from → cost ≡ cost_seen before n → cost + cost_of from p ≡ cost_through before p n
+read_through before after p from n cost goes_on present found cost_is =
+    omega (arith, cost_is, ap (λ q. cost_of q p) (point_later before after goes_on n from present found))
+
+-- ---- if no word is seen anew, all is as it was
+
+module _ (space : ConfigurationSpace) (before after : View) (same : SeesAnew IsNoWord before after) (p : Point) where
+  IsNotAbove-before : (m n : ℕ) → IsNotAbove (cost_through after p) m n → IsNotAbove (cost_through before p) m n
+  IsNotAbove-before m n h = record {
+    least = omega (arith, h.least, cost_through-same before after same p m, cost_through-same before after same p n);
+    first = λ e. h.first (omega (arith, e, cost_through-same before after same p m, cost_through-same before after same p n));
+  }
+
+  IsNotAbove-after : (m n : ℕ) → IsNotAbove (cost_through before p) m n → IsNotAbove (cost_through after p) m n
+  IsNotAbove-after m n h = record {
+    least = omega (arith, h.least, cost_through-same before after same p m, cost_through-same before after same p n);
+    first = λ e. h.first (omega (arith, e, cost_through-same before after same p m, cost_through-same before after same p n));
+  }
+
+  pub clear_before : (n : ℕ) → Clear space (point_of (tree_seen after).points n) p → Clear space (point_of (tree_seen before).points n) p
+  clear_before n = subst (λ q. Clear space q p) (point_of-same before after same n)
+
+  pub clear_after : (n : ℕ) → Clear space (point_of (tree_seen before).points n) p → Clear space (point_of (tree_seen after).points n) p
+  clear_after n = subst (λ q. Clear space q p) (sym (point_of-same before after same n))
+
+  -- the better of two then was so before
+  IsBetter-before : (best : Parent) (n : ℕ) (better : Parent) → IsBetter space after p best n better → IsBetter space before p best n better
+  IsBetter-before best n better (inl wins) = inl (record {
+    node = wins.node;
+    cost = wins.cost ∙ cost_through-same before after same p n;
+    clear = clear_before n wins.clear;
+    not_above = IsNotAbove-before n best.node wins.not_above;
+  })
+  IsBetter-before best n better (inr stays) = inr (record {
+    same = stays.same;
+    not_above = λ clear. IsNotAbove-before best.node n (stays.not_above (clear_after n clear));
+  })
+
+  -- the best then is so still
+  pub IsFirstLeast-after : (among : List ℕ) (m : ℕ) → IsFirstLeast (cost_through before p) (IsOpenTo space (tree_seen before).points p among) m
+      → IsFirstLeast (cost_through after p) (IsOpenTo space (tree_seen after).points p among) m
+  IsFirstLeast-after among m h = record {
+    member = record { one_of = h.member.one_of; clear = clear_after m h.member.clear };
+    not_above = λ i own. IsNotAbove-after m i (h.not_above i (record { one_of = own.one_of; clear = clear_before i own.clear }));
+  }
+
+  -- the better of the best so far and one node more is the best of all these
+  pub IsLeastParent-better : (among more : List ℕ) (n : ℕ) (best better : Parent) → more ≡ among ++ n ∷ []
+      → IsLeastParent (cost_through before p) (IsOpenTo space (tree_seen before).points p among) best → IsBetter space after p best n better
+      → IsLeastParent (cost_through before p) (IsOpenTo space (tree_seen before).points p more) better
+  IsLeastParent-better among more n best better e h one = by_case (IsBetter-before best n better one)
+    where
+      by_case : IsBetter space before p best n better → IsLeastParent (cost_through before p) (IsOpenTo space (tree_seen before).points p more) better
+      by_case (inl wins) = record {
+        least = subst (IsFirstLeast (cost_through before p) (IsOpenTo space (tree_seen before).points p more)) (sym wins.node)
+            (IsFirstLeast-takes space (tree_seen before).points p (cost_through before p) among more n best.node e wins.clear wins.not_above h.least);
+        cost = wins.cost ∙ ap (cost_through before p) (sym wins.node);
+      }
+      by_case (inr stays) = record {
+        least = subst (λ (b : Parent). IsFirstLeast (cost_through before p) (IsOpenTo space (tree_seen before).points p more) b.node) (sym stays.same)
+            (IsFirstLeast-keeps space (tree_seen before).points p (cost_through before p) among more n best.node e stays.not_above h.least);
+        cost = ap (λ (b : Parent). b.cost) stays.same ∙ h.cost ∙ ap (λ (b : Parent). cost_through before p b.node) (sym stays.same);
+      }
+
+-- ---- the new node may hang below the best
+
+-- nodes in reach are present
+pub All-present : (view : View) (p : Point) (ns : List ℕ) → All (IsInReach view p) ns → All (IsPresent (tree_seen view).points) ns
+All-present view p ns all = λ k d below. (all k d below).present
+
+-- a node that is present stays where it is
+pub points_later : (before after : View) (n : ℕ) → GoesOn before after → IsPresent (tree_seen before).points n
+    → point_of (tree_seen after).points n ≡ point_of (tree_seen before).points n
+points_later before after n goes_on present =
+    point_later before after goes_on n (point_of (tree_seen after).points n) present
+    (StandsAt-present (tree_seen after).points n (IsPresent-later before after goes_on.later.run goes_on.later.seen n present))
+
+pub IsInReach-later : (before after : View) (p : Point) (n : ℕ) → GoesOn before after → IsInReach before p n → IsInReach after p n
+IsInReach-later before after p n goes_on h =
+    record {
+      present = IsPresent-later before after goes_on.later.run goes_on.later.seen n h.present;
+      short = subst (λ q. squared_distance q p ≤ after.run.step * after.run.step) (sym (points_later before after n goes_on h.present))
+          (subst (λ r. squared_distance (point_of (tree_seen before).points n) p ≤ r.step * r.step) (sym goes_on.later.run) h.short);
+    }
+
+pub IsCostBelow-best : (shared : SharedState) (before after : View) (p : Point) (among : List ℕ) (m cost : ℕ) → after.run ≡ run_in shared
+    → GoesOn before after → All (IsInReach before p) among → All (SeesPair after) among
+    → IsOpenTo (space_of shared.task.scene) (tree_seen after).points p among m → cost ≡ cost_through after p m → IsCostBelow after p m cost
+IsCostBelow-best shared before after p among m cost own goes_on reach pairs is_open cost_is =
+    let here = IsInReach-later before after p m goes_on (All-contains (IsInReach before p) among m reach is_open.one_of) in
+    record {
+      from = point_of (tree_seen after).points m;
+      parent_cost = cost_seen after m;
+      seen = record {
+        stands = StandsAt-present (tree_seen after).points m here.present;
+        written = All-contains (SeesPair after) among m pairs is_open.one_of;
+        cost_is = refl;
+      };
+      edge = record {
+        clear = subst (λ r. Clear (setup_in r).space (point_of (tree_seen after).points m) p) (sym own) is_open.clear;
+        short = here.short;
+      };
+      cost_is = cost_is;
+    }

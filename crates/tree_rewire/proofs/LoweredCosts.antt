@@ -1,0 +1,78 @@
+-- When a cost may be lowered, and when it need not.
+use Rattle.std.proofs.Common.{◌≡◌, ℕ, ◌+◌, ◌<◌, ◌≤◌, is_some, arith, inl, inr, refl, sym, ap, ◌∙◌, subst}
+use Rattle.std.proofs.lemmas.Bool.{cases_eq}
+use Rattle.plan_model.specs.declared.geometry.Point.{Point}
+use Rattle.plan_model.specs.Cost.{cost_of}
+use Rattle.plan_model.specs.OrderLaw.{IsAllowedEdge}
+use Rattle.plan_model.specs.PointsByNumber.{IsPresent, point_of}
+use Rattle.plan_model.proofs.NewNodes.{point_of-stands}
+use Rattle.plan_words.specs.Parents.{IsPairIn}
+use Rattle.step_core.specs.LaterViews.{IsLawfulView}
+use Rattle.step_core.specs.ViewTrees.{MayLower, SeesPoint}
+use Rattle.step_core.specs.Views.{sees, setup_in, tree_seen}
+use Rattle.step_core.specs.WordNames.Word.{TreeOf}
+use Rattle.step_core.specs.Words.{cost_in, parent_in}
+use Rattle.step_core.specs.declared.views.View.{View}
+use Rattle.tree_rewire.specs.SeenCosts.{SeesPair, cost_seen, cost_through, parent_seen}
+use Rattle.tree_rewire.specs.Spreads.{IsSettled}
+
+-- a node may be lowered to less than it was seen to cost, through a seen parent over an allowed edge
+pub MayLower-less : (view : View) (n parent cost : ℕ) (at from : Point) → SeesPoint view n at → SeesPair view n → SeesPoint view parent from
+    → SeesPair view parent → IsAllowedEdge (setup_in view.run) from at → cost ≡ cost_seen view parent + cost_of from at → cost < cost_seen view n
+    → MayLower view n parent cost
+MayLower-less view n parent cost at from stands written parent_stands parent_written edge cost_is less = record {
+  at = at;
+  old_cost = cost_seen view n;
+  seen = record { stands = stands; written = written; cost_is = refl };
+  below = record {
+    from = from;
+    parent_cost = cost_seen view parent;
+    seen = record { stands = parent_stands; written = parent_written; cost_is = refl };
+    edge = edge;
+    cost_is = cost_is;
+  };
+  cheaper = less;
+}
+
+-- A node and its parent, as they were seen before their points were loaded.
+module _ (before after : View) (n parent kept above grand : ℕ) (here there : Point) (lawful : IsLawfulView after)
+    (same : (m : ℕ) → sees after (TreeOf m) ≡ sees before (TreeOf m)) (pair : IsPairIn (sees before (TreeOf n)) (parent, kept))
+    (parent_pair : IsPairIn (sees before (TreeOf parent)) (grand, above)) (stands : SeesPoint after n here) (parent_stands : SeesPoint after parent there) where
+  parent_is : parent_seen after n ≡ parent
+  parent_is = ap parent_in (same n) ∙ sym pair.parent
+
+  kept_is : cost_seen after n ≡ kept
+  kept_is = ap cost_in (same n) ∙ sym pair.cost
+
+  above_is : cost_seen after parent ≡ above
+  above_is = ap cost_in (same parent) ∙ sym parent_pair.cost
+
+  written : SeesPair after n
+  written = omega (arith, same n, pair.written)
+
+  -- it may be lowered if it is cheaper through its parent
+  pub MayLower-parent : (cost : ℕ) → cost ≡ above + cost_of there here → cost < kept → MayLower after n parent cost
+  MayLower-parent cost cost_is less =
+      let child : 0 < n = elim (cases_eq n 0) [
+        | inl start ↦ absurd (omega (arith, less, kept_is, ((lawful.pairs n written).start start).1))
+        | inr other ↦ omega (arith, other)
+      ] in
+      MayLower-less after n parent cost here there stands written parent_stands (omega (arith, same parent, parent_pair.written))
+      ((lawful.pairs n written).edge child here there stands (subst (λ m. SeesPoint after m there) (sym parent_is) parent_stands))
+      (omega (arith, cost_is, above_is)) (omega (arith, less, kept_is))
+
+  -- and else it is settled
+  pub IsSettled-parent : kept ≤ above + cost_of there here → IsSettled after n
+  IsSettled-parent most seen = record {
+    stands = ap is_some stands;
+    parent_stands = subst (λ m. IsPresent (tree_seen after).points m) (sym parent_is) (ap is_some parent_stands);
+    most = subst (λ m. cost_seen after n ≤ cost_through after (point_of (tree_seen after).points n) m) (sym parent_is)
+        (omega (
+          arith,
+          most,
+          kept_is,
+          above_is,
+          ap (λ q. cost_of q (point_of (tree_seen after).points n)) (point_of-stands (tree_seen after).points parent there parent_stands),
+          ap (cost_of there) (point_of-stands (tree_seen after).points n here stands),
+        ));
+  }

@@ -1,0 +1,43 @@
+use Rattle.std.proofs.Common.{arith, ap, subst, take}
+use Rattle.std.specs.Prelude.{All}
+use Rattle.std.proofs.lemmas.List.{take_all}
+use Rattle.std.proofs.lemmas.List.Elements.{All-cons}
+use Rattle.plan_model.specs.PointsByNumber.{IsPresent}
+use Rattle.step_core.specs.Views.{tree_seen}
+use Rattle.step_core.proofs.SeenViews.{IsPresent-later}
+use Rattle.tree_rewire.specs.SeenCosts.{IsTreeWord, SeesPair}
+use Rattle.tree_rewire.proofs.ChosenParents.{All-more, near_read, take_read}
+use Rattle.tree_rewire.proofs.CostSteps.{PassSees-trans, PassSees-tree}
+use Rattle.tree_rewire.proofs.SeenCosts.{SeesNode-present, SeesPair-later}
+use Rattle.tree_rewire.proofs.choosing.load_costs.Goals as goal
+
+pub tree-pair-requires-in-loads-clause-seen_node : goal.tree-pair-requires-in-loads-clause-seen_node
+tree-pair-requires-in-loads-clause-seen_node c =
+    let steps = c.loads.invariant.steps in
+    let goes_on = steps.sees_anew.goes_on in
+    let n = c.near_node-node.result in
+    let present = near_read (IsPresent (tree_seen c.args.pass.now.view).points) c.args.pass.now.near c.loads.pass.near c.loads.index n
+    (ap (λ p. p.near) steps.view_alone) c.near_node-node.ensures c.requires.near in
+    SeesNode-present c.loads.pass.view n goes_on.lawful
+    (IsPresent-later c.args.pass.now.view c.loads.pass.view goes_on.later.run goes_on.later.seen n present)
+
+pub loads-preserved : goal.loads-preserved
+loads-preserved c =
+    let steps = c.loads.invariant.steps in
+    let load = c.tree-pair-in-loads.ensures in
+    let then = c.tree-pair-in-loads.new.pass in
+    let n = c.near_node-node.result in
+    let step = PassSees-tree c.args.shared.now c.loads.pass then n _ _ steps.belongs load.view load.goes_on load.seen in
+    record {
+      steps = PassSees-trans IsTreeWord c.args.shared.now c.args.pass.now c.loads.pass then steps step;
+      first = SeesPair-later c.loads.pass.view then.view load.goes_on c.args.nearest c.loads.invariant.first;
+      earlier = All-more (SeesPair then.view) (take c.loads.index c.args.pass.now.near) _ n
+          (take_read c.args.pass.now.near c.loads.pass.near c.loads.index n (ap (λ p. p.near) steps.view_alone) c.near_node-node.ensures)
+          (λ k d below. SeesPair-later c.loads.pass.view then.view load.goes_on _ (c.loads.invariant.earlier k d below)) load.found.written;
+    }
+
+pub returns-clause-pairs : goal.returns-clause-pairs
+returns-clause-pairs c =
+    let all = take_all c.loads.index c.args.pass.now.near (omega (arith, c.loads-test.false, c.requires.count)) in
+    All-cons (SeesPair c.loads.pass.view) c.args.nearest c.args.pass.now.near c.loads.invariant.first
+    (subst (All (SeesPair c.loads.pass.view)) all c.loads.invariant.earlier)

@@ -1,0 +1,10 @@
+use Rattle.std.proofs.Common.{All, take}
+use Rattle.tree_rewire.specs.SeenCosts.{IsTreeWord, PassSees, SeesPair}
+use Rattle.tree_rewire.proofs.choosing.load_costs.Given as goal
+
+abbrev pub invariant-loads : goal.invariant-loads
+invariant-loads l = record {
+  steps : PassSees IsTreeWord l.shared l.fn.pass l.pass;
+  first : SeesPair l.pass.view l.nearest;
+  earlier : All (SeesPair l.pass.view) (take l.index l.fn.pass.near);
+}

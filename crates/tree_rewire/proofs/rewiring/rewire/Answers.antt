@@ -1,0 +1,70 @@
+use Rattle.std.proofs.Common.{◌+◌, arith, subst, take}
+use Rattle.std.specs.Prelude.{All}
+use Rattle.std.proofs.lemmas.List.{take_all}
+use Rattle.plan_model.specs.ConfigurationSpace.{space_of}
+use Rattle.plan_words.proofs.HandSteps.{some_hand}
+use Rattle.tree_rewire.specs.SeenCosts.{IsInReach, SeesPair, cost_seen}
+use Rattle.tree_rewire.proofs.ChosenParents.{All-more, IsInReach-later, near_read, take_read}
+use Rattle.tree_rewire.proofs.CostSteps.{PassLowers-trans}
+use Rattle.tree_rewire.proofs.RewiredNodes.{IsRewired, IsRewired-later, IsRewired-looked, all_rewired, placed_near, placed_pair, placed_stands}
+use Rattle.tree_rewire.proofs.SeenCosts.{stands_later}
+use Rattle.tree_rewire.proofs.rewiring.rewire.Given.{Over}
+use Rattle.tree_rewire.proofs.rewiring.rewire.Goals as goal
+use Rattle.tree_rewire.proofs.rewiring.rewire.Goals.{After-near_node-node}
+
+-- the near node is in reach
+reach : (g : Over) (c : After-near_node-node g) → IsInReach c.args.pass.now.view c.hand_point-from.result c.near_node-node.result
+reach g c =
+    let held = some_hand c.args.pass.now.view.hand c.requires.hand in
+    near_read (IsInReach c.args.pass.now.view c.hand_point-from.result) c.args.pass.now.near c.nodes.pass.near c.nodes.index c.near_node-node.result
+    c.nodes.invariant.steps.near c.near_node-node.ensures
+    (placed_near c.args.pass.now.view c.args.k c.hand_point-from.result held.0 held.1 c.requires.placed c.hand_point-from.ensures c.args.pass.now.near
+    c.requires.near)
+
+pub rewire_node-requires-clause-parent : goal.rewire_node-requires-clause-parent
+rewire_node-requires-clause-parent g c κs within =
+    let held = some_hand c.args.pass.now.view.hand c.requires.hand in
+    stands_later c.args.pass.now.view c.nodes.pass.view c.nodes.invariant.steps.sees_anew.goes_on (c.args.k + 1) c.hand_point-from.result
+    (placed_stands c.args.pass.now.view c.args.k c.hand_point-from.result held.0 held.1 c.requires.placed c.hand_point-from.ensures)
+
+pub rewire_node-requires-clause-reach : goal.rewire_node-requires-clause-reach
+rewire_node-requires-clause-reach g c κs within =
+    IsInReach-later c.args.pass.now.view c.nodes.pass.view c.hand_point-from.result c.near_node-node.result
+    c.nodes.invariant.steps.sees_anew.goes_on (reach g (goal.at.rewire_node-requires-clause-reach g c).After-near_node-node)
+
+pub nodes-preserved : goal.nodes-preserved
+nodes-preserved g c =
+    let h = c.nodes.invariant in
+    let space = g.C.Clearing.space c.args.hall.now in
+    let before = c.args.pass.now.view in
+    let new = c.rewire_node.new.pass in
+    let from = c.hand_point-from.result in
+    let n = c.near_node-node.result in
+    let done = c.rewire_node.ensures in
+    let held = some_hand before.hand c.requires.hand in
+    record {
+      steps = PassLowers-trans c.args.shared.now c.args.pass.now c.nodes.pass new h.steps done.steps;
+      earlier = All-more (IsRewired space before new.view from (cost_seen before (c.args.k + 1))) (take c.nodes.index c.args.pass.now.near) _ n
+          (take_read c.args.pass.now.near c.nodes.pass.near c.nodes.index n h.steps.near c.near_node-node.ensures)
+          (λ k d below. IsRewired-later space before c.nodes.pass.view new.view from _ _ done.steps.sees_anew.goes_on (h.earlier k d below))
+          (IsRewired-looked space before c.nodes.pass.view new.view from (c.args.k + 1) n h.steps.sees_anew.goes_on
+          (reach g (goal.at.nodes-preserved g c).After-near_node-node).present
+          (placed_pair before c.args.k from held.0 held.1 c.requires.placed c.hand_point-from.ensures) done.pair done.rewired);
+    }
+
+pub returns-clause-pairs : goal.returns-clause-pairs
+returns-clause-pairs g c =
+    let all = take_all c.nodes.index c.args.pass.now.near (omega (arith, c.nodes-test.false, c.near_count-count.ensures.count)) in
+    subst (All (SeesPair c.nodes.pass.view)) all (λ k d below. (c.nodes.invariant.earlier k d below).pair)
+
+pub returns-clause-rewired : goal.returns-clause-rewired
+returns-clause-rewired g c =
+    let before = c.args.pass.now.view in
+    let from = c.hand_point-from.result in
+    let all = take_all c.nodes.index c.args.pass.now.near (omega (arith, c.nodes-test.false, c.near_count-count.ensures.count)) in
+    let held = some_hand before.hand c.requires.hand in
+    let own = subst (λ s. All (IsRewired s before c.nodes.pass.view from (cost_seen before (c.args.k + 1))) (take c.nodes.index c.args.pass.now.near))
+    c.requires.hall c.nodes.invariant.earlier in
+    all_rewired before c.args.k from held.0 held.1 c.requires.placed c.hand_point-from.ensures (space_of c.args.shared.now.task.scene)
+    c.nodes.pass.view c.args.pass.now.near c.near_count-count.ensures.lawful
+    (subst (All (IsRewired (space_of c.args.shared.now.task.scene) before c.nodes.pass.view from (cost_seen before (c.args.k + 1)))) all own)

@@ -1,0 +1,140 @@
+use Rattle.std.proofs.Common.{◌≡◌, ◌+◌, ◌*◌, ◌≤◌, ap, arith, inl, inr, subst, sym}
+use Rattle.std.proofs.lemmas.Bool.{cases_lt}
+use Rattle.plan_model.specs.Clearance.{Clear}
+use Rattle.plan_model.specs.Cost.{cost_of}
+use Rattle.plan_model.specs.Geometry.{squared_distance}
+use Rattle.plan_model.specs.PointsByNumber.{point_of}
+use Rattle.plan_model.proofs.NearNodes.{squared_distance-swap}
+use Rattle.step_core.specs.Views.{setup_in, tree_seen}
+use Rattle.step_core.specs.WordNames.Word.{TreeOf}
+use Rattle.step_core.specs.Words.{cost_in}
+use Rattle.step_core.proofs.LawfulSights.{IsBounded-seen}
+use Rattle.step_core.proofs.SeenViews.{IsPresent-later}
+use Rattle.tree_rewire.specs.SeenCosts.{IsNoWord, IsTreeOrPoint, IsTreeWord, PassLowers, PassSees}
+use Rattle.tree_rewire.proofs.CostSteps.{PassLowers-sees, PassLowers-trans, PassSees-more, PassSees-point, PassSees-trans, PassSees-tree, TreeOrPoint-tree}
+use Rattle.tree_rewire.proofs.SeenCosts.{SeesPair-later, cost_seen-later, point_later, stands_later}
+use Rattle.tree_rewire.proofs.rewiring.rewire_node.Given.{Over}
+use Rattle.tree_rewire.proofs.rewiring.rewire_node.Goals as goal
+use Rattle.tree_rewire.proofs.rewiring.rewire_node.Goals.{After-seen_cost}
+use Rattle.tree_rewire.proofs.rewiring.rewire_node.Goals.{else-costs_less_through-via-then-costs_less_through+else-clear, else-costs_less_through-via-else-costs_less_through}
+
+-- the point of the node is loaded again
+loads_point : (g : Over) (c : After-seen_cost g) → PassSees IsNoWord c.args.shared.now c.tree-kept_cost.new.pass c.point-to.new.pass
+loads_point g c =
+    let tree = c.tree-kept_cost.ensures in
+    let one = PassSees-tree c.args.shared.now c.args.pass.now c.tree-kept_cost.new.pass c.args.node _ _ c.requires.belongs tree.view tree.goes_on tree.seen in
+    PassSees-point c.args.shared.now c.tree-kept_cost.new.pass c.point-to.new.pass c.args.node _ _ one.belongs
+    (IsPresent-later c.args.pass.now.view c.tree-kept_cost.new.pass.view tree.goes_on.later.run tree.goes_on.later.seen c.args.node c.requires.reach.present)
+    c.point-to.ensures.view c.point-to.ensures.goes_on c.point-to.ensures.seen
+
+-- its parent and its cost are loaded, and its point
+loads : (g : Over) (c : After-seen_cost g) → PassSees IsTreeWord c.args.shared.now c.args.pass.now c.point-to.new.pass
+loads g c =
+    let tree = c.tree-kept_cost.ensures in
+    let one = PassSees-tree c.args.shared.now c.args.pass.now c.tree-kept_cost.new.pass c.args.node _ _ c.requires.belongs tree.view tree.goes_on tree.seen in
+    PassSees-trans IsTreeWord c.args.shared.now c.args.pass.now c.tree-kept_cost.new.pass c.point-to.new.pass one
+    (PassSees-more IsNoWord IsTreeWord c.args.shared.now c.tree-kept_cost.new.pass c.point-to.new.pass (λ name no. absurd no) (loads_point g c))
+
+-- it is where it was seen
+to_is : (g : Over) (c : After-seen_cost g) → c.point-to.result ≡ point_of (tree_seen c.args.pass.now.view).points c.args.node
+to_is g c =
+    point_later c.args.pass.now.view c.point-to.new.pass.view (loads g c).sees_anew.goes_on c.args.node c.point-to.result c.requires.reach.present
+    c.point-to.ensures.found
+
+pub costs_less_through-requires-clause-from : goal.costs_less_through-requires-clause-from
+costs_less_through-requires-clause-from g c = IsBounded-seen c.args.pass.now.view c.args.parent c.args.from c.requires.parent
+
+pub improve-requires-clause-parent : goal.improve-requires-clause-parent
+improve-requires-clause-parent g c =
+    let to = goal.at.improve-requires-clause-parent g c in
+    stands_later c.args.pass.now.view c.point-to.new.pass.view (loads g to.After-seen_cost).sees_anew.goes_on c.args.parent c.args.from c.requires.parent
+
+pub improve-requires-clause-edge : goal.improve-requires-clause-edge
+improve-requires-clause-edge g c =
+    let to = (goal.at.improve-requires-clause-edge g c).After-seen_cost in
+    let steps = loads g to in
+    let run = steps.sees_anew.goes_on.later.run in
+    record {
+      clear = subst (λ r. Clear (setup_in r).space c.args.from c.point-to.result) (sym steps.belongs.run)
+          (subst (λ s. Clear s c.args.from c.point-to.result) c.requires.hall (c.clear.ensures.0 c.if-clear.true));
+      short = subst (λ r. squared_distance c.args.from c.point-to.result ≤ r.step * r.step) (sym run)
+          (omega (
+            arith,
+            c.requires.reach.short,
+            squared_distance-swap c.args.from c.point-to.result,
+            ap (λ q. squared_distance q c.args.from) (to_is g to),
+          ));
+    }
+
+pub improve-requires-clause-from : goal.improve-requires-clause-from
+improve-requires-clause-from g c = IsBounded-seen c.args.pass.now.view c.args.parent c.args.from c.requires.parent
+
+pub spread-requires-clause-pair : goal.spread-requires-clause-pair
+spread-requires-clause-pair g c =
+    SeesPair-later c.point-to.new.pass.view c.improve.new.pass.view c.improve.ensures.steps.sees_anew.goes_on c.args.node
+    (SeesPair-later c.tree-kept_cost.new.pass.view c.point-to.new.pass.view c.point-to.ensures.goes_on c.args.node c.tree-kept_cost.ensures.found.written)
+
+pub returns-then-clear-clause-steps : goal.returns-then-clear-clause-steps
+returns-then-clear-clause-steps g c =
+    let to = (goal.at.returns-then-clear-clause-steps g c).After-seen_cost in
+    let shared = c.args.shared.now in
+    let lowers = PassSees-trans IsTreeWord shared c.args.pass.now c.point-to.new.pass c.improve.new.pass (loads g to) c.improve.ensures.steps in
+    let spreads : PassLowers shared c.improve.new.pass c.spread.new.pass = record {
+      belongs = c.spread.ensures.belongs;
+      sees_anew = c.spread.ensures.seen;
+      near = c.spread.ensures.lists.0;
+      spots = c.spread.ensures.lists.1;
+    } in
+    PassLowers-trans shared c.args.pass.now c.improve.new.pass c.spread.new.pass
+    (PassLowers-sees shared c.args.pass.now c.improve.new.pass
+    (PassSees-more IsTreeWord IsTreeOrPoint shared c.args.pass.now c.improve.new.pass TreeOrPoint-tree lowers))
+    spreads
+
+pub returns-then-clear-clause-pair : goal.returns-then-clear-clause-pair
+returns-then-clear-clause-pair g c =
+    SeesPair-later c.improve.new.pass.view c.spread.new.pass.view c.spread.ensures.seen.goes_on c.args.node
+    (SeesPair-later c.point-to.new.pass.view c.improve.new.pass.view c.improve.ensures.steps.sees_anew.goes_on c.args.node
+    (SeesPair-later c.tree-kept_cost.new.pass.view c.point-to.new.pass.view c.point-to.ensures.goes_on c.args.node c.tree-kept_cost.ensures.found.written))
+
+pub returns-then-clear-clause-rewired : goal.returns-then-clear-clause-rewired
+returns-then-clear-clause-rewired g c =
+    let to = (goal.at.returns-then-clear-clause-rewired g c).After-seen_cost in
+    let pair = SeesPair-later c.point-to.new.pass.view c.improve.new.pass.view c.improve.ensures.steps.sees_anew.goes_on c.args.node
+    (SeesPair-later c.tree-kept_cost.new.pass.view c.point-to.new.pass.view c.point-to.ensures.goes_on c.args.node c.tree-kept_cost.ensures.found.written) in
+    λ clear.
+    omega (
+      arith,
+      c.improve.ensures.most,
+      cost_seen-later c.improve.new.pass.view c.spread.new.pass.view c.spread.ensures.seen.goes_on c.args.node pair,
+      cost_seen-later c.args.pass.now.view c.point-to.new.pass.view (loads g to).sees_anew.goes_on c.args.parent c.requires.parent_pair,
+      ap (cost_of c.args.from) (to_is g to),
+    )
+
+pub returns-else-costs_less_through-clause-steps : goal.returns-else-costs_less_through-clause-steps
+returns-else-costs_less_through-clause-steps g c =
+    let to = (goal.at.returns-else-costs_less_through-clause-steps g c).After-seen_cost in
+    PassLowers-sees c.args.shared.now c.args.pass.now c.point-to.new.pass
+    (PassSees-more IsTreeWord IsTreeOrPoint c.args.shared.now c.args.pass.now c.point-to.new.pass TreeOrPoint-tree (loads g to))
+
+pub returns-else-costs_less_through-clause-rewired : goal.returns-else-costs_less_through-clause-rewired
+returns-else-costs_less_through-clause-rewired g c =
+    let to = (goal.at.returns-else-costs_less_through-clause-rewired g c).After-seen_cost in
+    let to_is = to_is g to in
+    λ clear. elim c.else-costs_less_through.branch [
+      | else-costs_less_through-via-then-costs_less_through+else-clear w ↦
+          absurd (let yes = w.clear.ensures.1 (subst (Clear (g.C.Clearing.space c.args.hall.now) c.args.from) (sym to_is) clear) in cc)
+      | else-costs_less_through-via-else-costs_less_through w ↦
+          elim (cases_lt (c.seen_cost.result + cost_of c.args.from c.point-to.result) c.tree-kept_cost.result.1) [
+            | inl less ↦ absurd (let yes = c.costs_less_through.ensures.1 less in let no = w.if-costs_less_through.false in cc)
+            | inr most ↦
+                omega (
+                  arith,
+                  most,
+                  c.tree-kept_cost.ensures.found.cost,
+                  ap cost_in ((loads_point g to).sees_anew.others (TreeOf c.args.node) (λ no. no)),
+                  c.seen_cost.ensures,
+                  cost_seen-later c.args.pass.now.view c.point-to.new.pass.view (loads g to).sees_anew.goes_on c.args.parent c.requires.parent_pair,
+                  ap (cost_of c.args.from) to_is,
+                )
+          ]
+    ]

@@ -1,0 +1,56 @@
+use Rattle.std.proofs.Common.{◌+◌, arith, inl, inr, subst}
+use Rattle.std.specs.Prelude.{IfSome}
+use Rattle.std.proofs.lemmas.Bool.{cases_lt}
+use Rattle.plan_model.specs.Cost.{cost_of}
+use Rattle.plan_words.specs.Parents.{IsPairIn}
+use Rattle.step_core.specs.Views.{sees}
+use Rattle.step_core.specs.WordNames.Word.{TreeOf}
+use Rattle.tree_rewire.specs.SeenCosts.{IsPointWord, PassSees}
+use Rattle.tree_rewire.proofs.CostSteps.{PassSees-any_point, PassSees-trans}
+use Rattle.tree_rewire.proofs.LoweredCosts.{IsSettled-parent, MayLower-parent}
+use Rattle.tree_rewire.proofs.SeenCosts.{pair_low, stands_later}
+use Rattle.tree_rewire.proofs.spreading.looser.Goals as goal
+use Rattle.tree_rewire.proofs.spreading.looser.Goals.{After-costs_less_through}
+
+pub pair-requires : goal.pair-requires
+pair-requires c = pair_low c.args.pass.now.view c.args.node c.requires.lawful c.requires.pair
+
+-- both points are loaded
+loads : (c : After-costs_less_through) → PassSees IsPointWord c.args.shared.now c.args.pass.now c.point-there.new.pass
+loads c =
+    let one = PassSees-any_point c.args.shared.now c.args.pass.now c.point-here.new.pass c.args.node _ _ c.requires.belongs c.point-here.ensures.view
+    c.point-here.ensures.goes_on c.point-here.ensures.seen in
+    let other = PassSees-any_point c.args.shared.now c.point-here.new.pass c.point-there.new.pass c.unwrap-parent.result.0 _ _ one.belongs
+    c.point-there.ensures.view c.point-there.ensures.goes_on c.point-there.ensures.seen in
+    PassSees-trans IsPointWord c.args.shared.now c.args.pass.now c.point-here.new.pass c.point-there.new.pass one other
+
+pub returns-then-costs_less_through-clause-steps : goal.returns-then-costs_less_through-clause-steps
+returns-then-costs_less_through-clause-steps c = loads (goal.at.returns-then-costs_less_through-clause-steps c).After-costs_less_through
+
+pub returns-then-costs_less_through-clause-some : goal.returns-then-costs_less_through-clause-some
+returns-then-costs_less_through-clause-some c =
+    let steps = loads (goal.at.returns-then-costs_less_through-clause-some c).After-costs_less_through in
+    let new = c.point-there.new.pass.view in
+    let pair = subst (λ o. IfSome o (IsPairIn (sees c.args.pass.now.view (TreeOf c.args.node)))) c.unwrap-parent.ensures c.pair.ensures.found in
+    MayLower-parent c.args.pass.now.view new c.args.node c.unwrap-parent.result.0 c.unwrap-parent.result.1 c.in_ok-above.above _ c.point-here.result
+    c.point-there.result steps.sees_anew.goes_on.lawful (λ m. steps.sees_anew.others (TreeOf m) (λ no. no)) pair c.in_ok-above.ensures.found
+    (stands_later c.point-here.new.pass.view new c.point-there.ensures.goes_on c.args.node c.point-here.result c.point-here.ensures.found)
+    c.point-there.ensures.found (c.in_ok-above.above + c.cost.result) (omega (arith, c.cost.ensures.value))
+    (omega (arith, c.cost.ensures.value, c.costs_less_through.ensures.0 c.if-costs_less_through.true))
+
+pub returns-else-costs_less_through-clause-steps : goal.returns-else-costs_less_through-clause-steps
+returns-else-costs_less_through-clause-steps c = loads (goal.at.returns-else-costs_less_through-clause-steps c).After-costs_less_through
+
+pub returns-else-costs_less_through-clause-none : goal.returns-else-costs_less_through-clause-none
+returns-else-costs_less_through-clause-none c =
+    let steps = loads (goal.at.returns-else-costs_less_through-clause-none c).After-costs_less_through in
+    let new = c.point-there.new.pass.view in
+    let pair = subst (λ o. IfSome o (IsPairIn (sees c.args.pass.now.view (TreeOf c.args.node)))) c.unwrap-parent.ensures c.pair.ensures.found in
+    IsSettled-parent c.args.pass.now.view new c.args.node c.unwrap-parent.result.0 c.unwrap-parent.result.1 c.in_ok-above.above _ c.point-here.result
+    c.point-there.result steps.sees_anew.goes_on.lawful (λ m. steps.sees_anew.others (TreeOf m) (λ no. no)) pair c.in_ok-above.ensures.found
+    (stands_later c.point-here.new.pass.view new c.point-there.ensures.goes_on c.args.node c.point-here.result c.point-here.ensures.found)
+    c.point-there.ensures.found
+    (elim (cases_lt (c.in_ok-above.above + cost_of c.point-there.result c.point-here.result) c.unwrap-parent.result.1) [
+      | inl less ↦ absurd (let yes = c.costs_less_through.ensures.1 less in cc)
+      | inr most ↦ most
+    ])

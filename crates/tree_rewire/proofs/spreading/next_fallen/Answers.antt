@@ -1,0 +1,86 @@
+use Rattle.std.proofs.Common.{ap, inl, inr, subst, sym, ◌∙◌}
+use Rattle.plan_words.specs.Waiting.{IsOn}
+use Rattle.step_core.specs.Views.{sees}
+use Rattle.step_core.specs.WordNames.Word.{TreeOf}
+use Rattle.tree_rewire.specs.SeenCosts.{PassLowers, SeesPair}
+use Rattle.tree_rewire.specs.Spreads.{IsSettled}
+use Rattle.tree_rewire.proofs.CostSteps.{PassLowers-lists, PassLowers-sees, PassLowers-trans}
+use Rattle.tree_rewire.proofs.SeenCosts.{SeesPair-later}
+use Rattle.tree_rewire.proofs.SpreadCosts.{HasFallen-settles, IsOn-none, rest_still, same_still, waited_still}
+use Rattle.tree_rewire.proofs.spreading.next_fallen.Goals as goal
+use Rattle.tree_rewire.proofs.spreading.next_fallen.Goals.{After-pop_waiting, After-settle}
+
+-- a node is taken off the list
+pops : (c : After-pop_waiting) → PassLowers c.args.shared.now c.visits.pass c.pop_waiting.new.self
+pops c =
+    let h = c.visits.invariant in
+    let is = c.pop_waiting.ensures.others in
+    PassLowers-lists c.args.shared.now c.visits.pass c.pop_waiting.new.self h.steps.belongs h.steps.sees_anew.goes_on.lawful (ap (λ p. p.table) is)
+    (ap (λ p. p.view) is) (ap (λ p. p.near) is) (ap (λ p. p.spots) is)
+
+-- and settled
+settles : (c : After-settle) → PassLowers c.args.shared.now c.visits.pass c.settle.new.pass
+settles c =
+    let h = c.visits.invariant in
+    let is = c.pop_waiting.ensures.others in
+    PassLowers-trans c.args.shared.now c.visits.pass c.pop_waiting.new.self c.settle.new.pass
+    (PassLowers-lists c.args.shared.now c.visits.pass c.pop_waiting.new.self h.steps.belongs h.steps.sees_anew.goes_on.lawful (ap (λ p. p.table) is)
+    (ap (λ p. p.view) is) (ap (λ p. p.near) is) (ap (λ p. p.spots) is))
+    (PassLowers-sees c.args.shared.now c.pop_waiting.new.self c.settle.new.pass c.settle.ensures.steps)
+
+pub settle-requires-clause-pair : goal.settle-requires-clause-pair
+settle-requires-clause-pair c =
+    let h = c.visits.invariant in
+    let n = c.in-Some.node in
+    subst (λ v. SeesPair v n) (sym (ap (λ p. p.view) c.pop_waiting.ensures.others))
+    (SeesPair-later c.args.pass.now.view c.visits.pass.view h.steps.sees_anew.goes_on n (c.requires.waiting n (h.waited n c.in-Some.ensures.was_on)))
+
+pub returns-then-settle-clause-steps : goal.returns-then-settle-clause-steps
+returns-then-settle-clause-steps c =
+    PassLowers-trans c.args.shared.now c.args.pass.now c.visits.pass c.settle.new.pass c.visits.invariant.steps
+    (settles (goal.at.returns-then-settle-clause-steps c).After-settle)
+
+pub returns-then-settle-clause-some : goal.returns-then-settle-clause-some
+returns-then-settle-clause-some c =
+    let h = c.visits.invariant in
+    let n = c.in-Some.node in
+    HasFallen-settles c.args.pass.now c.visits.pass c.pop_waiting.new.self c.settle.new.pass n (ap (λ p. p.view) c.pop_waiting.ensures.others)
+    (ap (λ p. p.around) c.settle.ensures.steps.view_alone) (settles (goal.at.returns-then-settle-clause-some c).After-settle).sees_anew.goes_on h.same
+    c.settle.ensures.settled h.waited h.rest c.in-Some.ensures.keeps c.pop_waiting.ensures.only c.settle.ensures.others
+    (c.requires.waiting n (h.waited n c.in-Some.ensures.was_on)) (c.settle.ensures.fell c.if-settle.true)
+
+pub visits-preserved : goal.visits-preserved
+visits-preserved c =
+    let h = c.visits.invariant in
+    let n = c.in-Some.node in
+    let step = settles (goal.at.visits-preserved c).After-settle in
+    let view_is = ap (λ p. p.view) c.pop_waiting.ensures.others in
+    let around_is = ap (λ p. p.around) c.settle.ensures.steps.view_alone in
+    let stays = c.settle.ensures.same c.if-settle.false in
+    record {
+      steps = PassLowers-trans c.args.shared.now c.args.pass.now c.visits.pass c.settle.new.pass h.steps step;
+      waits = ap (λ p. p.waits) c.settle.ensures.steps.view_alone ∙ ap (λ p. p.waits) c.pop_waiting.ensures.others ∙ h.waits;
+      same = same_still c.args.pass.now c.visits.pass c.pop_waiting.new.self c.settle.new.pass n view_is around_is step.sees_anew.goes_on h.same
+          c.settle.ensures.settled h.waited h.rest c.in-Some.ensures.keeps c.pop_waiting.ensures.only stays;
+      waited = waited_still c.args.pass.now c.visits.pass c.pop_waiting.new.self c.settle.new.pass n view_is around_is step.sees_anew.goes_on h.same
+          c.settle.ensures.settled h.waited h.rest c.in-Some.ensures.keeps c.pop_waiting.ensures.only;
+      rest = rest_still c.args.pass.now c.visits.pass c.pop_waiting.new.self c.settle.new.pass n view_is around_is step.sees_anew.goes_on h.same
+          c.settle.ensures.settled h.waited h.rest c.in-Some.ensures.keeps c.pop_waiting.ensures.only stays;
+    }
+
+pub returns-clause-steps : goal.returns-clause-steps
+returns-clause-steps c =
+    PassLowers-trans c.args.shared.now c.args.pass.now c.visits.pass c.pop_waiting.new.self c.visits.invariant.steps
+    (pops (goal.at.returns-clause-steps c).After-pop_waiting)
+
+pub returns-clause-none : goal.returns-clause-none
+returns-clause-none c =
+    let h = c.visits.invariant in
+    let view_is = ap (λ p. p.view) c.pop_waiting.ensures.others in
+    record {
+      same = λ m. ap (λ v. sees v (TreeOf m)) view_is ∙ h.same m;
+      settled = λ m on. elim (h.rest m on) [
+        | inl waits ↦ absurd (IsOn-none m (subst (λ ns. IsOn ns m) (c.pop_waiting.ensures.none c.in_default.is) waits))
+        | inr settled ↦ subst (λ v. IsSettled v m) (sym view_is) settled
+      ];
+    }

@@ -1,0 +1,19 @@
+use Rattle.std.proofs.Common.{◌≡◌, ◌⊎◌, ℕ, true, length}
+use Rattle.plan_words.specs.Waiting.{IsOn}
+use Rattle.tree_rewire.specs.SeenCosts.{PassLowers}
+use Rattle.tree_rewire.specs.Spreads.{IsSettled, KeepsPairs}
+use Rattle.tree_rewire.proofs.spreading.next_fallen.Given as goal
+
+-- those that no longer wait are settled, and no cost fell
+abbrev pub invariant-visits : goal.invariant-visits
+invariant-visits l = record {
+  steps : PassLowers l.shared l.fn.pass l.pass;
+  waits : l.pass.waits ≡ true;
+  same : KeepsPairs l.fn.pass.view l.pass.view;
+  waited : (m : ℕ) → IsOn l.pass.around m → IsOn l.fn.pass.around m;
+  rest : (m : ℕ) → IsOn l.fn.pass.around m → IsOn l.pass.around m ⊎ IsSettled l.pass.view m;
+}
+
+-- how many wait
+abbrev pub decreases-visits : goal.decreases-visits
+decreases-visits l = length l.pass.around

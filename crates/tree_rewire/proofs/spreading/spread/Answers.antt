@@ -1,0 +1,83 @@
+use Rattle.std.proofs.Common.{◌≡◌, ◌⊎◌, ◌≤◌, ◌<◌, ◌+◌, ℕ, [], ap, arith, length, subst, sym, ◌∙◌}
+use Rattle.plan_words.specs.Waiting.{HasSeenParent, IsOn}
+use Rattle.step_core.specs.LaterViews.{IsLawfulView}
+use Rattle.tree_rewire.specs.SeenCosts.{SeesPair}
+use Rattle.tree_rewire.proofs.CostSteps.{PassLowers-lists, PassLowers-trans}
+use Rattle.tree_rewire.proofs.SeenCosts.{pair_low}
+use Rattle.tree_rewire.proofs.SpreadCosts.{HasSpread-ends, IsSpreading, IsSpreading-begins, IsSpreading-falls, weigh, weigh-falls}
+use Rattle.tree_rewire.proofs.spreading.spread.Goals as goal
+
+pub queue_children-requires-clause-low : goal.queue_children-requires-clause-low
+queue_children-requires-clause-low c =
+    let view_is = ap (λ p. p.view) c.begin_waiting.ensures.waits in
+    pair_low c.begin_waiting.new.self.view c.args.node c.begin_waiting.ensures.lawful (subst (λ v. SeesPair v c.args.node) (sym view_is) c.requires.pair)
+
+pub falls-init : goal.falls-init
+falls-init c =
+    let begin = c.begin_waiting.ensures.waits in
+    let queue = c.queue_children.ensures.others in
+    let old = c.args.pass.now in
+    let mid = c.begin_waiting.new.self in
+    let new = c.queue_children.new.self in
+    let lawful = subst IsLawfulView (ap (λ p. p.view) begin) c.begin_waiting.ensures.lawful in
+    let view_is : mid.view ≡ old.view = ap (λ p. p.view) begin in
+    let one = PassLowers-lists c.args.shared.now old mid c.requires.belongs lawful (ap (λ p. p.table) begin) view_is (ap (λ p. p.near) begin)
+    (ap (λ p. p.spots) begin) in
+    let other = PassLowers-lists c.args.shared.now mid new one.belongs c.begin_waiting.ensures.lawful (ap (λ p. p.table) queue)
+    (ap (λ p. p.view) queue) (ap (λ p. p.near) queue) (ap (λ p. p.spots) queue) in
+    let only : (n : ℕ) → IsOn new.around n → IsOn [] n ⊎ HasSeenParent old.view c.args.node n =
+    λ n on. subst (λ v. IsOn [] n ⊎ HasSeenParent v c.args.node n) view_is
+    (subst (λ ns. IsOn ns n ⊎ HasSeenParent mid.view c.args.node n) (ap (λ p. p.around) begin) (c.queue_children.ensures.only n on)) in
+    record {
+      steps = PassLowers-trans c.args.shared.now old mid new one other;
+      waits = ap (λ p. p.waits) queue ∙ ap (λ p. p.waits) begin;
+      spreads = subst (λ v. IsSpreading c.args.node old.view v new.around) (sym (ap (λ p. p.view) queue ∙ view_is))
+          (IsSpreading-begins c.args.node old.view new.around c.requires.pair
+          (λ n own. c.queue_children.ensures.all n (subst (λ v. HasSeenParent v c.args.node n) (sym view_is) own)) only);
+    }
+
+pub queue_children-requires-in-Some-clause-low : goal.queue_children-requires-in-Some-clause-low
+queue_children-requires-in-Some-clause-low c =
+    let h = c.falls.invariant in
+    subst (λ r. c.in-Some.fallen ≤ length r.marks) (sym c.next_fallen.ensures.steps.sees_anew.goes_on.later.run)
+    (pair_low c.falls.pass.view c.in-Some.fallen h.steps.sees_anew.goes_on.lawful c.in-Some.ensures.some.pair)
+
+pub falls-smaller : goal.falls-smaller
+falls-smaller c =
+    let h = c.falls.invariant in
+    let fallen = c.in-Some.ensures.some in
+    let nodes = length c.args.pass.now.view.run.marks + 1 in
+    let low : c.in-Some.fallen ≤ length c.args.pass.now.view.run.marks =
+    subst (λ r. c.in-Some.fallen ≤ length r.marks) h.steps.sees_anew.goes_on.later.run
+    (pair_low c.falls.pass.view c.in-Some.fallen h.steps.sees_anew.goes_on.lawful fallen.pair) in
+    subst (λ v. weigh nodes v < weigh nodes c.falls.pass.view) (sym (ap (λ p. p.view) c.queue_children-in-Some.ensures.others))
+    (weigh-falls nodes c.in-Some.fallen c.falls.pass.view c.next_fallen.new.pass.view (omega (arith, low)) fallen.others fallen.fell)
+
+pub falls-preserved : goal.falls-preserved
+falls-preserved c =
+    let h = c.falls.invariant in
+    let old = c.args.pass.now in
+    let now = c.falls.pass in
+    let mid = c.next_fallen.new.pass in
+    let new = c.queue_children-in-Some.new.self in
+    let next = c.next_fallen.ensures.steps in
+    let queue = c.queue_children-in-Some.ensures in
+    let is = queue.others in
+    let last = PassLowers-lists c.args.shared.now mid new next.belongs next.sees_anew.goes_on.lawful (ap (λ p. p.table) is) (ap (λ p. p.view) is)
+    (ap (λ p. p.near) is) (ap (λ p. p.spots) is) in
+    record {
+      steps = PassLowers-trans c.args.shared.now old now new h.steps (PassLowers-trans c.args.shared.now now mid new next last);
+      waits = ap (λ p. p.waits) is ∙ c.next_fallen.ensures.waits;
+      spreads = subst (λ v. IsSpreading c.args.node old.view v new.around) (sym (ap (λ p. p.view) is))
+          (IsSpreading-falls c.args.node c.in-Some.fallen old.view now mid new.around h.steps.sees_anew.goes_on next.sees_anew.goes_on
+          c.in-Some.ensures.some queue.all queue.keeps queue.only h.spreads);
+    }
+
+pub returns-clause-seen : goal.returns-clause-seen
+returns-clause-seen c =
+    (PassLowers-trans c.args.shared.now c.args.pass.now c.falls.pass c.next_fallen.new.pass c.falls.invariant.steps c.next_fallen.ensures.steps).sees_anew
+
+pub returns-clause-spread : goal.returns-clause-spread
+returns-clause-spread c =
+    HasSpread-ends c.args.node c.args.pass.now.view c.falls.pass c.next_fallen.new.pass c.falls.invariant.steps.sees_anew.goes_on
+    c.next_fallen.ensures.steps.sees_anew.goes_on c.in_default.ensures.none c.falls.invariant.spreads

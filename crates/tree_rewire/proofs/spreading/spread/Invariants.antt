@@ -1,0 +1,15 @@
+use Rattle.std.proofs.Common.{◌≡◌, ◌+◌, true, length}
+use Rattle.tree_rewire.specs.SeenCosts.{PassLowers}
+use Rattle.tree_rewire.proofs.SpreadCosts.{IsSpreading, weigh}
+use Rattle.tree_rewire.proofs.spreading.spread.Given as goal
+
+abbrev pub invariant-falls : goal.invariant-falls
+invariant-falls l = record {
+  steps : PassLowers l.shared l.fn.pass l.pass;
+  waits : l.pass.waits ≡ true;
+  spreads : IsSpreading l.node l.fn.pass.view l.pass.view l.pass.around;
+}
+
+-- what all nodes were seen to cost together
+abbrev pub decreases-falls : goal.decreases-falls
+decreases-falls l = weigh (length l.fn.pass.view.run.marks + 1) l.pass.view

@@ -1,0 +1,4 @@
+pub mod SeenCosts
+pub mod Choices
+pub mod Spreads
+pub mod Rewirings

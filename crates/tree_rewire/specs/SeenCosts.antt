@@ -1,0 +1,77 @@
+-- What a pass has seen of costs, and what calls that look at costs or lower them leave of it.
+use Rattle.std.specs.Prelude.{◌≡◌, ℕ, ◌+◌, ◌*◌, ◌^◌, ◌≤◌}
+use Rattle.plan_model.specs.declared.geometry.Point.{Point}
+use Rattle.plan_model.specs.Cost.{cost_of}
+use Rattle.plan_model.specs.Geometry.{squared_distance}
+use Rattle.plan_model.specs.PointsByNumber.{IsPresent, point_of}
+use Rattle.plan_words.specs.Claims.{KeepsHand}
+use Rattle.plan_words.specs.States.{BelongsTo, GoesOn, PassState, SharedState, with_view}
+use Rattle.step_core.specs.Views.{sees, tree_seen}
+use Rattle.step_core.specs.WordNames.{ChangesOnly, Word}
+use Rattle.step_core.specs.WordNames.Word.{PointOf, TreeOf}
+use Rattle.step_core.specs.Words.{cost_in, parent_in}
+use Rattle.step_core.specs.declared.views.View.{View}
+
+-- ---- costs
+
+-- node n is seen with its parent and its cost
+abbrev pub SeesPair : View → ℕ → Type 0
+SeesPair view n = 2 ^ 63 ≤ sees view (TreeOf n)
+
+-- the parent that was seen of it last
+abbrev pub parent_seen : View → ℕ → ℕ
+parent_seen view n = parent_in (sees view (TreeOf n))
+
+-- and the cost
+abbrev pub cost_seen : View → ℕ → ℕ
+cost_seen view n = cost_in (sees view (TreeOf n))
+
+-- what a node at p costs through node n, by what was seen of that
+abbrev pub cost_through : View → Point → ℕ → ℕ
+cost_through view p n = cost_seen view n + cost_of (point_of (tree_seen view).points n) p
+
+-- node n is seen with its point, which is at most a step from p
+pub record IsInReach (view : View) (p : Point) (n : ℕ) : Type 0 where
+  pub present : IsPresent (tree_seen view).points n
+  pub short : squared_distance (point_of (tree_seen view).points n) p ≤ view.run.step * view.run.step
+
+-- ---- steps
+
+-- no word
+abbrev pub IsNoWord : Word → Type 0
+IsNoWord name = ⊥
+
+-- the words of parents and costs
+abbrev pub IsTreeWord : Word → Type 0
+IsTreeWord (TreeOf n) = Unit {0}
+IsTreeWord _ = ⊥
+
+-- those of points
+abbrev pub IsPointWord : Word → Type 0
+IsPointWord (PointOf n) = Unit {0}
+IsPointWord _ = ⊥
+
+-- and both
+abbrev pub IsTreeOrPoint : Word → Type 0
+IsTreeOrPoint (PointOf n) = Unit {0}
+IsTreeOrPoint (TreeOf n) = Unit {0}
+IsTreeOrPoint _ = ⊥
+
+-- What was seen stays seen, and of all words none is seen anew but these. Share, limit and hand stay.
+pub record SeesAnew (which : Word → Type 0) (before after : View) : Type 0 where
+  pub goes_on : GoesOn before after
+  pub others : ChangesOnly which (sees before) (sees after)
+  pub kept : KeepsHand before after
+
+-- A pass of this tree does so, and nothing but its view changes.
+pub record PassSees (which : Word → Type 0) (shared : SharedState) (before after : PassState) : Type 0 where
+  pub belongs : BelongsTo after shared
+  pub sees_anew : SeesAnew which before.view after.view
+  pub view_alone : after ≡ with_view before after.view
+
+-- A pass of this tree sees parents, costs and points anew. Its near list and its spots stay.
+pub record PassLowers (shared : SharedState) (before after : PassState) : Type 0 where
+  pub belongs : BelongsTo after shared
+  pub sees_anew : SeesAnew IsTreeOrPoint before.view after.view
+  pub near : after.near ≡ before.near
+  pub spots : after.spots ≡ before.spots

@@ -1,0 +1,58 @@
+-- What is seen of a subtree after a cost was lowered: costs fall along parents, as far as the subtree was seen.
+use Rattle.std.specs.Prelude.{◌≡◌, ◌≢◌, ◌⊎◌, ℕ, ◌<◌, ◌≤◌}
+use Rattle.plan_model.specs.PointsByNumber.{IsPresent, point_of}
+use Rattle.plan_words.specs.States.{PassState}
+use Rattle.plan_words.specs.Waiting.{IsOn}
+use Rattle.step_core.specs.Views.{sees, tree_seen}
+use Rattle.step_core.specs.WordNames.Word.{TreeOf}
+use Rattle.step_core.specs.declared.views.View.{View}
+use Rattle.tree_rewire.specs.SeenCosts.{SeesPair, cost_seen, cost_through, parent_seen}
+
+-- Node n and its parent are seen with their points, and it costs at most what it costs through its parent, as all this was seen last.
+pub record IsWithinParent (view : View) (n : ℕ) : Type 0 where
+  pub stands : IsPresent (tree_seen view).points n
+  pub parent_stands : IsPresent (tree_seen view).points (parent_seen view n)
+  pub most : cost_seen view n ≤ cost_through view (point_of (tree_seen view).points n) (parent_seen view n)
+
+-- so it is, if its parent is seen with a cost
+abbrev pub IsSettled : View → ℕ → Type 0
+IsSettled view n = SeesPair view (parent_seen view n) → IsWithinParent view n
+
+-- this node, or one whose seen cost fell
+abbrev pub IsSource : ℕ → View → View → ℕ → Type 0
+IsSource node before after n = (n ≡ node) ⊎ (cost_seen after n < cost_seen before n)
+
+-- The children of the sources are within their parents, of all nodes that were seen with their parents before; node 0 is no child.
+abbrev pub HasSpread : ℕ → View → View → Type 0
+HasSpread node before after =
+    (c : ℕ) → 0 < c → SeesPair before c → IsSource node before after (parent_seen after c) → IsWithinParent after c
+
+-- ---- steps
+
+-- no other node is seen with another parent or cost
+abbrev pub OnlyAt : ℕ → View → View → Type 0
+OnlyAt n before after = (m : ℕ) → m ≢ n → sees after (TreeOf m) ≡ sees before (TreeOf m)
+
+-- no node is
+abbrev pub KeepsPairs : View → View → Type 0
+KeepsPairs before after = (m : ℕ) → sees after (TreeOf m) ≡ sees before (TreeOf m)
+
+-- ---- nodes that wait to be settled
+
+-- all that wait are seen with their parents and costs
+abbrev pub SeesWaiting : PassState → Type 0
+SeesWaiting pass = (n : ℕ) → IsOn pass.around n → SeesPair pass.view n
+
+-- All that waited are settled, and no cost fell.
+pub record HasSettledAll (before after : PassState) : Type 0 where
+  pub same : KeepsPairs before.view after.view
+  pub settled : (n : ℕ) → IsOn before.around n → IsSettled after.view n
+
+-- The cost of node n alone fell, and it is settled. Of those that waited each waits still, or is a child of node n, or is settled.
+pub record HasFallen (before after : PassState) (n : ℕ) : Type 0 where
+  pub pair : SeesPair before.view n
+  pub fell : cost_seen after.view n < cost_seen before.view n
+  pub others : OnlyAt n before.view after.view
+  pub settled : IsSettled after.view n
+  pub waited : (m : ℕ) → IsOn after.around m → IsOn before.around m
+  pub rest : (m : ℕ) → IsOn before.around m → IsOn after.around m ⊎ (parent_seen after.view m ≡ n) ⊎ IsSettled after.view m

@@ -1,0 +1,103 @@
+//! The rewiring of nodes near a new one.
+
+ghost use Rattle.std.specs.Prelude.{◌≡◌, ◌≢◌, ℕ, ◌+◌, ◌<◌, ◌≤◌, All, Contains, IfSome, IsSome};
+ghost use Rattle.plan_model.specs.Bounds.{IsBounded};
+ghost use Rattle.plan_model.specs.Clearance.{Clear};
+ghost use Rattle.plan_model.specs.ConfigurationSpace.{space_of};
+ghost use Rattle.plan_model.specs.Cost.{cost_of};
+ghost use Rattle.plan_model.specs.OrderLaw.{IsAllowedEdge};
+ghost use Rattle.plan_model.specs.PointsByNumber.{point_of};
+ghost use Rattle.plan_words.specs.States.{BelongsTo};
+ghost use Rattle.step_core.specs.LaterViews.{IsLawfulView};
+ghost use Rattle.step_core.specs.ViewTrees.{SeesPoint};
+ghost use Rattle.step_core.specs.Views.{setup_in, share, tree_seen};
+ghost use Rattle.tree_rewire.specs.Rewirings.{HasPlaced};
+ghost use Rattle.tree_rewire.specs.SeenCosts.{IsInReach, IsTreeOrPoint, IsTreeWord, PassLowers, PassSees, SeesAnew, SeesPair, cost_seen};
+
+use crate::seen_costs::seen_cost;
+use crate::spreading::spread;
+use edge_cost::{cost, costs_less_through};
+use plan_model::Point;
+use plan_words::{Pass, Shared};
+use swept_check::Clearing;
+
+/// Rewires the nodes on the near list, in their order, once the node of mark k is placed: it becomes the parent of each that is
+/// then strictly cheaper, over a clear edge, and what fell is [spread] before the next is looked at.
+///
+/// An edge is tested only if the node would be cheaper. Another pass may lower the node first, or give it another parent; it is
+/// lowered again only while it is still dearer. O(n) for n near nodes, and what the spreads take.
+pub fn rewire<C: Clearing>(shared: &Shared, pass: &mut Pass, hall: &C, k: u32)
+    requires belongs { BelongsTo pass.old shared.now }
+    requires part { 0 < share pass.old.view }
+    requires hall { C.space hall.now ≡ space_of shared.now.task.scene }
+    requires hand { IsSome pass.old.view.hand }
+    requires placed { IfSome pass.old.view.hand (λ hand. HasPlaced pass.old.view k hand) }
+    requires near { IfSome pass.old.view.hand (λ hand. All (IsInReach pass.old.view hand.point) pass.old.near) }
+    ensures belongs { BelongsTo pass.new shared.now }
+    ensures seen { SeesAnew IsTreeOrPoint pass.old.view pass.new.view }
+    ensures lists { (pass.new.near ≡ pass.old.near) × (pass.new.spots ≡ pass.old.spots) }
+    ensures pairs { All (SeesPair pass.new.view) pass.old.near }
+    // each near node with a clear edge costs no more than through the new node, by the cost that this was placed at
+    ensures rewired { IfSome pass.old.view.hand (λ hand. (i : ℕ) → Contains pass.old.near i
+        → Clear (space_of shared.now.task.scene) hand.point (point_of (tree_seen pass.old.view).points i)
+        → cost_seen pass.new.view i ≤ hand.cost + cost_of hand.point (point_of (tree_seen pass.old.view).points i)) }
+{
+    let count = pass.near_count();
+    let from = pass.hand_point();
+    'nodes: for index in 0..count {
+        let node = pass.near_node(index);
+        rewire_node(shared, pass, hall, k + 1, from, node);
+    }
+}
+
+/// Takes a node at a point as the parent of another, if that is then cheaper, over a clear edge.
+fn rewire_node<C: Clearing>(
+    shared: &Shared,
+    pass: &mut Pass,
+    hall: &C,
+    parent: u32,
+    from: Point,
+    node: u32,
+)
+    requires belongs { BelongsTo pass.old shared.now }
+    requires part { 0 < share pass.old.view }
+    requires lawful { IsLawfulView pass.old.view }
+    requires hall { C.space hall.now ≡ space_of shared.now.task.scene }
+    requires parent { SeesPoint pass.old.view parent from }
+    requires parent_pair { SeesPair pass.old.view parent }
+    requires reach { IsInReach pass.old.view from node }
+    ensures steps { PassLowers shared.now pass.old pass.new }
+    ensures pair { SeesPair pass.new.view node }
+    ensures rewired { Clear (C.space hall.now) from (point_of (tree_seen pass.old.view).points node)
+        → cost_seen pass.new.view node
+        ≤ cost_seen pass.old.view parent + cost_of from (point_of (tree_seen pass.old.view).points node) }
+{
+    let (_, kept_cost) = shared.tree(pass, node);
+    let to = shared.point(pass, node);
+    if costs_less_through(seen_cost(pass, parent), from, to, kept_cost) && hall.clear(from, to) {
+        improve(shared, pass, parent, from, node, to);
+        spread(shared, pass, node);
+    }
+}
+
+/// Lowers a node below this parent until it costs no more than through it.
+fn improve(shared: &Shared, pass: &mut Pass, parent: u32, from: Point, node: u32, to: Point)
+    requires belongs { BelongsTo pass.old shared.now }
+    requires part { 0 < share pass.old.view }
+    requires lawful { IsLawfulView pass.old.view }
+    requires parent { SeesPoint pass.old.view parent from }
+    requires parent_pair { SeesPair pass.old.view parent }
+    requires node { SeesPoint pass.old.view node to }
+    requires pair { SeesPair pass.old.view node }
+    requires apart { parent ≢ node }
+    requires edge { IsAllowedEdge (setup_in pass.old.view.run) from to }
+    requires from { IsBounded from }
+    requires to { IsBounded to }
+    ensures steps { PassSees IsTreeWord shared.now pass.old pass.new }
+    ensures most { cost_seen pass.new.view node ≤ cost_seen pass.old.view parent + cost_of from to }
+{
+    let limit = seen_cost(pass, parent) + cost(from, to);
+    'lowers: while limit < seen_cost(pass, node) {
+        let _found = shared.lower(pass, node, parent, limit);
+    }
+}

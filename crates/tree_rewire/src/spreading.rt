@@ -1,0 +1,95 @@
+//! A lowered cost comes to the subtree of its node.
+
+ghost use Rattle.std.specs.Prelude.{◌≡◌, ◌<◌, true, IfNone, IfSome, IsFalse, IsTrue};
+ghost use Rattle.plan_words.specs.States.{BelongsTo};
+ghost use Rattle.step_core.specs.LaterViews.{IsLawfulView};
+ghost use Rattle.step_core.specs.ViewTrees.{MayLower};
+ghost use Rattle.step_core.specs.Views.{share};
+ghost use Rattle.tree_rewire.specs.SeenCosts.{IsPointWord, IsTreeOrPoint, PassLowers, PassSees, SeesAnew, SeesPair, cost_seen};
+ghost use Rattle.tree_rewire.specs.Spreads.{HasFallen, HasSettledAll, HasSpread, IsSettled, KeepsPairs, OnlyAt, SeesWaiting};
+
+use edge_cost::{cost, costs_less_through};
+use plan_words::{Pass, Shared};
+
+/// Lowers the subtree of a node whose cost fell: each child that costs more than through its parent, both as the pass has seen them
+/// last, and so on from each node whose cost falls. Children are those by the parents that were seen last.
+///
+/// It loads no costs; an exchange that fails shows what the node costs by now, and with whatever parent. The sum of the costs seen
+/// falls with each exchange, so it ends. O(k) for k children of the node and of those that fell, if no other pass comes between.
+pub fn spread(shared: &Shared, pass: &mut Pass, node: u32)
+    requires belongs { BelongsTo pass.old shared.now }
+    requires part { 0 < share pass.old.view }
+    requires pair { SeesPair pass.old.view node }
+    ensures belongs { BelongsTo pass.new shared.now }
+    ensures seen { SeesAnew IsTreeOrPoint pass.old.view pass.new.view }
+    ensures lists { (pass.new.near ≡ pass.old.near) × (pass.new.spots ≡ pass.old.spots) }
+    // by what is seen then, each child of the node, and of each node whose cost fell, costs no more than through its parent
+    ensures spread { HasSpread node pass.old.view pass.new.view }
+{
+    pass.begin_waiting();
+    pass.queue_children(node);
+    'falls: while let Some(fallen) = next_fallen(shared, pass) {
+        pass.queue_children(fallen);
+    }
+}
+
+/// Settles nodes that wait, until the cost of one falls, which it returns. `None` if none of them waits any more.
+fn next_fallen(shared: &Shared, pass: &mut Pass) -> Option<u32>
+    requires belongs { BelongsTo pass.old shared.now }
+    requires part { 0 < share pass.old.view }
+    requires lawful { IsLawfulView pass.old.view }
+    requires waits { pass.old.waits ≡ true }
+    requires waiting { SeesWaiting pass.old }
+    ensures steps { PassLowers shared.now pass.old pass.new }
+    ensures waits { pass.new.waits ≡ true }
+    ensures some { IfSome result (HasFallen pass.old pass.new) }
+    ensures none { IfNone result (HasSettledAll pass.old pass.new) }
+{
+    'visits: while let Some(node) = pass.pop_waiting() {
+        if settle(shared, pass, node) {
+            return Some(node);
+        }
+    }
+    None
+}
+
+/// Lowers a node until it costs no more than through its parent, both as seen last. Whether its cost fell.
+fn settle(shared: &Shared, pass: &mut Pass, node: u32) -> bool
+    requires belongs { BelongsTo pass.old shared.now }
+    requires part { 0 < share pass.old.view }
+    requires lawful { IsLawfulView pass.old.view }
+    requires pair { SeesPair pass.old.view node }
+    ensures steps { PassSees IsTreeOrPoint shared.now pass.old pass.new }
+    ensures others { OnlyAt node pass.old.view pass.new.view }
+    ensures settled { IsSettled pass.new.view node }
+    ensures fell { IsTrue result → cost_seen pass.new.view node < cost_seen pass.old.view node }
+    ensures same { IsFalse result → KeepsPairs pass.old.view pass.new.view }
+{
+    let mut fell = false;
+    'lowers: while let Some((parent, cost)) = looser(shared, pass, node) {
+        // an exchange that fails finds a lower cost, with whatever parent
+        let _found = shared.lower(pass, node, parent, cost);
+        fell = true;
+    }
+    fell
+}
+
+/// The parent of a node, and the cost through it, if that is less than the node's cost.
+fn looser(shared: &Shared, pass: &mut Pass, node: u32) -> Option<(u32, u64)>
+    requires belongs { BelongsTo pass.old shared.now }
+    requires lawful { IsLawfulView pass.old.view }
+    requires pair { SeesPair pass.old.view node }
+    ensures steps { PassSees IsPointWord shared.now pass.old pass.new }
+    ensures some { IfSome result (λ lower. MayLower pass.new.view node lower.0 lower.1) }
+    ensures none { IfNone result (IsSettled pass.new.view node) }
+{
+    let (parent, kept_cost) = pass.pair(node).unwrap();
+    let (_, above) = pass.pair(parent)?;
+    let here = shared.point(pass, node);
+    let there = shared.point(pass, parent);
+    if costs_less_through(above, there, here, kept_cost) {
+        Some((parent, above + cost(there, here)))
+    } else {
+        None
+    }
+}
