@@ -1,0 +1,2 @@
+pub mod ReachedNodes
+pub mod PlacedHands

@@ -1,0 +1,42 @@
+-- A node in hand that was placed, whose near nodes may be rewired then.
+use Rattle.std.proofs.Common.{◌≡◌, ℕ, suc, ◌<◌, Some, arith, refl, sym, subst}
+use Rattle.std.specs.Prelude.{All, IfSome, IsSome}
+use Rattle.kd_shared.specs.Placings.{IsPlacing}
+use Rattle.kd_shared.specs.declared.placing.Placing.{Placing}
+use Rattle.kd_shared.specs.declared.placing.Placing.TheVariants.{Placed, Same}
+use Rattle.plan_words.specs.States.{BelongsTo, GoesOn, PassState, SharedState}
+use Rattle.plan_words.proofs.HandSteps.{at_hand}
+use Rattle.plan_words.proofs.KeptPairs.{if_hand}
+use Rattle.step_core.specs.ViewSteps.{pair_in_hand}
+use Rattle.step_core.specs.ViewTrees.{SeesPoint}
+use Rattle.step_core.specs.Views.{sees, share}
+use Rattle.step_core.specs.WordNames.Word.{FirstOf}
+use Rattle.step_core.specs.declared.views.Hand.{Hand}
+use Rattle.step_core.specs.declared.views.Stage.TheVariants.{Counted}
+use Rattle.tree_rewire.specs.Rewirings.{HasPlaced}
+use Rattle.tree_rewire.specs.SeenCosts.{IsInReach, SeesPair}
+use Rattle.tree_rewire_tests.specs.HeldMarks.{HasNearInReach, IfPlaced, MayRewire}
+use Rattle.tree_rewire_tests.proofs.ReachedNodes.{All-in_reach-later}
+
+pub MayRewire-placed : (shared : SharedState) (before after : PassState) (k : ℕ) (hand : Hand) (result : Placing) → BelongsTo after shared
+    → 0 < share after.view → GoesOn before.view after.view → before.view.hand ≡ Some hand → hand.mark ≡ k → HasNearInReach before
+    → after.near ≡ before.near → IfSome before.view.hand (λ h. IsPlacing after.view h result) → IfPlaced result (MayRewire shared k after)
+MayRewire-placed shared before after k hand (Same j) belongs part goes_on held mark reach near placing = tt
+MayRewire-placed shared before after k hand Placed belongs part goes_on held mark reach near placing =
+    let placed = at_hand (λ h. IsPlacing after.view h Placed) before.view.hand hand held placing in
+    let counted : Hand = record hand { stage = Counted } in
+    let all = at_hand (λ h. All (IsInReach before.view h.point) before.near) before.view.hand hand held reach in
+    record {
+      belongs = belongs;
+      part = part;
+      hand = subst IsSome (sym placed.counted) refl;
+      placed = if_hand (λ h. HasPlaced after.view k h) after.view.hand counted placed.counted (record {
+        mark = mark;
+        counted = refl;
+        stands = subst (λ m. SeesPoint after.view (suc m) hand.point) mark placed.stands;
+        first = subst (λ m. sees after.view (FirstOf (suc m)) ≡ pair_in_hand counted) mark placed.first;
+        pair = subst (λ m. SeesPair after.view (suc m)) mark (omega (arith, placed.pair));
+      });
+      near = if_hand (λ h. All (IsInReach after.view h.point) after.near) after.view.hand counted placed.counted
+          (All-in_reach-later before.view after.view hand.point before.near after.near goes_on near all);
+    }
