@@ -2,21 +2,9 @@ use Rattle.std.proofs.Common.{◌≡◌, ◌+◌, ◌∙◌, ap, arith, refl, sy
 use Rattle.plan_model.specs.Radius.{class_of}
 use Rattle.step_core.specs.Stages.{has_link}
 use Rattle.step_core.specs.WordNames.Word.{RecordOf}
-use Rattle.kd_shared_tests.proofs.SteeredMarks.{HangsBelow-kept, sees_nearest}
-use Rattle.kd_shared_tests.proofs.SteeredRecords.{class_of-below, may_finish-placed}
+use Rattle.kd_shared_tests.proofs.SteeredMarks.{HangsBelow-kept}
+use Rattle.kd_shared_tests.proofs.SteeredRecords.{may_finish-placed}
 use Rattle.kd_shared_tests.proofs.growing.finish_placed.Goals as goal
-
-pub finish-requires-clause-nearest : goal.finish-requires-clause-nearest
-finish-requires-clause-nearest c =
-    let lawful = c.requires.holds.lawful in
-    omega (arith, lawful.within c.args.closest (sees_nearest c.args.pass.now.view c.args.closest lawful c.requires.hangs.steers), lawful.run.marks)
-
-pub finish-requires-clause-last : goal.finish-requires-clause-last
-finish-requires-clause-last c =
-    let lawful = c.number-nodes.ensures.goes_on.lawful in
-    let nodes = c.number-nodes.result in
-    let few = class_of-below nodes 32 (omega (arith, c.number-nodes.ensures.seen.here, lawful.count, lawful.run.marks)) in
-    omega (arith, few, c.in_ok-class_seen.ensures.high)
 
 pub finish-requires-clause-may : goal.finish-requires-clause-may
 finish-requires-clause-may c =
