@@ -1,22 +1,13 @@
--- The square root of a number, rounded up, from the square root rounded down.
-use Rattle.std.proofs.Common.{◌≡◌, ℕ, ◌+◌, ◌*◌, ◌<◌, ◌≤◌, sym, arith}
+-- The square root of a number, rounded up, by the square of a number that reaches it, where that of the number before does not.
+use Rattle.std.proofs.Common.{◌≡◌, ℕ, ◌-◌, ◌*◌, ◌<◌, ◌≤◌, sym, arith}
 use Rattle.plan_model.specs.Roots.{IsRootCeiling, root_ceiling}
-use Rattle.plan_model.proofs.RootLaws.{lt-from_squares, root_ceiling-unique}
+use Rattle.plan_model.proofs.RootLaws.{root_ceiling-from_squares, root_ceiling-unique}
 
--- the square of r falls short of n, and that of r + 1 does not
-pub next_is_root : (n r : ℕ) → r * r < n → n < (r + 1) * (r + 1) → r + 1 ≡ root_ceiling n
-next_is_root n r below above =
-    let is_root : IsRootCeiling n (r + 1) = record {
-      reaches = omega arith;
-      least = λ s reached. let more : r < s = lt-from_squares r s (r * r) (omega arith) (omega arith) in omega arith;
-    } in
-    sym (root_ceiling-unique n (r + 1) is_root)
+pub first_is_root : (n r : ℕ) → n ≤ r * r → (r - 1) * (r - 1) < n → r ≡ root_ceiling n
+first_is_root n r reaches short = sym (root_ceiling-from_squares n r reaches short)
 
--- n is the square of r
-pub same_is_root : (n r : ℕ) → r * r ≤ n → n ≤ r * r → r ≡ root_ceiling n
-same_is_root n r below above =
-    let is_root : IsRootCeiling n r = record {
-      reaches = above;
-      least = λ s reached. let more : r < s + 1 = lt-from_squares r (s + 1) (r * r) (omega arith) (omega arith) in omega arith;
-    } in
+-- no number is before 0
+pub zero_is_root : (n r : ℕ) → n ≤ r * r → r ≤ 0 → r ≡ root_ceiling n
+zero_is_root n r reaches none =
+    let is_root : IsRootCeiling n r = record { reaches = reaches; least = λ s reached. omega arith } in
     sym (root_ceiling-unique n r is_root)
