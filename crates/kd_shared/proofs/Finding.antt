@@ -3,6 +3,7 @@ use Rattle.std.proofs.Common.{◌≡◌, ℕ, suc, ◌<◌, Bool, false, not, So
 use Rattle.std.specs.Prelude.{◌≢◌}
 use Rattle.plan_model.specs.declared.geometry.Point.{Point}
 use Rattle.plan_model.specs.declared.limits.TheConstants.{MOST_NODES}
+use Rattle.plan_model.specs.PointsByNumber.{IsFree}
 use Rattle.plan_model.specs.Ways.{goes_right}
 use Rattle.step_core.specs.LaterViews.{IsLater, IsLawfulView}
 use Rattle.step_core.specs.ViewTrees.{LeadsTo, SeesPoint, sight_in}
@@ -15,7 +16,7 @@ use Rattle.kd_shared.specs.Searches.{Finds}
 use Rattle.kd_shared.specs.Sides.{goes_right_by, is_by_rows}
 use Rattle.kd_shared.proofs.Looking.{LoadsPoint-seen, OnlyLooks-trans}
 use Rattle.kd_shared.proofs.SplitSides.{goes_right-by, is_by_rows-next}
-use Rattle.kd_shared.proofs.Walking.{IsWalking, IsWalking-begins, IsWalking-depth, IsWalking-ends, IsWalking-goes_on, IsWalking-later}
+use Rattle.kd_shared.proofs.Walking.{IsWalking, IsWalking-begins, IsWalking-depth, IsWalking-ends, IsWalking-free, IsWalking-goes_on, IsWalking-later}
 
 -- Since the call began the pass has only looked. It has come to a node at this depth of the way of p, which is seen here.
 pub record IsFinding (entry now : View) (p : Point) (depth node : ℕ) (by_rows : Bool) (here : Point) : Type 0 where
@@ -88,3 +89,10 @@ module _ (entry now : View) (p : Point) (depth node : ℕ) (by_rows : Bool) (her
         (LoadsPoint-seen now node here IsFinding-lawful h.stands) apart right side_is
         (IsLaterMoment-later now after looks.looks.goes_on.later) (KeepsSight-lawful entry h.looks.looks.goes_on.was_lawful)
         (KeepsSight-lawful after looks.looks.goes_on.lawful) empty
+
+    -- If none is seen there, no node is seen at p.
+    pub IsFinding-free : (after : View) → OnlyLooks now after → (tree_seen after).child node right ≡ None → IsFree (tree_seen after).points p
+    IsFinding-free after looks none =
+        IsWalking-free (sight_in entry) (sight_in now) p depth node h.walk (sight_in now) (sight_in after) here
+        (LoadsPoint-seen now node here IsFinding-lawful h.stands) apart right side_is
+        (IsLaterMoment-later now after looks.looks.goes_on.later) (KeepsSight-lawful after looks.looks.goes_on.lawful) none

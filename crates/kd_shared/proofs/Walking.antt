@@ -1,12 +1,13 @@
 -- The way of a point is walked node by node, over what is seen at each step.
-use Rattle.std.proofs.Common.{◌≡◌, ℕ, zero, suc, ◌<◌, ◌≤◌, Bool, List, [], ◌∷◌, length, Some, None, arith, refl, sym, ap, ◌∙◌, subst, inl, inr}
-use Rattle.std.specs.Prelude.{◌≢◌, Contains}
+use Rattle.std.proofs.Common.{◌≡◌, ℕ, zero, suc, ◌<◌, ◌≤◌, Bool, List, [], ◌∷◌, length, Option, Some, None, arith, refl, sym, ap, ◌∙◌, subst, inl, inr}
+use Rattle.std.specs.Prelude.{◌≢◌, ◌⊎◌, Contains}
 use Rattle.plan_model.specs.declared.geometry.Point.{Point}
+use Rattle.plan_model.specs.PointsByNumber.{IsFree}
 use Rattle.plan_model.specs.SeenTrees.{FollowSeenWays, IsSeen}
 use Rattle.plan_model.specs.Sights.{EndsSince, IsLaterMoment, KeepsSight, Sight}
-use Rattle.plan_model.specs.Ways.{goes_right, IsOnWay}
+use Rattle.plan_model.specs.Ways.{EndsBelow, goes_right, IsOnWay}
 use Rattle.plan_model.specs.Ways.IsOnWay.{begins, goes_on}
-use Rattle.plan_model.proofs.SeenTreeLaws.{IsSeen-more}
+use Rattle.plan_model.proofs.SeenTreeLaws.{HasSeenAtLeast-refl, IsSeen-more}
 use Rattle.plan_model.proofs.SightLaws.{IsFree-ends, IsLaterMoment-refl, IsLaterMoment-trans}
 use Rattle.plan_model.proofs.WayLaws.{last_step, way_start}
 use Rattle.plan_model.proofs.WayLinks.{IsOnWay-fills}
@@ -93,6 +94,52 @@ depth_within now marks keeps within q depth n way =
     (λ m k. let there = on_it.passed m k in within m (IsSeen-on_way now q there.0 m there.2)) in
     omega (arith, few, on_it.long)
 
+-- ---- ways that end over what is seen
+
+module _ (sight : Sight) (keeps : KeepsSight sight) where
+  -- The tree that is seen, as if no step had looked yet, and one step had then looked at each place.
+  abbrev unlooked : Sight
+  unlooked = record { seen = sight.seen; steps = 0; found_empty = λ n side. 0 }
+
+  abbrev look_at : Option ℕ → ℕ
+  look_at None = 1
+  look_at (Some child) = 0
+
+  abbrev looked : Sight
+  looked = record { seen = sight.seen; steps = 1; found_empty = λ n side. look_at (sight.seen.child n side) }
+
+  finds_or_not : (o : Option ℕ) → (look_at o ≡ 0) ⊎ ((0 < look_at o) × (o ≡ None))
+  finds_or_not None = inr (omega arith, refl)
+  finds_or_not (Some child) = inl refl
+
+  looks_once : (o : Option ℕ) → look_at o ≤ 1
+  looks_once None = omega arith
+  looks_once (Some child) = omega arith
+
+  looked_later : IsLaterMoment unlooked looked
+  looked_later = record {
+    seen = HasSeenAtLeast-refl sight.seen;
+    steps = omega arith;
+    empty = λ n side. finds_or_not (sight.seen.child n side);
+  }
+
+  -- If the way of q ends at a place where no child is seen, no node is seen at q.
+  pub IsFree-here : (q : Point) (depth n : ℕ) (at : Point) → EndsBelow sight.seen.child sight.seen.points q depth n at → IsFree sight.seen.points q
+  IsFree-here q depth n at ends =
+      IsFree-ends unlooked looked looked_later
+      (record { rooted = keeps.rooted; ways = keeps.ways; steps = λ m side. omega arith })
+      (record { rooted = keeps.rooted; ways = keeps.ways; steps = λ m side. looks_once (sight.seen.child m side) })
+      q
+      (record {
+        depth = depth;
+        node = n;
+        point = at;
+        on_way = ends.on_way;
+        stands = ends.stands;
+        other = ends.other;
+        empty = subst (λ o. 0 < look_at o) (sym ends.empty) (omega arith);
+      })
+
 -- ---- the walk
 
 -- A walk that began at an earlier moment has come to a node at this depth of the way of p over what is seen now.
@@ -149,3 +196,13 @@ module _ (before now : Sight) (p : Point) (depth node : ℕ) (walk : IsWalking b
           empty = subst (λ b. before.steps < after.found_empty node b) side (omega (arith, empty, walk.later.steps, load.later.steps));
         } in
         (IsFree-ends before after here.later sight keeps p ends, ends)
+
+    -- If none is seen there, no node is seen at p.
+    pub IsWalking-free : KeepsSight after → after.seen.child node right ≡ None → IsFree after.seen.points p
+    IsWalking-free keeps none =
+        IsFree-here after keeps p depth node q (record {
+          on_way = (IsWalking-later after after_all).on_way;
+          stands = later.seen.places.nodes node q load.stands;
+          other = other;
+          empty = ap (after.seen.child node) (sym side) ∙ none;
+        })

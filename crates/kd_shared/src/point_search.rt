@@ -23,6 +23,8 @@ pub fn find(shared: &Shared, pass: &mut Pass, p: Point) -> Option<u32>
     // its way came to a place that this call found empty
     ensures ends { IfNone result (EndsSince (sight_in pass.new.view) pass.old.view.steps p) }
     ensures missed { IfNone result (IsFree (tree_seen pass.old.view).points p) }
+    // nor is one seen there now
+    ensures free { IfNone result (IsFree (tree_seen pass.new.view).points p) }
 {
     let mut node = 0;
     let mut here = shared.point(pass, 0);

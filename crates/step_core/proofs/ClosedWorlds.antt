@@ -329,14 +329,14 @@ module _ (task : Task) (workers opening : ℕ) (words : Words) (views : List Vie
       points = λ n p h.
           subst (λ l. StandsAt l n p) (sym points-whole)
           (subst (λ r. StandsAt (linked_points (run_sizes r) words) n p) own ((IsTrueOf-seen view words behind tree follow).places.nodes n p h));
-      costs = λ n written.
+      trees = λ n written.
           let node = sym (is_linked-whole n) ∙ seen_linked n (tree.rooted.pairs n (tree_written n written)) in
-          let now = ap cost_in (tree-cleared words n node) in
+          let now = tree-cleared words n node in
           elim (behind (TreeOf n)) [
             | inl unseen ↦ absurd (omega (arith, unseen, written))
             | inr falls ↦ elim falls [
-              | inl same ↦ omega (arith, now, ap cost_in same)
-              | inr fell ↦ omega (arith, now, fell.1)
+              | inl same ↦ inl (ap cost_in (now ∙ sym same), ap parent_in (now ∙ sym same))
+              | inr fell ↦ inr (omega (arith, ap cost_in now, fell.1))
             ]
           ];
       records = λ k entry e. record_at-cleared words k ∙ record_stands k entry e;

@@ -72,3 +72,4 @@ pub mod StartLinks
 pub mod WorldStarts
 pub mod LinkedWays
 pub mod LaterViews
+pub mod GrownFromWords

@@ -1,10 +1,11 @@
-use Rattle.std.proofs.Common.{◌+◌, None, sym, subst, ◌∙◌, arith}
+use Rattle.std.proofs.Common.{◌+◌, None, sym, ap, subst, ◌∙◌, arith}
 use Rattle.plan_model.proofs.SamePoints.{same_point-false, same_point-true}
+use Rattle.step_core.specs.GrownWords.{child_of_word}
 use Rattle.step_core.specs.ViewTrees.{SeesPoint, sight_in}
 use Rattle.kd_shared.specs.Searches.{Finds}
 use Rattle.step_core.specs.WordNames.Word.{ChildOf, PointOf}
-use Rattle.kd_shared.proofs.Finding.{IsFinding-begins, IsFinding-depth, IsFinding-ends, IsFinding-goes_on}
-use Rattle.kd_shared.proofs.PassLooks.{PassLooks-load, PassLooks-trans}
+use Rattle.kd_shared.proofs.Finding.{IsFinding-begins, IsFinding-depth, IsFinding-ends, IsFinding-free, IsFinding-goes_on}
+use Rattle.kd_shared.proofs.PassLooks.{PassLooks, PassLooks-load, PassLooks-trans}
 use Rattle.kd_shared.proofs.point_search.find.Goals as goal
 
 pub depths-init : goal.depths-init
@@ -37,36 +38,40 @@ pub child-requires-clause-seen_node : goal.child-requires-clause-seen_node
 child-requires-clause-seen_node c = c.depths.invariant.walks.walk.seen
 
 -- the last load finds no child
+last_load : (c : goal.In_default) → PassLooks c.args.shared.now c.depths.pass c.child.new.pass
+last_load c =
+    PassLooks-load c.args.shared.now c.depths.pass c.child.new.pass (ChildOf c.depths.node c.goes_right.result) _ _
+    c.depths.invariant.passes.belongs tt c.child.ensures.view c.child.ensures.goes_on c.child.ensures.seen
+
 pub returns-in_default-clause-belongs : goal.returns-in_default-clause-belongs
-returns-in_default-clause-belongs c =
-    (PassLooks-load c.args.shared.now c.depths.pass c.child.new.pass (ChildOf c.depths.node c.goes_right.result) _ _
-    c.depths.invariant.passes.belongs tt c.child.ensures.view c.child.ensures.goes_on c.child.ensures.seen).belongs
+returns-in_default-clause-belongs c = (last_load c).belongs
 
 pub returns-in_default-clause-looks : goal.returns-in_default-clause-looks
 returns-in_default-clause-looks c =
-    let last = PassLooks-load c.args.shared.now c.depths.pass c.child.new.pass (ChildOf c.depths.node c.goes_right.result) _ _
-    c.depths.invariant.passes.belongs tt c.child.ensures.view c.child.ensures.goes_on c.child.ensures.seen in
-    (PassLooks-trans c.args.shared.now c.args.pass.now c.depths.pass c.child.new.pass c.depths.invariant.passes last).looks
+    (PassLooks-trans c.args.shared.now c.args.pass.now c.depths.pass c.child.new.pass c.depths.invariant.passes (last_load c)).looks
 
 pub returns-in_default-clause-view_alone : goal.returns-in_default-clause-view_alone
 returns-in_default-clause-view_alone c =
-    let last = PassLooks-load c.args.shared.now c.depths.pass c.child.new.pass (ChildOf c.depths.node c.goes_right.result) _ _
-    c.depths.invariant.passes.belongs tt c.child.ensures.view c.child.ensures.goes_on c.child.ensures.seen in
-    (PassLooks-trans c.args.shared.now c.args.pass.now c.depths.pass c.child.new.pass c.depths.invariant.passes last).view_alone
+    (PassLooks-trans c.args.shared.now c.args.pass.now c.depths.pass c.child.new.pass c.depths.invariant.passes (last_load c)).view_alone
 
 ends_there : (c : goal.In_default) → Finds (sight_in c.args.pass.now.view) (sight_in c.child.new.pass.view) c.args.p None
 ends_there c =
-    let last = PassLooks-load c.args.shared.now c.depths.pass c.child.new.pass (ChildOf c.depths.node c.goes_right.result) _ _
-    c.depths.invariant.passes.belongs tt c.child.ensures.view c.child.ensures.goes_on c.child.ensures.seen in
     IsFinding-ends c.args.pass.now.view c.depths.pass.view c.args.p c.depths._depth c.depths.node c.depths.by_rows c.depths.here
     c.depths.invariant.walks (same_point-false c.depths.here c.args.p (sym c.eq.ensures ∙ c.if-eq.false)) c.goes_right.result c.goes_right.ensures
-    c.child.new.pass.view last.looks c.in_default.ensures.found
+    c.child.new.pass.view (last_load c).looks c.in_default.ensures.found
 
 pub returns-in_default-clause-ends : goal.returns-in_default-clause-ends
 returns-in_default-clause-ends c = (ends_there c).1
 
 pub returns-in_default-clause-missed : goal.returns-in_default-clause-missed
 returns-in_default-clause-missed c = (ends_there c).0
+
+-- It sees the word of that child as 0.
+pub returns-in_default-clause-free : goal.returns-in_default-clause-free
+returns-in_default-clause-free c =
+    IsFinding-free c.args.pass.now.view c.depths.pass.view c.args.p c.depths._depth c.depths.node c.depths.by_rows c.depths.here
+    c.depths.invariant.walks (same_point-false c.depths.here c.args.p (sym c.eq.ensures ∙ c.if-eq.false)) c.goes_right.result c.goes_right.ensures
+    c.child.new.pass.view (last_load c).looks (ap child_of_word c.in_default.ensures.seen.here)
 
 pub point-here-requires-in-depths-clause-belongs : goal.point-here-requires-in-depths-clause-belongs
 point-here-requires-in-depths-clause-belongs c =
