@@ -5,3 +5,15 @@ pub mod HandledWorkers
 pub mod NumberScans
 pub mod ReadCosts
 pub mod SteeredMarks
+pub mod HeldMarks
+pub mod KeptSights
+pub mod FilledNear
+pub mod KeptRecords
+pub mod HungMarks
+pub mod TriedMarks
+pub mod RecordedMarks
+pub mod PlacedMarks
+pub mod ExtendedMarks
+pub mod WorkedMarks
+pub mod SharedRuns
+pub mod TakenOver

@@ -20,9 +20,15 @@ mod held;
 mod near_nodes;
 mod nearest_node;
 mod rewiring;
+mod shared_growing;
+mod shared_marks;
+mod shared_work;
 mod turns;
 mod workers;
 
 pub use extending::extend_whole;
 pub use gates::{Gate, NoGate};
 pub use growing::grow;
+pub use shared_growing::grow_shared;
+pub use shared_marks::extend;
+pub use shared_work::work;

@@ -45,7 +45,7 @@ fn assert_all_handled(
 }
 
 /// Asserts the nodes of a run, by number; `None` if one is absent.
-fn assert_nodes(rt: &impl Abort, grown: &Grown, wants: &[Option<Node>]) {
+pub(crate) fn assert_nodes(rt: &impl Abort, grown: &Grown, wants: &[Option<Node>]) {
     for (number, want) in (0..).zip(wants) {
         assert_eq!(rt; node_of(grown, number), *want, "node {number}");
     }
@@ -75,7 +75,7 @@ fn assert_run(
 }
 
 /// The marks of which the third gives the node of the second a cheaper way.
-fn marks_to_rewire() -> [Point; 3]
+pub(crate) fn marks_to_rewire() -> [Point; 3]
     ensures { IsTrue (is_plan (Listed result)) }
 {
     [

@@ -87,7 +87,7 @@ fn adds_up(grown: &Grown) -> bool {
 }
 
 /// Asserts the records of a run's first marks, by number.
-fn assert_records(rt: &impl Abort, grown: &Grown, wants: &[Entry]) {
+pub(crate) fn assert_records(rt: &impl Abort, grown: &Grown, wants: &[Entry]) {
     for (mark, want) in (0..).zip(wants) {
         assert!(rt; mark < grown.limit());
         assert!(rt; entry_of(grown.record_of(mark)) == *want, "mark {mark}");

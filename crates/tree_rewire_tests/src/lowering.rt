@@ -7,7 +7,7 @@ ghost use Rattle.plan_model.specs.OrderLaw.{IsAllowedEdge};
 ghost use Rattle.plan_words.specs.States.{GoesOn, run_in};
 ghost use Rattle.step_core.specs.LaterViews.{IsLawfulView};
 ghost use Rattle.step_core.specs.ViewTrees.{SeesPoint};
-ghost use Rattle.step_core.specs.Views.{setup_in, share};
+ghost use Rattle.step_core.specs.Views.{setup_in};
 ghost use Rattle.tree_rewire.specs.SeenCosts.{SeesPair, cost_seen};
 ghost use Rattle.tree_rewire_tests.specs.HeldMarks.{IsAtWork};
 

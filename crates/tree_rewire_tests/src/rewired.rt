@@ -10,7 +10,7 @@ use crate::lowering::expect_pair;
 use crate::runs::{FAR, last_pass, marks_in_square, passes_after};
 use edge_cost::{Radii, steer};
 use kd_shared::{Placing, near, nearest, place};
-use plan_model::{MOST_NODES, Memory, Point};
+use plan_model::{Memory, Point};
 use plan_words::{Pass, Shared};
 use std::alloc::Global;
 use std::process::Abort;

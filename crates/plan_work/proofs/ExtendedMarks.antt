@@ -1,0 +1,312 @@
+-- A mark is handled in steps: what the first of them leave, and what all of them leave together.
+use Rattle.std.proofs.Common.{◌≡◌, ℕ, ◌*◌, ◌≤◌, Some, refl, sym, ap, ◌∙◌, subst, arith}
+use Rattle.std.specs.Prelude.{[], IfSome, IsSome, is_some}
+use Rattle.kd_shared.proofs.SearchResults.{SweepsWithin-begun}
+use Rattle.plan_model.specs.Clearance.{Clear}
+use Rattle.plan_model.specs.ConfigurationSpace.{space_of}
+use Rattle.plan_model.specs.PointsByNumber.{IsFree, point_of}
+use Rattle.plan_model.specs.Sights.{EndsSince, IsSwept}
+use Rattle.plan_model.specs.declared.geometry.Point.{Point}
+use Rattle.plan_model.specs.declared.records.Outcome.{Outcome}
+use Rattle.plan_model.specs.declared.records.Outcome.TheVariants.{Blocked, Placed, Same}
+use Rattle.plan_model.specs.declared.records.Record.{Record}
+use Rattle.plan_model.proofs.NewNodes.{point_of-stands}
+use Rattle.plan_model.proofs.SightLaws.{EndsSince-later}
+use Rattle.plan_model.specs.Bounds.{IsBounded}
+use Rattle.plan_words.specs.States.{BelongsTo, GoesOn, PassState, SharedState, with_view}
+use Rattle.plan_words.proofs.GoingOn.{GoesOn-trans}
+use Rattle.step_core.proofs.LawfulSights.{IsLaterMoment-later, KeepsSight-lawful}
+use Rattle.step_core.proofs.SeenWords.{point_at-seen, seen-within}
+use Rattle.step_core.specs.SeenRecords.{MayRecord}
+use Rattle.step_core.specs.ViewSteps.{one_turn_more, pointed}
+use Rattle.step_core.specs.ViewTrees.{IsSteered, SeesPoint, sight_in}
+use Rattle.step_core.specs.Views.{run_sizes, sees, setup_in, tree_seen}
+use Rattle.step_core.specs.WordNames.Word.{PointOf, RecordOf}
+use Rattle.step_core.specs.Words.{point_of_word}
+use Rattle.step_core.specs.declared.views.Hand.{Hand}
+use Rattle.step_core.specs.declared.views.SharedRun.{SharedRun}
+use Rattle.step_core.specs.declared.views.Stage.TheVariants.{Pointed}
+use Rattle.step_core.specs.declared.views.View.{View}
+use Rattle.tree_rewire.proofs.SeenCosts.{SeesPair-later, cost_seen-later, stands_later}
+use Rattle.kd_shared.specs.Looking.{OnlyLooks}
+use Rattle.plan_work.proofs.HeldMarks.{holding, if_held}
+use Rattle.plan_work.proofs.KeptRecords.{KeepsRecords-looks, KeepsRecords-trans}
+use Rattle.plan_work.proofs.KeptSights.{HasSteered-still}
+use Rattle.plan_work.proofs.RecordedMarks.{HandlesMark-recorded, IsSteeredTo-still, MayRecord-steered, has_node-kept, others_still, present_recorded}
+use Rattle.plan_work.specs.SharedMarks.{EndsAt, HandlesMark, HasRecorded, HasSteered, IsBlockedAt, IsExtended, IsPlacedAt, IsSteeredTo, KeepsRecords, MayPlace, WasNeighbour, own_unplaced, radius_in}
+
+-- ---- one after another
+
+-- an emptied list changes no view
+pub KeepsRecords-emptied : (shared : SharedState) (before emptied after : PassState) → emptied.view ≡ before.view → KeepsRecords shared emptied after
+    → KeepsRecords shared before after
+KeepsRecords-emptied shared before emptied after is keeps = record {
+  belongs = keeps.belongs;
+  goes_on = subst (λ v. GoesOn v after.view) is keeps.goes_on;
+  records = λ k. keeps.records k ∙ ap (λ v. sees v (RecordOf k)) is;
+  crew = keeps.crew ∙ ap (λ v. v.crew) is;
+  most = keeps.most ∙ ap (λ v. v.most) is;
+}
+
+-- a mark is handled after calls that saw no record anew
+pub HandlesMark-after : (shared : SharedState) (before mid after : PassState) (k : ℕ) (entry : Record) → KeepsRecords shared before mid
+    → HandlesMark shared mid after k entry → HandlesMark shared before after k entry
+HandlesMark-after shared before mid after k entry keeps handles = record {
+  may_claim = handles.may_claim;
+  goes_on = GoesOn-trans before.view mid.view after.view keeps.goes_on handles.goes_on;
+  stored = handles.stored;
+  others = λ j apart. handles.others j apart ∙ keeps.records j;
+  crew = handles.crew ∙ ap one_turn_more keeps.crew;
+  most = handles.most ∙ keeps.most;
+}
+
+-- a node was steered to p from the nearest one, by a search; so none of those whose records are seen is nearer
+pub IsSteeredTo-found : (shared : SharedState) (before after : PassState) (k m : ℕ) (from p : Point) → KeepsRecords shared before after
+    → HasSteered before.view after.view k m from p → IsSteeredTo after.view k m p
+IsSteeredTo-found shared before after k m from p keeps h = record {
+  from = from;
+  stands = h.stands;
+  point_is = h.point_is;
+  not_above = λ n there.
+      h.not_above n
+      (present_recorded before.view keeps.goes_on.was_lawful n (sym (has_node-kept before.view after.view keeps.records n) ∙ there));
+}
+
+-- A search has found a node that steers mark k, which is in this hand, to p, and another has looked for p.
+pub record HasLooked (shared : SharedState) (before steering found : PassState) (k m : ℕ) (from p : Point) : Type 0 where
+  pub hand : Hand
+  pub held : found.view.hand ≡ Some hand
+  pub was_held : before.view.hand ≡ Some hand
+  pub mark : hand.mark ≡ k
+  pub keeps : KeepsRecords shared before found
+  pub begun : GoesOn before.view steering.view
+  pub goes_on : GoesOn steering.view found.view
+  pub steers : HasSteered before.view found.view k m from p
+
+pub HasLooked-looks :
+    (shared : SharedState) (before emptied steering found : PassState) (k m : ℕ) (from p : Point) → emptied ≡ record before { near = [] }
+    → IsSome before.view.hand → IfSome before.view.hand (λ hand. hand.mark ≡ k) → BelongsTo steering shared → BelongsTo found shared
+    → OnlyLooks emptied.view steering.view → OnlyLooks steering.view found.view → HasSteered emptied.view steering.view k m from p
+    → HasLooked shared before steering found k m from p
+HasLooked-looks shared before emptied steering found k m from p is some mark belongs still one two steers =
+    let view = ap (λ (x : PassState). x.view) is in
+    let own = holding before.view (λ hand. hand.mark ≡ k) some mark in
+    let begun = subst (λ v. GoesOn v steering.view) view one.looks.goes_on in
+    record {
+      hand = own.hand;
+      held = two.kept.hand ∙ one.kept.hand ∙ ap (λ v. v.hand) view ∙ own.held;
+      was_held = own.held;
+      mark = own.says;
+      keeps =
+          KeepsRecords-emptied shared before emptied found view
+          (KeepsRecords-trans shared emptied steering found (KeepsRecords-looks shared emptied steering belongs one)
+          (KeepsRecords-looks shared steering found still two));
+      begun = begun;
+      goes_on = two.looks.goes_on;
+      steers =
+          HasSteered-still before.view steering.view found.view begun two.looks.goes_on k m from p
+          (subst (λ v. HasSteered v steering.view k m from p) view steers);
+    }
+
+-- a segment from the node that was found is blocked, as the pass sees its point
+pub blocked_here :
+    (shared : SharedState) (before steering found : PassState) (k m : ℕ) (from p : Point) → HasLooked shared before steering found k m from p
+    → ¬ Clear (space_of shared.task.scene) from p → ¬ Clear (setup_in found.view.run).space (point_of (tree_seen found.view).points m) p
+blocked_here shared before steering found k m from p looked blocked clear =
+    blocked
+    (subst (λ (r : SharedRun). Clear (setup_in r).space from p) looked.keeps.belongs.run
+    (subst (λ q. Clear (setup_in found.view.run).space q p) (point_of-stands (tree_seen found.view).points m from looked.steers.stands) clear))
+
+-- ---- a point that no node is seen at
+
+free_still : (before after : View) → after.run ≡ before.run → ((n : ℕ) → sees after (PointOf n) ≡ sees before (PointOf n)) → (p : Point)
+    → IsFree (tree_seen before).points p → IsFree (tree_seen after).points p
+free_still before after run same p free j stands =
+    let low = seen-within (run_sizes after.run) (sees after) j (ap is_some stands) in
+    let was = subst (λ r. j ≤ (run_sizes r).marks) run low in
+    free j
+    (point_at-seen (run_sizes before.run) (sees before) j was ∙ ap point_of_word (sym (same j))
+    ∙ sym (point_at-seen (run_sizes after.run) (sees after) j low) ∙ stands)
+
+-- a point whose way came to a place found empty is swept, also since an earlier moment
+swept_since : (first before after done : View) → GoesOn first before → GoesOn before after → GoesOn after done → (p : Point)
+    → EndsSince (sight_in after) before.steps p → IsSwept (sight_in done) first.steps p
+swept_since first before after done one two three p ends free = record {
+  depth = there.depth;
+  node = there.node;
+  point = there.point;
+  on_way = there.on_way;
+  stands = there.stands;
+  other = there.other;
+  empty = omega (arith, there.empty, one.later.steps);
+}
+  where
+    there : EndsSince (sight_in done) before.steps p
+    there = EndsSince-later (sight_in after) (sight_in done) (IsLaterMoment-later after done three.later) (KeepsSight-lawful after three.was_lawful) before.steps p ends
+
+-- ---- marks that end without a node
+
+module _
+    (shared : SharedState) (before found : PassState) (hand : Hand) (k m : ℕ) (from p : Point) (keeps : KeepsRecords shared before found)
+    (steers : HasSteered before.view found.view k m from p) (held : found.view.hand ≡ Some hand) (mark : hand.mark ≡ k) where
+  -- another node stands at the point
+  pub MayRecord-found : (j : ℕ) → SeesPoint found.view j p → IfSome found.view.hand (λ h. MayRecord found.view h (own_unplaced found.view m (Same j)))
+  MayRecord-found j stands =
+      if_held found.view (λ h. MayRecord found.view h (own_unplaced found.view m (Same j))) hand held
+      (MayRecord-steered found.view hand k m p (own_unplaced found.view m (Same j)) (IsSteeredTo-found shared before found k m from p keeps steers) mark refl
+      stands)
+
+  -- or the segment to it is blocked
+  pub MayRecord-blocked : IsFree (tree_seen found.view).points p → ¬ Clear (setup_in found.view.run).space (point_of (tree_seen found.view).points m) p
+      → IfSome found.view.hand (λ h. MayRecord found.view h (own_unplaced found.view m Blocked))
+  MayRecord-blocked free blocked =
+      if_held found.view (λ h. MayRecord found.view h (own_unplaced found.view m Blocked)) hand held
+      (MayRecord-steered found.view hand k m p (own_unplaced found.view m Blocked) (IsSteeredTo-found shared before found k m from p keeps steers) mark
+      refl record { blocked = blocked; free = λ i own. free i })
+
+  module _ (done : PassState) (entry : Record) (recorded : HasRecorded shared found done entry) where
+    handles : HandlesMark shared before done k entry
+    handles = HandlesMark-recorded shared before found done hand k entry keeps recorded held mark
+
+    extended : entry.nearest ≡ m → EndsAt before.view done.view k entry p entry.outcome → IsExtended before.view done.view k entry
+    extended is outcome = record {
+      stored = handles.stored;
+      idle = handles.may_claim.idle;
+      from = from;
+      point = p;
+      steered =
+          subst (λ n. HasSteered before.view done.view k n from p) (sym is)
+          (HasSteered-still before.view found.view done.view keeps.goes_on recorded.goes_on k m from p steers);
+      outcome = outcome;
+    }
+
+    pub IsExtended-found : (j : ℕ) → entry ≡ own_unplaced found.view m (Same j) → SeesPoint found.view j p → IsExtended before.view done.view k entry
+    IsExtended-found j is stands =
+        extended (ap (λ (e : Record). e.nearest) is)
+        (subst (EndsAt before.view done.view k entry p) (sym (ap (λ (e : Record). e.outcome) is))
+        (stands_later found.view done.view recorded.goes_on j p stands))
+
+    pub IsExtended-blocked : (steering : View) → GoesOn before.view steering → GoesOn steering found.view → entry ≡ own_unplaced found.view m Blocked
+        → IsFree (tree_seen found.view).points p → EndsSince (sight_in found.view) steering.steps p
+        → ¬ Clear (setup_in found.view.run).space (point_of (tree_seen found.view).points m) p → IsExtended before.view done.view k entry
+    IsExtended-blocked steering one two is free ends blocked =
+        let last = ap (λ (x : PassState). x.view) (recorded.view hand held) in
+        let nearest = ap (λ (e : Record). e.nearest) is in
+        let at : point_of (tree_seen done.view).points m ≡ point_of (tree_seen found.view).points m =
+        point_of-stands (tree_seen done.view).points m from (stands_later found.view done.view recorded.goes_on m from steers.stands)
+        ∙ sym (point_of-stands (tree_seen found.view).points m from steers.stands) in
+        let ended : IsBlockedAt before.view done.view entry p =
+        record {
+          blocked = λ clear.
+              blocked
+              (subst (λ (r : SharedRun). Clear (setup_in r).space (point_of (tree_seen found.view).points m) p) recorded.goes_on.later.run
+              (subst (λ q. Clear (setup_in done.view.run).space q p) at
+              (subst (λ n. Clear (setup_in done.view.run).space (point_of (tree_seen done.view).points n) p) nearest clear)));
+          free = free_still found.view done.view recorded.goes_on.later.run
+              (λ n. others_still found.view done.view hand entry held last keeps.goes_on.lawful (PointOf n) (λ e. cc)) p free;
+          swept = swept_since before.view steering found.view done.view one two recorded.goes_on p ends;
+        } in
+        extended nearest (subst (EndsAt before.view done.view k entry p) (sym (ap (λ (e : Record). e.outcome) is)) ended)
+
+-- ---- marks whose point is written
+
+module _
+    (shared : SharedState) (before found : PassState) (hand : Hand) (k m : ℕ) (from p : Point) (keeps : KeepsRecords shared before found)
+    (steers : HasSteered before.view found.view k m from p) (held : found.view.hand ≡ Some hand) (mark : hand.mark ≡ k) where
+  pub IsSteered-found : IfSome found.view.hand (λ h. IsSteered found.view h.mark m p)
+  IsSteered-found =
+      if_held found.view (λ h. IsSteered found.view h.mark m p) hand held
+      (subst (λ j. IsSteered found.view j m p) (sym mark) record { from = from; seen = steers.stands; reached = steers.point_is })
+
+  module _ (written : PassState) (goes_on : GoesOn found.view written.view) (is : written ≡ with_view found (pointed found.view hand m p)) where
+    then : written.view ≡ pointed found.view hand m p
+    then = ap (λ (x : PassState). x.view) is
+
+    pub KeepsRecords-written : KeepsRecords shared before written
+    KeepsRecords-written = record {
+      belongs = record {
+        table = ap (λ (x : PassState). x.table) is ∙ keeps.belongs.table;
+        run = goes_on.later.run ∙ keeps.belongs.run;
+      };
+      goes_on = GoesOn-trans before.view found.view written.view keeps.goes_on goes_on;
+      records = λ j. ap (λ v. sees v (RecordOf j)) then ∙ keeps.records j;
+      crew = ap (λ v. v.crew) then ∙ keeps.crew;
+      most = ap (λ v. v.most) then ∙ keeps.most;
+    }
+
+    pub MayPlace-written : IsBounded p → Clear (space_of shared.task.scene) from p → MayPlace shared written k m p
+    unfolding KeepsRecords-written
+    MayPlace-written bounded clear = record {
+      belongs = KeepsRecords-written.belongs;
+      hand = record hand { stage = Pointed; nearest = m; point = p };
+      held = ap (λ v. v.hand) then;
+      mark = mark;
+      pointed = record { stage = refl; nearest = refl; point = refl };
+      bounded = bounded;
+      steered =
+          IsSteeredTo-still found.view written.view k m p goes_on (λ j. ap (λ v. sees v (RecordOf j)) then)
+          (IsSteeredTo-found shared before found k m from p keeps steers);
+      clear =
+          subst (λ q. Clear (space_of shared.task.scene) q p)
+          (sym (point_of-stands (tree_seen written.view).points m from (stands_later found.view written.view goes_on m from steers.stands))) clear;
+    }
+
+-- ---- from an earlier moment
+
+-- What an outcome says of a time that began later, it says of one that began earlier.
+module _ (first before after : View) (goes_on : GoesOn first before) (k : ℕ) (entry : Record) (p : Point) where
+  neighbour_later : (i : ℕ) → WasNeighbour first after entry p i → WasNeighbour before after entry p i
+  neighbour_later i was = record {
+    at = was.at;
+    stands = stands_later first before goes_on i was.at was.stands;
+    pair = SeesPair-later first before goes_on i was.pair;
+    near = was.near;
+    clear = was.clear;
+  }
+
+  IsPlacedAt-earlier : IsPlacedAt before after k entry p → IsPlacedAt first after k entry p
+  unfolding neighbour_later
+  IsPlacedAt-earlier h = record {
+    stands = h.stands;
+    class_is = h.class_is;
+    swept =
+        SweepsWithin-begun (sight_in first) (sight_in before) (sight_in after) p (radius_in after entry.class * radius_in after entry.class)
+        (IsLaterMoment-later first before goes_on.later) h.swept;
+    chosen = λ i was. omega (arith, h.chosen i (neighbour_later i was), cost_seen-later first before goes_on i was.pair);
+    rewired = λ i was. h.rewired i (neighbour_later i was);
+  }
+
+  pub EndsAt-earlier : (outcome : Outcome) → EndsAt before after k entry p outcome → EndsAt first after k entry p outcome
+  EndsAt-earlier Placed h = IsPlacedAt-earlier h
+  EndsAt-earlier (Same j) h = h
+  EndsAt-earlier Blocked h = record {
+    blocked = h.blocked;
+    free = h.free;
+    swept = λ free. (let ends = h.swept free in record {
+      depth = ends.depth;
+      node = ends.node;
+      point = ends.point;
+      on_way = ends.on_way;
+      stands = ends.stands;
+      other = ends.other;
+      empty = omega (arith, ends.empty, goes_on.later.steps);
+    });
+  }
+
+-- Once its node was handled from the moment at which its point was written, the mark is handled from the first one.
+pub IsExtended-written :
+    (shared : SharedState) (before steering found written done : PassState) (k m : ℕ) (from p : Point) (entry : Record)
+    → HasLooked shared before steering found k m from p → KeepsRecords shared before written → GoesOn found.view written.view
+    → HandlesMark shared written done k entry → entry.nearest ≡ m → EndsAt written.view done.view k entry p entry.outcome
+    → IsExtended before.view done.view k entry
+IsExtended-written shared before steering found written done k m from p entry looked keeps goes_on handles is ended = record {
+  stored = handles.stored;
+  idle = handles.may_claim.idle;
+  from = from;
+  point = p;
+  steered =
+      subst (λ n. HasSteered before.view done.view k n from p) (sym is)
+      (HasSteered-still before.view found.view done.view looked.keeps.goes_on
+      (GoesOn-trans found.view written.view done.view goes_on handles.goes_on) k m from p looked.steers);
+  outcome = EndsAt-earlier before.view written.view done.view keeps.goes_on k entry p entry.outcome ended;
+}

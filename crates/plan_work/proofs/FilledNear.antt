@@ -1,0 +1,75 @@
+-- The near list of a new node, from the count that was loaded before.
+use Rattle.std.proofs.Common.{◌≡◌, ℕ, zero, suc, ◌+◌, ◌-◌, ◌*◌, ◌^◌, ◌≤◌, Bool, true, false, List, length, refl, sym, ap, ◌∙◌, arith}
+use Rattle.std.specs.Prelude.{cond, nat_le, slice_index_or}
+use Rattle.std.specs.List.{range_with_len}
+use Rattle.std.proofs.lemmas.List.Elements.{Contains-get_or}
+use Rattle.std.proofs.lemmas.Nat.{mul-le}
+use Rattle.std.proofs.lemmas.List.Sums.{length-filter}
+use Rattle.kd_shared.specs.Searches.{AreNearSeen}
+use Rattle.kd_shared.proofs.SearchResults.{AreNearSeen-all, AreNearSeen-only, SweepsWithin-begun}
+use Rattle.plan_model.specs.Geometry.{squared_distance}
+use Rattle.plan_model.specs.Radius.{class_of, greatest, radius_of_class}
+use Rattle.plan_model.specs.declared.geometry.Point.{Point}
+use Rattle.plan_model.specs.declared.records.Record.{Record}
+use Rattle.plan_model.proofs.CountsBelow.{count-some}
+use Rattle.plan_model.proofs.NewNodes.{IsPresent-stands, point_of-stands}
+use Rattle.plan_words.specs.States.{GoesOn}
+use Rattle.plan_work.specs.SharedMarks.{HasFilledNear, radius_in}
+use Rattle.step_core.specs.SeenRecords.{is_own, own_count}
+use Rattle.step_core.specs.ViewTrees.{sight_in}
+use Rattle.step_core.specs.Views.{sees, tree_seen}
+use Rattle.step_core.specs.WordNames.Word.{Count}
+use Rattle.step_core.specs.declared.views.View.{View}
+use Rattle.step_core.proofs.LawfulSights.{IsLaterMoment-later}
+use Rattle.tree_rewire.proofs.SeenCosts.{stands_later}
+
+-- a worker has the start at least
+pub own_count-some : (view : View) (entry : Record) → 1 ≤ own_count view entry
+own_count-some view entry =
+    omega (
+      arith,
+      length-filter (is_own view entry) (range_with_len 0 (length view.run.marks + 1)),
+      count-some (is_own view entry) (length view.run.marks + 1) 0 (omega arith) refl,
+    )
+
+greatest-most : (test : ℕ → Bool) (n : ℕ) → greatest test n ≤ n
+greatest-most test zero = omega arith
+greatest-most test (suc n) = by_test (test (suc n)) (greatest-most test n)
+  where
+    by_test : (b : Bool) → greatest test n ≤ n → cond b (suc n) (greatest test n) ≤ suc n
+    by_test true less = omega arith
+    by_test false less = omega (arith, less)
+
+-- a radius is at most the step
+pub radius-most : (step gamma b : ℕ) → radius_of_class step gamma b ≤ step
+radius-most step gamma b = greatest-most (λ r. nat_le (r * r * 2 ^ (b - 1)) (gamma * gamma * b)) step
+
+square-le : (a b : ℕ) → a ≤ b → a * a ≤ b * b
+square-le a b h = mul-le a a b b h h
+
+-- The list that a search found after the count was loaded.
+pub HasFilledNear-found :
+    (before mid after : View) → GoesOn before mid → GoesOn mid after → (p : Point) (nodes class : ℕ) (near : List ℕ)
+    → ((entry : Record) → own_count before entry ≤ nodes) → sees after Count ≡ nodes → class ≡ class_of nodes
+    → AreNearSeen (sight_in mid) (sight_in after) p (radius_in after class) near → HasFilledNear before after p class near
+HasFilledNear-found before mid after one other p nodes class near own count is found =
+    let later = IsLaterMoment-later before mid one.later in
+    let next = IsLaterMoment-later mid after other.later in
+    let r : ℕ = radius_in after class in
+    record {
+      class_is = is ∙ ap class_of (sym count);
+      counted = λ entry. omega (arith, own entry, count);
+      all = λ i q stands close.
+          AreNearSeen-all (sight_in mid) (sight_in after) p r near found next i q (stands_later before mid one i q stands) close;
+      in_reach = λ k d below.
+          let n : ℕ = slice_index_or near k d in
+          let own_point = AreNearSeen-only (sight_in mid) (sight_in after) p r near found n (Contains-get_or near k d below) in
+          let points = (tree_seen after).points in
+          let there = point_of-stands points n own_point.0 own_point.1 in
+          let bound = square-le r after.run.step (radius-most after.run.step after.run.gamma class) in
+          record {
+            present = IsPresent-stands points n own_point.0 own_point.1;
+            short = omega (arith, ap (λ a. squared_distance a p) there, own_point.2, bound);
+          };
+      swept = SweepsWithin-begun (sight_in before) (sight_in mid) (sight_in after) p (r * r) later found.swept;
+    }

@@ -1,0 +1,89 @@
+-- The node in hand gets its parent and its cost.
+use Rattle.std.proofs.Common.{◌≡◌, ℕ, ◌≤◌, [], ◌∷◌, List, refl, sym, ap, ◌∙◌, subst, arith}
+use Rattle.std.specs.Prelude.{All, Contains}
+use Rattle.std.proofs.lemmas.List.Elements.{All-contains, Contains-append_left, Contains-append_right, Contains-get_or, Contains-push}
+use Rattle.plan_model.specs.Clearance.{Clear}
+use Rattle.plan_model.specs.ConfigurationSpace.{ConfigurationSpace}
+use Rattle.plan_model.specs.Cost.{cost_of}
+use Rattle.plan_model.specs.LeastPairs.{IsFirstLeast}
+use Rattle.plan_model.specs.OpenNodes.{IsOpenTo}
+use Rattle.plan_model.specs.PointsByNumber.{IsPresent, point_at, point_of}
+use Rattle.plan_model.specs.declared.geometry.Point.{Point}
+use Rattle.plan_model.proofs.NewNodes.{StandsAt-present}
+use Rattle.plan_words.specs.States.{BelongsTo, GoesOn, PassState, SharedState, with_view}
+use Rattle.plan_work.specs.SharedMarks.{IsHung, IsPointed, KeepsRecords}
+use Rattle.step_core.specs.ViewSteps.{half, treed}
+use Rattle.step_core.specs.ViewTrees.{IsCostBelow, MayHang}
+use Rattle.step_core.specs.Views.{sees, setup_in, tree_seen}
+use Rattle.step_core.specs.WordNames.Word.{RecordOf}
+use Rattle.step_core.specs.declared.views.Hand.{Hand}
+use Rattle.step_core.specs.declared.views.Stage.TheVariants.{Half}
+use Rattle.step_core.specs.declared.views.View.{View}
+use Rattle.tree_rewire.specs.SeenCosts.{SeesPair, cost_seen, cost_through}
+
+-- the first of a list, and the others
+Contains-first : (x : ℕ) (xs : List ℕ) → Contains (x ∷ xs) x
+Contains-first x xs = Contains-append_left (x ∷ []) xs x (Contains-push [] x)
+
+Contains-rest : (x : ℕ) (xs : List ℕ) (y : ℕ) → Contains xs y → Contains (x ∷ xs) y
+Contains-rest x xs y h = Contains-append_right (x ∷ []) xs y h
+
+module _ (space : ConfigurationSpace) (view : View) (hand : Hand) (p : Point) (nearest parent cost : ℕ) (near : List ℕ) (pointed : IsPointed hand nearest p)
+    (least : IsFirstLeast (cost_through view p) (IsOpenTo space (tree_seen view).points p (nearest ∷ near)) parent)
+    (cost_is : cost ≡ cost_through view p parent) where
+  -- the node may hang below the parent that was chosen
+  pub MayHang-chosen : IsPresent (tree_seen view).points nearest → SeesPair view nearest → Clear space (point_of (tree_seen view).points nearest) p
+      → IsCostBelow view p parent cost → MayHang view hand parent cost
+  MayHang-chosen present pair clear below =
+      let points = (tree_seen view).points in
+      let not_above = least.not_above nearest record { one_of = Contains-first nearest near; clear = clear } in
+      record {
+        below = subst (λ q. IsCostBelow view q parent cost) (sym pointed.point) below;
+        nearest_at = point_of points nearest;
+        nearest_cost = cost_seen view nearest;
+        nearest = record {
+          stands =
+              ap (λ n. point_at points n) pointed.nearest ∙ StandsAt-present points nearest present;
+          written = subst (SeesPair view) (sym pointed.nearest) pair;
+          cost_is = ap (cost_seen view) (sym pointed.nearest);
+        };
+        chosen = omega (arith, not_above.least, cost_is, ap (cost_of (point_of points nearest)) pointed.point);
+      }
+
+  -- and costs no more than through any near node
+  pub chosen_near : (i : ℕ) → Contains near i → Clear space (point_of (tree_seen view).points i) p → cost ≤ cost_through view p i
+  chosen_near i among clear =
+      omega (arith, cost_is, (least.not_above i record { one_of = Contains-rest nearest near i among; clear = clear }).least)
+
+-- After both words are written the node hangs.
+pub IsHung-written :
+    (space : ConfigurationSpace) (view : View) (own : Hand) (m : ℕ) (p : Point) (pair : ℕ × ℕ) (near : List ℕ) (then : View) → IsPointed own m p
+    → then ≡ treed (half view own pair.0 pair.1) (record own { stage = Half; parent = pair.0; cost = pair.1 }) → space ≡ (setup_in view.run).space
+    → All (SeesPair view) (m ∷ near)
+    → ((i : ℕ) → Contains near i → Clear space (point_of (tree_seen view).points i) p → pair.1 ≤ cost_through view p i) → IsHung then own pair near
+IsHung-written space view own m p pair near then pointed is same pairs chosen =
+    subst (λ v. IsHung v own pair near) (sym is) record {
+      held = refl;
+      pairs = λ k d below. All-contains (SeesPair view) (m ∷ near) _ pairs (Contains-rest m near _ (Contains-get_or near k d below));
+      chosen = λ i among clear.
+          omega (
+            arith,
+            chosen i among
+                (subst (λ q. Clear space (point_of (tree_seen view).points i) q) pointed.point
+                (subst (λ s. Clear s (point_of (tree_seen view).points i) own.point) (sym same) clear)),
+            ap (cost_of (point_of (tree_seen view).points i)) pointed.point,
+          );
+    }
+
+-- No record was seen anew.
+pub KeepsRecords-written :
+    (shared : SharedState) (before after : PassState) (own : Hand) (parent cost : ℕ) → BelongsTo before shared
+    → after ≡ with_view before (treed (half before.view own parent cost) (record own { stage = Half; parent = parent; cost = cost }))
+    → GoesOn before.view after.view → KeepsRecords shared before after
+KeepsRecords-written shared before after own parent cost belongs is goes_on = record {
+  belongs = record { table = ap (λ (p : PassState). p.table) is ∙ belongs.table; run = goes_on.later.run ∙ belongs.run };
+  goes_on = goes_on;
+  records = λ k. ap (λ (p : PassState). sees p.view (RecordOf k)) is;
+  crew = ap (λ (p : PassState). p.view.crew) is;
+  most = ap (λ (p : PassState). p.view.most) is;
+}

@@ -1,0 +1,60 @@
+-- Calls that see no record anew, one after another.
+use Rattle.std.proofs.Common.{◌≡◌, ℕ, ap, ◌∙◌}
+use Rattle.kd_shared.specs.Looking.{OnlyLooks}
+use Rattle.plan_words.specs.States.{BelongsTo, GoesOn, PassState, SharedState}
+use Rattle.plan_words.proofs.GoingOn.{GoesOn-trans}
+use Rattle.plan_work.specs.SharedMarks.{KeepsRecords}
+use Rattle.step_core.specs.ViewSteps.{loaded}
+use Rattle.step_core.specs.Views.{sees}
+use Rattle.step_core.specs.WordNames.{Word, WritesWord}
+use Rattle.step_core.specs.WordNames.Word.{Count, RecordOf}
+use Rattle.tree_rewire.specs.SeenCosts.{SeesAnew}
+
+pub KeepsRecords-trans : (shared : SharedState) (before mid after : PassState) → KeepsRecords shared before mid → KeepsRecords shared mid after
+    → KeepsRecords shared before after
+KeepsRecords-trans shared before mid after one other = record {
+  belongs = other.belongs;
+  goes_on = GoesOn-trans before.view mid.view after.view one.goes_on other.goes_on;
+  records = λ k. other.records k ∙ one.records k;
+  crew = other.crew ∙ one.crew;
+  most = other.most ∙ one.most;
+}
+
+-- a pass stays one of the tree while its table does
+belongs_still : (shared : SharedState) (before after : PassState) → BelongsTo before shared → after.table ≡ before.table → GoesOn before.view after.view
+    → BelongsTo after shared
+belongs_still shared before after belongs table goes_on = record { table = table ∙ belongs.table; run = goes_on.later.run ∙ belongs.run }
+
+-- the count is loaded
+pub KeepsRecords-number : (shared : SharedState) (before after : PassState) (nodes value : ℕ) → BelongsTo before shared
+    → after ≡ record before { view = loaded before.view Count nodes } → GoesOn before.view after.view
+    → WritesWord Count value (sees before.view) (sees after.view) → KeepsRecords shared before after
+KeepsRecords-number shared before after nodes value belongs is goes_on writes = record {
+  belongs = belongs_still shared before after belongs (ap (λ (p : PassState). p.table) is) goes_on;
+  goes_on = goes_on;
+  records = λ k. writes.others (RecordOf k) (λ e. cc);
+  crew = ap (λ (p : PassState). p.view.crew) is;
+  most = ap (λ (p : PassState). p.view.most) is;
+}
+
+-- nodes are looked at
+pub KeepsRecords-looks : (shared : SharedState) (before after : PassState) → BelongsTo after shared → OnlyLooks before.view after.view
+    → KeepsRecords shared before after
+KeepsRecords-looks shared before after belongs looks = record {
+  belongs = belongs;
+  goes_on = looks.looks.goes_on;
+  records = λ k. looks.looks.others (RecordOf k) (λ no. no);
+  crew = looks.kept.crew;
+  most = looks.kept.most;
+}
+
+-- words are seen anew of which none is a record
+pub KeepsRecords-anew : (which : Word → Type 0) (shared : SharedState) (before after : PassState) → ((k : ℕ) → ¬ which (RecordOf k))
+    → BelongsTo after shared → SeesAnew which before.view after.view → KeepsRecords shared before after
+KeepsRecords-anew which shared before after none belongs anew = record {
+  belongs = belongs;
+  goes_on = anew.goes_on;
+  records = λ k. anew.others (RecordOf k) (none k);
+  crew = anew.kept.crew;
+  most = anew.kept.most;
+}

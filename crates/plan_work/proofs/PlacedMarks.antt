@@ -1,0 +1,285 @@
+-- A mark whose node was placed: what its neighbours cost, what may be recorded, and what the whole handling leaves.
+use Rattle.std.proofs.Common.{◌≡◌, ℕ, zero, suc, ◌+◌, ◌*◌, ◌≤◌, ◌^◌, true, Some, inl, inr, refl, sym, ap, ◌∙◌, subst, arith}
+use Rattle.std.specs.Prelude.{All, Contains, IfSome, IsTrue}
+use Rattle.std.proofs.lemmas.Bool.{leb-true}
+use Rattle.std.proofs.lemmas.List.Elements.{All-contains}
+use Rattle.kd_shared.specs.declared.placing.Placing.TheVariants.{Placed, Same}
+use Rattle.plan_model.specs.declared.records.Outcome.TheVariants.{Same as SameNode}
+use Rattle.plan_model.specs.Clearance.{Clear}
+use Rattle.plan_model.specs.ConfigurationSpace.{space_of}
+use Rattle.plan_model.specs.Cost.{cost_of}
+use Rattle.plan_model.specs.Geometry.{squared_distance}
+use Rattle.plan_model.specs.Nearness.{is_within}
+use Rattle.plan_model.specs.PointsByNumber.{point_at, point_of}
+use Rattle.plan_model.specs.Radius.{class_of, radius_of_class}
+use Rattle.plan_model.specs.declared.geometry.Point.{Point}
+use Rattle.plan_model.specs.declared.records.Record.{Record}
+use Rattle.plan_model.proofs.CostLaws.{cost_of-swap}
+use Rattle.plan_model.proofs.NewNodes.{StandsAt-present, point_of-stands}
+use Rattle.plan_model.proofs.RecordLaws.{class_of-le}
+use Rattle.plan_model.proofs.SegmentLaws.{Clear-back}
+use Rattle.plan_words.specs.States.{GoesOn, PassState, SharedState}
+use Rattle.plan_words.proofs.GoingOn.{GoesOn-trans}
+use Rattle.step_core.specs.SeenRecords.{IsOwnNeighbour, MayRecord, is_own, own_count, own_first_cost}
+use Rattle.kd_shared.specs.Searches.{SweepsWithin}
+use Rattle.step_core.specs.ViewTrees.{SeesPoint, sight_in}
+use Rattle.step_core.specs.Views.{sees, setup_in, tree_seen}
+use Rattle.step_core.specs.WordNames.Word.{Count, FirstOf, RecordOf}
+use Rattle.step_core.specs.Words.{cost_in}
+use Rattle.step_core.specs.declared.views.Hand.{Hand}
+use Rattle.step_core.specs.declared.views.SharedRun.{SharedRun}
+use Rattle.step_core.specs.declared.views.Stage.TheVariants.{Counted}
+use Rattle.step_core.specs.declared.views.View.{View}
+use Rattle.tree_rewire.proofs.SeenCosts.{cost_seen-later, stands_later}
+use Rattle.tree_rewire.specs.SeenCosts.{IsTreeOrPoint, SeesAnew, SeesPair, cost_seen}
+use Rattle.plan_work.proofs.KeptSights.{SweepsWithin-still}
+use Rattle.plan_work.proofs.HeldMarks.{if_held, of_held}
+use Rattle.plan_work.proofs.RecordedMarks.{IsSteeredTo-still, MayRecord-steered, has_node-kept, others_still, own_count-same, own_recorded, present_recorded}
+use Rattle.plan_work.proofs.TriedMarks.{clear_of-may}
+use Rattle.plan_work.specs.SharedMarks.{HasRecorded, IsPlacedAt, IsTried, KeepsRecords, MayPlace, WasNeighbour, hung_by, own_placed, own_unplaced, radius_in}
+use Rattle.plan_work.specs.declared.shared_marks.Hanging.{Hanging}
+
+-- The first word of a node stays once it was seen.
+first_kept : (before after : View) → GoesOn before after → (n : ℕ) → 2 ^ 63 ≤ sees before (FirstOf n) → sees after (FirstOf n) ≡ sees before (FirstOf n)
+first_kept before after goes_on n written =
+    elim (goes_on.later.seen (FirstOf n)) [
+      | inl none ↦ absurd (omega (arith, none, written))
+      | inr same ↦ sym same
+    ]
+
+-- what own nodes were placed at is at least what they cost, as it was seen at any time since
+cost-first : (before mid after : View) → GoesOn before mid → GoesOn mid after → (entry : Record) → ((k : ℕ) → sees after (RecordOf k) ≡ sees before (RecordOf k))
+    → (i : ℕ) → IsTrue (is_own after entry i) → SeesPair mid i → cost_seen mid i ≤ own_first_cost after i
+cost-first before mid after one other entry records zero own pair = omega (arith, ((one.lawful.pairs 0 pair).start refl).1)
+cost-first before mid after one other entry records (suc k) own pair = omega (arith, (one.lawful.pairs (suc k) pair).first there, ap cost_in kept)
+  where
+    was : 2 ^ 63 ≤ sees before (FirstOf (suc k))
+    was = one.was_lawful.tree.placed_first k (sym (has_node-kept before after records (suc k)) ∙ own_recorded after entry (suc k) own)
+
+    there : 2 ^ 63 ≤ sees mid (FirstOf (suc k))
+    there = omega (arith, was, first_kept before mid one (suc k) was)
+
+    kept : sees after (FirstOf (suc k)) ≡ sees mid (FirstOf (suc k))
+    kept = first_kept mid after other (suc k) there
+
+-- another node stands at the point in hand
+pub MayRecord-same :
+    (shared : SharedState) (before after : PassState) (k m : ℕ) (p : Point) (hanging : Hanging) (j : ℕ) (may : MayPlace shared before k m p)
+    → KeepsRecords shared before after → IsTried before after may.hand (Same j) hanging
+    → IfSome after.view.hand (λ hand. MayRecord after.view hand (own_unplaced after.view m (SameNode j)))
+MayRecord-same shared before after k m p hanging j may keeps tried =
+    if_held after.view (λ hand. MayRecord after.view hand (own_unplaced after.view m (SameNode j))) (hung_by may.hand hanging) tried.came.unchanged
+    (MayRecord-steered after.view (hung_by may.hand hanging) k m p (own_unplaced after.view m (SameNode j))
+    (IsSteeredTo-still before.view after.view k m p keeps.goes_on keeps.records may.steered) may.mark refl
+    (subst (SeesPoint after.view j) may.pointed.point tried.came.stands))
+
+-- what a rewiring says of the node in hand, by its point and its cost
+pub Rewired-hand :
+    (shared : SharedState) (before tried after : PassState) (k m : ℕ) (p : Point) (hanging : Hanging) (may : MayPlace shared before k m p)
+    → IsTried before tried may.hand Placed hanging
+    → IfSome tried.view.hand (λ hand. (i : ℕ) → Contains tried.near i
+    → Clear (space_of shared.task.scene) hand.point (point_of (tree_seen tried.view).points i)
+    → cost_seen after.view i ≤ hand.cost + cost_of hand.point (point_of (tree_seen tried.view).points i))
+    → (i : ℕ) → Contains tried.near i → Clear (space_of shared.task.scene) p (point_of (tree_seen tried.view).points i)
+    → cost_seen after.view i ≤ hanging.cost + cost_of p (point_of (tree_seen tried.view).points i)
+Rewired-hand shared before tried after k m p hanging may is_tried rewired i among clear =
+    let points = (tree_seen tried.view).points in
+    let all =
+    of_held tried.view
+    (λ hand. (n : ℕ) → Contains tried.near n → Clear (space_of shared.task.scene) hand.point (point_of points n)
+    → cost_seen after.view n ≤ hand.cost + cost_of hand.point (point_of points n))
+    (record (hung_by may.hand hanging) { stage = Counted }) is_tried.came.counted rewired in
+    let most = all i among (subst (λ a. Clear (space_of shared.task.scene) a (point_of points i)) (sym may.pointed.point) clear) in
+    omega (arith, most, ap (λ a. cost_of a (point_of points i)) may.pointed.point)
+
+module _
+    (shared : SharedState) (before tried after : PassState) (k m : ℕ) (p : Point) (hanging : Hanging) (may : MayPlace shared before k m p)
+    (keeps : KeepsRecords shared before tried) (is_tried : IsTried before tried may.hand Placed hanging)
+    (seen : SeesAnew IsTreeOrPoint tried.view after.view) (pairs : All (SeesPair after.view) tried.near)
+    (rewired : (i : ℕ) → Contains tried.near i → Clear (space_of shared.task.scene) p (point_of (tree_seen tried.view).points i)
+    → cost_seen after.view i ≤ hanging.cost + cost_of p (point_of (tree_seen tried.view).points i)) where
+  abbrev mid : View
+  mid = is_tried.mid
+
+  later : GoesOn mid after.view
+  later = GoesOn-trans mid tried.view after.view is_tried.ended seen.goes_on
+
+  whole : GoesOn before.view after.view
+  whole = GoesOn-trans before.view mid after.view is_tried.begun later
+
+  records : (j : ℕ) → sees after.view (RecordOf j) ≡ sees before.view (RecordOf j)
+  records j = seen.others (RecordOf j) (λ no. no) ∙ keeps.records j
+
+  abbrev r : ℕ
+  r = radius_in mid hanging.class
+
+  -- ---- neighbours
+
+  -- node i was seen at q before it all, within the radius, with a clear edge
+  record IsCloseBy (i : ℕ) (q : Point) : Type 0 where
+    stood : SeesPoint before.view i q
+    near : squared_distance q p ≤ r * r
+    clear : Clear (space_of shared.task.scene) q p
+
+  module _ (i : ℕ) (q : Point) (close : IsCloseBy i q) where
+    among : Contains tried.near i
+    among = is_tried.filled.all i q close.stood (subst (λ at. squared_distance q at ≤ r * r) (sym may.pointed.point) close.near)
+
+    pair_at_mid : SeesPair mid i
+    pair_at_mid = All-contains (SeesPair mid) tried.near i is_tried.hung.pairs among
+
+    at_mid : point_of (tree_seen mid).points i ≡ q
+    at_mid = point_of-stands (tree_seen mid).points i q (stands_later before.view mid is_tried.begun i q close.stood)
+
+    at_tried : point_of (tree_seen tried.view).points i ≡ q
+    at_tried = point_of-stands (tree_seen tried.view).points i q (stands_later before.view tried.view keeps.goes_on i q close.stood)
+
+    space_mid : (setup_in mid.run).space ≡ space_of shared.task.scene
+    space_mid = ap (λ (run : SharedRun). (setup_in run).space) (is_tried.begun.later.run ∙ may.belongs.run)
+
+    -- It was no cheaper parent,
+    chosen_by : hanging.cost ≤ cost_seen mid i + cost_of q p
+    chosen_by =
+        omega (
+          arith,
+          is_tried.hung.chosen i among
+              (subst (λ s. Clear s (point_of (tree_seen mid).points i) may.hand.point) (sym space_mid)
+              (subst (λ a. Clear (space_of shared.task.scene) a may.hand.point) (sym at_mid)
+              (subst (λ b. Clear (space_of shared.task.scene) q b) (sym may.pointed.point) close.clear))),
+          ap (λ a. cost_of a may.hand.point) at_mid,
+          ap (cost_of q) may.pointed.point,
+        )
+
+    -- and is seen no dearer than through the new node.
+    rewired_by : cost_seen after.view i ≤ hanging.cost + cost_of q p
+    rewired_by =
+        omega (
+          arith,
+          rewired i among (subst (Clear (space_of shared.task.scene) p) (sym at_tried) (Clear-back (space_of shared.task.scene) q p close.clear)),
+          ap (cost_of p) at_tried,
+          cost_of-swap p q,
+        )
+
+    pair_after : SeesPair after.view i
+    pair_after = All-contains (SeesPair after.view) tried.near i pairs among
+
+  -- ---- the record
+
+  abbrev entry : Record
+  entry = own_placed after.view m hanging
+
+  abbrev counted_hand : Hand
+  counted_hand = record (hung_by may.hand hanging) { stage = Counted }
+
+  stood_before : (i : ℕ) → IsTrue (is_own after.view entry i) → SeesPoint before.view i (point_of (tree_seen before.view).points i)
+  stood_before i own =
+      StandsAt-present (tree_seen before.view).points i
+      (present_recorded before.view keeps.goes_on.was_lawful i (sym (has_node-kept before.view after.view records i) ∙ own_recorded after.view entry i own))
+
+  close_own : (i : ℕ) → IsOwnNeighbour after.view entry may.hand.point i → IsCloseBy i (point_of (tree_seen after.view).points i)
+  close_own i h =
+      let points = (tree_seen after.view).points in
+      let old = (tree_seen before.view).points in
+      let q : Point = point_of points i in
+      let stands = stood_before i h.own in
+      let same : q ≡ point_of old i = point_of-stands points i (point_of old i) (stands_later before.view after.view whole i (point_of old i) stands) in
+      let here : point_at points i ≡ Some q = stands_later before.view after.view whole i (point_of old i) stands ∙ ap Some (sym same) in
+      let run = later.later.run in
+      let radius : radius_of_class after.view.run.step after.view.run.gamma hanging.class ≡ r =
+      ap (λ (x : SharedRun). radius_of_class x.step x.gamma hanging.class) run in
+      record {
+        stood = subst (SeesPoint before.view i) (sym same) stands;
+        near =
+            let within = subst (λ o. is_within may.hand.point (radius_of_class after.view.run.step after.view.run.gamma hanging.class) o ≡ true) here h.near in
+            subst (λ at. squared_distance q at ≤ r * r) may.pointed.point
+            (subst (λ x. squared_distance q may.hand.point ≤ x * x) radius (leb-true _ _ within));
+        clear =
+            subst (Clear (space_of shared.task.scene) q) may.pointed.point
+            (subst (λ s. Clear s q may.hand.point) (ap (λ (x : SharedRun). (setup_in x).space) (whole.later.run ∙ may.belongs.run)) h.clear);
+      }
+
+  own_count-kept : own_count after.view entry ≤ sees mid Count
+  own_count-kept = subst (λ n. n ≤ sees mid Count) (sym same) (is_tried.filled.counted entry)
+    where
+      same : own_count after.view entry ≡ own_count before.view entry
+      same = own_count-same before.view after.view entry whole records
+
+  pub MayRecord-placed : IfSome after.view.hand (λ hand. MayRecord after.view hand entry)
+  MayRecord-placed =
+      if_held after.view (λ hand. MayRecord after.view hand entry) counted_hand (seen.kept.hand ∙ is_tried.came.counted)
+      (MayRecord-steered after.view counted_hand k m p entry (IsSteeredTo-still before.view after.view k m p whole records may.steered) may.mark refl
+      record {
+        nearest_is = sym may.pointed.nearest;
+        parent_is = refl;
+        cost_is = refl;
+        clear =
+            subst (λ s. Clear s (point_of (tree_seen after.view).points m) may.hand.point)
+            (sym (ap (λ (x : SharedRun). (setup_in x).space) (whole.later.run ∙ may.belongs.run)))
+            (subst (λ b. Clear (space_of shared.task.scene) (point_of (tree_seen after.view).points m) b) (sym may.pointed.point)
+            (clear_of-may (space_of shared.task.scene) shared before after.view k m p whole may may.clear));
+        low = omega (arith, class_of-le (own_count after.view entry) (sees mid Count) own_count-kept, is_tried.filled.class_is);
+        high = omega (arith, is_tried.filled.class_is, ap class_of is_tried.count, ap class_of (seen.others Count (λ no. no)));
+        chosen = λ i h.
+            let close = close_own i h in
+            let most = cost-first before.view mid after.view is_tried.begun later entry records i h.own (pair_at_mid i _ close) in
+            omega (arith, chosen_by i _ close, most, ap (cost_of (point_of (tree_seen after.view).points i)) may.pointed.point);
+        rewired = λ i h.
+            let close = close_own i h in (
+              pair_after i _ close,
+              omega (arith, rewired_by i _ close, ap (cost_of (point_of (tree_seen after.view).points i)) may.pointed.point),
+            );
+      })
+
+  -- ---- after the record
+
+  module _ (done : PassState) (stored : Record) (recorded : HasRecorded shared after done stored) (is : stored ≡ entry) where
+    end : GoesOn before.view done.view
+    end = GoesOn-trans before.view after.view done.view whole recorded.goes_on
+
+    radius_end : radius_in done.view stored.class ≡ r
+    radius_end =
+        ap (radius_in done.view) (ap (λ (x : Record). x.class) is)
+        ∙ ap (λ (x : SharedRun). radius_of_class x.step x.gamma hanging.class) (recorded.goes_on.later.run ∙ later.later.run)
+
+    close_neighbour : (i : ℕ) (was : WasNeighbour before.view done.view stored p i) → IsCloseBy i was.at
+    close_neighbour i was = record {
+      stood = was.stands;
+      near = subst (λ x. squared_distance was.at p ≤ x * x) radius_end was.near;
+      clear = subst (λ s. Clear s was.at p) (ap (λ (x : SharedRun). (setup_in x).space) (end.later.run ∙ may.belongs.run)) was.clear;
+    }
+
+    pub IsPlacedAt-recorded : IsPlacedAt before.view done.view k stored p
+    IsPlacedAt-recorded = record {
+      stands =
+          subst (λ j. SeesPoint done.view (suc j) p) may.mark
+          (subst (SeesPoint done.view (suc may.hand.mark)) may.pointed.point
+          (stands_later tried.view done.view (GoesOn-trans tried.view after.view done.view seen.goes_on recorded.goes_on) (suc may.hand.mark) may.hand.point
+          is_tried.came.stands));
+      class_is =
+          ap (λ (x : Record). x.class) is ∙ is_tried.filled.class_is
+          ∙ ap class_of (sym (others_still after.view done.view counted_hand stored held_after (ap (λ (x : PassState). x.view) (recorded.view counted_hand held_after))
+          whole.lawful Count (λ e. cc) ∙ seen.others Count (λ no. no) ∙ is_tried.count));
+      swept =
+          subst (λ x. SweepsWithin (sight_in before.view) (sight_in done.view) p (x * x)) (sym radius_end)
+          (SweepsWithin-still mid done.view (GoesOn-trans mid after.view done.view later recorded.goes_on) before.view p (r * r)
+          (subst (λ at. SweepsWithin (sight_in before.view) (sight_in mid) at (r * r)) may.pointed.point is_tried.filled.swept));
+      chosen = λ i was.
+          let close = close_neighbour i was in
+          omega (
+            arith,
+            chosen_by i was.at close,
+            cost_seen-later before.view mid is_tried.begun i was.pair,
+            ap (λ (x : Record). x.first_cost) is,
+          );
+      rewired = λ i was.
+          let close = close_neighbour i was in
+          omega (
+            arith,
+            rewired_by i was.at close,
+            cost_seen-later after.view done.view recorded.goes_on i (pair_after i was.at close),
+            ap (λ (x : Record). x.first_cost) is,
+          );
+    }
+      where
+        held_after : after.view.hand ≡ Some counted_hand
+        held_after = seen.kept.hand ∙ is_tried.came.counted

@@ -1,0 +1,59 @@
+-- A worker has handled one mark more.
+use Rattle.std.proofs.Common.{◌≡◌, ℕ, ◌+◌, ◌-◌, ◌<◌, ◌≤◌, List, length, inl, inr, refl, sym, ap, ◌∙◌, subst, arith}
+use Rattle.std.specs.Prelude.{◌⊎◌, [], ◌∷◌, max}
+use Rattle.std.proofs.lemmas.Bool.{cases_lt}
+use lib.ListN.{get_elem?}
+use Rattle.plan_model.specs.declared.records.Record.{Record}
+use Rattle.plan_words.specs.Claims.{IsClaimed}
+use Rattle.plan_words.specs.States.{GoesOn, PassState, SharedState, turn_of, worker_of}
+use Rattle.step_core.specs.ViewSteps.{new_hand, one_turn_more}
+use Rattle.step_core.specs.declared.views.Member.{Member}
+use Rattle.plan_words.proofs.Tying.{HasMember-held}
+use Rattle.plan_work.specs.SharedMarks.{HandlesMark}
+use Rattle.plan_work.specs.SharedWork.{HasWorked}
+
+-- a turn more changes neither the share nor the worker
+share-turned : (crew : List Member) → length (one_turn_more crew) ≡ length crew
+share-turned [] = refl
+share-turned (member ∷ crew) = refl
+
+worker-turned : (crew : List Member) → worker_of (one_turn_more crew) ≡ worker_of crew
+worker-turned [] = refl
+worker-turned (member ∷ crew) = refl
+
+turn-turned : (crew : List Member) → 0 < length crew → turn_of (one_turn_more crew) ≡ turn_of crew + 1
+turn-turned [] some = absurd (omega (arith, some))
+turn-turned (member ∷ crew) some = refl
+
+pub HasWorked-mark :
+    (shared : SharedState) (before now claimed after : PassState) (limit k : ℕ) (entry : Record) → HasWorked shared before now limit
+    → IsClaimed now.view claimed.view limit k → HandlesMark shared claimed after k entry → HasWorked shared before after limit
+HasWorked-mark shared before now claimed after limit k entry worked claims handles = record {
+  may_claim = handles.may_claim;
+  same_share = ap length (handles.crew ∙ ap one_turn_more claims.crew) ∙ share-turned now.view.crew ∙ worked.same_share;
+  worker = ap worker_of (handles.crew ∙ ap one_turn_more claims.crew) ∙ worker-turned now.view.crew ∙ worked.worker;
+  most = limits worked.most (cases_lt now.view.most limit);
+}
+  where
+    is : after.view.most ≡ max now.view.most limit
+    is = handles.most ∙ claims.most
+
+    limits : (now.view.most ≡ before.view.most) ⊎ (now.view.most ≡ limit) → (now.view.most < limit) ⊎ (limit ≤ now.view.most)
+        → (after.view.most ≡ before.view.most) ⊎ (after.view.most ≡ limit)
+    limits was (inl less) = inr (omega (arith, is, less))
+    limits (inl same) (inr more) = inl (omega (arith, is, more, same))
+    limits (inr same) (inr more) = inr (omega (arith, is, more, same))
+
+-- and fewer turns are left
+pub fewer_turns :
+    (shared : SharedState) (now claimed after : PassState) (limit k : ℕ) (entry : Record) → GoesOn now.view claimed.view
+    → IsClaimed now.view claimed.view limit k → HandlesMark shared claimed after k entry
+    → length claimed.view.run.marks - turn_of after.view.crew < length claimed.view.run.marks - turn_of now.view.crew
+fewer_turns shared now claimed after limit k entry goes_on claims handles =
+    let lawful = goes_on.lawful in
+    let has = HasMember-held claimed.view (new_hand k) lawful claims.hand in
+    let low = lawful.turn (new_hand k) 0 has.member claims.hand (ap (λ l. get_elem? l 0) has.crew_is) in
+    let turn = ap turn_of has.crew_is in
+    let some : 0 < length claimed.view.crew = subst (λ l. 0 < length l) (sym has.crew_is) (omega arith) in
+    let more = ap turn_of handles.crew ∙ turn-turned claimed.view.crew some in
+    omega (arith, low, turn, more, ap turn_of claims.crew)
