@@ -11,7 +11,8 @@ use Rattle.convex_sets.proofs.BoxLaws.{in_range}
 use Rattle.convex_sets.proofs.ConvexPolygons.{IsConvex}
 use Rattle.convex_sets.proofs.Ring.{var, plus, minus, times, same}
 use Rattle.swept_check.specs.Crossings.{Crosses}
-use Rattle.swept_check.specs.Apart.{IsApart}
+use Rattle.swept_check.specs.Apart.{IsApart, IsBeside, IsReachOf}
+use Rattle.swept_check.specs.declared.zone_crossings.Reach.{Reach}
 use Rattle.swept_check.proofs.LinearValues.{IsAdmitted-outside}
 
 -- how far a coordinate on the way is past another
@@ -54,3 +55,16 @@ crossed_box corners a b bounds convex box x =
       across = not_apart a.x b.x x.s x.d bounds.low.x bounds.high.x x.positive x.on_segment r.left r.right;
       up = not_apart a.y b.y x.s x.d bounds.low.y bounds.high.y x.positive x.on_segment r.bottom r.top;
     }
+
+-- so it is not crossed by what does not reach it
+pub beside_none :
+    (zone : List Vertex) (a b : Point) (reach : Reach) (bounds : BoundingBox) → IsConvex zone → IsBoundingBox zone bounds → IsReachOf a b reach
+    → IsBeside reach bounds → Crosses zone a b → ⊥
+beside_none zone a b reach bounds convex box within beside x =
+    let none = crossed_box zone a b bounds convex box x in
+    elim beside [
+      | inl right ↦ none.across (inl (omega (arith, ints, right, within.right.0), omega (arith, ints, right, within.right.1)))
+      | inr (inl left) ↦ none.across (inr (omega (arith, ints, left, within.left.0), omega (arith, ints, left, within.left.1)))
+      | inr (inr (inl top)) ↦ none.up (inl (omega (arith, ints, top, within.top.0), omega (arith, ints, top, within.top.1)))
+      | inr (inr (inr bottom)) ↦ none.up (inr (omega (arith, ints, bottom, within.bottom.0), omega (arith, ints, bottom, within.bottom.1)))
+    ]
