@@ -16,6 +16,7 @@ use crate::waiting::Waiting;
 use plan_model::Point;
 use std::alloc::{AllocError, Global};
 use std::collections::VecDeque;
+use std::mem;
 
 /// A node that a search is to visit. A search uses only one of `gap` and `point`.
 #[derive(Clone, Copy)]
@@ -60,7 +61,7 @@ impl Pass {
         // what the law says of a view holds of that of each pass
         ensures lawful { IsLawfulView self.new.view }
     {
-        self.scratch.spots.clear();
+        empty_to_front(&mut self.scratch.spots);
     }
 
     /// Puts a spot at the end of the list.
@@ -202,4 +203,15 @@ impl Pass {
     {
         self.scratch.around.pop()
     }
+}
+
+/// Empties a list of spots. The next of them stands at the front of its memory again, wherever the last was: so short lists keep to
+/// a few lines of the cache, in whatever order spots came and went.
+fn empty_to_front(spots: &mut VecDeque<Spot>)
+    ensures items { spots.new.items ≡ [] }
+    ensures room { deque_capacity spots.new ≡ deque_capacity spots.old }
+{
+    spots.clear();
+    let none = VecDeque::new(*spots.allocator());
+    *spots = VecDeque::from_vec(mem::replace(spots, none).into_vec());
 }

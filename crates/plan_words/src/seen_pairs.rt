@@ -72,8 +72,12 @@ impl SeenPairs {
         requires parent { 2 ^ 63 ≤ word → parent_in word < length self.old }
         ensures { self.new ≡ slice_set self.old node word }
     {
-        let from = chain_of(node, self.words[node as usize]);
-        self.children.relink(node, from, chain_of(node, word));
+        let before = self.words[node as usize];
+        if before == word {
+            return;
+        }
+        self.children
+            .relink(node, chain_of(node, before), chain_of(node, word));
         self.words[node as usize] = word;
     }
 
