@@ -3,7 +3,7 @@
 
 Usage: compare.py PROGRAM [FIRST [COUNT]]. For each number from FIRST on (0 and 200 if left out):
 - `plain` and `plain full` write what textbook.py writes, and end with its status;
-- `plan 1 full` and `plan 4 full` write a report that judge.py finds lawful, with the same counts of marks;
+- `plan W full`, for W of WORKERS, writes a report that judge.py finds lawful;
 - `show` writes the canonical text, and for a text with faults the line and the kind of the first;
 - the judge refuses a report in which one number is changed, or the change is counted as one that is lawful too.
 
@@ -20,6 +20,9 @@ from judge import verdict
 from make_scenes import scene_of, with_faults
 from scene import Fault, read
 from textbook import answer
+
+# How many workers plan each scene.
+WORKERS = (1, 2, 3, 4, 16, 64)
 
 
 class Comparison:
@@ -48,7 +51,7 @@ class Comparison:
         for full in (False, True):
             words = "plain full" if full else "plain"
             self.note(number, words, self.run(words, text) == answer(text, full))
-        for workers in (1, 4):
+        for workers in WORKERS:
             words = f"plan {workers} full"
             output, status = self.run(words, text)
             if status > 1:

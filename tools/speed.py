@@ -1,9 +1,10 @@
 #!/usr/bin/env python3
 """Measures a built program on generated scenes, and prints a table of times and of ratios in this one run.
 
-Usage: speed.py PROGRAM [ROUNDS [OTHER]]. The commands are run in turns, ROUNDS times (5 if left out), and the least time
-of each counts: wall time, and processor time of all threads. With OTHER, a second program, each command is run with both
-in turns, and the ratio of the second to the first is printed. Measure on a machine that does nothing else.
+Usage: speed.py PROGRAM [ROUNDS [OTHER]]. The commands are run in turns, ROUNDS times (5 if left out), and the least time of
+each counts: wall time, and processor time of all threads. `plain` looks at all nodes for each mark, so on the greatest scene,
+where that takes minutes, it is run once. With OTHER, a second program that takes the same words, each command is run with
+both in turns, and the ratio of the second to the first is printed. Measure on a machine that does nothing else.
 """
 
 import os
@@ -11,13 +12,25 @@ import subprocess
 import sys
 import time
 
-COMMANDS = ["plain", "plan 1", "plan 2", "plan 4"]
-SCENES = [3, 9]
+COMMANDS = ["plain", "plan 1", "plan 2", "plan 4", "plan 64"]
+MOST_MARKS = 262_143
+# A number of a generated scene, and how many marks it is to have; None leaves its own.
+SCENES = [(3, None), (9, None), (9, MOST_MARKS)]
 
 
-def generated(program, number):
-    """The text of a generated scene."""
-    return subprocess.run([program, "gen", str(number)], capture_output=True, check=True).stdout
+def generated(program, number, marks):
+    """The text of a generated scene, with so many drawn marks."""
+    text = subprocess.run([program, "gen", str(number)], capture_output=True, check=True).stdout
+    if marks is None:
+        return text
+    lines = text.decode().splitlines()
+    kept = [line for line in lines if not line.startswith("marks ")]
+    return "\n".join([*kept, f"marks {marks}", ""]).encode()
+
+
+def marks_in(text):
+    """How many marks a generated scene draws."""
+    return int(next(line.split()[1] for line in text.decode().splitlines() if line.startswith("marks ")))
 
 
 def measure(program, words, text):
@@ -35,21 +48,32 @@ def least(times):
     return tuple(min(column) for column in zip(*times))
 
 
+def times_of(programs, text, rounds):
+    """The times of each command with each program, run in turns."""
+    times = {(words, program): [] for words in COMMANDS for program in programs}
+    for turn in range(rounds):
+        for (words, program), taken in times.items():
+            if words != "plain" or turn == 0 or marks_in(text) < MOST_MARKS:
+                taken.append(measure(program, words, text))
+    return {run: least(taken) for run, taken in times.items()}
+
+
 def main(program, rounds="5", other=None):
     """Prints a line for each scene and command."""
     programs = [program] if other is None else [program, other]
-    print(f"{'scene':>6} {'command':8} {'wall s':>8} {'cpu s':>8} {'to plain':>9}" + ("  other: wall" if other else ""))
-    for number in SCENES:
-        text = generated(program, number)
-        times = {(words, p): [] for words in COMMANDS for p in programs}
-        for _ in range(int(rounds)):
-            for words, p in times:
-                times[words, p].append(measure(p, words, text))
-        plain = least(times["plain", program])[0]
+    last = "  other: wall    cpu" if other else ""
+    print(f"{'scene':>5} {'marks':>7} {'command':8} {'wall s':>8} {'cpu s':>8} {'to plain':>9} {'to plan 1':>10}{last}")
+    for number, wanted in SCENES:
+        text = generated(program, number, wanted)
+        times = times_of(programs, text, int(rounds))
+        plain, one = times["plain", program][0], times["plan 1", program][0]
         for words in COMMANDS:
-            wall, used = least(times[words, program])
-            line = f"{number:6} {words:8} {wall:8.3f} {used:8.3f} {wall / plain:9.2f}"
-            print(line + (f"  {least(times[words, other])[0] / wall:.2f}" if other else ""))
+            wall, used = times[words, program]
+            line = f"{number:5} {marks_in(text):7} {words:8} {wall:8.3f} {used:8.3f} {wall / plain:9.3f} {wall / one:10.2f}"
+            if other:
+                wall_other, used_other = times[words, other]
+                line += f"  {wall_other / wall:11.2f} {used_other / used:6.2f}"
+            print(line, flush=True)
 
 
 if __name__ == "__main__":

@@ -56,7 +56,7 @@ pub(crate) fn last_pass(shared: &Shared, passes: &mut Vec<Pass>) -> Option<Pass>
 pub(crate) type Three = (Shared, Pass, Pass, Pass);
 
 /// Three passes that go on from a run.
-pub(crate) fn passes_from(alloc: Global, grown: Grown) -> Result<Three, Fail>
+fn passes_from(alloc: Global, grown: Grown) -> Result<Three, Fail>
     ensures opening { IfOk result (λ three. three.0.opening ≡ grown.limit) }
     ensures task { IfOk result (λ three. three.0.task ≡ grown.task) }
     ensures first { IfOk result (λ three. MayClaim three.0 three.1) }

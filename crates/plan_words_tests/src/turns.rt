@@ -1,20 +1,12 @@
 //! Passes that take turns in one thread.
 
-ghost use Rattle.std.specs.Prelude.{◌≡◌, ◌≤◌, ◌<◌, IfOk, None, length};
+ghost use Rattle.std.specs.Prelude.{◌≡◌, ◌≤◌, ◌<◌, None, length};
 ghost use Rattle.plan_words.specs.States.{BelongsTo, MayClaim};
 
-use crate::passes::{
-    START, Three, last_pass, marks_in_strips, passes_from, take_turn, three_passes,
-};
+use crate::passes::{START, take_turn, three_passes};
 use plan_words::{Pass, Shared};
-use plan_work::{NoGate, grow};
-use std::alloc::Global;
 use std::process::Abort;
-use std::sync::Wait;
 use std::test::Fail;
-use std::thread::Threads;
-use step_core::Grown;
-use swept_check::Hall;
 
 /// Compares the mark that a pass takes.
 fn expect_turn<R: Abort>(rt: &R, shared: &Shared, pass: &mut Pass, limit: u32, want: Option<u32>)
@@ -104,39 +96,5 @@ fn a_looker_takes_over_a_worker(rt: HostRuntime) -> Result<(), Fail> {
     expect_turn(&rt, &shared, &mut looker, 7, Some(1));
     expect_worker(&rt, &shared, &looker, 1, 1);
     expect_turn(&rt, &shared, &mut looker, 7, Some(4));
-    Ok(())
-}
-
-/// Three passes over seven marks, of which one worker has handled four.
-fn passes_after_four<R: Threads + Sync + Wait>(rt: &R, alloc: Global) -> Result<Three, Fail>
-    ensures opening { IfOk result (λ three. three.0.opening ≡ 4) }
-    ensures marks { IfOk result (λ three. length three.0.task.marks ≡ 7) }
-    ensures first { IfOk result (λ three. MayClaim three.0 three.1) }
-    ensures second { IfOk result (λ three. MayClaim three.0 three.2) }
-    ensures third { IfOk result (λ three. MayClaim three.0 three.3) }
-{
-    let task = marks_in_strips(alloc, &[START; 7])?;
-    let hall = Hall::new(alloc, &task.scene)?;
-    let fresh = Grown::new(alloc, task)?;
-    let grown = grow(rt, alloc, fresh, &hall, 1, 4, &NoGate)?;
-    passes_from(alloc, grown)
-}
-
-#[test]
-fn turns_and_claims_go_on_from_the_opening_run(rt: HostRuntime) -> Result<(), Fail> {
-    let (shared, mut first, mut second, third) = passes_after_four(&rt, rt.alloc())?;
-    expect_worker(&rt, &shared, &first, 0, 4);
-    expect_worker(&rt, &shared, &second, 1, 0);
-    expect_worker(&rt, &shared, &third, 2, 0);
-    expect_turn(&rt, &shared, &mut first, 4, None);
-    expect_turn(&rt, &shared, &mut first, 7, Some(6));
-    expect_worker(&rt, &shared, &first, 0, 5);
-    take_over(&shared, &mut first, third);
-    expect_worker(&rt, &shared, &first, 0, 5);
-    expect_turn(&rt, &shared, &mut first, 6, Some(4));
-    expect_turn(&rt, &shared, &mut second, 6, Some(5));
-    expect_turn(&rt, &shared, &mut second, 7, None);
-    expect_worker(&rt, &shared, &first, 0, 6);
-    expect_worker(&rt, &shared, &second, 1, 1);
     Ok(())
 }

@@ -1,19 +1,17 @@
 -- A mark is handled in steps: what the first of them leave, and what all of them leave together.
-use Rattle.std.proofs.Common.{◌≡◌, ℕ, ◌*◌, ◌≤◌, Some, refl, sym, ap, ◌∙◌, subst, arith}
+use Rattle.std.proofs.Common.{◌≡◌, ℕ, suc, ◌≤◌, Some, refl, sym, ap, ◌∙◌, subst, arith}
 use Rattle.std.specs.Prelude.{[], IfSome, IsSome, is_some}
-use Rattle.kd_shared.proofs.SearchResults.{SweepsWithin-begun}
 use Rattle.plan_model.specs.Clearance.{Clear}
 use Rattle.plan_model.specs.ConfigurationSpace.{space_of}
 use Rattle.plan_model.specs.PointsByNumber.{IsFree, point_of}
 use Rattle.plan_model.specs.Sights.{EndsSince, IsSwept}
 use Rattle.plan_model.specs.declared.geometry.Point.{Point}
-use Rattle.plan_model.specs.declared.records.Outcome.{Outcome}
-use Rattle.plan_model.specs.declared.records.Outcome.TheVariants.{Blocked, Placed, Same}
+use Rattle.plan_model.specs.declared.records.Outcome.TheVariants.{Blocked, Same}
 use Rattle.plan_model.specs.declared.records.Record.{Record}
 use Rattle.plan_model.proofs.NewNodes.{point_of-stands}
 use Rattle.plan_model.proofs.SightLaws.{EndsSince-later}
 use Rattle.plan_model.specs.Bounds.{IsBounded}
-use Rattle.plan_words.specs.States.{BelongsTo, GoesOn, PassState, SharedState, with_view}
+use Rattle.plan_words.specs.States.{BelongsTo, GoesOn, PassState, SharedState, turn_of, with_view, worker_of}
 use Rattle.plan_words.proofs.GoingOn.{GoesOn-trans}
 use Rattle.step_core.proofs.LawfulSights.{IsLaterMoment-later, KeepsSight-lawful}
 use Rattle.step_core.proofs.SeenWords.{point_at-seen, seen-within}
@@ -21,19 +19,22 @@ use Rattle.step_core.specs.SeenRecords.{MayRecord}
 use Rattle.step_core.specs.ViewSteps.{one_turn_more, pointed}
 use Rattle.step_core.specs.ViewTrees.{IsSteered, SeesPoint, sight_in}
 use Rattle.step_core.specs.Views.{run_sizes, sees, setup_in, tree_seen}
-use Rattle.step_core.specs.WordNames.Word.{PointOf, RecordOf}
+use Rattle.step_core.specs.WordNames.Word.{Count, PointOf, RecordOf}
 use Rattle.step_core.specs.Words.{point_of_word}
 use Rattle.step_core.specs.declared.views.Hand.{Hand}
 use Rattle.step_core.specs.declared.views.SharedRun.{SharedRun}
 use Rattle.step_core.specs.declared.views.Stage.TheVariants.{Pointed}
 use Rattle.step_core.specs.declared.views.View.{View}
-use Rattle.tree_rewire.proofs.SeenCosts.{SeesPair-later, cost_seen-later, stands_later}
+use Rattle.tree_rewire.proofs.SeenCosts.{stands_later}
 use Rattle.kd_shared.specs.Looking.{OnlyLooks}
 use Rattle.plan_work.proofs.HeldMarks.{holding, if_held}
 use Rattle.plan_work.proofs.KeptRecords.{KeepsRecords-looks, KeepsRecords-trans}
 use Rattle.plan_work.proofs.KeptSights.{HasSteered-still}
 use Rattle.plan_work.proofs.RecordedMarks.{HandlesMark-recorded, IsSteeredTo-still, MayRecord-steered, has_node-kept, others_still, present_recorded}
-use Rattle.plan_work.specs.SharedMarks.{EndsAt, HandlesMark, HasRecorded, HasSteered, IsBlockedAt, IsExtended, IsPlacedAt, IsSteeredTo, KeepsRecords, MayPlace, WasNeighbour, own_unplaced, radius_in}
+use Rattle.plan_work.proofs.TriedMarks.{HasFilledNear-still}
+use Rattle.plan_work.specs.Extensions.{EndsAt, HandlesMark, HasFilledNear, HasRecorded, HasSteered, IsBlockedAt, IsExtended, IsFilledSince, IsSteeredTo, KeepsRecords, MayPlace, own_unplaced}
+use Rattle.plan_model.specs.declared.records.Outcome.{Outcome}
+use Rattle.plan_model.specs.declared.records.Outcome.TheVariants.{Blocked, Placed, Same}
 
 -- ---- one after another
 
@@ -55,6 +56,8 @@ HandlesMark-after shared before mid after k entry keeps handles = record {
   may_claim = handles.may_claim;
   goes_on = GoesOn-trans before.view mid.view after.view keeps.goes_on handles.goes_on;
   stored = handles.stored;
+  worker = handles.worker ∙ ap worker_of keeps.crew;
+  turn = handles.turn ∙ ap turn_of keeps.crew;
   others = λ j apart. handles.others j apart ∙ keeps.records j;
   crew = handles.crew ∙ ap one_turn_more keeps.crew;
   most = handles.most ∙ keeps.most;
@@ -85,22 +88,21 @@ pub record HasLooked (shared : SharedState) (before steering found : PassState) 
 
 pub HasLooked-looks :
     (shared : SharedState) (before emptied steering found : PassState) (k m : ℕ) (from p : Point) → emptied ≡ record before { near = [] }
-    → IsSome before.view.hand → IfSome before.view.hand (λ hand. hand.mark ≡ k) → BelongsTo steering shared → BelongsTo found shared
-    → OnlyLooks emptied.view steering.view → OnlyLooks steering.view found.view → HasSteered emptied.view steering.view k m from p
-    → HasLooked shared before steering found k m from p
-HasLooked-looks shared before emptied steering found k m from p is some mark belongs still one two steers =
+    → IsSome before.view.hand → IfSome before.view.hand (λ hand. hand.mark ≡ k) → KeepsRecords shared emptied steering
+    → steering.view.hand ≡ emptied.view.hand → BelongsTo found shared → OnlyLooks steering.view found.view
+    → HasSteered emptied.view steering.view k m from p → HasLooked shared before steering found k m from p
+HasLooked-looks shared before emptied steering found k m from p is some mark one same still two steers =
     let view = ap (λ (x : PassState). x.view) is in
     let own = holding before.view (λ hand. hand.mark ≡ k) some mark in
-    let begun = subst (λ v. GoesOn v steering.view) view one.looks.goes_on in
+    let begun = subst (λ v. GoesOn v steering.view) view one.goes_on in
     record {
       hand = own.hand;
-      held = two.kept.hand ∙ one.kept.hand ∙ ap (λ v. v.hand) view ∙ own.held;
+      held = two.kept.hand ∙ same ∙ ap (λ v. v.hand) view ∙ own.held;
       was_held = own.held;
       mark = own.says;
       keeps =
           KeepsRecords-emptied shared before emptied found view
-          (KeepsRecords-trans shared emptied steering found (KeepsRecords-looks shared emptied steering belongs one)
-          (KeepsRecords-looks shared steering found still two));
+          (KeepsRecords-trans shared emptied steering found one (KeepsRecords-looks shared steering found still two));
       begun = begun;
       goes_on = two.looks.goes_on;
       steers =
@@ -127,6 +129,13 @@ free_still before after run same p free j stands =
     free j
     (point_at-seen (run_sizes before.run) (sees before) j was ∙ ap point_of_word (sym (same j))
     ∙ sym (point_at-seen (run_sizes after.run) (sees after) j low) ∙ stands)
+
+-- where a mark ended at such a point, it was blocked
+Blocked-free : (before after : View) (k : ℕ) (entry : Record) (p : Point) (outcome : Outcome) → EndsAt before after k entry p outcome
+    → IsFree (tree_seen after).points p → outcome ≡ Blocked
+Blocked-free before after k entry p Placed placed free = absurd (free (suc k) placed.stands)
+Blocked-free before after k entry p (Same j) stands free = absurd (free j stands)
+Blocked-free before after k entry p Blocked blocked free = refl
 
 -- a point whose way came to a place found empty is swept, also since an earlier moment
 swept_since : (first before after done : View) → GoesOn first before → GoesOn before after → GoesOn after done → (p : Point)
@@ -171,13 +180,13 @@ module _
     extended : entry.nearest ≡ m → EndsAt before.view done.view k entry p entry.outcome → IsExtended before.view done.view k entry
     extended is outcome = record {
       stored = handles.stored;
-      idle = handles.may_claim.idle;
       from = from;
       point = p;
       steered =
           subst (λ n. HasSteered before.view done.view k n from p) (sym is)
           (HasSteered-still before.view found.view done.view keeps.goes_on recorded.goes_on k m from p steers);
       outcome = outcome;
+      free_is_blocked = Blocked-free before.view done.view k entry p entry.outcome outcome;
     }
 
     pub IsExtended-found : (j : ℕ) → entry ≡ own_unplaced found.view m (Same j) → SeesPoint found.view j p → IsExtended before.view done.view k entry
@@ -234,6 +243,20 @@ module _
       most = ap (λ v. v.most) then ∙ keeps.most;
     }
 
+    -- the near list, filled by the search that steered, is filled still
+    pub IsFilledSince-written : (emptied steering : PassState) (class : ℕ) → emptied ≡ record before { near = [] } → KeepsRecords shared emptied steering
+        → HasFilledNear emptied.view steering.view p class steering.near → GoesOn steering.view found.view
+        → sees found.view Count ≡ sees steering.view Count → found.near ≡ steering.near → IsFilledSince shared before written p class
+    unfolding KeepsRecords-written
+    IsFilledSince-written emptied steering class empty one filled two count near = record {
+      keeps = KeepsRecords-written;
+      filled =
+          subst (HasFilledNear before.view written.view p class) (sym (ap (λ (x : PassState). x.near) is ∙ near))
+          (subst (λ v. HasFilledNear v written.view p class steering.near) (ap (λ (x : PassState). x.view) empty)
+          (HasFilledNear-still emptied.view steering.view written.view p class steering.near
+          (GoesOn-trans steering.view found.view written.view two goes_on) (ap (λ v. sees v Count) then ∙ count) filled));
+    }
+
     pub MayPlace-written : IsBounded p → Clear (space_of shared.task.scene) from p → MayPlace shared written k m p
     unfolding KeepsRecords-written
     MayPlace-written bounded clear = record {
@@ -251,62 +274,20 @@ module _
           (sym (point_of-stands (tree_seen written.view).points m from (stands_later found.view written.view goes_on m from steers.stands))) clear;
     }
 
--- ---- from an earlier moment
-
--- What an outcome says of a time that began later, it says of one that began earlier.
-module _ (first before after : View) (goes_on : GoesOn first before) (k : ℕ) (entry : Record) (p : Point) where
-  neighbour_later : (i : ℕ) → WasNeighbour first after entry p i → WasNeighbour before after entry p i
-  neighbour_later i was = record {
-    at = was.at;
-    stands = stands_later first before goes_on i was.at was.stands;
-    pair = SeesPair-later first before goes_on i was.pair;
-    near = was.near;
-    clear = was.clear;
-  }
-
-  IsPlacedAt-earlier : IsPlacedAt before after k entry p → IsPlacedAt first after k entry p
-  unfolding neighbour_later
-  IsPlacedAt-earlier h = record {
-    stands = h.stands;
-    class_is = h.class_is;
-    swept =
-        SweepsWithin-begun (sight_in first) (sight_in before) (sight_in after) p (radius_in after entry.class * radius_in after entry.class)
-        (IsLaterMoment-later first before goes_on.later) h.swept;
-    chosen = λ i was. omega (arith, h.chosen i (neighbour_later i was), cost_seen-later first before goes_on i was.pair);
-    rewired = λ i was. h.rewired i (neighbour_later i was);
-  }
-
-  pub EndsAt-earlier : (outcome : Outcome) → EndsAt before after k entry p outcome → EndsAt first after k entry p outcome
-  EndsAt-earlier Placed h = IsPlacedAt-earlier h
-  EndsAt-earlier (Same j) h = h
-  EndsAt-earlier Blocked h = record {
-    blocked = h.blocked;
-    free = h.free;
-    swept = λ free. (let ends = h.swept free in record {
-      depth = ends.depth;
-      node = ends.node;
-      point = ends.point;
-      on_way = ends.on_way;
-      stands = ends.stands;
-      other = ends.other;
-      empty = omega (arith, ends.empty, goes_on.later.steps);
-    });
-  }
-
--- Once its node was handled from the moment at which its point was written, the mark is handled from the first one.
+-- Once its node was handled, the mark is handled from the first moment.
 pub IsExtended-written :
     (shared : SharedState) (before steering found written done : PassState) (k m : ℕ) (from p : Point) (entry : Record)
     → HasLooked shared before steering found k m from p → KeepsRecords shared before written → GoesOn found.view written.view
-    → HandlesMark shared written done k entry → entry.nearest ≡ m → EndsAt written.view done.view k entry p entry.outcome
+    → HandlesMark shared written done k entry → entry.nearest ≡ m → EndsAt before.view done.view k entry p entry.outcome
     → IsExtended before.view done.view k entry
 IsExtended-written shared before steering found written done k m from p entry looked keeps goes_on handles is ended = record {
   stored = handles.stored;
-  idle = handles.may_claim.idle;
   from = from;
   point = p;
   steered =
       subst (λ n. HasSteered before.view done.view k n from p) (sym is)
       (HasSteered-still before.view found.view done.view looked.keeps.goes_on
       (GoesOn-trans found.view written.view done.view goes_on handles.goes_on) k m from p looked.steers);
-  outcome = EndsAt-earlier before.view written.view done.view keeps.goes_on k entry p entry.outcome ended;
+  outcome = ended;
+  free_is_blocked = Blocked-free before.view done.view k entry p entry.outcome ended;
 }

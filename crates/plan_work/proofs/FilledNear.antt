@@ -14,11 +14,12 @@ use Rattle.plan_model.specs.declared.records.Record.{Record}
 use Rattle.plan_model.proofs.CountsBelow.{count-some}
 use Rattle.plan_model.proofs.NewNodes.{IsPresent-stands, point_of-stands}
 use Rattle.plan_words.specs.States.{GoesOn}
-use Rattle.plan_work.specs.SharedMarks.{HasFilledNear, radius_in}
+use Rattle.plan_work.proofs.RecordedMarks.{own_count-same}
+use Rattle.plan_work.specs.Extensions.{HasFilledNear, radius_in}
 use Rattle.step_core.specs.SeenRecords.{is_own, own_count}
 use Rattle.step_core.specs.ViewTrees.{sight_in}
 use Rattle.step_core.specs.Views.{sees, tree_seen}
-use Rattle.step_core.specs.WordNames.Word.{Count}
+use Rattle.step_core.specs.WordNames.Word.{Count, RecordOf}
 use Rattle.step_core.specs.declared.views.View.{View}
 use Rattle.step_core.proofs.LawfulSights.{IsLaterMoment-later}
 use Rattle.tree_rewire.proofs.SeenCosts.{stands_later}
@@ -71,5 +72,23 @@ HasFilledNear-found before mid after one other p nodes class near own count is f
             present = IsPresent-stands points n own_point.0 own_point.1;
             short = omega (arith, ap (λ a. squared_distance a p) there, own_point.2, bound);
           };
+      close = λ i among.
+          let own_point = AreNearSeen-only (sight_in mid) (sight_in after) p r near found i among in
+          omega (arith, ap (λ a. squared_distance a p) (point_of-stands (tree_seen after).points i own_point.0 own_point.1), own_point.2);
       swept = SweepsWithin-begun (sight_in before) (sight_in mid) (sight_in after) p (r * r) later found.swept;
     }
+
+-- It is filled for a call that began earlier, if no record was seen anew before it was.
+pub HasFilledNear-begun :
+    (first before after : View) → GoesOn first before → ((k : ℕ) → sees before (RecordOf k) ≡ sees first (RecordOf k)) → (p : Point) (class : ℕ)
+    (near : List ℕ) → HasFilledNear before after p class near → HasFilledNear first after p class near
+HasFilledNear-begun first before after one records p class near h = record {
+  class_is = h.class_is;
+  counted = λ entry. omega (arith, h.counted entry, own_count-same first before entry one records);
+  all = λ i q stands close. h.all i q (stands_later first before one i q stands) close;
+  in_reach = h.in_reach;
+  close = h.close;
+  swept =
+      SweepsWithin-begun (sight_in first) (sight_in before) (sight_in after) p (radius_in after class * radius_in after class)
+      (IsLaterMoment-later first before one.later) h.swept;
+}

@@ -11,7 +11,7 @@ use Rattle.plan_model.specs.PointsByNumber.{IsPresent, point_at, point_of}
 use Rattle.plan_model.specs.declared.geometry.Point.{Point}
 use Rattle.plan_model.proofs.NewNodes.{StandsAt-present}
 use Rattle.plan_words.specs.States.{BelongsTo, GoesOn, PassState, SharedState, with_view}
-use Rattle.plan_work.specs.SharedMarks.{IsHung, IsPointed, KeepsRecords}
+use Rattle.plan_work.specs.Extensions.{IsHung, IsPointed, KeepsRecords}
 use Rattle.step_core.specs.ViewSteps.{half, treed}
 use Rattle.step_core.specs.ViewTrees.{IsCostBelow, MayHang}
 use Rattle.step_core.specs.Views.{sees, setup_in, tree_seen}

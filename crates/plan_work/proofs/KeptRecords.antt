@@ -3,7 +3,7 @@ use Rattle.std.proofs.Common.{◌≡◌, ℕ, ap, ◌∙◌}
 use Rattle.kd_shared.specs.Looking.{OnlyLooks}
 use Rattle.plan_words.specs.States.{BelongsTo, GoesOn, PassState, SharedState}
 use Rattle.plan_words.proofs.GoingOn.{GoesOn-trans}
-use Rattle.plan_work.specs.SharedMarks.{KeepsRecords}
+use Rattle.plan_work.specs.Extensions.{KeepsRecords}
 use Rattle.step_core.specs.ViewSteps.{loaded}
 use Rattle.step_core.specs.Views.{sees}
 use Rattle.step_core.specs.WordNames.{Word, WritesWord}

@@ -1,7 +1,7 @@
 -- What a pass has found at a moment, at a later one.
 use Rattle.std.proofs.Common.{◌≡◌, ℕ, sym, ap, ◌∙◌, subst, arith}
 use Rattle.kd_shared.specs.Searches.{IsNearestSeen, SweepsWithin}
-use Rattle.kd_shared.proofs.SearchResults.{SweepsWithin-later}
+use Rattle.kd_shared.proofs.SearchResults.{SweepsWithin-begun, SweepsWithin-later}
 use Rattle.plan_model.specs.ClosedLaw.{mark_at}
 use Rattle.plan_model.specs.Geometry.{squared_distance}
 use Rattle.plan_model.specs.LeastPairs.{IsNotAbove}
@@ -11,7 +11,7 @@ use Rattle.plan_model.specs.Steering.{steered}
 use Rattle.plan_model.specs.declared.geometry.Point.{Point}
 use Rattle.plan_model.proofs.NewNodes.{IsPresent-stands, StandsAt-present, point_of-stands}
 use Rattle.plan_words.specs.States.{GoesOn}
-use Rattle.plan_work.specs.SharedMarks.{HasSteered}
+use Rattle.plan_work.specs.Extensions.{HasSteered}
 use Rattle.step_core.specs.ViewTrees.{SeesPoint, sight_in}
 use Rattle.step_core.specs.Views.{tree_seen}
 use Rattle.step_core.specs.declared.views.View.{View}
@@ -69,6 +69,18 @@ HasSteered-still before mid after one other k m from p h =
           (subst (SweepsWithin (sight_in before) (sight_in after) mark) (sym (distance_still mid after other mark m here))
           (SweepsWithin-still mid after other before mark (distance_to mark (tree_seen mid).points m) h.swept));
     }
+
+-- so it has for a call that began earlier
+pub HasSteered-begun : (first before after : View) → GoesOn first before → (k m : ℕ) (from p : Point) → HasSteered before after k m from p
+    → HasSteered first after k m from p
+HasSteered-begun first before after one k m from p h = record {
+  stands = h.stands;
+  point_is = h.point_is;
+  not_above = λ n there. h.not_above n (present_still first before one n there);
+  swept =
+      SweepsWithin-begun (sight_in first) (sight_in before) (sight_in after) (mark_at after.run.marks k)
+      (distance_to (mark_at after.run.marks k) (tree_seen after).points m) (IsLaterMoment-later first before one.later) h.swept;
+}
 
 -- Node m is the nearest one, found by a search that this step came after: it steered to p.
 pub HasSteered-found :

@@ -1,16 +1,10 @@
-pub mod CountedTurns
-pub mod FirstRuns
-pub mod GrownMarks
-pub mod HandledWorkers
-pub mod NumberScans
-pub mod ReadCosts
-pub mod SteeredMarks
 pub mod HeldMarks
 pub mod KeptSights
 pub mod FilledNear
 pub mod KeptRecords
 pub mod HungMarks
 pub mod TriedMarks
+pub mod NearestListed
 pub mod RecordedMarks
 pub mod PlacedMarks
 pub mod ExtendedMarks

@@ -35,9 +35,9 @@ use Rattle.tree_rewire.specs.SeenCosts.{IsTreeOrPoint, SeesAnew, SeesPair, cost_
 use Rattle.plan_work.proofs.KeptSights.{SweepsWithin-still}
 use Rattle.plan_work.proofs.HeldMarks.{if_held, of_held}
 use Rattle.plan_work.proofs.RecordedMarks.{IsSteeredTo-still, MayRecord-steered, has_node-kept, others_still, own_count-same, own_recorded, present_recorded}
-use Rattle.plan_work.proofs.TriedMarks.{clear_of-may}
-use Rattle.plan_work.specs.SharedMarks.{HasRecorded, IsPlacedAt, IsTried, KeepsRecords, MayPlace, WasNeighbour, hung_by, own_placed, own_unplaced, radius_in}
-use Rattle.plan_work.specs.declared.shared_marks.Hanging.{Hanging}
+use Rattle.plan_work.proofs.TriedMarks.{HasFilledNear-still, clear_of-may}
+use Rattle.plan_work.specs.Extensions.{HasFilledNear, HasRecorded, IsFilledSince, IsPlacedAt, IsTried, KeepsRecords, MayPlace, WasNeighbour, hung_by, own_placed, own_unplaced, radius_in}
+use Rattle.plan_work.specs.declared.extending.Hanging.{Hanging}
 
 -- The first word of a node stays once it was seen.
 first_kept : (before after : View) → GoesOn before after → (n : ℕ) → 2 ^ 63 ≤ sees before (FirstOf n) → sees after (FirstOf n) ≡ sees before (FirstOf n)
@@ -93,8 +93,8 @@ Rewired-hand shared before tried after k m p hanging may is_tried rewired i amon
     omega (arith, most, ap (λ a. cost_of a (point_of points i)) may.pointed.point)
 
 module _
-    (shared : SharedState) (before tried after : PassState) (k m : ℕ) (p : Point) (hanging : Hanging) (may : MayPlace shared before k m p)
-    (keeps : KeepsRecords shared before tried) (is_tried : IsTried before tried may.hand Placed hanging)
+    (shared : SharedState) (first before tried after : PassState) (k m : ℕ) (p : Point) (hanging : Hanging) (may : MayPlace shared before k m p)
+    (since : IsFilledSince shared first before p hanging.class) (keeps : KeepsRecords shared before tried) (is_tried : IsTried before tried may.hand Placed hanging)
     (seen : SeesAnew IsTreeOrPoint tried.view after.view) (pairs : All (SeesPair after.view) tried.near)
     (rewired : (i : ℕ) → Contains tried.near i → Clear (space_of shared.task.scene) p (point_of (tree_seen tried.view).points i)
     → cost_seen after.view i ≤ hanging.cost + cost_of p (point_of (tree_seen tried.view).points i)) where
@@ -104,35 +104,50 @@ module _
   later : GoesOn mid after.view
   later = GoesOn-trans mid tried.view after.view is_tried.ended seen.goes_on
 
+  -- the near list was filled since the first moment
+  begun : GoesOn first.view mid
+  begun = GoesOn-trans first.view before.view mid since.keeps.goes_on is_tried.begun
+
+  filled : HasFilledNear first.view mid p hanging.class tried.near
+  filled = subst (HasFilledNear first.view mid p hanging.class) (sym is_tried.near)
+      (HasFilledNear-still first.view before.view mid p hanging.class before.near is_tried.begun is_tried.counted since.filled)
+
   whole : GoesOn before.view after.view
   whole = GoesOn-trans before.view mid after.view is_tried.begun later
 
   records : (j : ℕ) → sees after.view (RecordOf j) ≡ sees before.view (RecordOf j)
   records j = seen.others (RecordOf j) (λ no. no) ∙ keeps.records j
 
+  since_first : GoesOn first.view after.view
+  since_first = GoesOn-trans first.view before.view after.view since.keeps.goes_on whole
+
+  first_records : (j : ℕ) → sees after.view (RecordOf j) ≡ sees first.view (RecordOf j)
+  first_records j = records j ∙ since.keeps.records j
+
   abbrev r : ℕ
   r = radius_in mid hanging.class
 
   -- ---- neighbours
 
-  -- node i was seen at q before it all, within the radius, with a clear edge
+  -- node i was seen at q at the first moment, within the radius, with a clear edge
   record IsCloseBy (i : ℕ) (q : Point) : Type 0 where
-    stood : SeesPoint before.view i q
+    stood : SeesPoint first.view i q
     near : squared_distance q p ≤ r * r
     clear : Clear (space_of shared.task.scene) q p
 
   module _ (i : ℕ) (q : Point) (close : IsCloseBy i q) where
     among : Contains tried.near i
-    among = is_tried.filled.all i q close.stood (subst (λ at. squared_distance q at ≤ r * r) (sym may.pointed.point) close.near)
+    among = filled.all i q close.stood close.near
 
     pair_at_mid : SeesPair mid i
     pair_at_mid = All-contains (SeesPair mid) tried.near i is_tried.hung.pairs among
 
     at_mid : point_of (tree_seen mid).points i ≡ q
-    at_mid = point_of-stands (tree_seen mid).points i q (stands_later before.view mid is_tried.begun i q close.stood)
+    at_mid = point_of-stands (tree_seen mid).points i q (stands_later first.view mid begun i q close.stood)
 
     at_tried : point_of (tree_seen tried.view).points i ≡ q
-    at_tried = point_of-stands (tree_seen tried.view).points i q (stands_later before.view tried.view keeps.goes_on i q close.stood)
+    at_tried = point_of-stands (tree_seen tried.view).points i q
+        (stands_later first.view tried.view (GoesOn-trans first.view before.view tried.view since.keeps.goes_on keeps.goes_on) i q close.stood)
 
     space_mid : (setup_in mid.run).space ≡ space_of shared.task.scene
     space_mid = ap (λ (run : SharedRun). (setup_in run).space) (is_tried.begun.later.run ∙ may.belongs.run)
@@ -171,24 +186,25 @@ module _
   abbrev counted_hand : Hand
   counted_hand = record (hung_by may.hand hanging) { stage = Counted }
 
-  stood_before : (i : ℕ) → IsTrue (is_own after.view entry i) → SeesPoint before.view i (point_of (tree_seen before.view).points i)
-  stood_before i own =
-      StandsAt-present (tree_seen before.view).points i
-      (present_recorded before.view keeps.goes_on.was_lawful i (sym (has_node-kept before.view after.view records i) ∙ own_recorded after.view entry i own))
+  stood_first : (i : ℕ) → IsTrue (is_own after.view entry i) → SeesPoint first.view i (point_of (tree_seen first.view).points i)
+  stood_first i own =
+      StandsAt-present (tree_seen first.view).points i
+      (present_recorded first.view since.keeps.goes_on.was_lawful i
+      (sym (has_node-kept first.view after.view first_records i) ∙ own_recorded after.view entry i own))
 
   close_own : (i : ℕ) → IsOwnNeighbour after.view entry may.hand.point i → IsCloseBy i (point_of (tree_seen after.view).points i)
   close_own i h =
       let points = (tree_seen after.view).points in
-      let old = (tree_seen before.view).points in
+      let old = (tree_seen first.view).points in
       let q : Point = point_of points i in
-      let stands = stood_before i h.own in
-      let same : q ≡ point_of old i = point_of-stands points i (point_of old i) (stands_later before.view after.view whole i (point_of old i) stands) in
-      let here : point_at points i ≡ Some q = stands_later before.view after.view whole i (point_of old i) stands ∙ ap Some (sym same) in
+      let stands = stood_first i h.own in
+      let same : q ≡ point_of old i = point_of-stands points i (point_of old i) (stands_later first.view after.view since_first i (point_of old i) stands) in
+      let here : point_at points i ≡ Some q = stands_later first.view after.view since_first i (point_of old i) stands ∙ ap Some (sym same) in
       let run = later.later.run in
       let radius : radius_of_class after.view.run.step after.view.run.gamma hanging.class ≡ r =
       ap (λ (x : SharedRun). radius_of_class x.step x.gamma hanging.class) run in
       record {
-        stood = subst (SeesPoint before.view i) (sym same) stands;
+        stood = subst (SeesPoint first.view i) (sym same) stands;
         near =
             let within = subst (λ o. is_within may.hand.point (radius_of_class after.view.run.step after.view.run.gamma hanging.class) o ≡ true) here h.near in
             subst (λ at. squared_distance q at ≤ r * r) may.pointed.point
@@ -199,10 +215,10 @@ module _
       }
 
   own_count-kept : own_count after.view entry ≤ sees mid Count
-  own_count-kept = subst (λ n. n ≤ sees mid Count) (sym same) (is_tried.filled.counted entry)
+  own_count-kept = subst (λ n. n ≤ sees mid Count) (sym same) (filled.counted entry)
     where
-      same : own_count after.view entry ≡ own_count before.view entry
-      same = own_count-same before.view after.view entry whole records
+      same : own_count after.view entry ≡ own_count first.view entry
+      same = own_count-same first.view after.view entry since_first first_records
 
   pub MayRecord-placed : IfSome after.view.hand (λ hand. MayRecord after.view hand entry)
   MayRecord-placed =
@@ -217,8 +233,8 @@ module _
             (sym (ap (λ (x : SharedRun). (setup_in x).space) (whole.later.run ∙ may.belongs.run)))
             (subst (λ b. Clear (space_of shared.task.scene) (point_of (tree_seen after.view).points m) b) (sym may.pointed.point)
             (clear_of-may (space_of shared.task.scene) shared before after.view k m p whole may may.clear));
-        low = omega (arith, class_of-le (own_count after.view entry) (sees mid Count) own_count-kept, is_tried.filled.class_is);
-        high = omega (arith, is_tried.filled.class_is, ap class_of is_tried.count, ap class_of (seen.others Count (λ no. no)));
+        low = omega (arith, class_of-le (own_count after.view entry) (sees mid Count) own_count-kept, filled.class_is);
+        high = omega (arith, filled.class_is, ap class_of is_tried.count, ap class_of (seen.others Count (λ no. no)));
         chosen = λ i h.
             let close = close_own i h in
             let most = cost-first before.view mid after.view is_tried.begun later entry records i h.own (pair_at_mid i _ close) in
@@ -233,22 +249,22 @@ module _
   -- ---- after the record
 
   module _ (done : PassState) (stored : Record) (recorded : HasRecorded shared after done stored) (is : stored ≡ entry) where
-    end : GoesOn before.view done.view
-    end = GoesOn-trans before.view after.view done.view whole recorded.goes_on
+    end : GoesOn first.view done.view
+    end = GoesOn-trans first.view after.view done.view since_first recorded.goes_on
 
     radius_end : radius_in done.view stored.class ≡ r
     radius_end =
         ap (radius_in done.view) (ap (λ (x : Record). x.class) is)
         ∙ ap (λ (x : SharedRun). radius_of_class x.step x.gamma hanging.class) (recorded.goes_on.later.run ∙ later.later.run)
 
-    close_neighbour : (i : ℕ) (was : WasNeighbour before.view done.view stored p i) → IsCloseBy i was.at
+    close_neighbour : (i : ℕ) (was : WasNeighbour first.view done.view stored p i) → IsCloseBy i was.at
     close_neighbour i was = record {
       stood = was.stands;
       near = subst (λ x. squared_distance was.at p ≤ x * x) radius_end was.near;
-      clear = subst (λ s. Clear s was.at p) (ap (λ (x : SharedRun). (setup_in x).space) (end.later.run ∙ may.belongs.run)) was.clear;
+      clear = subst (λ s. Clear s was.at p) (ap (λ (x : SharedRun). (setup_in x).space) (recorded.goes_on.later.run ∙ whole.later.run ∙ may.belongs.run)) was.clear;
     }
 
-    pub IsPlacedAt-recorded : IsPlacedAt before.view done.view k stored p
+    pub IsPlacedAt-recorded : IsPlacedAt first.view done.view k stored p
     IsPlacedAt-recorded = record {
       stands =
           subst (λ j. SeesPoint done.view (suc j) p) may.mark
@@ -256,19 +272,18 @@ module _
           (stands_later tried.view done.view (GoesOn-trans tried.view after.view done.view seen.goes_on recorded.goes_on) (suc may.hand.mark) may.hand.point
           is_tried.came.stands));
       class_is =
-          ap (λ (x : Record). x.class) is ∙ is_tried.filled.class_is
+          ap (λ (x : Record). x.class) is ∙ filled.class_is
           ∙ ap class_of (sym (others_still after.view done.view counted_hand stored held_after (ap (λ (x : PassState). x.view) (recorded.view counted_hand held_after))
           whole.lawful Count (λ e. cc) ∙ seen.others Count (λ no. no) ∙ is_tried.count));
       swept =
-          subst (λ x. SweepsWithin (sight_in before.view) (sight_in done.view) p (x * x)) (sym radius_end)
-          (SweepsWithin-still mid done.view (GoesOn-trans mid after.view done.view later recorded.goes_on) before.view p (r * r)
-          (subst (λ at. SweepsWithin (sight_in before.view) (sight_in mid) at (r * r)) may.pointed.point is_tried.filled.swept));
+          subst (λ x. SweepsWithin (sight_in first.view) (sight_in done.view) p (x * x)) (sym radius_end)
+          (SweepsWithin-still mid done.view (GoesOn-trans mid after.view done.view later recorded.goes_on) first.view p (r * r) filled.swept);
       chosen = λ i was.
           let close = close_neighbour i was in
           omega (
             arith,
             chosen_by i was.at close,
-            cost_seen-later before.view mid is_tried.begun i was.pair,
+            cost_seen-later first.view mid begun i was.pair,
             ap (λ (x : Record). x.first_cost) is,
           );
       rewired = λ i was.

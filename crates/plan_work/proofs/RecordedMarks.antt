@@ -1,6 +1,6 @@
 -- What a pass may record of a mark that was steered to p from the nearest node, and that it was handled then.
-use Rattle.std.proofs.Common.{◌≡◌, ◌≢◌, ℕ, zero, suc, ◌+◌, true, Option, Some, None, length, refl, sym, ap, ◌∙◌, subst}
-use Rattle.std.specs.Prelude.{◌==◌, ◌&&◌, IsTrue, nat_lt}
+use Rattle.std.proofs.Common.{◌≡◌, ◌≢◌, ℕ, zero, suc, ◌+◌, true, Option, Some, None, length, refl, sym, ap, ◌∙◌, subst, arith}
+use Rattle.std.specs.Prelude.{◌==◌, ◌&&◌, false, IfSome, IsTrue, nat_lt}
 use Rattle.std.proofs.lemmas.Bool.{and_parts}
 use Rattle.std.proofs.lemmas.List.Elements.{filter_agree}
 use Rattle.std.specs.List.{filter, range_with_len}
@@ -12,27 +12,34 @@ use Rattle.plan_model.specs.PointsByNumber.{IsPresent, point_of}
 use Rattle.plan_model.specs.RecordLaw.{is_earlier_record}
 use Rattle.plan_model.specs.Steering.{steered}
 use Rattle.plan_model.specs.declared.geometry.Point.{Point}
+use Rattle.plan_model.specs.declared.records.Outcome.{Outcome}
+use Rattle.plan_model.specs.declared.records.Outcome.TheVariants.{Placed}
 use Rattle.plan_model.specs.declared.records.Record.{Record}
 use Rattle.plan_model.proofs.NewNodes.{IsPresent-stands, point_of-stands}
-use Rattle.plan_words.specs.States.{GoesOn, PassState, SharedState}
+use Rattle.plan_words.specs.States.{GoesOn, MayClaim, PassState, SharedState, turn_of, with_view, worker_of}
 use Rattle.plan_words.proofs.GoingOn.{GoesOn-trans}
+use Rattle.plan_words.proofs.Tying.{entry_fits}
 use Rattle.step_core.proofs.LawfulRecords.{is_own-earlier}
+use Rattle.step_core.proofs.PackedRecords.{record_of_word-packed}
 use Rattle.step_core.proofs.PlacedWords.{has_node-same}
 use Rattle.step_core.proofs.SeenByViews.{WritesWord-saw}
 use Rattle.step_core.specs.GrownWords.{has_node, has_placed, record_at}
 use Rattle.step_core.specs.LaterViews.{IsLawfulView}
-use Rattle.step_core.specs.SeenRecords.{MayEnd, MayRecord, is_own, own_count}
-use Rattle.step_core.specs.ViewSteps.{finished, one_turn_more}
+use Rattle.step_core.specs.SeenRecords.{MayBePlaced, MayEnd, MayRecord, is_own, own_count}
+use Rattle.step_core.specs.Stages.{has_first}
+use Rattle.step_core.specs.ViewSteps.{finished, one_turn_more, pair_in_hand}
 use Rattle.step_core.specs.Views.{sees, tree_seen}
 use Rattle.step_core.specs.WordNames.{Word, WritesWord}
-use Rattle.step_core.specs.WordNames.Word.{RecordOf}
-use Rattle.step_core.specs.Words.{record_word}
+use Rattle.step_core.specs.WordNames.Word.{FirstOf, RecordOf}
+use Rattle.step_core.specs.Words.{IsFirstWord, record_of_word, record_word}
 use Rattle.step_core.specs.declared.views.Hand.{Hand}
 use Rattle.step_core.specs.declared.views.SharedRun.{SharedRun}
+use Rattle.step_core.specs.declared.views.Stage.TheVariants.{Counted}
 use Rattle.step_core.specs.declared.views.View.{View}
 use Rattle.tree_rewire.proofs.SeenCosts.{stands_later}
+use Rattle.plan_work.proofs.HeldMarks.{of_held}
 use Rattle.plan_work.proofs.KeptSights.{IsNotAbove-still}
-use Rattle.plan_work.specs.SharedMarks.{HandlesMark, HasRecorded, IsSteeredTo, KeepsRecords}
+use Rattle.plan_work.specs.Extensions.{HandlesMark, HasRecorded, IsSteeredTo, KeepsRecords, own_unplaced}
 
 -- ---- nodes whose records are seen
 
@@ -114,6 +121,63 @@ others_still view after hand entry held is lawful name apart =
     WritesWord-saw view.run view lawful.of_run (RecordOf hand.mark) (lawful.mark hand held) (record_word entry) (record_word entry) in
     ap (λ v. sees v name) is ∙ writes.others name apart
 
+-- a record of an unplaced mark says nothing of a first word
+pub IsFirstWord-unplaced : (view : View) (nearest : ℕ) (outcome : Outcome) (first : ℕ) → is_placed outcome ≡ false
+    → IsFirstWord (own_unplaced view nearest outcome) first
+IsFirstWord-unplaced view nearest outcome first unplaced = record {
+  word = λ placed. (let no = sym (ap is_placed placed) ∙ unplaced in cc);
+  parent = omega arith;
+  cost = omega arith;
+}
+
+-- That of a placed one has the parent and the cost in hand, as the first word has.
+pub IsFirstWord-placed :
+    (view : View) (hand : Hand) (entry : Record) → IsLawfulView view → view.hand ≡ Some hand → hand.stage ≡ Counted → entry.outcome ≡ Placed
+    → MayRecord view hand entry → (first : ℕ) → first ≡ pair_in_hand hand → IsFirstWord entry first
+IsFirstWord-placed view hand entry lawful held counted placed may first is =
+    let reached = steered (point_of (tree_seen view).points entry.nearest) (mark_at view.run.marks hand.mark) view.run.step in
+    let ended : MayBePlaced view hand entry = subst (MayEnd view hand entry reached) placed may.outcome in
+    let fits = lawful.pair_fits hand held (ap has_first counted) in
+    record {
+      word = λ same. omega (arith, is, ended.parent_is, ended.cost_is);
+      parent = omega (arith, ended.parent_is, fits.0);
+      cost = omega (arith, ended.cost_is, fits.1);
+    }
+
+-- So the record that stands there is the one that was stored.
+pub HasRecorded-finished :
+    (shared : SharedState) (before after : PassState) (entry own : Record) → entry ≡ own → MayClaim shared after → GoesOn before.view after.view
+    → IfSome before.view.hand (λ hand. after ≡ with_view before (finished before.view hand.mark (record_word entry)))
+    → own.worker ≡ worker_of before.view.crew → own.turn ≡ turn_of before.view.crew
+    → IfSome before.view.hand (λ hand. MayRecord before.view hand own)
+    → ((hand : Hand) → before.view.hand ≡ Some hand → IsFirstWord own (sees before.view (FirstOf (suc hand.mark)))) → HasRecorded shared before after entry
+HasRecorded-finished shared before after entry own same may_claim goes_on finish worker turn may first =
+    subst (HasRecorded shared before after) (sym same) recorded
+  where
+    lawful : IsLawfulView before.view
+    lawful = goes_on.was_lawful
+
+    then : (hand : Hand) → before.view.hand ≡ Some hand → after ≡ with_view before (finished before.view hand.mark (record_word own))
+    then hand held =
+        subst (λ e. after ≡ with_view before (finished before.view hand.mark (record_word e))) same
+        (of_held before.view (λ h. after ≡ with_view before (finished before.view h.mark (record_word entry))) hand held finish)
+
+    stands : (hand : Hand) → before.view.hand ≡ Some hand → record_at (sees after.view) hand.mark ≡ Some own
+    stands hand held =
+        let word : ℕ = record_word own in
+        let is : after.view ≡ finished before.view hand.mark word = ap (λ (p : PassState). p.view) (then hand held) in
+        let writes : WritesWord (RecordOf hand.mark) word (sees before.view) (sees (finished before.view hand.mark word)) =
+        WritesWord-saw before.view.run before.view lawful.of_run (RecordOf hand.mark) (lawful.mark hand held) word word in
+        let here : sees after.view (RecordOf hand.mark) ≡ word = ap (λ v. sees v (RecordOf hand.mark)) is ∙ writes.here in
+        let kept : sees after.view (FirstOf (suc hand.mark)) ≡ sees before.view (FirstOf (suc hand.mark)) =
+        others_still before.view after.view hand own held is lawful (FirstOf (suc hand.mark)) (λ e. cc) in
+        ap (λ w. record_of_word w (sees after.view (FirstOf (suc hand.mark)))) here ∙ ap (record_of_word word) kept
+        ∙ record_of_word-packed own (sees before.view (FirstOf (suc hand.mark)))
+        (entry_fits before.view hand own lawful held worker turn (of_held before.view (λ h. MayRecord before.view h own) hand held may)) (first hand held)
+
+    recorded : HasRecorded shared before after own
+    recorded = record { may_claim = may_claim; goes_on = goes_on; view = then; stored = stands; worker = worker; turn = turn }
+
 -- The record is stored, after calls that saw none anew.
 pub HandlesMark-recorded :
     (shared : SharedState) (before mid after : PassState) (hand : Hand) (k : ℕ) (entry : Record) → KeepsRecords shared before mid
@@ -127,7 +191,9 @@ HandlesMark-recorded shared before mid after hand k entry keeps recorded held ma
     record {
       may_claim = recorded.may_claim;
       goes_on = GoesOn-trans before.view mid.view after.view keeps.goes_on recorded.goes_on;
-      stored = ap (λ j. sees after.view (RecordOf j)) (sym mark) ∙ ap (λ v. sees v (RecordOf hand.mark)) is ∙ writes.here;
+      stored = ap (record_at (sees after.view)) (sym mark) ∙ recorded.stored hand held;
+      worker = recorded.worker ∙ ap worker_of keeps.crew;
+      turn = recorded.turn ∙ ap turn_of keeps.crew;
       others = λ j apart.
           ap (λ v. sees v (RecordOf j)) is ∙ writes.others (RecordOf j) (λ e. apart (let same : j ≡ hand.mark = cc in same ∙ mark)) ∙ keeps.records j;
       crew = ap (λ v. v.crew) is ∙ ap one_turn_more keeps.crew;

@@ -1,10 +1,8 @@
 -- A shared run that several workers have gone on with: what the passes have seen, once one has taken over all.
-use Rattle.std.proofs.Common.{◌≡◌, ℕ, zero, suc, ◌+◌, ◌*◌, ◌<◌, ◌≤◌, Some, None, List, length, inl, inr, refl, sym, ap, ◌∙◌, subst, arith}
-use Rattle.std.specs.Prelude.{◌⊎◌, ◌++◌, [], ◌∷◌, All, slice_index_or, sum_by}
+use Rattle.std.proofs.Common.{◌≡◌, ℕ, zero, suc, ◌<◌, ◌≤◌, List, length, inl, inr, refl, sym, ap, ◌∙◌, subst, arith}
+use Rattle.std.specs.Prelude.{◌⊎◌, [], ◌∷◌, All, slice_index_or}
 use lib.ListN.{get_elem?}
 use mathlib.Core.Option.{some}
-use Rattle.std.specs.List.{range_with_len}
-use Rattle.std.proofs.lemmas.Bool.{cases_lt}
 use Rattle.plan_model.specs.MarkPoints.{quota_of}
 use Rattle.plan_model.proofs.StripMarks.{quotas-add_up}
 use Rattle.plan_words.specs.Claims.{AllFull, HasNoneLeft}
@@ -19,7 +17,7 @@ use Rattle.step_core.specs.LastViews.{StandsAsSeen}
 use Rattle.step_core.specs.declared.grown.Grown.{Grown}
 use Rattle.step_core.proofs.GrownFromWords.{GrowsInto-seen}
 use Rattle.plan_model.specs.TreeStates.{GrowsInto, TreeState}
-use Rattle.plan_work.specs.SharedWork.{HasDone, TakesOver, shares_of}
+use Rattle.plan_work.specs.Workers.{HasDone, HasTakenOver, shares_of}
 
 -- passes with a share of 1 each have as many shares as they are
 shares-ones : (passes : List PassState) → All (λ pass. share pass.view ≡ 1) passes → shares_of passes ≡ length passes
@@ -70,7 +68,7 @@ module _
       by_most pass was (inl same) = omega (arith, was, same, low)
       by_most pass was (inr same) = omega (arith, same)
 
-  module _ (pass : PassState) (takes : TakesOver shared after pass) (some_pass : 0 < length before) where
+  module _ (pass : PassState) (takes : HasTakenOver shared after pass) (some_pass : 0 < length before) where
     first : PassState
     first = slice_index_or after 0 pass
 

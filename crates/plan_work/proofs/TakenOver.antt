@@ -1,13 +1,13 @@
 -- One pass takes over others, one after another.
-use Rattle.std.proofs.Common.{◌≡◌, ℕ, zero, suc, ◌+◌, ◌<◌, ◌≤◌, Some, List, length, inl, inr, refl, sym, ap, ◌∙◌, subst, arith}
+use Rattle.std.proofs.Common.{◌≡◌, ℕ, zero, suc, ◌+◌, ◌<◌, ◌≤◌, List, length, inl, inr, ap, ◌∙◌, arith}
 use Rattle.std.specs.Prelude.{◌++◌, ◌⊎◌, [], ◌∷◌, All, max, slice_index_or}
 use Rattle.std.proofs.lemmas.Bool.{cases_lt}
 use Rattle.std.proofs.lemmas.List.{append_assoc}
-use Rattle.plan_words.specs.States.{GoesOn, MayClaim, PassState, SharedState}
+use Rattle.plan_words.specs.States.{MayClaim, PassState, SharedState}
 use Rattle.step_core.proofs.WordKinds.{AreBehind-refl, AreBehind-trans}
 use Rattle.step_core.specs.Views.{sees, share}
 use Rattle.step_core.specs.WordKinds.{AreBehind}
-use Rattle.plan_work.specs.SharedWork.{TakesOver, shares_of}
+use Rattle.plan_work.specs.Workers.{HasTakenOver}
 
 -- what holds of all of two lists holds of the first, and of the one that comes next
 pub All-front : (P : PassState → Type 0) (xs ys : List PassState) → All P (xs ++ ys) → All P xs
@@ -20,8 +20,8 @@ All-next P [] y all = all 0 y (omega arith)
 All-next P (x ∷ xs) y all = All-next P xs y (λ j e below. all (suc j) e (omega (arith, below)))
 
 -- a pass alone
-pub TakesOver-alone : (shared : SharedState) (pass : PassState) → MayClaim shared pass → TakesOver shared (pass ∷ []) pass
-TakesOver-alone shared pass may = record {
+pub HasTakenOver-alone : (shared : SharedState) (pass : PassState) → MayClaim shared pass → HasTakenOver shared (pass ∷ []) pass
+HasTakenOver-alone shared pass may = record {
   may_claim = may;
   all_shares = omega arith;
   seen = λ k d low. first k d low;
@@ -33,12 +33,12 @@ TakesOver-alone shared pass may = record {
     first (suc k) d low = absurd (omega (arith, low))
 
 -- and one more
-pub TakesOver-more :
-    (shared : SharedState) (taken : List PassState) (pass other after : PassState) → TakesOver shared taken pass → MayClaim shared after
+pub HasTakenOver-more :
+    (shared : SharedState) (taken : List PassState) (pass other after : PassState) → HasTakenOver shared taken pass → MayClaim shared after
     → AreBehind (sees pass.view) (sees after.view) → AreBehind (sees other.view) (sees after.view)
     → share after.view ≡ share pass.view + share other.view → after.view.most ≡ max pass.view.most other.view.most
-    → TakesOver shared (other ∷ taken) after
-TakesOver-more shared taken pass other after takes may own its shares most = record {
+    → HasTakenOver shared (other ∷ taken) after
+HasTakenOver-more shared taken pass other after takes may own its shares most = record {
   may_claim = may;
   all_shares = omega (arith, shares, takes.all_shares);
   seen = each;

@@ -1,34 +1,35 @@
 -- A mark whose point is written is hung by the nodes near it, and comes to its place.
-use Rattle.std.proofs.Common.{◌≡◌, ℕ, ◌*◌, ◌≤◌, List, sym, ap, ◌∙◌, subst}
+use Rattle.std.proofs.Common.{◌≡◌, ℕ, ◌*◌, ◌≤◌, List, arith, sym, ap, ◌∙◌, subst}
+use Rattle.std.proofs.lemmas.List.Elements.{All-contains}
 use Rattle.kd_shared.specs.Placings.{GoesOnPlacing, IsPlacing, KeepsShare}
 use Rattle.kd_shared.specs.declared.placing.Placing.{Placing}
 use Rattle.plan_model.specs.Clearance.{Clear}
 use Rattle.plan_model.specs.ConfigurationSpace.{ConfigurationSpace}
 use Rattle.plan_model.specs.ClosedLaw.{mark_at}
 use Rattle.plan_model.specs.Geometry.{squared_distance}
+use Rattle.plan_model.specs.Nearness.{distance_to}
 use Rattle.plan_model.specs.PointsByNumber.{point_of}
 use Rattle.plan_model.specs.Radius.{class_of, radius_of_class}
 use Rattle.kd_shared.specs.Searches.{SweepsWithin}
-use Rattle.step_core.specs.SeenRecords.{own_count}
 use Rattle.step_core.specs.ViewTrees.{sight_in}
 use Rattle.step_core.specs.declared.views.SharedRun.{SharedRun}
 use Rattle.plan_model.specs.declared.geometry.Point.{Point}
 use Rattle.plan_model.proofs.NewNodes.{IsPresent-stands, point_of-stands}
 use Rattle.plan_model.proofs.SteeringLaws.{IsStep-steered}
 use Rattle.plan_words.specs.States.{BelongsTo, GoesOn, PassState, SharedState}
-use Rattle.plan_words.proofs.GoingOn.{GoesOn-trans}
 use Rattle.step_core.specs.Views.{sees, tree_seen}
 use Rattle.step_core.specs.WordNames.Word.{Count, RecordOf}
 use Rattle.step_core.specs.declared.views.Hand.{Hand}
 use Rattle.step_core.specs.declared.views.View.{View}
 use Rattle.tree_rewire.proofs.ChosenParents.{IsInReach-later}
 use Rattle.tree_rewire.specs.SeenCosts.{IsInReach}
-use Rattle.plan_work.proofs.KeptSights.{SweepsWithin-still, point_still}
-use Rattle.plan_work.specs.SharedMarks.{HasFilledNear, IsHung, IsSteeredTo, IsTried, KeepsRecords, MayPlace, hung_by, radius_in}
-use Rattle.plan_work.specs.declared.shared_marks.Hanging.{Hanging}
+use Rattle.plan_work.proofs.KeptRecords.{KeepsRecords-trans}
+use Rattle.plan_work.proofs.KeptSights.{SweepsWithin-still, distance_still, point_still}
+use Rattle.plan_work.specs.Extensions.{HasFilledNear, IsFilledSince, IsHung, IsSteeredTo, IsTried, KeepsRecords, MayPlace, hung_by, radius_in}
+use Rattle.plan_work.specs.declared.extending.Hanging.{Hanging}
 
 -- a node that steers to p is at most a step from it
-reach_of-steered : (view : View) (k m : ℕ) (p : Point) → IsSteeredTo view k m p → IsInReach view p m
+pub reach_of-steered : (view : View) (k m : ℕ) (p : Point) → IsSteeredTo view k m p → IsInReach view p m
 reach_of-steered view k m p steered_to =
     let points = (tree_seen view).points in
     record {
@@ -38,11 +39,6 @@ reach_of-steered view k m p steered_to =
           (subst (λ q. squared_distance steered_to.from q ≤ view.run.step * view.run.step) (sym steered_to.point_is)
           (IsStep-steered steered_to.from (mark_at view.run.marks k) view.run.step).short);
     }
-
-pub reach_of-may : (shared : SharedState) (pass : PassState) (after : View) (k m : ℕ) (p : Point) → GoesOn pass.view after → MayPlace shared pass k m p
-    → IsInReach after p m
-reach_of-may shared pass after k m p goes_on may =
-    IsInReach-later pass.view after p m goes_on (reach_of-steered pass.view k m p may.steered)
 
 -- a clear segment from a node that is seen is clear still
 pub clear_still : (space : ConfigurationSpace) (before after : View) (m : ℕ) (p : Point) → GoesOn before after → IsInReach before p m
@@ -67,41 +63,58 @@ KeepsRecords-placing shared before after belongs placing share = record {
   most = share.most;
 }
 
--- A near list stays filled while no count is seen anew.
-pub HasFilledNear-still :
-    (before mid after : View) (p : Point) (class : ℕ) (near : List ℕ) → GoesOn mid after → sees after Count ≡ sees mid Count
+-- A near list stays filled while the count that is seen has its class.
+pub HasFilledNear-recounted :
+    (before mid after : View) (p : Point) (class : ℕ) (near : List ℕ) → GoesOn mid after → class ≡ class_of (sees after Count)
     → HasFilledNear before mid p class near → HasFilledNear before after p class near
-HasFilledNear-still before mid after p class near goes_on count filled =
+HasFilledNear-recounted before mid after p class near goes_on is filled =
     let same : radius_in after class ≡ radius_in mid class = ap (λ (run : SharedRun). radius_of_class run.step run.gamma class) goes_on.later.run in
     record {
-      class_is = filled.class_is ∙ ap class_of (sym count);
-      counted = λ entry. subst (λ n. own_count before entry ≤ n) (sym count) (filled.counted entry);
+      class_is = is;
+      counted = λ entry. omega (arith, filled.counted entry, goes_on.later.seen Count);
       all = λ i q stands close.
           filled.all i q stands (subst (λ r. squared_distance q p ≤ r * r) same close);
       in_reach = λ k d below. IsInReach-later mid after p _ goes_on (filled.in_reach k d below);
+      close = λ i among.
+          let present = (All-contains (IsInReach mid p) near i filled.in_reach among).present in
+          subst (λ r. distance_to p (tree_seen after).points i ≤ r * r) (sym same)
+          (omega (arith, distance_still mid after goes_on p i present, filled.close i among));
       swept =
           subst (λ r. SweepsWithin (sight_in before) (sight_in after) p (r * r)) (sym same)
           (SweepsWithin-still mid after goes_on before p (radius_in mid class * radius_in mid class) filled.swept);
     }
 
+-- so it does while no count is seen anew
+pub HasFilledNear-still :
+    (before mid after : View) (p : Point) (class : ℕ) (near : List ℕ) → GoesOn mid after → sees after Count ≡ sees mid Count
+    → HasFilledNear before mid p class near → HasFilledNear before after p class near
+HasFilledNear-still before mid after p class near goes_on count filled =
+    HasFilledNear-recounted before mid after p class near goes_on (filled.class_is ∙ ap class_of (sym count)) filled
+
+-- the near list of a pass stays filled while other words are seen anew than records and the count
+pub IsFilledSince-still : (shared : SharedState) (first mid after : PassState) (p : Point) (class : ℕ) → KeepsRecords shared mid after
+    → sees after.view Count ≡ sees mid.view Count → after.near ≡ mid.near → IsFilledSince shared first mid p class
+    → IsFilledSince shared first after p class
+IsFilledSince-still shared first mid after p class keeps count near since = record {
+  keeps = KeepsRecords-trans shared first mid after since.keeps keeps;
+  filled = subst (HasFilledNear first.view after.view p class) (sym near)
+      (HasFilledNear-still first.view mid.view after.view p class mid.near keeps.goes_on count since.filled);
+}
+
 -- the node in hand was hung by its near list, and tried to be placed
 pub IsTried-placing :
-    (shared : SharedState) (before filling hanging_at after : PassState) (hand : Hand) (p : Point) (placing : Placing) (hanging : Hanging)
-    → KeepsRecords shared before filling → KeepsRecords shared filling hanging_at → GoesOnPlacing hanging_at.view after.view → hand.point ≡ p
-    → HasFilledNear before.view filling.view p hanging.class filling.near → hanging_at.near ≡ filling.near → after.near ≡ hanging_at.near
-    → sees hanging_at.view Count ≡ sees filling.view Count → IsHung hanging_at.view hand (hanging.parent, hanging.cost) filling.near
-    → IsPlacing after.view (hung_by hand hanging) placing → IsTried before after hand placing hanging
-IsTried-placing shared before filling hanging_at after hand p placing hanging one other goes_on at filled near last count hung came =
-    let list : after.near ≡ filling.near = last ∙ near in
-    record {
-      mid = hanging_at.view;
-      begun = GoesOn-trans before.view filling.view hanging_at.view one.goes_on other.goes_on;
-      filled =
-          subst (HasFilledNear before.view hanging_at.view hand.point hanging.class) (sym list)
-          (subst (λ q. HasFilledNear before.view hanging_at.view q hanging.class filling.near) (sym at)
-          (HasFilledNear-still before.view filling.view hanging_at.view p hanging.class filling.near other.goes_on count filled));
-      hung = subst (IsHung hanging_at.view hand (hanging.parent, hanging.cost)) (sym list) hung;
-      ended = goes_on.goes_on;
-      count = goes_on.others Count (λ no. no);
-      came = came;
-    }
+    (shared : SharedState) (before hanging_at after : PassState) (hand : Hand) (placing : Placing) (hanging : Hanging)
+    → KeepsRecords shared before hanging_at → GoesOnPlacing hanging_at.view after.view → hanging_at.near ≡ before.near
+    → after.near ≡ hanging_at.near → sees hanging_at.view Count ≡ sees before.view Count
+    → IsHung hanging_at.view hand (hanging.parent, hanging.cost) before.near → IsPlacing after.view (hung_by hand hanging) placing
+    → IsTried before after hand placing hanging
+IsTried-placing shared before hanging_at after hand placing hanging keeps goes_on near last count hung came = record {
+  mid = hanging_at.view;
+  begun = keeps.goes_on;
+  near = last ∙ near;
+  counted = count;
+  hung = subst (IsHung hanging_at.view hand (hanging.parent, hanging.cost)) (sym (last ∙ near)) hung;
+  ended = goes_on.goes_on;
+  count = goes_on.others Count (λ no. no);
+  came = came;
+}

@@ -4,13 +4,15 @@ use Rattle.std.specs.Prelude.{◌⊎◌, [], ◌∷◌, max}
 use Rattle.std.proofs.lemmas.Bool.{cases_lt}
 use lib.ListN.{get_elem?}
 use Rattle.plan_model.specs.declared.records.Record.{Record}
-use Rattle.plan_words.specs.Claims.{IsClaimed}
+use Rattle.plan_words.specs.Claims.{AllLoaded, IsClaimed}
 use Rattle.plan_words.specs.States.{GoesOn, PassState, SharedState, turn_of, worker_of}
 use Rattle.step_core.specs.ViewSteps.{new_hand, one_turn_more}
 use Rattle.step_core.specs.declared.views.Member.{Member}
+use Rattle.step_core.specs.declared.views.View.{View}
+use Rattle.plan_words.proofs.GoingOn.{HasGoneOn}
 use Rattle.plan_words.proofs.Tying.{HasMember-held}
-use Rattle.plan_work.specs.SharedMarks.{HandlesMark}
-use Rattle.plan_work.specs.SharedWork.{HasWorked}
+use Rattle.plan_work.specs.Extensions.{HandlesMark}
+use Rattle.plan_work.specs.Workers.{HasWorked}
 
 -- a turn more changes neither the share nor the worker
 share-turned : (crew : List Member) → length (one_turn_more crew) ≡ length crew
@@ -57,3 +59,8 @@ fewer_turns shared now claimed after limit k entry goes_on claims handles =
     let some : 0 < length claimed.view.crew = subst (λ l. 0 < length l) (sym has.crew_is) (omega arith) in
     let more = ap turn_of handles.crew ∙ turn-turned claimed.view.crew some in
     omega (arith, low, turn, more, ap turn_of claims.crew)
+
+-- What was loaded after some steps was loaded after fewer.
+pub AllLoaded-earlier : (before now after : View) → HasGoneOn before now → AllLoaded after now.steps → AllLoaded after before.steps
+AllLoaded-earlier before now after (inl same) loaded = subst (λ v. AllLoaded after v.steps) same loaded
+AllLoaded-earlier before now after (inr goes_on) loaded = λ g below. omega (arith, goes_on.later.steps, loaded g below)

@@ -1,5 +1,2 @@
 pub mod Extensions
-pub mod Jobs
-pub mod SharedMarks
-pub mod CheaperNodes
-pub mod SharedWork
+pub mod Workers

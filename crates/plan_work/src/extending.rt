@@ -1,92 +1,32 @@
-//! The handling of one mark on the words of a run.
+//! The handling of one mark.
 
-ghost use Rattle.std.specs.Prelude.{◌≡◌, ◌↔◌, ◌+◌, ◌<◌, ◌≤◌, ℕ, All, Contains, Some, length};
-ghost use Rattle.std.specs.Vec.{vec_capacity};
+ghost use Rattle.std.specs.Prelude.{◌≡◌, ◌↔◌, ◌<◌, ◌⊎◌, false, suc, All, IfSome, IsSome, IsTrue};
+ghost use Rattle.kd_shared.specs.Looking.{OnlyLooks};
+ghost use Rattle.kd_shared.specs.Spots.{IsNotFurther};
 ghost use Rattle.plan_model.specs.Bounds.{IsBounded};
 ghost use Rattle.plan_model.specs.Clearance.{Clear};
-ghost use Rattle.plan_model.specs.ClosedLaw.{mark_at};
 ghost use Rattle.plan_model.specs.ConfigurationSpace.{space_of};
-ghost use Rattle.plan_model.specs.HandledMarks.{IsCheaperBy, IsHandledWhole, kept_cost_through};
-ghost use Rattle.plan_model.specs.Turns.{turns_of};
-ghost use Rattle.plan_model.specs.LeastPairs.{IsFirstLeast};
-ghost use Rattle.plan_model.specs.PointsByNumber.{IsFree, IsPresent, StandsAt, point_of};
-ghost use Rattle.plan_model.specs.Textbook.{IsCandidate, SteersTo, setup_of};
-ghost use Rattle.plan_model.specs.TreeStates.{GrowsInto};
-ghost use Rattle.plan_model.specs.declared.limits.TheConstants.{MOST_WORKERS};
-ghost use Rattle.plan_work.specs.Extensions.{AreRadiiOf, HandlesNext};
-ghost use Rattle.step_core.specs.GrownRuns.{state_of_grown};
+ghost use Rattle.plan_model.specs.Nearness.{distance_to};
+ghost use Rattle.plan_model.specs.Outcomes.{is_placed};
+ghost use Rattle.plan_words.specs.States.{BelongsTo, GoesOn, MayClaim, PassState, with_view};
+ghost use Rattle.plan_work.specs.Extensions.{AreRadiiOf, EndsAt, HandlesMark, HasFilledNear, HasRecorded, HasSteered, IsExtended, IsFilledSince, IsHung, IsNearestOf, IsPointed, IsTried, KeepsRecords, MayPlace, own_placed, own_unplaced};
+ghost use Rattle.step_core.specs.LaterViews.{IsLawfulView};
+ghost use Rattle.step_core.specs.SeenRecords.{MayRecord};
+ghost use Rattle.step_core.specs.Stages.{MayBeRecorded};
+ghost use Rattle.step_core.specs.ViewSteps.{pair_in_hand};
+ghost use Rattle.step_core.specs.ViewTrees.{SeesPoint};
+ghost use Rattle.step_core.specs.Views.{sees, share, tree_seen};
+ghost use Rattle.step_core.specs.WordNames.Word.{Count, FirstOf};
+ghost use Rattle.tree_rewire.specs.SeenCosts.{IsInReach, IsNoWord, PassSees};
+ghost use Rattle.plan_model.specs.PointsByNumber.{IsPresent, point_of};
+ghost use Rattle.step_core.specs.declared.views.Stage.TheVariants.{Claimed, Counted, Pointed};
 
-use crate::choice::choose;
-use crate::near_nodes::fill_near;
-use crate::nearest_node::nearest;
-use crate::rewiring::keep_cheaper;
-use crate::turns::turns_of;
-use edge_cost::{Parent, Radii, class, steer};
+use edge_cost::{Radii, class, steer};
+use kd_shared::{Placing, find, near, nearest, place};
 use plan_model::{Outcome, Point, Record};
-use step_core::Grown;
+use plan_words::{Pass, Shared};
 use swept_check::Clearing;
-
-/// Handles the next mark (sample) of a run, and returns its record: the nearest node steers towards the mark; a node is placed
-/// at the point that this leads to, unless a node stands there or the segment is not clear, under the parent through which it
-/// costs the least among the nearest and the near nodes with a clear edge; and near nodes that are strictly cheaper through the
-/// new one, over a clear edge, are rewired. O(n) for n marks.
-///
-/// It takes no memory: `list` has room for every node, and keeps it. `hall` is the collision checker of the scene.
-pub fn extend_whole<C: Clearing>(
-    grown: &mut Grown,
-    hall: &C,
-    worker: u32,
-    list: &mut Vec<u32>,
-) -> Record
-    requires left { grown.old.limit < length grown.old.task.marks }
-    requires worker { worker < MOST_WORKERS }
-    requires hall { C.space hall.now ≡ space_of grown.old.task.scene }
-    requires spare { length grown.old.task.marks + 1 ≤ vec_capacity list.old }
-    ensures task { grown.new.task ≡ grown.old.task }
-    ensures limit { grown.new.limit ≡ grown.old.limit + 1 }
-    // nodes, points and records stay, and no cost rises
-    ensures grows { GrowsInto (state_of_grown grown.old) (state_of_grown grown.new) }
-    ensures handled { HandlesNext grown.old grown.new result }
-    ensures recorded { (state_of_grown grown.new).record_of grown.old.limit ≡ Some result }
-    ensures worker { result.worker ≡ worker }
-    ensures turn { result.turn ≡ turns_of (state_of_grown grown.old).record_of grown.old.limit worker }
-    ensures spare { vec_capacity list.new ≡ vec_capacity list.old }
-{
-    let scene = &grown.task().scene;
-    let radii = Radii::new(scene.step, scene.gamma);
-    let turn = turns_of(grown, worker);
-    extend_in_turn(grown, hall, &radii, worker, turn, list)
-}
-
-/// The same, with the radii of the scene and the worker's turn, so that neither is found anew for each mark. O(n) for n marks.
-pub(crate) fn extend_in_turn<C: Clearing>(
-    grown: &mut Grown,
-    hall: &C,
-    radii: &Radii,
-    worker: u32,
-    turn: u32,
-    list: &mut Vec<u32>,
-) -> Record
-    requires left { grown.old.limit < length grown.old.task.marks }
-    requires worker { worker < MOST_WORKERS }
-    requires hall { C.space hall.now ≡ space_of grown.old.task.scene }
-    requires radii { AreRadiiOf grown.old.task.scene radii.now }
-    requires turn { turn ≡ turns_of (state_of_grown grown.old).record_of grown.old.limit worker }
-    requires spare { length grown.old.task.marks + 1 ≤ vec_capacity list.old }
-    ensures task { grown.new.task ≡ grown.old.task }
-    ensures limit { grown.new.limit ≡ grown.old.limit + 1 }
-    ensures grows { GrowsInto (state_of_grown grown.old) (state_of_grown grown.new) }
-    ensures handled { HandlesNext grown.old grown.new result }
-    ensures recorded { (state_of_grown grown.new).record_of grown.old.limit ≡ Some result }
-    ensures worker { result.worker ≡ worker }
-    ensures turn { result.turn ≡ turn }
-    ensures spare { vec_capacity list.new ≡ vec_capacity list.old }
-{
-    let steering = steer_next(grown);
-    let entry = entry_of(grown, hall, radii, steering, worker, turn, list);
-    grown.put(&entry, steering.point, list);
-    entry
-}
+use tree_rewire::{choose, rewire};
 
 /// The node that steers towards a mark, and where to.
 #[derive(Clone, Copy)]
@@ -99,18 +39,38 @@ struct Steering {
     point: Point,
 }
 
-/// The steering towards the next mark. O(n) for n marks.
-fn steer_next(grown: &Grown) -> Steering
-    requires { grown.now.limit < length grown.now.task.marks }
-    ensures steers { SteersTo (setup_of grown.now.task.scene) (state_of_grown grown.now).points
-        (mark_at grown.now.task.marks grown.now.limit) result.nearest result.point }
-    ensures from { StandsAt (state_of_grown grown.now).points result.nearest result.from }
+/// A node, where it stands, and its squared distance from a mark.
+#[derive(Clone, Copy)]
+struct Candidate {
+    node: u32,
+    at: Point,
+    distance: u64,
+}
+
+/// What a new node hangs by.
+#[derive(Clone, Copy)]
+pub(crate) struct Hanging {
+    pub(crate) parent: u32,
+    pub(crate) cost: u64,
+    /// The class of the number of nodes.
+    pub(crate) class: u32,
+}
+
+/// The steering towards the mark in hand.
+fn steer_from_nearest(shared: &Shared, pass: &mut Pass, k: u32) -> Steering
+    requires belongs { BelongsTo pass.old shared.now }
+    requires lawful { IsLawfulView pass.old.view }
+    requires some { IsSome pass.old.view.hand }
+    requires hand { IfSome pass.old.view.hand (λ hand. hand.mark ≡ k) }
+    ensures belongs { BelongsTo pass.new shared.now }
+    ensures looks { OnlyLooks pass.old.view pass.new.view }
+    ensures steered { HasSteered pass.old.view pass.new.view k result.nearest result.from result.point }
     ensures bounded { IsBounded result.point }
 {
-    let mark = grown.task().marks.as_slice()[grown.limit() as usize];
-    let nearest = nearest(grown, mark);
-    let from = grown.point(nearest).unwrap();
-    let point = steer(from, mark, grown.task().scene.step);
+    let mark = shared.task().marks.as_slice()[k as usize];
+    let nearest = nearest(shared, pass, mark);
+    let from = shared.point(pass, nearest);
+    let point = steer(from, mark, shared.task().scene.step);
     Steering {
         nearest,
         from,
@@ -118,81 +78,324 @@ fn steer_next(grown: &Grown) -> Steering
     }
 }
 
-/// The record of the next mark, with the near nodes in the list that are cheaper by way of a new one. O(n) for n marks.
-fn entry_of<C: Clearing>(
-    grown: &Grown,
-    hall: &C,
-    radii: &Radii,
-    steering: Steering,
-    worker: u32,
-    turn: u32,
-    list: &mut Vec<u32>,
-) -> Record
-    requires steers { SteersTo (setup_of grown.now.task.scene) (state_of_grown grown.now).points
-        (mark_at grown.now.task.marks grown.now.limit) steering.nearest steering.point }
-    requires from { StandsAt (state_of_grown grown.now).points steering.nearest steering.from }
-    requires bounded { IsBounded steering.point }
-    requires hall { C.space hall.now ≡ space_of grown.now.task.scene }
-    requires radii { AreRadiiOf grown.now.task.scene radii.now }
-    requires turn { turn ≡ turns_of (state_of_grown grown.now).record_of grown.now.limit worker }
-    requires spare { grown.now.limit + 1 ≤ vec_capacity list.old }
-    ensures handled { IsHandledWhole (setup_of grown.now.task.scene) (state_of_grown grown.now) grown.now.limit
-        (mark_at grown.now.task.marks grown.now.limit) result steering.point list.new.items }
-    ensures worker { result.worker ≡ worker }
-    ensures turn { result.turn ≡ turn }
-    ensures nodes { All (IsPresent (state_of_grown grown.now).points) list.new.items }
-    ensures spare { vec_capacity list.new ≡ vec_capacity list.old }
+/// Fills the near list with the nodes within the radius of a point, and returns the class of the number of nodes, by which that
+/// radius goes.
+fn fill_near(shared: &Shared, pass: &mut Pass, radii: &Radii, p: Point) -> u32
+    requires belongs { BelongsTo pass.old shared.now }
+    requires radii { AreRadiiOf shared.now.task.scene radii.now }
+    requires bounded { IsBounded p }
+    ensures keeps { KeepsRecords shared.now pass.old pass.new }
+    ensures hand { pass.new.view.hand ≡ pass.old.view.hand }
+    ensures filled { HasFilledNear pass.old.view pass.new.view p result pass.new.near }
 {
-    list.clear();
-    let Steering {
-        nearest,
-        from,
-        point,
-    } = steering;
-    // no other node stands there: the point is nearer to the mark than the nearest node
-    if point == from {
-        return Record::unplaced(worker, turn, nearest, Outcome::Same(nearest));
+    let nodes = u64::from(shared.number(pass));
+    near(shared, pass, p, radii.at(nodes));
+    class(nodes)
+}
+
+/// The nearest node to a point among those on the near list, of equally near ones that of the least number. `None` if the list is
+/// empty. O(n) for n near nodes.
+fn nearest_listed(shared: &Shared, pass: &mut Pass, p: Point) -> Option<Candidate>
+    requires belongs { BelongsTo pass.old shared.now }
+    requires lawful { IsLawfulView pass.old.view }
+    requires bounded { IsBounded p }
+    requires present { All (IsPresent (tree_seen pass.old.view).points) pass.old.near }
+    ensures steps { PassSees IsNoWord shared.now pass.old pass.new }
+    ensures some { IfSome result (λ best. IsNearestOf pass.old.view p pass.old.near pass.old.near best.node best.at) }
+{
+    let count = pass.near_count();
+    if count == 0 {
+        return None;
     }
-    if !hall.clear(from, point) {
-        return Record::unplaced(worker, turn, nearest, Outcome::Blocked);
+    let first = pass.near_node(0);
+    let mut best = measured(shared, pass, p, first);
+    'others: for index in 1..count {
+        let node = pass.near_node(index);
+        let other = measured(shared, pass, p, node);
+        best = nearer(best, other);
     }
-    let parent = place(grown, hall, radii, nearest, point, list);
-    Record {
-        worker,
-        turn,
-        nearest,
-        outcome: Outcome::Placed,
-        first_parent: parent.node,
-        first_cost: parent.cost,
-        class: class(u64::from(grown.count())),
+    Some(best)
+}
+
+/// A node with its distance from a point.
+fn measured(shared: &Shared, pass: &mut Pass, p: Point, node: u32) -> Candidate
+    requires belongs { BelongsTo pass.old shared.now }
+    requires lawful { IsLawfulView pass.old.view }
+    requires bounded { IsBounded p }
+    requires present { IsPresent (tree_seen pass.old.view).points node }
+    ensures steps { PassSees IsNoWord shared.now pass.old pass.new }
+    ensures node { result.node ≡ node }
+    ensures at { result.at ≡ point_of (tree_seen pass.old.view).points node }
+    ensures distance { result.distance ≡ distance_to p (tree_seen pass.old.view).points node }
+{
+    let at = shared.point(pass, node);
+    Candidate {
+        node,
+        at,
+        distance: at.squared_distance(p),
     }
 }
 
-/// The parent of a new node, with the near nodes in the list that are cheaper by way of it. O(n) for n marks.
-fn place<C: Clearing>(
-    grown: &Grown,
-    hall: &C,
-    radii: &Radii,
-    nearest: u32,
-    point: Point,
-    list: &mut Vec<u32>,
-) -> Parent
-    requires bounded { IsBounded point }
-    requires free { IsFree (state_of_grown grown.now).points point }
-    requires nearest { IsPresent (state_of_grown grown.now).points nearest }
-    requires clear { Clear (C.space hall.now) (point_of (state_of_grown grown.now).points nearest) point }
-    requires hall { C.space hall.now ≡ space_of grown.now.task.scene }
-    requires radii { AreRadiiOf grown.now.task.scene radii.now }
-    requires spare { grown.now.limit + 1 ≤ vec_capacity list.old }
-    ensures parent { IsFirstLeast (kept_cost_through (state_of_grown grown.now) point)
-        (IsCandidate (setup_of grown.now.task.scene) (state_of_grown grown.now).points nearest point) result.node }
-    ensures cost { result.cost ≡ kept_cost_through (state_of_grown grown.now) point result.node }
-    ensures moves { (i : ℕ) → Contains list.new.items i
-        ↔ IsCheaperBy (setup_of grown.now.task.scene) (state_of_grown grown.now) point result.cost i }
-    ensures spare { vec_capacity list.new ≡ vec_capacity list.old }
+/// The nearer of two nodes, of equally near ones that of the lesser number.
+fn nearer(best: Candidate, other: Candidate) -> Candidate
+    ensures one_of { (result ≡ best) ⊎ (result ≡ other) }
+    ensures before { IsNotFurther result.distance result.node best.distance best.node }
+    ensures one_more { IsNotFurther result.distance result.node other.distance other.node }
 {
-    fill_near(grown, point, radii.at(u64::from(grown.count())), list);
-    let parent = choose(grown, hall, point, nearest, list);
-    keep_cheaper(grown, hall, point, parent.cost, list);
-    parent
+    if other.distance < best.distance {
+        return other;
+    }
+    if other.distance == best.distance && other.node < best.node {
+        return other;
+    }
+    best
+}
+
+/// The steering towards the mark in hand, with the near list filled for the point that it comes to, and the class of the number of
+/// nodes, by which the radius of that list goes.
+///
+/// It looks for near nodes of the mark first. The nearest of them is the nearest of all, and since no radius is longer than a step,
+/// the steered point is the mark itself. Only if there are none it takes a search for the nearest node, and one more for those near
+/// the point.
+fn steer_among_near(shared: &Shared, pass: &mut Pass, radii: &Radii, k: u32) -> (Steering, u32)
+    requires belongs { BelongsTo pass.old shared.now }
+    requires lawful { IsLawfulView pass.old.view }
+    requires some { IsSome pass.old.view.hand }
+    requires hand { IfSome pass.old.view.hand (λ hand. hand.mark ≡ k) }
+    requires radii { AreRadiiOf shared.now.task.scene radii.now }
+    ensures keeps { KeepsRecords shared.now pass.old pass.new }
+    ensures hand { pass.new.view.hand ≡ pass.old.view.hand }
+    ensures steered { HasSteered pass.old.view pass.new.view k result.0.nearest result.0.from result.0.point }
+    ensures filled { HasFilledNear pass.old.view pass.new.view result.0.point result.1 pass.new.near }
+    ensures bounded { IsBounded result.0.point }
+{
+    let mark = shared.task().marks.as_slice()[k as usize];
+    let class = fill_near(shared, pass, radii, mark);
+    if let Some(best) = nearest_listed(shared, pass, mark) {
+        let steering = Steering {
+            nearest: best.node,
+            from: best.at,
+            point: mark,
+        };
+        return (steering, class);
+    }
+    let steering = steer_from_nearest(shared, pass, k);
+    let class = fill_near(shared, pass, radii, steering.point);
+    (steering, class)
+}
+
+/// Fills the near list anew, if by the number of nodes now the class is another one, and returns the class of that number.
+fn renew_near(shared: &Shared, pass: &mut Pass, radii: &Radii, p: Point, old: u32) -> u32
+    requires belongs { BelongsTo pass.old shared.now }
+    requires radii { AreRadiiOf shared.now.task.scene radii.now }
+    requires bounded { IsBounded p }
+    ensures keeps { KeepsRecords shared.now pass.old pass.new }
+    ensures hand { pass.new.view.hand ≡ pass.old.view.hand }
+    ensures filled { (first : PassState) → IsFilledSince shared.now first pass.old p old → IsFilledSince shared.now first pass.new p result }
+{
+    let class = class(u64::from(shared.number(pass)));
+    if class == old {
+        return class;
+    }
+    fill_near(shared, pass, radii, p)
+}
+
+/// The steering towards the mark in hand, the class with its near list, and whether the segment is clear.
+///
+/// Nodes may come while the segment is tested, so the class is that of the number of nodes after it.
+fn steer_near<C: Clearing>(
+    shared: &Shared,
+    pass: &mut Pass,
+    radii: &Radii,
+    hall: &C,
+    k: u32,
+) -> (Steering, u32, bool)
+    requires belongs { BelongsTo pass.old shared.now }
+    requires lawful { IsLawfulView pass.old.view }
+    requires some { IsSome pass.old.view.hand }
+    requires hand { IfSome pass.old.view.hand (λ hand. hand.mark ≡ k) }
+    requires radii { AreRadiiOf shared.now.task.scene radii.now }
+    ensures keeps { KeepsRecords shared.now pass.old pass.new }
+    ensures hand { pass.new.view.hand ≡ pass.old.view.hand }
+    ensures steered { HasSteered pass.old.view pass.new.view k result.0.nearest result.0.from result.0.point }
+    ensures filled { HasFilledNear pass.old.view pass.new.view result.0.point result.1 pass.new.near }
+    ensures bounded { IsBounded result.0.point }
+    ensures clear { IsTrue result.2 ↔ Clear (C.space hall.now) result.0.from result.0.point }
+{
+    let (steering, begun) = steer_among_near(shared, pass, radii, k);
+    let is_clear = hall.clear(steering.from, steering.point);
+    let class = renew_near(shared, pass, radii, steering.point, begun);
+    (steering, class, is_clear)
+}
+
+/// Writes the parent and the cost of the node in hand: of the nearest node and of those on the near list with a clear edge, the
+/// one through which it costs the least.
+fn hang<C: Clearing>(
+    shared: &Shared,
+    pass: &mut Pass,
+    hall: &C,
+    p: Point,
+    nearest: u32,
+) -> (u32, u64)
+    requires belongs { BelongsTo pass.old shared.now }
+    requires hall { C.space hall.now ≡ space_of shared.now.task.scene }
+    requires hand { IsSome pass.old.view.hand }
+    requires pointed { IfSome pass.old.view.hand (λ hand. IsPointed hand nearest p) }
+    requires bounded { IsBounded p }
+    requires nearest { IsInReach pass.old.view p nearest }
+    requires clear { Clear (space_of shared.now.task.scene) (point_of (tree_seen pass.old.view).points nearest) p }
+    requires near { All (IsInReach pass.old.view p) pass.old.near }
+    ensures keeps { KeepsRecords shared.now pass.old pass.new }
+    ensures near_list { pass.new.near ≡ pass.old.near }
+    ensures count { sees pass.new.view Count ≡ sees pass.old.view Count }
+    ensures hung { IfSome pass.old.view.hand (λ hand. IsHung pass.new.view hand result pass.old.near) }
+{
+    let (parent, cost) = choose(shared, pass, hall, p, nearest);
+    shared.write_tree(pass, parent, cost);
+    (parent, cost)
+}
+
+/// Records that no node was placed for the mark in hand.
+fn record_unplaced(shared: &Shared, pass: &mut Pass, nearest: u32, outcome: Outcome) -> Record
+    requires belongs { BelongsTo pass.old shared.now }
+    requires part { 0 < share pass.old.view }
+    requires hand { IsSome pass.old.view.hand }
+    requires unplaced { is_placed outcome ≡ false }
+    requires stage { IfSome pass.old.view.hand (λ hand. MayBeRecorded hand.stage outcome) }
+    requires may { IfSome pass.old.view.hand (λ hand. MayRecord pass.old.view hand (own_unplaced pass.old.view nearest outcome)) }
+    ensures recorded { HasRecorded shared.now pass.old pass.new result }
+    ensures entry { result ≡ own_unplaced pass.old.view nearest outcome }
+{
+    let entry = Record::unplaced(pass.worker(), pass.turn(), nearest, outcome);
+    shared.finish(pass, entry);
+    entry
+}
+
+/// Records that the node of the mark in hand was placed.
+fn record_placed(shared: &Shared, pass: &mut Pass, nearest: u32, hanging: Hanging) -> Record
+    requires belongs { BelongsTo pass.old shared.now }
+    requires part { 0 < share pass.old.view }
+    requires hand { IsSome pass.old.view.hand }
+    requires counted { IfSome pass.old.view.hand (λ hand. hand.stage ≡ Counted) }
+    requires first { IfSome pass.old.view.hand (λ hand. sees pass.old.view (FirstOf (suc hand.mark)) ≡ pair_in_hand hand) }
+    requires may { IfSome pass.old.view.hand (λ hand. MayRecord pass.old.view hand (own_placed pass.old.view nearest hanging)) }
+    ensures recorded { HasRecorded shared.now pass.old pass.new result }
+    ensures entry { result ≡ own_placed pass.old.view nearest hanging }
+{
+    let entry = Record {
+        worker: pass.worker(),
+        turn: pass.turn(),
+        nearest,
+        outcome: Outcome::Placed,
+        first_parent: hanging.parent,
+        first_cost: hanging.cost,
+        class: hanging.class,
+    };
+    shared.finish(pass, entry);
+    entry
+}
+
+/// Hangs the node in hand by the nodes on the near list, which are near its point, and tries to place it.
+fn hang_and_place<C: Clearing>(
+    shared: &Shared,
+    pass: &mut Pass,
+    hall: &C,
+    k: u32,
+    steering: Steering,
+    class: u32,
+) -> (Placing, Hanging)
+    requires may { MayPlace shared.now pass.old k steering.nearest steering.point }
+    requires near { All (IsInReach pass.old.view steering.point) pass.old.near }
+    requires hall { C.space hall.now ≡ space_of shared.now.task.scene }
+    ensures keeps { KeepsRecords shared.now pass.old pass.new }
+    ensures tried { IfSome pass.old.view.hand (λ hand. IsTried pass.old pass.new hand result.0 result.1) }
+    ensures class { result.1.class ≡ class }
+{
+    let (parent, cost) = hang(shared, pass, hall, steering.point, steering.nearest);
+    let placing = place(shared, pass, k);
+    (
+        placing,
+        Hanging {
+            parent,
+            cost,
+            class,
+        },
+    )
+}
+
+/// Places the node of the mark in hand, rewires the nodes on the near list, and records what became of it.
+fn place_mark<C: Clearing>(
+    shared: &Shared,
+    pass: &mut Pass,
+    hall: &C,
+    k: u32,
+    steering: Steering,
+    class: u32,
+) -> Record
+    requires may { MayPlace shared.now pass.old k steering.nearest steering.point }
+    requires part { 0 < share pass.old.view }
+    requires filled { (first : PassState) × IsFilledSince shared.now first pass.old steering.point class }
+    requires hall { C.space hall.now ≡ space_of shared.now.task.scene }
+    ensures handled { HandlesMark shared.now pass.old pass.new k result }
+    ensures nearest { result.nearest ≡ steering.nearest }
+    // of the time since any moment after which the near list was filled
+    ensures ended { (first : PassState) → IsFilledSince shared.now first pass.old steering.point class
+        → EndsAt first.view pass.new.view k result steering.point result.outcome }
+{
+    let (placing, hanging) = hang_and_place(shared, pass, hall, k, steering, class);
+    match placing {
+        Placing::Placed => {
+            rewire(shared, pass, hall, k);
+            record_placed(shared, pass, steering.nearest, hanging)
+        }
+        Placing::Same(node) => {
+            record_unplaced(shared, pass, steering.nearest, Outcome::Same(node))
+        }
+    }
+}
+
+/// Handles mark k, which is in hand with nothing written of it, by these radii.
+pub(crate) fn extend_within<C: Clearing>(
+    shared: &Shared,
+    pass: &mut Pass,
+    radii: &Radii,
+    hall: &C,
+    k: u32,
+) -> Record
+    requires belongs { BelongsTo pass.old shared.now }
+    requires hand { IsSome pass.old.view.hand }
+    requires mark { IfSome pass.old.view.hand (λ hand. hand.mark ≡ k) }
+    requires claimed { IfSome pass.old.view.hand (λ hand. hand.stage ≡ Claimed) }
+    requires radii { AreRadiiOf shared.now.task.scene radii.now }
+    requires hall { C.space hall.now ≡ space_of shared.now.task.scene }
+    ensures handled { HandlesMark shared.now pass.old pass.new k result }
+    ensures extended { IsExtended pass.old.view pass.new.view k result }
+{
+    pass.clear_near();
+    let (steering, class, is_clear) = steer_near(shared, pass, radii, hall, k);
+    if let Some(node) = find(shared, pass, steering.point) {
+        return record_unplaced(shared, pass, steering.nearest, Outcome::Same(node));
+    }
+    if !is_clear {
+        return record_unplaced(shared, pass, steering.nearest, Outcome::Blocked);
+    }
+    shared.write_point(pass, steering.nearest, steering.point);
+    place_mark(shared, pass, hall, k, steering, class)
+}
+
+/// Handles mark k, which is in hand with nothing written of it, as RRT* does (Karaman and Frazzoli, IJRR 2011), in a tree that
+/// others grow: steers from the nearest node, tests the segment, takes the parent through which the new node costs the least,
+/// links it, rewires the nodes near it, and stores the record, which it returns. All of it by what the pass has seen.
+pub fn extend<C: Clearing>(shared: &Shared, pass: &mut Pass, hall: &C, k: u32) -> Record
+    requires belongs { BelongsTo pass.old shared.now }
+    requires hand { IsSome pass.old.view.hand }
+    requires mark { IfSome pass.old.view.hand (λ hand. hand.mark ≡ k) }
+    requires claimed { IfSome pass.old.view.hand (λ hand. hand.stage ≡ Claimed) }
+    requires hall { C.space hall.now ≡ space_of shared.now.task.scene }
+    ensures handled { HandlesMark shared.now pass.old pass.new k result }
+    ensures extended { IsExtended pass.old.view pass.new.view k result }
+{
+    let scene = &shared.task().scene;
+    let radii = Radii::new(scene.step, scene.gamma);
+    extend_within(shared, pass, &radii, hall, k)
 }

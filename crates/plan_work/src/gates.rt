@@ -1,13 +1,12 @@
 //! Gates: what is told when a worker comes to a mark.
 
-/// What is told of the marks of each worker. It answers nothing, and may wait: the lock is free meanwhile, and a test orders
+/// What is told of the marks of each worker. It answers nothing, and may wait: no other worker waits for it, and a test orders
 /// the workers by it.
 pub trait Gate: Sync {
-    /// The worker is about to look for a mark and has handled `turn` so far. If none is left it stops, so this is told once more
-    /// than `after`.
+    /// The worker has taken a mark, and is about to handle it; `turn` is the turn in that mark's record.
     fn before(&self, worker: u32, turn: u32);
 
-    /// The worker has handled a mark; `turn` is the turn in that mark's record.
+    /// The worker has handled that mark, and its record is stored.
     fn after(&self, worker: u32, turn: u32);
 }
 

@@ -1,34 +1,23 @@
-//! The planner by several workers, which grow one tree as in PRRT* (Ichnowski and Alterovitz, Parallel Sampling-Based Motion
-//! Planning with Superlinear Speedup, IROS 2012): each handles the next mark of one shared run, until none is left. There the
-//! workers add to the tree without waiting for each other. Here the tree is behind one lock: one worker at a time handles a
-//! mark, whole, so that more of them give no more speed.
+//! The planner by several workers, which grow one tree: PRRT* (Ichnowski and Alterovitz, Parallel Sampling-Based Motion Planning
+//! with Superlinear Speedup, IROS 2012). Each worker handles mark (sample) after mark, until none is left, and none waits for
+//! another: the tree is a table of words that are loaded, stored and exchanged one at a time (`plan_words`).
 //!
-//! [`extend_whole`] handles a mark (a sample) as RRT* does (Karaman and Frazzoli, Sampling-based Algorithms for Optimal Motion
-//! Planning, IJRR 2011), on the words of a run: nearest node, steering, the test of the segment, the cheapest parent among
-//! the near nodes, and rewiring. The lowered cost of a rewired node does not reach its descendants here: their kept costs
-//! stay too high until the run is settled.
+//! [`extend`] handles a mark as RRT* does (Karaman and Frazzoli, Sampling-based Algorithms for Optimal Motion Planning, IJRR
+//! 2011), in a tree that others grow meanwhile: nearest node, steering, the test of the segment, the cheapest parent among the
+//! near nodes, and rewiring, with lowered costs brought to the descendants that are seen. [`work`] is one worker, and [`grow`]
+//! runs as many as asked for, in threads of their own. A [`Gate`] is told when a worker comes to a mark and when it is done with
+//! it, so that a test can order the workers.
 //!
-//! [`grow`] runs the workers in threads of their own round the lock ([`held`] is the lock's part). A [`Gate`] is told when a
-//! worker comes to a mark and when it is done with it, so that a test can order the workers.
+//! What each call promises holds however the steps of other workers come between its own. Its terms are what its pass has seen:
+//! what others do at the same time may be seen at once, or at a later load.
 #![tactic(auto)]
 
-mod choice;
 mod extending;
 mod gates;
 mod growing;
-mod held;
-mod near_nodes;
-mod nearest_node;
-mod rewiring;
-mod shared_growing;
-mod shared_marks;
-mod shared_work;
-mod turns;
-mod workers;
+mod working;
 
-pub use extending::extend_whole;
+pub use extending::extend;
 pub use gates::{Gate, NoGate};
 pub use growing::grow;
-pub use shared_growing::grow_shared;
-pub use shared_marks::extend;
-pub use shared_work::work;
+pub use working::work;

@@ -1,96 +1,26 @@
-//! Marks that are handled whole, one after another.
+//! Marks that two passes of one thread handle in turn.
 
-ghost use Rattle.std.specs.Prelude.{◌≡◌, IsTrue};
+ghost use Rattle.std.specs.Prelude.{◌≡◌, IfOk, IsTrue};
 ghost use Rattle.plan_model.specs.ConfigurationSpace.{space_of};
 ghost use Rattle.plan_model.specs.Limits.{is_plan};
 ghost use Rattle.plan_model.specs.declared.scenes.Marks.TheVariants.{Listed};
+ghost use Rattle.plan_work_tests.specs.Sharers.{HasShare};
 
-use crate::test_runs::{Entry, Node, entry_of, node_of, small_task};
-use plan_model::{MOST_WORKERS, Memory, Outcome, Point};
-use plan_work::extend_whole;
+use crate::test_runs::{assert_nodes, assert_records, marks_to_rewire, small_task};
+use crate::two_passes::{Two, assert_extended, assert_found, joined_run, two_passes};
+use plan_model::{Goal, Marks, Memory, Outcome, Point, Sequence, SmallScene, Task, Vertex};
+use plan_words::{Pass, Shared};
 use std::alloc::Global;
 use std::process::Abort;
-use step_core::Grown;
+use std::test::Fail;
 use swept_check::Hall;
 
-/// Asserts that handling the next mark gives this record, keeps it, and takes no memory.
-fn assert_handled(rt: &impl Abort, grown: &mut Grown, hall: &Hall, list: &mut Vec<u32>, want: Entry)
-    requires { hall.now ≡ space_of grown.old.task.scene }
-    ensures { grown.new.task ≡ grown.old.task }
-{
-    let mark = grown.limit();
-    let room = list.capacity();
-    let worker = want.0;
-    assert!(rt; (mark as usize) < grown.task().marks.len());
-    assert!(rt; worker < MOST_WORKERS && grown.task().marks.len() + 1 <= room);
-    let record = extend_whole(grown, hall, worker, list);
-    assert!(rt; grown.limit() == mark + 1 && list.capacity() == room);
-    assert!(rt; record == grown.record_of(mark), "mark {mark}");
-    assert!(rt; entry_of(record) == want, "mark {mark}");
-}
-
-/// Asserts that handling the next marks gives these records.
-fn assert_all_handled(
-    rt: &impl Abort,
-    grown: &mut Grown,
-    hall: &Hall,
-    list: &mut Vec<u32>,
-    wants: &[Entry],
-)
-    requires { hall.now ≡ space_of grown.old.task.scene }
-{
-    for want in wants {
-        assert_handled(rt, grown, hall, list, *want);
-    }
-}
-
-/// Asserts the nodes of a run, by number; `None` if one is absent.
-pub(crate) fn assert_nodes(rt: &impl Abort, grown: &Grown, wants: &[Option<Node>]) {
-    for (number, want) in (0..).zip(wants) {
-        assert_eq!(rt; node_of(grown, number), *want, "node {number}");
-    }
-}
-
-/// Asserts that these marks, handled one after another with so much room for a list of nodes, give these records, so many
-/// nodes, and these by number.
-fn assert_run(
-    rt: &impl Abort,
-    alloc: Global,
-    marks: &[Point],
-    room: usize,
-    records: &[Entry],
-    count: u32,
-    nodes: &[Option<Node>],
-) -> Result<(), Memory>
-    requires { IsTrue (is_plan (Listed marks.now)) }
-{
-    let mut list = Vec::with_capacity(alloc, room)?;
-    let task = small_task(alloc, marks)?;
-    let hall = Hall::new(alloc, &task.scene)?;
-    let mut grown = Grown::new(alloc, task)?;
-    assert_all_handled(rt, &mut grown, &hall, &mut list, records);
-    assert!(rt; grown.count() == count);
-    assert_nodes(rt, &grown, nodes);
-    Ok(())
-}
-
-/// The marks of which the third gives the node of the second a cheaper way.
-pub(crate) fn marks_to_rewire() -> [Point; 3]
-    ensures { IsTrue (is_plan (Listed result)) }
-{
-    [
-        Point { x: 0, y: 50 },
-        Point { x: 40, y: 79 },
-        Point { x: 40, y: 30 },
-    ]
-}
-
 #[test]
-fn rewires_the_node_that_is_cheaper_through_a_new_one(rt: HostRuntime) -> Result<(), Memory> {
+fn two_passes_grow_one_tree(rt: HostRuntime) -> Result<(), Fail> {
     let records = [
         (0, 0, 0, Outcome::Placed, 0, 12_800, 1),
-        (0, 1, 1, Outcome::Placed, 1, 25_449, 2),
-        (0, 2, 1, Outcome::Placed, 0, 12_800, 2),
+        (1, 0, 1, Outcome::Placed, 1, 25_449, 2),
+        (0, 1, 1, Outcome::Placed, 0, 12_800, 2),
     ];
     let nodes = [
         Some((0, 0, 0, 0)),
@@ -98,41 +28,99 @@ fn rewires_the_node_that_is_cheaper_through_a_new_one(rt: HostRuntime) -> Result
         Some((40, 79, 3, 25_344)),
         Some((40, 30, 0, 12_800)),
     ];
-    // exactly as much room as there may be nodes
-    assert_run(&rt, rt.alloc(), &marks_to_rewire(), 4, &records, 4, &nodes)
+    let task = small_task(rt.alloc(), &marks_to_rewire())?;
+    let (shared, hall, mut first, mut second) = two_passes(rt.alloc(), task)?;
+    assert_extended(&rt, &shared, &hall, &mut first, 0, records[0]);
+    let above = Point { x: 0, y: 50 };
+    assert_found(&rt, &shared, &mut first, above, (1, (0, 12_800)))?;
+    assert_extended(&rt, &shared, &hall, &mut second, 1, records[1]);
+    assert_extended(&rt, &shared, &hall, &mut first, 2, records[2]);
+    let grown = joined_run(&rt, shared, first, second);
+    assert_eq!(rt; (grown.limit(), grown.count()), (3, 4));
+    assert_records(&rt, &grown, &records);
+    assert_nodes(&rt, &grown, &nodes);
+    Ok(())
+}
+
+/// The task of these marks for a point body in a room of 100 by 100, with a wall that stands to the right of the start.
+fn walled_task(alloc: Global, marks: &[Point]) -> Result<Task, Memory>
+    requires { IsTrue (is_plan (Listed marks.now)) }
+    ensures { IfOk result (λ task. task.marks ≡ marks.now) }
+{
+    let small = SmallScene {
+        room: Point { x: 100, y: 100 },
+        start: Point { x: 0, y: 0 },
+        goal: Goal {
+            low: Point { x: 90, y: 90 },
+            high: Point { x: 99, y: 99 },
+        },
+        step: 50,
+        gamma: 1000,
+        seed: 0,
+        strips: 1,
+    };
+    let corners = vec![in alloc;
+        Vertex { x: 20, y: 0 },
+        Vertex { x: 30, y: 0 },
+        Vertex { x: 30, y: 60 },
+        Vertex { x: 20, y: 60 },
+    ]?;
+    let body = Sequence::from_vec(vec![in alloc; Vertex { x: 0, y: 0 }]?);
+    let obstacles = Sequence::from_vec(vec![in alloc; Sequence::from_vec(corners)]?);
+    let plan = Marks::Listed(Sequence::from_vec(Vec::from_slice(alloc, marks)?));
+    Ok(Task {
+        scene: small.scene(body, obstacles, plan),
+        marks: Sequence::from_vec(Vec::from_slice(alloc, marks)?),
+    })
+}
+
+/// Two passes that may claim these marks in the room with the wall.
+fn two_by_wall(rt: &impl Abort, alloc: Global, marks: &[Point]) -> Result<Two, Fail>
+    requires { IsTrue (is_plan (Listed marks.now)) }
+    ensures opening { IfOk result (λ two. two.0.opening ≡ 0) }
+    ensures workers { IfOk result (λ two. two.0.workers ≡ 2) }
+    ensures marks { IfOk result (λ two. two.0.task.marks ≡ marks.now) }
+    ensures hall { IfOk result (λ two. two.1 ≡ space_of two.0.task.scene) }
+    ensures first { IfOk result (λ two. HasShare two.0 1 two.2) }
+    ensures second { IfOk result (λ two. HasShare two.0 1 two.3) }
+{
+    let task = walled_task(alloc, marks)?;
+    let hall = Hall::new(alloc, &task.scene)?;
+    if !hall.clear_at(task.scene.start) {
+        panic!(rt; "the start is not clear");
+    }
+    two_passes(alloc, task)
+}
+
+/// Asserts how many nodes are counted.
+fn assert_number(rt: &impl Abort, shared: &Shared, pass: &mut Pass, want: u32)
+    requires { HasShare shared.now 1 pass.old }
+    ensures { HasShare shared.now 1 pass.new }
+{
+    let nodes = shared.number(pass);
+    assert_eq!(rt; nodes, want);
 }
 
 #[test]
-fn counts_the_turns_of_each_worker(rt: HostRuntime) -> Result<(), Memory> {
+fn no_node_is_placed_on_another_or_behind_a_wall(rt: HostRuntime) -> Result<(), Fail> {
+    let above = Point { x: 0, y: 50 };
+    let marks = [above, above, Point { x: 40, y: 10 }];
     let records = [
         (0, 0, 0, Outcome::Placed, 0, 12_800, 1),
-        (1, 0, 1, Outcome::Placed, 1, 25_449, 2),
-        (0, 1, 1, Outcome::Placed, 0, 12_800, 2),
+        (1, 0, 1, Outcome::Same(1), 0, 0, 0),
+        (0, 1, 0, Outcome::Blocked, 0, 0, 0),
     ];
-    assert_run(&rt, rt.alloc(), &marks_to_rewire(), 4, &records, 4, &[])
-}
-
-#[test]
-fn places_no_node_on_another_or_behind_a_wall(rt: HostRuntime) -> Result<(), Memory> {
-    // the third mark leads to the start, the fourth out of the room
-    let marks = [
-        Point { x: 0, y: 50 },
-        Point { x: 0, y: 100 },
-        Point { x: 0, y: 0 },
-        Point { x: 0, y: 160 },
-    ];
-    let records = [
-        (7, 0, 0, Outcome::Placed, 0, 12_800, 1),
-        (7, 1, 1, Outcome::Placed, 1, 25_600, 2),
-        (7, 2, 0, Outcome::Same(0), 0, 0, 0),
-        (63, 0, 2, Outcome::Blocked, 0, 0, 0),
-    ];
-    let nodes = [
-        Some((0, 0, 0, 0)),
-        Some((0, 50, 0, 12_800)),
-        Some((0, 100, 1, 25_600)),
-        None,
-        None,
-    ];
-    assert_run(&rt, rt.alloc(), &marks, 9, &records, 3, &nodes)
+    let nodes = [Some((0, 0, 0, 0)), Some((0, 50, 0, 12_800)), None, None];
+    let (shared, hall, mut first, mut second) = two_by_wall(&rt, rt.alloc(), &marks)?;
+    assert_extended(&rt, &shared, &hall, &mut first, 0, records[0]);
+    assert_number(&rt, &shared, &mut first, 2);
+    assert_extended(&rt, &shared, &hall, &mut second, 1, records[1]);
+    assert_number(&rt, &shared, &mut second, 2);
+    assert_extended(&rt, &shared, &hall, &mut first, 2, records[2]);
+    assert_number(&rt, &shared, &mut first, 2);
+    let grown = joined_run(&rt, shared, first, second);
+    assert_eq!(rt; (grown.limit(), grown.count()), (3, 2));
+    assert_records(&rt, &grown, &records);
+    assert_nodes(&rt, &grown, &nodes);
+    Ok(())
 }

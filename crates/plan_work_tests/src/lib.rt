@@ -1,5 +1,5 @@
-//! Tests of `plan_work`: marks that are handled one after another, over a closed run or over shared words, and runs by one worker
-//! and by several. They use its public items alone, and stand in a crate of their own so that the library is proved once.
+//! Tests of `plan_work`: marks that two passes of one thread handle in turn, and runs by one worker and by several. They use its
+//! public items alone, and stand in a crate of their own so that the library is proved once.
 #![tactic(auto)]
 
 #[cfg(test)]
@@ -7,6 +7,10 @@ mod extending;
 #[cfg(test)]
 mod growing;
 #[cfg(test)]
-mod shared_marks;
+mod opening_runs;
+#[cfg(test)]
+mod stale_costs;
 #[cfg(test)]
 mod test_runs;
+#[cfg(test)]
+mod two_passes;

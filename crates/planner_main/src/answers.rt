@@ -28,7 +28,6 @@ use scene_text::{fetch, read_scene, write_scene};
 use seq_planner::textbook;
 use settle_report::{best, report_by_best, settle, summary_by_best};
 use std::alloc::Global;
-use std::sync::Wait;
 use std::thread::Threads;
 use step_core::Grown;
 use strip_sampler::marks;
@@ -50,7 +49,7 @@ pub struct Answer {
 ///
 /// The refusal with its cause: `Words` if the words ask for no command, and nothing is read then; otherwise that of the
 /// command.
-pub fn answer_to<R: Threads + Sync + Wait, S: Source, G: Gate>(
+pub fn answer_to<R: Threads + Sync, S: Source, G: Gate>(
     rt: &R,
     alloc: Global,
     words: &[String],
@@ -67,7 +66,7 @@ pub fn answer_to<R: Threads + Sync + Wait, S: Source, G: Gate>(
 }
 
 /// Does what the command says.
-fn perform<R: Threads + Sync + Wait, S: Source, G: Gate>(
+fn perform<R: Threads + Sync, S: Source, G: Gate>(
     rt: &R,
     alloc: Global,
     command: Command,
@@ -99,7 +98,7 @@ fn plain<S: Source>(alloc: Global, full: bool, source: &mut S) -> Result<Answer,
 }
 
 /// Plans the scene that is read by several workers, and reports it in full or in short.
-fn plan<R: Threads + Sync + Wait, S: Source, G: Gate>(
+fn plan<R: Threads + Sync, S: Source, G: Gate>(
     rt: &R,
     alloc: Global,
     workers: u32,
@@ -175,7 +174,7 @@ fn textbook_run(alloc: Global, scene: Scene, hall: &Hall) -> Result<Grown, Memor
 }
 
 /// A run of a scene by several workers, over all its marks, settled.
-fn run_by_workers<R: Threads + Sync + Wait, G: Gate>(
+fn run_by_workers<R: Threads + Sync, G: Gate>(
     rt: &R,
     alloc: Global,
     workers: u32,

@@ -16,14 +16,13 @@ use std::alloc::Global;
 use std::env::Args;
 use std::io;
 use std::process::ExitCode;
-use std::sync::Wait;
 use std::thread::Threads;
 
 /// Runs the program on the arguments that `env::args` gives, and returns the code that it ends with: the status of `run`.
 ///
 /// Arguments that are no text ask for no command. If the program is out of memory for the words, the code is
 /// `NO_MEMORY`, and nothing is read or written.
-pub fn exit_code<R: Threads + Sync + Wait, S: Source, K: Sink>(
+pub fn exit_code<R: Threads + Sync, S: Source, K: Sink>(
     rt: &R,
     alloc: Global,
     args: io::Result<Args>,
@@ -66,7 +65,7 @@ mod tests {
     const SCENE: &[u8] = b"prrt 1\nroom 10 10\nstart 5 5\ngoal 0 0 1 1\nstep 4\n";
 
     // The code that the program ends with on these arguments over this sink.
-    fn code_on<R: Threads + Sync + Wait + Abort>(
+    fn code_on<R: Threads + Sync + Abort>(
         rt: &R,
         alloc: Global,
         args: io::Result<Args>,
@@ -79,7 +78,7 @@ mod tests {
     }
 
     // Compares that code, and the text that is written.
-    fn expect<R: Threads + Sync + Wait + Abort>(
+    fn expect<R: Threads + Sync + Abort>(
         rt: &R,
         alloc: Global,
         args: io::Result<Args>,

@@ -11,7 +11,6 @@ use plan_model::{Sink, Source};
 use plan_work::Gate;
 use settle_report::deliver;
 use std::alloc::Global;
-use std::sync::Wait;
 use std::thread::Threads;
 use step_core::Grown;
 
@@ -38,7 +37,7 @@ pub struct Done {
 /// The text is made whole before anything is written. Each status but `WRITE_FAULT` has one text, which the sink takes
 /// whole; with `WRITE_FAULT` the sink failed, and took a proper prefix of the text. The run that was reported is handed out
 /// even so.
-pub fn run<R: Threads + Sync + Wait, S: Source, K: Sink, G: Gate>(
+pub fn run<R: Threads + Sync, S: Source, K: Sink, G: Gate>(
     rt: &R,
     alloc: Global,
     words: &[String],

@@ -99,16 +99,6 @@ module _ (sizes : Sizes) (words : Words) where
   pub IsBounded-stands : (n : ℕ) (p : Point) → StandsAt (points_of_words sizes words) n p → IsBounded p
   IsBounded-stands n p h = IsBounded-word (words (PointOf n)) p (point_of_word-stands n p h)
 
--- Nodes stand where they did if their words say so.
-pub point_at-same :
-    (sizes : Sizes) (before after : Words) → ((n : ℕ) → n ≤ sizes.marks → node_point after n ≡ node_point before n)
-    → (n : ℕ) → point_at (points_of_words sizes after) n ≡ point_at (points_of_words sizes before) n
-point_at-same sizes before after same n =
-    elim (cases_lt sizes.marks n) [
-      | inl past ↦ point_at-past sizes after n past ∙ sym (point_at-past sizes before n past)
-      | inr within ↦ point_at-words sizes after n within ∙ same n within ∙ sym (point_at-words sizes before n within)
-    ]
-
 -- ---- in the list of a run's words
 
 -- a number past the marks has no record

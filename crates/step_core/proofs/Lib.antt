@@ -22,16 +22,8 @@ pub mod PackedStates
 pub mod PackedLists
 pub mod FittingRuns
 pub mod ListedRuns
-pub mod MovedWords
-pub mod NewWords
 pub mod ClearedWords
 pub mod FittingStates
-pub mod RecordedMarks
-pub mod UnplacedMarks
-pub mod MarkStates
-pub mod PlacedMarks
-pub mod LinkedMarks
-pub mod NextMarks
 pub mod SeenWords
 pub mod TrueWords
 pub mod Looks

@@ -6,13 +6,13 @@ use Rattle.plan_model.specs.declared.geometry.Point.{Point}
 use Rattle.plan_model.specs.PointsByNumber.{point_at, StandsAt, point_of}
 use Rattle.plan_model.specs.Ways.{goes_right, AddsPoint, LinksAt}
 use Rattle.plan_model.proofs.NewNodes.{IsPresent-stands, StandsAt-present}
-use Rattle.plan_model.proofs.WayLinks.{AddsPoint-stands, FillsPlaces-links, FollowWays-links, new_or_old_child}
+use Rattle.plan_model.proofs.WayLinks.{AddsPoint-stands, FollowWays-links, new_or_old_child}
 use Rattle.step_core.specs.WordNames.{Words, WritesWord, IsChildWord}
 use Rattle.step_core.specs.WordNames.Word.{PointOf, ChildOf}
 use Rattle.step_core.specs.WordPlaces.{Sizes}
 use Rattle.step_core.specs.Words.{point_in}
 use Rattle.step_core.specs.GrownWords.{points_of_words, child_of_word, children_of_words}
-use Rattle.step_core.specs.KdLinks.{points_below, AreLinkedBelow, KeepsChildren, LinksRise, IsFreeBelow, EndsAt, MayLink, ChangesChildren}
+use Rattle.step_core.specs.KdLinks.{points_below, AreLinkedBelow, LinksRise, IsFreeBelow, EndsAt, MayLink, ChangesChildren}
 use Rattle.step_core.proofs.KdWays.{child_of_word-some, point_in-stands, point_at-lesser, point_at-greater, present-lesser, stands-lesser}
 use Rattle.step_core.proofs.KeptWords.{KeepsNodes, KeepsNodes-children, point_at-kept}
 
@@ -87,14 +87,6 @@ module _
           (points_below sizes after (m + 1)) q ends.depth ends.above m ends.p may.linked.ways ends.ends adds links;
       start = ap is_some (kept 0 (λ e. not_start (sym e))) ∙ may.linked.start;
     }
-
-    -- Its place was empty, so each child stays where it was.
-    pub KeepsChildren-more : KeepsChildren (children_of_words before) (children_of_words after)
-    KeepsChildren-more =
-        let fills =
-        FillsPlaces-links (children_of_words before) (children_of_words after) (points_below sizes before m)
-        (points_below sizes after (m + 1)) q ends.above (goes_right ends.depth ends.p q) m links adds in
-        fills.children
 
     -- It stands below a node of a lesser number, so if all others did, all do.
     pub LinksRise-more : LinksRise (children_of_words before) → LinksRise (children_of_words after)

@@ -22,10 +22,6 @@ pub record AreLinkedBelow (sizes : Sizes) (words : Words) (m : ℕ) : Type 0 whe
 abbrev pub LinksRise : Children → Type 0
 LinksRise child = (n c : ℕ) (side : Bool) → child n side ≡ Some c → n < c
 
--- Each child stays where it is: only empty places may fill.
-abbrev pub KeepsChildren : Children → Children → Type 0
-KeepsChildren child after = (n c : ℕ) (side : Bool) → child n side ≡ Some c → after n side ≡ Some c
-
 -- No node below number m stands at q.
 abbrev pub IsFreeBelow : Sizes → Words → ℕ → Point → Type 0
 IsFreeBelow sizes words m q = (n : ℕ) → ¬ StandsAt (points_below sizes words m) n q

@@ -9,7 +9,6 @@ pub mod ClearedWords
 pub mod PlacesOfWords
 pub mod KdLinks
 pub mod PackedRuns
-pub mod MarkWrites
 pub mod SharedWords
 pub mod SeenRecords
 pub mod SeenWords

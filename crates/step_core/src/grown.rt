@@ -1,22 +1,20 @@
 //! A closed run: a task, a limit, and the words of the tree and the records that its marks below the limit have led to.
 
-ghost use Rattle.std.specs.Prelude.{◌≡◌, ◌<◌, ◌≤◌, ◌+◌, ℕ, All, Bool, [], length, IfOk, IsTrue, Some};
+ghost use Rattle.std.specs.Prelude.{◌≡◌, ◌<◌, ◌≤◌, ℕ, Bool, [], length, IfOk, IsTrue, Some};
 ghost use Rattle.plan_model.specs.Clearance.{ClearAt};
 ghost use Rattle.plan_model.specs.ClosedLaw.{IsClosed};
 ghost use Rattle.plan_model.specs.ConfigurationSpace.{space_of};
-ghost use Rattle.plan_model.specs.HandledMarks.{with_mark};
 ghost use Rattle.plan_model.specs.PointsByNumber.{IsPresent, node_count, point_at};
 ghost use Rattle.plan_model.specs.Textbook.{setup_of, start_alone};
 ghost use Rattle.step_core.specs.HoldRunProps.{HoldRun-prop};
 ghost use Rattle.step_core.specs.GrownWords.{HoldRun, cleared, has_node, record_at, run_words, sizes_of};
 ghost use Rattle.plan_model.specs.TreeStates.{AreSameRuns, state_of};
-ghost use Rattle.step_core.specs.KdLinks.{KeepsChildren, LinksRise};
+ghost use Rattle.step_core.specs.KdLinks.{LinksRise};
 ghost use Rattle.step_core.specs.PackedRuns.{state_of_lists};
 ghost use Rattle.step_core.specs.WordNames.Word.{TreeOf};
 ghost use Rattle.step_core.specs.WordPlaces.{word_count};
 
 use crate::cleared_words::clear;
-use crate::mark_writes::write_mark;
 use crate::packed_runs::write_run;
 use crate::point_words::{pack_point, read_point};
 use crate::record_words::read_mark;
@@ -185,31 +183,6 @@ impl Grown {
         let mut words = words;
         clear(&mut words, &task);
         Grown { task, limit, words }
-    }
-
-    /// Records the next mark: its record, and its strip's count of marks. If it was placed, node `limit + 1` stands at `p` under
-    /// the first parent at the first cost, and each node of `moved` hangs below it at the first cost and the edge. All else stays.
-    /// O(d + m) for d nodes on the way of the point and m moved nodes.
-    pub fn put(&mut self, entry: &Record, p: Point, moved: &[u32])
-        requires left { self.old.limit < length self.old.task.marks }
-        requires nodes { All (IsPresent (state_of_grown self.old).points) moved.now }
-        requires closed { IsClosed (setup_of self.old.task.scene) self.old.task.marks (self.old.limit + 1)
-            (with_mark (state_of_grown self.old) self.old.limit entry.now p moved.now) }
-        ensures task { self.new.task ≡ self.old.task }
-        ensures limit { self.new.limit ≡ self.old.limit + 1 }
-        ensures state { AreSameRuns (with_mark (state_of_grown self.old) self.old.limit entry.now p moved.now) (state_of_grown self.new) }
-        // the kd-tree grows: each child stays where it is
-        ensures children { KeepsChildren (children_of_grown self.old) (children_of_grown self.new) }
-    {
-        write_mark(
-            &mut self.words,
-            &self.task,
-            self.limit as usize,
-            entry,
-            p,
-            moved,
-        );
-        self.limit += 1;
     }
 
     /// The word of a node's parent and kept cost.

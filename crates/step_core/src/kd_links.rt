@@ -4,7 +4,7 @@
 ghost use Rattle.std.specs.Prelude.{◌≡◌, ◌≤◌, ◌+◌, None, is_some, length, slice_index_or};
 ghost use Rattle.plan_model.specs.Ways.{FollowWays, goes_right};
 ghost use Rattle.step_core.specs.GrownWords.{children_of_words, points_of_words};
-ghost use Rattle.step_core.specs.KdLinks.{AreLinkedBelow, AreUnlinked, ChangesChildren, EndsAt, IsFreeBelow, KeepsChildren, LinksRise, MayLink};
+ghost use Rattle.step_core.specs.KdLinks.{AreLinkedBelow, AreUnlinked, ChangesChildren, EndsAt, IsFreeBelow, LinksRise, MayLink};
 ghost use Rattle.step_core.specs.PlacesOfWords.{sizes_in, words_in};
 ghost use Rattle.step_core.specs.WordPlaces.{word_count};
 ghost use Rattle.step_core.specs.Words.{point_in};
@@ -29,11 +29,10 @@ pub(crate) fn link_all(words: &mut [u64], places: WordPlaces, knots: &[Option<Kn
 }
 
 /// Links a node that is present, after those of lesser numbers. O(n) for n nodes on its way.
-pub(crate) fn link(words: &mut [u64], places: WordPlaces, node: usize)
+fn link(words: &mut [u64], places: WordPlaces, node: usize)
     requires sized { length words.old ≡ word_count (sizes_in places) }
     requires may_link { MayLink (sizes_in places) (words_in places words.old) node }
     ensures linked { AreLinkedBelow (sizes_in places) (words_in places words.new) (node + 1) }
-    ensures children { KeepsChildren (children_of_words (words_in places words.old)) (children_of_words (words_in places words.new)) }
     ensures rise { LinksRise (children_of_words (words_in places words.old)) → LinksRise (children_of_words (words_in places words.new)) }
     ensures others { ChangesChildren (words_in places words.old) (words_in places words.new) }
 {

@@ -18,7 +18,6 @@ mod grown;
 mod kd_links;
 mod laws;
 mod layout;
-mod mark_writes;
 mod node_writes;
 mod packed_runs;
 mod point_words;

@@ -14,17 +14,13 @@ use plan_model::{Memory, Point};
 use plan_words::{Pass, Shared};
 use std::alloc::Global;
 use std::process::Abort;
-use std::sync::Wait;
 use std::test::Fail;
 use std::thread::Threads;
 use swept_check::{Clearing, Hall};
 use tree_rewire::{choose, rewire};
 
 /// A pass that goes on from two placed marks to the third.
-fn pass_after_two<R: Threads + Sync + Wait>(
-    rt: &R,
-    alloc: Global,
-) -> Result<(Shared, Hall, Pass), Fail>
+fn pass_after_two<R: Threads + Sync>(rt: &R, alloc: Global) -> Result<(Shared, Hall, Pass), Fail>
     ensures opening { IfOk result (λ begun. begun.0.opening ≡ 2) }
     ensures marks { IfOk result (λ begun. length begun.0.task.marks ≡ 3) }
     ensures hall { IfOk result (λ begun. begun.1 ≡ space_of begun.0.task.scene) }

@@ -12,7 +12,6 @@ use plan_model::{Goal, Memory, Point, SmallScene, Task};
 use plan_words::{Pass, Shared};
 use plan_work::{NoGate, grow};
 use std::alloc::Global;
-use std::sync::Wait;
 use std::test::Fail;
 use std::thread::Threads;
 use step_core::Grown;
@@ -59,7 +58,7 @@ pub(crate) fn marks_in_square(
 pub(crate) type Begun = (Shared, Hall, Vec<Pass>);
 
 /// So many passes that go on from a run of one worker, which has handled the marks below a limit.
-pub(crate) fn passes_after<R: Threads + Sync + Wait>(
+pub(crate) fn passes_after<R: Threads + Sync>(
     rt: &R,
     alloc: Global,
     task: Task,

@@ -12,7 +12,6 @@ use plan_model::{Memory, Point};
 use plan_words::{Pass, Shared};
 use std::alloc::Global;
 use std::process::Abort;
-use std::sync::Wait;
 use std::test::Fail;
 use std::thread::Threads;
 use swept_check::Hall;
@@ -55,7 +54,7 @@ fn round() -> [Point; 10]
 }
 
 /// A pass over a tree of these nodes, each of which hangs below the one that was nearest.
-fn pass_round<R: Threads + Sync + Wait>(rt: &R, alloc: Global) -> Result<(Shared, Hall, Pass), Fail>
+fn pass_round<R: Threads + Sync>(rt: &R, alloc: Global) -> Result<(Shared, Hall, Pass), Fail>
     ensures hall { IfOk result (λ begun. begun.1 ≡ space_of begun.0.task.scene) }
     ensures works { IfOk result (λ begun. IsAtWork begun.0 begun.2) }
 {

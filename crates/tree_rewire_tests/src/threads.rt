@@ -11,7 +11,6 @@ use plan_model::{Memory, Point};
 use plan_words::{Pass, Shared};
 use std::alloc::{AllocError, Global};
 use std::process::Abort;
-use std::sync::Wait;
 use std::test::Fail;
 use std::thread;
 use std::thread::Threads;
@@ -132,7 +131,7 @@ static LOWERED: [(Point, (u32, u64)); 4] = [
 type Gathered = (Shared, Hall, Pass, Vec<Worker>);
 
 /// The workers, and one pass more, over a tree in which each node hangs below the one that was nearest.
-fn workers_round<R: Threads + Sync + Wait>(rt: &R, alloc: Global) -> Result<Gathered, Fail>
+fn workers_round<R: Threads + Sync>(rt: &R, alloc: Global) -> Result<Gathered, Fail>
     ensures hall { IfOk result (λ all. all.1 ≡ space_of all.0.task.scene) }
     ensures looks { IfOk result (λ all. MayClaim all.0 all.2) }
     ensures may_claim { IfOk result (λ all. All (λ worker. MayClaim all.0 worker.pass) all.3.items) }

@@ -5,7 +5,7 @@ use crate::test_calls::{
     copied, expect_number, expect_text, expect_that, given_words, sure, text_in,
 };
 use calls::*;
-use plan_model::{MemSink, MemSource, Memory, Outcome, Record};
+use plan_model::{MemSink, MemSource, Memory, Outcome};
 use plan_work::NoGate;
 use std::process::Abort;
 
@@ -32,7 +32,7 @@ const MOST_DRAWN_MARKS: &str =
     "prrt 1\nroom 1 1\nstart 0 0\ngoal 1 1 1 1\nstep 4\ngamma 9\nstrips 2\nmarks 262143\n";
 
 // Compares the answer to the scene of a case, which is read in pieces of at most so many bytes.
-fn expect_by_pieces<R: Threads + Sync + Wait + Abort>(
+fn expect_by_pieces<R: Threads + Sync + Abort>(
     rt: &R,
     alloc: Global,
     words: &[&str],
@@ -44,19 +44,14 @@ fn expect_by_pieces<R: Threads + Sync + Wait + Abort>(
 }
 
 // The same in pieces of several lengths, and at once.
-fn expect<R: Threads + Sync + Wait + Abort>(rt: &R, alloc: Global, words: &[&str], case: &Case) {
+fn expect<R: Threads + Sync + Abort>(rt: &R, alloc: Global, words: &[&str], case: &Case) {
     for most in [1, 2, 7, 1 << 16, 1 << 24] {
         expect_by_pieces(rt, alloc, words, most, case);
     }
 }
 
 // The same of each case.
-fn expect_each<R: Threads + Sync + Wait + Abort>(
-    rt: &R,
-    alloc: Global,
-    words: &[&str],
-    cases: &[Case],
-) {
+fn expect_each<R: Threads + Sync + Abort>(rt: &R, alloc: Global, words: &[&str], cases: &[Case]) {
     for case in cases {
         expect(rt, alloc, words, case);
     }
@@ -250,7 +245,7 @@ static CORRIDORS: [Corridor; 2] = [
 ];
 
 // Compares the report of a corridor.
-fn expect_corridor<R: Threads + Sync + Wait + Abort>(rt: &R, alloc: Global, corridor: &Corridor) {
+fn expect_corridor<R: Threads + Sync + Abort>(rt: &R, alloc: Global, corridor: &Corridor) {
     let length = corridor.length;
     let scene = sure(
         rt,
@@ -367,11 +362,7 @@ fn plans_for_a_body(rt: HostRuntime) {
 
 // Compares the refusal of each text by the commands that read a scene. Each is given with what it shows and with the line
 // that tells its fault.
-fn expect_refused<R: Threads + Sync + Wait + Abort>(
-    rt: &R,
-    alloc: Global,
-    cases: &[(&str, &str, &str)],
-) {
+fn expect_refused<R: Threads + Sync + Abort>(rt: &R, alloc: Global, cases: &[(&str, &str, &str)]) {
     for (shows, scene, text) in cases {
         let case = Case {
             shows,
@@ -531,7 +522,7 @@ fn shows_scenes(rt: HostRuntime) {
 }
 
 // What a call for words has done over a source whose reads would fail, of which there is none.
-fn call_unread<R: Threads + Sync + Wait + Abort>(rt: &R, alloc: Global, words: &[&str]) -> Called {
+fn call_unread<R: Threads + Sync + Abort>(rt: &R, alloc: Global, words: &[&str]) -> Called {
     let called = call(rt, alloc, words, "prrt 1\n", 10, 1);
     expect_number(rt, called.read_faults, 0, "nothing read");
     called
@@ -546,14 +537,14 @@ static NO_COMMAND: Case = Case {
 };
 
 // Compares the refusal of words over a scene, and over a source whose reads would fail, of which there is none.
-fn expect_words_refused<R: Threads + Sync + Wait + Abort>(rt: &R, alloc: Global, words: &[&str]) {
+fn expect_words_refused<R: Threads + Sync + Abort>(rt: &R, alloc: Global, words: &[&str]) {
     expect(rt, alloc, words, &NO_COMMAND);
     let called = call_unread(rt, alloc, words);
     expect_answer(rt, words, &called, &NO_COMMAND);
 }
 
 // The same of each form of words.
-fn expect_each_refused<R: Threads + Sync + Wait + Abort>(rt: &R, alloc: Global, forms: &[&[&str]]) {
+fn expect_each_refused<R: Threads + Sync + Abort>(rt: &R, alloc: Global, forms: &[&[&str]]) {
     for words in forms {
         expect_words_refused(rt, alloc, words);
     }
@@ -597,7 +588,7 @@ fn refuses_with_the_cause(rt: HostRuntime) {
 }
 
 // Compares how the text of a generated scene begins and ends.
-fn expect_generated<R: Threads + Sync + Wait + Abort>(
+fn expect_generated<R: Threads + Sync + Abort>(
     rt: &R,
     alloc: Global,
     number: &str,
@@ -620,7 +611,7 @@ fn writes_a_generated_scene(rt: HostRuntime) {
 }
 
 // Compares how the plan of a generated scene begins and ends that has a path.
-fn expect_planned<R: Threads + Sync + Wait + Abort>(
+fn expect_planned<R: Threads + Sync + Abort>(
     rt: &R,
     alloc: Global,
     number: &str,

@@ -22,13 +22,11 @@ const NO_RUN: Run = Run {
     greatest_worker: 0,
 };
 
-// How a call has ended: with which status, with which run, and the records of the first two marks of that run, if there are
-// two.
+// How a call has ended: with which status, and with which run.
 #[derive(Clone, Copy)]
 pub struct Ended {
     pub status: u8,
     pub run: Run,
-    pub records: Option<(Record, Record)>,
 }
 
 // What a call has done: how it ended, how many of its reads failed, and the sink with what it has written.
@@ -110,32 +108,22 @@ fn counted(grown: &Grown) -> Run {
     }
 }
 
-// The records of the first two marks of a run, if there are two.
-fn first_records(grown: &Grown) -> Option<(Record, Record)> {
-    if grown.limit() < 2 {
-        return None;
-    }
-    Some((grown.record_of(0), grown.record_of(1)))
-}
-
 // How a call has ended that has done this.
 fn ending_of(done: &Done) -> Ended {
     match &done.run {
         Some(grown) => Ended {
             status: done.status,
             run: counted(grown),
-            records: first_records(grown),
         },
         None => Ended {
             status: done.status,
             run: NO_RUN,
-            records: None,
         },
     }
 }
 
 // How a call over this source and this sink ends. The gate is told of the turns of workers.
-fn call_over<R: Threads + Sync + Wait + Abort, G: Gate>(
+fn call_over<R: Threads + Sync + Abort, G: Gate>(
     rt: &R,
     alloc: Global,
     words: &[&str],
@@ -151,7 +139,7 @@ fn call_over<R: Threads + Sync + Wait + Abort, G: Gate>(
 
 // What a call has done over this sink, and over a source that gives this text in pieces of at most so many bytes (of one byte
 // at least), and fails at one of its reads (0: at none).
-pub fn call_into<R: Threads + Sync + Wait + Abort, G: Gate>(
+pub fn call_into<R: Threads + Sync + Abort, G: Gate>(
     rt: &R,
     alloc: Global,
     words: &[&str],
@@ -176,7 +164,7 @@ pub fn call_into<R: Threads + Sync + Wait + Abort, G: Gate>(
 }
 
 // The same over a sink that does not fail.
-pub fn call_with_gate<R: Threads + Sync + Wait + Abort, G: Gate>(
+pub fn call_with_gate<R: Threads + Sync + Abort, G: Gate>(
     rt: &R,
     alloc: Global,
     words: &[&str],
@@ -190,7 +178,7 @@ pub fn call_with_gate<R: Threads + Sync + Wait + Abort, G: Gate>(
 }
 
 // The same through the gate that does nothing.
-pub fn call<R: Threads + Sync + Wait + Abort>(
+pub fn call<R: Threads + Sync + Abort>(
     rt: &R,
     alloc: Global,
     words: &[&str],

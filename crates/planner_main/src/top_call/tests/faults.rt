@@ -3,7 +3,7 @@
 use super::*;
 
 // Compares the refusal of a text one of whose reads fails, in pieces of at most so many bytes.
-fn expect_read_fault<R: Threads + Sync + Wait + Abort>(
+fn expect_read_fault<R: Threads + Sync + Abort>(
     rt: &R,
     alloc: Global,
     words: &[&str],
@@ -18,7 +18,7 @@ fn expect_read_fault<R: Threads + Sync + Wait + Abort>(
 
 // Compares the refusals of a text one of whose reads fails, in pieces of at most so many bytes. Each such read is told by
 // what it shows.
-fn expect_read_faults<R: Threads + Sync + Wait + Abort>(
+fn expect_read_faults<R: Threads + Sync + Abort>(
     rt: &R,
     alloc: Global,
     words: &[&str],
@@ -45,11 +45,7 @@ static EARLY: [(u32, &str); 3] = [
 ];
 
 // The same of a small scene, at one of the first reads.
-pub fn expect_early_faults<R: Threads + Sync + Wait + Abort>(
-    rt: &R,
-    alloc: Global,
-    words: &[&str],
-) {
+pub fn expect_early_faults<R: Threads + Sync + Abort>(rt: &R, alloc: Global, words: &[&str]) {
     expect_read_faults(rt, alloc, words, ONE_MARK, 10, &EARLY);
 }
 
@@ -71,7 +67,7 @@ static LATE: [(u32, &str); 4] = [
 
 // Compares the answers over a source that fails at one of its last reads, and over one that is never asked for the read that
 // would fail: the last bytes come at call 170, and call 171 gives the end.
-fn expect_late_faults<R: Threads + Sync + Wait + Abort>(
+fn expect_late_faults<R: Threads + Sync + Abort>(
     rt: &R,
     alloc: Global,
     words: &[&str],
@@ -102,7 +98,7 @@ struct Cut<'a> {
 }
 
 // Compares what such a sink takes, and the run that is handed out even so.
-fn expect_cut<R: Threads + Sync + Wait + Abort>(rt: &R, alloc: Global, cut: &Cut) {
+fn expect_cut<R: Threads + Sync + Abort>(rt: &R, alloc: Global, cut: &Cut) {
     let sink = sure(rt, MemSink::new(alloc, 1000, 10, &[cut.fails]));
     let called = call_into(rt, alloc, cut.words, ONE_MARK, 1 << 16, 0, sink, &NoGate);
     let case = Case {

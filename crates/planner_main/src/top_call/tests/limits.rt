@@ -34,7 +34,7 @@ struct Long<'a> {
 }
 
 // Compares the answer to such a scene.
-fn expect_long<R: Threads + Sync + Wait + Abort>(rt: &R, alloc: Global, long: &Long) {
+fn expect_long<R: Threads + Sync + Abort>(rt: &R, alloc: Global, long: &Long) {
     let scene = sure(
         rt,
         repeated(alloc, long.head, long.line, long.times, long.tail),
@@ -51,7 +51,7 @@ fn expect_long<R: Threads + Sync + Wait + Abort>(rt: &R, alloc: Global, long: &L
 }
 
 // The same of each scene.
-fn expect_each_long<R: Threads + Sync + Wait + Abort>(rt: &R, alloc: Global, longs: &[Long]) {
+fn expect_each_long<R: Threads + Sync + Abort>(rt: &R, alloc: Global, longs: &[Long]) {
     for long in longs {
         expect_long(rt, alloc, long);
     }

@@ -185,20 +185,6 @@ fn plans_hundreds_of_marks_by_three_workers(rt: HostRuntime) {
     expect_whole(&rt, rt.alloc(), &called, 400, true);
 }
 
-// The tree is that of one worker, so all of them look at the same nodes.
-#[test]
-fn three_workers_grow_the_tree_of_one(rt: HostRuntime) {
-    let by_three = call(&rt, rt.alloc(), &["plan", "3"], DRAWN_MARKS, 1 << 16, 0);
-    let by_one = call(&rt, rt.alloc(), &["plan", "1"], DRAWN_MARKS, 1 << 16, 0);
-    expect_text(
-        &rt,
-        &["plan", "3"],
-        by_three.text(),
-        by_one.text(),
-        "the tree",
-    );
-}
-
 #[test]
 fn plans_a_generated_scene_by_four_workers(rt: HostRuntime) {
     let scene = call_unread(&rt, rt.alloc(), &["gen", "9"]);
@@ -274,26 +260,20 @@ fn refuses_a_scene_as_plain_does(rt: HostRuntime) {
     }
 }
 
-// A gate for two workers: worker 1 looks for its first mark only after worker 0 has come, and worker 0 only after worker 1
-// has handled one. If it is to, worker 1 then waits until worker 0 has handled one too. One thread alone cannot pass it, nor
-// can two of which one keeps the run to itself while the gate is told.
+// A gate for two workers: worker 1 goes on with its first mark only after worker 0 has come to one, and worker 0 only after worker 1
+// has handled one. One thread alone cannot pass it, nor can two of which one keeps the tree to itself while it handles a mark.
 #[derive(Drop)]
 struct OtherFirst {
-    // Whether worker 1 waits after its first mark.
-    answer_awaited: bool,
     come: AtomicBool,
     handled: AtomicBool,
-    answered: AtomicBool,
     in_time: AtomicBool,
 }
 
 impl OtherFirst {
-    fn new(answer_awaited: bool) -> OtherFirst {
+    fn new() -> OtherFirst {
         OtherFirst {
-            answer_awaited,
             come: AtomicBool::new(false),
             handled: AtomicBool::new(false),
-            answered: AtomicBool::new(false),
             in_time: AtomicBool::new(true),
         }
     }
@@ -323,22 +303,8 @@ impl Gate for OtherFirst {
     fn after(&self, worker: u32, turn: u32) {
         if (worker, turn) == (1, 0) {
             self.handled.store(true, Ordering::SeqCst);
-            if self.answer_awaited {
-                self.wait_for(&self.answered);
-            }
-        } else if (worker, turn) == (0, 0) {
-            self.answered.store(true, Ordering::SeqCst);
         }
     }
-}
-
-// Compares the records of a run whose first mark was handled by worker 1, and then its second by worker 0.
-fn expect_other_first<R: Abort>(rt: &R, first: &Record, second: &Record) {
-    let handlers = [first.worker, first.turn, second.worker, second.turn];
-    expect_that(rt, handlers == [1, 0, 0, 0], "workers and turns");
-    expect_number(rt, u64::from(second.nearest), 1, "the nearest node");
-    expect_number(rt, u64::from(second.first_parent), 1, "the first parent");
-    expect_number(rt, second.first_cost, 25_449, "the first cost");
 }
 
 // Compares how a line of a text begins that is not the first.
@@ -348,37 +314,27 @@ fn expect_line<R: Abort>(rt: &R, text: &str, begin: &str) {
 
 const BY_TWO: &[&str] = &["plan", "2", "full"];
 
-// Compares the run of three marks, of which worker 1 handled the first, with its full report. The gate was passed in time.
-fn expect_begun_by_other<R: Abort>(rt: &R, alloc: Global, gate: &OtherFirst, called: &Called) {
-    expect_that(rt, gate.in_time.load(Ordering::SeqCst), "in time");
-    expect_line(rt, called.text(), "\nmark 0 worker 1 turn 0 ");
-    expect_number(rt, called.status(), 0, "the other first");
-    expect_whole(rt, alloc, called, 3, true);
-}
-
-// Compares the record and the line of the second mark, which worker 0 handled.
-fn expect_answered<R: Abort>(rt: &R, gate: &OtherFirst, called: &Called) {
-    expect_that(rt, gate.answered.load(Ordering::SeqCst), "answered");
-    expect_line(rt, called.text(), "\nmark 1 worker 0 turn 0 nearest 1 ");
-    match &called.ended.records {
-        Some((first, second)) => expect_other_first(rt, first, second),
-        None => panic!(rt; "no two marks"),
-    }
-}
-
+// Each of the two workers takes the first mark of its own strip. Worker 1 places node 2 while worker 0 waits with the first mark in
+// hand; that is the nearest node then.
 #[test]
-fn two_workers_are_at_work(rt: HostRuntime) {
-    let gate = OtherFirst::new(true);
+fn two_workers_grow_one_tree_at_once(rt: HostRuntime) {
+    let gate = OtherFirst::new();
     let called = call_with_gate(&rt, rt.alloc(), BY_TWO, THREE_MARKS, 1000, 0, &gate);
-    expect_answered(&rt, &gate, &called);
-    expect_begun_by_other(&rt, rt.alloc(), &gate, &called);
-}
-
-// Worker 1 may go on and handle every mark; worker 0 then finds none left.
-#[test]
-fn a_worker_that_comes_late_is_not_waited_for(rt: HostRuntime) {
-    let gate = OtherFirst::new(false);
-    let called = call_with_gate(&rt, rt.alloc(), BY_TWO, THREE_MARKS, 1000, 0, &gate);
-    expect_that(&rt, gate.handled.load(Ordering::SeqCst), "handled");
-    expect_begun_by_other(&rt, rt.alloc(), &gate, &called);
+    expect_that(&rt, gate.in_time.load(Ordering::SeqCst), "in time");
+    expect_line(
+        &rt,
+        called.text(),
+        "\nnode 2 at 22 44 parent 0 cost 12594\n",
+    );
+    expect_line(
+        &rt,
+        called.text(),
+        "\nmark 0 worker 0 turn 0 nearest 2 placed ",
+    );
+    expect_line(
+        &rt,
+        called.text(),
+        "\nmark 1 worker 1 turn 0 nearest 0 placed class 1 first 0 12594\n",
+    );
+    expect_whole(&rt, rt.alloc(), &called, 3, true);
 }

@@ -32,12 +32,7 @@ static RUNS: [(&[&str], &str, u8, Option<(u32, u32)>); 14] = [
 ];
 
 // Compares the status of a call over the scene of a case, and the run that it hands out.
-fn expect_end<R: Threads + Sync + Wait + Abort>(
-    rt: &R,
-    alloc: Global,
-    words: &[&str],
-    case: &Case,
-) {
+fn expect_end<R: Threads + Sync + Abort>(rt: &R, alloc: Global, words: &[&str], case: &Case) {
     let called = call(rt, alloc, words, case.scene, 1 << 24, 0);
     expect_ended(rt, &called, case);
 }

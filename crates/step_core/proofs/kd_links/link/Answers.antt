@@ -4,7 +4,7 @@ use Rattle.step_core.specs.PlacesOfWords.{sizes_in, words_in}
 use Rattle.step_core.specs.WordNames.Word.{PointOf, ChildOf}
 use Rattle.step_core.specs.Words.{point_in}
 use Rattle.step_core.proofs.GrownPoints.{present-within}
-use Rattle.step_core.proofs.LinkedWords.{IsFreeBelow-own, ChangesChildren-written, AreLinkedBelow-more, KeepsChildren-more, LinksRise-more}
+use Rattle.step_core.proofs.LinkedWords.{IsFreeBelow-own, ChangesChildren-written, AreLinkedBelow-more, LinksRise-more}
 use Rattle.step_core.proofs.WordReads.{place_of-within, word-found, WritesWord-set}
 use Rattle.step_core.proofs.kd_links.link.Goals as goal
 
@@ -60,7 +60,6 @@ returns c =
     (ChildOf ends.above (goes_right ends.depth ends.p c.point_in-point.result)) c.requires.sized (omega (arith, within, ends.within)) ends.found refl in
     record {
       linked = AreLinkedBelow-more sizes words c.args.node c.requires.may_link c.point_in-point.result own _ c.end_of_way-place.result ends writes;
-      children = KeepsChildren-more sizes words c.args.node c.requires.may_link c.point_in-point.result own _ c.end_of_way-place.result ends writes;
       rise = LinksRise-more sizes words c.args.node c.requires.may_link c.point_in-point.result own _ c.end_of_way-place.result ends writes;
       others =
           ChangesChildren-written sizes words c.args.node c.requires.may_link c.point_in-point.result own _ c.end_of_way-place.result ends writes;

@@ -1,0 +1,36 @@
+use Rattle.std.proofs.Common.{ap}
+use Rattle.kd_shared.specs.Placings.{IsPlacing}
+use Rattle.plan_words.specs.States.{PassState}
+use Rattle.plan_work.proofs.HeldMarks.{if_held, of_held}
+use Rattle.plan_work.proofs.KeptRecords.{KeepsRecords-trans}
+use Rattle.plan_work.proofs.TriedMarks.{IsTried-placing, KeepsRecords-placing, reach_of-steered}
+use Rattle.plan_work.proofs.extending.hang_and_place.Goals as goal
+use Rattle.plan_work.specs.Extensions.{IsHung, IsTried}
+use Rattle.plan_work.specs.declared.extending.Hanging.{Hanging}
+
+pub hang-parent-requires-clause-nearest : goal.hang-parent-requires-clause-nearest
+hang-parent-requires-clause-nearest g c κs within =
+    reach_of-steered c.args.pass.now.view c.args.k c.args.steering.nearest c.args.steering.point c.requires.may.steered
+
+pub hang-parent-requires-clause-clear : goal.hang-parent-requires-clause-clear
+hang-parent-requires-clause-clear g c κs within = c.requires.may.clear
+
+pub returns-clause-keeps : goal.returns-clause-keeps
+returns-clause-keeps g c =
+    KeepsRecords-trans c.args.shared.now c.args.pass.now c.hang-parent.new.pass c.place-placing.new.pass c.hang-parent.ensures.keeps
+    (KeepsRecords-placing c.args.shared.now c.hang-parent.new.pass c.place-placing.new.pass c.place-placing.ensures.belongs
+    c.place-placing.ensures.goes_on c.place-placing.ensures.share)
+
+pub returns-clause-tried : goal.returns-clause-tried
+returns-clause-tried g c =
+    let before = c.args.pass.now in
+    let hung_at = c.hang-parent.new.pass in
+    let after = c.place-placing.new.pass in
+    let may = c.requires.may in
+    let hanging : Hanging = record { parent = c.hang-parent.result.0; cost = c.hang-parent.result.1; class = c.args.class } in
+    let hung = of_held before.view (λ hand. IsHung hung_at.view hand c.hang-parent.result before.near) may.hand may.held c.hang-parent.ensures.hung in
+    if_held before.view (λ hand. IsTried before after hand c.place-placing.result hanging) may.hand may.held
+    (IsTried-placing c.args.shared.now before hung_at after may.hand c.place-placing.result hanging c.hang-parent.ensures.keeps
+    c.place-placing.ensures.goes_on c.hang-parent.ensures.near_list (ap (λ (p : PassState). p.near) c.place-placing.ensures.view_alone)
+    c.hang-parent.ensures.count hung
+    (of_held hung_at.view (λ hand. IsPlacing after.view hand c.place-placing.result) _ hung.held c.place-placing.ensures.placed))

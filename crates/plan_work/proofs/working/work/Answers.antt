@@ -1,0 +1,34 @@
+use Rattle.std.proofs.Common.{inr, length, subst}
+use Rattle.std.specs.Prelude.{◌-◌, ◌<◌}
+use Rattle.plan_words.proofs.GoingOn.{GoesOn-more}
+use Rattle.plan_words.specs.States.{turn_of}
+use Rattle.plan_work.proofs.WorkedMarks.{AllLoaded-earlier, HasWorked-mark, fewer_turns}
+use Rattle.plan_work.proofs.working.work.Goals as goal
+use Rattle.step_core.specs.declared.views.SharedRun.{SharedRun}
+
+pub marks-smaller : goal.marks-smaller
+marks-smaller g c =
+    subst (λ (run : SharedRun). length run.marks - turn_of c.extend_within.new.pass.view.crew < length run.marks - turn_of c.marks.pass.view.crew)
+    c.claim.ensures.belongs.run
+    (fewer_turns c.args.shared.now c.marks.pass c.claim.new.pass c.extend_within.new.pass c.args.limit c.in-Some.k c.extend_within.result
+    c.claim.ensures.goes_on c.in-Some.ensures.some c.extend_within.ensures.handled)
+
+pub marks-preserved : goal.marks-preserved
+marks-preserved g c = record {
+  worked =
+      HasWorked-mark c.args.shared.now c.args.pass.now c.marks.pass c.claim.new.pass c.extend_within.new.pass c.args.limit c.in-Some.k
+      c.extend_within.result c.marks.invariant.worked c.in-Some.ensures.some c.extend_within.ensures.handled;
+  goes_on =
+      inr
+      (GoesOn-more c.args.pass.now.view c.claim.new.pass.view c.extend_within.new.pass.view
+      (inr (GoesOn-more c.args.pass.now.view c.marks.pass.view c.claim.new.pass.view c.marks.invariant.goes_on c.claim.ensures.goes_on))
+      c.extend_within.ensures.handled.goes_on);
+}
+
+pub returns-clause-goes_on : goal.returns-clause-goes_on
+returns-clause-goes_on g c =
+    GoesOn-more c.args.pass.now.view c.marks.pass.view c.claim.new.pass.view c.marks.invariant.goes_on c.claim.ensures.goes_on
+
+pub returns-clause-loaded : goal.returns-clause-loaded
+returns-clause-loaded g c =
+    AllLoaded-earlier c.args.pass.now.view c.marks.pass.view c.claim.new.pass.view c.marks.invariant.goes_on c.claim.ensures.loaded

@@ -1,0 +1,14 @@
+use Rattle.std.specs.Prelude.{◌-◌, length}
+use Rattle.plan_words.specs.States.{turn_of}
+use Rattle.plan_words.proofs.GoingOn.{HasGoneOn}
+use Rattle.plan_work.proofs.working.work.Given as goal
+use Rattle.plan_work.specs.Workers.{HasWorked}
+
+abbrev pub invariant-marks : goal.invariant-marks
+invariant-marks g l = record {
+  worked : HasWorked l.shared l.fn.pass l.pass l.limit;
+  goes_on : HasGoneOn l.fn.pass.view l.pass.view;
+}
+
+abbrev pub decreases-marks : goal.decreases-marks
+decreases-marks g l = length l.shared.task.marks - turn_of l.pass.view.crew

@@ -1,0 +1,37 @@
+//! A worker, who handles mark after mark.
+
+ghost use Rattle.std.specs.Prelude.{◌≡◌, ◌≤◌, length};
+ghost use Rattle.plan_model.specs.ConfigurationSpace.{space_of};
+ghost use Rattle.plan_words.specs.Claims.{AllFull, AllLoaded};
+ghost use Rattle.plan_words.specs.States.{GoesOn, MayClaim};
+ghost use Rattle.plan_work.specs.Workers.{HasWorked};
+
+use crate::extending::extend_within;
+use crate::gates::Gate;
+use edge_cost::Radii;
+use plan_words::{Pass, Shared};
+use swept_check::Clearing;
+
+/// Claims marks below the limit and handles each, until `claim` finds none left. The gate is told before each mark and after it;
+/// it may wait, and no other worker waits for it. It ends, since each mark is one turn more of the worker.
+pub fn work<C: Clearing, G: Gate>(shared: &Shared, pass: &mut Pass, hall: &C, limit: u32, gate: &G)
+    requires may_claim { MayClaim shared.now pass.old }
+    requires hall { C.space hall.now ≡ space_of shared.now.task.scene }
+    requires low { shared.now.opening ≤ limit }
+    requires limit { limit ≤ length shared.now.task.marks }
+    ensures goes_on { GoesOn pass.old.view pass.new.view }
+    ensures worked { HasWorked shared.now pass.old pass.new limit }
+    ensures none_left { AllFull pass.new.view limit }
+    // each counter was loaded in this call
+    ensures loaded { AllLoaded pass.new.view pass.old.view.steps }
+{
+    let scene = &shared.task().scene;
+    let radii = Radii::new(scene.step, scene.gamma);
+    'marks: while let Some(k) = shared.claim(pass, limit) {
+        let worker = pass.worker();
+        let turn = pass.turn();
+        gate.before(worker, turn);
+        extend_within(shared, pass, &radii, hall, k);
+        gate.after(worker, turn);
+    }
+}
