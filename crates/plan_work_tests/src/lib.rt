@@ -9,6 +9,8 @@ mod growing;
 #[cfg(test)]
 mod opening_runs;
 #[cfg(test)]
+mod segment_tests;
+#[cfg(test)]
 mod stale_costs;
 #[cfg(test)]
 mod test_runs;
