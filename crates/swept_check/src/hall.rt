@@ -54,6 +54,7 @@ impl Model for Hall {
 }
 
 impl Hall {
+    ghost use Rattle.plan_model.specs.Bounds.{IsBounded};
     ghost use Rattle.plan_model.specs.Clearance.{ClearAt};
     ghost use Rattle.swept_check.specs.Halls.{AreZonesOf};
 
@@ -88,9 +89,10 @@ impl Hall {
         self.clear(p, p)
     }
 
-    /// Whether the body at a configuration lies in the room, touching its walls or not. O(1).
-    fn is_in_room(&self, p: Point) -> bool
-        ensures { IsTrue result ↔ InRoom self.now (at_lattice p) }
+    /// Whether the body at a configuration lies in the room, touching its walls or not. O(1); no memory.
+    pub fn is_in_room(&self, p: Point) -> bool
+        ensures room { IsTrue result ↔ InRoom self.now (at_lattice p) }
+        ensures bounded { IsTrue result → IsBounded p }
     {
         self.spans.contains(p)
     }

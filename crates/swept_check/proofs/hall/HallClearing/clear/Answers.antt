@@ -12,12 +12,12 @@ returns-then-not-is_in_room c = (
   λ t. cc,
   λ clear.
       let space = c.args.self.now in
-      let first = c.is_in_room.ensures.1 (first_in_room space c.args.a c.args.b clear) in
+      let first = c.is_in_room.ensures.room.1 (first_in_room space c.args.a c.args.b clear) in
       let last = last_in_room space c.args.a c.args.b clear in
       elim c.then-not-is_in_room.branch [
         | then-not-is_in_room-via-then-not-is_in_room w ↦ (let out = w.if-not-is_in_room.true in cc)
         | then-not-is_in_room-via-else-not-is_in_room+then-not-is_in_room-2 w ↦ (
-            let within = w.is_in_room-else-not-is_in_room.ensures.1 last in let out = w.if-not-is_in_room-2.true in cc)
+            let within = w.is_in_room-else-not-is_in_room.ensures.room.1 last in let out = w.if-not-is_in_room-2.true in cc)
       ],
 )
 
@@ -27,8 +27,8 @@ returns c =
     let a = c.args.a in
     let b = c.args.b in
     let space : ConfigurationSpace = record { room = h.room; body = h.body; obstacles = h.obstacles } in
-    let first : InRoom space (at_lattice a) = rw (← c.self.view_is) at (c.if-not-is_in_room.ensures.0 refl) in
-    let last : InRoom space (at_lattice b) = rw (← c.self.view_is) at (c.if-not-is_in_room-2.ensures.0 refl) in
+    let first : InRoom space (at_lattice a) = rw (← c.self.view_is) at (c.if-not-is_in_room.ensures.room.0 refl) in
+    let last : InRoom space (at_lattice b) = rw (← c.self.view_is) at (c.if-not-is_in_room-2.ensures.room.0 refl) in
     let none : IsTrue c.crosses_none.result ↔ CrossesNone h.zones.items a b = rw c.as_slice.ensures.value at c.crosses_none.ensures in
     rw (← c.self.view_is) (
       λ t. clear_of space h.zones.items a b c.self.invariant.zones first last (none.0 t),
