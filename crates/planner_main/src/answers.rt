@@ -22,6 +22,7 @@ use crate::generated_scenes::gen_scene;
 use crate::refusals::Refusal;
 use crate::statuses::{DONE, NO_PATH};
 use crate::top_call::Done;
+use obstacle_boxes::Boxes;
 use plan_model::{Memory, Scene, Source, Task};
 use plan_work::{Gate, grow};
 use scene_text::{fetch, read_scene, write_scene};
@@ -146,7 +147,7 @@ fn scene_for<S: Source>(alloc: Global, command: Command, source: &mut S) -> Resu
 }
 
 /// The collision checker of a scene that is to be planned, so one whose start is clear.
-fn hall_for(alloc: Global, scene: &Scene) -> Result<Hall, Refusal>
+fn hall_for(alloc: Global, scene: &Scene) -> Result<Boxes, Refusal>
     ensures hall { IfOk result (λ hall. hall ≡ space_of scene.now) }
     ensures start { IfOk result (λ hall. ClearAt (space_of scene.now) scene.now.start) }
     ensures refusal { IfErr result (λ refusal. (refusal ≡ Refusal.Memory)
@@ -156,11 +157,11 @@ fn hall_for(alloc: Global, scene: &Scene) -> Result<Hall, Refusal>
     if !hall.clear_at(scene.start) {
         return Err(Refusal::StartBlocked);
     }
-    Ok(hall)
+    Ok(Boxes::new(alloc, hall)?)
 }
 
 /// The textbook run of a scene, over all its marks.
-fn textbook_run(alloc: Global, scene: Scene, hall: &Hall) -> Result<Grown, Memory>
+fn textbook_run(alloc: Global, scene: Scene, hall: &Boxes) -> Result<Grown, Memory>
     requires hall { hall.now ≡ space_of scene }
     requires start { ClearAt (space_of scene) scene.start }
     ensures scene { IfOk result (λ grown. grown.task.scene ≡ scene) }
@@ -179,7 +180,7 @@ fn run_by_workers<R: Threads + Sync, G: Gate>(
     alloc: Global,
     workers: u32,
     scene: Scene,
-    hall: &Hall,
+    hall: &Boxes,
     gate: &G,
 ) -> Result<Grown, Memory>
     requires some { 1 ≤ workers }
@@ -259,7 +260,7 @@ fn trial(alloc: Global, number: u32) -> Result<Answer, Memory>
     ensures { IfOk result (λ answer. TriesGenerated number answer.done answer.text.items) }
 {
     let scene = gen_scene(alloc, number)?;
-    let hall = Hall::new(alloc, &scene)?;
+    let hall = Boxes::new(alloc, Hall::new(alloc, &scene)?)?;
     let grown = textbook_run(alloc, scene, &hall)?;
     Ok(summary_of(alloc, grown)?)
 }

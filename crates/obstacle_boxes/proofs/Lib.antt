@@ -1,0 +1,7 @@
+pub mod BoxLaws
+pub mod SameZones
+pub mod LeafLists
+pub mod NodeLists
+pub mod Counts
+pub mod Descents
+pub mod ZoneTrees

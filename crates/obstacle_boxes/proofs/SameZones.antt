@@ -1,0 +1,115 @@
+-- The zones of a body and an obstacle: what crosses one crosses the other, and they have one box.
+use Rattle.std.proofs.Common.{◌≡◌, ℕ, ◌<◌, Bool, true, false, List, length, refl, arith, eqb}
+use Rattle.std.specs.Prelude.{pos, ◌≤ℤ◌}
+use Rattle.std.proofs.lemmas.Int.{ints}
+use Rattle.std.proofs.lemmas.Bool.{eqb-true, eqb-false}
+use Rattle.plan_model.specs.declared.geometry.Point.{Point}
+use Rattle.plan_model.specs.declared.geometry.Vertex.{Vertex}
+use Rattle.plan_model.specs.Clearance.{on_the_way}
+use Rattle.plan_model.specs.Convexity.{corner_at, next_corner}
+use Rattle.plan_model.specs.Geometry.{orientation}
+use Rattle.plan_model.specs.HalfPlanes.{IsInside}
+use Rattle.plan_model.specs.Zones.{IsZoneOf}
+use Rattle.convex_sets.specs.declared.boxes.BoundingBox.{BoundingBox}
+use Rattle.convex_sets.specs.Boxes.{IsBoundingBox, at_corner}
+use Rattle.convex_sets.proofs.BoxLaws.{IsInRange, in_range}
+use Rattle.convex_sets.proofs.ConvexPolygons.{IsConvex, IsConvex-from_test}
+use Rattle.convex_sets.proofs.Fans.{inside_at}
+use Rattle.convex_sets.proofs.Ring.{var, minus, times, same}
+use Rattle.swept_check.specs.Crossings.{Crosses}
+use Rattle.obstacle_boxes.specs.NearZones.{boxes_meet}
+
+pub Crosses-other : (body obstacle z w : List Vertex) (a b : Point) → IsZoneOf body obstacle z → IsZoneOf body obstacle w → Crosses z a b → Crosses w a b
+Crosses-other body obstacle z w a b h g x =
+    let q = on_the_way a b x.s x.d x.positive in
+    let one = h.exact q in
+    let two = g.exact q in
+    record { s = x.s; d = x.d; positive = x.positive; on_segment = x.on_segment; inside = two.0 (one.1 x.inside) }
+
+-- a corner is on the inner side of every edge, or on it
+orientation-first : (a b : Vertex) → orientation a b a ≡ pos 0
+orientation-first a b =
+    same (minus (times (minus (var b.x) (var a.x)) (minus (var a.y) (var a.y))) (times (minus (var b.y) (var a.y)) (minus (var a.x) (var a.x))))
+    (var (pos 0)) (omega arith)
+
+orientation-last : (a b : Vertex) → orientation a b b ≡ pos 0
+orientation-last a b =
+    same (minus (times (minus (var b.x) (var a.x)) (minus (var b.y) (var a.y))) (times (minus (var b.y) (var a.y)) (minus (var b.x) (var a.x))))
+    (var (pos 0)) (omega arith)
+
+corner-inside : (corners : List Vertex) (m : ℕ) → IsConvex corners → m < length corners → IsInside corners (at_corner (corner_at corners m))
+corner-inside corners m convex l =
+    inside_at corners (corner_at corners m) (λ k at. side k at (eqb m k) refl)
+  where
+    side : (k : ℕ) → k < length corners → (t : Bool) → eqb m k ≡ t
+        → pos 0 ≤ℤ orientation (corner_at corners k) (corner_at corners (next_corner (length corners) k)) (corner_at corners m)
+    side k at true e =
+        let is = eqb-true m k e in
+        let zero = orientation-first (corner_at corners k) (corner_at corners (next_corner (length corners) k)) in
+        rw is (omega (arith, ints, zero))
+    side k at false e = other (eqb m (next_corner (length corners) k)) refl
+      where
+        other : (t : Bool) → eqb m (next_corner (length corners) k) ≡ t
+            → pos 0 ≤ℤ orientation (corner_at corners k) (corner_at corners (next_corner (length corners) k)) (corner_at corners m)
+        other true g =
+            let is = eqb-true m (next_corner (length corners) k) g in
+            let zero = orientation-last (corner_at corners k) (corner_at corners (next_corner (length corners) k)) in
+            rw is (omega (arith, ints, zero))
+        other false g =
+            let left = convex.left k m at l (eqb-false m k e) (eqb-false m (next_corner (length corners) k) g) in
+            omega (arith, ints, left)
+
+-- the box of one zone holds the corners of the other, so it reaches as far
+pub record ReachesAsFar (p q : BoundingBox) : Type 0 where
+  pub left : p.low.x ≤ℤ q.low.x
+  pub bottom : p.low.y ≤ℤ q.low.y
+  pub right : q.high.x ≤ℤ p.high.x
+  pub top : q.high.y ≤ℤ p.high.y
+
+reaches : (body obstacle z w : List Vertex) (p q : BoundingBox) → IsZoneOf body obstacle z → IsZoneOf body obstacle w → IsBoundingBox z p → IsBoundingBox w q
+    → ReachesAsFar p q
+reaches body obstacle z w p q h g bz bw =
+    let within : (m : ℕ) → m < length w → IsInRange p (at_corner (corner_at w m)) = λ m at.
+    (let v = corner_at w m in
+    let inside = corner-inside w m (IsConvex-from_test w g.convex) at in
+    let one = h.exact (at_corner v) in
+    let two = g.exact (at_corner v) in
+    in_range z p (at_corner v) (IsConvex-from_test z h.convex) bz (one.0 (two.1 inside))) in
+    let l = bw.low_end.left_reached in
+    let b = bw.low_end.bottom_reached in
+    let r = bw.high_end.right_reached in
+    let t = bw.high_end.top_reached in
+    let l2 = l.2 in
+    let b2 = b.2 in
+    let r2 = r.2 in
+    let t2 = t.2 in
+    let l3 = (within l.0 l.1).left in
+    let b3 = (within b.0 b.1).bottom in
+    let r3 = (within r.0 r.1).right in
+    let t3 = (within t.0 t.1).top in
+    record {
+      left = omega (arith, ints);
+      bottom = omega (arith, ints);
+      right = omega (arith, ints);
+      top = omega (arith, ints);
+    }
+
+-- so both meet the same boxes
+pub meets-other : (body obstacle z w : List Vertex) (p q s : BoundingBox) → IsZoneOf body obstacle z → IsZoneOf body obstacle w → IsBoundingBox z p
+    → IsBoundingBox w q → boxes_meet s p ≡ boxes_meet s q
+meets-other body obstacle z w p q s h g bz bw =
+    let one = reaches body obstacle z w p q h g bz bw in
+    let two = reaches body obstacle w z q p g h bw bz in
+    let l1 = one.left in
+    let l2 = two.left in
+    let b1 = one.bottom in
+    let b2 = two.bottom in
+    let r1 = one.right in
+    let r2 = two.right in
+    let t1 = one.top in
+    let t2 = two.top in
+    let left : p.low.x ≡ q.low.x = omega (arith, ints) in
+    let bottom : p.low.y ≡ q.low.y = omega (arith, ints) in
+    let right : p.high.x ≡ q.high.x = omega (arith, ints) in
+    let top : p.high.y ≡ q.high.y = omega (arith, ints) in
+    rw (left, bottom, right, top) refl

@@ -1,0 +1,91 @@
+-- What a tree over the zones of a space says of any list of these zones, and of their boxes.
+use Rattle.std.proofs.Common.{◌≡◌, ◌<◌, Bool, true, false, List, [], length, get_or, refl, arith, ◌∙◌, cond}
+use Rattle.std.specs.Prelude.{All, IsTrue, pos}
+use Rattle.std.proofs.lemmas.List.Elements.{All-get_or, All-from_get_or}
+use Rattle.std.proofs.lemmas.List.Sorted.{All-permutation, IsPermutation-sym, sum_by-IsPermutation}
+use Rattle.plan_model.specs.declared.geometry.Point.{Point}
+use Rattle.plan_model.specs.declared.geometry.Vertex.{Vertex}
+use Rattle.plan_model.specs.ConfigurationSpace.{ConfigurationSpace}
+use Rattle.convex_sets.specs.declared.boxes.BoundingBox.{BoundingBox}
+use Rattle.convex_sets.proofs.ConvexPolygons.{IsConvex-from_test}
+use Rattle.swept_check.specs.Crossings.{Crosses}
+use Rattle.swept_check.specs.Halls.{AreZonesOf}
+use Rattle.swept_check.proofs.HallLaws.{CrossesNone}
+use Rattle.obstacle_boxes.specs.declared.leaves.Leaf.{Leaf}
+use Rattle.obstacle_boxes.specs.declared.nodes.Node.{Node}
+use Rattle.obstacle_boxes.specs.LeafBoxes.{IsLeafAmong, IsMissed, leaves_met}
+use Rattle.obstacle_boxes.specs.NearZones.{AreZoneBoxes, boxes_meet, near_count, segment_box}
+use Rattle.obstacle_boxes.specs.Searches.{CrossesSome}
+use Rattle.obstacle_boxes.specs.Trees.{IsTreeOver, leaves_in}
+use Rattle.obstacle_boxes.proofs.Counts.{count_by-agree}
+use Rattle.obstacle_boxes.proofs.BoxLaws.{meets-crossed}
+use Rattle.obstacle_boxes.proofs.SameZones.{Crosses-other, meets-other}
+
+abbrev pub no_box : BoundingBox
+no_box = record { low = record { x = pos 0; y = pos 0 }; high = record { x = pos 0; y = pos 0 } }
+
+abbrev pub no_leaf : Leaf
+no_leaf = record { bounds = no_box; zone = 0 }
+
+-- the leaves are those of any zones of the space
+pub leaves-among : (space : ConfigurationSpace) (nodes : List Node) (zones : List (List Vertex)) → IsTreeOver space nodes
+    → AreZonesOf space.body space.obstacles zones → All (IsLeafAmong zones) (leaves_in nodes)
+leaves-among space nodes zones h g =
+    All-permutation (IsLeafAmong zones) h.leaves (leaves_in nodes) h.permutation (All-from_get_or (IsLeafAmong zones) h.leaves no_leaf (λ i l. (
+    let leaf = get_or h.leaves i no_leaf in
+    let number = h.are_leaves.number i no_leaf l in
+    let bounds = h.are_leaves.bounds i no_leaf l in
+    let long = h.are_leaves.count in
+    let count = h.are_zones.count in
+    let count2 = g.count in
+    let at : i < length space.obstacles = omega arith in
+    let one = h.are_zones.each i at in
+    let two = g.each i at in
+    record {
+      within = rw number (omega arith);
+      meets = λ a b x. (
+          let here : Crosses (get_or zones i []) a b = rw number at x in
+          meets-crossed (get_or h.zones i []) a b leaf.bounds (IsConvex-from_test (get_or h.zones i []) one.convex) bounds
+          (Crosses-other space.body (get_or space.obstacles i []) (get_or zones i []) (get_or h.zones i []) a b two one here));
+    })))
+
+-- if no leaf's zone is crossed, no zone is
+pub CrossesNone-leaves : (space : ConfigurationSpace) (nodes : List Node) (zones : List (List Vertex)) (a b : Point) → IsTreeOver space nodes
+    → AreZonesOf space.body space.obstacles zones → All (IsMissed zones a b) (leaves_in nodes) → CrossesNone zones a b
+CrossesNone-leaves space nodes zones a b h g missed =
+    let all = All-permutation (IsMissed zones a b) (leaves_in nodes) h.leaves (IsPermutation-sym h.leaves (leaves_in nodes) h.permutation) missed in
+    All-from_get_or (λ zone. ¬ Crosses zone a b) zones [] (λ i l x. (
+    let long = h.are_leaves.count in
+    let count = h.are_zones.count in
+    let count2 = g.count in
+    let at : i < length h.leaves = omega arith in
+    let number = h.are_leaves.number i no_leaf at in
+    all i no_leaf at (rw number x)))
+
+-- the leaves whose boxes meet that of a segment are as many as the boxes that do
+pub leaves_met-near : (space : ConfigurationSpace) (nodes : List Node) (boxes : List BoundingBox) (a b : Point) → IsTreeOver space nodes
+    → AreZoneBoxes space boxes → leaves_met (segment_box a b) (leaves_in nodes) ≡ near_count boxes a b
+leaves_met-near space nodes boxes a b h g =
+    let s = segment_box a b in
+    sum_by-IsPermutation (λ leaf. cond (boxes_meet s leaf.bounds) 1 0) h.leaves (leaves_in nodes) h.permutation ∙ same
+  where
+    same : leaves_met (segment_box a b) h.leaves ≡ near_count boxes a b
+    same =
+        let long = h.are_leaves.count in
+        let count = h.are_zones.count in
+        let count2 = g.are_zones.count in
+        let long2 = g.count in
+        count_by-agree (λ leaf. boxes_meet (segment_box a b) leaf.bounds) (boxes_meet (segment_box a b)) h.leaves boxes (omega arith) (λ i d e l. (
+        let at : i < length space.obstacles = omega arith in
+        let within : i < length g.zones = omega arith in
+        meets-other space.body (get_or space.obstacles i []) (get_or h.zones i []) (get_or g.zones i []) (get_or h.leaves i d).bounds (get_or boxes i e)
+        (segment_box a b) (h.are_zones.each i at) (g.are_zones.each i at) (h.are_leaves.bounds i d l) (g.each i e within)))
+
+-- an answer that is not false is true
+pub true_unless : (t : Bool) → ¬ (t ≡ false) → IsTrue t
+true_unless true h = refl
+true_unless false h = absurd (h refl)
+
+-- if one zone is crossed, not all are missed
+pub not_none : (zones : List (List Vertex)) (a b : Point) → CrossesSome zones a b → ¬ CrossesNone zones a b
+not_none zones a b some none = All-get_or (λ zone. ¬ Crosses zone a b) zones some.number [] some.within none some.crosses

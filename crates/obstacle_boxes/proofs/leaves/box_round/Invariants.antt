@@ -1,0 +1,6 @@
+use Rattle.std.proofs.Common.{take}
+use Rattle.obstacle_boxes.specs.LeafBoxes.{HoldsAll}
+use Rattle.obstacle_boxes.proofs.leaves.box_round.Given as goal
+
+abbrev pub invariant-loop-leaf : goal.invariant-loop-leaf
+invariant-loop-leaf l = HoldsAll l.bounds (take l.leaf-index l.leaves)

@@ -1,0 +1,4 @@
+pub mod NearZones
+pub mod LeafBoxes
+pub mod Trees
+pub mod Searches

@@ -1,0 +1,21 @@
+-- What a descent has found, when the leaves before a number are left.
+use Rattle.std.specs.Prelude.{◌≡◌, ℕ, ◌+◌, ◌<◌, ◌≤◌, All, List, [], length, slice_index_or, drop}
+use Rattle.plan_model.specs.declared.geometry.Point.{Point}
+use Rattle.plan_model.specs.declared.geometry.Vertex.{Vertex}
+use Rattle.swept_check.specs.Crossings.{Crosses}
+use Rattle.obstacle_boxes.specs.declared.nodes.Node.{Node}
+use Rattle.obstacle_boxes.specs.LeafBoxes.{IsMissed, leaves_met}
+use Rattle.obstacle_boxes.specs.NearZones.{segment_box}
+use Rattle.obstacle_boxes.specs.Trees.{leaves_in}
+
+-- the segment crosses one of the zones
+pub record CrossesSome (zones : List (List Vertex)) (a b : Point) : Type 0 where
+  pub number : ℕ
+  pub within : number < length zones
+  pub crosses : Crosses (slice_index_or zones number []) a b
+
+-- from number n on all nodes were looked at: no leaf among them is crossed, and those that are near were tested
+pub record HasSearched (nodes : List Node) (zones : List (List Vertex)) (a b : Point) (before now n : ℕ) : Type 0 where
+  pub within : n ≤ length nodes
+  pub missed : All (IsMissed zones a b) (leaves_in (drop n nodes))
+  pub tested : now ≡ before + leaves_met (segment_box a b) (leaves_in (drop n nodes))

@@ -1,0 +1,104 @@
+//! The collision checker with boxes over the zones.
+
+ghost use Rattle.std.specs.Prelude.{◌≡◌, ◌↔◌, ◌+◌, ◌<◌, ◌≤◌, IfOk, IsTrue, List, false};
+ghost use Rattle.plan_model.specs.Clearance.{Clear};
+ghost use Rattle.plan_model.specs.RoomOfConfigurations.{InRoom, at_lattice};
+ghost use Rattle.convex_sets.specs.declared.boxes.BoundingBox.{BoundingBox};
+
+use crate::descent::crosses_none;
+use crate::leaves::{leaves_of, order};
+use crate::nodes::{Node, push_all};
+use convex_sets::Zone;
+use plan_model::{Memory, Point};
+use std::alloc::Global;
+use std::marker::{Brand, Model};
+use std::sync::ledger::{Blank, Ledger};
+use swept_check::{Clearing, Hall, Steps};
+
+/// The exact collision checker of a scene, by a tree of boxes over its zones: a bounding volume hierarchy, which is built once.
+///
+/// The tree is one list of nodes. Read from its end, each node stands before all that lie below it, and has the number at which
+/// these begin, so that a search passes over them if the node's box is apart from the segment's. Up to eight zones stand side by
+/// side below a node.
+#[derive(Debug, Drop)]
+pub struct Boxes {
+    hall: Hall,
+    nodes: Vec<Node>,
+}
+
+impl Model for Boxes {
+    ghost use Rattle.plan_model.specs.ConfigurationSpace.{ConfigurationSpace};
+    ghost use Rattle.obstacle_boxes.specs.Trees.{IsTreeOver};
+
+    ghost Value = { ConfigurationSpace };
+
+    ghost view = { λ b. b.hall };
+
+    ghost invariant = { λ b. IsTreeOver b.hall b.nodes.items };
+}
+
+impl Boxes {
+    ghost use Rattle.obstacle_boxes.specs.NearZones.{AreZoneBoxes, near_count};
+    ghost use Rattle.swept_check.specs.Halls.{AreZonesOf};
+
+    /// The collision checker that returns what a hall returns. O(n log² n) for n obstacles.
+    ///
+    /// # Errors
+    ///
+    /// `Memory` if out of memory for the boxes.
+    pub fn new(alloc: Global, hall: Hall) -> Result<Boxes, Memory>
+        ensures { IfOk result (λ boxes. boxes ≡ hall) }
+    {
+        let mut leaves = leaves_of(alloc, hall.zones())?;
+        order(leaves.as_mut_slice());
+        let mut nodes = Vec::new(alloc);
+        push_all(leaves.as_slice(), &mut nodes)?;
+        Ok(Boxes { hall, nodes })
+    }
+
+    /// What [`clear`](Clearing::clear) returns, with a count of the exact tests: a step is one call of `crosses`, for one zone.
+    ///
+    /// A zone is tested if its box meets that of the segment from `a` to `b`, and the search ends at the first one that is
+    /// crossed. So if the body is clear along the segment, there are as many steps as such zones, and never more. If an end is
+    /// outside of the room of configurations, nothing is tested. O(n) for n nodes and corners at most; no memory.
+    pub fn tests<L: Ledger>(&self, a: Point, b: Point, steps: &mut Steps<L>) -> bool
+        ensures clear { IsTrue result ↔ Clear self.now a b }
+        ensures few { (boxes : List BoundingBox) → AreZoneBoxes self.now boxes → steps.new ≤ steps.old + near_count boxes a b }
+        ensures all { IsTrue result → (boxes : List BoundingBox) → AreZoneBoxes self.now boxes → steps.new ≡ steps.old + near_count boxes a b }
+        ensures some { result ≡ false → InRoom self.now (at_lattice a) → InRoom self.now (at_lattice b) → steps.old < steps.new }
+        ensures outside { ¬ (InRoom self.now (at_lattice a) × InRoom self.now (at_lattice b)) → (result ≡ false) × (steps.new ≡ steps.old) }
+    {
+        if !self.hall.is_in_room(a) || !self.hall.is_in_room(b) {
+            return false;
+        }
+        crosses_none(self.nodes.as_slice(), self.hall.zones(), a, b, steps)
+    }
+
+    /// The same, for a counter that is made here.
+    fn tests_by<L: Ledger>(&self, a: Point, b: Point, blank: Blank) -> bool
+        requires name { blank.name ≡ L.name }
+        requires parts { blank.parts ≡ L.parts }
+        requires some { 0 < blank.parts }
+        ensures { IsTrue result ↔ Clear self.now a b }
+    {
+        let mut steps = Steps::<L>::new(blank);
+        self.tests(a, b, &mut steps)
+    }
+
+    /// The zones, one for each obstacle, in the scene's order. O(1); no memory.
+    pub fn zones(&self) -> &[Zone]
+        ensures { AreZonesOf self.now.body self.now.obstacles result.now }
+    {
+        self.hall.zones()
+    }
+}
+
+impl Clearing for Boxes {
+    ghost space = { λ b. b };
+
+    /// A test of boxes by four comparisons for each node that is not passed over, and an exact test, as that of a hall, for
+    /// each zone whose box meets the segment's, up to the first that is crossed.
+    fn clear(&self, a: Point, b: Point) -> bool {
+        self.tests_by::<Brand>(a, b, Blank::new(1))
+    }
+}

@@ -1,0 +1,54 @@
+//! The descent of the tree that tests the zones near a segment.
+
+ghost use Rattle.std.specs.Prelude.{◌≡◌, ℕ, ◌+◌, ◌<◌, ◌≤◌, All, IsTrue, false, length, slice_index_or};
+ghost use Rattle.plan_model.specs.Bounds.{IsBounded};
+ghost use Rattle.obstacle_boxes.specs.LeafBoxes.{IsLeafAmong, IsMissed, leaves_met};
+ghost use Rattle.obstacle_boxes.specs.NearZones.{segment_box};
+ghost use Rattle.obstacle_boxes.specs.Searches.{CrossesSome, HasSearched};
+ghost use Rattle.obstacle_boxes.specs.Trees.{IsTree, leaves_in};
+
+use crate::meeting::{boxes_meet, segment_box};
+use crate::nodes::{Below, Node};
+use convex_sets::Zone;
+use plan_model::Point;
+use std::sync::ledger::Ledger;
+use swept_check::{Steps, crosses};
+
+/// Whether the segment from `a` to `b` crosses none of the zones at the leaves of a tree. It goes through the nodes from the
+/// last one on, passes over those below a box that is apart from the segment's, and ends at the first zone that is crossed.
+/// It takes no memory.
+pub(crate) fn crosses_none<L: Ledger>(
+    nodes: &[Node],
+    zones: &[Zone],
+    a: Point,
+    b: Point,
+    steps: &mut Steps<L>,
+) -> bool
+    requires from { IsBounded a }
+    requires to { IsBounded b }
+    requires tree { IsTree nodes.now }
+    requires leaves { All (IsLeafAmong zones.now) (leaves_in nodes.now) }
+    ensures missed { IsTrue result → All (IsMissed zones.now a b) (leaves_in nodes.now) }
+    ensures all { IsTrue result → steps.new ≡ steps.old + leaves_met (segment_box a b) (leaves_in nodes.now) }
+    ensures crossed { result ≡ false → CrossesSome zones.now a b }
+    ensures some { result ≡ false → steps.old < steps.new }
+    ensures few { steps.new ≤ steps.old + leaves_met (segment_box a b) (leaves_in nodes.now) }
+{
+    let segment = segment_box(a, b);
+    let mut next = nodes.len();
+    while next > 0 {
+        let n = next - 1;
+        let node = nodes[n];
+        let is_near = boxes_meet(segment, node.bounds);
+        match node.below {
+            Below::Nodes(first) => next = if is_near { n } else { first },
+            Below::Zone(zone) => {
+                if is_near && crosses(&zones[zone], a, b, steps) {
+                    return false;
+                }
+                next = n;
+            }
+        }
+    }
+    true
+}
