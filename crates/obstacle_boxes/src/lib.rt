@@ -11,8 +11,8 @@
 //!     +-----------------+  +--------+
 //! ```
 //!
-//! [`Boxes`] returns what the hall that it is made of returns. The contract of [`Boxes::tests`] counts the exact tests: no zone
-//! is tested whose box is apart from the segment's.
+//! [`Boxes`] returns what the hall that it is made of returns. The contract of [`Boxes::tests`] counts the exact tests: there are
+//! no more than zones whose box meets the segment's.
 #![tactic(auto)]
 
 mod boxes;
