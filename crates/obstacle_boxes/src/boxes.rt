@@ -6,7 +6,7 @@ ghost use Rattle.plan_model.specs.RoomOfConfigurations.{InRoom, at_lattice};
 ghost use Rattle.convex_sets.specs.declared.boxes.BoundingBox.{BoundingBox};
 
 use crate::descent::crosses_none;
-use crate::leaves::{leaves_of, order};
+use crate::leaves::{MOST_TOGETHER, leaves_of, order};
 use crate::nodes::{Node, push_all};
 use convex_sets::Zone;
 use plan_model::{Memory, Point};
@@ -97,8 +97,11 @@ impl Clearing for Boxes {
     ghost space = { λ b. b };
 
     /// A test of boxes by four comparisons for each node that is not passed over, and an exact test, as that of a hall, for
-    /// each zone whose box meets the segment's, up to the first that is crossed.
+    /// each zone whose box meets the segment's, up to the first that is crossed. Of a few zones a hall tests all as fast.
     fn clear(&self, a: Point, b: Point) -> bool {
+        if self.hall.zones().len() <= MOST_TOGETHER {
+            return self.hall.clear(a, b);
+        }
         self.tests_by::<Brand>(a, b, Blank::new(1))
     }
 }

@@ -254,13 +254,20 @@ fn generate(alloc: Global, number: u32) -> Result<Answer, Memory>
     })
 }
 
+/// The collision checker of a scene.
+fn boxes_of(alloc: Global, scene: &Scene) -> Result<Boxes, Memory>
+    ensures { IfOk result (λ boxes. boxes ≡ space_of scene.now) }
+{
+    Boxes::new(alloc, Hall::new(alloc, scene)?)
+}
+
 /// Plans the generated scene of a number.
 fn trial(alloc: Global, number: u32) -> Result<Answer, Memory>
     requires { number ≤ MOST_GENERATED }
     ensures { IfOk result (λ answer. TriesGenerated number answer.done answer.text.items) }
 {
     let scene = gen_scene(alloc, number)?;
-    let hall = Boxes::new(alloc, Hall::new(alloc, &scene)?)?;
+    let hall = boxes_of(alloc, &scene)?;
     let grown = textbook_run(alloc, scene, &hall)?;
     Ok(summary_of(alloc, grown)?)
 }
