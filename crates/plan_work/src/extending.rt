@@ -373,10 +373,14 @@ pub(crate) fn extend_within<C: Clearing>(
 {
     pass.clear_near();
     let (steering, class, is_clear) = steer_near(shared, pass, radii, hall, k);
-    if let Some(node) = find(shared, pass, steering.point) {
-        return record_unplaced(shared, pass, steering.nearest, Outcome::Same(node));
+    if steering.from == steering.point {
+        let outcome = Outcome::Same(steering.nearest);
+        return record_unplaced(shared, pass, steering.nearest, outcome);
     }
     if !is_clear {
+        if let Some(node) = find(shared, pass, steering.point) {
+            return record_unplaced(shared, pass, steering.nearest, Outcome::Same(node));
+        }
         return record_unplaced(shared, pass, steering.nearest, Outcome::Blocked);
     }
     shared.write_point(pass, steering.nearest, steering.point);

@@ -1,5 +1,5 @@
 -- When a cost may be lowered, and when it need not.
-use Rattle.std.proofs.Common.{◌≡◌, ℕ, ◌+◌, ◌<◌, ◌≤◌, is_some, arith, inl, inr, refl, sym, ap, ◌∙◌, subst}
+use Rattle.std.proofs.Common.{◌≡◌, ◌≢◌, ℕ, ◌+◌, ◌^◌, ◌<◌, ◌≤◌, is_some, arith, inl, inr, refl, sym, ap, ◌∙◌, subst}
 use Rattle.std.proofs.lemmas.Bool.{cases_eq}
 use Rattle.plan_model.specs.declared.geometry.Point.{Point}
 use Rattle.plan_model.specs.Cost.{cost_of}
@@ -7,14 +7,20 @@ use Rattle.plan_model.specs.OrderLaw.{IsAllowedEdge}
 use Rattle.plan_model.specs.PointsByNumber.{IsPresent, point_of}
 use Rattle.plan_model.proofs.NewNodes.{point_of-stands}
 use Rattle.plan_words.specs.Parents.{IsPairIn}
+use Rattle.plan_words.specs.States.{GoesOn}
 use Rattle.step_core.specs.LaterViews.{IsLawfulView}
+use Rattle.step_core.specs.ViewSteps.{lowered}
 use Rattle.step_core.specs.ViewTrees.{MayLower, SeesPoint}
 use Rattle.step_core.specs.Views.{sees, setup_in, tree_seen}
+use Rattle.step_core.specs.WordNames.{WritesWord}
 use Rattle.step_core.specs.WordNames.Word.{TreeOf}
-use Rattle.step_core.specs.Words.{cost_in, parent_in}
+use Rattle.step_core.specs.Words.{cost_in, parent_in, tree_word}
 use Rattle.step_core.specs.declared.views.View.{View}
+use Rattle.step_core.proofs.PackedWords.{cost_in-tree_word, parent_in-tree_word}
+use Rattle.step_core.proofs.SeenByViews.{WritesWord-saw}
 use Rattle.tree_rewire.specs.SeenCosts.{SeesPair, cost_seen, cost_through, parent_seen}
 use Rattle.tree_rewire.specs.Spreads.{IsSettled}
+use Rattle.tree_rewire.proofs.SeenCosts.{pair_low, stands_later}
 
 -- a node may be lowered to less than it was seen to cost, through a seen parent over an allowed edge
 pub MayLower-less : (view : View) (n parent cost : ℕ) (at from : Point) → SeesPoint view n at → SeesPair view n → SeesPoint view parent from
@@ -76,3 +82,32 @@ module _ (before after : View) (n parent kept above grand : ℕ) (here there : P
           ap (cost_of there) (point_of-stands (tree_seen after).points n here stands),
         ));
   }
+
+-- A node that was lowered is settled: it costs what it does through its parent.
+module _ (before after : View) (n parent cost : ℕ) (lawful : IsLawfulView before) (may : MayLower before n parent cost)
+    (is : after ≡ lowered before n parent cost) (goes_on : GoesOn before after) where
+  writes : WritesWord (TreeOf n) (tree_word parent cost) (sees before) (sees after)
+  writes =
+      subst (λ v. WritesWord (TreeOf n) (tree_word parent cost) (sees before) (sees v)) (sym is)
+      (WritesWord-saw before.run before lawful.of_run (TreeOf n) (pair_low before n lawful may.seen.written) (sees before (TreeOf n)) (tree_word parent cost))
+
+  -- the parent is another node, since it costs less
+  apart : parent ≢ n
+  apart same = omega (arith, may.cheaper, may.seen.cost_is, may.below.cost_is, may.below.seen.cost_is, ap (cost_seen before) same)
+
+  parent_same : sees after (TreeOf parent) ≡ sees before (TreeOf parent)
+  parent_same = writes.others (TreeOf parent) (λ e. apart (let own : parent ≡ n = cc in own))
+
+  pub IsSettled-lowered : IsSettled after n
+  IsSettled-lowered =
+      let small : parent < 2 ^ 18 = omega (arith, pair_low before parent lawful may.below.seen.written, lawful.run.marks) in
+      let low : cost < 2 ^ 44 = omega (arith, may.cheaper, may.seen.cost_is, (lawful.pairs n may.seen.written).low) in
+      IsSettled-parent after after n parent cost (cost_seen after parent) (parent_seen after parent) may.at may.below.from goes_on.lawful (λ m. refl)
+      (record {
+        written = omega (arith, writes.here);
+        parent = sym (ap parent_in writes.here ∙ parent_in-tree_word parent cost small);
+        cost = sym (ap cost_in writes.here ∙ cost_in-tree_word parent cost small low);
+      })
+      (record { written = omega (arith, parent_same, may.below.seen.written); parent = refl; cost = refl })
+      (stands_later before after goes_on n may.at may.seen.stands) (stands_later before after goes_on parent may.below.from may.below.seen.stands)
+      (omega (arith, may.below.cost_is, may.below.seen.cost_is, ap cost_in parent_same))

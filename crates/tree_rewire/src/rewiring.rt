@@ -6,7 +6,7 @@ ghost use Rattle.plan_model.specs.Clearance.{Clear};
 ghost use Rattle.plan_model.specs.ConfigurationSpace.{space_of};
 ghost use Rattle.plan_model.specs.Cost.{cost_of};
 ghost use Rattle.plan_model.specs.OrderLaw.{IsAllowedEdge};
-ghost use Rattle.plan_model.specs.PointsByNumber.{point_of};
+ghost use Rattle.plan_model.specs.PointsByNumber.{IsPresent, point_of};
 ghost use Rattle.plan_words.specs.States.{BelongsTo};
 ghost use Rattle.step_core.specs.LaterViews.{IsLawfulView};
 ghost use Rattle.step_core.specs.ViewTrees.{SeesPoint};
@@ -24,8 +24,8 @@ use swept_check::Clearing;
 /// Rewires the nodes on the near list, in their order, once the node of mark k is placed: it becomes the parent of each that is
 /// then strictly cheaper, over a clear edge, and what fell is [spread] before the next is looked at.
 ///
-/// An edge is tested only if the node would be cheaper. Another pass may lower the node first, or give it another parent; it is
-/// lowered again only while it is still dearer. O(n) for n near nodes, and what the spreads take.
+/// An edge is tested only if the node would be cheaper than it was seen to be last. Another pass may lower the node first, or give
+/// it another parent; it is lowered again only while it is still dearer. O(n) for n near nodes, and what the spreads take.
 pub fn rewire<C: Clearing>(shared: &Shared, pass: &mut Pass, hall: &C, k: u32)
     requires belongs { BelongsTo pass.old shared.now }
     requires part { 0 < share pass.old.view }
@@ -72,12 +72,28 @@ fn rewire_node<C: Clearing>(
         → cost_seen pass.new.view node
         ≤ cost_seen pass.old.view parent + cost_of from (point_of (tree_seen pass.old.view).points node) }
 {
-    let (_, kept_cost) = shared.tree(pass, node);
+    let kept_cost = known_cost(shared, pass, node);
     let to = shared.point(pass, node);
     if costs_less_through(seen_cost(pass, parent), from, to, kept_cost) && hall.clear(from, to) {
         improve(shared, pass, parent, from, node, to);
         spread(shared, pass, node);
     }
+}
+
+/// What a node was seen to cost last. It is loaded only if it was not seen with a cost yet: if it has fallen meanwhile, the exchange
+/// of a lower one shows that.
+fn known_cost(shared: &Shared, pass: &mut Pass, node: u32) -> u64
+    requires belongs { BelongsTo pass.old shared.now }
+    requires lawful { IsLawfulView pass.old.view }
+    requires node { IsPresent (tree_seen pass.old.view).points node }
+    ensures steps { PassSees IsTreeWord shared.now pass.old pass.new }
+    ensures pair { SeesPair pass.new.view node }
+    ensures cost { result ≡ cost_seen pass.new.view node }
+{
+    if let Some((_, cost)) = pass.pair(node) {
+        return cost;
+    }
+    shared.tree(pass, node).1
 }
 
 /// Lowers a node below this parent until it costs no more than through it.

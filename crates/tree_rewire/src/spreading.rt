@@ -67,8 +67,10 @@ fn settle(shared: &Shared, pass: &mut Pass, node: u32) -> bool
 {
     let mut fell = false;
     'lowers: while let Some((parent, cost)) = looser(shared, pass, node) {
+        if let Ok(()) = shared.lower(pass, node, parent, cost) {
+            return true;
+        }
         // an exchange that fails finds a lower cost, with whatever parent
-        let _found = shared.lower(pass, node, parent, cost);
         fell = true;
     }
     fell

@@ -11,7 +11,7 @@ use Rattle.step_core.specs.Words.{cost_in}
 use Rattle.step_core.proofs.LawfulSights.{IsBounded-seen}
 use Rattle.step_core.proofs.SeenViews.{IsPresent-later}
 use Rattle.tree_rewire.specs.SeenCosts.{IsNoWord, IsTreeOrPoint, IsTreeWord, PassLowers, PassSees}
-use Rattle.tree_rewire.proofs.CostSteps.{PassLowers-sees, PassLowers-trans, PassSees-more, PassSees-point, PassSees-trans, PassSees-tree, TreeOrPoint-tree}
+use Rattle.tree_rewire.proofs.CostSteps.{PassLowers-sees, PassLowers-trans, PassSees-more, PassSees-point, PassSees-trans, TreeOrPoint-tree}
 use Rattle.tree_rewire.proofs.SeenCosts.{SeesPair-later, cost_seen-later, point_later, stands_later}
 use Rattle.tree_rewire.proofs.rewiring.rewire_node.Given.{Over}
 use Rattle.tree_rewire.proofs.rewiring.rewire_node.Goals as goal
@@ -19,21 +19,19 @@ use Rattle.tree_rewire.proofs.rewiring.rewire_node.Goals.{After-seen_cost}
 use Rattle.tree_rewire.proofs.rewiring.rewire_node.Goals.{else-costs_less_through-via-then-costs_less_through+else-clear, else-costs_less_through-via-else-costs_less_through}
 
 -- the point of the node is loaded again
-loads_point : (g : Over) (c : After-seen_cost g) → PassSees IsNoWord c.args.shared.now c.tree-kept_cost.new.pass c.point-to.new.pass
+loads_point : (g : Over) (c : After-seen_cost g) → PassSees IsNoWord c.args.shared.now c.known_cost-kept_cost.new.pass c.point-to.new.pass
 loads_point g c =
-    let tree = c.tree-kept_cost.ensures in
-    let one = PassSees-tree c.args.shared.now c.args.pass.now c.tree-kept_cost.new.pass c.args.node _ _ c.requires.belongs tree.view tree.goes_on tree.seen in
-    PassSees-point c.args.shared.now c.tree-kept_cost.new.pass c.point-to.new.pass c.args.node _ _ one.belongs
-    (IsPresent-later c.args.pass.now.view c.tree-kept_cost.new.pass.view tree.goes_on.later.run tree.goes_on.later.seen c.args.node c.requires.reach.present)
+    let known = c.known_cost-kept_cost.ensures.steps in
+    let later = known.sees_anew.goes_on.later in
+    PassSees-point c.args.shared.now c.known_cost-kept_cost.new.pass c.point-to.new.pass c.args.node _ _ known.belongs
+    (IsPresent-later c.args.pass.now.view c.known_cost-kept_cost.new.pass.view later.run later.seen c.args.node c.requires.reach.present)
     c.point-to.ensures.view c.point-to.ensures.goes_on c.point-to.ensures.seen
 
--- its parent and its cost are loaded, and its point
+-- its cost is known, and its point is loaded
 loads : (g : Over) (c : After-seen_cost g) → PassSees IsTreeWord c.args.shared.now c.args.pass.now c.point-to.new.pass
 loads g c =
-    let tree = c.tree-kept_cost.ensures in
-    let one = PassSees-tree c.args.shared.now c.args.pass.now c.tree-kept_cost.new.pass c.args.node _ _ c.requires.belongs tree.view tree.goes_on tree.seen in
-    PassSees-trans IsTreeWord c.args.shared.now c.args.pass.now c.tree-kept_cost.new.pass c.point-to.new.pass one
-    (PassSees-more IsNoWord IsTreeWord c.args.shared.now c.tree-kept_cost.new.pass c.point-to.new.pass (λ name no. absurd no) (loads_point g c))
+    PassSees-trans IsTreeWord c.args.shared.now c.args.pass.now c.known_cost-kept_cost.new.pass c.point-to.new.pass c.known_cost-kept_cost.ensures.steps
+    (PassSees-more IsNoWord IsTreeWord c.args.shared.now c.known_cost-kept_cost.new.pass c.point-to.new.pass (λ name no. absurd no) (loads_point g c))
 
 -- it is where it was seen
 to_is : (g : Over) (c : After-seen_cost g) → c.point-to.result ≡ point_of (tree_seen c.args.pass.now.view).points c.args.node
@@ -72,7 +70,7 @@ improve-requires-clause-from g c = IsBounded-seen c.args.pass.now.view c.args.pa
 pub spread-requires-clause-pair : goal.spread-requires-clause-pair
 spread-requires-clause-pair g c =
     SeesPair-later c.point-to.new.pass.view c.improve.new.pass.view c.improve.ensures.steps.sees_anew.goes_on c.args.node
-    (SeesPair-later c.tree-kept_cost.new.pass.view c.point-to.new.pass.view c.point-to.ensures.goes_on c.args.node c.tree-kept_cost.ensures.found.written)
+    (SeesPair-later c.known_cost-kept_cost.new.pass.view c.point-to.new.pass.view c.point-to.ensures.goes_on c.args.node c.known_cost-kept_cost.ensures.pair)
 
 pub returns-then-clear-clause-steps : goal.returns-then-clear-clause-steps
 returns-then-clear-clause-steps g c =
@@ -94,13 +92,13 @@ pub returns-then-clear-clause-pair : goal.returns-then-clear-clause-pair
 returns-then-clear-clause-pair g c =
     SeesPair-later c.improve.new.pass.view c.spread.new.pass.view c.spread.ensures.seen.goes_on c.args.node
     (SeesPair-later c.point-to.new.pass.view c.improve.new.pass.view c.improve.ensures.steps.sees_anew.goes_on c.args.node
-    (SeesPair-later c.tree-kept_cost.new.pass.view c.point-to.new.pass.view c.point-to.ensures.goes_on c.args.node c.tree-kept_cost.ensures.found.written))
+    (SeesPair-later c.known_cost-kept_cost.new.pass.view c.point-to.new.pass.view c.point-to.ensures.goes_on c.args.node c.known_cost-kept_cost.ensures.pair))
 
 pub returns-then-clear-clause-rewired : goal.returns-then-clear-clause-rewired
 returns-then-clear-clause-rewired g c =
     let to = (goal.at.returns-then-clear-clause-rewired g c).After-seen_cost in
     let pair = SeesPair-later c.point-to.new.pass.view c.improve.new.pass.view c.improve.ensures.steps.sees_anew.goes_on c.args.node
-    (SeesPair-later c.tree-kept_cost.new.pass.view c.point-to.new.pass.view c.point-to.ensures.goes_on c.args.node c.tree-kept_cost.ensures.found.written) in
+    (SeesPair-later c.known_cost-kept_cost.new.pass.view c.point-to.new.pass.view c.point-to.ensures.goes_on c.args.node c.known_cost-kept_cost.ensures.pair) in
     λ clear.
     omega (
       arith,
@@ -124,13 +122,13 @@ returns-else-costs_less_through-clause-rewired g c =
       | else-costs_less_through-via-then-costs_less_through+else-clear w ↦
           absurd (let yes = w.clear.ensures.1 (subst (Clear (g.C.Clearing.space c.args.hall.now) c.args.from) (sym to_is) clear) in cc)
       | else-costs_less_through-via-else-costs_less_through w ↦
-          elim (cases_lt (c.seen_cost.result + cost_of c.args.from c.point-to.result) c.tree-kept_cost.result.1) [
+          elim (cases_lt (c.seen_cost.result + cost_of c.args.from c.point-to.result) c.known_cost-kept_cost.result) [
             | inl less ↦ absurd (let yes = c.costs_less_through.ensures.1 less in let no = w.if-costs_less_through.false in cc)
             | inr most ↦
                 omega (
                   arith,
                   most,
-                  c.tree-kept_cost.ensures.found.cost,
+                  c.known_cost-kept_cost.ensures.cost,
                   ap cost_in ((loads_point g to).sees_anew.others (TreeOf c.args.node) (λ no. no)),
                   c.seen_cost.ensures,
                   cost_seen-later c.args.pass.now.view c.point-to.new.pass.view (loads g to).sees_anew.goes_on c.args.parent c.requires.parent_pair,

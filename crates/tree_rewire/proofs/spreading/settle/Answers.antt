@@ -1,42 +1,69 @@
-use Rattle.std.proofs.Common.{◌≡◌, ap, arith, ◌∙◌}
+use Rattle.std.proofs.Common.{◌≡◌, ◌<◌, ap, arith, ◌∙◌}
 use Rattle.step_core.specs.WordNames.Word.{TreeOf}
 use Rattle.step_core.specs.Words.{cost_in}
-use Rattle.tree_rewire.specs.SeenCosts.{IsPointWord, IsTreeOrPoint, IsTreeWord}
+use Rattle.plan_words.specs.States.{PassState}
+use Rattle.tree_rewire.specs.SeenCosts.{IsPointWord, IsTreeOrPoint, IsTreeWord, PassSees, cost_seen}
+use Rattle.tree_rewire.specs.Spreads.{OnlyAt}
 use Rattle.tree_rewire.proofs.CostSteps.{PassSees-lower, PassSees-more, PassSees-trans, TreeOrPoint-point, TreeOrPoint-tree}
+use Rattle.tree_rewire.proofs.LoweredCosts.{IsSettled-lowered}
 use Rattle.tree_rewire.proofs.SeenCosts.{cost_seen-later}
 use Rattle.tree_rewire.proofs.spreading.settle.Goals as goal
+use Rattle.tree_rewire.proofs.spreading.settle.Goals.{After-lower}
+
+-- the node's points are looked at, and its tree word is lowered or found lower
+all_steps : (c : After-lower) → PassSees IsTreeOrPoint c.args.shared.now c.args.pass.now c.lower.new.pass
+all_steps c =
+    let shared = c.args.shared.now in
+    let lower = c.lower.ensures in
+    let looks = c.looser.ensures.steps in
+    PassSees-trans IsTreeOrPoint shared c.args.pass.now c.lowers.pass c.lower.new.pass c.lowers.invariant.steps
+    (PassSees-trans IsTreeOrPoint shared c.lowers.pass c.looser.new.pass c.lower.new.pass
+    (PassSees-more IsPointWord IsTreeOrPoint shared c.lowers.pass c.looser.new.pass TreeOrPoint-point looks)
+    (PassSees-more IsTreeWord IsTreeOrPoint shared c.looser.new.pass c.lower.new.pass TreeOrPoint-tree
+    (PassSees-lower shared c.looser.new.pass c.lower.new.pass c.args.node c.in-Some.parent c.in-Some.cost _ _ c.lower.result looks.belongs lower.view
+    lower.view_found lower.goes_on lower.seen)))
+
+only_here : (c : After-lower) → OnlyAt c.args.node c.args.pass.now.view c.lower.new.pass.view
+only_here c m apart =
+    c.lower.ensures.seen.others (TreeOf m) (λ e. apart (let own : m ≡ c.args.node = cc in own))
+    ∙ c.looser.ensures.steps.sees_anew.others (TreeOf m) (λ no. no) ∙ c.lowers.invariant.others m apart
+
+falls : (c : After-lower) → cost_seen c.lower.new.pass.view c.args.node < cost_seen c.lowers.pass.view c.args.node
+falls c = omega (arith, c.lower.ensures.falls.less, ap cost_in (c.looser.ensures.steps.sees_anew.others (TreeOf c.args.node) (λ no. no)))
+
+has_fallen : (c : After-lower) → cost_seen c.lower.new.pass.view c.args.node < cost_seen c.args.pass.now.view c.args.node
+has_fallen c =
+    let h = c.lowers.invariant in
+    omega (arith, falls c, cost_seen-later c.args.pass.now.view c.lowers.pass.view h.steps.sees_anew.goes_on c.args.node c.requires.pair)
 
 pub lowers-smaller : goal.lowers-smaller
-lowers-smaller c =
-    omega (arith, c.lower-found.ensures.falls.less, ap cost_in (c.looser.ensures.steps.sees_anew.others (TreeOf c.args.node) (λ no. no)))
+lowers-smaller c = falls (goal.at.lowers-smaller c).After-lower
 
 pub lowers-preserved : goal.lowers-preserved
 lowers-preserved c =
-    let h = c.lowers.invariant in
-    let shared = c.args.shared.now in
-    let lower = c.lower-found.ensures in
-    let looks = c.looser.ensures.steps in
-    let point = PassSees-more IsPointWord IsTreeOrPoint shared c.lowers.pass c.looser.new.pass TreeOrPoint-point looks in
-    let lowers = PassSees-more IsTreeWord IsTreeOrPoint shared c.looser.new.pass c.lower-found.new.pass TreeOrPoint-tree
-    (PassSees-lower shared c.looser.new.pass c.lower-found.new.pass c.args.node c.in-Some.parent c.in-Some.cost _ _ c.lower-found.result looks.belongs
-    lower.view lower.view_found lower.goes_on lower.seen) in
-    let same = looks.sees_anew.others (TreeOf c.args.node) (λ no. no) in
+    let here = (goal.at.lowers-preserved c).After-lower in
     record {
-      steps = PassSees-trans IsTreeOrPoint shared c.args.pass.now c.lowers.pass c.lower-found.new.pass h.steps
-          (PassSees-trans IsTreeOrPoint shared c.lowers.pass c.looser.new.pass c.lower-found.new.pass point lowers);
-      others = λ m apart.
-          lower.seen.others (TreeOf m) (λ e. apart (let own : m ≡ c.args.node = cc in own)) ∙ looks.sees_anew.others (TreeOf m) (λ no. no)
-          ∙ h.others m apart;
-      pair = lower.falls.written;
-      fell = λ _.
-          omega (
-            arith,
-            lower.falls.less,
-            ap cost_in same,
-            cost_seen-later c.args.pass.now.view c.lowers.pass.view h.steps.sees_anew.goes_on c.args.node c.requires.pair,
-          );
+      steps = all_steps here;
+      others = only_here here;
+      pair = c.lower.ensures.falls.written;
+      fell = λ _. has_fallen here;
       same = λ e. absurd (cc);
     }
+
+pub returns-in-Ok-clause-steps : goal.returns-in-Ok-clause-steps
+returns-in-Ok-clause-steps c = all_steps (goal.at.returns-in-Ok-clause-steps c).After-lower
+
+pub returns-in-Ok-clause-others : goal.returns-in-Ok-clause-others
+returns-in-Ok-clause-others c = only_here (goal.at.returns-in-Ok-clause-others c).After-lower
+
+pub returns-in-Ok-clause-settled : goal.returns-in-Ok-clause-settled
+returns-in-Ok-clause-settled c =
+    let looser = c.looser.ensures in
+    IsSettled-lowered c.looser.new.pass.view c.lower.new.pass.view c.args.node c.in-Some.parent c.in-Some.cost looser.steps.sees_anew.goes_on.lawful
+    c.in-Some.ensures.some (ap (λ (p : PassState). p.view) c.in-Ok.ensures.view) c.lower.ensures.goes_on
+
+pub returns-in-Ok-clause-fell : goal.returns-in-Ok-clause-fell
+returns-in-Ok-clause-fell c _ = has_fallen (goal.at.returns-in-Ok-clause-fell c).After-lower
 
 pub returns-clause-steps : goal.returns-clause-steps
 returns-clause-steps c =
