@@ -120,7 +120,7 @@ module _ (task : Task) (workers opening : ℕ) (words : Words) (views : List Vie
                 let is : u ≡ view = some-injective u view (sym e ∙ ap (get_elem? views) same ∙ at) in
                 omega (arith, ap limit_of is, binds (share view == 0) refl))
             | inr apart ↦ (
-                let none = others_shareless run words views id view world at whole idle i u apart e in
+                let none = others_shareless run words views id view world at whole i u apart e in
                 let zero_limit : limit_of u ≡ 0 = ap (λ n. cond (n == 0) 0 u.most) none in
                 omega (arith, zero_limit))
           ]
@@ -174,7 +174,7 @@ module _ (task : Task) (workers opening : ℕ) (words : Words) (views : List Vie
             | inl same ↦ (
                 let is : u ≡ view = some-injective u view (sym e ∙ ap (get_elem? views) same ∙ at) in
                 ap (λ v. once_if (holds_at test k v.hand)) is ∙ ap (λ h. once_if (holds_at test k h)) idle)
-            | inr apart ↦ ap (λ h. once_if (holds_at test k h)) (others_idle run words views id view world at whole idle i u apart e)
+            | inr apart ↦ ap (λ h. once_if (holds_at test k h)) (others_idle run words views id view world at whole i u apart e)
           ]
 
   -- a node is linked if its mark was placed, and no other is
@@ -246,8 +246,9 @@ module _ (task : Task) (workers opening : ℕ) (words : Words) (views : List Vie
             ]
           ]
 
-  same_run : AreSameRuns (state_in run words) (state_of_words sizes (cleared words))
-  same_run = record {
+  -- clearing leaves the tree and its records
+  pub AreSameRuns-cleared : AreSameRuns (state_in run words) (state_of_words sizes (cleared words))
+  AreSameRuns-cleared = record {
     points = λ n. ap (λ l. point_at l n) points-whole;
     parents = λ n here. ap parent_in (tree-cleared words n (node_at n here));
     costs = λ n here. ap cost_in (tree-cleared words n (node_at n here));
@@ -260,7 +261,9 @@ module _ (task : Task) (workers opening : ℕ) (words : Words) (views : List Vie
   -- The words are those of a run that is closed at the greatest limit.
   pub HoldRun-whole : HoldRun task last (cleared words)
   HoldRun-whole = record {
-    closed = IsClosed-same_run (setup_of task.scene) task.marks last (state_in run words) (state_of_words sizes (cleared words)) IsClosed-linked same_run;
+    closed =
+        IsClosed-same_run (setup_of task.scene) task.marks last (state_in run words) (state_of_words sizes (cleared words)) IsClosed-linked
+        AreSameRuns-cleared;
     ways = subst (FollowWays (children_of_words words)) (sym points-whole) world.links.ways;
     counted =
         world.links.count

@@ -39,7 +39,8 @@ use Rattle.step_core.proofs.SeenTreesOfViews.{SeesTree-finished}
 use Rattle.step_core.proofs.ViewLists.{greatest-set}
 use Rattle.step_core.proofs.WordKinds.{AreBehind-trans}
 use Rattle.step_core.proofs.WorldHands.{Hands-recorded}
-use Rattle.step_core.proofs.WorldLinks.{Links-recorded}
+use Rattle.step_core.proofs.WorldCopies.{Copies-seen}
+use Rattle.step_core.proofs.WorldLinks.{KeepsLinks, Links-recorded}
 use Rattle.step_core.proofs.WorldPairs.{Pairs-recorded}
 use Rattle.step_core.proofs.WorldParts.{Numbers-step, record_word-none, Seen-step, Shares-step, limit_of-up, of_run-step, quotas-kept}
 use Rattle.step_core.proofs.WorldSeenPairs.{AreSeenLawfully-own, SeenPairs-set}
@@ -154,8 +155,17 @@ module _ (run : SharedRun) (words after : Words) (views : List View) (id : ℕ) 
             (IsFair-saw (RecordOf k) x (sees view) (sees then) after saw_it writes.here behind));
         records = records_then grows;
         sights = Sights-set run words views id view world at own then (λ of. tree_then);
+        copies = Copies-seen run words after views id view then at own world.copies seen
+            (AreBehind-saw (RecordOf k) x (sees view) (sees then) after saw_it writes.here behind) (λ part. omega (arith, part, same_share)) (RecordOf k) x writes
+            keeps_links some_share saw_it.here;
       }
     where
+      keeps_links : KeepsLinks (run_sizes run) words after
+      keeps_links = record { children = λ n side. writes.others (ChildOf n side) (λ e. cc); points = λ n h. writes.others (PointOf n) (λ e. cc) }
+
+      some_share : 0 < share then
+      some_share = omega (arith, same_share, ap (λ l. length l) crew_is)
+
       recorded : is_recorded after k ≡ true
       recorded =
           ap is_some
@@ -167,7 +177,7 @@ module _ (run : SharedRun) (words after : Words) (views : List View) (id : ℕ) 
           ((change run words after views id view member crew k x world.turns at crew_is mark.low mark.absent writes written worker turn).others j apart)
 
 -- a mark with a record is one of the marks
-recorded-below : (run : SharedRun) (words : Words) (views : List View) → IsWorld run words views → (j : ℕ) (own : Record) → record_at words j ≡ Some own
+pub recorded-below : (run : SharedRun) (words : Words) (views : List View) → IsWorld run words views → (j : ℕ) (own : Record) → record_at words j ≡ Some own
     → j < length run.marks
 recorded-below run words views world j own e =
     let one : once_if (is_recorded words j) ≡ 1 = ap (λ o. once_if (is_some o)) e in

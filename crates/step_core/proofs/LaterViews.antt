@@ -14,7 +14,7 @@ use Rattle.step_core.specs.ViewTrees.{MayLoad, SeesTree}
 use Rattle.step_core.specs.Words.{point_word, record_of_word}
 use Rattle.step_core.specs.LaterViews.{IsLater, IsLawfulView}
 use Rattle.step_core.specs.ViewSteps.{claimed, finished, joined, loaded, parted, saw, stepped}
-use Rattle.step_core.specs.Views.{IsSharedRun, IsViewOf, last_look, last_zero, run_sizes, sees}
+use Rattle.step_core.specs.Views.{IsSharedRun, IsViewOf, last_look, last_zero, run_sizes, sees, share}
 use Rattle.step_core.specs.WordKinds.{AreBehind, MayBecome, WordKind, kind_of}
 use Rattle.step_core.specs.WordKinds.WordKind.{Rising, Once, Falling}
 use Rattle.step_core.specs.WordNames.{Word, Words, WritesWord}
@@ -33,7 +33,9 @@ use Rattle.step_core.proofs.LinkedStates.{few_nodes, first_cost-linked, linked-p
 use Rattle.step_core.proofs.MarksInHand.{greatest_limit-most}
 use Rattle.step_core.proofs.SawWords.{AreBehind-write}
 use Rattle.step_core.proofs.SeenByViews.{WritesWord-looked, WritesWord-saw, WritesWord-zero, last_zero-other}
+use Rattle.step_core.proofs.ViewLists.{sum-one}
 use Rattle.step_core.proofs.WholeShares.{turn-below, worker-below}
+use Rattle.step_core.proofs.WholeTrees.{KeepsOrder-whole}
 use Rattle.step_core.proofs.WordKinds.{AreBehind-refl, AreBehind-trans}
 use Rattle.step_core.proofs.WorldParts.{quota-most, record_word-none, worker-own}
 use Rattle.step_core.proofs.WorldJoins.{AreBehind-joined}
@@ -194,6 +196,7 @@ module _ (run : SharedRun) (words : Words) (views : List View) (id : ℕ) (view 
     run = subst IsSharedRun (sym own) world.run_is;
     of_run = subst (λ r. IsViewOf r view) (sym own) of_run;
     most = subst (λ r. view.most ≤ length r.marks) (sym own) (world.numbers.limits id view at);
+    crew = omega (arith, sum-one share views id view at, here.shares.whole);
     idle = world.shares.idle id view at;
     mark = λ hand held. subst (λ r. hand.mark < length r.marks) (sym own) (in_hand run words views id view world at hand held).low;
     worker = λ i member e. subst (λ r. member.worker < r.workers) (sym own) (worker-below run words views id view world at i member e);
@@ -219,6 +222,7 @@ module _ (run : SharedRun) (words : Words) (views : List View) (id : ℕ) (view 
         (le_trans (world.seen.behind id view at Count) (count-most run words views world.numbers world.links));
     counter = λ g strip. subst (λ r. sees view (Counter g) ≤ length r.marks) (sym own)
         (counter_within g (subst (λ r. g < r.strips) own strip));
+    whole = λ all. KeepsOrder-whole view.run words views id view here at all;
   }
     where
       sees_tree : SeesTree view

@@ -48,6 +48,7 @@ pub mod MarksInHand
 pub mod SumsBelow
 pub mod HandsAt
 pub mod WorldLinks
+pub mod WorldCopies
 pub mod WorldHands
 pub mod WorldSteps
 pub mod WorldTrees
@@ -59,6 +60,8 @@ pub mod WorldSeenPairs
 pub mod WorldSplits
 pub mod WorldJoins
 pub mod WholeShares
+pub mod WholeCopies
+pub mod WholeTrees
 pub mod ClosedWorlds
 pub mod StartLinks
 pub mod WorldStarts

@@ -55,6 +55,18 @@ module _ (sizes : Sizes) (words : Words) where
       ap (λ b. cond b (point_of_word (words (PointOf n))) None) (sym (linked-present n here))
       ∙ sym (point_at-linked n (linked-within sizes words n here)) ∙ h
 
+-- a number that is not linked has no child
+pub unlinked-childless :
+    (run : SharedRun) (words : Words) (views : List View) → Links run words views → (n : ℕ) → is_linked (run_sizes run) words n ≡ false → (side : Bool)
+    → words (ChildOf n side) ≡ 0
+unlinked-childless run words views links n unlinked side =
+    no_child (words (ChildOf n side))
+    (links.ways.empty n side (λ here. let gone = sym unlinked ∙ linked-present (run_sizes run) words n here in cc))
+  where
+    no_child : (word : ℕ) → child_of_word word ≡ None → word ≡ 0
+    no_child zero h = refl
+    no_child (suc m) h = cc
+
 -- there are no more of them than there may be
 pub few_nodes : (run : SharedRun) (words : Words) → IsSharedRun run → node_count (linked_points (run_sizes run) words) ≤ MOST_NODES
 few_nodes run words run_is =

@@ -35,6 +35,12 @@ module _ {A : Type 0} where
   at-after_push (x ∷ l) a b zero e = inl e
   at-after_push (x ∷ l) a b (suc j) e = at-after_push l a b j e
 
+  -- the elements before it stay
+  pub at-push : (l : List A) (a b : A) (j : ℕ) → get_elem? l j ≡ some b → get_elem? (l ++ a ∷ []) j ≡ some b
+  at-push [] a b j e = absurd (some-ne-none b (sym e))
+  at-push (x ∷ l) a b zero e = e
+  at-push (x ∷ l) a b (suc j) e = at-push l a b j e
+
   -- an element that is not set
   pub at-set_other : (l : List A) (i j : ℕ) (a : A) → j ≢ i → get_elem? (set l i a) j ≡ get_elem? l j
   at-set_other [] i j a apart = refl
@@ -73,6 +79,11 @@ module _ {A : Type 0} where
   pub sum-zero : (f : A → ℕ) (l : List A) → ((i : ℕ) (a : A) → get_elem? l i ≡ some a → f a ≡ 0) → sum_by f l ≡ 0
   sum-zero f [] h = refl
   sum-zero f (x ∷ l) h = omega (arith, sum_by-cons f x l, h 0 x refl, sum-zero f l (λ i. h (suc i)))
+
+  -- numbers that are the same have one sum
+  pub sum-each : (f g : A → ℕ) (l : List A) → ((i : ℕ) (a : A) → get_elem? l i ≡ some a → f a ≡ g a) → sum_by f l ≡ sum_by g l
+  sum-each f g [] h = refl
+  sum-each f g (x ∷ l) h = omega (arith, sum_by-cons f x l, sum_by-cons g x l, h 0 x refl, sum-each f g l (λ i. h (suc i)))
 
   -- ---- the greatest
 

@@ -54,7 +54,7 @@ module _ (run : SharedRun) (words : Words) (views : List View) (id : ℕ) (view 
 
   -- ---- the whole share
 
-  module _ (whole : share view ≡ run.workers) (idle : view.hand ≡ None) where
+  module _ (whole : share view ≡ run.workers) where
     -- no other view has a share,
     pub others_shareless : (i : ℕ) (u : View) → i ≢ id → get_elem? views i ≡ some u → share u ≡ 0
     others_shareless i u apart e = omega (arith, sum-two share views i id u view apart e at, world.shares.whole, whole)
@@ -63,13 +63,14 @@ module _ (run : SharedRun) (words : Words) (views : List View) (id : ℕ) (view 
     pub others_idle : (i : ℕ) (u : View) → i ≢ id → get_elem? views i ≡ some u → u.hand ≡ None
     others_idle i u apart e = world.shares.idle i u e (others_shareless i u apart e)
 
+  module _ (whole : share view ≡ run.workers) (idle : view.hand ≡ None) where
     none_holds : (k i : ℕ) (u : View) → get_elem? views i ≡ some u → once_if (holds k u.hand) ≡ 0
     none_holds k i u e =
         elim (cases_eq i id) [
           | inl same ↦ (
               let is : u ≡ view = some-injective u view (sym e ∙ ap (get_elem? views) same ∙ at) in
               ap (λ v. once_if (holds k v.hand)) is ∙ ap (λ h. once_if (holds k h)) idle)
-          | inr apart ↦ ap (λ h. once_if (holds k h)) (others_idle i u apart e)
+          | inr apart ↦ ap (λ h. once_if (holds k h)) (others_idle whole i u apart e)
         ]
 
     -- Exactly the marks below the counters are recorded.

@@ -1,5 +1,5 @@
 -- A join keeps the law of worlds: shares are added, and what either has seen is seen.
-use Rattle.std.proofs.Common.{◌≡◌, ◌≢◌, ℕ, zero, suc, ◌≤◌, ◌^◌, max, Bool, true, false, List, [], ◌∷◌}
+use Rattle.std.proofs.Common.{◌≡◌, ◌≢◌, ℕ, zero, suc, ◌<◌, ◌≤◌, ◌^◌, max, Bool, true, false, List, [], ◌∷◌}
 use Rattle.std.proofs.Common.{◌++◌, length, length-append, set, Some, None, refl, sym, ap, ◌∙◌, subst, inl, inr, arith, zero-le}
 use Rattle.std.specs.Prelude.{◌⊎◌, ◌==◌, ◌&&◌, nat_le, nat_lt, cond, slice_index}
 use Rattle.std.proofs.lemmas.Bool.{cases_eq, eqb-true, eqb-false, ne_eqb}
@@ -19,7 +19,7 @@ use Rattle.step_core.specs.WordNames.{Word, Words}
 use Rattle.step_core.specs.WordNames.Word.{Count, Counter, PointOf, ChildOf, TreeOf, FirstOf, RecordOf}
 use Rattle.step_core.specs.WordPlaces.{Sizes, has_word, place_of, word_at, word_count}
 use Rattle.step_core.specs.Words.{cost_in, tree_of_word}
-use Rattle.step_core.specs.Worlds.{Agree, EachView, IsMember, IsWorld, greatest_limit, hands_at, limit_of, state_in}
+use Rattle.step_core.specs.Worlds.{Agree, EachView, HasCopy, IsMember, IsWorld, greatest_limit, hands_at, limit_of, state_in}
 use Rattle.step_core.specs.declared.views.Member.{Member}
 use Rattle.step_core.specs.declared.views.SharedRun.{SharedRun}
 use Rattle.step_core.specs.declared.views.Stage.{Stage}
@@ -27,6 +27,7 @@ use Rattle.step_core.specs.declared.views.View.{View}
 use Rattle.step_core.proofs.LaterWords.{IsWholePair-later, MayBecome-later, MayBecome-other_to_later, MayBecome-to_later, length-merged, word_at-merged}
 use Rattle.step_core.proofs.ViewLists.{at-set, at-set_other, each-set, greatest-most, greatest-one, sum-set}
 use Rattle.step_core.proofs.SeenTreesTogether.{SeesTree-joined}
+use Rattle.step_core.proofs.WorldCopies.{same-later}
 use Rattle.step_core.proofs.WorldHands.{Hands-views, IsWrittenFor}
 use Rattle.step_core.proofs.WorldLinks.{Links-views}
 use Rattle.step_core.proofs.WorldPairs.{HasFirst, HasFirst-none, HasTree, HasTree-none, Pairs-views}
@@ -318,8 +319,45 @@ module _ (run : SharedRun) (words : Words) (views : List View) (id : ℕ) (view 
           (λ of. SeesTree-joined view other (own_too ∙ sym own) (AreBehind-joined view other) AreBehind-other idle_too (world.sights id view at own)
           (world.sights j other was own_too))
           (λ of. absurd (live_spent of));
+      copies = λ name told. copy_after name (world.copies name told);
     }
       where
+        -- who saw a word as it is, is still there, or has come into both
+        copy_both : (name : Word) (u : View) → 0 < share u → share u ≤ share both → AreBehind (sees u) (sees both) → sees u name ≡ words name
+            → HasCopy run words after name
+        copy_both name u part below more same =
+            record {
+              id = id;
+              view = both;
+              at = here;
+              run_is = own;
+              part = omega (arith, part, below);
+              same = same-later name (sees u) (sees both) words more behind_both same;
+            }
+
+        copy_after : (name : Word) → HasCopy run words views name → HasCopy run words after name
+        copy_after name copy =
+            elim (cases_eq copy.id id) [
+              | inl same ↦ (
+                  let is : copy.view ≡ view = some-injective copy.view view (sym copy.at ∙ ap (get_elem? views) same ∙ at) in
+                  copy_both name view (subst (λ u. 0 < share u) is copy.part) (omega (arith, length-append view.crew other.crew))
+                  (AreBehind-joined view other) (ap (λ u. sees u name) (sym is) ∙ copy.same))
+              | inr off ↦ elim (cases_eq copy.id j) [
+                | inl same ↦ (
+                    let is : copy.view ≡ other = some-injective copy.view other (sym copy.at ∙ ap (get_elem? views) same ∙ was) in
+                    copy_both name other (subst (λ u. 0 < share u) is copy.part) (omega (arith, length-append view.crew other.crew)) AreBehind-other
+                    (ap (λ u. sees u name) (sym is) ∙ copy.same))
+                | inr off_too ↦ record {
+                  id = copy.id;
+                  view = copy.view;
+                  at = at-set_other middle j copy.id spent off_too ∙ at-set_other views id copy.id both off ∙ copy.at;
+                  run_is = copy.run_is;
+                  part = copy.part;
+                  same = copy.same;
+                }
+              ]
+            ]
+
         hands_both : (test : Stage → Bool) (k : ℕ) → hands_at test k after ≡ hands_at test k views
         hands_both test k =
             omega (

@@ -10,7 +10,7 @@ use Rattle.step_core.specs.LaterViews.{IsLater}
 use Rattle.step_core.specs.SharedWords.{linked_points}
 use Rattle.step_core.specs.ViewSteps.{lowered}
 use Rattle.step_core.specs.ViewTrees.{MayLower, SeesNode}
-use Rattle.step_core.specs.Views.{run_sizes, sees, setup_in}
+use Rattle.step_core.specs.Views.{run_sizes, sees, setup_in, share}
 use Rattle.step_core.specs.WordKinds.{AreBehind, HaveWholePairs, MayBecome}
 use Rattle.step_core.specs.WordKinds.WordKind.{Falling}
 use Rattle.step_core.specs.WordNames.{Words, WritesWord}
@@ -31,6 +31,7 @@ use Rattle.step_core.proofs.SawWords.{AreBehind-saw, AreBehind-seen, AreBehind-w
 use Rattle.step_core.proofs.SeenByViews.{IsViewOf-saw, WritesWord-saw}
 use Rattle.step_core.proofs.SeenTreesOfViews.{SeesTree-lowered}
 use Rattle.step_core.proofs.WordKinds.{AreBehind-trans}
+use Rattle.step_core.proofs.WorldCopies.{Copies-seen}
 use Rattle.step_core.proofs.WorldHands.{Hands-step}
 use Rattle.step_core.proofs.WorldLinks.{KeepsLinks, Links-kept}
 use Rattle.step_core.proofs.WorldNodes.{IsWorld-kept, KeepsMarks, grows_kept, numbers_kept}
@@ -127,8 +128,8 @@ module _ (run : SharedRun) (words : Words) (views : List View) (id : ℕ) (view 
     AreBehind-lowered = AreBehind-write (TreeOf n) (tree_word parent cost) words after writes falls
 
     -- and the law holds.
-    pub IsWorld-lowered : IsWorld run after (set views id then)
-    IsWorld-lowered =
+    pub IsWorld-lowered : 0 < share view → IsWorld run after (set views id then)
+    IsWorld-lowered part =
         let x : ℕ = tree_word parent cost in
         let of_run = live run words views id view world at own in
         let saw_it = WritesWord-saw run view of_run (TreeOf n) here (sees view (TreeOf n)) x in
@@ -150,10 +151,11 @@ module _ (run : SharedRun) (words : Words) (views : List View) (id : ℕ) (view 
         (λ k. refl) in
         let numbers = numbers_kept run words after views id view then world at own keeps in
         let grows = grows_kept run words after views id view then world at own keeps AreBehind-lowered links in
+        let now = AreBehind-saw (TreeOf n) x (sees view) (sees then) after saw_it writes.here behind in
+        let more = AreBehind-seen (TreeOf n) x (sees view) (sees then) after saw_it writes.here behind in
         IsWorld-kept run words after views id view then world at own keeps
         (IsViewOf-saw run view of_run (TreeOf n) here (sees view (TreeOf n)) x) AreBehind-lowered
-        (AreBehind-saw (TreeOf n) x (sees view) (sees then) after saw_it writes.here behind)
-        (AreBehind-seen (TreeOf n) x (sees view) (sees then) after saw_it writes.here behind) refl (world.shares.idle id view at) links
+        now more refl (world.shares.idle id view at) links
         (Trees-lowered run words after views (set views id then) world.numbers world.links numbers links world.trees AreBehind-lowered n parent cost writes
         lowers.linked lowers.fits.0 lowers.fits.1 lowers.present lowers.hangs cheaper)
         (Hands-step words after views id view then at world.hands (λ m. writes.others (PointOf m) (λ e. cc)) (is_recorded-kept words after keeps.records)
@@ -165,6 +167,7 @@ module _ (run : SharedRun) (words : Words) (views : List View) (id : ℕ) (view 
         cc)) (is_recorded-kept words after keeps.records) refl)
         (SeesTree-lowered run view of_run (tree run words views id view world at own) n parent cost here
         ((tree run words views id view world at own).rooted.points n (ap is_some may.seen.stands)) seen_falls)
+        (Copies-seen run words after views id view then at own world.copies more now (λ had. had) (TreeOf n) x writes keeps_links part saw_it.here)
       where
         whole_after : HaveWholePairs after
         whole_after m =

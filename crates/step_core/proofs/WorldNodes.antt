@@ -1,6 +1,6 @@
 -- The node of the mark in hand: its point, its first word and its tree word are written, it is linked, and it is counted. Each step keeps the
 -- law of worlds.
-use Rattle.std.proofs.Common.{◌≡◌, ◌≢◌, ℕ, suc, ◌+◌, ◌/◌, ◌%◌, ◌<◌, ◌≤◌, ◌^◌, Bool, true, false, List, length, set, Option, Some, None}
+use Rattle.std.proofs.Common.{◌≡◌, ◌≢◌, ℕ, zero, suc, ◌+◌, ◌/◌, ◌%◌, ◌<◌, ◌≤◌, ◌^◌, Bool, true, false, List, length, set, Option, Some, None}
 use Rattle.std.proofs.Common.{refl, sym, ap, ◌∙◌, subst, inl, inr, arith}
 use Rattle.std.specs.Prelude.{◌⊎◌, ◌==◌, is_some, nat_lt}
 use Rattle.std.proofs.lemmas.Option.{same_Some}
@@ -25,7 +25,7 @@ use Rattle.step_core.specs.WordKinds.{AreBehind, HaveWholePairs}
 use Rattle.step_core.specs.WordNames.{Words, WritesWord}
 use Rattle.step_core.specs.WordNames.Word.{ChildOf, Count, Counter, FirstOf, PointOf, RecordOf, TreeOf}
 use Rattle.step_core.specs.Words.{point_of_word, point_word, tree_word}
-use Rattle.step_core.specs.Worlds.{Hands, IsFirstOf, IsWorld, Links, Numbers, Pairs, Trees, counters, limit_of, state_in}
+use Rattle.step_core.specs.Worlds.{Copies, Hands, IsFirstOf, IsWorld, Links, Numbers, Pairs, Trees, counters, limit_of, state_in}
 use Rattle.step_core.specs.declared.views.Hand.{Hand}
 use Rattle.step_core.specs.declared.views.SharedRun.{SharedRun}
 use Rattle.step_core.specs.declared.views.Stage.TheVariants.{Claimed, Counted, Half, Linked, Pointed, Treed}
@@ -35,7 +35,7 @@ use Rattle.step_core.proofs.HandsAt.{holds_at-stays}
 use Rattle.step_core.proofs.HungNodes.{IsFirstOf-hang}
 use Rattle.step_core.proofs.LaterSteps.{IsLater-linked}
 use Rattle.step_core.proofs.LawfulSights.{EndsBelow-leads, IsBounded-steered, is_linked-seen}
-use Rattle.step_core.proofs.LinkedStates.{GrowsInto-behind, few_nodes}
+use Rattle.step_core.proofs.LinkedStates.{GrowsInto-behind, few_nodes, unlinked-childless}
 use Rattle.step_core.proofs.LinkedViews.{AreBehind-linked, AreBehind-shown, AreInHand, HaveWholePairs-linked, IsFair-linked, IsViewOf-linked, MayShow}
 use Rattle.step_core.proofs.LinkedViews.{MayShow-behind, sees-linked}
 use Rattle.step_core.proofs.Looks.{same_name}
@@ -44,8 +44,9 @@ use Rattle.step_core.proofs.SawWords.{AreBehind-write}
 use Rattle.step_core.proofs.SeenTreesOfViews.{SeesTree-counted, SeesTree-half, SeesTree-linked, SeesTree-pointed, SeesTree-treed}
 use Rattle.step_core.proofs.ViewLists.{greatest-set}
 use Rattle.step_core.proofs.WordKinds.{AreBehind-refl, AreBehind-trans}
+use Rattle.step_core.proofs.WorldCopies.{Copies-linked, Copies-untold}
 use Rattle.step_core.proofs.WorldHands.{Hands-pointed, Hands-step, blank-held}
-use Rattle.step_core.proofs.WorldLinks.{KeepsLinks, Links-counted, Links-kept, Links-linked, Links-pointed, unlinked-held}
+use Rattle.step_core.proofs.WorldLinks.{KeepsLinks, Links-counted, Links-kept, Links-linked, Links-pointed, is_linked-others, unlinked-held}
 use Rattle.step_core.proofs.WorldPairs.{IsFirstOf-grows, IsFirstOf-stage, Pairs-hand, first-held, tree-held}
 use Rattle.step_core.proofs.WorldParts.{IsFair, KeepsRecords, Numbers-step, Seen-step, Shares-step, Turns-step, is_recorded-kept, limit_of-up, of_run-step}
 use Rattle.step_core.proofs.WorldParts.{packed-kept, quotas-kept}
@@ -91,8 +92,8 @@ module _ (run : SharedRun) (words after : Words) (views : List View) (id : ℕ) 
   pub IsWorld-kept :
       IsViewOf run then → AreBehind words after → AreBehind (sees then) after → AreBehind (sees view) (sees then) → took_over then ≡ took_over view
       → (share then ≡ 0 → then.hand ≡ None) → (links : Links run after (set views id then)) → Trees run after → Hands after (set views id then)
-      → Pairs run after (set views id then) → SeesTree then → IsWorld run after (set views id then)
-  IsWorld-kept of_run go behind more took idle links trees hands pairs tree_then = record {
+      → Pairs run after (set views id then) → SeesTree then → Copies run after (set views id then) → IsWorld run after (set views id then)
+  IsWorld-kept of_run go behind more took idle links trees hands pairs tree_then copies = record {
     run_is = world.run_is;
     of_run = of_run-step run views id then world.of_run of_run;
     numbers = numbers_kept;
@@ -110,6 +111,7 @@ module _ (run : SharedRun) (words after : Words) (views : List View) (id : ℕ) 
         keeps.fair);
     records = Records-kept run words after views world.numbers world.links world.trees (grows_kept go links) world.records keeps.records;
     sights = Sights-set run words views id view world at own then (λ of. tree_then);
+    copies = copies;
   }
 
 -- ---- the mark in hand
@@ -130,6 +132,14 @@ module _ (run : SharedRun) (words after : Words) (views : List View) (id : ℕ) 
 
   some_share : (then : View) → then.crew ≡ view.crew → share then ≡ 0 → then.hand ≡ None
   some_share then crew none = (let no = sym held ∙ world.shares.idle id view at (sym (ap (λ l. length l) crew) ∙ none) in cc)
+
+  -- it is in the hand of a view with a share
+  has_share : 0 < share view
+  has_share = by_share (share view) refl
+    where
+      by_share : (n : ℕ) → share view ≡ n → 0 < n
+      by_share zero none = let no = sym held ∙ world.shares.idle id view at none in cc
+      by_share (suc n) some_members = omega arith
 
   low : hand.mark < length run.marks
   low = (in_hand run words views id view world at hand held).low
@@ -202,6 +212,10 @@ module _ (run : SharedRun) (words after : Words) (views : List View) (id : ℕ) 
             whole = world.seen.whole id view at;
             fair = λ n. inl refl;
           } in
+          let keeps_links : KeepsLinks (run_sizes run) words after = record {
+            children = λ n side. writes.others (ChildOf n side) (λ e. cc);
+            points = λ n linked. writes.others (PointOf n) (λ e. apart (ap has_link stage) n linked cc);
+          } in
           let links = Links-pointed run words after views id view then at world.numbers world.links hand held next refl refl (point_word p) (ap has_link stage)
           (sym (ap has_link stage)) (sym (ap has_count stage)) writes in
           let recorded = is_recorded-kept words after keeps.records in
@@ -210,10 +224,7 @@ module _ (run : SharedRun) (words after : Words) (views : List View) (id : ℕ) 
           (AreBehind-trans (sees view) words after behind_now go_pointed) (AreBehind-refl (sees view)) refl (some_share then refl) links
           (Trees-kept run words after views (set views id then) world.numbers world.links (numbers_kept run words after views id view then world at own keeps)
           links world.trees go_pointed record {
-            links = record {
-              children = λ n side. writes.others (ChildOf n side) (λ e. cc);
-              points = λ n linked. writes.others (PointOf n) (λ e. apart (ap has_link stage) n linked cc);
-            };
+            links = keeps_links;
             trees = λ n linked. trees n;
             firsts = λ n linked. firsts n;
           })
@@ -222,6 +233,9 @@ module _ (run : SharedRun) (words after : Words) (views : List View) (id : ℕ) 
           (λ n off. trees n) recorded (λ far. cc) (λ far not_yet. cc) (λ not_yet. firsts node ∙ no_first (ap has_first stage))
           (λ not_yet. trees node ∙ no_tree (ap has_tree stage)))
           (SeesTree-pointed view tree_now hand m p step (seen_apart (ap has_link stage) m step.from step.seen))
+          (Copies-untold run words after views id view then at own world.copies (AreBehind-refl (sees view))
+          (AreBehind-trans (sees view) words after behind_now go_pointed) (λ part. part) (PointOf node) (point_word p) writes keeps_links
+          (λ told. apart (ap has_link stage) node told refl))
 
   -- The first word is written.
   module _ (stage : hand.stage ≡ Pointed) (word : ℕ) (writes : WritesWord (FirstOf node) word words after) where
@@ -271,6 +285,9 @@ module _ (run : SharedRun) (words after : Words) (views : List View) (id : ℕ) 
         (Pairs-hand run words after views id view then at world.numbers world.links world.pairs grows hand held next refl refl firsts (λ n off. trees n) recorded
         (λ far. first_word grows) (λ far not_yet. cc) (λ not_yet. cc) (λ not_yet. trees node ∙ no_tree (ap has_tree stage)))
         (SeesTree-half view tree_now hand held stage parent cost)
+        (Copies-untold run words after views id view then at own world.copies (AreBehind-refl (sees view))
+        (AreBehind-trans (sees view) words after behind_now go) (λ part. part) (FirstOf node) (tree_word parent cost) writes keeps_links
+        (λ told. apart (ap has_link stage) node told refl))
       where
         first_word : GrowsInto (state_in run words) (state_in run after) → IsFirstOf run after (record hand { stage = Half; parent = parent; cost = cost })
         first_word grows =
@@ -331,6 +348,9 @@ module _ (run : SharedRun) (words after : Words) (views : List View) (id : ℕ) 
         (world.pairs.first id view at hand held (ap has_first stage))))
         (λ far not_yet. writes.here) (λ not_yet. cc) (λ not_yet. cc))
         (SeesTree-treed view tree_now hand held stage)
+        (Copies-untold run words after views id view then at own world.copies (AreBehind-refl (sees view))
+        (AreBehind-trans (sees view) words after behind_now go) (λ part. part) (TreeOf node) (pair_in_hand hand) writes keeps_links
+        (λ told. apart (ap has_link stage) node told refl))
       where
         whole_treed : HaveWholePairs after
         whole_treed n =
@@ -351,6 +371,11 @@ module _ (run : SharedRun) (words after : Words) (views : List View) (id : ℕ) 
 
     first : IsFirstOf run words hand
     first = world.pairs.first id view at hand held (ap has_first stage)
+
+    -- it has no children yet
+    childless : (right : Bool) → words (ChildOf node right) ≡ 0
+    childless right =
+        unlinked-childless run words views world.links node (not_linked (ap has_link stage)) right
 
     own_words : AreInHand hand words
     own_words = record {
@@ -395,6 +420,8 @@ module _ (run : SharedRun) (words after : Words) (views : List View) (id : ℕ) 
             whole = HaveWholePairs-linked n side hand (sees view) (sees then) shows (world.seen.whole id view at);
             fair = IsFair-linked n side hand (sees view) (sees then) shows after own_after.tree;
           } in
+          let behind =
+          AreBehind-linked run view of_run hand n side n_within low after (AreBehind-trans (sees view) words after behind_now go) writes.here own_after in
           let ends : EndsBelow (children_of_words words) (linked_points (run_sizes run) words) hand.point leads.depth n leads.at =
           subst (λ r. EndsBelow (children_of_words words) (linked_points (run_sizes r) words) hand.point leads.depth n leads.at) own
           (EndsBelow-leads view words behind_now tree_now (follow run words views id view world at own) hand.point n side leads empty) in
@@ -408,7 +435,7 @@ module _ (run : SharedRun) (words after : Words) (views : List View) (id : ℕ) 
           let recorded = is_recorded-kept words after keeps.records in
           let grows = grows_kept run words after views id view then world at own keeps go links in
           IsWorld-kept run words after views id view then world at own keeps (IsViewOf-linked run view of_run hand n side n_within low) go
-          (AreBehind-linked run view of_run hand n side n_within low after (AreBehind-trans (sees view) words after behind_now go) writes.here own_after)
+          behind
           (AreBehind-shown run view of_run hand n side n_within low may_show) refl (some_share then refl) links
           (Trees-linked run words after views (set views id then) world.numbers world.links (numbers_kept run words after views id view then world at own keeps)
           links world.trees go hand.point leads.at hand.mark n leads.depth ends low (not_linked (ap has_link stage)) written none puts bounded own_words.point
@@ -420,6 +447,10 @@ module _ (run : SharedRun) (words after : Words) (views : List View) (id : ℕ) 
           (λ m off. trees m) recorded (λ far. IsFirstOf-stage run after hand Linked (IsFirstOf-grows run words after hand grows (firsts node) first))
           (λ far not_yet. cc) (λ not_yet. cc) (λ not_yet. cc))
           (SeesTree-linked run view of_run tree_now hand held stage low bounded n side n_within leads may_show)
+          (Copies-linked run words after views id view then at own world.copies (AreBehind-shown run view of_run hand n side n_within low may_show) behind
+          (λ part. part) hand n side writes has_share shows own_after childless
+          (is_linked-others (run_sizes run) words after world.links.ways hand.point leads.at hand.mark n leads.depth ends low (not_linked (ap has_link stage))
+          written none puts))
 
   -- The node is counted.
   module _ (stage : hand.stage ≡ Linked) (writes : WritesWord Count (words Count + 1) words after) where
@@ -443,6 +474,8 @@ module _ (run : SharedRun) (words after : Words) (views : List View) (id : ℕ) 
           whole = world.seen.whole id view at;
           fair = λ n. inl refl;
         } in
+        let keeps_links : KeepsLinks (run_sizes run) words after =
+        record { children = λ n side. writes.others (ChildOf n side) (λ e. cc); points = λ n linked. writes.others (PointOf n) (λ e. cc) } in
         let links = Links-counted run words after views id view then at world.numbers world.links hand held next refl refl low (sym (ap has_link stage))
         (ap has_count stage) refl writes in
         let recorded = is_recorded-kept words after keeps.records in
@@ -451,7 +484,7 @@ module _ (run : SharedRun) (words after : Words) (views : List View) (id : ℕ) 
         (AreBehind-trans (sees view) words after behind_now AreBehind-counted) (AreBehind-refl (sees view)) refl (some_share then refl) links
         (Trees-kept run words after views (set views id then) world.numbers world.links (numbers_kept run words after views id view then world at own keeps)
         links world.trees AreBehind-counted record {
-          links = record { children = λ n side. writes.others (ChildOf n side) (λ e. cc); points = λ n linked. writes.others (PointOf n) (λ e. cc) };
+          links = keeps_links;
           trees = λ n linked. trees n;
           firsts = λ n linked. firsts n;
         })
@@ -465,3 +498,5 @@ module _ (run : SharedRun) (words after : Words) (views : List View) (id : ℕ) 
         (world.pairs.first id view at hand held (ap has_first stage))))
         (λ far not_yet. cc) (λ not_yet. cc) (λ not_yet. cc))
         (SeesTree-counted view tree_now hand held stage)
+        (Copies-untold run words after views id view then at own world.copies (AreBehind-refl (sees view))
+        (AreBehind-trans (sees view) words after behind_now AreBehind-counted) (λ part. part) Count (words Count + 1) writes keeps_links (λ told. told))

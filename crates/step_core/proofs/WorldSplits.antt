@@ -1,7 +1,7 @@
 -- A split keeps the law of worlds: no worker is lost, and the hand stays with the pass that is split.
 use Rattle.std.proofs.Common.{◌≡◌, ℕ, zero, suc, ◌+◌, ◌≤◌, Bool, true, false, List, [], ◌∷◌}
-use Rattle.std.proofs.Common.{◌++◌, length, set, None, refl, sym, ap, ◌∙◌, subst, inr, arith, le_trans}
-use Rattle.std.specs.Prelude.{◌⊎◌, ◌==◌, cond}
+use Rattle.std.proofs.Common.{◌++◌, length, set, None, refl, sym, ap, ◌∙◌, subst, inl, inr, arith, le_trans}
+use Rattle.std.specs.Prelude.{◌⊎◌, ◌==◌, ◌<◌, cond}
 use Rattle.std.proofs.lemmas.Bool.{eqb-true}
 use Rattle.std.proofs.lemmas.List.Sums.{sum_by_push}
 use mathlib.Core.Option.{some, some-ne-none}
@@ -24,6 +24,8 @@ use Rattle.step_core.specs.declared.views.View.{View}
 use Rattle.step_core.proofs.FinishedTurns.{times-cons}
 use Rattle.step_core.proofs.SeenTreesOfViews.{SeesTree-apart, SeesTree-looker, SeesTree-parted, SeesTree-stepped}
 use Rattle.step_core.proofs.ViewLists.{each-push, each-set, greatest-push, greatest-set, sum-set}
+use Rattle.step_core.proofs.WordKinds.{AreBehind-refl}
+use Rattle.step_core.proofs.WorldCopies.{Copies-push, Copies-step}
 use Rattle.step_core.proofs.WorldHands.{Hands-views, IsWrittenFor}
 use Rattle.step_core.proofs.WorldLinks.{Links-views}
 use Rattle.step_core.proofs.WorldPairs.{HasFirst, HasFirst-none, HasTree, HasTree-none, Pairs-views}
@@ -208,8 +210,20 @@ module _ (run : SharedRun) (words : Words) (views : List View) (id : ℕ) (view 
             (each-set views id left (λ u. u.run ≡ run → SeesTree u) (λ i u apart e. world.sights i u e)
             (λ of. cut.tree_left (tree run words views id view world at own)))
             (λ of. cut.tree_right (tree run words views id view world at own));
+        copies = Copies-push run words rest right
+            (Copies-step run words words views id view left at (cut.tables_left.run ∙ own) world.copies
+            (subst (AreBehind (sees view)) (sym (sees-same view left cut.tables_left)) (AreBehind-refl (sees view)))
+            (subst (λ s. AreBehind s words) (sym (sees-same view left cut.tables_left)) (world.seen.behind id view at)) stays
+            (λ name told. inl (refl, told)));
       }
     where
+      stays : 0 < share view → 0 < share left
+      stays part = by_share (share left) refl
+        where
+          by_share : (n : ℕ) → share left ≡ n → 0 < n
+          by_share zero none = absurd (omega (arith, cut.stays none, part))
+          by_share (suc n) some_members = omega arith
+
       hands_cut : (test : Stage → Bool) (k : ℕ) → hands_at test k (rest ++ right ∷ []) ≡ hands_at test k views
       hands_cut test k =
           omega (

@@ -283,6 +283,7 @@ IsWorld-started task limit workers items sized held some_worker few =
       };
       records = Records-held task limit workers words held;
       sights = only first (λ u. u.run ≡ run → SeesTree u) (λ of. sees_tree);
+      copies = λ name told. record { id = 0; view = first; at = refl; run_is = refl; part = omega (arith, all, some_worker); same = refl };
     }
   where
     unplaced : (k : ℕ) → is_recorded (run_words task items) k ≡ false → has_node (run_words task items) (suc k) ≡ false

@@ -35,6 +35,7 @@ use Rattle.step_core.proofs.SeenByViews.{IsViewOf-saw, WritesWord-saw}
 use Rattle.step_core.proofs.SeenTreesOfViews.{SeesTree-claimed, SeesTree-loaded}
 use Rattle.step_core.proofs.ViewLists.{at-set, each-set, greatest-one, greatest-set}
 use Rattle.step_core.proofs.WordKinds.{AreBehind-refl, AreBehind-trans}
+use Rattle.step_core.proofs.WorldCopies.{Copies-seen, Copies-step}
 use Rattle.step_core.proofs.WorldHands.{Hands-step}
 use Rattle.step_core.proofs.WorldLinks.{KeepsLinks, Links-kept}
 use Rattle.step_core.proofs.WorldPairs.{Pairs-same, Pairs-step}
@@ -124,6 +125,8 @@ module _ (run : SharedRun) (words : Words) (views : List View) (id : ℕ) (view 
             (IsFair-saw name x (sees view) (sees then) words writes refl behind));
         records = world.records;
         sights = Sights-set then (λ of. sees_tree);
+        copies = Copies-step run words words views id view then at own world.copies seen
+            (AreBehind-saw name x (sees view) (sees then) words writes refl behind) (λ part. part) (λ other told. inl (refl, told));
       }
 
   -- a claim: the counter goes up by one, and the mark is in this hand
@@ -220,6 +223,9 @@ module _ (run : SharedRun) (words : Words) (views : List View) (id : ℕ) (view 
               (IsFair-saw (Counter g) (c + 1) (sees view) (sees then) after writes counts.here behind));
           records = Records-kept run words after views world.numbers world.links world.trees grows world.records records;
           sights = Sights-set then (λ of. sees_tree);
+          copies = Copies-seen run words after views id view then at own world.copies seen
+              (AreBehind-saw (Counter g) (c + 1) (sees view) (sees then) after writes counts.here behind) (λ had. had) (Counter g) (c + 1) counts keeps part
+              writes.here;
         }
       where
         by_fields : IsViewOf run (saw view (Counter g) c (c + 1)) → IsViewOf run (claimed view g c limit)

@@ -2,13 +2,15 @@
 use Rattle.std.specs.Prelude.{◌≡◌, ℕ, suc, ◌+◌, ◌^◌, ◌<◌, ◌≤◌, ◌⊎◌, true, false, Some, None, length}
 use lib.ListN.{get_elem?}
 use mathlib.Core.Option.{some}
+use Rattle.plan_model.specs.OrderLaw.{KeepsOrder}
 use Rattle.plan_model.specs.PointsByNumber.{AreDistinct}
 use Rattle.plan_model.specs.SeenTrees.{FollowSeenWays}
 use Rattle.plan_model.specs.Turns.{turns_of}
 use Rattle.step_core.specs.GrownWords.{record_at}
+use Rattle.step_core.specs.SharedWords.{state_of_links}
 use Rattle.step_core.specs.Stages.{has_first, has_link}
 use Rattle.step_core.specs.ViewTrees.{IsSeenPair, SeesNode, SeesPoint, SeesTree}
-use Rattle.step_core.specs.Views.{IsSharedRun, IsViewOf, last_look, last_zero, sees, share, took_over, tree_seen}
+use Rattle.step_core.specs.Views.{IsSharedRun, IsViewOf, last_look, last_zero, run_sizes, sees, setup_in, share, took_over, tree_seen}
 use Rattle.step_core.specs.WordKinds.{AreBehind}
 use Rattle.step_core.specs.WordNames.{Word}
 use Rattle.step_core.specs.WordNames.Word.{Count, Counter, TreeOf}
@@ -26,14 +28,16 @@ pub record IsLater (before after : View) : Type 0 where
   pub zero_found : (name : Word) → (last_zero after name ≡ last_zero before name) ⊎ ((before.steps < last_zero after name) × (sees before name ≡ 0))
 
 -- What the law says of one view alone. Its greatest limit, its workers and its mark in hand are within their limits, and so are the numbers
--- that it has seen, and a worker's next turn while a mark is in hand. Without a share nothing is in hand. Its workers' turns are the numbers
--- of their records seen. It has seen at least what the pass had that it last took over. It sees its tree from node 0 on: each node is
+-- that it has seen, and a worker's next turn while a mark is in hand. Its share is at most that of all workers. Without a share nothing is in
+-- hand. Its workers' turns are the numbers of their records seen. It has seen at least what the pass had that it last took over. It sees its tree from node 0 on: each node is
 -- where its way leads, no two are at one point, no number is past the last mark's, and none is that of the node in hand before it is linked.
--- The parents and the costs that it has seen are those of a tree within the limits, and those in hand fit a word.
+-- The parents and the costs that it has seen are those of a tree within the limits, and those in hand fit a word. With the share of all
+-- workers, the tree in the words that it sees keeps the order law.
 pub record IsLawfulView (view : View) : Type 0 where
   pub run : IsSharedRun view.run
   pub of_run : IsViewOf view.run view
   pub most : view.most ≤ length view.run.marks
+  pub crew : share view ≤ view.run.workers
   pub idle : share view ≡ 0 → view.hand ≡ None
   pub mark : (hand : Hand) → view.hand ≡ Some hand → hand.mark < length view.run.marks
   pub worker : (i : ℕ) (member : Member) → get_elem? view.crew i ≡ some member → member.worker < view.run.workers
@@ -51,3 +55,4 @@ pub record IsLawfulView (view : View) : Type 0 where
   pub pairs : (n : ℕ) → 2 ^ 63 ≤ sees view (TreeOf n) → IsSeenPair view n
   pub count : sees view Count ≤ length view.run.marks + 1
   pub counter : (g : ℕ) → g < view.run.strips → sees view (Counter g) ≤ length view.run.marks
+  pub whole : share view ≡ view.run.workers → KeepsOrder (setup_in view.run) (state_of_links (run_sizes view.run) (sees view))

@@ -23,9 +23,9 @@ use Rattle.step_core.specs.ViewSteps.{pair_in_hand}
 use Rattle.step_core.specs.ViewTrees.{SeesTree}
 use Rattle.step_core.specs.Views.{IsSharedRun, IsViewOf, holds, run_sizes, sees, setup_in, share, spent, times, took_over, tree_seen}
 use Rattle.step_core.specs.WordKinds.{AreBehind, HaveWholePairs}
-use Rattle.step_core.specs.WordNames.{Words}
+use Rattle.step_core.specs.WordNames.{Word, Words}
 use Rattle.step_core.specs.Words.{FitsWord, cost_in, point_word, record_word, tree_word}
-use Rattle.step_core.specs.WordNames.Word.{Count, Counter, FirstOf, PointOf, RecordOf, TreeOf}
+use Rattle.step_core.specs.WordNames.Word.{ChildOf, Count, Counter, FirstOf, PointOf, RecordOf, TreeOf}
 use Rattle.step_core.specs.declared.views.Hand.{Hand}
 use Rattle.step_core.specs.declared.views.Member.{Member}
 use Rattle.step_core.specs.declared.views.SharedRun.{SharedRun}
@@ -182,6 +182,32 @@ pub record Seen (words : Words) (views : List View) : Type 0 where
 abbrev pub Sights : SharedRun → List View → Type 0
 Sights run views = EachView views (λ view. view.run ≡ run → SeesTree view)
 
+-- ---- copies
+
+-- The words that tell of the run: its counters, its records, and the words of its linked nodes. The count is not among them: it follows from
+-- the rest.
+abbrev pub IsTold : SharedRun → Words → Word → Type 0
+IsTold run words Count = ⊥
+IsTold run words (Counter g) = g < run.strips
+IsTold run words (PointOf n) = is_linked (run_sizes run) words n ≡ true
+IsTold run words (ChildOf n side) = is_linked (run_sizes run) words n ≡ true
+IsTold run words (TreeOf n) = is_linked (run_sizes run) words n ≡ true
+IsTold run words (FirstOf n) = is_linked (run_sizes run) words n ≡ true
+IsTold run words (RecordOf k) = k < length run.marks
+
+-- A view of the run with a share sees the word as it is.
+pub record HasCopy (run : SharedRun) (words : Words) (views : List View) (name : Word) : Type 0 where
+  pub id : ℕ
+  pub view : View
+  pub at : get_elem? views id ≡ some view
+  pub run_is : view.run ≡ run
+  pub part : 0 < share view
+  pub same : sees view name ≡ words name
+
+-- Each word that tells of the run is seen as it is by a view with a share: the one that wrote it last, or one that has taken that over.
+abbrev pub Copies : SharedRun → Words → List View → Type 0
+Copies run words views = (name : Word) → IsTold run words name → HasCopy run words views name
+
 -- ---- records
 
 -- Each record is borne out by the linked nodes. Its worker is one of the run's, if it was made in this run, or else within the limit.
@@ -208,3 +234,4 @@ pub record IsWorld (run : SharedRun) (words : Words) (views : List View) : Type 
   pub seen_pairs : SeenPairs run words views
   pub records : Records run words
   pub sights : Sights run views
+  pub copies : Copies run words views

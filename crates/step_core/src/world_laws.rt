@@ -6,16 +6,18 @@ ghost use Rattle.std.specs.Prelude.{◌≡◌, ◌≢◌, ◌↔◌, ℕ, suc, �
 ghost use lib.ListN.{get_elem?};
 ghost use mathlib.Core.Option.{some};
 ghost use Rattle.plan_model.specs.MarkPoints.{is_claimed, quota_of};
+ghost use Rattle.plan_model.specs.PointsByNumber.{node_count};
 ghost use Rattle.plan_model.specs.Sights.{IsLaterMoment, KeepsSight};
 ghost use Rattle.plan_model.specs.declared.geometry.Point.{Point};
 ghost use Rattle.plan_model.specs.declared.limits.TheConstants.{MOST_WORKERS};
 ghost use Rattle.plan_model.specs.declared.records.Record.{Record};
 ghost use Rattle.plan_model.specs.declared.tasks.Task.{Task};
-ghost use Rattle.step_core.specs.GrownWords.{HoldRun, IsLinked, cleared, is_linked, record_at, run_words, sizes_of, state_of_words};
+ghost use Rattle.step_core.specs.GrownWords.{HoldRun, IsLinked, children_of_words, cleared, is_linked, record_at, run_words, sizes_of, state_of_words};
 ghost use Rattle.step_core.specs.LastViews.{StandsAsSeen};
 ghost use Rattle.step_core.specs.LaterViews.{IsLater, IsLawfulView};
 ghost use Rattle.step_core.specs.ViewStarts.{newcomer};
 ghost use Rattle.step_core.specs.SeenRecords.{MayRecord, own_count};
+ghost use Rattle.step_core.specs.SharedWords.{linked_points};
 ghost use Rattle.step_core.specs.Stages.{MayBeRecorded};
 ghost use Rattle.step_core.specs.ViewSteps.{claimed, counted, finished, half, joined, linked, loaded, looker, lowered, mark_of, pair_in_hand, parted, pointed, stepped, treed, worker_apart};
 ghost use Rattle.step_core.specs.ViewTrees.{IsOnWayOf, IsSteered, LeadsTo, MayHang, MayLoad, MayLower, SeesNode, sight_in};
@@ -24,8 +26,8 @@ ghost use Rattle.step_core.specs.WordKinds.{AreBehind};
 ghost use Rattle.step_core.specs.WordNames.{Word, Words, WritesWord};
 ghost use Rattle.step_core.specs.WordNames.Word.{ChildOf, Count, Counter, FirstOf, PointOf, RecordOf, TreeOf};
 ghost use Rattle.step_core.specs.WordPlaces.{word_count};
-ghost use Rattle.step_core.specs.Words.{FitsWord, cost_in, point_of_word, point_word, record_word, tree_of_word, tree_word};
-ghost use Rattle.step_core.specs.Worlds.{IsWorld, counters, is_recorded};
+ghost use Rattle.step_core.specs.Words.{FitsWord, cost_in, parent_in, point_of_word, point_word, record_word, tree_of_word, tree_word};
+ghost use Rattle.step_core.specs.Worlds.{IsTold, IsWorld, counters, is_recorded};
 ghost use Rattle.step_core.specs.declared.views.Hand.{Hand};
 ghost use Rattle.step_core.specs.declared.views.Member.{Member};
 ghost use Rattle.step_core.specs.declared.views.SharedRun.{SharedRun};
@@ -185,6 +187,37 @@ pub fn marks_in_hand_are_in_one_hand()
         → get_elem? views id ≡ some view → (hand : Hand) → view.hand ≡ Some hand → hand.mark < length run.marks }
     ensures alone { (run : SharedRun) (words : Words) (views : List View) (i j : ℕ) (one other : View) → IsWorld run words views
         → get_elem? views i ≡ some one → get_elem? views j ≡ some other → (k : ℕ) → holds k one.hand ≡ true → holds k other.hand ≡ true → i ≡ j }
+{}
+
+/// If one view has the whole share, it sees each word that tells of the run as it is: the counters, the records, and the words of
+/// the linked nodes.
+pub fn whole_shares_see_all_words()
+    ensures words { (run : SharedRun) (words : Words) (views : List View) (id : ℕ) (view : View) → IsWorld run words views → get_elem? views id ≡ some view
+        → share view ≡ run.workers → (name : Word) → IsTold run words name → sees view name ≡ words name }
+    // it sees each record that there is, and no other
+    ensures records { (run : SharedRun) (words : Words) (views : List View) (id : ℕ) (view : View) → IsWorld run words views → get_elem? views id ≡ some view
+        → share view ≡ run.workers → (k : ℕ) → record_at (sees view) k ≡ record_at words k }
+{}
+
+/// If one view has the whole share, the tree that it has seen is that of the linked nodes.
+pub fn whole_shares_see_all_nodes()
+    // it sees the linked nodes, and no others
+    ensures nodes { (run : SharedRun) (words : Words) (views : List View) (id : ℕ) (view : View) → IsWorld run words views → get_elem? views id ≡ some view
+        → share view ≡ run.workers → (n : ℕ) → SeesNode view n ↔ is_linked (run_sizes run) words n ≡ true }
+    // with the points where they stand,
+    ensures points { (run : SharedRun) (words : Words) (views : List View) (id : ℕ) (view : View) → IsWorld run words views → get_elem? views id ≡ some view
+        → share view ≡ run.workers → (tree_seen view).points ≡ linked_points (run_sizes run) words }
+    // with their children,
+    ensures children { (run : SharedRun) (words : Words) (views : List View) (id : ℕ) (view : View) → IsWorld run words views → get_elem? views id ≡ some view
+        → share view ≡ run.workers → (n : ℕ) (side : Bool) → (tree_seen view).child n side ≡ children_of_words words n side }
+    // with their parents and costs,
+    ensures trees { (run : SharedRun) (words : Words) (views : List View) (id : ℕ) (view : View) → IsWorld run words views → get_elem? views id ≡ some view
+        → share view ≡ run.workers → (n : ℕ) → is_linked (run_sizes run) words n ≡ true
+        → (tree_seen view).parent_and_cost n ≡ Some (parent_in (words (TreeOf n)), cost_in (words (TreeOf n))) }
+    // if all that it has linked is counted, the count is the number of nodes that it sees
+    ensures count { (run : SharedRun) (words : Words) (views : List View) (id : ℕ) (view : View) → IsWorld run words views → get_elem? views id ≡ some view
+        → share view ≡ run.workers → ((hand : Hand) → view.hand ≡ Some hand → hand.stage ≢ Linked)
+        → words Count ≡ node_count (tree_seen view).points }
 {}
 
 /// If one view has the whole share and nothing in hand, exactly the marks below the counters are recorded.
