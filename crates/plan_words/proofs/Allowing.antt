@@ -11,7 +11,8 @@ use lib.ListN.{get_elem?}
 use Rattle.atomic_table.specs.Table.{State, Me, Act, step, stepped, Valid, carried_after, Allows, Splits, Joins}
 use Rattle.atomic_table.specs.Table.Act.{keeps}
 use Rattle.plan_words.specs.declared.openings.Aim.{Aim}
-use Rattle.plan_words.specs.Plays.{Claims, Counts, FindsCount, FindsPoint, FindsTree, Finishes, Links, Loads, Lowers, TellsHand, WritesFirst, WritesPoint, WritesTree}
+use Rattle.plan_words.specs.Plays.{Claims, Counts, FindsAsSeen, FindsCount, FindsPoint, FindsTree, FindsWholeCount, Finishes, Links, Loads, Lowers}
+use Rattle.plan_words.specs.Plays.{TellsHand, WritesFirst, WritesPoint, WritesTree}
 use Rattle.plan_words.specs.States.{GoesOn, HoldsWorld}
 use Rattle.step_core.specs.LaterViews.{IsLater}
 use Rattle.step_core.specs.SeenRecords.{MayRecord}
@@ -43,7 +44,8 @@ use Rattle.step_core.proofs.WorldLinks.{count-most}
 use Rattle.step_core.proofs.WorldLowers.{IsLater-lowered, IsWorld-lowered, lower-found, tree-written}
 use Rattle.step_core.proofs.WorldNodes.{IsLater-link, IsWorld-counted, IsWorld-half, IsWorld-linked, IsWorld-pointed, IsWorld-treed}
 use Rattle.step_core.proofs.LaterSteps.{IsLater-counted, IsLater-half, IsLater-pointed, IsLater-treed}
-use Rattle.step_core.proofs.WorldSteps.{IsWorld-claimed, IsWorld-loaded, seen_within}
+use Rattle.step_core.proofs.WorldSteps.{HasWord-load, IsWorld-claimed, IsWorld-loaded, seen_within}
+use Rattle.plan_words.proofs.WholeViews.{word_count-whole, words-whole}
 use Rattle.plan_words.proofs.WrittenPoints.{written-seen}
 
 -- the rule of a table of this run
@@ -132,6 +134,17 @@ module _ (run : SharedRun) where
         ap (slice_index s.words) (is ∙ ap (λ r. place_of (run_sizes r) Count) own) ∙ found_is s Count tt in
         omega (arith, same, own_count-most run words s.views id me.0 holds.world at own entry)
 
+    finds_as_seen : FindsAsSeen me.0 place found
+    finds_as_seen whole other apart may_too is =
+        let there = HasWord-load run words s.views id me.0 holds.world at own other may_too in
+        ap (slice_index s.words) (is ∙ ap (λ r. place_of (run_sizes r) other) own) ∙ found_is s other there
+        ∙ words-whole run words s.views id me.0 holds.world at own whole other apart may_too
+
+    finds_whole_count : FindsWholeCount me.0 place found
+    finds_whole_count whole done is =
+        ap (slice_index s.words) (is ∙ ap (λ r. place_of (run_sizes r) Count) own) ∙ found_is s Count tt
+        ∙ word_count-whole run words s.views id me.0 holds.world at own whole done
+
   pub may_load :
       (slots id place : ℕ) (me : Me Aim View) (name : Word) → HasWord (run_sizes run) name → place ≡ place_of (run_sizes run) name → me.0.run ≡ run
       → MayLoad me.0 name → Allows (Holds run) slots id me place (λ x. x) (Loads (step slots place 0 0 none) me)
@@ -147,6 +160,8 @@ module _ (run : SharedRun) where
         point = finds_point slots id place me name here at_place own s holds at may;
         tree = finds_tree slots id place me name here at_place own s holds at may;
         count = finds_count slots id place me name here at_place own s holds at may;
+        whole = finds_as_seen slots id place me name here at_place own s holds at may;
+        whole_count = finds_whole_count slots id place me name here at_place own s holds at may;
       }
 
   -- ---- claims
@@ -164,6 +179,9 @@ module _ (run : SharedRun) where
 
       is : slice_index s.words place ≡ words (Counter g)
       is = ap (slice_index s.words) at_place ∙ found_is s (Counter g) strip
+
+      may : MayLoad me.0 (Counter g)
+      may = subst (λ r. g < r.strips) (sym own) strip
 
       tells : ℕ → Me Aim View → Type 0
       tells found = Claims (step slots place c (c + 1) (some (record { strip = g; limit = limit }))) me found
@@ -183,20 +201,25 @@ module _ (run : SharedRun) where
           ap (λ b. cond b then (saw_at me.0 place (slice_index s.words place) (slice_index s.words place))) (sym e) in
           owes slots id place (c + 1) me s then (tells (slice_index s.words place)) holds world
           record {
-            view_is = view_is;
-            goes_on = subst (GoesOn me.0) view_is (goes_on words after s.views id me.0 then holds.world at own world later);
-            slots = refl;
+            told = record {
+              view_is = view_is;
+              goes_on = subst (GoesOn me.0) view_is (goes_on words after s.views id me.0 then holds.world at own world later);
+              slots = refl;
+            };
+            whole = finds_as_seen slots id place me (Counter g) strip at_place own s holds at may;
           }
       pick false e =
           let x : ℕ = slice_index s.words place in
           let then : View = saw_at me.0 place x x in
-          let may : MayLoad me.0 (Counter g) = subst (λ r. g < r.strips) (sym own) strip in
           let view_is : then ≡ cond (x == c) (claimed me.0 g c limit) then = ap (λ b. cond b (claimed me.0 g c limit) then) (sym e) in
           owes slots id place x me s then (tells x) holds (world_kept slots id place me (Counter g) strip at_place own s holds at may)
           record {
-            view_is = view_is;
-            goes_on = subst (GoesOn me.0) view_is (goes_on_loaded slots id place me (Counter g) strip at_place own s holds at may);
-            slots = refl;
+            told = record {
+              view_is = view_is;
+              goes_on = subst (GoesOn me.0) view_is (goes_on_loaded slots id place me (Counter g) strip at_place own s holds at may);
+              slots = refl;
+            };
+            whole = finds_as_seen slots id place me (Counter g) strip at_place own s holds at may;
           }
 
   -- ---- records
@@ -292,9 +315,9 @@ module _ (run : SharedRun) where
 
   pub may_lower :
       (slots id place seen word n parent cost : ℕ) (me : Me Aim View) → n ≤ length run.marks → place ≡ place_of (run_sizes run) (TreeOf n) → me.0.run ≡ run
-      → MayLower me.0 n parent cost → MayLoad me.0 (TreeOf n) → seen ≡ sees me.0 (TreeOf n) → word ≡ tree_word parent cost
+      → 0 < share me.0 → MayLower me.0 n parent cost → MayLoad me.0 (TreeOf n) → seen ≡ sees me.0 (TreeOf n) → word ≡ tree_word parent cost
       → Allows (Holds run) slots id me place (λ x. either (x == seen) word x) (Lowers (step slots place seen word none) me)
-  may_lower slots id place seen word n parent cost me within at_place own may may_load_it seen_is word_is s holds homes at fits =
+  may_lower slots id place seen word n parent cost me within at_place own part may may_load_it seen_is word_is s holds homes at fits =
       pick (slice_index s.words place == seen) refl
     where
       words : Words
@@ -320,7 +343,7 @@ module _ (run : SharedRun) where
           let writes : WritesWord (TreeOf n) (tree_word parent cost) words after =
           WritesWord-set (run_sizes run) s.words place word (tree_word parent cost) (TreeOf n) holds.sized within at_place word_is in
           let then : View = lowered me.0 n parent cost in
-          let world = IsWorld-lowered run words s.views id me.0 holds.world at own n parent cost may as_seen after writes in
+          let world = IsWorld-lowered run words s.views id me.0 holds.world at own n parent cost may as_seen after writes part in
           let later = IsLater-lowered run words s.views id me.0 holds.world at own n parent cost may as_seen in
           let view_is : then ≡ leaves x =
           ap (λ i. saw_at me.0 i (sees me.0 (TreeOf n)) (tree_word parent cost)) (sym own_place)
@@ -334,6 +357,7 @@ module _ (run : SharedRun) where
               slots = refl;
             };
             fell = λ other. absurd (other same);
+            whole = λ all. same;
           }
       pick false e =
           let x : ℕ = slice_index s.words place in
@@ -353,6 +377,7 @@ module _ (run : SharedRun) where
               written = omega (arith, is, less.0);
               less = omega (arith, ap cost_in is, ap cost_in seen_is, less.1);
             };
+            whole = λ all. is ∙ words-whole run words s.views id me.0 holds.world at own all (TreeOf n) (λ e. cc) may_load_it ∙ sym seen_is;
           }
         where
           seen_written : MayLower me.0 n parent cost → 2 ^ 63 ≤ sees me.0 (TreeOf n)
@@ -392,15 +417,21 @@ module _ (run : SharedRun) where
           let view_is : then ≡ leaves x hand =
           ap (λ i. linked_at me.0 hand i) (sym own_place) ∙ ap (λ b. cond b (linked_at me.0 hand place) (saw_at me.0 place x x)) (sym e) in
           owes slots id place (hand.mark + 1) me s then (Links (step slots place 0 (hand.mark + 1) none) me x) holds world
-          (of_hand me then (leaves x) hand held view_is (goes_on words after s.views id me.0 then holds.world at own world later))
+          record {
+            told = of_hand me then (leaves x) hand held view_is (goes_on words after s.views id me.0 then holds.world at own world later);
+            whole = finds_as_seen slots id place me (ChildOf n side) within at_place own s holds at may;
+          }
       pick false e =
           let x : ℕ = slice_index s.words place in
           let then : View = saw_at me.0 place x x in
           owes slots id place x me s then (Links (step slots place 0 (hand.mark + 1) none) me x) holds
           (world_kept slots id place me (ChildOf n side) within at_place own s holds at may)
-          (of_hand me then (leaves x) hand held
-          (ap (λ b. cond b (linked_at me.0 hand place) (saw_at me.0 place x x)) (sym e))
-          (goes_on_loaded slots id place me (ChildOf n side) within at_place own s holds at may))
+          record {
+            told = of_hand me then (leaves x) hand held
+                (ap (λ b. cond b (linked_at me.0 hand place) (saw_at me.0 place x x)) (sym e))
+                (goes_on_loaded slots id place me (ChildOf n side) within at_place own s holds at may);
+            whole = finds_as_seen slots id place me (ChildOf n side) within at_place own s holds at may;
+          }
 
   pub may_count :
       (slots id place : ℕ) (me : Me Aim View) (hand : Hand) → place ≡ place_of (run_sizes run) Count → me.0.run ≡ run → me.0.hand ≡ Some hand

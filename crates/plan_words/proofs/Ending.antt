@@ -6,6 +6,7 @@ use mathlib.Core.Option.{some, some-injective, some-ne-none}
 use lib.ListN.{get_elem?}
 use Rattle.atomic_table.specs.Table.{Final, Seen, State}
 use Rattle.plan_model.specs.MarkPoints.{quota_of}
+use Rattle.plan_model.specs.TreeStates.{AreSameRuns}
 use Rattle.plan_model.specs.declared.records.Record.{Record}
 use Rattle.plan_model.specs.declared.tasks.Task.{Task}
 use Rattle.plan_words.specs.Claims.{HasNoneLeft}
@@ -15,15 +16,18 @@ use Rattle.plan_words.specs.States.{HoldsWorld, run_of_opening}
 use Rattle.step_core.specs.GrownWords.{HoldRun, cleared, record_at, run_words, sizes_of, state_of_words}
 use Rattle.step_core.specs.GrownRuns.{state_of_grown, words_of_grown}
 use Rattle.step_core.specs.LastViews.{StandsAsSeen}
-use Rattle.step_core.specs.Views.{run_of, sees, share, words_of_run}
+use Rattle.step_core.specs.SharedWords.{state_of_links}
+use Rattle.step_core.specs.Views.{run_of, run_sizes, sees, share, words_of_run}
 use Rattle.step_core.specs.WordNames.{Words}
 use Rattle.step_core.specs.WordNames.Word.{Counter, FirstOf, RecordOf}
 use Rattle.step_core.specs.WordPlaces.{Sizes, word_at}
 use Rattle.step_core.specs.Words.{record_of_word}
-use Rattle.step_core.specs.Worlds.{IsWorld}
+use Rattle.step_core.specs.Worlds.{IsWorld, state_in}
 use Rattle.step_core.specs.declared.grown.Grown.{Grown}
 use Rattle.step_core.specs.declared.views.View.{View}
-use Rattle.step_core.proofs.ClosedWorlds.{HoldRun-whole, StandsAsSeen-whole, own_workers-whole}
+use Rattle.step_core.proofs.ClosedWorlds.{AreSameRuns-cleared, HoldRun-whole, StandsAsSeen-whole, own_workers-whole}
+use Rattle.plan_model.proofs.SameTrees.{AreSameRuns-trans}
+use Rattle.plan_words.proofs.WholeTrees.{AreSameRuns-whole}
 
 -- an element that is there is read
 pub read-there : (items : List ℕ) (i x d : ℕ) → get_elem? items i ≡ some x → get_or items i d ≡ x
@@ -62,6 +66,14 @@ module _ (task : Task) (workers opening : ℕ) (key : Opening) (view : View) (id
   pub own_workers-ended : (k : ℕ) (entry : Record) → opening ≤ k → record_at (cleared words) k ≡ Some entry → entry.worker < workers
   own_workers-ended = own_workers-whole task workers opening words final.0.views id view world final.1.1 whole idle left.limit left.most full
 
+  -- what they are of is the run that the pass has seen
+  pub AreSameRuns-ended : AreSameRuns (state_of_links (run_sizes view.run) (sees view)) (state_of_words (sizes_of task) (cleared words))
+  AreSameRuns-ended =
+      AreSameRuns-trans (state_of_links (run_sizes view.run) (sees view)) (state_in (run_of task workers opening) words)
+      (state_of_words (sizes_of task) (cleared words))
+      (AreSameRuns-whole (run_of task workers opening) words final.0.views id view world final.1.1 own whole)
+      (AreSameRuns-cleared task workers opening words final.0.views id view world final.1.1 whole idle left.limit left.most full)
+
 -- its limit is the least mark without a record
 pub limit-ended :
     (task : Task) (last limit : ℕ) (words : Words) → HoldRun task last (cleared words) → ((k : ℕ) → k < limit → words (RecordOf k) ≢ 0)
@@ -99,3 +111,14 @@ stands_in_run task view items shown grown same of_task words stands =
     subst (λ v. StandsAsSeen v (state_of_grown grown)) same
     (subst (λ t. StandsAsSeen view (state_of_words (sizes_of t) (words_of_grown grown))) (sym of_task)
     (subst (λ w. StandsAsSeen view (state_of_words (sizes_of task) w)) (sym words) stands))
+
+-- and what the words are of is that run
+pub same_in_run :
+    (task : Task) (view : View) (items : List ℕ) (shown : View) (grown : Grown) → view ≡ shown → grown.task ≡ task
+    → words_of_grown grown ≡ cleared (run_words task items)
+    → AreSameRuns (state_of_links (run_sizes view.run) (sees view)) (state_of_words (sizes_of task) (cleared (run_words task items)))
+    → AreSameRuns (state_of_links (run_sizes shown.run) (sees shown)) (state_of_grown grown)
+same_in_run task view items shown grown same of_task words same_run =
+    subst (λ v. AreSameRuns (state_of_links (run_sizes v.run) (sees v)) (state_of_grown grown)) same
+    (subst (λ t. AreSameRuns (state_of_links (run_sizes view.run) (sees view)) (state_of_words (sizes_of t) (words_of_grown grown))) (sym of_task)
+    (subst (λ w. AreSameRuns (state_of_links (run_sizes view.run) (sees view)) (state_of_words (sizes_of task) w)) (sym words) same_run))

@@ -1,4 +1,5 @@
 pub mod WrittenPoints
+pub mod WholeViews
 pub mod GoingOn
 pub mod Allowing
 pub mod Owning
@@ -11,9 +12,11 @@ pub mod Joining
 pub mod LoweredNodes
 pub mod Scanning
 pub mod Claiming
+pub mod WholeClaims
 pub mod CountedTurns
 pub mod Dealing
 pub mod NearestParents
+pub mod WholeTrees
 pub mod Ending
 pub mod MovedChildren
 pub mod MarkedNodes

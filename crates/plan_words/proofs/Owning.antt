@@ -1,5 +1,5 @@
 -- What a call of a shared tree owes to its table, and what a load tells, by what the tree and the pass keep.
-use Rattle.std.proofs.Common.{◌≡◌, ℕ, suc, ◌+◌, ◌%◌, ◌<◌, ◌≤◌, ◌^◌, Bool, true, false, List, [], ◌∷◌, length, Some, None, refl, sym, ap, ◌∙◌, subst, arith}
+use Rattle.std.proofs.Common.{◌≡◌, ◌≢◌, ℕ, suc, ◌+◌, ◌%◌, ◌<◌, ◌≤◌, ◌^◌, Bool, true, false, List, [], ◌∷◌, length, Some, None, refl, sym, ap, ◌∙◌, subst, arith}
 use Rattle.std.specs.Prelude.{◌==◌, cond}
 use mathlib.Core.Option.{none, some}
 use prog.Atomic.{either}
@@ -8,8 +8,8 @@ use Rattle.atomic_table.specs.Table.{Allows, Joins, Me, Splits, State, step}
 use Rattle.plan_words.specs.declared.openings.Aim.{Aim}
 use Rattle.plan_words.specs.declared.openings.Opening.{Opening}
 use Rattle.plan_model.specs.declared.geometry.Point.{Point}
-use Rattle.plan_words.specs.Plays.{Claims, Counts, Finishes, Links, Loads, Lowers, Tells, WritesFirst, WritesPoint, WritesTree}
-use Rattle.plan_words.specs.States.{BelongsTo, GoesOn, HoldsWorld, IsTableOf, PassState, SharedState, run_in, run_of_opening, with_view}
+use Rattle.plan_words.specs.Plays.{Claims, Counts, FindsAsSeen, Finishes, Links, Loads, Lowers, Tells, WritesFirst, WritesPoint, WritesTree}
+use Rattle.plan_words.specs.States.{BelongsTo, GoesOn, HasWholeShare, HoldsWorld, IsTableOf, PassState, SharedState, run_in, run_of_opening, with_view}
 use Rattle.step_core.specs.LaterViews.{IsLawfulView}
 use Rattle.step_core.specs.SeenRecords.{MayRecord}
 use Rattle.step_core.specs.Stages.{MayBeRecorded}
@@ -120,15 +120,15 @@ module _ (table : TableId) (key : Opening) (run : SharedRun) (places : WordPlace
 
   pub may_lower_here :
       (seat : TableId) (id place seen word n parent cost : ℕ) (me : Me Aim View) → seat ≡ table → me.0.run ≡ run → n ≤ length run.marks
-      → place ≡ place_of (run_sizes run) (TreeOf n) → MayLower me.0 n parent cost → MayLoad me.0 (TreeOf n) → seen ≡ sees me.0 (TreeOf n)
+      → place ≡ place_of (run_sizes run) (TreeOf n) → 0 < share me.0 → MayLower me.0 n parent cost → MayLoad me.0 (TreeOf n) → seen ≡ sees me.0 (TreeOf n)
       → word ≡ tree_word parent cost
       → (seat ≡ table) × (place < table.words) × Allows (Kept key) table.slots id me place (λ x. either (x == seen) word x)
       (Lowers (step table.slots place seen word none) me)
-  may_lower_here seat id place seen word n parent cost me same own low at_place may may_load_it seen_is word_is = (
+  may_lower_here seat id place seen word n parent cost me same own low at_place part may may_load_it seen_is word_is = (
     same,
     within (TreeOf n) place low at_place,
     subst (λ r. Allows (Holds r) table.slots id me place (λ x. either (x == seen) word x) (Lowers (step table.slots place seen word none) me)) (sym fits.key_is)
-        (may_lower run table.slots id place seen word n parent cost me low at_place own may may_load_it seen_is word_is),
+        (may_lower run table.slots id place seen word n parent cost me low at_place own part may may_load_it seen_is word_is),
   )
 
   pub may_link_here :
@@ -205,6 +205,13 @@ looks_told outer inner then name place x same lawful here at_place is =
     (subst (λ v. WritesWord name (inner.steps + 1) (last_look inner) (last_look v)) (sym is)
     (subst (λ n. WritesWord name (inner.steps + 1) (last_look inner) (last_look (saw_at inner n x x))) (sym at_place)
     (WritesWord-looked inner.run inner lawful.of_run name here x x)))
+
+-- with the whole share it is found as that pass has seen it
+pub found_whole :
+    (outer inner : View) (name : Word) (place x : ℕ) → inner ≡ outer → FindsAsSeen inner place x → name ≢ Count → MayLoad inner name
+    → place ≡ place_in inner name → HasWholeShare outer → x ≡ sees outer name
+found_whole outer inner name place x same finds apart may at_place whole =
+    finds (subst HasWholeShare (sym same) whole) name apart may at_place ∙ ap (λ v. sees v name) same
 
 -- what an exchange leaves of the counter
 pub sees_exchanged :

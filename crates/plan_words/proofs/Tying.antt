@@ -1,6 +1,6 @@
 -- What a pass keeps beside its view, after steps that the law tells nothing of, and the word that it stores for its turn.
 use Rattle.std.proofs.Common.{◌≡◌, ℕ, ◌+◌, ◌*◌, ◌<◌, ◌≤◌, List}
-use Rattle.std.proofs.Common.{[], ◌∷◌, length, Option, Some, None, refl, sym, ap, ◌∙◌, subst, arith}
+use Rattle.std.proofs.Common.{[], ◌∷◌, length, Option, Some, None, refl, sym, ap, ◌∙◌, subst, arith, le_trans}
 use Rattle.std.specs.Prelude.{IfSome, IsSome, is_some}
 use mathlib.Core.Option.{some, some-ne-none}
 use lib.ListN.{get_elem?}
@@ -132,6 +132,7 @@ IsLawfulView-stepped view lawful = record {
   run = lawful.run;
   of_run = IsViewOf-later view (stepped view) lawful.of_run (omega arith) refl refl refl refl;
   most = lawful.most;
+  crew = lawful.crew;
   idle = lawful.idle;
   mark = lawful.mark;
   worker = lawful.worker;
@@ -148,6 +149,7 @@ IsLawfulView-stepped view lawful = record {
   pairs = λ n written. IsSeenPair-again view (stepped view) n refl (lawful.pairs n written);
   count = lawful.count;
   counter = lawful.counter;
+  whole = lawful.whole;
 }
 
 -- a split leaves the pass as it is, one step later
@@ -166,6 +168,7 @@ IsLawfulView-looker view lawful = record {
   run = lawful.run;
   of_run = IsViewOf-later view (looker view) lawful.of_run (omega arith) refl refl refl refl;
   most = lawful.most;
+  crew = omega arith;
   idle = λ none. refl;
   mark = λ hand held. cc;
   worker = λ i member e. absurd (some-ne-none member (sym e));
@@ -182,6 +185,7 @@ IsLawfulView-looker view lawful = record {
   pairs = λ n written. IsSeenPair-again view (looker view) n refl (lawful.pairs n written);
   count = lawful.count;
   counter = lawful.counter;
+  whole = λ all. absurd (omega (arith, all, lawful.run.workers.0));
 }
 
 pub IsTied-looker : (view : View) → IsLawfulView view → IsTied (looker view) None None
@@ -213,6 +217,11 @@ none_left [] e = refl
 none_left (member ∷ []) e = e
 none_left (member ∷ second ∷ crew) e = absurd (omega (arith, e))
 
+fewer_left : (crew : List Member) → length (without_second crew) ≤ length crew
+fewer_left [] = omega arith
+fewer_left (member ∷ []) = omega arith
+fewer_left (member ∷ second ∷ crew) = omega arith
+
 pub IsTied-parted : (view : View) (member : Option Member) (hand : Option Hand) → IsTied view member hand → IsTied (parted view) member hand
 IsTied-parted view member hand tied =
     let lawful = tied.lawful in
@@ -223,6 +232,7 @@ IsTied-parted view member hand tied =
         run = lawful.run;
         of_run = IsViewOf-later view (parted view) lawful.of_run (omega arith) refl refl refl refl;
         most = lawful.most;
+        crew = le_trans (fewer_left view.crew) lawful.crew;
         idle = λ none. lawful.idle (none_left view.crew none);
         mark = lawful.mark;
         worker = λ i mate e. let from = stays_at view.crew i mate e in lawful.worker from.0 mate from.1;
@@ -239,8 +249,15 @@ IsTied-parted view member hand tied =
         pairs = λ n written. IsSeenPair-again view (parted view) n refl (lawful.pairs n written);
         count = lawful.count;
         counter = lawful.counter;
+        whole = λ all. lawful.whole (omega (arith, all, fewer_left view.crew, lawful.crew));
       };
     }
+
+-- a second is one of two at least
+two_at_least : (crew : List Member) (member : Member) → second_alone crew ≡ member ∷ [] → 2 ≤ length crew
+two_at_least [] member e = cc
+two_at_least (mate ∷ []) member e = cc
+two_at_least (mate ∷ second ∷ crew) member e = omega arith
 
 pub IsTied-apart : (view : View) (member : Member) → IsLawfulView view → second_alone view.crew ≡ member ∷ [] → IsTied (worker_apart view) (Some member) None
 IsTied-apart view member lawful second = record {
@@ -250,6 +267,7 @@ IsTied-apart view member lawful second = record {
     run = lawful.run;
     of_run = IsViewOf-later view (worker_apart view) lawful.of_run (omega arith) refl refl refl refl;
     most = lawful.most;
+    crew = omega (arith, ap (λ l. length l) second, lawful.run.workers.0);
     idle = λ none. refl;
     mark = λ hand held. cc;
     worker = λ i mate e. let from = goes_at view.crew i mate e in lawful.worker from.0 mate from.1;
@@ -266,5 +284,6 @@ IsTied-apart view member lawful second = record {
     pairs = λ n written. IsSeenPair-again view (worker_apart view) n refl (lawful.pairs n written);
     count = lawful.count;
     counter = lawful.counter;
+    whole = λ all. absurd (omega (arith, all, ap (λ l. length l) second, two_at_least view.crew member second, lawful.crew));
   };
 }

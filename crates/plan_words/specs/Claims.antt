@@ -1,12 +1,14 @@
 -- Which mark a claim takes, by the counters that the pass has seen.
 use Rattle.std.specs.Prelude.{◌≡◌, ◌≢◌, ℕ, ◌+◌, ◌*◌, ◌%◌, ◌<◌, ◌≤◌, ◌⊎◌, ◌==◌, nat_lt, max, Bool, true, false, Option, Some, None, if◌then◌else◌}
-use Rattle.plan_model.specs.MarkPoints.{quota_of, strip_of_mark}
+use Rattle.plan_model.specs.MarkPoints.{is_claimed, quota_of, strip_of_mark}
 use Rattle.plan_words.specs.States.{worker_of}
 use Rattle.plan_words.specs.declared.claims.Choice.{Choice}
 use Rattle.plan_words.specs.declared.claims.Next.{Next}
 use Rattle.step_core.specs.ViewSteps.{mark_of, new_hand}
 use Rattle.step_core.specs.Views.{last_look, sees}
+use Rattle.step_core.specs.WordNames.{Word, WritesWord}
 use Rattle.step_core.specs.WordNames.Word.{Counter}
+use Rattle.step_core.specs.Worlds.{counters}
 use Rattle.step_core.specs.declared.views.SharedRun.{SharedRun}
 use Rattle.step_core.specs.declared.views.View.{View}
 
@@ -65,6 +67,22 @@ pub record IsClaimed (before after : View) (limit k : ℕ) : Type 0 where
   pub first : IsFirst after (worker_of before.crew) limit (strip_of_mark after.run.strips k) k
   pub next : next_mark after (strip_of_mark after.run.strips k) ≡ k + after.run.strips
   pub rose : sees before (Counter (strip_of_mark after.run.strips k)) < sees after (Counter (strip_of_mark after.run.strips k))
+
+-- ---- a claim of a pass with the share of all workers
+
+-- every word is seen as it was
+abbrev pub SeesAsBefore : View → View → Type 0
+SeesAsBefore before after = (name : Word) → sees after name ≡ sees before name
+
+-- the counter of mark k's strip is seen at 1 more than it was, and every other word as it was
+abbrev pub RaisesCounter : View → View → ℕ → Type 0
+RaisesCounter before after k =
+    let name : Word = Counter (strip_of_mark before.run.strips k) in WritesWord name (sees before name + 1) (sees before) (sees after)
+
+-- mark k is the least that is not claimed, by the counters seen
+pub record IsLeastOpen (view : View) (k : ℕ) : Type 0 where
+  pub before : (j : ℕ) → j < k → is_claimed view.run.strips (counters (sees view)) j ≡ true
+  pub here : is_claimed view.run.strips (counters (sees view)) k ≡ false
 
 -- ---- how a claim finds it
 

@@ -2,17 +2,21 @@
 use Rattle.std.specs.Prelude.{◌≡◌, ◌≢◌, ℕ, ◌≤◌, ◌==◌, ◌^◌, Some, if◌then◌else◌}
 use mathlib.Core.Option.{Option, some, none}
 use Rattle.atomic_table.specs.Table.{Me, Step}
+use Rattle.plan_model.specs.PointsByNumber.{node_count}
 use Rattle.plan_model.specs.declared.geometry.Point.{Point}
 use Rattle.plan_model.specs.declared.records.Record.{Record}
 use Rattle.plan_words.specs.declared.openings.Aim.{Aim}
 use Rattle.plan_words.specs.Parents.{FindsLess}
-use Rattle.plan_words.specs.States.{GoesOn}
+use Rattle.plan_words.specs.States.{GoesOn, HasWholeShare}
 use Rattle.step_core.specs.SeenRecords.{own_count}
 use Rattle.step_core.specs.ViewSteps.{claimed, counted, finished_at, half, linked_at, place_in, pointed, saw_at, treed}
-use Rattle.step_core.specs.ViewTrees.{SeesNode}
+use Rattle.step_core.specs.ViewTrees.{MayLoad, SeesNode}
+use Rattle.step_core.specs.Views.{sees, tree_seen}
+use Rattle.step_core.specs.WordNames.{Word}
 use Rattle.step_core.specs.WordNames.Word.{Count, PointOf, TreeOf}
 use Rattle.step_core.specs.Words.{cost_in, parent_in}
 use Rattle.step_core.specs.declared.views.Hand.{Hand}
+use Rattle.step_core.specs.declared.views.Stage.TheVariants.{Linked}
 use Rattle.step_core.specs.declared.views.View.{View}
 
 -- what any step tells: the view then, to which the steps go on; no slot is taken
@@ -39,12 +43,24 @@ FindsTree view place found = (n : ℕ) → SeesNode view n → place ≡ place_i
 abbrev pub FindsCount : View → ℕ → ℕ → Type 0
 FindsCount view place found = place ≡ place_in view Count → (entry : Record) → own_count view entry ≤ found
 
+-- a pass with the whole share finds nothing new in a word, unless that is the count
+abbrev pub FindsAsSeen : View → ℕ → ℕ → Type 0
+FindsAsSeen view place found = HasWholeShare view → (name : Word) → name ≢ Count → MayLoad view name → place ≡ place_in view name → found ≡ sees view name
+
+-- and the count is that of the nodes that it sees, if it has counted what it has linked
+abbrev pub FindsWholeCount : View → ℕ → ℕ → Type 0
+FindsWholeCount view place found =
+    HasWholeShare view → ((hand : Hand) → view.hand ≡ Some hand → hand.stage ≢ Linked) → place ≡ place_in view Count
+    → found ≡ node_count (tree_seen view).points
+
 -- the view sees the word as it was found
 pub record Loads (step : Step Aim) (before : Me Aim View) (found : ℕ) (after : Me Aim View) : Type 0 where
   pub told : Tells before (saw_at before.0 step.word found found) after
   pub point : FindsPoint before.0 step.word found
   pub tree : FindsTree before.0 step.word found
   pub count : FindsCount before.0 step.word found
+  pub whole : FindsAsSeen before.0 step.word found
+  pub whole_count : FindsWholeCount before.0 step.word found
 
 -- ---- claims and records
 
@@ -54,11 +70,11 @@ aim_of (some aim) = aim
 aim_of none = record { strip = 0; limit = 0 }
 
 -- the mark is in hand, or a higher counter was found
-abbrev pub Claims : Step Aim → Me Aim View → ℕ → Me Aim View → Type 0
-Claims step before found after =
-    Tells before
-    (if found == step.first then claimed before.0 (aim_of step.said).strip step.first (aim_of step.said).limit else saw_at before.0 step.word found found)
-    after
+pub record Claims (step : Step Aim) (before : Me Aim View) (found : ℕ) (after : Me Aim View) : Type 0 where
+  pub told : Tells before
+      (if found == step.first then claimed before.0 (aim_of step.said).strip step.first (aim_of step.said).limit else saw_at before.0 step.word found found)
+      after
+  pub whole : FindsAsSeen before.0 step.word found
 
 -- the record is stored, and the hand is empty
 abbrev pub Finishes : Step Aim → Me Aim View → ℕ → Me Aim View → Type 0
@@ -82,11 +98,12 @@ WritesTree step before found after = TellsHand before (λ hand. treed before.0 h
 pub record Lowers (step : Step Aim) (before : Me Aim View) (found : ℕ) (after : Me Aim View) : Type 0 where
   pub told : Tells before (saw_at before.0 step.word found (if found == step.first then step.second else found)) after
   pub fell : found ≢ step.first → FindsLess step.first found
+  pub whole : HasWholeShare before.0 → found ≡ step.first
 
 -- the node in hand is linked, or a child was found there
-abbrev pub Links : Step Aim → Me Aim View → ℕ → Me Aim View → Type 0
-Links step before found after =
-    TellsHand before (λ hand. if found == 0 then linked_at before.0 hand step.word else saw_at before.0 step.word found found) after
+pub record Links (step : Step Aim) (before : Me Aim View) (found : ℕ) (after : Me Aim View) : Type 0 where
+  pub told : TellsHand before (λ hand. if found == 0 then linked_at before.0 hand step.word else saw_at before.0 step.word found found) after
+  pub whole : FindsAsSeen before.0 step.word found
 
 -- the node in hand is counted
 abbrev pub Counts : Step Aim → Me Aim View → ℕ → Me Aim View → Type 0

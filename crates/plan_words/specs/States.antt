@@ -55,6 +55,10 @@ pub record MayClaim (shared : SharedState) (pass : PassState) : Type 0 where
   pub part : 0 < share pass.view
   pub idle : pass.view.hand ≡ None
 
+-- a pass with the share of all workers: it has seen every word that tells of the run as it is
+abbrev pub HasWholeShare : View → Type 0
+HasWholeShare view = share view ≡ view.run.workers
+
 -- the pass, whose view is another now
 abbrev pub with_view : PassState → View → PassState
 with_view pass view = record pass { view = view }

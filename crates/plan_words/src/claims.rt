@@ -1,8 +1,8 @@
 //! Claims: the next mark of a strip is put into the hand of one pass.
 
 ghost use Rattle.std.specs.Prelude.{◌≡◌, ℕ, ◌+◌, ◌<◌, ◌≤◌, ◌==◌, if◌then◌else◌, length, None, IfNone, IfSome, MatchOption};
-ghost use Rattle.plan_words.specs.Claims.{AllFull, AllLoaded, IsClaimed, IsOpen, KeepsHand, better_of, goes_first};
-ghost use Rattle.plan_words.specs.States.{BelongsTo, GoesOn, run_in, with_view, worker_of};
+ghost use Rattle.plan_words.specs.Claims.{AllFull, AllLoaded, IsClaimed, IsLeastOpen, IsOpen, KeepsHand, RaisesCounter, SeesAsBefore, better_of, goes_first};
+ghost use Rattle.plan_words.specs.States.{BelongsTo, GoesOn, HasWholeShare, run_in, with_view, worker_of};
 ghost use Rattle.step_core.specs.ViewSteps.{claimed, loaded, mark_of};
 ghost use Rattle.step_core.specs.Views.{sees, share};
 ghost use Rattle.step_core.specs.WordNames.{ChangesOnly, IsCounter, WritesWord};
@@ -49,6 +49,10 @@ impl Shared {
         ensures loaded { AllLoaded pass.new.view pass.old.view.steps }
         ensures none { IfNone result (KeepsHand pass.old.view pass.new.view × AllFull pass.new.view limit) }
         ensures some { IfSome result (λ k. IsClaimed pass.old.view pass.new.view limit k) }
+        // a pass with the whole share finds nothing new, and counts its mark; as the only worker it takes the least that is left
+        ensures whole_none { HasWholeShare pass.old.view → IfNone result (SeesAsBefore pass.old.view pass.new.view) }
+        ensures whole_some { HasWholeShare pass.old.view → IfSome result (λ k. RaisesCounter pass.old.view pass.new.view k) }
+        ensures least { HasWholeShare pass.old.view → self.now.workers ≡ 1 → IfSome result (λ k. IsLeastOpen pass.old.view k) }
     {
         'tries: loop {
             let next = self.first_open(pass, limit)?;
@@ -69,6 +73,7 @@ impl Shared {
         ensures loaded { AllLoaded pass.new.view pass.old.view.steps }
         ensures first { MatchOption result (AllFull pass.new.view limit)
             (λ next. IsOpen pass.new.view (worker_of pass.old.view.crew) limit next.strip next.round) }
+        ensures whole { HasWholeShare pass.old.view → SeesAsBefore pass.old.view pass.new.view }
     {
         let choice = Choice {
             strips: self.task.scene.strips,
@@ -96,6 +101,7 @@ impl Shared {
             (if result == next.round then claimed pass.old.view next.strip next.round limit else loaded pass.old.view (Counter next.strip) result) }
         ensures goes_on { GoesOn pass.old.view pass.new.view }
         ensures seen { WritesWord (Counter next.strip) (if result == next.round then next.round + 1 else result) (sees pass.old.view) (sees pass.new.view) }
+        ensures whole { HasWholeShare pass.old.view → result ≡ sees pass.old.view (Counter next.strip) }
     {
         let round = u64::from(next.round);
         let aim = Aim {

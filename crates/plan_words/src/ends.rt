@@ -2,13 +2,15 @@
 
 ghost use Rattle.std.specs.Prelude.{◌≡◌, ◌≢◌, ℕ, ◌<◌, ◌≤◌, None, Some, length};
 ghost use Rattle.std.specs.Mem.Slots.{IsFull, slots_items, slots_len};
+ghost use Rattle.plan_model.specs.TreeStates.{AreSameRuns};
 ghost use Rattle.plan_model.specs.declared.records.Record.{Record};
 ghost use Rattle.plan_words.specs.Claims.{HasNoneLeft};
 ghost use Rattle.plan_words.specs.States.{BelongsTo};
 ghost use Rattle.step_core.specs.GrownRuns.{state_of_grown};
 ghost use Rattle.step_core.specs.LastViews.{StandsAsSeen};
 ghost use Rattle.step_core.specs.PlacesOfWords.{sizes_in, words_in};
-ghost use Rattle.step_core.specs.Views.{share};
+ghost use Rattle.step_core.specs.SharedWords.{state_of_links};
+ghost use Rattle.step_core.specs.Views.{run_sizes, sees, share};
 ghost use Rattle.step_core.specs.WordNames.Word.{RecordOf};
 ghost use Rattle.step_core.specs.WordPlaces.{word_count};
 
@@ -32,6 +34,8 @@ impl Shared {
         ensures task { result.task ≡ self.task }
         ensures limit { result.limit ≡ pass.view.most }
         ensures seen { StandsAsSeen pass.view (state_of_grown result) }
+        // nor is there more in it: its tree and its records are those that the pass has seen
+        ensures same { AreSameRuns (state_of_links (run_sizes pass.view.run) (sees pass.view)) (state_of_grown result) }
         // records that the opening run did not have are by workers of this one
         ensures workers { (k : ℕ) (entry : Record) → self.opening ≤ k → (state_of_grown result).record_of k ≡ Some entry → entry.worker < self.workers }
     {

@@ -1,10 +1,11 @@
 //! The steps on nodes: a pass looks at the children and the points of nodes that it has seen, writes the point of the node in
 //! its hand, links that into the kd-tree, and counts it.
 
-ghost use Rattle.std.specs.Prelude.{◌≡◌, ◌≢◌, ℕ, suc, ◌+◌, ◌<◌, ◌≤◌, ◌^◌, ◌==◌, if◌then◌else◌, IfErr, IfOk, IfSome, IsSome, MatchOption, Some, length, unwrap_or};
+ghost use Rattle.std.specs.Prelude.{◌≡◌, ◌≢◌, ℕ, suc, ◌+◌, ◌<◌, ◌≤◌, ◌^◌, ◌==◌, if◌then◌else◌, length, unwrap_or};
+ghost use Rattle.std.specs.Prelude.{IfErr, IfOk, IfSome, IsOk, IsSome, MatchOption, Some};
 ghost use Rattle.plan_model.specs.Bounds.{IsBounded};
 ghost use Rattle.plan_words.specs.Nodes.{IsChildOrPoint, IsLinkedAt, IsNodeWord, LeadsOn};
-ghost use Rattle.plan_words.specs.States.{BelongsTo, GoesOn, with_view};
+ghost use Rattle.plan_words.specs.States.{BelongsTo, GoesOn, HasWholeShare, with_view};
 ghost use Rattle.step_core.specs.GrownWords.{child_of_word};
 ghost use Rattle.step_core.specs.ViewSteps.{counted, linked, loaded, pointed};
 ghost use Rattle.step_core.specs.ViewTrees.{IsSteered, LeadsTo, SeesNode, SeesPoint, sight_in};
@@ -31,6 +32,8 @@ impl Shared {
         ensures seen { WritesWord (ChildOf node right) (unwrap_or result 0) (sees pass.old.view) (sees pass.new.view) }
         ensures found { MatchOption result (pass.old.view.steps < (sight_in pass.new.view).found_empty node right)
             (λ c. ((tree_seen pass.new.view).child node right ≡ Some c) × SeesNode pass.new.view c) }
+        // a pass with the whole share finds nothing new
+        ensures whole { HasWholeShare pass.old.view → unwrap_or result 0 ≡ sees pass.old.view (ChildOf node right) }
     {
         let seat = &mut pass.seat;
         let place = self.places.child(node as usize, right);
@@ -47,6 +50,8 @@ impl Shared {
         ensures seen { WritesWord (PointOf node) (sees pass.new.view (PointOf node)) (sees pass.old.view) (sees pass.new.view) }
         ensures found { SeesPoint pass.new.view node result }
         ensures bounded { IsBounded result }
+        // a pass with the whole share finds nothing new
+        ensures whole { HasWholeShare pass.old.view → sees pass.new.view (PointOf node) ≡ sees pass.old.view (PointOf node) }
     {
         let seat = &mut pass.seat;
         let place = self.places.point(node as usize);
@@ -115,6 +120,9 @@ impl Shared {
         // nothing is seen anew but words of nodes, and by a try that fails but children and points
         ensures others { ChangesOnly IsNodeWord (sees pass.old.view) (sees pass.new.view) }
         ensures others_found { IfErr result (λ _. ChangesOnly IsChildOrPoint (sees pass.old.view) (sees pass.new.view)) }
+        // a pass with the whole share succeeds where it has seen no child, and finds none but the child that it has seen
+        ensures whole { HasWholeShare pass.old.view → sees pass.old.view (ChildOf node right) ≡ 0 → IsOk result }
+        ensures whole_found { HasWholeShare pass.old.view → IfErr result (λ c. c ≡ sees pass.old.view (ChildOf node right)) }
     {
         let child = self.put(pass, node, right);
         if child != 0 {
@@ -133,6 +141,7 @@ impl Shared {
         ensures view { IfSome pass.old.view.hand (λ hand. pass.new ≡ with_view pass.old
             (if result == 0 then linked pass.old.view hand node right else loaded pass.old.view (ChildOf node right) result)) }
         ensures goes_on { GoesOn pass.old.view pass.new.view }
+        ensures whole { HasWholeShare pass.old.view → result ≡ sees pass.old.view (ChildOf node right) }
     {
         let Some(hand) = pass.hand else {
             unreachable!()

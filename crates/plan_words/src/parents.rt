@@ -1,9 +1,9 @@
 //! The steps on parents and costs: a pass looks at the tree words of nodes that it has seen, writes the first word and the tree
 //! word of the node in its hand, and lowers the cost of a node below a parent by which it is cheaper.
 
-ghost use Rattle.std.specs.Prelude.{◌≡◌, ◌≢◌, ℕ, ◌<◌, ◌≤◌, ◌^◌, ◌==◌, if◌then◌else◌, IfErr, IfOk, IfSome, IsSome};
+ghost use Rattle.std.specs.Prelude.{◌≡◌, ◌≢◌, ℕ, ◌<◌, ◌≤◌, ◌^◌, ◌==◌, if◌then◌else◌, IfErr, IfOk, IfSome, IsOk, IsSome};
 ghost use Rattle.plan_words.specs.Parents.{FindsLess, IsPairIn};
-ghost use Rattle.plan_words.specs.States.{BelongsTo, GoesOn, with_view};
+ghost use Rattle.plan_words.specs.States.{BelongsTo, GoesOn, HasWholeShare, with_view};
 ghost use Rattle.step_core.specs.ViewSteps.{half, loaded, lowered, pair_in_hand, treed};
 ghost use Rattle.step_core.specs.ViewTrees.{MayHang, MayLower, SeesNode};
 ghost use Rattle.step_core.specs.Views.{sees, share};
@@ -28,6 +28,8 @@ impl Shared {
         // all other words are seen as before
         ensures seen { WritesWord (TreeOf node) (sees pass.new.view (TreeOf node)) (sees pass.old.view) (sees pass.new.view) }
         ensures found { IsPairIn (sees pass.new.view (TreeOf node)) result }
+        // a pass with the whole share finds nothing new
+        ensures whole { HasWholeShare pass.old.view → sees pass.new.view (TreeOf node) ≡ sees pass.old.view (TreeOf node) }
     {
         let seat = &mut pass.seat;
         let place = self.places.tree(node as usize);
@@ -120,6 +122,8 @@ impl Shared {
         ensures seen { WritesWord (TreeOf node) (sees pass.new.view (TreeOf node)) (sees pass.old.view) (sees pass.new.view) }
         // the cost that is seen falls, whichever it is
         ensures falls { FindsLess (sees pass.old.view (TreeOf node)) (sees pass.new.view (TreeOf node)) }
+        // a pass with the whole share succeeds
+        ensures whole { HasWholeShare pass.old.view → IsOk result }
     {
         let seen = pass.pairs.word(node);
         let found = self.exchange_tree(pass, node, parent, cost);
@@ -138,6 +142,7 @@ impl Shared {
             (if result == sees pass.old.view (TreeOf node) then lowered pass.old.view node parent cost else loaded pass.old.view (TreeOf node) result) }
         ensures goes_on { GoesOn pass.old.view pass.new.view }
         ensures found { result ≢ sees pass.old.view (TreeOf node) → FindsLess (sees pass.old.view (TreeOf node)) result }
+        ensures whole { HasWholeShare pass.old.view → result ≡ sees pass.old.view (TreeOf node) }
     {
         let seen = pass.pairs.word(node);
         let place = self.places.tree(node as usize);

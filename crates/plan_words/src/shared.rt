@@ -1,21 +1,24 @@
 //! The shared words, and the steps that look at a number, record a mark, split a pass and join two.
 
-ghost use Rattle.std.specs.Prelude.{◌≡◌, ℕ, ◌+◌, ◌<◌, ◌≤◌, length, slice_index, IfOk, None, OnErr, OnOk, IsSome, IfSome};
+ghost use Rattle.std.specs.Prelude.{◌≡◌, ◌≢◌, ℕ, ◌+◌, ◌<◌, ◌≤◌, length, slice_index, IfOk, None, OnErr, OnOk, IsSome, IfSome, Some};
+ghost use Rattle.plan_model.specs.PointsByNumber.{node_count};
 ghost use Rattle.plan_model.specs.declared.limits.TheConstants.{MOST_MARKS};
 ghost use Rattle.plan_model.specs.declared.records.Record.{Record};
 ghost use Rattle.plan_words.specs.Chains.{HasParentsBelow};
-ghost use Rattle.plan_words.specs.States.{BelongsTo, GoesOn, MayClaim, new_pass, turn_of, turned, with_view, worker_of};
+ghost use Rattle.plan_words.specs.States.{BelongsTo, GoesOn, HasWholeShare, MayClaim, new_pass, turn_of, turned, with_view, worker_of};
 ghost use Rattle.step_core.specs.PlacesOfWords.{sizes_in};
 ghost use Rattle.step_core.specs.SeenRecords.{MayRecord, own_count};
 ghost use Rattle.step_core.specs.Stages.{MayBeRecorded};
 ghost use Rattle.step_core.specs.ViewSteps.{finished, joined, loaded, looker, stepped};
-ghost use Rattle.step_core.specs.Views.{last_look, sees, share};
+ghost use Rattle.step_core.specs.Views.{last_look, sees, share, tree_seen};
 ghost use Rattle.step_core.specs.WordKinds.{AreBehind, later_word};
 ghost use Rattle.step_core.specs.WordKinds.WordKind.{Falling};
 ghost use Rattle.step_core.specs.WordNames.{WritesWord};
 ghost use Rattle.step_core.specs.WordNames.Word.{Count, Counter};
 ghost use Rattle.step_core.specs.WordPlaces.{word_count};
 ghost use Rattle.step_core.specs.Words.{record_word};
+ghost use Rattle.step_core.specs.declared.views.Hand.{Hand};
+ghost use Rattle.step_core.specs.declared.views.Stage.TheVariants.{Linked};
 
 use crate::openings::{Aim, Opening};
 use crate::passes::Pass;
@@ -70,6 +73,9 @@ impl Shared {
         ensures seen { WritesWord Count result (sees pass.old.view) (sees pass.new.view) }
         // there are no fewer nodes than a worker has placed, by the records that were seen
         ensures own { (entry : Record) → own_count pass.old.view entry ≤ result }
+        // a pass with the whole share, which has counted what it has linked, finds as many as it sees
+        ensures whole { HasWholeShare pass.old.view → ((hand : Hand) → pass.old.view.hand ≡ Some hand → hand.stage ≢ Linked)
+            → result ≡ node_count (tree_seen pass.old.view).points }
     {
         self.table
             .shared
@@ -85,6 +91,8 @@ impl Shared {
         // this word is seen as it was found, all others as before
         ensures seen { WritesWord (Counter strip) result (sees pass.old.view) (sees pass.new.view) }
         ensures looked { WritesWord (Counter strip) (pass.old.view.steps + 1) (last_look pass.old.view) (last_look pass.new.view) }
+        // a pass with the whole share finds nothing new
+        ensures whole { HasWholeShare pass.old.view → result ≡ sees pass.old.view (Counter strip) }
     {
         let place = self.places.counter(strip as usize);
         self.table.shared.load::<Load>(&mut pass.seat, place) as u32

@@ -2,7 +2,7 @@ use Rattle.plan_words.proofs.KeptPairs.{keeps_saw}
 use Rattle.std.proofs.Common.{◌≡◌, ◌<◌, ◌≤◌, Some, ap, sym, subst, refl, ◌∙◌}
 use Rattle.std.specs.Prelude.{MatchOption, unwrap_or}
 use Rattle.plan_words.proofs.LookedNodes.{child_fits, child_found, place_here, seen_low, unwrap_or-child}
-use Rattle.plan_words.proofs.Owning.{may_load_here, same_run, same_table, sees_told}
+use Rattle.plan_words.proofs.Owning.{found_whole, may_load_here, same_run, same_table, sees_told}
 use Rattle.plan_words.proofs.shared.Shared.child.Goals as goal
 use Rattle.step_core.specs.GrownWords.{child_of_word}
 use Rattle.step_core.specs.ViewTrees.{SeesNode}
@@ -67,3 +67,12 @@ invariant_of-pass c =
     let place = place_here c.self.inside.places _ c.pass.inside.seat.me.0 (ChildOf c.args.node c.args.right) _ c.self.invariant.places_are own c.child-place.ensures in
     keeps_saw c.pass.inside.seat.me c.load.new.seat.me _ _ _ _ _ c.pass.inside.pairs (ChildOf c.args.node c.args.right) _ _ _ c.load.ensures.2.told
     c.pass.invariant (c.pass.invariant.1.lawful.within c.args.node seen) place (λ n e. cc)
+
+pub returns-clause-whole : goal.returns-clause-whole
+returns-clause-whole c all =
+    let own = same_run _ _ _ _ c.pass.view_is c.self.view_is c.requires.belongs in
+    let seen = subst (λ p. SeesNode p.view c.args.node) (sym c.pass.view_is) c.requires.seen_node in
+    let view = c.pass.inside.seat.me.0 in
+    let place = place_here c.self.inside.places _ view (ChildOf c.args.node c.args.right) _ c.self.invariant.places_are own c.child-place.ensures in
+    ap (λ o. unwrap_or o 0) c.child_in.ensures ∙ unwrap_or-child c.load.result
+    ∙ found_whole _ _ (ChildOf c.args.node c.args.right) _ _ (ap (λ p. p.view) c.pass.view_is) c.load.ensures.2.whole (λ e. cc) seen place all

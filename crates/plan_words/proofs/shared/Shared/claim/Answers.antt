@@ -2,13 +2,21 @@ use Rattle.std.proofs.Common.{◌≢◌, ◌<◌, inl, inr, refl, ap, sym, subst
 use Rattle.plan_words.proofs.Claiming.{IfNone-any, IsClaimed-exchanged, KeepsHand-trans, belongs_exchanged, counters_changed, counters_twice}
 use Rattle.plan_words.proofs.Claiming.{claim_nearer, kept_exchanged, loaded_before, loaded_since}
 use Rattle.plan_words.proofs.GoingOn.{GoesOn-more, GoesOn-trans}
+use Rattle.plan_words.proofs.WholeClaims.{HasWholeShare-kept, IsLeastOpen-first, RaisesCounter-exchanged, whole_twice}
 use Rattle.plan_words.proofs.shared.Shared.claim.Goals as goal
-use Rattle.plan_words.specs.Claims.{AllFull, IsOpen, KeepsHand}
+use Rattle.plan_words.specs.Claims.{AllFull, IsOpen, KeepsHand, SeesAsBefore}
 use Rattle.plan_words.specs.States.{worker_of}
 use Rattle.step_core.proofs.LaterViews.{IsLater-refl, IsLater-trans}
 
 pub tries-init : goal.tries-init
-tries-init c = record { belongs = c.requires.belongs; kept = record { crew = refl; most = refl; hand = refl }; later = IsLater-refl c.args.pass.now.view; goes_on = inl refl; others = λ name apart. refl }
+tries-init c = record {
+  belongs = c.requires.belongs;
+  kept = record { crew = refl; most = refl; hand = refl };
+  later = IsLater-refl c.args.pass.now.view;
+  goes_on = inl refl;
+  others = λ name apart. refl;
+  whole = λ all name. refl;
+}
 
 pub first_open-requires-clause-belongs : goal.first_open-requires-clause-belongs
 first_open-requires-clause-belongs c = c.tries.invariant.belongs
@@ -76,6 +84,10 @@ tries-preserved c =
       later = IsLater-trans _ _ _ (IsLater-trans _ _ _ c.tries.invariant.later c.first_open.ensures.goes_on.later) c.exchange.ensures.goes_on.later;
       goes_on = inr (GoesOn-trans _ _ _ (GoesOn-more _ _ _ c.tries.invariant.goes_on c.first_open.ensures.goes_on) c.exchange.ensures.goes_on);
       others = counters_changed _ _ _ _ _ (counters_twice _ _ _ c.tries.invariant.others c.first_open.ensures.others) c.exchange.ensures.seen;
+      whole = λ all.
+          let share = HasWholeShare-kept c.args.pass.now.view c.first_open.new.pass.view (KeepsHand-trans _ _ _ c.tries.invariant.kept c.first_open.ensures.kept)
+          (c.first_open.ensures.goes_on.later.run ∙ c.tries.invariant.later.run) all in
+          absurd (other (c.exchange.ensures.whole share ∙ sym c.in_ok-next.ensures.first.round));
     }
 
 pub returns-in_err-next-clause-others : goal.returns-in_err-next-clause-others
@@ -84,3 +96,33 @@ returns-in_err-next-clause-others c = counters_twice _ _ _ c.tries.invariant.oth
 pub returns-then-exchange-from-clause-others : goal.returns-then-exchange-from-clause-others
 returns-then-exchange-from-clause-others c =
     counters_changed _ _ _ _ _ (counters_twice _ _ _ c.tries.invariant.others c.first_open.ensures.others) c.exchange.ensures.seen
+
+pub returns-in_err-next-clause-whole_none : goal.returns-in_err-next-clause-whole_none
+returns-in_err-next-clause-whole_none c all =
+    let as_before : SeesAsBefore c.args.pass.now.view c.first_open.new.pass.view =
+    whole_twice c.args.pass.now.view c.tries.pass.view c.first_open.new.pass.view c.tries.invariant.kept c.tries.invariant.later.run
+    c.tries.invariant.whole c.first_open.ensures.whole all in
+    IfNone-any c.from_residual.result _ as_before
+
+pub returns-then-exchange-from-clause-whole_some : goal.returns-then-exchange-from-clause-whole_some
+returns-then-exchange-from-clause-whole_some c all =
+    let kept = c.tries.invariant in
+    let scan = c.in_ok-next.ensures in
+    let next = c.in_ok-next.next in
+    let open_next = subst (λ crew. IsOpen c.first_open.new.pass.view (worker_of crew) c.args.limit next.strip next.round) kept.kept.crew scan.first in
+    let as_before =
+    whole_twice c.args.pass.now.view c.tries.pass.view c.first_open.new.pass.view kept.kept kept.later.run kept.whole c.first_open.ensures.whole all in
+    RaisesCounter-exchanged _ _ c.args.limit next.strip next.round c.args.pass.now.view c.first_open.new.pass (ap (λ s. s.task.scene.strips) c.self.view_is)
+    c.first_open.ensures.belongs (c.first_open.ensures.goes_on.later.run ∙ kept.later.run) as_before open_next c.exchange.result c.exchange.new.pass
+    (c.if-exchange-from.true ∙ c.from.ensures) c.exchange.ensures.seen
+
+pub returns-then-exchange-from-clause-least : goal.returns-then-exchange-from-clause-least
+returns-then-exchange-from-clause-least c all one =
+    let kept = c.tries.invariant in
+    let scan = c.in_ok-next.ensures in
+    let next = c.in_ok-next.next in
+    let open_next = subst (λ crew. IsOpen c.first_open.new.pass.view (worker_of crew) c.args.limit next.strip next.round) kept.kept.crew scan.first in
+    let as_before =
+    whole_twice c.args.pass.now.view c.tries.pass.view c.first_open.new.pass.view kept.kept kept.later.run kept.whole c.first_open.ensures.whole all in
+    IsLeastOpen-first _ _ c.args.limit next.strip next.round c.args.pass.now.view c.first_open.new.pass (ap (λ s. s.task.scene.strips) c.self.view_is)
+    c.first_open.ensures.belongs (c.first_open.ensures.goes_on.later.run ∙ kept.later.run) as_before open_next one

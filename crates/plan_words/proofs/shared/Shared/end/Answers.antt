@@ -1,7 +1,7 @@
 use Rattle.std.proofs.Common.{◌≡◌, length, sym, ap, ◌∙◌, subst, arith}
 use Rattle.std.proofs.lemmas.List.{with_items_is}
 use Rattle.std.specs.Mem.Slots.{slots_items}
-use Rattle.plan_words.proofs.Ending.{HoldRun-ended, StandsAsSeen-ended, limit-found, own_workers-ended, stands_in_run}
+use Rattle.plan_words.proofs.Ending.{AreSameRuns-ended, HoldRun-ended, StandsAsSeen-ended, limit-found, own_workers-ended, same_in_run, stands_in_run}
 use Rattle.plan_words.proofs.Owning.{same_run}
 use Rattle.plan_words.proofs.shared.Shared.end.Goals as goal
 use Rattle.plan_words.specs.Claims.{HasNoneLeft}
@@ -86,3 +86,20 @@ returns-clause-workers c k entry past recorded =
     c.close_with-closed.ensures.values.2 whole idle left k entry (omega (arith, past, opening))
     (ap (λ w. record_at w k) (sym words) ∙ recorded) in
     omega (arith, low, ap (λ s. s.workers) c.self.view_is)
+
+pub returns-clause-same : goal.returns-clause-same
+returns-clause-same c =
+    let shared = c.self.inside in
+    let view = c.pass.inside.seat.me.0 in
+    let items = slots_items c.close_with-closed.result.words in
+    let own = same_run _ _ _ _ c.pass.view_is c.self.view_is c.requires.belongs in
+    let whole = ap (λ p. share p.view) c.pass.view_is ∙ c.requires.whole ∙ sym (ap (λ s. s.workers) c.self.view_is) in
+    let idle = ap (λ p. p.view.hand) c.pass.view_is ∙ c.requires.idle in
+    let left = subst (λ p. HasNoneLeft p.view) (sym c.pass.view_is) c.requires.none_left in
+    let same =
+    AreSameRuns-ended shared.task shared.workers shared.opening shared.table.shared.key view c.pass.inside.seat.id items _ c.self.invariant.key_is own
+    c.close_with-closed.ensures.values.2 whole idle left in
+    let long : length c.copy_words.new.words ≡ shared.spare.len = c.copy_words.auto.words ∙ c.deref_mut.ensures.len in
+    let copied = with_items_is shared.spare c.copy_words.new.words long ∙ c.copy_words.ensures in
+    same_in_run shared.task view items c.args.pass.view c.from_words.result (ap (λ p. p.view) c.pass.view_is) c.from_words.ensures.task
+    (c.from_words.ensures.words ∙ ap (λ list. cleared (run_words shared.task list)) copied) same

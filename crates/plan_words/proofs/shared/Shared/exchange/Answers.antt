@@ -1,7 +1,7 @@
 use Rattle.std.proofs.Common.{◌≡◌, ◌*◌, ◌+◌, ◌<◌, ◌≤◌, ◌==◌, None, Some, ap, cond, length, refl, subst, sym, ◌∙◌}
 use Rattle.std.proofs.lemmas.Bool.{eq-eqb, ne_eqb}
 use Rattle.plan_words.proofs.KeptPairs.{HasPairs-claimed, keeps_saw, keeps_view}
-use Rattle.plan_words.proofs.Owning.{may_claim_here, same_run, same_table, sees_exchanged}
+use Rattle.plan_words.proofs.Owning.{found_whole, may_claim_here, same_run, same_table, sees_exchanged}
 use Rattle.plan_words.proofs.shared.Shared.exchange.Goals as goal
 use Rattle.plan_words.specs.Plays.{Tells}
 use Rattle.plan_words.specs.States.{run_in}
@@ -32,7 +32,7 @@ returns-then-found-round-clause-seen c =
     let then = c.compare_exchange_with-found.new.seat.me.0 in
     subst (λ round. WritesWord (Counter c.args.next.strip) (cond (x == round) (round + 1) x) (sees c.args.pass.now.view) (sees then)) c.from-round.ensures
     (sees_exchanged _ _ _ c.args.next.strip c.from-round.result c.args.limit _ x (ap (λ p. p.view) c.pass.view_is) c.pass.invariant.1.lawful here
-    c.counter-place.ensures c.compare_exchange_with-found.ensures.2.view_is)
+    c.counter-place.ensures c.compare_exchange_with-found.ensures.2.told.view_is)
 
 pub returns-else-found-round-clause-seen : goal.returns-else-found-round-clause-seen
 returns-else-found-round-clause-seen c =
@@ -43,7 +43,7 @@ returns-else-found-round-clause-seen c =
     let then = c.compare_exchange_with-found.new.seat.me.0 in
     subst (λ round. WritesWord (Counter c.args.next.strip) (cond (x == round) (round + 1) x) (sees c.args.pass.now.view) (sees then)) c.from-round.ensures
     (sees_exchanged _ _ _ c.args.next.strip c.from-round.result c.args.limit _ x (ap (λ p. p.view) c.pass.view_is) c.pass.invariant.1.lawful here
-    c.counter-place.ensures c.compare_exchange_with-found.ensures.2.view_is)
+    c.counter-place.ensures c.compare_exchange_with-found.ensures.2.told.view_is)
 
 pub invariant_of-pass : goal.invariant_of-pass
 invariant_of-pass c =
@@ -55,7 +55,7 @@ invariant_of-pass c =
     let x = c.compare_exchange_with-found.result in
     let then = claimed me.0 c.args.next.strip c.from-round.result c.args.limit in
     let told = subst (λ b. Tells me (cond b then (saw_at me.0 c.counter-place.result x x)) after) (eq-eqb x c.from-round.result c.if-found-round.true)
-    c.compare_exchange_with-found.ensures.2 in
+    c.compare_exchange_with-found.ensures.2.told in
     keeps_view me after then _ _ _ _ _ _ _ c.pass.inside.pairs _ told c.pass.invariant refl c.pass.invariant.1.member_is
     (ap (λ k. Some (new_hand k)) (ap (λ n. n * c.self.inside.task.scene.strips + c.args.next.strip) (sym c.from-round.ensures)
     ∙ ap (λ r. c.from-round.result * r.strips + c.args.next.strip) (sym own)))
@@ -70,5 +70,21 @@ invariant_of-pass-else-found-round c =
     let after = c.compare_exchange_with-found.new.seat.me in
     let x = c.compare_exchange_with-found.result in
     let told = subst (λ b. Tells me (cond b (claimed me.0 c.args.next.strip c.from-round.result c.args.limit) (saw_at me.0 c.counter-place.result x x)) after)
-    (ne_eqb x c.from-round.result c.if-found-round.false) c.compare_exchange_with-found.ensures.2 in
+    (ne_eqb x c.from-round.result c.if-found-round.false) c.compare_exchange_with-found.ensures.2.told in
     keeps_saw me after _ _ _ _ _ c.pass.inside.pairs (Counter c.args.next.strip) _ _ _ told c.pass.invariant here c.counter-place.ensures (λ n e. cc)
+
+pub returns-then-found-round-clause-whole : goal.returns-then-found-round-clause-whole
+returns-then-found-round-clause-whole c all =
+    let own = same_run _ _ _ _ c.pass.view_is c.self.view_is c.requires.belongs in
+    let strip = subst (λ s. c.args.next.strip < s.task.scene.strips) (sym c.self.view_is) c.requires.strip in
+    let here = subst (λ r. c.args.next.strip < r.strips) (sym own) strip in
+    found_whole _ _ (Counter c.args.next.strip) _ _ (ap (λ p. p.view) c.pass.view_is) c.compare_exchange_with-found.ensures.2.whole (λ e. cc) here
+    c.counter-place.ensures all
+
+pub returns-else-found-round-clause-whole : goal.returns-else-found-round-clause-whole
+returns-else-found-round-clause-whole c all =
+    let own = same_run _ _ _ _ c.pass.view_is c.self.view_is c.requires.belongs in
+    let strip = subst (λ s. c.args.next.strip < s.task.scene.strips) (sym c.self.view_is) c.requires.strip in
+    let here = subst (λ r. c.args.next.strip < r.strips) (sym own) strip in
+    found_whole _ _ (Counter c.args.next.strip) _ _ (ap (λ p. p.view) c.pass.view_is) c.compare_exchange_with-found.ensures.2.whole (λ e. cc) here
+    c.counter-place.ensures all

@@ -1,4 +1,4 @@
-use Rattle.std.proofs.Common.{◌≤◌, ap, arith, subst, sym, ◌∙◌}
+use Rattle.std.proofs.Common.{◌<◌, ◌≤◌, ap, arith, subst, sym, ◌∙◌}
 use Rattle.std.specs.Prelude.{◌==◌, cond, is_some}
 use Rattle.plan_words.proofs.KeptPairs.{fits_word, keeps_pair, keeps_parent, lower_view}
 use Rattle.plan_words.proofs.LookedNodes.{place_here, seen_low}
@@ -6,9 +6,10 @@ use Rattle.plan_words.proofs.Owning.{may_lower_here, same_run, same_table, with_
 use Rattle.plan_words.proofs.shared.Shared.exchange_tree.Goals as goal
 use Rattle.plan_words.specs.Parents.{FindsLess}
 use Rattle.plan_words.specs.Plays.{Tells}
+use Rattle.plan_words.specs.States.{HasWholeShare}
 use Rattle.step_core.specs.ViewSteps.{loaded, lowered, saw_at}
 use Rattle.step_core.specs.ViewTrees.{MayLower}
-use Rattle.step_core.specs.Views.{sees}
+use Rattle.step_core.specs.Views.{sees, share}
 use Rattle.step_core.specs.WordNames.Word.{TreeOf}
 use Rattle.step_core.specs.WordPlaces.{place_of}
 
@@ -47,9 +48,10 @@ compare_exchange-found-requires c =
     let within = lawful.within c.args.node node in
     let low = seen_low _ _ c.args.node lawful own node in
     let place = c.tree-place.ensures ∙ ap (λ s. place_of s (TreeOf c.args.node)) c.self.invariant.places_are in
+    let part = subst (λ p. 0 < share p.view) (sym c.pass.view_is) c.requires.part in
     let seen = c.word-seen.ensures
     ∙ c.pass.invariant.3.seen c.args.node within in
-    may_lower_here _ _ _ _ c.self.invariant _ _ _ _ _ c.args.node c.args.parent c.args.cost _ same own low place may node seen c.pack_tree-word.ensures
+    may_lower_here _ _ _ _ c.self.invariant _ _ _ _ _ c.args.node c.args.parent c.args.cost _ same own low place part may node seen c.pack_tree-word.ensures
 
 pub set-requires-clause-node : goal.set-requires-clause-node
 set-requires-clause-node c =
@@ -116,3 +118,12 @@ returns-clause-found c off =
     let seen = c.word-seen.ensures
     ∙ c.pass.invariant.3.seen c.args.node within ∙ ap (λ p. sees p.view (TreeOf c.args.node)) c.pass.view_is in
     subst (λ w. FindsLess w c.compare_exchange-found.result) seen (c.compare_exchange-found.ensures.2.fell (λ same. off (same ∙ seen)))
+
+pub returns-clause-whole : goal.returns-clause-whole
+returns-clause-whole c all =
+    let lawful = c.pass.invariant.1.lawful in
+    let may = subst (λ p. MayLower p.view c.args.node c.args.parent c.args.cost) (sym c.pass.view_is) c.requires.may in
+    let node = lawful.tree.rooted.points c.args.node (ap is_some may.seen.stands) in
+    let seen = c.word-seen.ensures
+    ∙ c.pass.invariant.3.seen c.args.node (lawful.within c.args.node node) ∙ ap (λ p. sees p.view (TreeOf c.args.node)) c.pass.view_is in
+    c.compare_exchange-found.ensures.2.whole (subst (λ p. HasWholeShare p.view) (sym c.pass.view_is) all) ∙ seen

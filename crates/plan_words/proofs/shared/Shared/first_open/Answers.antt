@@ -1,6 +1,7 @@
 use Rattle.std.proofs.Common.{refl, ap, arith, inl, inr}
 use Rattle.plan_words.proofs.Claiming.{belongs_loaded, best_strip, counters_changed, kept_loaded, loaded_more, scan_ends, scan_more}
 use Rattle.plan_words.proofs.GoingOn.{GoesOn-more}
+use Rattle.plan_words.proofs.WholeClaims.{whole_loaded}
 use Rattle.plan_words.proofs.shared.Shared.first_open.Goals as goal
 use Rattle.step_core.proofs.LaterViews.{IsLater-refl, IsLater-trans}
 
@@ -11,6 +12,7 @@ loop-strip-init c = record {
   later = IsLater-refl c.args.pass.now.view;
   goes_on = inl (refl, refl);
   others = λ name apart. refl;
+  whole = λ all name. refl;
   loaded = λ g low. absurd (omega (arith, low));
   scanned = λ h low. absurd (omega (arith, low));
 }
@@ -36,6 +38,7 @@ loop-strip-preserved c =
         | inr first ↦ GoesOn-more _ _ _ (inr first) told.goes_on
       ]);
       others = counters_changed _ _ _ _ _ kept.others told.seen;
+      whole = whole_loaded c.args.pass.now.view c.loop-strip.pass c.taken-round.new.pass _ _ kept.kept kept.later.run kept.whole told.seen told.whole;
       loaded = loaded_more _ _ _ _ kept.loaded told.looked kept.later.steps told.goes_on.later;
       scanned = scan_more _ _ _ c.worker.result _ _ _ _ _ _ c.loop-strip.best kept.belongs strips workers c.worker.ensures.number told.view told.seen
           kept.scanned c.better-best.ensures;
@@ -70,3 +73,6 @@ returns-clause-first c =
 
 pub returns-clause-others : goal.returns-clause-others
 returns-clause-others c = c.loop-strip.invariant.others
+
+pub returns-clause-whole : goal.returns-clause-whole
+returns-clause-whole c = c.loop-strip.invariant.whole

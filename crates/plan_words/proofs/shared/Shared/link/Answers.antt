@@ -1,4 +1,4 @@
-use Rattle.std.proofs.Common.{◌≡◌, ap, subst, suc, sym}
+use Rattle.std.proofs.Common.{◌≡◌, ap, subst, suc, sym, ◌∙◌}
 use Rattle.std.specs.Prelude.{◌==◌, IfSome, cond}
 use Rattle.plan_words.proofs.GoingOn.{GoesOn-trans}
 use Rattle.plan_words.proofs.HandSteps.{ChangesOnly-linked, ChangesOnly-met, ChangesOnly-met_node, IsLinkedAt-counted, at_hand}
@@ -108,3 +108,9 @@ returns-clause-others c =
     let made = at_hand (λ h. c.count.new.pass ≡ with_view pass (counted (linked pass.view h c.args.node c.args.right) h)) _ of.0 of.1 whole in
     ChangesOnly-linked pass.view c.count.new.pass.view of.0 c.args.node c.args.right c.put-child.ensures.goes_on.was_lawful of.1 stage leads
     (ap (λ p. p.view) made)
+
+pub returns-then-child-ne0-clause-whole : goal.returns-then-child-ne0-clause-whole
+returns-then-child-ne0-clause-whole c all none = absurd (c.if-child-ne0.true (c.put-child.ensures.whole all ∙ none))
+
+pub returns-then-child-ne0-clause-whole_found : goal.returns-then-child-ne0-clause-whole_found
+returns-then-child-ne0-clause-whole_found c all = c.put-child.ensures.whole all

@@ -88,3 +88,12 @@ returns-clause-falls c =
     let was = subst (λ p. IsLawfulView p.view) c.pass.view_is lawful in
     let other : c.exchange_tree-found.result ≢ sees c.args.pass.now.view (TreeOf c.args.node) = λ same. c.if-found-seen.false (same ∙ sym seen) in
     found_less _ _ c.args.node c.args.parent c.args.cost _ was c.requires.may c.exchange_tree-found.ensures.view other (c.exchange_tree-found.ensures.found other)
+
+pub returns-clause-whole : goal.returns-clause-whole
+returns-clause-whole c all =
+    let lawful = c.pass.invariant.1.lawful in
+    let may = subst (λ p. MayLower p.view c.args.node c.args.parent c.args.cost) (sym c.pass.view_is) c.requires.may in
+    let within = lawful.within c.args.node (lawful.tree.rooted.points c.args.node (ap is_some may.seen.stands)) in
+    let seen = c.word-seen.ensures
+    ∙ c.pass.invariant.3.seen c.args.node within ∙ ap (λ p. sees p.view (TreeOf c.args.node)) c.pass.view_is in
+    absurd (c.if-found-seen.false (c.exchange_tree-found.ensures.whole all ∙ sym seen))

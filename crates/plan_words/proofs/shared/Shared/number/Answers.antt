@@ -1,10 +1,15 @@
 use Rattle.plan_words.proofs.KeptPairs.{keeps_saw}
-use Rattle.std.proofs.Common.{◌≤◌, ap, arith, subst}
+use Rattle.std.proofs.Common.{◌≡◌, ◌≢◌, ◌≤◌, Some, ap, arith, subst, sym, ◌∙◌}
 use Rattle.plan_words.proofs.LookedNodes.{place_here}
 use Rattle.plan_words.proofs.Owning.{count_fits, may_load_here, sees_told, same_run, same_table}
 use Rattle.plan_words.proofs.shared.Shared.number.Goals as goal
+use Rattle.plan_model.specs.PointsByNumber.{node_count}
+use Rattle.plan_words.specs.States.{HasWholeShare}
 use Rattle.step_core.specs.SeenRecords.{own_count}
+use Rattle.step_core.specs.Views.{tree_seen}
 use Rattle.step_core.specs.WordNames.Word.{Count}
+use Rattle.step_core.specs.declared.views.Hand.{Hand}
+use Rattle.step_core.specs.declared.views.Stage.TheVariants.{Linked}
 
 pub load-requires : goal.load-requires
 load-requires c =
@@ -29,3 +34,11 @@ returns-clause-own c entry =
     let own = same_run _ _ _ _ c.pass.view_is c.self.view_is c.requires in
     let place = place_here c.self.inside.places _ c.pass.inside.seat.me.0 Count _ c.self.invariant.places_are own c.count.ensures in
     subst (λ p. own_count p.view entry ≤ c.load.result) c.pass.view_is (c.load.ensures.2.count place entry)
+
+pub returns-clause-whole : goal.returns-clause-whole
+returns-clause-whole c all done =
+    let own = same_run _ _ _ _ c.pass.view_is c.self.view_is c.requires in
+    let place = place_here c.self.inside.places _ c.pass.inside.seat.me.0 Count _ c.self.invariant.places_are own c.count.ensures in
+    let whole = subst (λ p. HasWholeShare p.view) (sym c.pass.view_is) all in
+    let counted = subst (λ p. (hand : Hand) → p.view.hand ≡ Some hand → hand.stage ≢ Linked) (sym c.pass.view_is) done in
+    c.load.ensures.2.whole_count whole counted place ∙ ap (λ p. node_count (tree_seen p.view).points) c.pass.view_is

@@ -1,7 +1,7 @@
 use Rattle.plan_words.proofs.KeptPairs.{keeps_saw}
 use Rattle.std.proofs.Common.{◌≤◌, ap, sym, subst, ◌∙◌}
 use Rattle.plan_words.proofs.LookedNodes.{place_here, point_found, point_word_seen, seen_low}
-use Rattle.plan_words.proofs.Owning.{may_load_here, same_run, same_table, sees_told, with_view_told}
+use Rattle.plan_words.proofs.Owning.{found_whole, may_load_here, same_run, same_table, sees_told, with_view_told}
 use Rattle.plan_words.proofs.shared.Shared.point.Goals as goal
 use Rattle.step_core.proofs.LawfulSights.{IsBounded-seen}
 use Rattle.step_core.specs.ViewSteps.{loaded, saw_at}
@@ -68,3 +68,12 @@ invariant_of-pass c =
     let place = place_here c.self.inside.places _ c.pass.inside.seat.me.0 (PointOf c.args.node) _ c.self.invariant.places_are own c.point-place.ensures in
     keeps_saw c.pass.inside.seat.me c.load.new.seat.me _ _ _ _ _ c.pass.inside.pairs (PointOf c.args.node) _ _ _ c.load.ensures.2.told c.pass.invariant
     (c.pass.invariant.1.lawful.within c.args.node seen) place (λ n e. cc)
+
+pub returns-clause-whole : goal.returns-clause-whole
+returns-clause-whole c all =
+    let own = same_run _ _ _ _ c.pass.view_is c.self.view_is c.requires.belongs in
+    let seen = subst (λ p. SeesNode p.view c.args.node) (sym c.pass.view_is) c.requires.seen_node in
+    let place = place_here c.self.inside.places _ c.pass.inside.seat.me.0 (PointOf c.args.node) _ c.self.invariant.places_are own c.point-place.ensures in
+    let told = c.load.ensures.2 in
+    point_word_seen _ c.load.new.seat.me.0 c.args.node _ _ c.pass.invariant.1.lawful seen place told.told.view_is told.point
+    ∙ found_whole _ _ (PointOf c.args.node) _ _ (ap (λ p. p.view) c.pass.view_is) told.whole (λ e. cc) seen place all

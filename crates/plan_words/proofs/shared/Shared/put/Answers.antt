@@ -4,7 +4,7 @@ use Rattle.std.specs.Prelude.{IfSome}
 use Rattle.plan_words.proofs.HandSteps.{at_hand, leads_seen, tried_fits}
 use Rattle.plan_words.proofs.KeptPairs.{HasPairs-linked, HasPairs-saw, keeps_parent, keeps_view}
 use Rattle.plan_words.proofs.LookedNodes.{place_here, seen_low}
-use Rattle.plan_words.proofs.Owning.{may_link_here, same_run, same_table, tells_on}
+use Rattle.plan_words.proofs.Owning.{found_whole, may_link_here, same_run, same_table, tells_on}
 use Rattle.plan_words.proofs.shared.Shared.put.Goals as goal
 use Rattle.plan_words.proofs.shared.Shared.put.Goals.{else-found-eq0, then-found-eq0}
 use Rattle.plan_words.specs.States.{GoesOn}
@@ -55,7 +55,7 @@ overflow_cast-result c =
     (subst (λ p. IfSome p.view.hand (λ h. LeadsTo p.view h.point c.args.node c.args.right)) (sym c.pass.view_is) c.requires.leads) in
     let seen = leads_seen view hand c.args.node c.args.right tied.lawful leads in
     let place = place_here c.self.inside.places _ view (ChildOf c.args.node c.args.right) _ c.self.invariant.places_are own c.child-place.ensures in
-    let told = c.compare_exchange-found.ensures.2 hand held in
+    let told = c.compare_exchange-found.ensures.2.told hand held in
     omega (arith, tried_fits view hand _ _ held c.args.node c.args.right tied.lawful seen place told.goes_on.lawful)
 
 pub pack_tree-requires-clause-parent : goal.pack_tree-requires-clause-parent
@@ -87,7 +87,7 @@ set-requires-clause-parent c =
     let place = place_here c.self.inside.places _ me.0 (ChildOf c.args.node c.args.right) _ c.self.invariant.places_are own c.child-place.ensures in
     let none = eq-eqb found 0 c.if-found-eq0.true in
     let told = subst (λ b. Tells me (cond b (linked_at me.0 hand c.child-place.result) (saw_at me.0 c.child-place.result found found)) after) none
-    (c.compare_exchange-found.ensures.2 hand held) in
+    (c.compare_exchange-found.ensures.2.told hand held) in
     let kept =
     keeps_view me after (linked_at me.0 hand c.child-place.result) _ _ _ _ _ _ _ c.pass.inside.pairs _ told c.pass.invariant refl tied.member_is
     (ap Some (c.after_link.ensures ∙ ap (λ b. cond b (record hand { stage = Linked }) hand) none))
@@ -110,7 +110,7 @@ invariant_of-pass c =
     let place = place_here c.self.inside.places _ me.0 (ChildOf c.args.node c.args.right) _ c.self.invariant.places_are own c.child-place.ensures in
     let none = eq-eqb found 0 c.if-found-eq0.true in
     let told = subst (λ b. Tells me (cond b (linked_at me.0 hand c.child-place.result) (saw_at me.0 c.child-place.result found found)) after) none
-    (c.compare_exchange-found.ensures.2 hand held) in
+    (c.compare_exchange-found.ensures.2.told hand held) in
     rw c.set.ensures
     (keeps_view me after (linked_at me.0 hand c.child-place.result) _ _ _ _ _ _ _ c.pass.inside.pairs _ told c.pass.invariant refl tied.member_is
     (ap Some (c.after_link.ensures ∙ ap (λ b. cond b (record hand { stage = Linked }) hand) none))
@@ -132,7 +132,7 @@ invariant_of-pass-else-found-eq0 c =
     let place = place_here c.self.inside.places _ me.0 (ChildOf c.args.node c.args.right) _ c.self.invariant.places_are own c.child-place.ensures in
     let some_child = ne_eqb found 0 c.if-found-eq0.false in
     let told = subst (λ b. Tells me (cond b (linked_at me.0 hand c.child-place.result) (saw_at me.0 c.child-place.result found found)) after) some_child
-    (c.compare_exchange-found.ensures.2 hand held) in
+    (c.compare_exchange-found.ensures.2.told hand held) in
     keeps_view me after (saw_at me.0 c.child-place.result found found) _ _ _ _ _ _ _ c.pass.inside.pairs _ told c.pass.invariant refl tied.member_is
     (ap Some (c.after_link.ensures ∙ ap (λ b. cond b (record hand { stage = Linked }) hand) some_child) ∙ sym held)
     (HasPairs-saw me.0 (saw_at me.0 c.child-place.result found found) c.pass.inside.pairs (ChildOf c.args.node c.args.right) _ _ _ tied.lawful
@@ -141,9 +141,21 @@ invariant_of-pass-else-found-eq0 c =
 pub returns-clause-goes_on : goal.returns-clause-goes_on
 returns-clause-goes_on c =
     let held = sym c.pass.invariant.1.hand_is ∙ c.in-Some.is in
-    let told = c.compare_exchange-found.ensures.2 c.in-Some.hand held in
+    let told = c.compare_exchange-found.ensures.2.told c.in-Some.hand held in
     let on = tells_on _ c.pass.inside.seat.me c.compare_exchange-found.new.seat.me _ (ap (λ p. p.view) c.pass.view_is) told in
     elim c.if-found-eq0.branch [
       | then-found-eq0 w ↦ subst (λ p. GoesOn c.args.pass.now.view p.view) (sym w.pass-is) on
       | else-found-eq0 w ↦ subst (λ p. GoesOn c.args.pass.now.view p.view) (sym w.pass-is) on
     ]
+
+pub returns-clause-whole : goal.returns-clause-whole
+returns-clause-whole c all =
+    let own = same_run _ _ _ _ c.pass.view_is c.self.view_is c.requires.belongs in
+    let view = c.pass.inside.seat.me.0 in
+    let hand = c.in-Some.hand in
+    let tied = c.pass.invariant.1 in
+    let leads = at_hand (λ h. LeadsTo view h.point c.args.node c.args.right) _ hand (sym tied.hand_is ∙ c.in-Some.is)
+    (subst (λ p. IfSome p.view.hand (λ h. LeadsTo p.view h.point c.args.node c.args.right)) (sym c.pass.view_is) c.requires.leads) in
+    let seen = leads_seen view hand c.args.node c.args.right tied.lawful leads in
+    let place = place_here c.self.inside.places _ view (ChildOf c.args.node c.args.right) _ c.self.invariant.places_are own c.child-place.ensures in
+    found_whole _ _ (ChildOf c.args.node c.args.right) _ _ (ap (λ p. p.view) c.pass.view_is) c.compare_exchange-found.ensures.2.whole (λ e. cc) seen place all

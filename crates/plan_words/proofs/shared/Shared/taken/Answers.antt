@@ -1,6 +1,6 @@
 use Rattle.plan_words.proofs.KeptPairs.{keeps_saw}
 use Rattle.std.proofs.Common.{◌<◌, ap, arith, subst, sym}
-use Rattle.plan_words.proofs.Owning.{counter_most, looks_told, may_load_here, sees_told, same_run, same_table}
+use Rattle.plan_words.proofs.Owning.{counter_most, found_whole, looks_told, may_load_here, sees_told, same_run, same_table}
 use Rattle.plan_words.proofs.shared.Shared.taken.Goals as goal
 use Rattle.step_core.specs.WordNames.Word.{Counter}
 
@@ -42,3 +42,10 @@ invariant_of-pass c =
     let here = subst (λ r. c.args.strip < r.strips) (sym own) strip in
     keeps_saw c.pass.inside.seat.me c.load.new.seat.me _ _ _ _ _ c.pass.inside.pairs (Counter c.args.strip) _ _ _ c.load.ensures.2.told c.pass.invariant here
     c.counter-place.ensures (λ n e. cc)
+
+pub returns-clause-whole : goal.returns-clause-whole
+returns-clause-whole c all =
+    let own = same_run _ _ _ _ c.pass.view_is c.self.view_is c.requires.belongs in
+    let strip = subst (λ s. c.args.strip < s.task.scene.strips) (sym c.self.view_is) c.requires.strip in
+    let here = subst (λ r. c.args.strip < r.strips) (sym own) strip in
+    found_whole _ _ (Counter c.args.strip) _ _ (ap (λ p. p.view) c.pass.view_is) c.load.ensures.2.whole (λ e. cc) here c.counter-place.ensures all

@@ -1,7 +1,7 @@
 use Rattle.std.proofs.Common.{◌≤◌, ap, arith, subst, sym, ◌∙◌}
 use Rattle.plan_words.proofs.KeptPairs.{keeps_pair, keeps_parent}
 use Rattle.plan_words.proofs.LookedNodes.{pair_found, place_here, seen_low, tree_word_seen}
-use Rattle.plan_words.proofs.Owning.{may_load_here, same_run, same_table, sees_told, with_view_told}
+use Rattle.plan_words.proofs.Owning.{found_whole, may_load_here, same_run, same_table, sees_told, with_view_told}
 use Rattle.plan_words.proofs.shared.Shared.tree.Goals as goal
 use Rattle.step_core.specs.ViewSteps.{loaded, saw_at}
 use Rattle.step_core.specs.ViewTrees.{SeesNode}
@@ -81,3 +81,12 @@ returns-clause-found c =
     let told = c.load-word.ensures.2 in
     pair_found _ c.load-word.new.seat.me.0 c.args.node _ _ c.pass.invariant.1.lawful seen place told.told.view_is c.pair_in.result c.pair_in.ensures.parent
     c.pair_in.ensures.cost (told.tree c.args.node seen place)
+
+pub returns-clause-whole : goal.returns-clause-whole
+returns-clause-whole c all =
+    let own = same_run _ _ _ _ c.pass.view_is c.self.view_is c.requires.belongs in
+    let seen = subst (λ p. SeesNode p.view c.args.node) (sym c.pass.view_is) c.requires.seen_node in
+    let place = place_here c.self.inside.places _ c.pass.inside.seat.me.0 (TreeOf c.args.node) _ c.self.invariant.places_are own c.tree-place.ensures in
+    let told = c.load-word.ensures.2 in
+    tree_word_seen _ c.load-word.new.seat.me.0 c.args.node _ _ c.pass.invariant.1.lawful seen place told.told.view_is
+    ∙ found_whole _ _ (TreeOf c.args.node) _ _ (ap (λ p. p.view) c.pass.view_is) told.whole (λ e. cc) seen place all

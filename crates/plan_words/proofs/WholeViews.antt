@@ -1,0 +1,36 @@
+-- A pass with the share of all workers finds each word as it has seen it, and the count as that of the nodes that it sees.
+use Rattle.std.proofs.Common.{◌≡◌, ◌≢◌, ℕ, ◌<◌, List, Some, refl, sym, ap, ◌∙◌, subst}
+use mathlib.Core.Option.{some}
+use lib.ListN.{get_elem?}
+use Rattle.plan_model.specs.PointsByNumber.{node_count}
+use Rattle.plan_words.specs.States.{HasWholeShare}
+use Rattle.step_core.specs.ViewTrees.{MayLoad}
+use Rattle.step_core.specs.Views.{sees, share, tree_seen}
+use Rattle.step_core.specs.WordNames.{Word, Words}
+use Rattle.step_core.specs.WordNames.Word.{ChildOf, Count, Counter, FirstOf, PointOf, RecordOf, TreeOf}
+use Rattle.step_core.specs.Worlds.{IsWorld}
+use Rattle.step_core.specs.declared.views.Hand.{Hand}
+use Rattle.step_core.specs.declared.views.SharedRun.{SharedRun}
+use Rattle.step_core.specs.declared.views.Stage.TheVariants.{Linked}
+use Rattle.step_core.specs.declared.views.View.{View}
+use Rattle.step_core.proofs.WholeCopies.{count-whole, nodes-whole, sees-whole}
+
+module _ (run : SharedRun) (words : Words) (views : List View) (id : ℕ) (view : View) (world : IsWorld run words views)
+    (at : get_elem? views id ≡ some view) (own : view.run ≡ run) (whole : HasWholeShare view) where
+  all_workers : share view ≡ run.workers
+  all_workers = whole ∙ ap (λ r. r.workers) own
+
+  pub words-whole : (name : Word) → name ≢ Count → MayLoad view name → words name ≡ sees view name
+  words-whole Count apart may = absurd (apart refl)
+  words-whole (Counter g) apart may = sym (sees-whole run words views id view world at all_workers (Counter g) (subst (λ r. g < r.strips) own may))
+  words-whole (PointOf n) apart may =
+      sym (sees-whole run words views id view world at all_workers (PointOf n) ((nodes-whole run words views id view world at all_workers n).0 may))
+  words-whole (ChildOf n side) apart may =
+      sym (sees-whole run words views id view world at all_workers (ChildOf n side) ((nodes-whole run words views id view world at all_workers n).0 may))
+  words-whole (TreeOf n) apart may =
+      sym (sees-whole run words views id view world at all_workers (TreeOf n) ((nodes-whole run words views id view world at all_workers n).0 may))
+  words-whole (FirstOf n) apart may = absurd may
+  words-whole (RecordOf k) apart may = absurd may
+
+  pub word_count-whole : ((hand : Hand) → view.hand ≡ Some hand → hand.stage ≢ Linked) → words Count ≡ node_count (tree_seen view).points
+  word_count-whole done = count-whole run words views id view world at all_workers done
