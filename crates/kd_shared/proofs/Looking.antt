@@ -6,20 +6,22 @@ use Rattle.plan_model.specs.declared.geometry.Point.{Point}
 use Rattle.plan_model.specs.PointsByNumber.{point_at}
 use Rattle.plan_model.specs.Sights.{IsLaterMoment, KeepsSight}
 use Rattle.plan_model.proofs.SeenTreeLaws.{IsSeen-more}
+use Rattle.plan_words.specs.Claims.{SeesAsBefore}
 use Rattle.plan_words.specs.Nodes.{IsChildOrPoint}
-use Rattle.plan_words.specs.States.{BelongsTo, GoesOn, PassState, SharedState}
+use Rattle.plan_words.specs.States.{BelongsTo, GoesOn, HasWholeShare, PassState, SharedState}
 use Rattle.step_core.specs.LaterViews.{IsLater, IsLawfulView}
 use Rattle.step_core.specs.SeenWords.{seen_tree_of_words}
 use Rattle.step_core.specs.ViewSteps.{loaded}
 use Rattle.step_core.specs.ViewTrees.{SeesNode, SeesPoint, sight_in}
 use Rattle.step_core.specs.Views.{run_sizes, sees, tree_seen}
-use Rattle.step_core.specs.WordNames.{ChangesOnly, Word, Words}
+use Rattle.step_core.specs.WordNames.{ChangesOnly, Word, Words, WritesWord}
 use Rattle.step_core.specs.WordNames.Word.{ChildOf, PointOf}
 use Rattle.step_core.specs.WordPlaces.{Sizes}
 use Rattle.step_core.specs.Words.{point_of_word}
 use Rattle.step_core.specs.declared.views.View.{View}
 use Rattle.step_core.proofs.LaterViews.{IsLater-refl, IsLater-trans}
 use Rattle.step_core.proofs.LawfulSights.{IsLaterMoment-later, KeepsSight-lawful}
+use Rattle.step_core.proofs.Looks.{same_name}
 use Rattle.step_core.proofs.SeenWords.{point_at-seen, seen-within}
 use Rattle.kd_shared.specs.Loads.{FindsChild, LoadsChild, LoadsPoint}
 use Rattle.kd_shared.specs.Looking.{GoesOnLooking, OnlyLooks}
@@ -39,6 +41,11 @@ GoesOnLooking-trans before mid after one other = record {
   others = λ name k. other.others name k ∙ one.others name k;
 }
 
+-- the share of all workers stays
+pub HasWholeShare-looks : (before after : View) → OnlyLooks before after → HasWholeShare before → HasWholeShare after
+HasWholeShare-looks before after looks whole =
+    ap (λ crew. length crew) looks.kept.crew ∙ whole ∙ sym (ap (λ run. run.workers) looks.looks.goes_on.later.run)
+
 pub OnlyLooks-trans : (before mid after : View) → OnlyLooks before mid → OnlyLooks mid after → OnlyLooks before after
 OnlyLooks-trans before mid after one other = record {
   looks = GoesOnLooking-trans before mid after one.looks other.looks;
@@ -47,6 +54,7 @@ OnlyLooks-trans before mid after one other = record {
     most = other.kept.most ∙ one.kept.most;
     hand = other.kept.hand ∙ one.kept.hand;
   };
+  whole = λ all name. other.whole (HasWholeShare-looks before mid one all) name ∙ one.whole all name;
 }
 
 pub OnlyLooks-refl : (view : View) → IsLawfulView view → OnlyLooks view view
@@ -56,6 +64,7 @@ OnlyLooks-refl view lawful = record {
     others = λ name k. refl;
   };
   kept = record { crew = refl; most = refl; hand = refl };
+  whole = λ all name. refl;
 }
 
 -- the pass stays that of the same tree
@@ -65,16 +74,26 @@ BelongsTo-later shared before after same later h = record { table = same ∙ h.t
 
 -- ---- one load
 
+-- if it finds the word as that was seen, nothing is seen anew
+pub same_words : (before after : Words) (name : Word) (value : ℕ) → WritesWord name value before after → value ≡ before name → (other : Word)
+    → after other ≡ before other
+same_words before after name value writes same other =
+    elim (same_name other name) [
+      | inl e ↦ ap after e ∙ writes.here ∙ same ∙ sym (ap before e)
+      | inr apart ↦ writes.others other apart
+    ]
+
 -- a step that shows no word but that of a child or of a point
 pub OnlyLooks-loaded : (before after : View) (name : Word) (word : ℕ) → after ≡ loaded before name word → GoesOn before after
-    → ChangesOnly IsChildOrPoint (sees before) (sees after) → OnlyLooks before after
-OnlyLooks-loaded before after name word is goes_on others = record {
+    → ChangesOnly IsChildOrPoint (sees before) (sees after) → (HasWholeShare before → SeesAsBefore before after) → OnlyLooks before after
+OnlyLooks-loaded before after name word is goes_on others whole = record {
   looks = record { goes_on = goes_on; others = others };
   kept = record {
     crew = ap (λ (v : View). v.crew) is;
     most = ap (λ (v : View). v.most) is;
     hand = ap (λ (v : View). v.hand) is;
   };
+  whole = whole;
 }
 
 -- points that are seen by the same words are the same

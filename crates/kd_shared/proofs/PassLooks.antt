@@ -1,12 +1,16 @@
 -- What loads leave of a pass: all but what it sees of the loaded words.
-use Rattle.std.proofs.Common.{◌≡◌, ℕ, sym, ap, ◌∙◌, subst}
+use Rattle.std.proofs.Common.{◌≡◌, ℕ, Bool, sym, ap, ◌∙◌, subst}
+use Rattle.plan_words.specs.Claims.{SeesAsBefore}
 use Rattle.plan_words.specs.Nodes.{IsChildOrPoint}
-use Rattle.plan_words.specs.States.{BelongsTo, GoesOn, PassState, SharedState, with_view}
+use Rattle.plan_words.specs.States.{BelongsTo, GoesOn, HasWholeShare, PassState, SharedState, with_view}
 use Rattle.step_core.specs.ViewSteps.{loaded}
+use Rattle.step_core.specs.ViewTrees.{SeesNode}
 use Rattle.step_core.specs.Views.{sees}
 use Rattle.step_core.specs.WordNames.{ChangesOnly, Word, WritesWord}
+use Rattle.step_core.specs.WordNames.Word.{ChildOf}
+use Rattle.step_core.proofs.SeenByViews.{WritesWord-saw}
 use Rattle.kd_shared.specs.Looking.{OnlyLooks}
-use Rattle.kd_shared.proofs.Looking.{BelongsTo-later, OnlyLooks-loaded, OnlyLooks-trans}
+use Rattle.kd_shared.proofs.Looking.{BelongsTo-later, OnlyLooks-loaded, OnlyLooks-trans, same_words}
 
 -- A pass of this tree only looks, and nothing but its view changes.
 pub record PassLooks (shared : SharedState) (before after : PassState) : Type 0 where
@@ -25,19 +29,33 @@ PassLooks-trans shared before mid after one other = record {
 -- one step that shows no word but that of a child or of a point
 pub PassLooks-step : (shared : SharedState) (before after : PassState) (name : Word) (word : ℕ) → BelongsTo before shared
     → after ≡ with_view before (loaded before.view name word) → GoesOn before.view after.view → ChangesOnly IsChildOrPoint (sees before.view) (sees after.view)
-    → PassLooks shared before after
-PassLooks-step shared before after name word belongs is goes_on others =
+    → (HasWholeShare before.view → SeesAsBefore before.view after.view) → PassLooks shared before after
+PassLooks-step shared before after name word belongs is goes_on others whole =
     let view_is : after.view ≡ loaded before.view name word = ap (λ (p : PassState). p.view) is in
     record {
       belongs = BelongsTo-later shared before after (ap (λ (p : PassState). p.table) is) goes_on.later belongs;
-      looks = OnlyLooks-loaded before.view after.view name word view_is goes_on others;
+      looks = OnlyLooks-loaded before.view after.view name word view_is goes_on others whole;
       view_alone = is ∙ ap (with_view before) (sym view_is);
     }
 
 -- one load of it
 pub PassLooks-load : (shared : SharedState) (before after : PassState) (name : Word) (word value : ℕ) → BelongsTo before shared → IsChildOrPoint name
     → after ≡ with_view before (loaded before.view name word) → GoesOn before.view after.view → WritesWord name value (sees before.view) (sees after.view)
-    → PassLooks shared before after
-PassLooks-load shared before after name word value belongs node is goes_on writes =
+    → (HasWholeShare before.view → value ≡ sees before.view name) → PassLooks shared before after
+PassLooks-load shared before after name word value belongs node is goes_on writes whole =
     PassLooks-step shared before after name word belongs is goes_on
     (λ other k. writes.others other (λ same. k (subst IsChildOrPoint (sym same) node)))
+    (λ all. same_words (sees before.view) (sees after.view) name value writes (whole all))
+
+-- one try of a link that met a child
+pub PassLooks-met : (shared : SharedState) (before after : PassState) (n : ℕ) (side : Bool) (word : ℕ) → BelongsTo before shared → SeesNode before.view n
+    → after ≡ with_view before (loaded before.view (ChildOf n side) word) → GoesOn before.view after.view
+    → ChangesOnly IsChildOrPoint (sees before.view) (sees after.view) → (HasWholeShare before.view → word ≡ sees before.view (ChildOf n side))
+    → PassLooks shared before after
+PassLooks-met shared before after n side word belongs seen is goes_on others whole =
+    let lawful = goes_on.was_lawful in
+    let name : Word = ChildOf n side in
+    let writes = subst (λ v. WritesWord name word (sees before.view) (sees v)) (sym (ap (λ (p : PassState). p.view) is))
+    (WritesWord-saw before.view.run before.view lawful.of_run name (lawful.within n seen) word word) in
+    PassLooks-step shared before after name word belongs is goes_on others
+    (λ all. same_words (sees before.view) (sees after.view) name word writes (whole all))

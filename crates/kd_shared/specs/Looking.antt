@@ -1,8 +1,8 @@
 -- What calls that look at nodes leave of a pass.
 use Rattle.std.specs.Prelude.{◌≡◌}
-use Rattle.plan_words.specs.Claims.{KeepsHand}
+use Rattle.plan_words.specs.Claims.{KeepsHand, SeesAsBefore}
 use Rattle.plan_words.specs.Nodes.{IsChildOrPoint}
-use Rattle.plan_words.specs.States.{GoesOn, PassState}
+use Rattle.plan_words.specs.States.{GoesOn, HasWholeShare, PassState}
 use Rattle.step_core.specs.Views.{sees}
 use Rattle.step_core.specs.WordNames.{ChangesOnly}
 use Rattle.step_core.specs.declared.views.View.{View}
@@ -12,10 +12,11 @@ pub record GoesOnLooking (before after : View) : Type 0 where
   pub goes_on : GoesOn before after
   pub others : ChangesOnly IsChildOrPoint (sees before) (sees after)
 
--- It only looks: share, limit and hand stay too.
+-- It only looks: share, limit and hand stay too. A pass with the share of all workers sees nothing new.
 pub record OnlyLooks (before after : View) : Type 0 where
   pub looks : GoesOnLooking before after
   pub kept : KeepsHand before after
+  pub whole : HasWholeShare before → SeesAsBefore before after
 
 -- the pass is that of the same tree, and its lists of found nodes stay
 pub record KeepsLists (before after : PassState) : Type 0 where

@@ -1,15 +1,20 @@
 -- Where the node in hand came to.
-use Rattle.std.specs.Prelude.{◌≡◌, ℕ, suc, Some}
+use Rattle.std.specs.Prelude.{◌≡◌, ◌≢◌, ℕ, suc, Bool, Some}
 use Rattle.kd_shared.specs.declared.placing.Placing.{Placing}
 use Rattle.kd_shared.specs.declared.placing.Placing.TheVariants.{Placed, Same}
+use Rattle.plan_model.specs.PointsByNumber.{IsPresent, StandsAt, point_at}
+use Rattle.plan_model.specs.TreeStates.{TreeState}
 use Rattle.plan_model.specs.Ways.{IsOnWay}
+use Rattle.plan_words.specs.Claims.{SeesAsBefore}
 use Rattle.plan_words.specs.Nodes.{IsNodeWord}
 use Rattle.plan_words.specs.States.{GoesOn}
+use Rattle.step_core.specs.SharedWords.{state_of_links}
 use Rattle.step_core.specs.ViewSteps.{pair_in_hand}
-use Rattle.step_core.specs.ViewTrees.{SeesPoint}
-use Rattle.step_core.specs.Views.{sees, tree_seen}
-use Rattle.step_core.specs.WordNames.{ChangesOnly}
-use Rattle.step_core.specs.WordNames.Word.{FirstOf, TreeOf}
+use Rattle.step_core.specs.ViewTrees.{LeadsTo, SeesPoint}
+use Rattle.step_core.specs.Views.{run_sizes, sees, tree_seen}
+use Rattle.step_core.specs.WordNames.{ChangesOnly, Word}
+use Rattle.step_core.specs.WordNames.Word.{ChildOf, FirstOf, PointOf, TreeOf}
+use Rattle.step_core.specs.Words.{point_word}
 use Rattle.step_core.specs.declared.views.Hand.{Hand}
 use Rattle.step_core.specs.declared.views.Stage.TheVariants.{Counted}
 use Rattle.step_core.specs.declared.views.View.{View}
@@ -43,3 +48,49 @@ pub record IsSame (view : View) (hand : Hand) (j : ℕ) : Type 0 where
 abbrev pub IsPlacing : View → Hand → Placing → Type 0
 IsPlacing view hand Placed = IsPlaced view hand
 IsPlacing view hand (Same j) = IsSame view hand j
+
+-- ---- what a pass with the share of all workers sees
+
+-- the words of node n, and the word of the child of node m on this side
+abbrev pub IsWordOfLink : ℕ → Bool → ℕ → Word → Type 0
+IsWordOfLink m side n (PointOf i) = i ≡ n
+IsWordOfLink m side n (TreeOf i) = i ≡ n
+IsWordOfLink m side n (FirstOf i) = i ≡ n
+IsWordOfLink m side n (ChildOf i right) = (i ≡ m) × (right ≡ side)
+IsWordOfLink m side n _ = ⊥
+
+-- the tree in the words that a view sees, with its costs and records
+abbrev pub state_seen : View → TreeState
+state_seen view = state_of_links (run_sizes view.run) (sees view)
+
+-- The tree has the node in this hand more, at its point, with its parent and its cost, and is else as it was.
+pub record AddsHand (before after : TreeState) (hand : Hand) : Type 0 where
+  pub absent : ¬ IsPresent before.points (suc hand.mark)
+  pub stands : StandsAt after.points (suc hand.mark) hand.point
+  pub parent : after.parent (suc hand.mark) ≡ hand.parent
+  pub cost : after.cost (suc hand.mark) ≡ hand.cost
+  pub written_cost : after.written_cost (suc hand.mark) ≡ hand.cost
+  pub points : (n : ℕ) → n ≢ suc hand.mark → point_at after.points n ≡ point_at before.points n
+  pub parents : (n : ℕ) → n ≢ suc hand.mark → after.parent n ≡ before.parent n
+  pub costs : (n : ℕ) → n ≢ suc hand.mark → after.cost n ≡ before.cost n
+  pub written_costs : (n : ℕ) → n ≢ suc hand.mark → after.written_cost n ≡ before.written_cost n
+  pub records : (k : ℕ) → after.record_of k ≡ before.record_of k
+
+-- The node in hand is seen as a child, where the way of its point led over what was seen and no child was. It is seen with its point, its
+-- parent and its cost, as they are in hand; all else is seen as before. So the tree in those words has that node more.
+pub record SeesLinked (before after : View) (hand : Hand) : Type 0 where
+  pub above : ℕ
+  pub side : Bool
+  pub leads : LeadsTo before hand.point above side
+  pub empty : sees before (ChildOf above side) ≡ 0
+  pub child : sees after (ChildOf above side) ≡ suc hand.mark
+  pub point : sees after (PointOf (suc hand.mark)) ≡ point_word hand.point
+  pub pair : sees after (TreeOf (suc hand.mark)) ≡ pair_in_hand hand
+  pub first : sees after (FirstOf (suc hand.mark)) ≡ pair_in_hand hand
+  pub others : ChangesOnly (IsWordOfLink above side (suc hand.mark)) (sees before) (sees after)
+  pub tree : AddsHand (state_seen before) (state_seen after) hand
+
+-- The tree with the node in this hand, if that is placed, or else the tree that was seen before.
+abbrev pub SeesPlacing : View → View → Hand → Placing → Type 0
+SeesPlacing before after hand Placed = SeesLinked before after hand
+SeesPlacing before after hand (Same j) = SeesAsBefore before after

@@ -16,6 +16,9 @@
 //! [`place`] links the node in hand at the end of the way of its point, or tells the node that stands at that very point.
 //! A worker that comes second at a place walks on below the node that came first.
 //!
+//! A pass with the share of all workers has seen all nodes as they are: a search shows it nothing new, so that its promise is of all
+//! nodes, and [`place`] shows it nothing but the node that it links.
+//!
 //! No call takes memory or waits, and each visits a node once. Share, worker, records, limit and hand of the pass stay; `place`
 //! changes the stage of the hand alone. Distances are squared, in square lattice steps.
 #![tactic(auto)]

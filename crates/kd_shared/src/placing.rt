@@ -1,8 +1,11 @@
 //! The place of a new node in the kd-tree.
 
 ghost use Rattle.std.specs.Prelude.{◌≡◌, IfSome, IsSome};
-ghost use Rattle.kd_shared.specs.Placings.{GoesOnPlacing, IsPlacing, KeepsShare};
-ghost use Rattle.plan_words.specs.States.{BelongsTo, with_view};
+ghost use Rattle.kd_shared.specs.Placings.{GoesOnPlacing, IsPlacing, KeepsShare, SeesPlacing};
+ghost use Rattle.kd_shared.specs.declared.placing.Placing.TheVariants.{Placed};
+ghost use Rattle.plan_model.specs.PointsByNumber.{IsFree};
+ghost use Rattle.plan_words.specs.States.{BelongsTo, HasWholeShare, with_view};
+ghost use Rattle.step_core.specs.Views.{tree_seen};
 ghost use Rattle.step_core.specs.declared.views.Stage.TheVariants.{Treed};
 
 use crate::sides::goes_right;
@@ -31,6 +34,10 @@ pub fn place(shared: &Shared, pass: &mut Pass, _mark: u32) -> Placing
     ensures share { KeepsShare pass.old.view pass.new.view }
     ensures view_alone { pass.new ≡ with_view pass.old pass.new.view }
     ensures placed { IfSome pass.old.view.hand (λ hand. IsPlacing pass.new.view hand result) }
+    // a pass with the whole share places its node where it has seen none, and sees nothing new but that node
+    ensures whole { HasWholeShare pass.old.view
+        → IfSome pass.old.view.hand (λ hand. IsFree (tree_seen pass.old.view).points hand.point → result ≡ Placed) }
+    ensures whole_seen { HasWholeShare pass.old.view → IfSome pass.old.view.hand (λ hand. SeesPlacing pass.old.view pass.new.view hand result) }
 {
     let p = pass.hand_point();
     let mut node = 0;

@@ -16,7 +16,7 @@ pub visits-init : goal.visits-init
 visits-init c =
     let spot : Spot = record { node = 0; by_rows = false; gap = 0; point = c.point-start.result } in
     let first = PassLooks-load c.args.shared.now c.args.pass.now c.point-start.new.pass (PointOf 0) _ _ c.requires.belongs tt
-    c.point-start.ensures.view c.point-start.ensures.goes_on c.point-start.ensures.seen in
+    c.point-start.ensures.view c.point-start.ensures.goes_on c.point-start.ensures.seen c.point-start.ensures.whole in
     let load = LoadsPoint-point c.args.pass.now.view c.point-start.new.pass.view 0 c.point-start.ensures.goes_on c.point-start.result
     c.point-start.ensures.found c.point-start.ensures.seen.others in
     let alone = c.push_spot.ensures

@@ -25,9 +25,9 @@ push_spot-requires c =
 pub returns-in-Some-clause-looks : goal.returns-in-Some-clause-looks
 returns-in-Some-clause-looks c =
     let load = PassLooks-load c.args.shared.now c.args.pass.now c.child.new.pass (ChildOf c.args.spot.node c.args.right) _ _
-    c.requires.belongs tt c.child.ensures.view c.child.ensures.goes_on c.child.ensures.seen in
+    c.requires.belongs tt c.child.ensures.view c.child.ensures.goes_on c.child.ensures.seen c.child.ensures.whole in
     let look = PassLooks-load c.args.shared.now c.child.new.pass c.point-point.new.pass (PointOf c.in-Some.child) _ _
-    load.belongs tt c.point-point.ensures.view c.point-point.ensures.goes_on c.point-point.ensures.seen in
+    load.belongs tt c.point-point.ensures.view c.point-point.ensures.goes_on c.point-point.ensures.seen c.point-point.ensures.whole in
     subst (λ (p : PassState). OnlyLooks c.args.pass.now.view p.view) (sym c.push_spot.ensures)
     (PassLooks-trans c.args.shared.now c.args.pass.now c.child.new.pass c.point-point.new.pass load look).looks
 

@@ -14,7 +14,7 @@ pub visits-init : goal.visits-init
 visits-init c =
     let spot : Spot = record { node = 0; by_rows = false; gap = 0; point = c.point-here.result } in
     let first = PassLooks-load c.args.shared.now c.args.pass.now c.point-here.new.pass (PointOf 0) _ _ c.requires.belongs tt
-    c.point-here.ensures.view c.point-here.ensures.goes_on c.point-here.ensures.seen in
+    c.point-here.ensures.view c.point-here.ensures.goes_on c.point-here.ensures.seen c.point-here.ensures.whole in
     let load = LoadsPoint-point c.args.pass.now.view c.point-here.new.pass.view 0 c.point-here.ensures.goes_on c.point-here.result
     c.point-here.ensures.found c.point-here.ensures.seen.others in
     let alone = c.push_spot.ensures
@@ -78,14 +78,14 @@ stack_child-requires-clause-belongs c =
     let popped = popped_belongs c.args.shared.now c.args.pass.now c.visits.pass c.args.p c.visits.best.distance c.visits.best.node c.visits._visit
     c.visits.invariant.seeks c.pop_spot.new.self c.pop_spot.ensures.others in
     (PassLooks-load c.args.shared.now c.pop_spot.new.self c.point-here-then-square-best.new.pass (PointOf c.in-Some.spot.node) _ _ popped tt
-    c.point-here-then-square-best.ensures.view c.point-here-then-square-best.ensures.goes_on c.point-here-then-square-best.ensures.seen).belongs
+    c.point-here-then-square-best.ensures.view c.point-here-then-square-best.ensures.goes_on c.point-here-then-square-best.ensures.seen c.point-here-then-square-best.ensures.whole).belongs
 
 pub stack_child-requires-clause-room : goal.stack_child-requires-clause-room
 stack_child-requires-clause-room c =
     let popped = popped_belongs c.args.shared.now c.args.pass.now c.visits.pass c.args.p c.visits.best.distance c.visits.best.node c.visits._visit
     c.visits.invariant.seeks c.pop_spot.new.self c.pop_spot.ensures.others in
     let load = PassLooks-load c.args.shared.now c.pop_spot.new.self c.point-here-then-square-best.new.pass (PointOf c.in-Some.spot.node) _ _ popped tt
-    c.point-here-then-square-best.ensures.view c.point-here-then-square-best.ensures.goes_on c.point-here-then-square-best.ensures.seen in
+    c.point-here-then-square-best.ensures.view c.point-here-then-square-best.ensures.goes_on c.point-here-then-square-best.ensures.seen c.point-here-then-square-best.ensures.whole in
     let point = LoadsPoint-point c.pop_spot.new.self.view c.point-here-then-square-best.new.pass.view c.in-Some.spot.node
     c.point-here-then-square-best.ensures.goes_on c.point-here-then-square-best.result c.point-here-then-square-best.ensures.found
     c.point-here-then-square-best.ensures.seen.others in
@@ -108,7 +108,7 @@ stack_child-requires-then-square-best-clause-room c =
     let popped = popped_belongs c.args.shared.now c.args.pass.now c.visits.pass c.args.p c.visits.best.distance c.visits.best.node c.visits._visit
     c.visits.invariant.seeks c.pop_spot.new.self c.pop_spot.ensures.others in
     let load = PassLooks-load c.args.shared.now c.pop_spot.new.self c.point-here-then-square-best.new.pass (PointOf c.in-Some.spot.node) _ _ popped tt
-    c.point-here-then-square-best.ensures.view c.point-here-then-square-best.ensures.goes_on c.point-here-then-square-best.ensures.seen in
+    c.point-here-then-square-best.ensures.view c.point-here-then-square-best.ensures.goes_on c.point-here-then-square-best.ensures.seen c.point-here-then-square-best.ensures.whole in
     let point = LoadsPoint-point c.pop_spot.new.self.view c.point-here-then-square-best.new.pass.view c.in-Some.spot.node
     c.point-here-then-square-best.ensures.goes_on c.point-here-then-square-best.result c.point-here-then-square-best.ensures.found
     c.point-here-then-square-best.ensures.seen.others in
@@ -133,7 +133,7 @@ visits-preserved c =
           c.visits.invariant.seeks c.pop_spot.new.self c.pop_spot.ensures.others in
           let load = PassLooks-load c.args.shared.now c.pop_spot.new.self w.point-here-then-square-best.new.pass (PointOf c.in-Some.spot.node) _ _
           popped tt w.point-here-then-square-best.ensures.view w.point-here-then-square-best.ensures.goes_on
-          w.point-here-then-square-best.ensures.seen in
+          w.point-here-then-square-best.ensures.seen w.point-here-then-square-best.ensures.whole in
           let point = LoadsPoint-point c.pop_spot.new.self.view w.point-here-then-square-best.new.pass.view c.in-Some.spot.node
           w.point-here-then-square-best.ensures.goes_on w.point-here-then-square-best.result w.point-here-then-square-best.ensures.found
           w.point-here-then-square-best.ensures.seen.others in

@@ -2,9 +2,12 @@ use Rattle.std.proofs.Common.{not, [], ◌∷◌, ◌++◌, length, Some, None, 
 use Rattle.plan_words.specs.States.{PassState}
 use Rattle.plan_words.specs.declared.scratch.Spot.{Spot}
 use Rattle.step_core.specs.ViewTrees.{sight_in}
+use Rattle.step_core.specs.WordNames.Word.{ChildOf}
+use Rattle.kd_shared.specs.Looking.{OnlyLooks}
 use Rattle.kd_shared.specs.Spots.{StacksChild}
 use Rattle.kd_shared.proofs.LoadedChildren.{StacksChild-none, StacksChild-some}
 use Rattle.kd_shared.proofs.Looking.{LoadsChild-child, keeps_sight, later_moment, within_marks}
+use Rattle.kd_shared.proofs.PassLooks.{PassLooks-load}
 use Rattle.kd_shared.proofs.nearest_search.stack_child.Goals as goal
 
 pub push_spot-requires : goal.push_spot-requires
@@ -17,6 +20,12 @@ push_spot-requires c =
     let spots = ap (λ (p : PassState). length p.spots) c.child.ensures.view in
     let marks = ap (λ run. length run.marks) goes_on.later.run in
     omega (arith, room, spots, marks)
+
+pub returns-in-Some-clause-looks : goal.returns-in-Some-clause-looks
+returns-in-Some-clause-looks c =
+    let load = PassLooks-load c.args.shared.now c.args.pass.now c.child.new.pass (ChildOf c.args.spot.node c.args.right) _ _
+    c.requires.belongs tt c.child.ensures.view c.child.ensures.goes_on c.child.ensures.seen c.child.ensures.whole in
+    subst (λ (p : PassState). OnlyLooks c.args.pass.now.view p.view) (sym c.push_spot.ensures) load.looks
 
 pub returns-in_default-clause-stacks : goal.returns-in_default-clause-stacks
 returns-in_default-clause-stacks c =

@@ -1,18 +1,19 @@
-use Rattle.std.proofs.Common.{◌≡◌, ◌+◌, sym, subst, ◌∙◌, arith}
+use Rattle.std.proofs.Common.{◌≡◌, ◌+◌, refl, sym, subst, ◌∙◌, arith}
 use Rattle.std.specs.Prelude.{IsSome}
 use Rattle.plan_model.proofs.SamePoints.{same_point-false, same_point-true}
 use Rattle.step_core.specs.ViewTrees.{SeesPoint}
-use Rattle.step_core.specs.WordNames.Word.{ChildOf, PointOf}
+use Rattle.step_core.specs.WordNames.Word.{PointOf}
 use Rattle.step_core.specs.declared.views.Stage.TheVariants.{Treed}
 use Rattle.kd_shared.proofs.Finding.{IsFinding-begins, IsFinding-comes, IsFinding-depth, IsFinding-goes_on, IsFinding-leads}
-use Rattle.kd_shared.proofs.PassLooks.{PassLooks-load, PassLooks-step, PassLooks-trans}
+use Rattle.kd_shared.proofs.PassLooks.{PassLooks-load, PassLooks-met, PassLooks-trans}
+use Rattle.kd_shared.proofs.LinkedSights.{IfSome-all, IfSome-free, IfSome-sees_linked}
 use Rattle.kd_shared.proofs.PlacedNodes.{GoesOnPlacing-looks, IfSome-kept, IfSome-leads, IfSome-placed, IfSome-same, PassPlaces, PassPlaces-links, PassPlaces-looks}
 use Rattle.kd_shared.proofs.placing.place.Goals as goal
 
 pub depths-init : goal.depths-init
 depths-init c =
     let first = PassLooks-load c.args.shared.now c.args.pass.now c.point-here.new.pass (PointOf 0) _ _ c.requires.belongs tt
-    c.point-here.ensures.view c.point-here.ensures.goes_on c.point-here.ensures.seen in
+    c.point-here.ensures.view c.point-here.ensures.goes_on c.point-here.ensures.seen c.point-here.ensures.whole in
     record {
       passes = first;
       walks = IsFinding-begins c.args.pass.now.view c.point-here.new.pass.view c.hand_point-p.result c.point-here.result first.looks
@@ -40,6 +41,16 @@ returns-then-eq-clause-placed c =
     c.hand_point-p.ensures
     (subst (SeesPoint c.depths.pass.view c.depths.node) (same_point-true c.depths.here c.hand_point-p.result (sym c.eq.ensures ∙ c.if-eq.true))
     c.depths.invariant.walks.stands)
+
+pub returns-then-eq-clause-whole : goal.returns-then-eq-clause-whole
+returns-then-eq-clause-whole c = λ all.
+    IfSome-free _ c.args.pass.now.view c.depths.pass.view c.hand_point-p.result c.depths.node c.args.pass.now.view.hand all
+    c.depths.invariant.passes.looks c.hand_point-p.ensures
+    (subst (SeesPoint c.depths.pass.view c.depths.node) (same_point-true c.depths.here c.hand_point-p.result (sym c.eq.ensures ∙ c.if-eq.true))
+    c.depths.invariant.walks.stands)
+
+pub returns-then-eq-clause-whole_seen : goal.returns-then-eq-clause-whole_seen
+returns-then-eq-clause-whole_seen c = λ all. IfSome-all c.args.pass.now.view.hand (λ hand. c.depths.invariant.passes.looks.whole all)
 
 -- the way leads to this node
 pub link-requires-clause-belongs : goal.link-requires-clause-belongs
@@ -89,18 +100,33 @@ returns-in_default-clause-placed c =
     c.depths.here c.depths.invariant.walks (same_point-false c.depths.here c.hand_point-p.result (sym c.eq.ensures ∙ c.if-eq.false))
     c.goes_right.result c.goes_right.ensures c.link.new.pass.view child c.link.ensures.goes_on.later link)
 
+pub returns-in_default-clause-whole : goal.returns-in_default-clause-whole
+returns-in_default-clause-whole c = λ all. IfSome-all c.args.pass.now.view.hand (λ hand free. refl)
+
+pub returns-in_default-clause-whole_seen : goal.returns-in_default-clause-whole_seen
+returns-in_default-clause-whole_seen c = λ all.
+    IfSome-sees_linked c.args.pass.now.view c.depths.pass c.link.new.pass c.depths.node c.goes_right.result c.args.pass.now.view.hand all
+    c.depths.invariant.passes.looks c.link.ensures.goes_on c.depths.invariant.passes.looks.kept.hand c.requires.treed
+    (IfSome-leads c.depths.pass.view c.hand_point-p.result c.depths.node c.goes_right.result c.args.pass.now.view.hand c.hand_point-p.ensures
+    (IsFinding-leads c.args.pass.now.view c.depths.pass.view c.hand_point-p.result c.depths._depth c.depths.node c.depths.by_rows c.depths.here
+    c.depths.invariant.walks (same_point-false c.depths.here c.hand_point-p.result (sym c.eq.ensures ∙ c.if-eq.false)) c.goes_right.result
+    c.goes_right.ensures))
+    c.in_default.ensures.view
+
 -- or a child is there
 pub point-here-requires-in-depths-clause-belongs : goal.point-here-requires-in-depths-clause-belongs
 point-here-requires-in-depths-clause-belongs c =
-    (PassLooks-step c.args.shared.now c.depths.pass c.link.new.pass (ChildOf c.depths.node c.goes_right.result) _
-    c.depths.invariant.passes.belongs c.in-Err.ensures.view_found c.link.ensures.goes_on c.in-Err.ensures.others_found).belongs
+    (PassLooks-met c.args.shared.now c.depths.pass c.link.new.pass c.depths.node c.goes_right.result c.in-Err.child
+    c.depths.invariant.passes.belongs c.depths.invariant.walks.walk.seen c.in-Err.ensures.view_found c.link.ensures.goes_on
+    c.in-Err.ensures.others_found c.in-Err.ensures.whole_found).belongs
 
 pub depths-preserved : goal.depths-preserved
 depths-preserved c =
-    let fails = PassLooks-step c.args.shared.now c.depths.pass c.link.new.pass (ChildOf c.depths.node c.goes_right.result) _
-    c.depths.invariant.passes.belongs c.in-Err.ensures.view_found c.link.ensures.goes_on c.in-Err.ensures.others_found in
+    let fails = PassLooks-met c.args.shared.now c.depths.pass c.link.new.pass c.depths.node c.goes_right.result c.in-Err.child
+    c.depths.invariant.passes.belongs c.depths.invariant.walks.walk.seen c.in-Err.ensures.view_found c.link.ensures.goes_on
+    c.in-Err.ensures.others_found c.in-Err.ensures.whole_found in
     let look = PassLooks-load c.args.shared.now c.link.new.pass c.point-here-in-depths.new.pass (PointOf c.in-Err.child) _ _
-    fails.belongs tt c.point-here-in-depths.ensures.view c.point-here-in-depths.ensures.goes_on c.point-here-in-depths.ensures.seen in
+    fails.belongs tt c.point-here-in-depths.ensures.view c.point-here-in-depths.ensures.goes_on c.point-here-in-depths.ensures.seen c.point-here-in-depths.ensures.whole in
     record {
       passes = PassLooks-trans c.args.shared.now c.args.pass.now c.depths.pass c.point-here-in-depths.new.pass c.depths.invariant.passes
           (PassLooks-trans c.args.shared.now c.depths.pass c.link.new.pass c.point-here-in-depths.new.pass fails look);

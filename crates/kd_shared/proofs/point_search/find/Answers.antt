@@ -11,7 +11,7 @@ use Rattle.kd_shared.proofs.point_search.find.Goals as goal
 pub depths-init : goal.depths-init
 depths-init c =
     let first = PassLooks-load c.args.shared.now c.args.pass.now c.point-here.new.pass (PointOf 0) _ _ c.requires.belongs tt
-    c.point-here.ensures.view c.point-here.ensures.goes_on c.point-here.ensures.seen in
+    c.point-here.ensures.view c.point-here.ensures.goes_on c.point-here.ensures.seen c.point-here.ensures.whole in
     record {
       passes = first;
       walks = IsFinding-begins c.args.pass.now.view c.point-here.new.pass.view c.args.p c.point-here.result first.looks c.point-here.ensures.found;
@@ -41,7 +41,7 @@ child-requires-clause-seen_node c = c.depths.invariant.walks.walk.seen
 last_load : (c : goal.In_default) → PassLooks c.args.shared.now c.depths.pass c.child.new.pass
 last_load c =
     PassLooks-load c.args.shared.now c.depths.pass c.child.new.pass (ChildOf c.depths.node c.goes_right.result) _ _
-    c.depths.invariant.passes.belongs tt c.child.ensures.view c.child.ensures.goes_on c.child.ensures.seen
+    c.depths.invariant.passes.belongs tt c.child.ensures.view c.child.ensures.goes_on c.child.ensures.seen c.child.ensures.whole
 
 pub returns-in_default-clause-belongs : goal.returns-in_default-clause-belongs
 returns-in_default-clause-belongs c = (last_load c).belongs
@@ -76,14 +76,14 @@ returns-in_default-clause-free c =
 pub point-here-requires-in-depths-clause-belongs : goal.point-here-requires-in-depths-clause-belongs
 point-here-requires-in-depths-clause-belongs c =
     (PassLooks-load c.args.shared.now c.depths.pass c.child.new.pass (ChildOf c.depths.node c.goes_right.result) _ _
-    c.depths.invariant.passes.belongs tt c.child.ensures.view c.child.ensures.goes_on c.child.ensures.seen).belongs
+    c.depths.invariant.passes.belongs tt c.child.ensures.view c.child.ensures.goes_on c.child.ensures.seen c.child.ensures.whole).belongs
 
 pub depths-preserved : goal.depths-preserved
 depths-preserved c =
     let load = PassLooks-load c.args.shared.now c.depths.pass c.child.new.pass (ChildOf c.depths.node c.goes_right.result) _ _
-    c.depths.invariant.passes.belongs tt c.child.ensures.view c.child.ensures.goes_on c.child.ensures.seen in
+    c.depths.invariant.passes.belongs tt c.child.ensures.view c.child.ensures.goes_on c.child.ensures.seen c.child.ensures.whole in
     let look = PassLooks-load c.args.shared.now c.child.new.pass c.point-here-in-depths.new.pass (PointOf c.in-Some.child) _ _
-    load.belongs tt c.point-here-in-depths.ensures.view c.point-here-in-depths.ensures.goes_on c.point-here-in-depths.ensures.seen in
+    load.belongs tt c.point-here-in-depths.ensures.view c.point-here-in-depths.ensures.goes_on c.point-here-in-depths.ensures.seen c.point-here-in-depths.ensures.whole in
     record {
       passes = PassLooks-trans c.args.shared.now c.args.pass.now c.depths.pass c.point-here-in-depths.new.pass c.depths.invariant.passes
           (PassLooks-trans c.args.shared.now c.depths.pass c.child.new.pass c.point-here-in-depths.new.pass load look);
