@@ -1,7 +1,7 @@
 -- The choice of the best parent among nodes whose costs were seen.
-use Rattle.std.proofs.Common.{◌≡◌, ℕ, ◌+◌, ◌≤◌, ◌*◌, List, ◌∷◌, [], ◌++◌, Some, take, inl, inr, arith, refl, sym, ap, ◌∙◌, subst}
+use Rattle.std.proofs.Common.{◌≡◌, ℕ, ◌+◌, ◌≤◌, ◌*◌, List, ◌∷◌, [], ◌++◌, Some, drop, take, inl, inr, arith, refl, sym, ap, ◌∙◌, subst}
 use Rattle.std.specs.Prelude.{All, Contains, slice_get}
-use Rattle.std.proofs.lemmas.List.{take_more}
+use Rattle.std.proofs.lemmas.List.{drop_more, take_more}
 use Rattle.std.proofs.lemmas.List.Elements.{All-contains, All-push, Contains-get_or}
 use Rattle.std.proofs.lemmas.Option.{get_or_from_slice_get, slice_get_within}
 use Rattle.edge_cost.specs.LeastParents.{IsLeastParent}
@@ -41,6 +41,12 @@ pub take_read : (ns now : List ℕ) (i n : ℕ) → now ≡ ns → slice_get now
 take_read ns now i n same read =
     let here : slice_get ns i ≡ Some n = ap (λ ms. slice_get ms i) (sym same) ∙ read in
     take_more ns i 0 (slice_get_within ns i n here) ∙ ap (λ m. take i ns ++ m ∷ []) (get_or_from_slice_get ns i n 0 here)
+
+-- and the rest from there
+pub drop_read : (ns now : List ℕ) (i n : ℕ) → now ≡ ns → slice_get now i ≡ Some n → drop i ns ≡ n ∷ drop (i + 1) ns
+drop_read ns now i n same read =
+    let here : slice_get ns i ≡ Some n = ap (λ ms. slice_get ms i) (sym same) ∙ read in
+    drop_more ns i 0 (slice_get_within ns i n here) ∙ ap (λ m. m ∷ drop (i + 1) ns) (get_or_from_slice_get ns i n 0 here)
 
 -- one more
 pub All-more : (P : ℕ → Type 0) (ns more : List ℕ) (n : ℕ) → more ≡ ns ++ n ∷ [] → All P ns → P n → All P more

@@ -4,3 +4,7 @@ pub mod ChosenParents
 pub mod LoweredCosts
 pub mod RewiredNodes
 pub mod SpreadCosts
+pub mod WholeShares
+pub mod TightCosts
+pub mod MirroredTrees
+pub mod RewiredTrees

@@ -83,13 +83,18 @@ module _ (before after : View) (n parent kept above grand : ℕ) (here there : P
         ));
   }
 
--- A node that was lowered is settled: it costs what it does through its parent.
+-- A node is lowered: its word alone is seen anew.
+pub WritesWord-lowered : (before after : View) (n parent cost : ℕ) → IsLawfulView before → SeesPair before n → after ≡ lowered before n parent cost
+    → WritesWord (TreeOf n) (tree_word parent cost) (sees before) (sees after)
+WritesWord-lowered before after n parent cost lawful written is =
+    subst (λ v. WritesWord (TreeOf n) (tree_word parent cost) (sees before) (sees v)) (sym is)
+    (WritesWord-saw before.run before lawful.of_run (TreeOf n) (pair_low before n lawful written) (sees before (TreeOf n)) (tree_word parent cost))
+
+-- It is settled then, as it costs what it does through its parent.
 module _ (before after : View) (n parent cost : ℕ) (lawful : IsLawfulView before) (may : MayLower before n parent cost)
     (is : after ≡ lowered before n parent cost) (goes_on : GoesOn before after) where
   writes : WritesWord (TreeOf n) (tree_word parent cost) (sees before) (sees after)
-  writes =
-      subst (λ v. WritesWord (TreeOf n) (tree_word parent cost) (sees before) (sees v)) (sym is)
-      (WritesWord-saw before.run before lawful.of_run (TreeOf n) (pair_low before n lawful may.seen.written) (sees before (TreeOf n)) (tree_word parent cost))
+  writes = WritesWord-lowered before after n parent cost lawful may.seen.written is
 
   -- the parent is another node, since it costs less
   apart : parent ≢ n

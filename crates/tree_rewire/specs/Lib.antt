@@ -2,3 +2,4 @@ pub mod SeenCosts
 pub mod Choices
 pub mod Spreads
 pub mod Rewirings
+pub mod Mirrors

@@ -4,9 +4,10 @@ use Rattle.plan_model.specs.PointsByNumber.{IsPresent, point_of}
 use Rattle.plan_words.specs.States.{PassState}
 use Rattle.plan_words.specs.Waiting.{IsOn}
 use Rattle.step_core.specs.Views.{sees, tree_seen}
+use Rattle.step_core.specs.WordNames.{ChangesOnly}
 use Rattle.step_core.specs.WordNames.Word.{TreeOf}
 use Rattle.step_core.specs.declared.views.View.{View}
-use Rattle.tree_rewire.specs.SeenCosts.{SeesPair, cost_seen, cost_through, parent_seen}
+use Rattle.tree_rewire.specs.SeenCosts.{IsTreeWord, SeesPair, cost_seen, cost_through, parent_seen}
 
 -- Node n and its parent are seen with their points, and it costs at most what it costs through its parent, as all this was seen last.
 pub record IsWithinParent (view : View) (n : ℕ) : Type 0 where
@@ -26,6 +27,32 @@ IsSource node before after n = (n ≡ node) ⊎ (cost_seen after n < cost_seen b
 abbrev pub HasSpread : ℕ → View → View → Type 0
 HasSpread node before after =
     (c : ℕ) → 0 < c → SeesPair before c → IsSource node before after (parent_seen after c) → IsWithinParent after c
+
+-- ---- exact costs
+
+-- node n is seen with its point, its parent and its cost
+pub record SeesKnot (view : View) (n : ℕ) : Type 0 where
+  pub stands : IsPresent (tree_seen view).points n
+  pub written : SeesPair view n
+
+-- it costs exactly what its parent costs and the edge, as all this was seen last
+abbrev pub IsTight : View → ℕ → Type 0
+IsTight view n = cost_seen view n ≡ cost_through view (point_of (tree_seen view).points n) (parent_seen view n)
+
+-- each seen node does, but the start
+abbrev pub AllTight : View → Type 0
+AllTight view = (n : ℕ) → 0 < n → SeesKnot view n → IsTight view n
+
+-- and each but the start and the children of this node
+abbrev pub AllTightBut : ℕ → View → Type 0
+AllTightBut node view = (n : ℕ) → 0 < n → SeesKnot view n → parent_seen view n ≢ node → IsTight view n
+
+-- No node is seen with another parent or at a higher cost, or with them for the first time. All other words are seen as before.
+pub record KeepsParents (before after : View) : Type 0 where
+  pub parents : (n : ℕ) → parent_seen after n ≡ parent_seen before n
+  pub costs : (n : ℕ) → cost_seen after n ≤ cost_seen before n
+  pub written : (n : ℕ) → SeesPair after n → SeesPair before n
+  pub others : ChangesOnly IsTreeWord (sees before) (sees after)
 
 -- ---- steps
 

@@ -8,7 +8,8 @@ ghost use Rattle.plan_model.specs.ConfigurationSpace.{space_of};
 ghost use Rattle.plan_model.specs.LeastPairs.{IsFirstLeast};
 ghost use Rattle.plan_model.specs.OpenNodes.{IsOpenTo};
 ghost use Rattle.plan_model.specs.PointsByNumber.{IsPresent, point_of};
-ghost use Rattle.plan_words.specs.States.{BelongsTo, with_view};
+ghost use Rattle.plan_words.specs.Claims.{SeesAsBefore};
+ghost use Rattle.plan_words.specs.States.{BelongsTo, HasWholeShare, with_view};
 ghost use Rattle.step_core.specs.LaterViews.{IsLawfulView};
 ghost use Rattle.step_core.specs.ViewTrees.{IsCostBelow};
 ghost use Rattle.step_core.specs.Views.{tree_seen};
@@ -49,6 +50,8 @@ pub fn choose<C: Clearing>(
     ensures cost { result.1 ≡ cost_through pass.new.view p result.0 }
     // so the new node may hang below it
     ensures below { IsCostBelow pass.new.view p result.0 result.1 }
+    // a pass with the whole share sees nothing new
+    ensures whole { HasWholeShare pass.old.view → SeesAsBefore pass.old.view pass.new.view }
 {
     let count = pass.near_count();
     load_costs(shared, pass, nearest, count);
@@ -65,6 +68,7 @@ fn load_costs(shared: &Shared, pass: &mut Pass, nearest: u32, count: usize)
     requires near { All (IsPresent (tree_seen pass.old.view).points) pass.old.near }
     ensures steps { PassSees IsTreeWord shared.now pass.old pass.new }
     ensures pairs { All (SeesPair pass.new.view) (nearest ∷ pass.old.near) }
+    ensures whole { HasWholeShare pass.old.view → SeesAsBefore pass.old.view pass.new.view }
 {
     let _pair = shared.tree(pass, nearest);
     'loads: for index in 0..count {

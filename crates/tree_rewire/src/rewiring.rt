@@ -1,16 +1,22 @@
 //! The rewiring of nodes near a new one.
 
-ghost use Rattle.std.specs.Prelude.{◌≡◌, ◌≢◌, ℕ, ◌+◌, ◌<◌, ◌≤◌, All, Contains, IfSome, IsSome};
+ghost use Rattle.std.specs.Prelude.{◌≡◌, ◌≢◌, ℕ, suc, ◌+◌, ◌<◌, ◌≤◌, All, Contains, IfSome, IsSome};
 ghost use Rattle.plan_model.specs.Bounds.{IsBounded};
 ghost use Rattle.plan_model.specs.Clearance.{Clear};
 ghost use Rattle.plan_model.specs.ConfigurationSpace.{space_of};
 ghost use Rattle.plan_model.specs.Cost.{cost_of};
 ghost use Rattle.plan_model.specs.OrderLaw.{IsAllowedEdge};
 ghost use Rattle.plan_model.specs.PointsByNumber.{IsPresent, point_of};
-ghost use Rattle.plan_words.specs.States.{BelongsTo};
+ghost use Rattle.plan_model.specs.Textbook.{Nodes, Rewires, RewiresOne};
+ghost use Rattle.plan_words.specs.Claims.{SeesAsBefore};
+ghost use Rattle.plan_words.specs.States.{BelongsTo, HasWholeShare};
 ghost use Rattle.step_core.specs.LaterViews.{IsLawfulView};
 ghost use Rattle.step_core.specs.ViewTrees.{SeesPoint};
-ghost use Rattle.step_core.specs.Views.{setup_in, share, tree_seen};
+ghost use Rattle.step_core.specs.Views.{sees, setup_in, share, tree_seen};
+ghost use Rattle.step_core.specs.WordNames.{WritesWord};
+ghost use Rattle.step_core.specs.WordNames.Word.{TreeOf};
+ghost use Rattle.step_core.specs.Words.{tree_word};
+ghost use Rattle.tree_rewire.specs.Mirrors.{Mirrors};
 ghost use Rattle.tree_rewire.specs.Rewirings.{HasPlaced};
 ghost use Rattle.tree_rewire.specs.SeenCosts.{IsInReach, IsTreeOrPoint, IsTreeWord, PassLowers, PassSees, SeesAnew, SeesPair, cost_seen};
 
@@ -41,6 +47,9 @@ pub fn rewire<C: Clearing>(shared: &Shared, pass: &mut Pass, hall: &C, k: u32)
     ensures rewired { IfSome pass.old.view.hand (λ hand. (i : ℕ) → Contains pass.old.near i
         → Clear (space_of shared.now.task.scene) hand.point (point_of (tree_seen pass.old.view).points i)
         → cost_seen pass.new.view i ≤ hand.cost + cost_of hand.point (point_of (tree_seen pass.old.view).points i)) }
+    // a pass with the whole share sees a tree, and then that tree rewired as in the textbook
+    ensures whole { HasWholeShare pass.old.view → (tree : Nodes) → Mirrors pass.old.view tree
+        → (after : Nodes) × Rewires (space_of shared.now.task.scene) tree (suc k) pass.old.near after × Mirrors pass.new.view after }
 {
     let count = pass.near_count();
     let from = pass.hand_point();
@@ -71,6 +80,8 @@ fn rewire_node<C: Clearing>(
     ensures rewired { Clear (C.space hall.now) from (point_of (tree_seen pass.old.view).points node)
         → cost_seen pass.new.view node
         ≤ cost_seen pass.old.view parent + cost_of from (point_of (tree_seen pass.old.view).points node) }
+    ensures whole { HasWholeShare pass.old.view → (tree : Nodes) → Mirrors pass.old.view tree
+        → (after : Nodes) × RewiresOne (C.space hall.now) tree parent node after × Mirrors pass.new.view after }
 {
     let kept_cost = known_cost(shared, pass, node);
     let to = shared.point(pass, node);
@@ -89,6 +100,7 @@ fn known_cost(shared: &Shared, pass: &mut Pass, node: u32) -> u64
     ensures steps { PassSees IsTreeWord shared.now pass.old pass.new }
     ensures pair { SeesPair pass.new.view node }
     ensures cost { result ≡ cost_seen pass.new.view node }
+    ensures whole { HasWholeShare pass.old.view → SeesAsBefore pass.old.view pass.new.view }
 {
     if let Some((_, cost)) = pass.pair(node) {
         return cost;
@@ -111,6 +123,9 @@ fn improve(shared: &Shared, pass: &mut Pass, parent: u32, from: Point, node: u32
     requires to { IsBounded to }
     ensures steps { PassSees IsTreeWord shared.now pass.old pass.new }
     ensures most { cost_seen pass.new.view node ≤ cost_seen pass.old.view parent + cost_of from to }
+    // a pass with the whole share lowers it once
+    ensures whole { HasWholeShare pass.old.view → cost_seen pass.old.view parent + cost_of from to < cost_seen pass.old.view node
+        → WritesWord (TreeOf node) (tree_word parent (cost_seen pass.old.view parent + cost_of from to)) (sees pass.old.view) (sees pass.new.view) }
 {
     let limit = seen_cost(pass, parent) + cost(from, to);
     'lowers: while limit < seen_cost(pass, node) {

@@ -1,12 +1,13 @@
 //! A lowered cost comes to the subtree of its node.
 
 ghost use Rattle.std.specs.Prelude.{◌≡◌, ◌<◌, true, IfNone, IfSome, IsFalse, IsTrue};
-ghost use Rattle.plan_words.specs.States.{BelongsTo};
+ghost use Rattle.plan_words.specs.Claims.{SeesAsBefore};
+ghost use Rattle.plan_words.specs.States.{BelongsTo, HasWholeShare};
 ghost use Rattle.step_core.specs.LaterViews.{IsLawfulView};
 ghost use Rattle.step_core.specs.ViewTrees.{MayLower};
 ghost use Rattle.step_core.specs.Views.{share};
-ghost use Rattle.tree_rewire.specs.SeenCosts.{IsPointWord, IsTreeOrPoint, PassLowers, PassSees, SeesAnew, SeesPair, cost_seen};
-ghost use Rattle.tree_rewire.specs.Spreads.{HasFallen, HasSettledAll, HasSpread, IsSettled, KeepsPairs, OnlyAt, SeesWaiting};
+ghost use Rattle.tree_rewire.specs.SeenCosts.{IsPointWord, IsTreeOrPoint, PassLowers, PassSees, SeesAnew, SeesPair, cost_seen, parent_seen};
+ghost use Rattle.tree_rewire.specs.Spreads.{AllTight, AllTightBut, HasFallen, HasSettledAll, HasSpread, IsSettled, KeepsPairs, KeepsParents, OnlyAt, SeesWaiting};
 
 use edge_cost::{cost, costs_less_through};
 use plan_words::{Pass, Shared};
@@ -25,6 +26,10 @@ pub fn spread(shared: &Shared, pass: &mut Pass, node: u32)
     ensures lists { (pass.new.near ≡ pass.old.near) × (pass.new.spots ≡ pass.old.spots) }
     // by what is seen then, each child of the node, and of each node whose cost fell, costs no more than through its parent
     ensures spread { HasSpread node pass.old.view pass.new.view }
+    // of a pass with the whole share each lower succeeds, so no parent changes
+    ensures whole { HasWholeShare pass.old.view → KeepsParents pass.old.view pass.new.view }
+    // and where all costs but those of the node's children were exact, all are
+    ensures whole_tight { HasWholeShare pass.old.view → AllTightBut node pass.old.view → AllTight pass.new.view }
 {
     pass.begin_waiting();
     pass.queue_children(node);
@@ -44,6 +49,7 @@ fn next_fallen(shared: &Shared, pass: &mut Pass) -> Option<u32>
     ensures waits { pass.new.waits ≡ true }
     ensures some { IfSome result (HasFallen pass.old pass.new) }
     ensures none { IfNone result (HasSettledAll pass.old pass.new) }
+    ensures whole { HasWholeShare pass.old.view → KeepsParents pass.old.view pass.new.view }
 {
     'visits: while let Some(node) = pass.pop_waiting() {
         if settle(shared, pass, node) {
@@ -64,6 +70,7 @@ fn settle(shared: &Shared, pass: &mut Pass, node: u32) -> bool
     ensures settled { IsSettled pass.new.view node }
     ensures fell { IsTrue result → cost_seen pass.new.view node < cost_seen pass.old.view node }
     ensures same { IsFalse result → KeepsPairs pass.old.view pass.new.view }
+    ensures whole { HasWholeShare pass.old.view → KeepsParents pass.old.view pass.new.view }
 {
     let mut fell = false;
     'lowers: while let Some((parent, cost)) = looser(shared, pass, node) {
@@ -84,6 +91,8 @@ fn looser(shared: &Shared, pass: &mut Pass, node: u32) -> Option<(u32, u64)>
     ensures steps { PassSees IsPointWord shared.now pass.old pass.new }
     ensures some { IfSome result (λ lower. MayLower pass.new.view node lower.0 lower.1) }
     ensures none { IfNone result (IsSettled pass.new.view node) }
+    ensures own_parent { IfSome result (λ lower. lower.0 ≡ parent_seen pass.new.view node) }
+    ensures whole { HasWholeShare pass.old.view → SeesAsBefore pass.old.view pass.new.view }
 {
     let (parent, kept_cost) = pass.pair(node).unwrap();
     let (_, above) = pass.pair(parent)?;

@@ -13,6 +13,7 @@ use Rattle.tree_rewire.specs.SeenCosts.{IsInReach, IsNoWord, IsTreeWord, cost_th
 use Rattle.tree_rewire.proofs.ChosenParents.{IsCostBelow-best, IsFirstLeast-after, points_later}
 use Rattle.tree_rewire.proofs.CostSteps.{PassSees-more, PassSees-trans, cost_through-same}
 use Rattle.tree_rewire.proofs.SeenCosts.{SeesPair-later}
+use Rattle.tree_rewire.proofs.WholeShares.{SeesAsBefore-none, SeesAsBefore-trans}
 use Rattle.tree_rewire.proofs.choosing.choose.Goals as goal
 
 pub least-best-requires-clause-nearest : goal.least-best-requires-clause-nearest
@@ -70,3 +71,10 @@ returns-clause-below g c =
     c.least-best.ensures.steps.belongs.run goes_on (All-cons (IsInReach c.args.pass.now.view c.args.p) c.args.nearest c.args.pass.now.near c.requires.nearest c.requires.near)
     (λ k d below. SeesPair-later c.load_costs.new.pass.view c.least-best.new.pass.view c.least-best.ensures.steps.sees_anew.goes_on _ (c.load_costs.ensures.pairs k d below))
     (returns-clause-least g c).member (returns-clause-cost g c)
+
+pub returns-clause-whole : goal.returns-clause-whole
+returns-clause-whole g c =
+    let mid = c.load_costs.new.pass.view in
+    let after = c.least-best.new.pass.view in
+    λ all.
+    SeesAsBefore-trans c.args.pass.now.view mid after (c.load_costs.ensures.whole all) (SeesAsBefore-none mid after c.least-best.ensures.steps.sees_anew)

@@ -1,15 +1,28 @@
 use Rattle.std.proofs.Common.{arith, ap, subst, take}
 use Rattle.std.specs.Prelude.{All}
 use Rattle.std.proofs.lemmas.List.{take_all}
-use Rattle.std.proofs.lemmas.List.Elements.{All-cons}
+use Rattle.std.proofs.lemmas.List.Elements.{All-cons, All-nil}
 use Rattle.plan_model.specs.PointsByNumber.{IsPresent}
 use Rattle.step_core.specs.Views.{tree_seen}
+use Rattle.step_core.specs.WordNames.Word.{TreeOf}
 use Rattle.step_core.proofs.SeenViews.{IsPresent-later}
 use Rattle.tree_rewire.specs.SeenCosts.{IsTreeWord, SeesPair}
 use Rattle.tree_rewire.proofs.ChosenParents.{All-more, near_read, take_read}
 use Rattle.tree_rewire.proofs.CostSteps.{PassSees-trans, PassSees-tree}
 use Rattle.tree_rewire.proofs.SeenCosts.{SeesNode-present, SeesPair-later}
+use Rattle.tree_rewire.proofs.WholeShares.{HasWholeShare-later, SeesAsBefore-loaded, SeesAsBefore-trans}
 use Rattle.tree_rewire.proofs.choosing.load_costs.Goals as goal
+
+pub loads-init : goal.loads-init
+loads-init c =
+    let load = c.tree-pair.ensures in
+    let new = c.tree-pair.new.pass in
+    record {
+      steps = PassSees-tree c.args.shared.now c.args.pass.now new c.args.nearest _ _ c.requires.belongs load.view load.goes_on load.seen;
+      first = load.found.written;
+      earlier = All-nil (SeesPair new.view);
+      whole = λ all. SeesAsBefore-loaded c.args.pass.now.view new.view (TreeOf c.args.nearest) _ load.seen (load.whole all);
+    }
 
 pub tree-pair-requires-in-loads-clause-seen_node : goal.tree-pair-requires-in-loads-clause-seen_node
 tree-pair-requires-in-loads-clause-seen_node c =
@@ -34,6 +47,10 @@ loads-preserved c =
       earlier = All-more (SeesPair then.view) (take c.loads.index c.args.pass.now.near) _ n
           (take_read c.args.pass.now.near c.loads.pass.near c.loads.index n (ap (λ p. p.near) steps.view_alone) c.near_node-node.ensures)
           (λ k d below. SeesPair-later c.loads.pass.view then.view load.goes_on _ (c.loads.invariant.earlier k d below)) load.found.written;
+      whole = λ all.
+          SeesAsBefore-trans c.args.pass.now.view c.loads.pass.view then.view (c.loads.invariant.whole all)
+          (SeesAsBefore-loaded c.loads.pass.view then.view (TreeOf n) _ load.seen
+          (load.whole (HasWholeShare-later IsTreeWord c.args.pass.now.view c.loads.pass.view steps.sees_anew all)));
     }
 
 pub returns-clause-pairs : goal.returns-clause-pairs

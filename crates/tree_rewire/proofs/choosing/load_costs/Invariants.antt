@@ -1,4 +1,6 @@
 use Rattle.std.proofs.Common.{All, take}
+use Rattle.plan_words.specs.Claims.{SeesAsBefore}
+use Rattle.plan_words.specs.States.{HasWholeShare}
 use Rattle.tree_rewire.specs.SeenCosts.{IsTreeWord, PassSees, SeesPair}
 use Rattle.tree_rewire.proofs.choosing.load_costs.Given as goal
 
@@ -7,4 +9,5 @@ invariant-loads l = record {
   steps : PassSees IsTreeWord l.shared l.fn.pass l.pass;
   first : SeesPair l.pass.view l.nearest;
   earlier : All (SeesPair l.pass.view) (take l.index l.fn.pass.near);
+  whole : HasWholeShare l.fn.pass.view → SeesAsBefore l.fn.pass.view l.pass.view;
 }

@@ -1,13 +1,29 @@
-use Rattle.std.proofs.Common.{◌≡◌, ◌+◌, ap, arith, subst, sym, ◌∙◌}
+use Rattle.std.proofs.Common.{◌≡◌, ◌+◌, ◌<◌, ◌≤◌, ◌^◌, ℕ, ap, arith, inl, inr, refl, subst, sym, ◌∙◌}
+use Rattle.plan_model.specs.Cost.{cost_of}
 use Rattle.plan_model.specs.OrderLaw.{IsAllowedEdge}
+use Rattle.plan_words.specs.States.{PassState, with_view}
+use Rattle.step_core.specs.ViewSteps.{lowered}
 use Rattle.step_core.specs.Views.{setup_in}
 use Rattle.step_core.specs.WordNames.Word.{TreeOf}
-use Rattle.step_core.specs.Words.{cost_in}
-use Rattle.tree_rewire.specs.SeenCosts.{IsTreeWord}
-use Rattle.tree_rewire.proofs.CostSteps.{PassSees-lower, PassSees-trans}
-use Rattle.tree_rewire.proofs.LoweredCosts.{MayLower-less}
-use Rattle.tree_rewire.proofs.SeenCosts.{SeesPair-later, stands_later}
+use Rattle.step_core.specs.Words.{cost_in, tree_word}
+use Rattle.tree_rewire.specs.SeenCosts.{IsTreeWord, cost_seen}
+use Rattle.tree_rewire.proofs.CostSteps.{PassSees-lower, PassSees-refl, PassSees-trans}
+use Rattle.tree_rewire.proofs.LoweredCosts.{MayLower-less, WritesWord-lowered}
+use Rattle.tree_rewire.proofs.SeenCosts.{SeesPair-later, pair_low, stands_later}
+use Rattle.tree_rewire.proofs.WholeShares.{HasWholeShare-later, on_ok}
 use Rattle.tree_rewire.proofs.rewiring.improve.Goals as goal
+
+-- the cost in a tree word is at most what was put into it
+put_cost : (parent cost : ℕ) → parent < 2 ^ 18 → cost_in (tree_word parent cost) ≤ cost
+put_cost parent cost small = omega (arith, small)
+
+pub lowers-init : goal.lowers-init
+lowers-init c = record {
+  steps = PassSees-refl IsTreeWord c.args.shared.now c.args.pass.now c.requires.belongs c.requires.lawful;
+  others = λ m apart. refl;
+  pair = c.requires.pair;
+  whole = λ all. inl (λ name. refl);
+}
 
 pub lower-found-requires-clause-may : goal.lower-found-requires-clause-may
 lower-found-requires-clause-may c =
@@ -32,4 +48,48 @@ lowers-preserved c =
           lower.view lower.view_found lower.goes_on lower.seen);
       others = λ m apart. lower.seen.others (TreeOf m) (λ e. apart (let own : m ≡ c.args.node = cc in own)) ∙ h.others m apart;
       pair = lower.falls.written;
+      whole = λ all.
+          let before = c.args.pass.now.view in
+          let now = c.lowers.pass.view in
+          let limit : ℕ = c.seen_cost.result + c.cost.result in
+          let limit_is : limit ≡ cost_seen before c.args.parent + cost_of c.args.from c.args.to =
+          omega (arith, c.seen_cost.ensures, c.cost.ensures.value) in
+          elim (h.whole all) [
+            | inl same ↦
+                let is = on_ok c.lower-found.result (c.lower-found.new.pass ≡ with_view c.lowers.pass (lowered now c.args.node c.args.parent limit))
+                (lower.whole (HasWholeShare-later IsTreeWord before now h.steps.sees_anew all)) lower.view in
+                let writes = WritesWord-lowered now c.lower-found.new.pass.view c.args.node c.args.parent limit h.steps.sees_anew.goes_on.lawful h.pair
+                (ap (λ (p : PassState). p.view) is) in
+                inr (record {
+                  here = writes.here ∙ ap (tree_word c.args.parent) limit_is;
+                  others = λ name off. writes.others name off ∙ same name;
+                })
+            | inr writes ↦
+                let small : c.args.parent < 2 ^ 18 =
+                omega (arith, pair_low before c.args.parent c.requires.lawful c.requires.parent_pair, c.requires.lawful.run.marks) in
+                absurd (omega (
+                  arith,
+                  c.lowers-test.true,
+                  c.seen_cost-in-lowers.ensures,
+                  ap cost_in writes.here,
+                  put_cost c.args.parent (cost_seen before c.args.parent + cost_of c.args.from c.args.to) small,
+                  limit_is,
+                ))
+          ];
     }
+
+pub returns-clause-whole : goal.returns-clause-whole
+returns-clause-whole c =
+    λ all less. elim (c.lowers.invariant.whole all) [
+      | inl same ↦
+          absurd (omega (
+            arith,
+            less,
+            c.lowers-test.false,
+            c.seen_cost-in-lowers.ensures,
+            c.seen_cost.ensures,
+            c.cost.ensures.value,
+            ap cost_in (same (TreeOf c.args.node)),
+          ))
+      | inr writes ↦ writes
+    ]

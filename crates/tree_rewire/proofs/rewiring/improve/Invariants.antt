@@ -1,3 +1,11 @@
+use Rattle.std.proofs.Common.{◌⊎◌, ◌+◌}
+use Rattle.plan_model.specs.Cost.{cost_of}
+use Rattle.plan_words.specs.Claims.{SeesAsBefore}
+use Rattle.plan_words.specs.States.{HasWholeShare}
+use Rattle.step_core.specs.Views.{sees}
+use Rattle.step_core.specs.WordNames.{WritesWord}
+use Rattle.step_core.specs.WordNames.Word.{TreeOf}
+use Rattle.step_core.specs.Words.{tree_word}
 use Rattle.tree_rewire.specs.SeenCosts.{IsTreeWord, PassSees, SeesPair, cost_seen}
 use Rattle.tree_rewire.specs.Spreads.{OnlyAt}
 use Rattle.tree_rewire.proofs.rewiring.improve.Given as goal
@@ -7,6 +15,8 @@ invariant-lowers l = record {
   steps : PassSees IsTreeWord l.shared l.fn.pass l.pass;
   others : OnlyAt l.node l.fn.pass.view l.pass.view;
   pair : SeesPair l.pass.view l.node;
+  whole : HasWholeShare l.fn.pass.view → SeesAsBefore l.fn.pass.view l.pass.view
+      ⊎ WritesWord (TreeOf l.node) (tree_word l.parent (cost_seen l.fn.pass.view l.parent + cost_of l.fn.from l.fn.to)) (sees l.fn.pass.view) (sees l.pass.view);
 }
 
 -- what the node is seen to cost

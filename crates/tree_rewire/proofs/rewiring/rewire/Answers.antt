@@ -1,13 +1,17 @@
-use Rattle.std.proofs.Common.{◌+◌, arith, subst, take}
+use Rattle.std.proofs.Common.{◌+◌, ◌≡◌, ℕ, List, [], arith, drop, refl, subst, suc, sym, take}
 use Rattle.std.specs.Prelude.{All}
-use Rattle.std.proofs.lemmas.List.{take_all}
+use Rattle.std.proofs.lemmas.List.{drop_all, take_all}
+use Rattle.std.proofs.lemmas.List.Elements.{All-nil}
 use Rattle.plan_model.specs.ConfigurationSpace.{space_of}
+use Rattle.plan_model.specs.Textbook.{Rewires}
 use Rattle.plan_words.proofs.HandSteps.{some_hand}
-use Rattle.tree_rewire.specs.SeenCosts.{IsInReach, SeesPair, cost_seen}
-use Rattle.tree_rewire.proofs.ChosenParents.{All-more, IsInReach-later, near_read, take_read}
-use Rattle.tree_rewire.proofs.CostSteps.{PassLowers-trans}
+use Rattle.tree_rewire.specs.SeenCosts.{IsInReach, IsTreeOrPoint, SeesPair, cost_seen}
+use Rattle.tree_rewire.proofs.ChosenParents.{All-more, IsInReach-later, drop_read, near_read, take_read}
+use Rattle.tree_rewire.proofs.CostSteps.{PassLowers-lists, PassLowers-trans}
 use Rattle.tree_rewire.proofs.RewiredNodes.{IsRewired, IsRewired-later, IsRewired-looked, all_rewired, placed_near, placed_pair, placed_stands}
-use Rattle.tree_rewire.proofs.SeenCosts.{stands_later}
+use Rattle.tree_rewire.proofs.RewiredTrees.{IsRewiring-more}
+use Rattle.tree_rewire.proofs.SeenCosts.{SeesPair-later, stands_later}
+use Rattle.tree_rewire.proofs.WholeShares.{HasWholeShare-later}
 use Rattle.tree_rewire.proofs.rewiring.rewire.Given.{Over}
 use Rattle.tree_rewire.proofs.rewiring.rewire.Goals as goal
 use Rattle.tree_rewire.proofs.rewiring.rewire.Goals.{After-near_node-node}
@@ -21,11 +25,26 @@ reach g c =
     (placed_near c.args.pass.now.view c.args.k c.hand_point-from.result held.0 held.1 c.requires.placed c.hand_point-from.ensures c.args.pass.now.near
     c.requires.near)
 
+pub nodes-init : goal.nodes-init
+nodes-init g c =
+    let pass = c.args.pass.now in
+    record {
+      steps = PassLowers-lists c.args.shared.now pass pass c.requires.belongs c.near_count-count.ensures.lawful refl refl refl refl;
+      earlier = All-nil (IsRewired (g.C.Clearing.space c.args.hall.now) pass.view pass.view c.hand_point-from.result (cost_seen pass.view (c.args.k + 1)));
+      whole = λ all tree mirrors. record { now = tree; mirrors = mirrors; leads = λ last r. r };
+    }
+
 pub rewire_node-requires-clause-parent : goal.rewire_node-requires-clause-parent
 rewire_node-requires-clause-parent g c κs within =
     let held = some_hand c.args.pass.now.view.hand c.requires.hand in
     stands_later c.args.pass.now.view c.nodes.pass.view c.nodes.invariant.steps.sees_anew.goes_on (c.args.k + 1) c.hand_point-from.result
     (placed_stands c.args.pass.now.view c.args.k c.hand_point-from.result held.0 held.1 c.requires.placed c.hand_point-from.ensures)
+
+pub rewire_node-requires-clause-parent_pair : goal.rewire_node-requires-clause-parent_pair
+rewire_node-requires-clause-parent_pair g c κs within =
+    let held = some_hand c.args.pass.now.view.hand c.requires.hand in
+    SeesPair-later c.args.pass.now.view c.nodes.pass.view c.nodes.invariant.steps.sees_anew.goes_on (c.args.k + 1)
+    (placed_pair c.args.pass.now.view c.args.k c.hand_point-from.result held.0 held.1 c.requires.placed c.hand_point-from.ensures)
 
 pub rewire_node-requires-clause-reach : goal.rewire_node-requires-clause-reach
 rewire_node-requires-clause-reach g c κs within =
@@ -50,6 +69,12 @@ nodes-preserved g c =
           (IsRewired-looked space before c.nodes.pass.view new.view from (c.args.k + 1) n h.steps.sees_anew.goes_on
           (reach g (goal.at.nodes-preserved g c).After-near_node-node).present
           (placed_pair before c.args.k from held.0 held.1 c.requires.placed c.hand_point-from.ensures) done.pair done.rewired);
+      whole = λ all tree mirrors.
+          let was = h.whole all tree mirrors in
+          IsRewiring-more space tree (c.args.k + 1) n c.args.pass.now.near (drop c.nodes.index c.args.pass.now.near)
+          (drop (c.nodes.index + 1) c.args.pass.now.near) c.nodes.pass.view new.view
+          (drop_read c.args.pass.now.near c.nodes.pass.near c.nodes.index n h.steps.near c.near_node-node.ensures) was
+          (done.whole (HasWholeShare-later IsTreeOrPoint before c.nodes.pass.view h.steps.sees_anew all) was.now was.mirrors);
     }
 
 pub returns-clause-pairs : goal.returns-clause-pairs
@@ -68,3 +93,14 @@ returns-clause-rewired g c =
     all_rewired before c.args.k from held.0 held.1 c.requires.placed c.hand_point-from.ensures (space_of c.args.shared.now.task.scene)
     c.nodes.pass.view c.args.pass.now.near c.near_count-count.ensures.lawful
     (subst (All (IsRewired (space_of c.args.shared.now.task.scene) before c.nodes.pass.view from (cost_seen before (c.args.k + 1)))) all own)
+
+pub returns-clause-whole : goal.returns-clause-whole
+returns-clause-whole g c =
+    let near = c.args.pass.now.near in
+    let none : drop c.nodes.index near ≡ [] = drop_all c.nodes.index near (omega (arith, c.nodes-test.false, c.near_count-count.ensures.count)) in
+    let next : c.args.k + 1 ≡ suc c.args.k = omega arith in
+    λ all tree mirrors.
+    let was = c.nodes.invariant.whole all tree mirrors in
+    let rest = subst (λ (ns : List ℕ). Rewires (g.C.Clearing.space c.args.hall.now) was.now (c.args.k + 1) ns was.now) (sym none) refl in
+    let rewired = subst (λ s. Rewires s tree (c.args.k + 1) near was.now) c.requires.hall (was.leads was.now rest) in
+    (was.now, subst (λ n. Rewires (space_of c.args.shared.now.task.scene) tree n near was.now) next rewired, was.mirrors)

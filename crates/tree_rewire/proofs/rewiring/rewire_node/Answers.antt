@@ -1,18 +1,25 @@
-use Rattle.std.proofs.Common.{◌≡◌, ◌+◌, ◌*◌, ◌≤◌, ap, arith, inl, inr, subst, sym}
+use Rattle.std.proofs.Common.{◌≡◌, ◌+◌, ◌*◌, ◌<◌, ◌≤◌, ap, arith, inl, inr, refl, subst, sym}
 use Rattle.std.proofs.lemmas.Bool.{cases_lt}
 use Rattle.plan_model.specs.Clearance.{Clear}
 use Rattle.plan_model.specs.Cost.{cost_of}
 use Rattle.plan_model.specs.Geometry.{squared_distance}
 use Rattle.plan_model.specs.PointsByNumber.{point_of}
+use Rattle.plan_model.specs.Textbook.{IsCheaperThrough, with_parent}
 use Rattle.plan_model.proofs.NearNodes.{squared_distance-swap}
+use Rattle.plan_words.specs.Claims.{SeesAsBefore}
+use Rattle.plan_words.specs.States.{HasWholeShare}
+use Rattle.plan_words.proofs.GoingOn.{GoesOn-trans}
 use Rattle.step_core.specs.Views.{setup_in, tree_seen}
 use Rattle.step_core.specs.WordNames.Word.{TreeOf}
 use Rattle.step_core.specs.Words.{cost_in}
 use Rattle.step_core.proofs.LawfulSights.{IsBounded-seen}
 use Rattle.step_core.proofs.SeenViews.{IsPresent-later}
-use Rattle.tree_rewire.specs.SeenCosts.{IsNoWord, IsTreeOrPoint, IsTreeWord, PassLowers, PassSees}
+use Rattle.tree_rewire.specs.SeenCosts.{IsNoWord, IsTreeOrPoint, IsTreeWord, PassLowers, PassSees, cost_seen}
 use Rattle.tree_rewire.proofs.CostSteps.{PassLowers-sees, PassLowers-trans, PassSees-more, PassSees-point, PassSees-trans, TreeOrPoint-tree}
+use Rattle.tree_rewire.proofs.MirroredTrees.{Mirrors-same}
+use Rattle.tree_rewire.proofs.RewiredTrees.{AllTightBut-lowered, Clear-cheaper_through, IsCheaperThrough-seen, Mirrors-rewired, less-cheaper_through}
 use Rattle.tree_rewire.proofs.SeenCosts.{SeesPair-later, cost_seen-later, point_later, stands_later}
+use Rattle.tree_rewire.proofs.WholeShares.{HasWholeShare-later, SeesAsBefore-none, SeesAsBefore-trans}
 use Rattle.tree_rewire.proofs.rewiring.rewire_node.Given.{Over}
 use Rattle.tree_rewire.proofs.rewiring.rewire_node.Goals as goal
 use Rattle.tree_rewire.proofs.rewiring.rewire_node.Goals.{After-seen_cost}
@@ -33,6 +40,12 @@ loads g c =
     PassSees-trans IsTreeWord c.args.shared.now c.args.pass.now c.known_cost-kept_cost.new.pass c.point-to.new.pass c.known_cost-kept_cost.ensures.steps
     (PassSees-more IsNoWord IsTreeWord c.args.shared.now c.known_cost-kept_cost.new.pass c.point-to.new.pass (λ name no. absurd no) (loads_point g c))
 
+-- a pass with the whole share sees nothing new by that
+loads_whole : (g : Over) (c : After-seen_cost g) → HasWholeShare c.args.pass.now.view → SeesAsBefore c.args.pass.now.view c.point-to.new.pass.view
+loads_whole g c all =
+    SeesAsBefore-trans c.args.pass.now.view c.known_cost-kept_cost.new.pass.view c.point-to.new.pass.view (c.known_cost-kept_cost.ensures.whole all)
+    (SeesAsBefore-none c.known_cost-kept_cost.new.pass.view c.point-to.new.pass.view (loads_point g c).sees_anew)
+
 -- it is where it was seen
 to_is : (g : Over) (c : After-seen_cost g) → c.point-to.result ≡ point_of (tree_seen c.args.pass.now.view).points c.args.node
 to_is g c =
@@ -46,6 +59,11 @@ pub improve-requires-clause-parent : goal.improve-requires-clause-parent
 improve-requires-clause-parent g c =
     let to = goal.at.improve-requires-clause-parent g c in
     stands_later c.args.pass.now.view c.point-to.new.pass.view (loads g to.After-seen_cost).sees_anew.goes_on c.args.parent c.args.from c.requires.parent
+
+pub improve-requires-clause-parent_pair : goal.improve-requires-clause-parent_pair
+improve-requires-clause-parent_pair g c =
+    let to = (goal.at.improve-requires-clause-parent_pair g c).After-seen_cost in
+    SeesPair-later c.args.pass.now.view c.point-to.new.pass.view (loads g to).sees_anew.goes_on c.args.parent c.requires.parent_pair
 
 pub improve-requires-clause-edge : goal.improve-requires-clause-edge
 improve-requires-clause-edge g c =
@@ -136,3 +154,74 @@ returns-else-costs_less_through-clause-rewired g c =
                 )
           ]
     ]
+
+pub returns-then-clear-clause-whole : goal.returns-then-clear-clause-whole
+returns-then-clear-clause-whole g c =
+    let to = (goal.at.returns-then-clear-clause-whole g c).After-seen_cost in
+    let start = c.args.pass.now.view in
+    let before = c.point-to.new.pass.view in
+    let mid = c.improve.new.pass.view in
+    let after = c.spread.new.pass.view in
+    let n = c.args.parent in
+    let i = c.args.node in
+    let from = c.args.from in
+    let at = c.point-to.result in
+    let loads = loads g to in
+    let improved = c.improve.ensures.steps.sees_anew in
+    let spread = c.spread.ensures.seen in
+    let parent_stands = stands_later start before loads.sees_anew.goes_on n from c.requires.parent in
+    let stands = c.point-to.ensures.found in
+    let less : cost_seen before n + cost_of from at < cost_seen before i =
+    omega (
+      arith,
+      c.costs_less_through.ensures.0 c.if-costs_less_through.true,
+      c.seen_cost.ensures,
+      c.known_cost-kept_cost.ensures.cost,
+      ap cost_in ((loads_point g to).sees_anew.others (TreeOf i) (λ no. no)),
+    ) in
+    let lawful = loads.sees_anew.goes_on.lawful in
+    λ all tree mirrors.
+    let all_before = HasWholeShare-later IsTreeWord start before loads.sees_anew all in
+    let all_mid = HasWholeShare-later IsTreeWord before mid improved all_before in
+    let all_after = HasWholeShare-later IsTreeOrPoint mid after spread all_mid in
+    let same = Mirrors-same start before tree loads.sees_anew.goes_on.later (loads_whole g to all) mirrors in
+    let writes = c.improve.ensures.whole all_before less in
+    let tight = c.spread.ensures.whole_tight all_mid
+    (AllTightBut-lowered before mid tree n i from at lawful all_before same parent_stands stands less improved.goes_on.later writes) in (
+      with_parent tree i n,
+      inl (
+        IsCheaperThrough-seen before tree n i from at same parent_stands stands (g.C.Clearing.space c.args.hall.now) less (c.clear.ensures.0 c.if-clear.true),
+        refl,
+      ),
+      Mirrors-rewired before mid tree n i from at lawful all_before same parent_stands stands less improved.goes_on.later writes after
+          (GoesOn-trans before mid after improved.goes_on spread.goes_on) all_after spread.goes_on.later (c.spread.ensures.whole all_mid) tight,
+    )
+
+pub returns-else-costs_less_through-clause-whole : goal.returns-else-costs_less_through-clause-whole
+returns-else-costs_less_through-clause-whole g c =
+    let to = (goal.at.returns-else-costs_less_through-clause-whole g c).After-seen_cost in
+    let start = c.args.pass.now.view in
+    let before = c.point-to.new.pass.view in
+    let n = c.args.parent in
+    let i = c.args.node in
+    let from = c.args.from in
+    let at = c.point-to.result in
+    let space = g.C.Clearing.space c.args.hall.now in
+    let loads = loads g to in
+    let parent_stands = stands_later start before loads.sees_anew.goes_on n from c.requires.parent in
+    let stands = c.point-to.ensures.found in
+    let kept_is : c.known_cost-kept_cost.result ≡ cost_seen before i =
+    omega (arith, c.known_cost-kept_cost.ensures.cost, ap cost_in ((loads_point g to).sees_anew.others (TreeOf i) (λ no. no))) in
+    λ all tree mirrors.
+    let same = Mirrors-same start before tree loads.sees_anew.goes_on.later (loads_whole g to all) mirrors in
+    let not : ¬ IsCheaperThrough space tree n i =
+    λ h. elim c.else-costs_less_through.branch [
+      | else-costs_less_through-via-then-costs_less_through+else-clear w ↦
+          (let yes = w.clear.ensures.1 (Clear-cheaper_through before tree n i from at same parent_stands stands space h) in cc)
+      | else-costs_less_through-via-else-costs_less_through w ↦
+          (let less = less-cheaper_through before tree n i from at same parent_stands stands space h in
+          let yes = c.costs_less_through.ensures.1 (omega (arith, less, kept_is, c.seen_cost.ensures)) in
+          let no = w.if-costs_less_through.false in
+          cc)
+    ] in
+    (tree, inr (not, refl), same)

@@ -1,12 +1,14 @@
 use Rattle.std.proofs.Common.{ap, inl, inr, subst, sym, ◌∙◌}
+use Rattle.plan_words.specs.States.{HasWholeShare}
 use Rattle.plan_words.specs.Waiting.{IsOn}
 use Rattle.step_core.specs.Views.{sees}
 use Rattle.step_core.specs.WordNames.Word.{TreeOf}
-use Rattle.tree_rewire.specs.SeenCosts.{PassLowers, SeesPair}
-use Rattle.tree_rewire.specs.Spreads.{IsSettled}
+use Rattle.tree_rewire.specs.SeenCosts.{IsTreeOrPoint, PassLowers, SeesPair}
+use Rattle.tree_rewire.specs.Spreads.{IsSettled, KeepsParents}
 use Rattle.tree_rewire.proofs.CostSteps.{PassLowers-lists, PassLowers-sees, PassLowers-trans}
 use Rattle.tree_rewire.proofs.SeenCosts.{SeesPair-later}
 use Rattle.tree_rewire.proofs.SpreadCosts.{HasFallen-settles, IsOn-none, rest_still, same_still, waited_still}
+use Rattle.tree_rewire.proofs.WholeShares.{HasWholeShare-later, KeepsParents-trans}
 use Rattle.tree_rewire.proofs.spreading.next_fallen.Goals as goal
 use Rattle.tree_rewire.proofs.spreading.next_fallen.Goals.{After-pop_waiting, After-settle}
 
@@ -27,6 +29,22 @@ settles c =
     (PassLowers-lists c.args.shared.now c.visits.pass c.pop_waiting.new.self h.steps.belongs h.steps.sees_anew.goes_on.lawful (ap (λ p. p.table) is)
     (ap (λ p. p.view) is) (ap (λ p. p.near) is) (ap (λ p. p.spots) is))
     (PassLowers-sees c.args.shared.now c.pop_waiting.new.self c.settle.new.pass c.settle.ensures.steps)
+
+-- a pass with the whole share keeps the parents
+settles_whole : (c : After-settle) → HasWholeShare c.args.pass.now.view → KeepsParents c.args.pass.now.view c.settle.new.pass.view
+settles_whole c all =
+    let h = c.visits.invariant in
+    let new = c.settle.new.pass.view in
+    KeepsParents-trans c.args.pass.now.view c.visits.pass.view new (h.whole all)
+    (subst (λ v. HasWholeShare v → KeepsParents v new) (ap (λ p. p.view) c.pop_waiting.ensures.others) c.settle.ensures.whole
+    (HasWholeShare-later IsTreeOrPoint c.args.pass.now.view c.visits.pass.view h.steps.sees_anew all))
+
+pub returns-then-settle-clause-whole : goal.returns-then-settle-clause-whole
+returns-then-settle-clause-whole c = λ all. settles_whole (goal.at.returns-then-settle-clause-whole c).After-settle all
+
+pub returns-clause-whole : goal.returns-clause-whole
+returns-clause-whole c =
+    λ all. subst (KeepsParents c.args.pass.now.view) (sym (ap (λ p. p.view) c.pop_waiting.ensures.others)) (c.visits.invariant.whole all)
 
 pub settle-requires-clause-pair : goal.settle-requires-clause-pair
 settle-requires-clause-pair c =
@@ -66,6 +84,7 @@ visits-preserved c =
           c.settle.ensures.settled h.waited h.rest c.in-Some.ensures.keeps c.pop_waiting.ensures.only;
       rest = rest_still c.args.pass.now c.visits.pass c.pop_waiting.new.self c.settle.new.pass n view_is around_is step.sees_anew.goes_on h.same
           c.settle.ensures.settled h.waited h.rest c.in-Some.ensures.keeps c.pop_waiting.ensures.only stays;
+      whole = λ all. settles_whole (goal.at.visits-preserved c).After-settle all;
     }
 
 pub returns-clause-steps : goal.returns-clause-steps

@@ -1,4 +1,6 @@
 use Rattle.std.proofs.Common.{◌≡◌, ◌<◌, true, false}
+use Rattle.plan_words.specs.Claims.{SeesAsBefore}
+use Rattle.plan_words.specs.States.{HasWholeShare}
 use Rattle.tree_rewire.specs.SeenCosts.{IsTreeOrPoint, PassSees, SeesPair, cost_seen}
 use Rattle.tree_rewire.specs.Spreads.{KeepsPairs, OnlyAt}
 use Rattle.tree_rewire.proofs.spreading.settle.Given as goal
@@ -10,6 +12,7 @@ invariant-lowers l = record {
   pair : SeesPair l.pass.view l.node;
   fell : l.fell ≡ true → cost_seen l.pass.view l.node < cost_seen l.fn.pass.view l.node;
   same : l.fell ≡ false → KeepsPairs l.fn.pass.view l.pass.view;
+  whole : HasWholeShare l.fn.pass.view → SeesAsBefore l.fn.pass.view l.pass.view;
 }
 
 -- what the node is seen to cost

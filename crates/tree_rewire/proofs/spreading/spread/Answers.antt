@@ -1,16 +1,28 @@
-use Rattle.std.proofs.Common.{◌≡◌, ◌⊎◌, ◌≤◌, ◌<◌, ◌+◌, ℕ, [], ap, arith, length, subst, sym, ◌∙◌}
+use Rattle.std.proofs.Common.{◌≡◌, ◌⊎◌, ◌≤◌, ◌<◌, ◌+◌, ℕ, [], ap, arith, length, refl, subst, sym, ◌∙◌}
+use Rattle.plan_words.specs.States.{HasWholeShare}
 use Rattle.plan_words.specs.Waiting.{HasSeenParent, IsOn}
 use Rattle.step_core.specs.LaterViews.{IsLawfulView}
-use Rattle.tree_rewire.specs.SeenCosts.{SeesPair}
+use Rattle.tree_rewire.specs.SeenCosts.{IsTreeOrPoint, SeesPair}
+use Rattle.tree_rewire.specs.Spreads.{KeepsParents}
 use Rattle.tree_rewire.proofs.CostSteps.{PassLowers-lists, PassLowers-trans}
 use Rattle.tree_rewire.proofs.SeenCosts.{pair_low}
 use Rattle.tree_rewire.proofs.SpreadCosts.{HasSpread-ends, IsSpreading, IsSpreading-begins, IsSpreading-falls, weigh, weigh-falls}
+use Rattle.tree_rewire.proofs.TightCosts.{AllTight-spread}
+use Rattle.tree_rewire.proofs.WholeShares.{HasWholeShare-later, KeepsParents-same, KeepsParents-trans}
 use Rattle.tree_rewire.proofs.spreading.spread.Goals as goal
+use Rattle.tree_rewire.proofs.spreading.spread.Goals.{After-next_fallen}
 
 pub queue_children-requires-clause-low : goal.queue_children-requires-clause-low
 queue_children-requires-clause-low c =
     let view_is = ap (λ p. p.view) c.begin_waiting.ensures.waits in
     pair_low c.begin_waiting.new.self.view c.args.node c.begin_waiting.ensures.lawful (subst (λ v. SeesPair v c.args.node) (sym view_is) c.requires.pair)
+
+-- a pass with the whole share keeps the parents
+falls_whole : (c : After-next_fallen) → HasWholeShare c.args.pass.now.view → KeepsParents c.args.pass.now.view c.next_fallen.new.pass.view
+falls_whole c all =
+    let h = c.falls.invariant in
+    KeepsParents-trans c.args.pass.now.view c.falls.pass.view c.next_fallen.new.pass.view (h.whole all)
+    (c.next_fallen.ensures.whole (HasWholeShare-later IsTreeOrPoint c.args.pass.now.view c.falls.pass.view h.steps.sees_anew all))
 
 pub falls-init : goal.falls-init
 falls-init c =
@@ -34,6 +46,7 @@ falls-init c =
       spreads = subst (λ v. IsSpreading c.args.node old.view v new.around) (sym (ap (λ p. p.view) queue ∙ view_is))
           (IsSpreading-begins c.args.node old.view new.around c.requires.pair
           (λ n own. c.queue_children.ensures.all n (subst (λ v. HasSeenParent v c.args.node n) (sym view_is) own)) only);
+      whole = λ all. subst (KeepsParents old.view) (sym (ap (λ p. p.view) queue ∙ view_is)) (KeepsParents-same old.view old.view (λ name. refl));
     }
 
 pub queue_children-requires-in-Some-clause-low : goal.queue_children-requires-in-Some-clause-low
@@ -71,6 +84,7 @@ falls-preserved c =
       spreads = subst (λ v. IsSpreading c.args.node old.view v new.around) (sym (ap (λ p. p.view) is))
           (IsSpreading-falls c.args.node c.in-Some.fallen old.view now mid new.around h.steps.sees_anew.goes_on next.sees_anew.goes_on
           c.in-Some.ensures.some queue.all queue.keeps queue.only h.spreads);
+      whole = λ all. subst (KeepsParents old.view) (sym (ap (λ p. p.view) is)) (falls_whole (goal.at.falls-preserved c).After-next_fallen all);
     }
 
 pub returns-clause-seen : goal.returns-clause-seen
@@ -81,3 +95,19 @@ pub returns-clause-spread : goal.returns-clause-spread
 returns-clause-spread c =
     HasSpread-ends c.args.node c.args.pass.now.view c.falls.pass c.next_fallen.new.pass c.falls.invariant.steps.sees_anew.goes_on
     c.next_fallen.ensures.steps.sees_anew.goes_on c.in_default.ensures.none c.falls.invariant.spreads
+
+pub returns-clause-whole : goal.returns-clause-whole
+returns-clause-whole c = λ all. falls_whole (goal.at.returns-clause-whole c).After-next_fallen all
+
+pub returns-clause-whole_tight : goal.returns-clause-whole_tight
+returns-clause-whole_tight c =
+    let old = c.args.pass.now in
+    let new = c.next_fallen.new.pass in
+    let steps = PassLowers-trans c.args.shared.now old c.falls.pass new c.falls.invariant.steps c.next_fallen.ensures.steps in
+    let goes_on = steps.sees_anew.goes_on in
+    let spread = HasSpread-ends c.args.node old.view c.falls.pass new c.falls.invariant.steps.sees_anew.goes_on
+    c.next_fallen.ensures.steps.sees_anew.goes_on c.in_default.ensures.none c.falls.invariant.spreads in
+    λ all tight.
+    AllTight-spread c.args.node old.view new.view goes_on.lawful
+    (goes_on.lawful.whole (HasWholeShare-later IsTreeOrPoint old.view new.view steps.sees_anew all)) goes_on.later
+    (falls_whole (goal.at.returns-clause-whole_tight c).After-next_fallen all) spread tight

@@ -1,5 +1,7 @@
 use Rattle.std.proofs.Common.{◌≡◌, ◌+◌, true, length}
+use Rattle.plan_words.specs.States.{HasWholeShare}
 use Rattle.tree_rewire.specs.SeenCosts.{PassLowers}
+use Rattle.tree_rewire.specs.Spreads.{KeepsParents}
 use Rattle.tree_rewire.proofs.SpreadCosts.{IsSpreading, weigh}
 use Rattle.tree_rewire.proofs.spreading.spread.Given as goal
 
@@ -8,6 +10,7 @@ invariant-falls l = record {
   steps : PassLowers l.shared l.fn.pass l.pass;
   waits : l.pass.waits ≡ true;
   spreads : IsSpreading l.node l.fn.pass.view l.pass.view l.pass.around;
+  whole : HasWholeShare l.fn.pass.view → KeepsParents l.fn.pass.view l.pass.view;
 }
 
 -- what all nodes were seen to cost together
