@@ -19,7 +19,7 @@ use Rattle.step_core.specs.SeenRecords.{MayRecord}
 use Rattle.step_core.specs.ViewSteps.{one_turn_more, pointed}
 use Rattle.step_core.specs.ViewTrees.{IsSteered, SeesPoint, sight_in}
 use Rattle.step_core.specs.Views.{run_sizes, sees, setup_in, tree_seen}
-use Rattle.step_core.specs.WordNames.Word.{Count, PointOf, RecordOf}
+use Rattle.step_core.specs.WordNames.Word.{Count, Counter, PointOf, RecordOf}
 use Rattle.step_core.specs.Words.{point_of_word}
 use Rattle.step_core.specs.declared.views.Hand.{Hand}
 use Rattle.step_core.specs.declared.views.SharedRun.{SharedRun}
@@ -45,6 +45,7 @@ KeepsRecords-emptied shared before emptied after is keeps = record {
   belongs = keeps.belongs;
   goes_on = subst (λ v. GoesOn v after.view) is keeps.goes_on;
   records = λ k. keeps.records k ∙ ap (λ v. sees v (RecordOf k)) is;
+  counters = λ g. keeps.counters g ∙ ap (λ v. sees v (Counter g)) is;
   crew = keeps.crew ∙ ap (λ v. v.crew) is;
   most = keeps.most ∙ ap (λ v. v.most) is;
 }
@@ -59,6 +60,7 @@ HandlesMark-after shared before mid after k entry keeps handles = record {
   worker = handles.worker ∙ ap worker_of keeps.crew;
   turn = handles.turn ∙ ap turn_of keeps.crew;
   others = λ j apart. handles.others j apart ∙ keeps.records j;
+  counters = λ g. handles.counters g ∙ keeps.counters g;
   crew = handles.crew ∙ ap one_turn_more keeps.crew;
   most = handles.most ∙ keeps.most;
 }
@@ -239,6 +241,7 @@ module _
       };
       goes_on = GoesOn-trans before.view found.view written.view keeps.goes_on goes_on;
       records = λ j. ap (λ v. sees v (RecordOf j)) then ∙ keeps.records j;
+      counters = λ g. ap (λ v. sees v (Counter g)) then ∙ keeps.counters g;
       crew = ap (λ v. v.crew) then ∙ keeps.crew;
       most = ap (λ v. v.most) then ∙ keeps.most;
     }

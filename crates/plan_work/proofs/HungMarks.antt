@@ -15,7 +15,7 @@ use Rattle.plan_work.specs.Extensions.{IsHung, IsPointed, KeepsRecords}
 use Rattle.step_core.specs.ViewSteps.{half, treed}
 use Rattle.step_core.specs.ViewTrees.{IsCostBelow, MayHang}
 use Rattle.step_core.specs.Views.{sees, setup_in, tree_seen}
-use Rattle.step_core.specs.WordNames.Word.{RecordOf}
+use Rattle.step_core.specs.WordNames.Word.{Counter, RecordOf}
 use Rattle.step_core.specs.declared.views.Hand.{Hand}
 use Rattle.step_core.specs.declared.views.Stage.TheVariants.{Half}
 use Rattle.step_core.specs.declared.views.View.{View}
@@ -84,6 +84,7 @@ KeepsRecords-written shared before after own parent cost belongs is goes_on = re
   belongs = record { table = ap (λ (p : PassState). p.table) is ∙ belongs.table; run = goes_on.later.run ∙ belongs.run };
   goes_on = goes_on;
   records = λ k. ap (λ (p : PassState). sees p.view (RecordOf k)) is;
+  counters = λ g. ap (λ (p : PassState). sees p.view (Counter g)) is;
   crew = ap (λ (p : PassState). p.view.crew) is;
   most = ap (λ (p : PassState). p.view.most) is;
 }

@@ -7,7 +7,7 @@ use Rattle.plan_work.specs.Extensions.{KeepsRecords}
 use Rattle.step_core.specs.ViewSteps.{loaded}
 use Rattle.step_core.specs.Views.{sees}
 use Rattle.step_core.specs.WordNames.{Word, WritesWord}
-use Rattle.step_core.specs.WordNames.Word.{Count, RecordOf}
+use Rattle.step_core.specs.WordNames.Word.{Count, Counter, RecordOf}
 use Rattle.tree_rewire.specs.SeenCosts.{SeesAnew}
 
 pub KeepsRecords-trans : (shared : SharedState) (before mid after : PassState) → KeepsRecords shared before mid → KeepsRecords shared mid after
@@ -16,6 +16,7 @@ KeepsRecords-trans shared before mid after one other = record {
   belongs = other.belongs;
   goes_on = GoesOn-trans before.view mid.view after.view one.goes_on other.goes_on;
   records = λ k. other.records k ∙ one.records k;
+  counters = λ g. other.counters g ∙ one.counters g;
   crew = other.crew ∙ one.crew;
   most = other.most ∙ one.most;
 }
@@ -33,6 +34,7 @@ KeepsRecords-number shared before after nodes value belongs is goes_on writes = 
   belongs = belongs_still shared before after belongs (ap (λ (p : PassState). p.table) is) goes_on;
   goes_on = goes_on;
   records = λ k. writes.others (RecordOf k) (λ e. cc);
+  counters = λ g. writes.others (Counter g) (λ e. cc);
   crew = ap (λ (p : PassState). p.view.crew) is;
   most = ap (λ (p : PassState). p.view.most) is;
 }
@@ -44,17 +46,20 @@ KeepsRecords-looks shared before after belongs looks = record {
   belongs = belongs;
   goes_on = looks.looks.goes_on;
   records = λ k. looks.looks.others (RecordOf k) (λ no. no);
+  counters = λ g. looks.looks.others (Counter g) (λ no. no);
   crew = looks.kept.crew;
   most = looks.kept.most;
 }
 
--- words are seen anew of which none is a record
+-- words are seen anew of which none is a record or a counter
 pub KeepsRecords-anew : (which : Word → Type 0) (shared : SharedState) (before after : PassState) → ((k : ℕ) → ¬ which (RecordOf k))
+    → ((g : ℕ) → ¬ which (Counter g))
     → BelongsTo after shared → SeesAnew which before.view after.view → KeepsRecords shared before after
-KeepsRecords-anew which shared before after none belongs anew = record {
+KeepsRecords-anew which shared before after none uncounted belongs anew = record {
   belongs = belongs;
   goes_on = anew.goes_on;
   records = λ k. anew.others (RecordOf k) (none k);
+  counters = λ g. anew.others (Counter g) (uncounted g);
   crew = anew.kept.crew;
   most = anew.kept.most;
 }

@@ -9,5 +9,15 @@ pub mod RecordedMarks
 pub mod PlacedMarks
 pub mod ExtendedMarks
 pub mod WorkedMarks
+pub mod TextbookTurns
+pub mod LoneMarks
+pub mod LoneRuns
 pub mod SharedRuns
 pub mod TakenOver
+pub mod EqualPoints
+pub mod MirroredTrees
+pub mod TextbookSteps
+pub mod AloneMarks
+pub mod WholeLists
+pub mod PlacedAlone
+pub mod ExtendedAlone

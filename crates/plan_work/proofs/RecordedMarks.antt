@@ -30,7 +30,7 @@ use Rattle.step_core.specs.Stages.{has_first}
 use Rattle.step_core.specs.ViewSteps.{finished, one_turn_more, pair_in_hand}
 use Rattle.step_core.specs.Views.{sees, tree_seen}
 use Rattle.step_core.specs.WordNames.{Word, WritesWord}
-use Rattle.step_core.specs.WordNames.Word.{FirstOf, RecordOf}
+use Rattle.step_core.specs.WordNames.Word.{Counter, FirstOf, RecordOf}
 use Rattle.step_core.specs.Words.{IsFirstWord, record_of_word, record_word}
 use Rattle.step_core.specs.declared.views.Hand.{Hand}
 use Rattle.step_core.specs.declared.views.SharedRun.{SharedRun}
@@ -196,6 +196,7 @@ HandlesMark-recorded shared before mid after hand k entry keeps recorded held ma
       turn = recorded.turn ∙ ap turn_of keeps.crew;
       others = λ j apart.
           ap (λ v. sees v (RecordOf j)) is ∙ writes.others (RecordOf j) (λ e. apart (let same : j ≡ hand.mark = cc in same ∙ mark)) ∙ keeps.records j;
+      counters = λ g. ap (λ v. sees v (Counter g)) is ∙ writes.others (Counter g) (λ e. cc) ∙ keeps.counters g;
       crew = ap (λ v. v.crew) is ∙ ap one_turn_more keeps.crew;
       most = ap (λ v. v.most) is ∙ keeps.most;
     }

@@ -17,6 +17,8 @@ use Rattle.step_core.specs.LastViews.{StandsAsSeen}
 use Rattle.step_core.specs.declared.grown.Grown.{Grown}
 use Rattle.step_core.proofs.GrownFromWords.{GrowsInto-seen}
 use Rattle.plan_model.specs.TreeStates.{GrowsInto, TreeState}
+use Rattle.plan_work.proofs.LoneRuns.{HasHandled-started}
+use Rattle.plan_work.specs.OneWorker.{HasHandled, IsOfTextbook}
 use Rattle.plan_work.specs.Workers.{HasDone, HasTakenOver, shares_of}
 
 -- passes with a share of 1 each have as many shares as they are
@@ -31,6 +33,12 @@ there : (passes : List PassState) (i : ℕ) (d : PassState) → i < length passe
 there [] i d low = absurd (omega (arith, low))
 there (x ∷ passes) zero d low = refl
 there (x ∷ passes) (suc i) d low = there passes i d (omega (arith, low))
+
+-- a list of one has its first element alone
+pub one_of : (passes : List PassState) (d : PassState) → length passes ≡ 1 → passes ≡ slice_index_or passes 0 d ∷ []
+one_of [] d one = absurd (omega (arith, one))
+one_of (x ∷ []) d one = refl
+one_of (x ∷ y ∷ passes) d one = absurd (omega (arith, one))
 
 -- Limits are in the order of their quotas.
 limits-by_quotas : (strips limit most : ℕ) → 0 < strips → ((g : ℕ) → g < strips → quota_of strips g limit ≤ quota_of strips g most) → limit ≤ most
@@ -67,6 +75,16 @@ module _
           → (pass.view.most ≡ (slice_index_or before k d).view.most) ⊎ (pass.view.most ≡ limit) → pass.view.most ≤ limit
       by_most pass was (inl same) = omega (arith, was, same, low)
       by_most pass was (inr same) = omega (arith, same)
+
+  -- One worker alone has handled all marks below the limit as the textbook does.
+  pub HasHandled-alone :
+      (d : PassState) → length before ≡ 1 → shared.workers ≡ 1 → shared.task ≡ grown.task → IsOfTextbook grown
+      → HasHandled (slice_index_or after 0 d).view limit
+  HasHandled-alone d alone one task textbook =
+      let here : 0 < length before = omega (arith, alone) in
+      let does = done 0 d here in
+      does.textbook one grown.limit low
+      (HasHandled-started shared grown (slice_index_or before 0 d) (started 0 d here) does.goes_on.was_lawful task one textbook)
 
   module _ (pass : PassState) (takes : HasTakenOver shared after pass) (some_pass : 0 < length before) where
     first : PassState

@@ -1,5 +1,5 @@
 -- One pass takes over others, one after another.
-use Rattle.std.proofs.Common.{◌≡◌, ℕ, zero, suc, ◌+◌, ◌<◌, ◌≤◌, List, length, inl, inr, ap, ◌∙◌, arith}
+use Rattle.std.proofs.Common.{◌≡◌, ℕ, zero, suc, ◌+◌, ◌<◌, ◌≤◌, List, length, inl, inr, ap, ◌∙◌, arith, length-append}
 use Rattle.std.specs.Prelude.{◌++◌, ◌⊎◌, [], ◌∷◌, All, max, slice_index_or}
 use Rattle.std.proofs.lemmas.Bool.{cases_lt}
 use Rattle.std.proofs.lemmas.List.{append_assoc}
@@ -61,3 +61,21 @@ HasTakenOver-more shared taken pass other after takes may own its shares most = 
 pub taken_next : (all rest : List PassState) (other : PassState) (front taken : List PassState) → all ≡ rest ++ taken → rest ≡ front ++ other ∷ []
     → all ≡ front ++ other ∷ taken
 taken_next all rest other front taken one two = one ∙ ap (λ l. l ++ taken) two ∙ append_assoc front (other ∷ []) taken
+
+-- ---- a list of one
+
+-- its last is it
+pub only : (rest : List PassState) (last own : PassState) → rest ++ last ∷ [] ≡ own ∷ [] → last ≡ own
+only [] last own is = cc
+only (first ∷ rest) last own is =
+    let long = ap (λ (l : List PassState). length l) is in
+    absurd (omega (arith, long, length-append rest (last ∷ [])))
+
+-- so a pass that has taken over one has all of it
+pub not_alone :
+    (rest taken : List PassState) (other own : PassState) (shared : SharedState) (pass : PassState) → HasTakenOver shared taken pass
+    → own ∷ [] ≡ (rest ++ other ∷ []) ++ taken → ⊥
+not_alone rest [] other own shared pass takes is = omega (arith, takes.may_claim.part, takes.all_shares)
+not_alone rest (one ∷ taken) other own shared pass takes is =
+    let long = ap (λ (l : List PassState). length l) is in
+    omega (arith, long, length-append (rest ++ other ∷ []) (one ∷ taken), length-append rest (other ∷ []))

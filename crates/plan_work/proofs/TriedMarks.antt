@@ -18,7 +18,7 @@ use Rattle.plan_model.proofs.NewNodes.{IsPresent-stands, point_of-stands}
 use Rattle.plan_model.proofs.SteeringLaws.{IsStep-steered}
 use Rattle.plan_words.specs.States.{BelongsTo, GoesOn, PassState, SharedState}
 use Rattle.step_core.specs.Views.{sees, tree_seen}
-use Rattle.step_core.specs.WordNames.Word.{Count, RecordOf}
+use Rattle.step_core.specs.WordNames.Word.{Count, Counter, RecordOf}
 use Rattle.step_core.specs.declared.views.Hand.{Hand}
 use Rattle.step_core.specs.declared.views.View.{View}
 use Rattle.tree_rewire.proofs.ChosenParents.{IsInReach-later}
@@ -59,6 +59,7 @@ KeepsRecords-placing shared before after belongs placing share = record {
   belongs = belongs;
   goes_on = placing.goes_on;
   records = λ k. placing.others (RecordOf k) (λ no. no);
+  counters = λ g. placing.others (Counter g) (λ no. no);
   crew = share.crew;
   most = share.most;
 }

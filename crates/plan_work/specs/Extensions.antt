@@ -28,7 +28,7 @@ use Rattle.step_core.specs.GrownWords.{has_node, record_at}
 use Rattle.step_core.specs.ViewSteps.{finished, one_turn_more}
 use Rattle.step_core.specs.ViewTrees.{SeesPoint, sight_in}
 use Rattle.step_core.specs.Views.{sees, setup_in, tree_seen}
-use Rattle.step_core.specs.WordNames.Word.{Count, RecordOf}
+use Rattle.step_core.specs.WordNames.Word.{Count, Counter, RecordOf}
 use Rattle.step_core.specs.Words.{record_word}
 use Rattle.step_core.specs.declared.views.Hand.{Hand}
 use Rattle.step_core.specs.declared.views.Stage.TheVariants.{Pointed, Treed}
@@ -43,11 +43,12 @@ pub record AreRadiiOf (scene : Scene) (radii : Radii) : Type 0 where
 
 -- ---- on the way
 
--- What was seen stays seen, and no record is seen anew. The pass is of the same tree, with the same crew and the same limit.
+-- What was seen stays seen, and no record and no counter is seen anew. The pass is of the same tree, with the same crew and the same limit.
 pub record KeepsRecords (shared : SharedState) (before after : PassState) : Type 0 where
   pub belongs : BelongsTo after shared
   pub goes_on : GoesOn before.view after.view
   pub records : (k : ℕ) → sees after.view (RecordOf k) ≡ sees before.view (RecordOf k)
+  pub counters : (g : ℕ) → sees after.view (Counter g) ≡ sees before.view (Counter g)
   pub crew : after.view.crew ≡ before.view.crew
   pub most : after.view.most ≡ before.view.most
 
@@ -126,8 +127,8 @@ pub record HasRecorded (shared : SharedState) (before after : PassState) (entry 
   pub worker : entry.worker ≡ worker_of before.view.crew
   pub turn : entry.turn ≡ turn_of before.view.crew
 
--- The record of mark k stands there, by the worker in its turn; no other is seen anew, and nothing is in hand. The worker has had one turn
--- more, and the limit stays.
+-- The record of mark k stands there, by the worker in its turn; no other and no counter is seen anew, and nothing is in hand. The worker has
+-- had one turn more, and the limit stays.
 pub record HandlesMark (shared : SharedState) (before after : PassState) (k : ℕ) (entry : Record) : Type 0 where
   pub may_claim : MayClaim shared after
   pub goes_on : GoesOn before.view after.view
@@ -135,6 +136,7 @@ pub record HandlesMark (shared : SharedState) (before after : PassState) (k : �
   pub worker : entry.worker ≡ worker_of before.view.crew
   pub turn : entry.turn ≡ turn_of before.view.crew
   pub others : (j : ℕ) → j ≢ k → sees after.view (RecordOf j) ≡ sees before.view (RecordOf j)
+  pub counters : (g : ℕ) → sees after.view (Counter g) ≡ sees before.view (Counter g)
   pub crew : after.view.crew ≡ one_turn_more before.view.crew
   pub most : after.view.most ≡ before.view.most
 

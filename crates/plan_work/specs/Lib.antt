@@ -1,2 +1,4 @@
 pub mod Extensions
+pub mod OneWorker
+pub mod WholeShares
 pub mod Workers

@@ -2,6 +2,7 @@
 use Rattle.std.specs.Prelude.{◌≡◌, ◌+◌, ◌≤◌, ◌⊎◌, ℕ, [], ◌∷◌, All, List}
 use Rattle.plan_words.specs.Claims.{AllFull}
 use Rattle.plan_words.specs.States.{GoesOn, MayClaim, PassState, SharedState, worker_of}
+use Rattle.plan_work.specs.OneWorker.{HandlesRest}
 use Rattle.step_core.specs.Views.{sees, share}
 use Rattle.step_core.specs.WordKinds.{AreBehind}
 
@@ -13,11 +14,12 @@ pub record HasWorked (shared : SharedState) (before after : PassState) (limit : 
   pub worker : worker_of after.view.crew ≡ worker_of before.view.crew
   pub most : (after.view.most ≡ before.view.most) ⊎ (after.view.most ≡ limit)
 
--- It has done so until it saw no mark left below the limit.
+-- It has done so until it saw no mark left below the limit. One worker alone does so as the textbook does.
 pub record HasDone (shared : SharedState) (limit : ℕ) (before after : PassState) : Type 0 where
   pub goes_on : GoesOn before.view after.view
   pub worked : HasWorked shared before after limit
   pub none_left : AllFull after.view limit
+  pub textbook : shared.workers ≡ 1 → HandlesRest before.view after.view limit
 
 -- ---- joins
 

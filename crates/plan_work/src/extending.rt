@@ -8,8 +8,11 @@ ghost use Rattle.plan_model.specs.Clearance.{Clear};
 ghost use Rattle.plan_model.specs.ConfigurationSpace.{space_of};
 ghost use Rattle.plan_model.specs.Nearness.{distance_to};
 ghost use Rattle.plan_model.specs.Outcomes.{is_placed};
-ghost use Rattle.plan_words.specs.States.{BelongsTo, GoesOn, MayClaim, PassState, with_view};
+ghost use Rattle.plan_words.specs.Claims.{SeesAsBefore};
+ghost use Rattle.plan_words.specs.States.{BelongsTo, GoesOn, HasWholeShare, MayClaim, PassState, with_view};
 ghost use Rattle.plan_work.specs.Extensions.{AreRadiiOf, EndsAt, HandlesMark, HasFilledNear, HasRecorded, HasSteered, IsExtended, IsFilledSince, IsHung, IsNearestOf, IsPointed, IsTried, KeepsRecords, MayPlace, own_placed, own_unplaced};
+ghost use Rattle.plan_work.specs.OneWorker.{SeesTextbook, WorksAlone};
+ghost use Rattle.plan_work.specs.WholeShares.{HasCounted, IsBestHanging, IsFilledWhole, IsSteeredWhole, IsTriedWhole, SeesButCount};
 ghost use Rattle.step_core.specs.LaterViews.{IsLawfulView};
 ghost use Rattle.step_core.specs.SeenRecords.{MayRecord};
 ghost use Rattle.step_core.specs.Stages.{MayBeRecorded};
@@ -66,6 +69,7 @@ fn steer_from_nearest(shared: &Shared, pass: &mut Pass, k: u32) -> Steering
     ensures looks { OnlyLooks pass.old.view pass.new.view }
     ensures steered { HasSteered pass.old.view pass.new.view k result.nearest result.from result.point }
     ensures bounded { IsBounded result.point }
+    ensures whole { HasWholeShare pass.old.view → SeesAsBefore pass.old.view pass.new.view }
 {
     let mark = shared.task().marks.as_slice()[k as usize];
     let nearest = nearest(shared, pass, mark);
@@ -87,6 +91,9 @@ fn fill_near(shared: &Shared, pass: &mut Pass, radii: &Radii, p: Point) -> u32
     ensures keeps { KeepsRecords shared.now pass.old pass.new }
     ensures hand { pass.new.view.hand ≡ pass.old.view.hand }
     ensures filled { HasFilledNear pass.old.view pass.new.view p result pass.new.near }
+    // with the whole share it is that of the textbook
+    ensures whole { HasWholeShare pass.old.view → HasCounted pass.old.view
+        → SeesButCount pass.old.view pass.new.view × IsFilledWhole pass.new.view p result pass.new.near }
 {
     let nodes = u64::from(shared.number(pass));
     near(shared, pass, p, radii.at(nodes));
@@ -168,6 +175,8 @@ fn steer_among_near(shared: &Shared, pass: &mut Pass, radii: &Radii, k: u32) -> 
     ensures steered { HasSteered pass.old.view pass.new.view k result.0.nearest result.0.from result.0.point }
     ensures filled { HasFilledNear pass.old.view pass.new.view result.0.point result.1 pass.new.near }
     ensures bounded { IsBounded result.0.point }
+    ensures whole { HasWholeShare pass.old.view → HasCounted pass.old.view
+        → SeesButCount pass.old.view pass.new.view × IsFilledWhole pass.new.view result.0.point result.1 pass.new.near }
 {
     let mark = shared.task().marks.as_slice()[k as usize];
     let class = fill_near(shared, pass, radii, mark);
@@ -192,6 +201,8 @@ fn renew_near(shared: &Shared, pass: &mut Pass, radii: &Radii, p: Point, old: u3
     ensures keeps { KeepsRecords shared.now pass.old pass.new }
     ensures hand { pass.new.view.hand ≡ pass.old.view.hand }
     ensures filled { (first : PassState) → IsFilledSince shared.now first pass.old p old → IsFilledSince shared.now first pass.new p result }
+    ensures whole { HasWholeShare pass.old.view → HasCounted pass.old.view → IsFilledWhole pass.old.view p old pass.old.near
+        → SeesButCount pass.old.view pass.new.view × IsFilledWhole pass.new.view p result pass.new.near }
 {
     let class = class(u64::from(shared.number(pass)));
     if class == old {
@@ -220,6 +231,8 @@ fn steer_near<C: Clearing>(
     ensures steered { HasSteered pass.old.view pass.new.view k result.0.nearest result.0.from result.0.point }
     ensures filled { HasFilledNear pass.old.view pass.new.view result.0.point result.1 pass.new.near }
     ensures bounded { IsBounded result.0.point }
+    ensures whole { HasWholeShare pass.old.view → HasCounted pass.old.view
+        → SeesButCount pass.old.view pass.new.view × IsFilledWhole pass.new.view result.0.point result.1 pass.new.near }
     ensures clear { IsTrue result.2 ↔ Clear (C.space hall.now) result.0.from result.0.point }
 {
     let (steering, begun) = steer_among_near(shared, pass, radii, k);
@@ -249,6 +262,8 @@ fn hang<C: Clearing>(
     ensures near_list { pass.new.near ≡ pass.old.near }
     ensures count { sees pass.new.view Count ≡ sees pass.old.view Count }
     ensures hung { IfSome pass.old.view.hand (λ hand. IsHung pass.new.view hand result pass.old.near) }
+    ensures whole { HasWholeShare pass.old.view → SeesAsBefore pass.old.view pass.new.view
+        × IsBestHanging (space_of shared.now.task.scene) pass.old.view p nearest pass.old.near result }
 {
     let (parent, cost) = choose(shared, pass, hall, p, nearest);
     shared.write_tree(pass, parent, cost);
@@ -310,6 +325,8 @@ fn hang_and_place<C: Clearing>(
     ensures keeps { KeepsRecords shared.now pass.old pass.new }
     ensures tried { IfSome pass.old.view.hand (λ hand. IsTried pass.old pass.new hand result.0 result.1) }
     ensures class { result.1.class ≡ class }
+    ensures whole { HasWholeShare pass.old.view
+        → IsTriedWhole (space_of shared.now.task.scene) pass.old.view pass.new.view k steering.point steering.nearest pass.old.near result.0 result.1 }
 {
     let (parent, cost) = hang(shared, pass, hall, steering.point, steering.nearest);
     let placing = place(shared, pass, k);
@@ -341,6 +358,10 @@ fn place_mark<C: Clearing>(
     // of the time since any moment after which the near list was filled
     ensures ended { (first : PassState) → IsFilledSince shared.now first pass.old steering.point class
         → EndsAt first.view pass.new.view k result steering.point result.outcome }
+    // a pass that works alone does so as in the textbook
+    ensures textbook { IsSteeredWhole pass.old.view k steering.nearest steering.point
+        → IsFilledWhole pass.old.view steering.point class pass.old.near
+        → WorksAlone pass.old.view k → SeesTextbook pass.old.view k → WorksAlone pass.new.view (suc k) × SeesTextbook pass.new.view (suc k) }
 {
     let (placing, hanging) = hang_and_place(shared, pass, hall, k, steering, class);
     match placing {
@@ -370,6 +391,9 @@ pub(crate) fn extend_within<C: Clearing>(
     requires hall { C.space hall.now ≡ space_of shared.now.task.scene }
     ensures handled { HandlesMark shared.now pass.old pass.new k result }
     ensures extended { IsExtended pass.old.view pass.new.view k result }
+    // a pass that works alone goes on in the textbook run by one mark
+    ensures textbook { WorksAlone pass.old.view k → SeesTextbook pass.old.view k
+        → WorksAlone pass.new.view (suc k) × SeesTextbook pass.new.view (suc k) }
 {
     pass.clear_near();
     let (steering, class, is_clear) = steer_near(shared, pass, radii, hall, k);
@@ -398,6 +422,9 @@ pub fn extend<C: Clearing>(shared: &Shared, pass: &mut Pass, hall: &C, k: u32) -
     requires hall { C.space hall.now ≡ space_of shared.now.task.scene }
     ensures handled { HandlesMark shared.now pass.old pass.new k result }
     ensures extended { IsExtended pass.old.view pass.new.view k result }
+    // a pass that works alone goes on in the textbook run by one mark
+    ensures textbook { WorksAlone pass.old.view k → SeesTextbook pass.old.view k
+        → WorksAlone pass.new.view (suc k) × SeesTextbook pass.new.view (suc k) }
 {
     let scene = &shared.task().scene;
     let radii = Radii::new(scene.step, scene.gamma);

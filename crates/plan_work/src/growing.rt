@@ -1,11 +1,12 @@
 //! The planner by several workers.
 
-ghost use Rattle.std.specs.Prelude.{◌≡◌, ◌+◌, ◌<◌, ◌≤◌, ℕ, All, IfOk, Some, length, slice_index_or};
+ghost use Rattle.std.specs.Prelude.{◌≡◌, ◌+◌, ◌<◌, ◌≤◌, ℕ, [], ◌∷◌, All, IfOk, Some, length, slice_index_or};
 ghost use Rattle.plan_model.specs.ConfigurationSpace.{space_of};
 ghost use Rattle.plan_model.specs.TreeStates.{GrowsInto};
 ghost use Rattle.plan_model.specs.declared.limits.TheConstants.{MOST_WORKERS};
 ghost use Rattle.plan_model.specs.declared.records.Record.{Record};
 ghost use Rattle.plan_words.specs.States.{GoesOn, MayClaim, PassState};
+ghost use Rattle.plan_work.specs.OneWorker.{IsOfTextbook};
 ghost use Rattle.plan_work.specs.Workers.{HasDone, HasTakenOver};
 ghost use Rattle.step_core.specs.GrownRuns.{state_of_grown};
 
@@ -44,6 +45,8 @@ pub fn grow<R: Threads + Sync, C: Clearing, G: Gate>(
     ensures grows { IfOk result (λ after. GrowsInto (state_of_grown grown) (state_of_grown after)) }
     ensures workers { IfOk result (λ after. (k : ℕ) (entry : Record)
         → (state_of_grown after).record_of k ≡ Some entry → grown.limit ≤ k → entry.worker < workers) }
+    // one worker goes on with a run of the textbook as the textbook does
+    ensures textbook { workers ≡ 1 → IsOfTextbook grown → IfOk result (λ after. IsOfTextbook after) }
 {
     let (shared, mut passes) = Shared::start(alloc, grown, workers)?;
     work_all(rt, &shared, hall, limit, gate, passes.as_mut_slice());
@@ -87,6 +90,7 @@ fn take_over_all(shared: &Shared, passes: Vec<Pass>) -> Pass
     requires some { 1 ≤ length passes.items }
     requires may_claim { All (MayClaim shared.now) passes.items }
     ensures taken { HasTakenOver shared.now passes.items result }
+    ensures one { (pass : PassState) → passes.items ≡ pass ∷ [] → result ≡ pass }
 {
     let mut others = passes;
     let Some(mut pass) = others.pop() else {

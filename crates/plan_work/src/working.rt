@@ -4,6 +4,7 @@ ghost use Rattle.std.specs.Prelude.{◌≡◌, ◌≤◌, length};
 ghost use Rattle.plan_model.specs.ConfigurationSpace.{space_of};
 ghost use Rattle.plan_words.specs.Claims.{AllFull, AllLoaded};
 ghost use Rattle.plan_words.specs.States.{GoesOn, MayClaim};
+ghost use Rattle.plan_work.specs.OneWorker.{HandlesRest};
 ghost use Rattle.plan_work.specs.Workers.{HasWorked};
 
 use crate::extending::extend_within;
@@ -24,6 +25,8 @@ pub fn work<C: Clearing, G: Gate>(shared: &Shared, pass: &mut Pass, hall: &C, li
     ensures none_left { AllFull pass.new.view limit }
     // each counter was loaded in this call
     ensures loaded { AllLoaded pass.new.view pass.old.view.steps }
+    // one worker alone handles them one after another, as the textbook does
+    ensures textbook { shared.now.workers ≡ 1 → HandlesRest pass.old.view pass.new.view limit }
 {
     let scene = &shared.task().scene;
     let radii = Radii::new(scene.step, scene.gamma);

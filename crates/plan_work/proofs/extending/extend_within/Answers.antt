@@ -1,10 +1,11 @@
-use Rattle.std.proofs.Common.{◌≡◌, refl, sym, ◌∙◌, subst}
+use Rattle.std.proofs.Common.{◌≡◌, refl, sym, ap, ◌∙◌, subst}
 use Rattle.plan_model.specs.Clearance.{Clear}
 use Rattle.plan_model.specs.PointsByNumber.{point_of}
-use Rattle.plan_words.specs.States.{with_view}
+use Rattle.plan_words.specs.States.{PassState, with_view}
 use Rattle.step_core.specs.ViewSteps.{pointed}
 use Rattle.step_core.specs.ViewTrees.{SeesPoint}
-use Rattle.step_core.specs.Views.{setup_in, tree_seen}
+use Rattle.step_core.specs.Views.{sees, setup_in, tree_seen}
+use Rattle.step_core.specs.declared.views.View.{View}
 use Rattle.kd_shared.proofs.Looking.{OnlyLooks-refl}
 use Rattle.plan_model.proofs.SamePoints.{same_point-true}
 use Rattle.plan_work.specs.Extensions.{IsFilledSince, KeepsRecords}
@@ -14,6 +15,13 @@ use Rattle.plan_work.proofs.ExtendedMarks.{MayRecord-found, blocked_here}
 use Rattle.plan_work.proofs.HeldMarks.{of_held}
 use Rattle.plan_work.proofs.RecordedMarks.{HandlesMark-recorded}
 use Rattle.plan_work.proofs.extending.extend_within.Given.{Over}
+use Rattle.plan_words.specs.States.{HasWholeShare}
+use Rattle.plan_work.proofs.ExtendedAlone.{AloneNext-blocked, AloneNext-found, IsFilledWhole-written, IsSteeredWhole-written}
+use Rattle.plan_work.proofs.ExtendedAlone.{SeesTextbook-written, WorksAlone-written}
+use Rattle.plan_work.proofs.WholeLists.{HasCounted-claimed, HasCounted-kept, HasWholeShare-kept, SeesButCount-all, SeesButCount-trans}
+use Rattle.plan_work.specs.OneWorker.{WorksAlone}
+use Rattle.plan_work.specs.WholeShares.{IsFilledWhole, SeesButCount}
+use Rattle.step_core.specs.declared.views.Stage.TheVariants.{Claimed}
 use Rattle.plan_work.proofs.extending.extend_within.Goals as goal
 use Rattle.plan_work.proofs.extending.extend_within.Goals.{After-find, After-steer_near-class, After-write_point}
 
@@ -194,3 +202,89 @@ returns-clause-extended g c =
     c.place_mark.new.pass c.args.k c.steer_near-class.result.0.nearest c.steer_near-class.result.0.from c.steer_near-class.result.0.point
     c.place_mark.result looked (keeps g here looked) c.write_point.ensures.goes_on c.place_mark.ensures.handled
     c.place_mark.ensures.nearest (c.place_mark.ensures.ended c.args.pass.now (filled g here looked))
+
+-- ---- of a pass that works alone
+
+-- it was shown nothing new but the count, and its near list is that of the textbook
+abbrev IsWhole : (g : Over) → After-steer_near-class g → Type 0
+IsWhole g c =
+    SeesButCount c.args.pass.now.view c.steer_near-class.new.pass.view
+    × IsFilledWhole c.steer_near-class.new.pass.view c.steer_near-class.result.0.point c.steer_near-class.result.1 c.steer_near-class.new.pass.near
+
+whole_steered : (g : Over) (c : After-steer_near-class g) → WorksAlone c.args.pass.now.view c.args.k → IsWhole g c
+whole_steered g c alone =
+    let before = c.args.pass.now.view in
+    let emptied = c.clear_near.new.self.view in
+    let looked = steered g c in
+    let view : emptied ≡ before = ap (λ (x : PassState). x.view) c.clear_near.ensures.near in
+    let claimed = HasCounted-claimed before looked.hand looked.was_held (of_held before (λ hand. hand.stage ≡ Claimed) looked.hand looked.was_held c.requires.claimed) in
+    let got = c.steer_near-class.ensures.whole (subst HasWholeShare (sym view) alone.whole)
+    (HasCounted-kept before emptied (ap (λ (v : View). v.hand) view) claimed) in
+    (SeesButCount-trans before emptied c.steer_near-class.new.pass.view (SeesButCount-all before emptied (λ name. ap (λ v. sees v name) view)) got.0, got.1)
+
+pub returns-then-eq-clause-textbook : goal.returns-then-eq-clause-textbook
+returns-then-eq-clause-textbook g c = λ alone book.
+    let here = (goal.at.returns-then-eq-clause-textbook g c).After-steer_near-class in
+    let looked = steered g here in
+    let same = (whole_steered g here alone).0 in
+    AloneNext-found c.args.shared.now c.args.pass.now c.steer_near-class.new.pass looked.hand c.args.k c.steer_near-class.result.0.nearest
+    c.steer_near-class.result.0.from c.steer_near-class.result.0.point looked.keeps looked.steers looked.held looked.mark same alone book
+    c.record_unplaced.new.pass c.record_unplaced.result c.record_unplaced.ensures.recorded c.steer_near-class.result.0.nearest
+    c.record_unplaced.ensures.entry
+    (stands g here (same_point-true c.steer_near-class.result.0.from c.steer_near-class.result.0.point (sym c.eq.ensures ∙ c.if-eq.true)))
+
+-- a search for the point shows nothing new either
+found_alone : (g : Over) (c : After-find g) → SeesButCount c.args.pass.now.view c.steer_near-class.new.pass.view
+    → HasWholeShare c.steer_near-class.new.pass.view → SeesButCount c.args.pass.now.view c.find.new.pass.view
+found_alone g c same whole =
+    SeesButCount-trans c.args.pass.now.view c.steer_near-class.new.pass.view c.find.new.pass.view same
+    (SeesButCount-all c.steer_near-class.new.pass.view c.find.new.pass.view (c.find.ensures.looks.whole whole))
+
+pub returns-in-Some-clause-textbook : goal.returns-in-Some-clause-textbook
+returns-in-Some-clause-textbook g c = λ alone book.
+    let at = goal.at.returns-in-Some-clause-textbook g c in
+    let has_looked = looked g at.After-find in
+    let steer = steered g at.After-steer_near-class in
+    let same = found_alone g at.After-find (whole_steered g at.After-steer_near-class alone).0
+    (HasWholeShare-kept c.args.shared.now c.args.pass.now c.steer_near-class.new.pass steer.keeps alone.whole) in
+    AloneNext-found c.args.shared.now c.args.pass.now c.find.new.pass has_looked.hand c.args.k c.steer_near-class.result.0.nearest
+    c.steer_near-class.result.0.from c.steer_near-class.result.0.point has_looked.keeps has_looked.steers has_looked.held has_looked.mark same alone book
+    c.record_unplaced-in-Some.new.pass c.record_unplaced-in-Some.result c.record_unplaced-in-Some.ensures.recorded c.in-Some.node
+    c.record_unplaced-in-Some.ensures.entry c.in-Some.ensures.found
+
+pub returns-then-not-is_clear-clause-textbook : goal.returns-then-not-is_clear-clause-textbook
+returns-then-not-is_clear-clause-textbook g c = λ alone book.
+    let at = goal.at.returns-then-not-is_clear-clause-textbook g c in
+    let has_looked = looked g at.After-find in
+    let steer = steered g at.After-steer_near-class in
+    let same = found_alone g at.After-find (whole_steered g at.After-steer_near-class alone).0
+    (HasWholeShare-kept c.args.shared.now c.args.pass.now c.steer_near-class.new.pass steer.keeps alone.whole) in
+    AloneNext-blocked c.args.shared.now c.args.pass.now c.find.new.pass has_looked.hand c.args.k c.steer_near-class.result.0.nearest
+    c.steer_near-class.result.0.from c.steer_near-class.result.0.point has_looked.keeps has_looked.steers has_looked.held has_looked.mark same alone book
+    c.record_unplaced-then-not-is_clear.new.pass c.record_unplaced-then-not-is_clear.result c.record_unplaced-then-not-is_clear.ensures.recorded
+    c.in_default.ensures.free (blocked g at.After-find) c.record_unplaced-then-not-is_clear.ensures.entry
+
+pub returns-clause-textbook : goal.returns-clause-textbook
+returns-clause-textbook g c = λ alone book.
+    let at = goal.at.returns-clause-textbook g c in
+    let here = at.After-write_point in
+    let looked = steered g at.After-steer_near-class in
+    let whole = whole_steered g at.After-steer_near-class alone in
+    let shared = c.args.shared.now in
+    let before = c.args.pass.now in
+    let found = c.steer_near-class.new.pass in
+    let written = c.write_point.new.pass in
+    let m = c.steer_near-class.result.0.nearest in
+    let from = c.steer_near-class.result.0.from in
+    let p = c.steer_near-class.result.0.point in
+    let goes_on = c.write_point.ensures.goes_on in
+    let is = writes g here looked in
+    c.place_mark.ensures.textbook
+    (IsSteeredWhole-written shared before found looked.hand c.args.k m from p looked.keeps looked.steers looked.held looked.mark whole.0 alone book written
+    goes_on is)
+    (IsFilledWhole-written shared before found looked.hand c.args.k m from p looked.keeps looked.steers looked.held looked.mark whole.0 alone book written
+    goes_on is c.steer_near-class.result.1 whole.1)
+    (WorksAlone-written shared before found looked.hand c.args.k m from p looked.keeps looked.steers looked.held looked.mark whole.0 alone book written
+    goes_on is)
+    (SeesTextbook-written shared before found looked.hand c.args.k m from p looked.keeps looked.steers looked.held looked.mark whole.0 alone book written
+    goes_on is)

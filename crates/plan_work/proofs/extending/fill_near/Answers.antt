@@ -5,6 +5,13 @@ use Rattle.plan_model.specs.Textbook.{unplaced_record}
 use Rattle.plan_model.specs.declared.records.Outcome.TheVariants.{Blocked}
 use Rattle.plan_work.proofs.FilledNear.{HasFilledNear-found, own_count-some}
 use Rattle.plan_work.proofs.KeptRecords.{KeepsRecords-looks, KeepsRecords-number, KeepsRecords-trans}
+use Rattle.plan_model.specs.Nearness.{near}
+use Rattle.plan_model.specs.PointsByNumber.{node_count}
+use Rattle.plan_work.proofs.MirroredTrees.{points_still}
+use Rattle.plan_work.proofs.WholeLists.{HasWholeShare-kept, IsFilledWhole-found, SeesButCount-all, SeesButCount-trans}
+use Rattle.plan_work.specs.WholeShares.{SeesButCount}
+use Rattle.step_core.specs.Views.{tree_seen}
+use Rattle.step_core.specs.WordNames.Word.{PointOf}
 use Rattle.plan_work.proofs.extending.fill_near.Goals as goal
 use Rattle.step_core.specs.ViewTrees.{sight_in}
 use Rattle.step_core.specs.WordNames.Word.{Count}
@@ -42,3 +49,26 @@ returns-clause-filled c =
     HasFilledNear-found before mid after c.number.ensures.goes_on c.near.ensures.looks.looks.goes_on c.args.p nodes c.class.result c.near.new.pass.near
     c.number.ensures.own count (c.class.ensures.value ∙ ap class_of c.from-nodes.ensures)
     (subst (λ r. AreNearSeen (sight_in mid) (sight_in after) c.args.p r c.near.new.pass.near) radius c.near.ensures.near)
+
+-- by the number of nodes seen, which the count is
+pub returns-clause-whole : goal.returns-clause-whole
+returns-clause-whole c = λ whole counted.
+    let shared = c.args.shared.now in
+    let before = c.args.pass.now in
+    let mid = c.number.new.pass in
+    let after = c.near.new.pass in
+    let numbered = KeepsRecords-number shared before mid _ _ c.requires.belongs c.number.ensures.view c.number.ensures.goes_on c.number.ensures.seen in
+    let shown : SeesButCount before.view mid.view = λ name other. c.number.ensures.seen.others name other in
+    let unshown = c.near.ensures.looks.whole (HasWholeShare-kept shared before mid numbered whole) in
+    let same = SeesButCount-trans before.view mid.view after.view shown (SeesButCount-all mid.view after.view unshown) in
+    let run = c.near.ensures.looks.looks.goes_on.later.run ∙ c.number.ensures.goes_on.later.run in
+    let points = points_still before.view after.view run (λ n. same (PointOf n) (λ e. cc)) in
+    let nodes = c.from-nodes.ensures ∙ c.number.ensures.whole whole counted ∙ ap node_count (sym points) in
+    let own = run ∙ c.requires.belongs.run in
+    let radius =
+    c.at.ensures ∙ ap (λ n. radius_of_class n c.args.radii.now.gamma (class_of c.from-nodes.result)) (c.requires.radii.step ∙ ap (λ (r : SharedRun). r.step) (sym own))
+    ∙ ap (λ n. radius_of_class after.view.run.step n (class_of c.from-nodes.result)) (c.requires.radii.gamma ∙ ap (λ (r : SharedRun). r.gamma) (sym own)) in (
+      same,
+      IsFilledWhole-found after.view c.args.p c.from-nodes.result c.class.result after.near c.class.ensures.value nodes
+          (c.near.ensures.near.all ∙ ap (near (tree_seen after.view).points c.args.p) radius),
+    )

@@ -6,6 +6,8 @@ use Rattle.plan_work.proofs.HeldMarks.{holding, if_held, of_held}
 use Rattle.plan_work.proofs.HungMarks.{IsHung-written, KeepsRecords-written, MayHang-chosen, chosen_near}
 use Rattle.plan_work.proofs.KeptRecords.{KeepsRecords-anew, KeepsRecords-trans}
 use Rattle.plan_work.proofs.KeptSights.{point_still, present_still}
+use Rattle.plan_work.proofs.WholeLists.{IsBestHanging-before}
+use Rattle.step_core.specs.Views.{sees}
 use Rattle.plan_work.proofs.extending.hang.Goals as goal
 use Rattle.plan_work.specs.Extensions.{IsHung, IsPointed}
 use Rattle.step_core.specs.ViewTrees.{MayHang}
@@ -33,7 +35,7 @@ returns-clause-keeps g c =
     let own = holding before.view (λ hand. IsPointed hand c.args.nearest c.args.p) c.requires.hand c.requires.pointed in
     let held = c.choose-parent.ensures.seen.kept.hand ∙ own.held in
     KeepsRecords-trans c.args.shared.now before mid c.write_tree.new.pass
-    (KeepsRecords-anew IsTreeWord c.args.shared.now before mid (λ k no. no) c.choose-parent.ensures.belongs c.choose-parent.ensures.seen)
+    (KeepsRecords-anew IsTreeWord c.args.shared.now before mid (λ k no. no) (λ g no. no) c.choose-parent.ensures.belongs c.choose-parent.ensures.seen)
     (KeepsRecords-written c.args.shared.now mid c.write_tree.new.pass own.hand c.choose-parent.result.0 c.choose-parent.result.1
     c.choose-parent.ensures.belongs (of_held mid.view _ own.hand held c.write_tree.ensures.view) c.write_tree.ensures.goes_on)
 
@@ -51,3 +53,17 @@ returns-clause-hung g c =
     (ap (λ (p : PassState). p.view) written) (sym run) c.choose-parent.ensures.pairs
     (chosen_near space mid.view own.hand c.args.p c.args.nearest c.choose-parent.result.0 c.choose-parent.result.1 c.args.pass.now.near own.says
     c.choose-parent.ensures.least c.choose-parent.ensures.cost))
+
+-- with the share of all workers, the costs are those that were seen
+pub returns-clause-whole : goal.returns-clause-whole
+returns-clause-whole g c = λ whole.
+    let before = c.args.pass.now in
+    let mid = c.choose-parent.new.pass in
+    let own = holding before.view (λ hand. IsPointed hand c.args.nearest c.args.p) c.requires.hand c.requires.pointed in
+    let held = c.choose-parent.ensures.seen.kept.hand ∙ own.held in
+    let written = of_held mid.view _ own.hand held c.write_tree.ensures.view in
+    let unshown = c.choose-parent.ensures.whole whole in (
+      λ name. ap (λ (x : PassState). sees x.view name) written ∙ unshown name,
+      IsBestHanging-before (space_of c.args.shared.now.task.scene) before.view mid.view c.args.p c.args.nearest before.near c.choose-parent.result
+          c.choose-parent.ensures.seen.goes_on.later.run unshown c.choose-parent.ensures.least c.choose-parent.ensures.cost,
+    )

@@ -1,9 +1,13 @@
-use Rattle.std.proofs.Common.{ap}
+use Rattle.std.proofs.Common.{ap, subst}
 use Rattle.kd_shared.specs.Placings.{IsPlacing}
 use Rattle.plan_words.specs.States.{PassState}
 use Rattle.plan_work.proofs.HeldMarks.{if_held, of_held}
 use Rattle.plan_work.proofs.KeptRecords.{KeepsRecords-trans}
 use Rattle.plan_work.proofs.TriedMarks.{IsTried-placing, KeepsRecords-placing, reach_of-steered}
+use Rattle.kd_shared.specs.Placings.{SeesPlacing}
+use Rattle.plan_work.proofs.ExtendedAlone.{KeepsOthers-after, KeepsOthers-placing}
+use Rattle.plan_work.proofs.WholeLists.{HasWholeShare-kept}
+use Rattle.plan_work.specs.WholeShares.{KeepsOthers}
 use Rattle.plan_work.proofs.extending.hang_and_place.Goals as goal
 use Rattle.plan_work.specs.Extensions.{IsHung, IsTried}
 use Rattle.plan_work.specs.declared.extending.Hanging.{Hanging}
@@ -34,3 +38,20 @@ returns-clause-tried g c =
     c.place-placing.ensures.goes_on c.hang-parent.ensures.near_list (ap (λ (p : PassState). p.near) c.place-placing.ensures.view_alone)
     c.hang-parent.ensures.count hung
     (of_held hung_at.view (λ hand. IsPlacing after.view hand c.place-placing.result) _ hung.held c.place-placing.ensures.placed))
+
+pub returns-clause-whole : goal.returns-clause-whole
+returns-clause-whole g c = λ whole.
+    let before = c.args.pass.now in
+    let hung_at = c.hang-parent.new.pass in
+    let after = c.place-placing.new.pass in
+    let may = c.requires.may in
+    let best = c.hang-parent.ensures.whole whole in
+    let hung = of_held before.view (λ hand. IsHung hung_at.view hand c.hang-parent.result before.near) may.hand may.held c.hang-parent.ensures.hung in
+    let placing = of_held hung_at.view (λ hand. SeesPlacing hung_at.view after.view hand c.place-placing.result) _ hung.held
+    (c.place-placing.ensures.whole_seen (HasWholeShare-kept c.args.shared.now before hung_at c.hang-parent.ensures.keeps whole)) in
+    record {
+      best = best.1;
+      others = KeepsOthers-after before.view hung_at.view after.view c.args.k c.place-placing.result best.0
+          (subst (λ n. KeepsOthers hung_at.view after.view n c.place-placing.result) may.mark
+          (KeepsOthers-placing hung_at.view after.view _ c.place-placing.result placing));
+    }

@@ -5,6 +5,10 @@ use Rattle.plan_work.proofs.HeldMarks.{if_held, of_held}
 use Rattle.plan_work.proofs.KeptRecords.{KeepsRecords-anew, KeepsRecords-trans}
 use Rattle.plan_work.proofs.PlacedMarks.{IsPlacedAt-recorded, MayRecord-placed, MayRecord-same, Rewired-hand}
 use Rattle.plan_work.proofs.RecordedMarks.{HandlesMark-recorded}
+use Rattle.plan_model.specs.ConfigurationSpace.{space_of}
+use Rattle.plan_work.proofs.PlacedAlone.{AloneNext-placed, AloneNext-same, Mirrors-tried}
+use Rattle.plan_work.proofs.WholeLists.{HasWholeShare-kept}
+use Rattle.plan_work.specs.WholeShares.{IsFilledWhole, IsTriedWhole}
 use Rattle.plan_work.proofs.extending.place_mark.Goals as goal
 use Rattle.plan_work.specs.Extensions.{EndsAt, IsFilledSince, IsTried, hung_by}
 use Rattle.step_core.specs.ViewSteps.{pair_in_hand}
@@ -80,7 +84,7 @@ returns-in-Placed-clause-handled g c =
     HandlesMark-recorded c.args.shared.now before c.rewire.new.pass c.record_placed.new.pass
     (record (hung_by may.hand c.hang_and_place-placing.result.1) { stage = Counted }) c.args.k c.record_placed.result
     (KeepsRecords-trans c.args.shared.now before after c.rewire.new.pass c.hang_and_place-placing.ensures.keeps
-    (KeepsRecords-anew IsTreeOrPoint c.args.shared.now after c.rewire.new.pass (λ j no. no) c.rewire.ensures.belongs c.rewire.ensures.seen))
+    (KeepsRecords-anew IsTreeOrPoint c.args.shared.now after c.rewire.new.pass (λ j no. no) (λ g no. no) c.rewire.ensures.belongs c.rewire.ensures.seen))
     c.record_placed.ensures.recorded (c.rewire.ensures.seen.kept.hand ∙ placed.came.counted) may.mark
 
 pub returns-in-Placed-clause-ended : goal.returns-in-Placed-clause-ended
@@ -123,3 +127,45 @@ returns-in-Same-clause-ended g c = λ first filled.
     (sym (ap (λ (entry : Record). entry.outcome) c.record_unplaced.ensures.entry))
     (subst (SeesPoint c.record_unplaced.new.pass.view c.in-Same.node) may.pointed.point
     (stands_later after.view c.record_unplaced.new.pass.view c.record_unplaced.ensures.recorded.goes_on c.in-Same.node may.hand.point same.came.stands))
+
+-- ---- of a pass that works alone
+
+pub returns-in-Placed-clause-textbook : goal.returns-in-Placed-clause-textbook
+returns-in-Placed-clause-textbook g c = λ steers filled alone book.
+    let shared = c.args.shared.now in
+    let before = c.args.pass.now in
+    let after = c.hang_and_place-placing.new.pass in
+    let hanging = c.hang_and_place-placing.result.1 in
+    let p = c.args.steering.point in
+    let m = c.args.steering.nearest in
+    let may = c.requires.may in
+    let keeps = c.hang_and_place-placing.ensures.keeps in
+    let tried = of_held before.view (λ hand. IsTried before after hand c.hang_and_place-placing.result.0 hanging) may.hand may.held
+    c.hang_and_place-placing.ensures.tried in
+    let placed = subst (λ placing. IsTried before after may.hand placing hanging) c.in-Placed.is tried in
+    let whole = subst (λ placing. IsTriedWhole (space_of shared.task.scene) before.view after.view c.args.k p m before.near placing hanging) c.in-Placed.is
+    (c.hang_and_place-placing.ensures.whole alone.whole) in
+    let reach = c.requires.filled.1.filled.in_reach in
+    let filled_class = subst (λ n. IsFilledWhole before.view p n before.near) (sym c.hang_and_place-placing.ensures.class) filled in
+    let start_clear = (keeps.goes_on.was_lawful.whole alone.whole).start_clear in
+    let mirrors = Mirrors-tried shared before after c.args.k m p hanging may keeps placed whole reach steers filled_class book start_clear in
+    let rewired = c.rewire.ensures.whole (HasWholeShare-kept shared before after keeps alone.whole) _ mirrors in
+    AloneNext-placed shared before after c.args.k m p hanging may keeps placed whole reach steers filled_class book start_clear c.rewire.new.pass
+    c.record_placed.new.pass c.record_placed.result c.rewire.ensures.seen rewired.0 rewired.1 rewired.2 c.record_placed.ensures.recorded
+    c.record_placed.ensures.entry alone
+
+pub returns-in-Same-clause-textbook : goal.returns-in-Same-clause-textbook
+returns-in-Same-clause-textbook g c = λ steers filled alone book.
+    let shared = c.args.shared.now in
+    let before = c.args.pass.now in
+    let after = c.hang_and_place-placing.new.pass in
+    let hanging = c.hang_and_place-placing.result.1 in
+    let may = c.requires.may in
+    let tried = of_held before.view (λ hand. IsTried before after hand c.hang_and_place-placing.result.0 hanging) may.hand may.held
+    c.hang_and_place-placing.ensures.tried in
+    let same = subst (λ placing. IsTried before after may.hand placing hanging) c.in-Same.is tried in
+    let whole = subst (λ placing. IsTriedWhole (space_of shared.task.scene) before.view after.view c.args.k c.args.steering.point c.args.steering.nearest before.near placing hanging)
+    c.in-Same.is (c.hang_and_place-placing.ensures.whole alone.whole) in
+    AloneNext-same shared before after c.record_unplaced.new.pass c.args.k c.args.steering.nearest c.in-Same.node c.args.steering.point hanging
+    c.record_unplaced.result may c.hang_and_place-placing.ensures.keeps same whole c.record_unplaced.ensures.recorded c.record_unplaced.ensures.entry steers
+    alone book

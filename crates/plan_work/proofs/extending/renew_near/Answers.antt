@@ -6,6 +6,9 @@ use Rattle.plan_words.specs.States.{PassState}
 use Rattle.plan_work.proofs.FilledNear.{HasFilledNear-begun, own_count-some}
 use Rattle.plan_work.proofs.KeptRecords.{KeepsRecords-number, KeepsRecords-trans}
 use Rattle.plan_work.proofs.TriedMarks.{HasFilledNear-recounted}
+use Rattle.plan_work.proofs.WholeLists.{HasCounted-kept, HasWholeShare-kept, IsFilledWhole-still, SeesButCount-trans}
+use Rattle.plan_work.specs.WholeShares.{IsFilledWhole, SeesButCount}
+use Rattle.step_core.specs.WordNames.Word.{PointOf}
 use Rattle.plan_work.proofs.extending.renew_near.Goals as goal
 use Rattle.plan_work.specs.Extensions.{HasFilledNear}
 
@@ -52,3 +55,29 @@ returns-clause-filled c = λ first since.
           HasFilledNear-begun first.view mid.view after.view counted.goes_on counted.records c.args.p c.fill_near.result after.near
           c.fill_near.ensures.filled;
     }
+
+-- ---- with the share of all workers
+
+pub returns-then-class-old-clause-whole : goal.returns-then-class-old-clause-whole
+returns-then-class-old-clause-whole c = λ whole counted filled.
+    let before = c.args.pass.now in
+    let after = c.number.new.pass in
+    let shown : SeesButCount before.view after.view = λ name other. c.number.ensures.seen.others name other in
+    let same : c.class-class.result ≡ c.args.old = omega (arith, c.if-class-old.true) in (
+      shown,
+      subst (IsFilledWhole after.view c.args.p c.class-class.result) (sym (ap (λ (x : PassState). x.near) c.number.ensures.view))
+          (subst (λ n. IsFilledWhole after.view c.args.p n before.near) (sym same)
+          (IsFilledWhole-still before.view after.view c.number.ensures.goes_on.later.run (λ n. shown (PointOf n) (λ e. cc)) c.args.p c.args.old before.near
+          filled)),
+    )
+
+pub returns-clause-whole : goal.returns-clause-whole
+returns-clause-whole c = λ whole counted filled.
+    let shared = c.args.shared.now in
+    let before = c.args.pass.now in
+    let mid = c.number.new.pass in
+    let numbered = KeepsRecords-number shared before mid _ _ c.requires.belongs c.number.ensures.view c.number.ensures.goes_on c.number.ensures.seen in
+    let shown : SeesButCount before.view mid.view = λ name other. c.number.ensures.seen.others name other in
+    let hand = ap (λ (x : PassState). x.view.hand) c.number.ensures.view in
+    let last = c.fill_near.ensures.whole (HasWholeShare-kept shared before mid numbered whole) (HasCounted-kept before.view mid.view hand counted) in
+    (SeesButCount-trans before.view mid.view c.fill_near.new.pass.view shown last.0, last.1)

@@ -14,6 +14,10 @@ use Rattle.plan_work.proofs.KeptRecords.{KeepsRecords-anew, KeepsRecords-looks, 
 use Rattle.plan_work.proofs.KeptSights.{HasSteered-begun, HasSteered-still}
 use Rattle.plan_work.proofs.NearestListed.{HasSteered-listed}
 use Rattle.plan_work.proofs.TriedMarks.{HasFilledNear-still}
+use Rattle.plan_work.proofs.WholeLists.{HasCounted-kept, HasWholeShare-kept, IsFilledWhole-still, SeesButCount-all, SeesButCount-trans}
+use Rattle.plan_work.specs.WholeShares.{IsFilledWhole}
+use Rattle.plan_words.specs.Claims.{SeesAsBefore}
+use Rattle.step_core.specs.WordNames.Word.{PointOf}
 use Rattle.plan_work.proofs.extending.steer_among_near.Goals as goal
 use Rattle.plan_work.specs.Extensions.{HasFilledNear}
 
@@ -36,7 +40,7 @@ pub returns-in-Some-clause-keeps : goal.returns-in-Some-clause-keeps
 returns-in-Some-clause-keeps c =
     let steps = c.nearest_listed.ensures.steps in
     KeepsRecords-trans c.args.shared.now c.args.pass.now c.fill_near-class.new.pass c.nearest_listed.new.pass c.fill_near-class.ensures.keeps
-    (KeepsRecords-anew IsNoWord c.args.shared.now c.fill_near-class.new.pass c.nearest_listed.new.pass (λ j no. no) steps.belongs steps.sees_anew)
+    (KeepsRecords-anew IsNoWord c.args.shared.now c.fill_near-class.new.pass c.nearest_listed.new.pass (λ j no. no) (λ g no. no) steps.belongs steps.sees_anew)
 
 pub returns-in-Some-clause-steered : goal.returns-in-Some-clause-steered
 returns-in-Some-clause-steered c =
@@ -80,7 +84,7 @@ returns-clause-keeps c =
     let steering = c.steer_from_nearest-steering in
     KeepsRecords-trans shared c.args.pass.now c.fill_near-class.new.pass c.fill_near-class-2.new.pass c.fill_near-class.ensures.keeps
     (KeepsRecords-trans shared c.fill_near-class.new.pass listed c.fill_near-class-2.new.pass
-    (KeepsRecords-anew IsNoWord shared c.fill_near-class.new.pass listed (λ j no. no) steps.belongs steps.sees_anew)
+    (KeepsRecords-anew IsNoWord shared c.fill_near-class.new.pass listed (λ j no. no) (λ g no. no) steps.belongs steps.sees_anew)
     (KeepsRecords-trans shared listed steering.new.pass c.fill_near-class-2.new.pass
     (KeepsRecords-looks shared listed steering.new.pass steering.ensures.belongs steering.ensures.looks) c.fill_near-class-2.ensures.keeps))
 
@@ -111,7 +115,45 @@ returns-clause-filled c =
     let looks = c.steer_from_nearest-steering.ensures.looks in
     let keeps = KeepsRecords-trans shared c.args.pass.now c.fill_near-class.new.pass mid c.fill_near-class.ensures.keeps
     (KeepsRecords-trans shared c.fill_near-class.new.pass listed mid
-    (KeepsRecords-anew IsNoWord shared c.fill_near-class.new.pass listed (λ j no. no) steps.belongs steps.sees_anew)
+    (KeepsRecords-anew IsNoWord shared c.fill_near-class.new.pass listed (λ j no. no) (λ g no. no) steps.belongs steps.sees_anew)
     (KeepsRecords-looks shared listed mid c.steer_from_nearest-steering.ensures.belongs looks)) in
     HasFilledNear-begun c.args.pass.now.view mid.view c.fill_near-class-2.new.pass.view keeps.goes_on keeps.records
     c.steer_from_nearest-steering.result.point c.fill_near-class-2.result c.fill_near-class-2.new.pass.near c.fill_near-class-2.ensures.filled
+
+-- ---- with the share of all workers
+
+pub returns-in-Some-clause-whole : goal.returns-in-Some-clause-whole
+returns-in-Some-clause-whole c = λ whole counted.
+    let before = c.args.pass.now.view in
+    let mid = c.fill_near-class.new.pass in
+    let after = c.nearest_listed.new.pass in
+    let steps = c.nearest_listed.ensures.steps in
+    let filled = c.fill_near-class.ensures.whole whole counted in
+    let same : SeesAsBefore mid.view after.view = λ name. steps.sees_anew.others name (λ no. no) in (
+      SeesButCount-trans before mid.view after.view filled.0 (SeesButCount-all mid.view after.view same),
+      subst (IsFilledWhole after.view _ c.fill_near-class.result) (sym (ap (λ (x : PassState). x.near) steps.view_alone))
+          (IsFilledWhole-still mid.view after.view steps.sees_anew.goes_on.later.run (λ n. same (PointOf n)) _ c.fill_near-class.result mid.near filled.1),
+    )
+
+pub returns-clause-whole : goal.returns-clause-whole
+returns-clause-whole c = λ whole counted.
+    let shared = c.args.shared.now in
+    let before = c.args.pass.now in
+    let first = c.fill_near-class.new.pass in
+    let listed = c.nearest_listed.new.pass in
+    let mid = c.steer_from_nearest-steering.new.pass in
+    let after = c.fill_near-class-2.new.pass in
+    let steps = c.nearest_listed.ensures.steps in
+    let looks = c.steer_from_nearest-steering.ensures.looks in
+    let two = KeepsRecords-anew IsNoWord shared first listed (λ j no. no) (λ g no. no) steps.belongs steps.sees_anew in
+    let three = KeepsRecords-looks shared listed mid c.steer_from_nearest-steering.ensures.belongs looks in
+    let share = HasWholeShare-kept shared first listed two (HasWholeShare-kept shared before first c.fill_near-class.ensures.keeps whole) in
+    let hand = looks.kept.hand ∙ steps.sees_anew.kept.hand ∙ c.fill_near-class.ensures.hand in
+    let last = c.fill_near-class-2.ensures.whole (HasWholeShare-kept shared listed mid three share) (HasCounted-kept before.view mid.view hand counted) in
+    let unlisted : SeesAsBefore first.view listed.view = λ name. steps.sees_anew.others name (λ no. no) in (
+      SeesButCount-trans before.view first.view after.view (c.fill_near-class.ensures.whole whole counted).0
+          (SeesButCount-trans first.view listed.view after.view (SeesButCount-all first.view listed.view unlisted)
+          (SeesButCount-trans listed.view mid.view after.view
+          (SeesButCount-all listed.view mid.view (c.steer_from_nearest-steering.ensures.whole share)) last.0)),
+      last.1,
+    )

@@ -10,6 +10,7 @@ use Rattle.step_core.specs.ViewTrees.{sight_in}
 use Rattle.step_core.specs.declared.views.SharedRun.{SharedRun}
 use Rattle.plan_work.proofs.HeldMarks.{mark_low, mark_shown}
 use Rattle.plan_work.proofs.KeptSights.{HasSteered-found}
+use Rattle.tree_rewire.proofs.CostSteps.{PassSees-point}
 use Rattle.plan_work.proofs.extending.steer_from_nearest.Goals as goal
 use Rattle.step_core.specs.WordNames.Word.{PointOf}
 
@@ -28,7 +29,7 @@ nearest-nearest-requires-clause-bounded c =
 pub returns-clause-looks : goal.returns-clause-looks
 returns-clause-looks c =
     let load = PassLooks-load c.args.shared.now c.nearest-nearest.new.pass c.point-from.new.pass (PointOf c.nearest-nearest.result) _ _
-    c.nearest-nearest.ensures.belongs tt c.point-from.ensures.view c.point-from.ensures.goes_on c.point-from.ensures.seen in
+    c.nearest-nearest.ensures.belongs tt c.point-from.ensures.view c.point-from.ensures.goes_on c.point-from.ensures.seen c.point-from.ensures.whole in
     OnlyLooks-trans c.args.pass.now.view c.nearest-nearest.new.pass.view c.point-from.new.pass.view c.nearest-nearest.ensures.looks load.looks
 
 pub returns-clause-steered : goal.returns-clause-steered
@@ -50,3 +51,11 @@ returns-clause-steered c =
     (c.steer-point.ensures.value
     ∙ ap (λ q. steered c.point-from.result q c.task-2.result.now.scene.step) (mark_mid ∙ ap (λ (r : SharedRun). mark_at r.marks c.args.k) (sym last))
     ∙ ap (steered c.point-from.result (mark_at after.view.run.marks c.args.k)) step)
+
+-- the nearest node was seen with its point
+pub returns-clause-whole : goal.returns-clause-whole
+returns-clause-whole c = λ whole name.
+    let steps = PassSees-point c.args.shared.now c.nearest-nearest.new.pass c.point-from.new.pass c.nearest-nearest.result _ _
+    c.nearest-nearest.ensures.belongs c.nearest-nearest.ensures.nearest.nearest.member c.point-from.ensures.view c.point-from.ensures.goes_on
+    c.point-from.ensures.seen in
+    steps.sees_anew.others name (λ no. no) ∙ c.nearest-nearest.ensures.looks.whole whole name

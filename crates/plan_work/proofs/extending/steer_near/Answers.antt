@@ -1,5 +1,6 @@
 use Rattle.plan_work.proofs.KeptRecords.{KeepsRecords-trans}
 use Rattle.plan_work.proofs.KeptSights.{HasSteered-still}
+use Rattle.plan_work.proofs.WholeLists.{HasCounted-kept, HasWholeShare-kept, SeesButCount-trans}
 use Rattle.plan_work.proofs.extending.steer_near.Goals as goal
 use Rattle.plan_work.specs.Extensions.{IsFilledSince}
 
@@ -21,3 +22,12 @@ returns-clause-filled g c =
     let since : IsFilledSince c.args.shared.now c.args.pass.now begun.new.pass begun.result.0.point begun.result.1 =
     record { keeps = begun.ensures.keeps; filled = begun.ensures.filled } in
     (c.renew_near-class.ensures.filled c.args.pass.now since).filled
+
+pub returns-clause-whole : goal.returns-clause-whole
+returns-clause-whole g c = λ whole counted.
+    let before = c.args.pass.now in
+    let begun = c.steer_among_near-begun in
+    let one = begun.ensures.whole whole counted in
+    let two = c.renew_near-class.ensures.whole (HasWholeShare-kept c.args.shared.now before begun.new.pass begun.ensures.keeps whole)
+    (HasCounted-kept before.view begun.new.pass.view begun.ensures.hand counted) one.1 in
+    (SeesButCount-trans before.view begun.new.pass.view c.renew_near-class.new.pass.view one.0 two.0, two.1)

@@ -1,7 +1,7 @@
-use Rattle.std.proofs.Common.{◌≡◌, ap, ◌∙◌, subst, arith}
+use Rattle.std.proofs.Common.{◌≡◌, sym, ap, ◌∙◌, subst, arith}
 use Rattle.std.specs.Prelude.{◌++◌, [], ◌∷◌, All, option_to_list}
 use Rattle.plan_words.specs.States.{MayClaim, PassState}
-use Rattle.plan_work.proofs.TakenOver.{All-front, All-next, HasTakenOver-alone, HasTakenOver-more, taken_next}
+use Rattle.plan_work.proofs.TakenOver.{All-front, All-next, HasTakenOver-alone, HasTakenOver-more, not_alone, only, taken_next}
 use Rattle.plan_work.proofs.growing.take_over_all.Goals as goal
 
 pub others-init : goal.others-init
@@ -12,6 +12,7 @@ others-init c =
     record {
       rest = All-front (MayClaim c.args.shared.now) rest (c.in-Some.pass ∷ []) all;
       taken = (c.in-Some.pass ∷ [], split, HasTakenOver-alone c.args.shared.now c.in-Some.pass (All-next (MayClaim c.args.shared.now) rest c.in-Some.pass all));
+      one = λ own is. only rest c.in-Some.pass own (sym split ∙ is);
     }
 
 pub join-requires-clause-belongs_too : goal.join-requires-clause-belongs_too
@@ -49,4 +50,7 @@ others-preserved c =
         HasTakenOver-more c.args.shared.now taken c.others.pass other c.join.new.pass takes may c.join.ensures.goes_on.later.seen c.join.ensures.others_seen
             c.join.ensures.share (ap (λ (p : PassState). p.view.most) c.join.ensures.view.1),
       );
+      one = λ own is.
+          absurd
+          (not_alone rest taken other own c.args.shared.now c.others.pass takes (sym is ∙ c.others.invariant.taken.1 ∙ ap (λ l. l ++ taken) split));
     }

@@ -1,7 +1,8 @@
-use Rattle.std.proofs.Common.{inr, length, subst}
+use Rattle.std.proofs.Common.{suc, inr, length, subst, arith}
 use Rattle.std.specs.Prelude.{◌-◌, ◌<◌}
 use Rattle.plan_words.proofs.GoingOn.{GoesOn-more}
 use Rattle.plan_words.specs.States.{turn_of}
+use Rattle.plan_work.proofs.LoneMarks.{HasHandled-all, HasHandled-mark}
 use Rattle.plan_work.proofs.WorkedMarks.{AllLoaded-earlier, HasWorked-mark, fewer_turns}
 use Rattle.plan_work.proofs.working.work.Goals as goal
 use Rattle.step_core.specs.declared.views.SharedRun.{SharedRun}
@@ -23,6 +24,15 @@ marks-preserved g c = record {
       (GoesOn-more c.args.pass.now.view c.claim.new.pass.view c.extend_within.new.pass.view
       (inr (GoesOn-more c.args.pass.now.view c.marks.pass.view c.claim.new.pass.view c.marks.invariant.goes_on c.claim.ensures.goes_on))
       c.extend_within.ensures.handled.goes_on);
+  textbook = λ one k low handled.
+      let so_far = c.marks.invariant.textbook one k low handled in
+      let whole = so_far.2.alone.whole in (
+        suc c.in-Some.k,
+        omega (arith, c.in-Some.ensures.some.low),
+        HasHandled-mark c.args.shared.now c.marks.pass c.claim.new.pass c.extend_within.new.pass c.args.limit c.in-Some.k so_far.0 c.extend_within.result so_far.2
+            c.claim.ensures.goes_on c.claim.ensures.others c.in-Some.ensures.some (c.in-Some.ensures.whole_some whole) (c.in-Some.ensures.least whole one)
+            c.extend_within.ensures.handled c.extend_within.ensures.textbook,
+      );
 }
 
 pub returns-clause-goes_on : goal.returns-clause-goes_on
@@ -32,3 +42,9 @@ returns-clause-goes_on g c =
 pub returns-clause-loaded : goal.returns-clause-loaded
 returns-clause-loaded g c =
     AllLoaded-earlier c.args.pass.now.view c.marks.pass.view c.claim.new.pass.view c.marks.invariant.goes_on c.claim.ensures.loaded
+
+pub returns-clause-textbook : goal.returns-clause-textbook
+returns-clause-textbook g c = λ one k low handled.
+    let so_far = c.marks.invariant.textbook one k low handled in
+    HasHandled-all c.marks.pass.view c.claim.new.pass.view c.args.limit so_far.0 so_far.2 so_far.1 c.claim.ensures.goes_on c.claim.ensures.others
+    (c.in_default.ensures.whole_none so_far.2.alone.whole) c.in_default.ensures.none.0 c.in_default.ensures.none.1

@@ -1,0 +1,165 @@
+-- One worker alone goes from mark to mark, each the least that is not claimed, and handles each as the textbook does.
+use Rattle.std.proofs.Common.{◌≡◌, ℕ, suc, ◌+◌, ◌*◌, ◌/◌, ◌%◌, ◌<◌, ◌≤◌, ◌^◌, true, length, take, sym, ap, ◌∙◌, subst, inl, inr, arith}
+use Rattle.std.specs.Prelude.{◌≢◌, map}
+use Rattle.std.specs.List.{range_with_len}
+use Rattle.std.proofs.lemmas.Bool.{cases_eq, cases_lt, le-ltb, lt-ltb}
+use Rattle.plan_model.specs.MarkPoints.{is_claimed, strip_of_mark}
+use Rattle.plan_model.specs.PointsByNumber.{point_at}
+use Rattle.plan_model.specs.Textbook.{IsTextbookRun}
+use Rattle.plan_model.specs.declared.records.Record.{Record}
+use Rattle.plan_model.proofs.StripMarks.{IsMarkOf-own, is_claimed-now, is_claimed-other}
+use Rattle.plan_model.proofs.WorkerTurns.{ltb-next}
+use Rattle.plan_words.specs.Claims.{AllFull, IsClaimed, IsLeastOpen, KeepsHand, RaisesCounter, SeesAsBefore}
+use Rattle.plan_words.specs.States.{GoesOn, PassState, SharedState}
+use Rattle.step_core.specs.GrownWords.{record_at}
+use Rattle.step_core.specs.SeenWords.{seen_point}
+use Rattle.step_core.specs.ViewSteps.{mark_of}
+use Rattle.step_core.specs.Views.{sees, setup_in, tree_seen}
+use Rattle.step_core.specs.WordNames.{ChangesOnly, IsCounter}
+use Rattle.step_core.specs.WordNames.Word.{Counter, FirstOf, PointOf, RecordOf, TreeOf}
+use Rattle.step_core.specs.Words.{cost_in, parent_in, point_of_word, record_of_word}
+use Rattle.step_core.specs.Worlds.{counters}
+use Rattle.step_core.specs.declared.views.SharedRun.{SharedRun}
+use Rattle.step_core.specs.declared.views.View.{View}
+use Rattle.plan_work.specs.Extensions.{HandlesMark}
+use Rattle.plan_work.specs.OneWorker.{HasClaimed, HasHandled, SeesTextbook, WorksAlone}
+
+-- ---- while only counters are seen anew
+
+module _ (before after : View) (run : after.run ≡ before.run) (others : ChangesOnly IsCounter (sees before) (sees after)) where
+  point-same : (n : ℕ) → seen_point (sees after) n ≡ seen_point (sees before) n
+  point-same n = ap point_of_word (others (PointOf n) (λ no. no))
+
+  points-same : (tree_seen after).points ≡ (tree_seen before).points
+  points-same =
+      ap (λ (r : SharedRun). map (seen_point (sees after)) (range_with_len 0 (length r.marks + 1))) run
+      ∙ ap (λ f. map f (range_with_len 0 (length before.run.marks + 1))) (λ t n. point-same n t)
+
+  record-same : (j : ℕ) → record_at (sees after) j ≡ record_at (sees before) j
+  record-same j =
+      ap (λ w. record_of_word w (sees after (FirstOf (suc j)))) (others (RecordOf j) (λ no. no))
+      ∙ ap (record_of_word (sees before (RecordOf j))) (others (FirstOf (suc j)) (λ no. no))
+
+  -- the same tree and the same records are seen
+  pub SeesTextbook-counted : (k : ℕ) → SeesTextbook before k → SeesTextbook after k
+  SeesTextbook-counted k seen = record {
+    tree = seen.tree;
+    records = seen.records;
+    run = subst (λ (r : SharedRun). IsTextbookRun (setup_in r) (take k r.marks) seen.tree seen.records) (sym run) seen.run;
+    nodes = record {
+      points = λ n. ap (λ ps. point_at ps n) points-same ∙ seen.nodes.points n;
+      written = λ n here. subst (λ w. 2 ^ 63 ≤ w) (sym (others (TreeOf n) (λ no. no))) (seen.nodes.written n here);
+      parents = λ n here. ap parent_in (others (TreeOf n) (λ no. no)) ∙ seen.nodes.parents n here;
+      costs = λ n here. ap cost_in (others (TreeOf n) (λ no. no)) ∙ seen.nodes.costs n here;
+    };
+    recorded = λ j. record-same j ∙ seen.recorded j;
+  }
+
+  -- and the worker is the only one still
+  pub WorksAlone-counted : (k : ℕ) → after.crew ≡ before.crew → WorksAlone before k → WorksAlone after k
+  WorksAlone-counted k crew alone = record {
+    whole = ap length crew ∙ alone.whole ∙ ap (λ (r : SharedRun). r.workers) (sym run);
+    crew = crew ∙ alone.crew;
+  }
+
+-- ---- the least mark
+
+-- the least mark that is not claimed is the one after those that were handled
+pub least-is : (view : View) (k m : ℕ) → HasClaimed view m → IsLeastOpen view k → k ≡ m
+least-is view k m claimed least =
+    elim (cases_lt k m) [
+      | inl less ↦ (let no = sym (claimed k ∙ lt-ltb k m less) ∙ least.here in cc)
+      | inr more ↦ elim (cases_lt m k) [
+        | inl past ↦ (let no = sym (claimed m ∙ le-ltb m m (omega arith)) ∙ least.before m past in cc)
+        | inr same ↦ omega (arith, more, same)
+      ]
+    ]
+
+-- With its claim the first marks are claimed, and it.
+module _
+    (before after : View) (limit k : ℕ) (strips : 0 < before.run.strips) (run : after.run ≡ before.run) (claims : IsClaimed before after limit k)
+    (raises : RaisesCounter before after k) where
+  abbrev own : ℕ
+  own = strip_of_mark before.run.strips k
+
+  number : sees before (Counter own) * before.run.strips + own ≡ k
+  number =
+      let c : ℕ = sees before (Counter (strip_of_mark before.run.strips k)) in
+      let next : (c + 1) * before.run.strips + strip_of_mark before.run.strips k ≡ k + before.run.strips =
+      ap (λ n. n * before.run.strips + strip_of_mark before.run.strips k) (sym raises.here)
+      ∙ subst (λ (r : SharedRun). mark_of r (strip_of_mark r.strips k) (sees after (Counter (strip_of_mark r.strips k))) ≡ k + r.strips) run claims.next in
+      omega (arith, next)
+
+  within : own < before.run.strips
+  within = omega (arith, strips)
+
+  pub HasClaimed-claims : HasClaimed before k → HasClaimed after (suc k)
+  HasClaimed-claims claimed j =
+      ap (λ (r : SharedRun). is_claimed r.strips (counters (sees after)) j) run
+      ∙ elim (cases_eq j k) [
+        | inl e ↦ (
+            ap (is_claimed before.run.strips (counters (sees after))) (e ∙ sym number)
+            ∙ is_claimed-now before.run.strips strips (counters (sees before)) (counters (sees after)) own within up others
+            ∙ sym (lt-ltb j (suc k) (omega (arith, e))))
+        | inr apart ↦ (
+            is_claimed-other before.run.strips strips (counters (sees before)) (counters (sees after)) own within up others j (λ e. apart (e ∙ number))
+            ∙ claimed j ∙ sym (ltb-next j k apart))
+      ]
+    where
+      up : sees after (Counter own) ≡ suc (sees before (Counter own))
+      up = omega (arith, raises.here)
+
+      others : (h : ℕ) → h ≢ own → sees after (Counter h) ≡ sees before (Counter h)
+      others h apart = raises.others (Counter h) (λ e. apart cc)
+
+-- ---- one mark more, and none
+
+pub HasHandled-mark :
+    (shared : SharedState) (now claimed after : PassState) (limit k m : ℕ) (entry : Record) → HasHandled now.view m
+    → GoesOn now.view claimed.view → ChangesOnly IsCounter (sees now.view) (sees claimed.view) → IsClaimed now.view claimed.view limit k
+    → RaisesCounter now.view claimed.view k → IsLeastOpen now.view k → HandlesMark shared claimed after k entry
+    → (WorksAlone claimed.view k → SeesTextbook claimed.view k → WorksAlone after.view (suc k) × SeesTextbook after.view (suc k))
+    → HasHandled after.view (suc k)
+HasHandled-mark shared now claimed after limit k m entry handled goes_on others claims raises least handles extended =
+    let here : HasHandled now.view k = subst (HasHandled now.view) (sym (least-is now.view k m handled.claimed least)) handled in
+    let run = goes_on.later.run in
+    let both = extended (WorksAlone-counted now.view claimed.view run others k claims.crew here.alone)
+    (SeesTextbook-counted now.view claimed.view run others k here.textbook) in
+    let was = HasClaimed-claims now.view claimed.view limit k goes_on.was_lawful.run.strips.0 run claims raises here.claimed in
+    record {
+      alone = both.0;
+      textbook = both.1;
+      claimed = λ j.
+          ap (λ (r : SharedRun). is_claimed r.strips (counters (sees after.view)) j) handles.goes_on.later.run
+          ∙ ap (λ f. is_claimed claimed.view.run.strips f j) (λ t g. handles.counters g t)
+          ∙ was j;
+    }
+
+-- Where none is left below the limit, those that were handled are all below it.
+pub HasHandled-all :
+    (now after : View) (limit m : ℕ) → HasHandled now m → m ≤ limit → GoesOn now after → ChangesOnly IsCounter (sees now) (sees after)
+    → SeesAsBefore now after → KeepsHand now after → AllFull after limit → HasHandled after limit
+HasHandled-all now after limit m handled low goes_on others as_before kept full =
+    elim (cases_lt m limit) [
+      | inr past ↦ subst (HasHandled after) (omega (arith, low, past)) still
+      | inl less ↦ (
+          let strips : 0 < after.run.strips = goes_on.lawful.run.strips.0 in
+          let mark = IsMarkOf-own after.run.strips limit m strips less in
+          let taken : is_claimed after.run.strips (counters (sees after)) m ≡ true =
+          lt-ltb (m / after.run.strips) (sees after (Counter (m % after.run.strips)))
+          (omega (arith, mark.below, full (m % after.run.strips) mark.strip)) in
+          let no = sym taken ∙ still.claimed m ∙ le-ltb m m (omega arith) in
+          cc)
+    ]
+  where
+    still : HasHandled after m
+    still =
+        let run = goes_on.later.run in
+        record {
+          alone = WorksAlone-counted now after run others m kept.crew handled.alone;
+          textbook = SeesTextbook-counted now after run others m handled.textbook;
+          claimed = λ j.
+              ap (λ (r : SharedRun). is_claimed r.strips (counters (sees after)) j) run
+              ∙ ap (λ f. is_claimed now.run.strips f j) (λ t g. as_before (Counter g) t)
+              ∙ handled.claimed j;
+        }

@@ -1,0 +1,259 @@
+-- A pass that works alone places a node, or finds one at its point: the mark is handled as in the textbook.
+use Rattle.std.proofs.Common.{◌≡◌, ℕ, suc, ◌+◌, ◌<◌, ◌≤◌, Some, None, [], ◌∷◌, ◌++◌, length, arith, refl, sym, ap, ◌∙◌, subst, inl, inr}
+use Rattle.std.specs.Prelude.{All}
+use Rattle.std.proofs.lemmas.Bool.{cases_lt}
+use Rattle.std.proofs.lemmas.List.{get_or_past}
+use Rattle.std.proofs.lemmas.List.Elements.{All-cons}
+use Rattle.std.proofs.lemmas.List.FromFn.{length-map-range_with_len}
+use Rattle.kd_shared.specs.declared.placing.Placing.TheVariants.{Placed, Same}
+use Rattle.plan_model.specs.Clearance.{Clear, ClearAt}
+use Rattle.plan_model.specs.ClosedLaw.{mark_at}
+use Rattle.plan_model.specs.ConfigurationSpace.{space_of}
+use Rattle.plan_model.specs.LeastPairs.{IsFirstLeast}
+use Rattle.plan_model.specs.OpenNodes.{IsOpenTo}
+use Rattle.plan_model.specs.PointsByNumber.{IsFree, IsPresent, node_count, point_at, point_of}
+use Rattle.plan_model.specs.Radius.{class_of}
+use Rattle.plan_model.specs.Textbook.{Handles, IsBestParent, Nodes, Rewires, Setup, SteersTo, near_new, cost_through as textbook_cost}
+use Rattle.plan_model.specs.Textbook.{placed_record, unplaced_record}
+use Rattle.plan_model.specs.Trees.{points_of}
+use Rattle.plan_model.specs.declared.geometry.Point.{Point}
+use Rattle.plan_model.specs.declared.records.Outcome.TheVariants.{Placed as PlacedMark, Same as SameNode}
+use Rattle.plan_model.specs.declared.records.Record.{Record}
+use Rattle.plan_model.proofs.NearNodes.{candidate-reachable}
+use Rattle.plan_model.proofs.NewNodes.{IsPresent-stands}
+use Rattle.plan_model.proofs.TextbookStates.{PlacesNode}
+use Rattle.plan_words.specs.States.{PassState, SharedState, turn_of, worker_of}
+use Rattle.plan_work.proofs.AloneMarks.{KeepsRun, SeesTextbook-recorded, WorksAlone-recorded}
+use Rattle.plan_work.proofs.EqualPoints.{count-same, near_new-same}
+use Rattle.plan_work.proofs.MirroredTrees.{IsBestParent-mirrored, Mirrors-absent, Mirrors-placed, Mirrors-still, SeesNewNode, SteersTo-mirrored}
+use Rattle.plan_work.proofs.MirroredTrees.{cost_through-mirrored, point_of-mirrored}
+use Rattle.plan_work.proofs.TextbookSteps.{Handles-placed, Handles-same, KeepsOrder-run, RecordsNext-run}
+use Rattle.plan_work.specs.Extensions.{HasRecorded, IsTried, KeepsRecords, MayPlace, hung_by, own_placed, own_unplaced}
+use Rattle.plan_work.specs.OneWorker.{SeesTextbook, WorksAlone}
+use Rattle.plan_work.specs.WholeShares.{IsFilledWhole, IsSteeredWhole, IsTriedWhole}
+use Rattle.plan_work.specs.declared.extending.Hanging.{Hanging}
+use Rattle.step_core.proofs.PackedWords.{cost_in-tree_word, parent_in-tree_word}
+use Rattle.step_core.proofs.SeenWords.{point_at-seen}
+use Rattle.step_core.specs.SeenWords.{seen_point}
+use Rattle.step_core.specs.Stages.{has_link}
+use Rattle.step_core.specs.ViewTrees.{SeesPoint}
+use Rattle.step_core.specs.Views.{run_sizes, sees, setup_in, tree_seen}
+use Rattle.step_core.specs.WordNames.Word.{FirstOf, PointOf, RecordOf, TreeOf}
+use Rattle.step_core.specs.Words.{cost_in, parent_in, point_of_word, tree_word}
+use Rattle.step_core.specs.declared.views.Hand.{Hand}
+use Rattle.step_core.specs.declared.views.SharedRun.{SharedRun}
+use Rattle.step_core.specs.declared.views.Stage.TheVariants.{Counted}
+use Rattle.step_core.specs.declared.views.View.{View}
+use Rattle.tree_rewire.proofs.SeenCosts.{stands_later}
+use Rattle.tree_rewire.specs.Mirrors.{Mirrors}
+use Rattle.tree_rewire.specs.SeenCosts.{IsInReach, IsTreeOrPoint, SeesAnew, cost_through}
+
+-- where a node is seen goes by its own word
+point_kept : (before after : View) → after.run ≡ before.run → (n : ℕ) → sees after (PointOf n) ≡ sees before (PointOf n)
+    → point_at (tree_seen after).points n ≡ point_at (tree_seen before).points n
+point_kept before after run n same =
+    let marks = ap (λ r. (run_sizes r).marks) run in
+    elim (cases_lt (length before.run.marks) n) [
+      | inr within ↦
+          point_at-seen (run_sizes after.run) (sees after) n (omega (arith, within, marks)) ∙ ap point_of_word same
+          ∙ sym (point_at-seen (run_sizes before.run) (sees before) n within)
+      | inl past ↦
+          get_or_past (tree_seen after).points n None
+          (omega (arith, past, marks, length-map-range_with_len (seen_point (sees after)) 0 ((run_sizes after.run).marks + 1)))
+          ∙ sym
+          (get_or_past (tree_seen before).points n None
+          (omega (arith, past, length-map-range_with_len (seen_point (sees before)) 0 ((run_sizes before.run).marks + 1))))
+    ]
+
+-- ---- a node at the point
+
+module _
+    (shared : SharedState) (before tried done : PassState) (k m j : ℕ) (p : Point) (hanging : Hanging) (entry : Record)
+    (may : MayPlace shared before k m p) (keeps : KeepsRecords shared before tried) (is_tried : IsTried before tried may.hand (Same j) hanging)
+    (whole : IsTriedWhole (space_of shared.task.scene) before.view tried.view k p m before.near (Same j) hanging)
+    (recorded : HasRecorded shared tried done entry) (is : entry ≡ own_unplaced tried.view m (SameNode j))
+    (steers : IsSteeredWhole before.view k m p) (alone : WorksAlone before.view k) (book : SeesTextbook before.view k) where
+  same_run : KeepsRun before.view tried.view k
+  same_run = record {
+    run = keeps.goes_on.later.run;
+    crew = keeps.crew;
+    records = keeps.records;
+    firsts = λ i apart. (whole.others (suc i)).first;
+  }
+
+  same_mirrors : Mirrors tried.view book.tree
+  same_mirrors =
+      Mirrors-still before.view tried.view keeps.goes_on.later.run (λ n. (whole.others n).point) (λ n. (whole.others n).tree) book.tree book.nodes
+
+  same_handles : Handles (setup_in before.view.run) book.tree k (mark_at before.view.run.marks k) entry (book.tree ++ None ∷ [])
+  same_handles =
+      let crew : tried.view.crew ≡ record { worker = 0; turn = k } ∷ [] = keeps.crew ∙ alone.crew in
+      Handles-same (setup_in before.view.run) book.tree k m (mark_at before.view.run.marks k) p entry
+      (SteersTo-mirrored before.view book.tree book.nodes (mark_at before.view.run.marks k) p m steers) j
+      (sym (same_mirrors.points j) ∙ subst (SeesPoint tried.view j) may.pointed.point is_tried.came.stands)
+      (is ∙ ap (λ crew. unplaced_record (worker_of crew) (turn_of crew) m (SameNode j)) crew)
+
+  pub AloneNext-same : WorksAlone done.view (suc k) × SeesTextbook done.view (suc k)
+  AloneNext-same = (
+    WorksAlone-recorded shared before.view tried done (hung_by may.hand hanging) k entry recorded is_tried.came.unchanged may.mark same_run alone,
+    SeesTextbook-recorded shared before.view tried done (hung_by may.hand hanging) k entry recorded is_tried.came.unchanged may.mark same_run book
+        (book.tree ++ None ∷ []) same_handles (Mirrors-absent tried.view book.tree same_mirrors),
+  )
+
+-- ---- a node that is placed
+
+-- the record of a placed mark by its fields
+abbrev own_by : ℕ → ℕ → ℕ → ℕ → ℕ → ℕ → Record
+own_by nearest parent worker turn cost class =
+    record {
+      worker = worker;
+      turn = turn;
+      nearest = nearest;
+      outcome = PlacedMark;
+      first_parent = parent;
+      first_cost = cost;
+      class = class;
+      unplaced = refl;
+    }
+
+module _
+    (shared : SharedState) (before tried : PassState) (k m : ℕ) (p : Point) (hanging : Hanging) (may : MayPlace shared before k m p)
+    (keeps : KeepsRecords shared before tried) (is_tried : IsTried before tried may.hand Placed hanging)
+    (whole : IsTriedWhole (space_of shared.task.scene) before.view tried.view k p m before.near Placed hanging)
+    (reach : All (IsInReach before.view p) before.near) (steers : IsSteeredWhole before.view k m p)
+    (filled : IsFilledWhole before.view p hanging.class before.near) (book : SeesTextbook before.view k)
+    (start_clear : ClearAt (setup_in before.view.run).space before.view.run.start) where
+  abbrev tree : Nodes
+  tree = book.tree
+
+  abbrev setup : Setup
+  setup = setup_in before.view.run
+
+  abbrev f : ℕ
+  f = hanging.parent
+
+  abbrev counted_hand : Hand
+  counted_hand = record (hung_by may.hand hanging) { stage = Counted }
+
+  space : space_of shared.task.scene ≡ setup.space
+  space = ap (λ (r : SharedRun). (setup_in r).space) (sym may.belongs.run)
+
+  stands : SeesPoint tried.view (suc k) p
+  stands =
+      subst (λ q. SeesPoint tried.view (suc k) q) may.pointed.point
+      (subst (λ n. SeesPoint tried.view (suc n) may.hand.point) may.mark is_tried.came.stands)
+
+  -- no node stood there: it would be the new one, which had not been seen
+  free : IsFree (points_of tree) p
+  free j own =
+      let seen : SeesPoint before.view j p = book.nodes.points j ∙ own in
+      let new : j ≡ suc k = keeps.goes_on.lawful.distinct j (suc k) p (stands_later before.view tried.view keeps.goes_on j p seen) stands in
+      let number : j ≡ suc may.hand.mark = omega (arith, new, may.mark) in
+      let present : IsPresent (tree_seen before.view).points (suc may.hand.mark) =
+      subst (IsPresent (tree_seen before.view).points) number (IsPresent-stands (tree_seen before.view).points j p seen) in
+      keeps.goes_on.was_lawful.unseen may.hand may.held (ap has_link may.pointed.stage)
+      (keeps.goes_on.was_lawful.tree.rooted.points (suc may.hand.mark) present)
+
+  steers_tree : SteersTo setup (points_of tree) (mark_at before.view.run.marks k) m p
+  steers_tree = SteersTo-mirrored before.view tree book.nodes (mark_at before.view.run.marks k) p m steers
+
+  near_is : before.near ≡ near_new setup (points_of tree) p
+  near_is = filled.near_is ∙ near_new-same (tree_seen before.view).points (points_of tree) book.nodes.points setup p
+
+  parent : IsBestParent setup tree m p f
+  parent =
+      IsBestParent-mirrored before.view tree book.nodes p m f before.near near_is
+      (All-cons (IsPresent (tree_seen before.view).points) m before.near steers.nearest.member (λ i d below. (reach i d below).present))
+      (subst (λ s. IsFirstLeast (cost_through before.view p) (IsOpenTo s (tree_seen before.view).points p (m ∷ before.near)) f) space whole.best.least)
+
+  f_present : IsPresent (points_of tree) f
+  f_present = (candidate-reachable setup (points_of tree) (mark_at before.view.run.marks k) m p f steers_tree parent.member).present
+
+  cost_is : hanging.cost ≡ textbook_cost tree p f
+  cost_is = whole.best.cost ∙ cost_through-mirrored before.view tree book.nodes p f f_present
+
+  clear_tree : Clear setup.space (point_of (points_of tree) m) p
+  clear_tree =
+      subst (λ s. Clear s (point_of (points_of tree) m) p) space
+      (subst (λ a. Clear (space_of shared.task.scene) a p) (point_of-mirrored before.view tree book.nodes m) may.clear)
+
+  places : (entry : Record) → entry.first_cost ≡ textbook_cost tree p f → PlacesNode setup tree k f p entry
+  places entry cost = record {
+    free = free;
+    parent = f_present;
+    edge = record {
+      clear = parent.member.clear;
+      short = (candidate-reachable setup (points_of tree) (mark_at before.view.run.marks k) m p f steers_tree parent.member).short;
+    };
+    cost = cost;
+  }
+
+  new_node : SeesNewNode before.view tried.view k f p (textbook_cost tree p f)
+  new_node =
+      let fits = keeps.goes_on.lawful.pair_fits counted_hand is_tried.came.counted refl in
+      let word : sees tried.view (TreeOf (suc k)) ≡ tree_word f hanging.cost =
+      ap (λ n. sees tried.view (TreeOf (suc n))) (sym may.mark) ∙ is_tried.came.pair in
+      record {
+        stands = stands;
+        written = omega (arith, word);
+        parent = ap parent_in word ∙ parent_in-tree_word f hanging.cost fits.0;
+        cost_is = ap cost_in word ∙ cost_in-tree_word f hanging.cost fits.0 fits.1 ∙ cost_is;
+        points = λ n apart. point_kept before.view tried.view keeps.goes_on.later.run n (whole.others n apart).point;
+        trees = λ n apart. (whole.others n apart).tree;
+      }
+
+  below : k < length before.view.run.marks
+  below = omega (arith, keeps.goes_on.was_lawful.mark may.hand may.held, may.mark)
+
+  -- the tree with the new node is mirrored
+  pub Mirrors-tried : Mirrors tried.view (book.tree ++ Some (record { point = p; parent = hanging.parent }) ∷ [])
+  Mirrors-tried =
+      let entry : Record = own_placed before.view m hanging in
+      let within : k ≤ length before.view.run.marks = omega (arith, below) in
+      Mirrors-placed setup before.view tried.view tree book.records k f p entry book.nodes
+      (RecordsNext-run setup before.view.run.marks k tree book.records within book.run)
+      (KeepsOrder-run setup before.view.run.marks k tree book.records within book.run start_clear) (places entry cost_is) new_node
+
+  -- ---- rewired and recorded
+
+  module _
+      (after done : PassState) (entry : Record) (seen : SeesAnew IsTreeOrPoint tried.view after.view) (now : Nodes)
+      (rewired : Rewires (space_of shared.task.scene) (book.tree ++ Some (record { point = p; parent = hanging.parent }) ∷ []) (suc k) tried.near now)
+      (mirrors : Mirrors after.view now) (recorded : HasRecorded shared after done entry) (is : entry ≡ own_placed after.view m hanging)
+      (alone : WorksAlone before.view k) where
+    crew : after.view.crew ≡ record { worker = 0; turn = k } ∷ []
+    crew = seen.kept.crew ∙ keeps.crew ∙ alone.crew
+
+    run_kept : KeepsRun before.view after.view k
+    run_kept = record {
+      run = seen.goes_on.later.run ∙ keeps.goes_on.later.run;
+      crew = seen.kept.crew ∙ keeps.crew;
+      records = λ j. seen.others (RecordOf j) (λ no. no) ∙ keeps.records j;
+      firsts = λ j apart.
+          seen.others (FirstOf (suc j)) (λ no. no)
+          ∙ (whole.others (suc j) (λ e. apart (omega (arith, e)))).first;
+    }
+
+    class_is : hanging.class ≡ class_of (node_count (points_of tree))
+    class_is = filled.class_is ∙ ap class_of (count-same (tree_seen before.view).points (points_of tree) book.nodes.points)
+
+    entry_is : entry ≡ placed_record k m f (textbook_cost tree p f) (class_of (node_count (points_of tree)))
+    entry_is =
+        is
+        ∙ ap (λ members. own_by m f (worker_of members) (turn_of members) hanging.cost hanging.class) crew
+        ∙ ap (λ c. own_by m f 0 k c hanging.class) cost_is ∙ ap (own_by m f 0 k (textbook_cost tree p f)) class_is
+
+    handles : Handles (setup_in before.view.run) book.tree k (mark_at before.view.run.marks k) entry now
+    handles =
+        Handles-placed setup tree k m (mark_at before.view.run.marks k) p entry steers_tree f now free clear_tree parent entry_is
+        (subst (λ ns. Rewires setup.space (tree ++ Some (record { point = p; parent = f }) ∷ []) (suc k) ns now) (is_tried.near ∙ near_is)
+        (subst (λ s. Rewires s (tree ++ Some (record { point = p; parent = f }) ∷ []) (suc k) tried.near now) space rewired))
+
+    held : after.view.hand ≡ Some counted_hand
+    held = seen.kept.hand ∙ is_tried.came.counted
+
+    pub AloneNext-placed : WorksAlone done.view (suc k) × SeesTextbook done.view (suc k)
+    AloneNext-placed = (
+      WorksAlone-recorded shared before.view after done counted_hand k entry recorded held may.mark run_kept alone,
+      SeesTextbook-recorded shared before.view after done counted_hand k entry recorded held may.mark run_kept book now handles mirrors,
+    )

@@ -1,0 +1,109 @@
+-- One mark of a pass that works alone is one mark of the textbook run.
+use Rattle.std.proofs.Common.{◌≡◌, ℕ, suc, ◌+◌, ◌<◌, ◌≤◌, Some, None, List, [], ◌∷◌, ◌++◌, length, take, arith, refl, sym, ap, ◌∙◌, subst, inl, inr}
+use Rattle.std.proofs.lemmas.List.{length-set, length-take-le}
+use Rattle.std.proofs.Math.Seq.{take-suc}
+use Rattle.plan_model.specs.Clearance.{Clear, ClearAt}
+use Rattle.plan_model.specs.ClosedLaw.{mark_at}
+use Rattle.plan_model.specs.ConfigurationSpace.{ConfigurationSpace}
+use Rattle.plan_model.specs.OrderLaw.{KeepsOrder}
+use Rattle.plan_model.specs.PointsByNumber.{IsFree, StandsAt, node_count, point_of}
+use Rattle.plan_model.specs.Radius.{class_of}
+use Rattle.plan_model.specs.Textbook.{Ends, Handles, HandlesAll, IsBestParent, IsTextbookRun, Nodes, Rewires, RewiresOne, Setup, SteersTo}
+use Rattle.plan_model.specs.Textbook.{blocked_record, cost_through, near_new, placed_record, same_record, start_alone}
+use Rattle.plan_model.specs.Trees.{points_of}
+use Rattle.plan_model.specs.TreeStates.{state_of}
+use Rattle.plan_model.specs.declared.geometry.Point.{Point}
+use Rattle.plan_model.specs.declared.records.Outcome.{Outcome}
+use Rattle.plan_model.specs.declared.records.Outcome.TheVariants.{Blocked, Placed, Same}
+use Rattle.plan_model.specs.declared.records.Record.{Record}
+use Rattle.plan_model.proofs.RunLaws.{HandlesAll-length, HandlesAll-push}
+use Rattle.plan_model.proofs.TextbookRuns.{IsClosed-textbook}
+use Rattle.plan_model.proofs.TextbookStates.{RecordsNext}
+use Rattle.std.proofs.Common.{length-append}
+
+-- ---- the length of a tree
+
+RewiresOne-length : (space : ConfigurationSpace) (tree : Nodes) (n i : ℕ) (after : Nodes) → RewiresOne space tree n i after → length after ≡ length tree
+RewiresOne-length space tree n i after (inl (cheaper, e)) = ap length e ∙ length-set tree i _
+RewiresOne-length space tree n i after (inr (dearer, e)) = ap length e
+
+Rewires-length : (space : ConfigurationSpace) (tree : Nodes) (n : ℕ) (near : List ℕ) (after : Nodes) → Rewires space tree n near after
+    → length after ≡ length tree
+Rewires-length space tree n [] after e = ap length e
+Rewires-length space tree n (i ∷ near) after (mid, one, rest) =
+    Rewires-length space mid n near after rest ∙ RewiresOne-length space tree n i mid one
+
+-- each mark is a number more
+Ends-length : (setup : Setup) (tree : Nodes) (k : ℕ) (mark : Point) (outcome : Outcome) (entry : Record) (after : Nodes)
+    → Ends setup tree k mark outcome entry after → length after ≡ suc (length tree)
+Ends-length setup tree k mark Placed entry after ends =
+    omega (
+      arith,
+      Rewires-length setup.space (tree ++ Some (record { point = ends.point; parent = entry.first_parent }) ∷ []) (suc k)
+          (near_new setup (points_of tree) ends.point) after ends.rewired,
+      length-append tree (Some (record { point = ends.point; parent = entry.first_parent }) ∷ []),
+    )
+Ends-length setup tree k mark (Same j) entry after ends = omega (arith, ap length ends.added, length-append tree (None ∷ []))
+Ends-length setup tree k mark Blocked entry after ends = omega (arith, ap length ends.added, length-append tree (None ∷ []))
+
+HandlesAll-nodes : (setup : Setup) (k : ℕ) (tree : Nodes) (marks : List Point) (entries : List Record) (after : Nodes)
+    → HandlesAll setup k tree marks entries after → length after ≡ length tree + length marks
+HandlesAll-nodes setup k tree [] [] after run = omega (arith, ap length run)
+HandlesAll-nodes setup k tree (mark ∷ marks) (entry ∷ entries) after (mid, one, rest) =
+    omega (
+      arith,
+      HandlesAll-nodes setup (k + 1) mid marks entries after rest,
+      Ends-length setup tree k mark entry.outcome entry mid one,
+    )
+HandlesAll-nodes setup k tree [] (entry ∷ entries) after run = absurd run
+HandlesAll-nodes setup k tree (mark ∷ marks) [] after run = absurd run
+
+-- ---- a run up to a mark
+
+module _
+    (setup : Setup) (marks : List Point) (k : ℕ) (tree : Nodes) (records : List Record) (within : k ≤ length marks)
+    (run : IsTextbookRun setup (take k marks) tree records) where
+  so_many : length (take k marks) ≡ k
+  so_many = length-take-le k marks within
+
+  pub RecordsNext-run : RecordsNext tree records k
+  RecordsNext-run = record {
+    nodes = omega (arith, HandlesAll-nodes setup 0 (start_alone setup.start) (take k marks) records tree run, so_many);
+    marks = HandlesAll-length setup 0 (start_alone setup.start) (take k marks) records tree run ∙ so_many;
+  }
+
+  -- its tree keeps the order law
+  pub KeepsOrder-run : ClearAt setup.space setup.start → KeepsOrder setup (state_of tree records)
+  KeepsOrder-run clear = (IsClosed-textbook setup (take k marks) tree records clear run).order
+
+  -- the next mark goes on from there
+  pub IsTextbookRun-push : k < length marks → (entry : Record) (after : Nodes) → Handles setup tree k (mark_at marks k) entry after
+      → IsTextbookRun setup (take (suc k) marks) after (records ++ entry ∷ [])
+  IsTextbookRun-push below entry after handles =
+      let here : k ≡ 0 + length (take k marks) = omega (arith, so_many) in
+      subst (λ ms. IsTextbookRun setup ms after (records ++ entry ∷ [])) (sym (take-suc marks k (record { x = 0; y = 0 }) below))
+      (HandlesAll-push setup 0 (start_alone setup.start) (take k marks) records tree (mark_at marks k) entry after run
+      (subst (λ n. Handles setup tree n (mark_at marks k) entry after) here handles))
+
+-- ---- the ends of a mark
+
+module _ (setup : Setup) (tree : Nodes) (k m : ℕ) (mark p : Point) (entry : Record) (steers : SteersTo setup (points_of tree) mark m p) where
+  pub Handles-same : (j : ℕ) → StandsAt (points_of tree) j p → entry ≡ same_record k m j → Handles setup tree k mark entry (tree ++ None ∷ [])
+  Handles-same j stands is =
+      subst (λ e. Handles setup tree k mark e (tree ++ None ∷ [])) (sym is)
+      (record { point = p; steers = steers; stands = stands; recorded = refl; added = refl })
+
+  pub Handles-blocked : IsFree (points_of tree) p → ¬ Clear setup.space (point_of (points_of tree) m) p → entry ≡ blocked_record k m
+      → Handles setup tree k mark entry (tree ++ None ∷ [])
+  Handles-blocked free blocked is =
+      subst (λ e. Handles setup tree k mark e (tree ++ None ∷ [])) (sym is)
+      (record { point = p; steers = steers; free = free; blocked = blocked; recorded = refl; added = refl })
+
+  pub Handles-placed :
+      (f : ℕ) (after : Nodes) → IsFree (points_of tree) p → Clear setup.space (point_of (points_of tree) m) p → IsBestParent setup tree m p f
+      → entry ≡ placed_record k m f (cost_through tree p f) (class_of (node_count (points_of tree)))
+      → Rewires setup.space (tree ++ Some (record { point = p; parent = f }) ∷ []) (suc k) (near_new setup (points_of tree) p) after
+      → Handles setup tree k mark entry after
+  Handles-placed f after free clear parent is rewired =
+      subst (λ e. Handles setup tree k mark e after) (sym is)
+      (record { point = p; steers = steers; free = free; clear = clear; parent = parent; recorded = refl; rewired = rewired })

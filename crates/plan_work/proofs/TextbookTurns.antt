@@ -1,0 +1,61 @@
+-- The records of a textbook run are all of worker 0, one for each mark, so its next turn is the number of marks.
+use Rattle.std.proofs.Common.{◌≡◌, ℕ, zero, suc, ◌+◌, ◌<◌, ◌≤◌, true, List, [], ◌∷◌, length, Option, refl, sym, ap, ◌∙◌, inl, inr, arith}
+use Rattle.std.specs.Prelude.{slice_get}
+use Rattle.std.proofs.lemmas.Bool.{cases_lt, eq-eqb}
+use Rattle.std.proofs.lemmas.Option.{slice_get_past}
+use Rattle.plan_model.specs.Textbook.{Ends, HandlesAll, Nodes, Setup}
+use Rattle.plan_model.specs.Turns.{is_of_worker, turns_of}
+use Rattle.plan_model.specs.declared.geometry.Point.{Point}
+use Rattle.plan_model.specs.declared.records.Outcome.{Outcome}
+use Rattle.plan_model.specs.declared.records.Outcome.TheVariants.{Blocked, Placed, Same}
+use Rattle.plan_model.specs.declared.records.Record.{Record}
+use Rattle.plan_model.proofs.CountsBelow.{count-all, count-longer, count-same}
+
+worker-ends : (setup : Setup) (tree : Nodes) (k : ℕ) (mark : Point) (outcome : Outcome) (entry : Record) (after : Nodes)
+    → Ends setup tree k mark outcome entry after → entry.worker ≡ 0
+worker-ends setup tree k mark Placed entry after ends = ap (λ (e : Record). e.worker) ends.recorded
+worker-ends setup tree k mark (Same j) entry after ends = ap (λ (e : Record). e.worker) ends.recorded
+worker-ends setup tree k mark Blocked entry after ends = ap (λ (e : Record). e.worker) ends.recorded
+
+-- as many records as marks
+pub records-textbook : (setup : Setup) (k : ℕ) (tree : Nodes) (marks : List Point) (entries : List Record) (after : Nodes)
+    → HandlesAll setup k tree marks entries after → length entries ≡ length marks
+records-textbook setup k tree [] [] after run = refl
+records-textbook setup k tree [] (entry ∷ entries) after run = absurd run
+records-textbook setup k tree (mark ∷ marks) [] after run = absurd run
+records-textbook setup k tree (mark ∷ marks) (entry ∷ entries) after run =
+    ap suc (records-textbook setup (k + 1) run.0 marks entries after run.2)
+
+-- each of worker 0
+worker-textbook : (setup : Setup) (k : ℕ) (tree : Nodes) (marks : List Point) (entries : List Record) (after : Nodes)
+    → HandlesAll setup k tree marks entries after → (j : ℕ) → j < length entries → is_of_worker 0 (slice_get entries j) ≡ true
+worker-textbook setup k tree [] [] after run j low = absurd (omega (arith, low))
+worker-textbook setup k tree [] (entry ∷ entries) after run j low = absurd run
+worker-textbook setup k tree (mark ∷ marks) [] after run j low = absurd run
+worker-textbook setup k tree (mark ∷ marks) (entry ∷ entries) after run zero low =
+    eq-eqb entry.worker 0 (worker-ends setup tree k mark entry.outcome entry run.0 run.1)
+worker-textbook setup k tree (mark ∷ marks) (entry ∷ entries) after run (suc j) low =
+    worker-textbook setup (k + 1) run.0 marks entries after run.2 j (omega (arith, low))
+
+-- So worker 0 has had as many turns as there are marks.
+pub turns-textbook :
+    (setup : Setup) (k : ℕ) (tree : Nodes) (marks : List Point) (entries : List Record) (after : Nodes) (record_of : ℕ → Option Record) (most : ℕ)
+    → HandlesAll setup k tree marks entries after → ((j : ℕ) → record_of j ≡ slice_get entries j) → length marks ≤ most
+    → turns_of record_of most 0 ≡ length marks
+turns-textbook setup k tree marks entries after record_of most run same within =
+    let many = records-textbook setup k tree marks entries after run in
+    count-same (λ j. is_of_worker 0 (record_of j)) (λ j. is_of_worker 0 (slice_get entries j)) most (λ j low. ap (is_of_worker 0) (same j))
+    ∙ count-longer (λ j. is_of_worker 0 (slice_get entries j)) (length marks) most within below
+    ∙ count-all (λ j. is_of_worker 0 (slice_get entries j)) (length marks)
+    (λ j low. worker-textbook setup k tree marks entries after run j (omega (arith, low, many)))
+  where
+    below : (j : ℕ) → is_of_worker 0 (slice_get entries j) ≡ true → j < length marks
+    below j own =
+        elim (cases_lt j (length marks)) [
+          | inl low ↦ low
+          | inr past ↦ (
+              let many = records-textbook setup k tree marks entries after run in
+              let none = ap (is_of_worker 0) (slice_get_past entries j (omega (arith, past, many))) in
+              let no = sym own ∙ none in
+              cc)
+        ]

@@ -1,0 +1,45 @@
+-- One worker that works alone: what it sees is the textbook run over the marks that it has handled.
+use Rattle.std.specs.Prelude.{◌≡◌, ℕ, ◌≤◌, nat_lt, List, [], ◌∷◌, slice_get, take}
+use Rattle.plan_model.specs.declared.records.Record.{Record}
+use Rattle.plan_model.specs.MarkPoints.{is_claimed}
+use Rattle.plan_model.specs.SameRuns.{IsOfTextbookRun}
+use Rattle.plan_model.specs.Textbook.{IsTextbookRun, Nodes, setup_of}
+use Rattle.plan_words.specs.States.{HasWholeShare}
+use Rattle.step_core.specs.GrownRuns.{state_of_grown}
+use Rattle.step_core.specs.GrownWords.{record_at}
+use Rattle.step_core.specs.Views.{sees, setup_in}
+use Rattle.step_core.specs.Worlds.{counters}
+use Rattle.step_core.specs.declared.grown.Grown.{Grown}
+use Rattle.step_core.specs.declared.views.View.{View}
+use Rattle.tree_rewire.specs.Mirrors.{Mirrors}
+
+-- The pass has the share of all workers, as worker 0, whose next turn is k.
+pub record WorksAlone (view : View) (k : ℕ) : Type 0 where
+  pub whole : HasWholeShare view
+  pub crew : view.crew ≡ record { worker = 0; turn = k } ∷ []
+
+-- It sees the tree and the records of the textbook run over the first k marks.
+pub record SeesTextbook (view : View) (k : ℕ) : Type 0 where
+  pub tree : Nodes
+  pub records : List Record
+  pub run : IsTextbookRun (setup_in view.run) (take k view.run.marks) tree records
+  pub nodes : Mirrors view tree
+  pub recorded : (j : ℕ) → record_at (sees view) j ≡ slice_get records j
+
+-- By the counters seen, the first k marks are claimed, and no others.
+abbrev pub HasClaimed : View → ℕ → Type 0
+HasClaimed view k = (j : ℕ) → is_claimed view.run.strips (counters (sees view)) j ≡ nat_lt j k
+
+-- The one worker has claimed the first k marks alone, and handled them as the textbook does.
+pub record HasHandled (view : View) (k : ℕ) : Type 0 where
+  pub alone : WorksAlone view k
+  pub textbook : SeesTextbook view k
+  pub claimed : HasClaimed view k
+
+-- If it had done so with some of the marks below a limit, it has done so with all of them.
+abbrev pub HandlesRest : View → View → ℕ → Type 0
+HandlesRest before after limit = (k : ℕ) → k ≤ limit → HasHandled before k → HasHandled after limit
+
+-- The run is that of the textbook over the marks below its limit.
+abbrev pub IsOfTextbook : Grown → Type 0
+IsOfTextbook grown = IsOfTextbookRun (setup_of grown.task.scene) (take grown.limit grown.task.marks) (state_of_grown grown)

@@ -1,0 +1,59 @@
+-- What the steps of one mark leave of a pass with the share of all workers: it is shown nothing new but the count of nodes.
+use Rattle.std.specs.Prelude.{◌≡◌, ◌≢◌, ℕ, suc, ◌∷◌, Some, List}
+use Rattle.kd_shared.specs.declared.placing.Placing.{Placing}
+use Rattle.kd_shared.specs.declared.placing.Placing.TheVariants.{Placed, Same}
+use Rattle.plan_model.specs.ClosedLaw.{mark_at}
+use Rattle.plan_model.specs.ConfigurationSpace.{ConfigurationSpace}
+use Rattle.plan_model.specs.LeastPairs.{IsFirstLeast}
+use Rattle.plan_model.specs.OpenNodes.{IsOpenTo}
+use Rattle.plan_model.specs.PointsByNumber.{node_count}
+use Rattle.plan_model.specs.Radius.{class_of}
+use Rattle.plan_model.specs.Textbook.{SteersTo, near_new}
+use Rattle.plan_model.specs.declared.geometry.Point.{Point}
+use Rattle.plan_work.specs.declared.extending.Hanging.{Hanging}
+use Rattle.step_core.specs.Views.{sees, setup_in, tree_seen}
+use Rattle.step_core.specs.WordNames.{Word}
+use Rattle.step_core.specs.WordNames.Word.{Count, FirstOf, PointOf, TreeOf}
+use Rattle.step_core.specs.declared.views.Hand.{Hand}
+use Rattle.step_core.specs.declared.views.Stage.TheVariants.{Linked}
+use Rattle.step_core.specs.declared.views.View.{View}
+use Rattle.tree_rewire.specs.SeenCosts.{cost_through}
+
+-- no node in hand is linked and not counted yet
+abbrev pub HasCounted : View → Type 0
+HasCounted view = (hand : Hand) → view.hand ≡ Some hand → hand.stage ≢ Linked
+
+-- every word but the count is seen as before
+abbrev pub SeesButCount : View → View → Type 0
+SeesButCount before after = (name : Word) → name ≢ Count → sees after name ≡ sees before name
+
+-- The class is that of the number of nodes seen, and the near list is that of the textbook for a new node at p in the tree seen.
+pub record IsFilledWhole (view : View) (p : Point) (class : ℕ) (near : List ℕ) : Type 0 where
+  pub class_is : class ≡ class_of (node_count (tree_seen view).points)
+  pub near_is : near ≡ near_new (setup_in view.run) (tree_seen view).points p
+
+-- node m is the nearest one seen to mark k, and steers towards it to p
+abbrev pub IsSteeredWhole : View → ℕ → ℕ → Point → Type 0
+IsSteeredWhole view k m p = SteersTo (setup_in view.run) (tree_seen view).points (mark_at view.run.marks k) m p
+
+-- The parent of a new node at p is the best by the costs seen, of the nearest node and the near ones with a clear edge.
+pub record IsBestHanging (space : ConfigurationSpace) (view : View) (p : Point) (nearest : ℕ) (near : List ℕ) (pair : ℕ × ℕ) : Type 0 where
+  pub least : IsFirstLeast (cost_through view p) (IsOpenTo space (tree_seen view).points p (nearest ∷ near)) pair.0
+  pub cost : pair.1 ≡ cost_through view p pair.0
+
+-- the point, the tree word and the first word of node n are seen as before
+pub record KeepsNode (before after : View) (n : ℕ) : Type 0 where
+  pub point : sees after (PointOf n) ≡ sees before (PointOf n)
+  pub tree : sees after (TreeOf n) ≡ sees before (TreeOf n)
+  pub first : sees after (FirstOf n) ≡ sees before (FirstOf n)
+
+-- where the node of mark k is placed, all other nodes are kept, and else all
+abbrev pub KeepsOthers : View → View → ℕ → Placing → Type 0
+KeepsOthers before after k Placed = (n : ℕ) → n ≢ suc k → KeepsNode before after n
+KeepsOthers before after k (Same j) = (n : ℕ) → KeepsNode before after n
+
+-- A node was hung by its best parent, and came to this place.
+pub record IsTriedWhole (space : ConfigurationSpace) (before after : View) (k : ℕ) (p : Point) (nearest : ℕ) (near : List ℕ) (placing : Placing)
+    (hanging : Hanging) : Type 0 where
+  pub best : IsBestHanging space before p nearest near (hanging.parent, hanging.cost)
+  pub others : KeepsOthers before after k placing
