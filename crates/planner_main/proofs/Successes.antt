@@ -73,8 +73,9 @@ module _ (before now : SourceState) (scene : Scene) (done : Done) (text : List �
       (workers : ℕ) (full : Bool) → HasScene before now scene → ClearAt (space_of scene) scene.start → (grown : Grown)
       → ReportsGrown (report_text full) scene grown done text
       → ((k : ℕ) (entry : Record) → (state_of_grown grown).record_of k ≡ Some entry → entry.worker < workers)
+      → (workers ≡ 1 → IsOfTextbookRun (setup_of scene) (mark_points scene) (state_of_grown grown))
       → IsSuccess (Some (commands.Plan workers full)) before now done text
-  IsSuccess-planned workers full h start grown reported by_workers = record {
+  IsSuccess-planned workers full h start grown reported by_workers textbook = record {
     command = commands.Plan workers full;
     known = refl;
     bytes = h.bytes;
@@ -86,6 +87,7 @@ module _ (before now : SourceState) (scene : Scene) (done : Done) (text : List �
       grown = grown;
       reported = reported;
       by_workers = by_workers;
+      textbook = textbook;
     };
   }
 

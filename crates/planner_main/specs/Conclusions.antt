@@ -76,7 +76,7 @@ pub record ReportsRun (full : Bool) (bytes : List ℕ) (done : Done) (text : Lis
   pub report : ReportsScene (report_text full) scene done text
 
 -- The text reports a run of the scene that the bytes spell, whose start is clear: in full or in short. Its marks were handled by
--- so many workers at most, numbered from 0.
+-- so many workers at most, numbered from 0. By one worker it is the textbook run of the scene.
 pub record ReportsPlan (workers : ℕ) (full : Bool) (bytes : List ℕ) (done : Done) (text : List ℕ) : Type 0 where
   pub scene : Scene
   pub spelled : IsTextOf scene bytes
@@ -84,6 +84,7 @@ pub record ReportsPlan (workers : ℕ) (full : Bool) (bytes : List ℕ) (done : 
   pub grown : Grown
   pub reported : ReportsGrown (report_text full) scene grown done text
   pub by_workers : (k : ℕ) (entry : Record) → (state_of_grown grown).record_of k ≡ Some entry → entry.worker < workers
+  pub textbook : workers ≡ 1 → IsOfTextbookRun (setup_of scene) (mark_points scene) (state_of_grown grown)
 
 -- the text is the canonical text of the scene that the bytes spell
 pub record ShowsScene (bytes : List ℕ) (done : Done) (text : List ℕ) : Type 0 where

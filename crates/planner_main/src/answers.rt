@@ -192,6 +192,7 @@ fn run_by_workers<R: Threads + Sync, G: Gate>(
     ensures settled { IfOk result (λ grown. IsSettled (state_of_grown grown)) }
     ensures workers { IfOk result (λ grown. (k : ℕ) (entry : Record)
         → (state_of_grown grown).record_of k ≡ Some entry → entry.worker < workers) }
+    ensures textbook { workers ≡ 1 → IfOk result (λ grown. IsOfTextbookRun (setup_of scene) (mark_points scene) (state_of_grown grown)) }
 {
     // the start is clear, so there is room to draw marks in
     let marks = marks(alloc, &scene)?;

@@ -26,4 +26,4 @@ returns g c =
     let run = c.in_ok-grown.ensures in
     Answers-success (commands.Plan c.args.workers c.args.full) _ _ refl c.in_ok-scene.ensures.within _
     (IsSuccess-planned _ _ c.in_ok-scene.scene _ _ c.args.workers c.args.full c.in_ok-scene.ensures.scene c.in_ok-hall.ensures.start
-    c.in_ok-grown.grown (ReportsGrown-of_scene _ _ _ _ _ run.scene c.in_ok-report_of.ensures) run.workers)
+    c.in_ok-grown.grown (ReportsGrown-of_scene _ _ _ _ _ run.scene c.in_ok-report_of.ensures) run.workers run.textbook)

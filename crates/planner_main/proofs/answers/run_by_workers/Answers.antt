@@ -2,7 +2,12 @@ use Rattle.std.proofs.Common.{length, ap, sym, ◌∙◌, arith}
 use Rattle.plan_model.proofs.MarkBounds.{length-points_of_marks}
 use Rattle.plan_model.proofs.SpanLaws.{BodyFits-from_in_room}
 use Rattle.plan_model.specs.ConfigurationSpace.{space_of}
+use Rattle.plan_model.specs.MarkPoints.{mark_points}
+use Rattle.plan_model.specs.Textbook.{setup_of}
+use Rattle.plan_model.specs.declared.tasks.Task.{Task}
+use Rattle.planner_main.proofs.OneWorkerRuns.{IsOfTextbook-new, IsOfTextbookRun-settled, IsOfTextbookRun-whole}
 use Rattle.planner_main.proofs.answers.run_by_workers.Goals as goal
+use Rattle.step_core.specs.GrownRuns.{state_of_grown}
 
 -- the start is in the room of configurations, so the body fits into the room
 pub marks-requires : goal.marks-requires
@@ -17,3 +22,14 @@ overflow_cast-limit g c =
 pub returns-clause-workers : goal.returns-clause-workers
 returns-clause-workers g c = λ k entry is.
     c.in_ok-grown.ensures.workers k entry (sym (c.in_ok-settle.ensures.costs_alone.records k) ∙ is) (omega (arith, c.in_ok-fresh.ensures.limit))
+
+-- and is no change to a run of the textbook
+pub returns-clause-textbook : goal.returns-clause-textbook
+returns-clause-textbook g c = λ one.
+    let grown = c.in_ok-grown.grown in
+    let of_scene = ap (λ (t : Task). t.scene) (c.in_ok-grown.ensures.task ∙ c.in_ok-fresh.ensures.task) in
+    let whole = c.in_ok-grown.ensures.limit ∙ c.len-limit.ensures ∙ ap length c.in_ok-marks.ensures.value in
+    let textbook = c.in_ok-grown.ensures.textbook one
+    (IsOfTextbook-new _ c.in_ok-fresh.fresh c.in_ok-fresh.ensures.task c.in_ok-fresh.ensures.limit c.in_ok-fresh.ensures.state) in
+    IsOfTextbookRun-settled (setup_of c.args.scene) (mark_points c.args.scene) (state_of_grown grown) _ c.requires.start
+    (IsOfTextbookRun-whole c.args.scene grown of_scene whole textbook) c.in_ok-settle.ensures.costs_alone c.in_ok-settle.ensures.settled
