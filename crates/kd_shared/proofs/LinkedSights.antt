@@ -155,7 +155,8 @@ module _ (entry now : View) (all : HasWholeShare entry) (looks : OnlyLooks entry
 pub IfSome-free : (Holds : Type 0) (entry now : View) (p : Point) (n : ℕ) (held : Option Hand) → HasWholeShare entry → OnlyLooks entry now
     → IfSome held (λ hand. p ≡ hand.point) → SeesPoint now n p → IfSome held (λ hand. IsFree (tree_seen entry).points hand.point → Holds)
 IfSome-free Holds entry now p n None all looks is stands = tt
-IfSome-free Holds entry now p n (Some hand) all looks is stands = λ free. absurd (free_same entry now all looks hand.point n (subst (SeesPoint now n) is stands) free)
+IfSome-free Holds entry now p n (Some hand) all looks is stands = λ free. absurd
+    (free_same entry now all looks hand.point n (subst (SeesPoint now n) is stands) free)
 
 pub IfSome-sees_linked : (entry : View) (mid after : PassState) (n : ℕ) (side : Bool) (held : Option Hand) → HasWholeShare entry → OnlyLooks entry mid.view
     → GoesOn mid.view after.view → mid.view.hand ≡ held → IfSome held (λ hand. hand.stage ≡ Treed)

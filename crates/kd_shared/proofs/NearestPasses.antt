@@ -91,7 +91,8 @@ module _ (shared : SharedState) (entry now : PassState) (p : Point) (distance be
         (IsSeeking-seen (sight_in entry.view) (sight_in now.view) p distance best now.spots visits h.seeks spot popped.spots is)
 
     -- and left out,
-    pub IsSeekingPass-skips : (spot : Spot) → now.spots ≡ popped.spots ++ spot ∷ [] → (next : ℕ) → next ≡ suc visits → distance < spot.gap * spot.gap → IsSeekingPass shared entry popped p distance best next
+    pub IsSeekingPass-skips : (spot : Spot) → now.spots ≡ popped.spots ++ spot ∷ [] → (next : ℕ) → next ≡ suc visits → distance < spot.gap * spot.gap
+        → IsSeekingPass shared entry popped p distance best next
     IsSeekingPass-skips spot is next more too_far = record {
       belongs = popped_belongs;
       looks = popped_looks;
@@ -113,7 +114,8 @@ module _ (shared : SharedState) (entry now : PassState) (p : Point) (distance be
 
     -- and for the other one. So it is visited.
     module _
-        (spot : Spot) (is : now.spots ≡ popped.spots ++ spot ∷ []) (looked half : PassState) (here : Point) (far less nearer : ℕ) (right : Bool) (load : PassLooks shared popped looked)
+        (spot : Spot) (is : now.spots ≡ popped.spots ++ spot ∷ []) (looked half : PassState) (here : Point) (far less nearer : ℕ) (right : Bool)
+        (load : PassLooks shared popped looked)
         (point : LoadsPoint (sight_in popped.view) (sight_in looked.view) spot.node here)
         (nearest : IsNearer distance best (squared_distance here p) spot.node less nearer) (own : right ≡ goes_right_by spot.by_rows here p)
         (far_is : (far ≤ spot.gap) ⊎ (far ≤ split_distance spot.by_rows here p)) (far_looks : OnlyLooks looked.view half.view)

@@ -83,7 +83,8 @@ module _ (before after : View) (later : IsLater before after) (lawful : IsLawful
       let other = ap (λ p. squared_distance p q) (point_of-kept n (present_recorded before lawful n was)) in
       let order = not_above n was in
       record {
-        least = subst (λ d. d ≤ distance_to q (tree_seen after).points n) (sym best) (subst (λ d. distance_to q (tree_seen before).points m ≤ d) (sym other) order.least);
+        least = subst (λ d. d ≤ distance_to q (tree_seen after).points n) (sym best)
+            (subst (λ d. distance_to q (tree_seen before).points m ≤ d) (sym other) order.least);
         first = λ e. order.first (sym other ∙ e ∙ best);
       }
 
@@ -143,7 +144,8 @@ module _ (before after : View) (later : IsLater before after) (lawful : IsLawful
 
   -- it was tried to place it
   pub HangsBelow-placing :
-      (nearest cost : ℕ) (result : Placing) → HangsBelow nearest cost before → IfSome before.hand (λ hand. IsPlacing after hand result) → HangsBelow nearest cost after
+      (nearest cost : ℕ) (result : Placing) → HangsBelow nearest cost before → IfSome before.hand (λ hand. IsPlacing after hand result)
+      → HangsBelow nearest cost after
   HangsBelow-placing nearest cost Placed hangs placed =
       HangsBelow-later nearest cost hangs Counted refl (at_hand (λ hand. IsPlaced after hand) before.hand hangs.steers.hand hangs.steers.held placed).counted
   HangsBelow-placing nearest cost (Same j) hangs placed =

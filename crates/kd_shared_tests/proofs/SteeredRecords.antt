@@ -1,5 +1,7 @@
--- What may be recorded of a mark that was steered from the nearest node: that another node stands at its point, or, where the radius is 0, that its node was placed below the nearest.
-use Rattle.std.proofs.Common.{◌≡◌, ℕ, zero, suc, ◌+◌, ◌-◌, ◌*◌, ◌<◌, ◌≤◌, ◌^◌, Bool, true, cond, Option, Some, None, length, inl, inr, refl, sym, ap, ◌∙◌, subst, arith}
+-- What may be recorded of a mark that was steered from the nearest node: that another node stands at its point, or, if the radius is 0,
+-- that its node was placed below the nearest.
+use Rattle.std.proofs.Common.{◌≡◌, ℕ, zero, suc, ◌+◌, ◌-◌, ◌*◌, ◌<◌, ◌≤◌, ◌^◌, Bool, true, cond, Option}
+use Rattle.std.proofs.Common.{Some, None, length, inl, inr, refl, sym, ap, ◌∙◌, subst, arith}
 use Rattle.std.specs.Prelude.{◌==◌, ◌&&◌, ◌⊎◌, IfSome, IsTrue, count_by, nat_le, nat_lt}
 use Rattle.std.specs.List.{range_with_len}
 use Rattle.std.proofs.Math.Nat.{mul-pos}
@@ -120,7 +122,8 @@ module _ (view : View) (nearest : ℕ) (entry : Record) (lawful : IsLawfulView v
   reached : steers.hand.point ≡ steered (point_of (tree_seen view).points entry.nearest) (mark_at view.run.marks steers.hand.mark) view.run.step
   reached =
       let step = (lawful.tree.holds steers.hand steers.held).steered_from steers.written in
-      let at = ap (point_of (tree_seen view).points) (is ∙ sym steers.nearest_is) ∙ point_of-stands (tree_seen view).points steers.hand.nearest step.from step.seen in
+      let at = ap (point_of (tree_seen view).points) (is ∙ sym steers.nearest_is)
+      ∙ point_of-stands (tree_seen view).points steers.hand.nearest step.from step.seen in
       step.reached ∙ ap (λ p. steered p (mark_at view.run.marks steers.hand.mark) view.run.step) (sym at)
 
   MayRecord-steered : MayEnd view steers.hand entry steers.hand.point entry.outcome → IfSome view.hand (λ h. MayRecord view h entry)
@@ -147,7 +150,8 @@ module _ (view : View) (nearest cost : ℕ) (entry : Record) (lawful : IsLawfulV
   no_neighbour : (i : ℕ) → IsOwnNeighbour view entry hangs.steers.hand.point i → ⊥
   no_neighbour i near =
       let hand : Hand = hangs.steers.hand in
-      let within = subst (λ r. is_within hand.point r (point_at (tree_seen view).points i) ≡ true) (radius-zero view.run.step view.run.gamma entry.class gamma) near.near in
+      let within = subst (λ r. is_within hand.point r (point_at (tree_seen view).points i) ≡ true)
+      (radius-zero view.run.step view.run.gamma entry.class gamma) near.near in
       let stands = within_zero hand.point (point_at (tree_seen view).points i) within in
       let here = (lawful.tree.holds hand hangs.steers.held).shown linked in
       let same = lawful.distinct i (suc hand.mark) hand.point stands here in

@@ -15,7 +15,8 @@ pub AreFirstBoxes-push : (zones : List (List Vertex)) (boxes now : List Bounding
 AreFirstBoxes-push zones boxes now n bounds h is new =
     let count = h.count in
     let last : (d : BoundingBox) → get_or now n d ≡ bounds = λ d. rw is (get_or_push boxes bounds d n count) in
-    let old : (i : ℕ) (d : BoundingBox) → i < n → get_or now i d ≡ get_or boxes i d = λ i d l. rw is (get_or_append_left boxes (bounds ∷ []) d i (omega arith)) in
+    let old : (i : ℕ) (d : BoundingBox) → i < n
+    → get_or now i d ≡ get_or boxes i d = λ i d l. rw is (get_or_append_left boxes (bounds ∷ []) d i (omega arith)) in
     record {
       count = rw is (omega (arith, length-append boxes (bounds ∷ [])));
       each = λ i d l.

@@ -57,7 +57,8 @@ module _
   child_found = by_word x refl
     where
       by_word : (word : ℕ) → x ≡ word
-          → MatchOption (child_of_word word) (view.steps < last_zero then (ChildOf node side)) (λ c. ((tree_seen then).child node side ≡ Some c) × SeesNode then c)
+          → MatchOption (child_of_word word) (view.steps < last_zero then (ChildOf node side))
+          (λ c. ((tree_seen then).child node side ≡ Some c) × SeesNode then c)
       by_word zero e =
           let looked = ap (λ v. last_zero v (ChildOf node side)) (then_child ∙ ap (λ n. saw view (ChildOf node side) n n) e)
           ∙ (WritesWord-zero view.run view lawful.of_run (ChildOf node side) (lawful.within node seen) 0).here in

@@ -49,7 +49,8 @@ module _ (old new : PassState) (n parent cost found : ℕ) (lawful : IsLawfulVie
   module _ (other : found ≢ sees old.view (TreeOf n)) (less : FindsLess (sees old.view (TreeOf n)) found) where
     loaded_pass : new ≡ with_view old (loaded old.view (TreeOf n) found)
     loaded_pass =
-        is ∙ ap (λ b. with_view old (cond b (lowered old.view n parent cost) (loaded old.view (TreeOf n) found))) (ne_eqb found (sees old.view (TreeOf n)) other)
+        is ∙ ap (λ b. with_view old (cond b (lowered old.view n parent cost) (loaded old.view (TreeOf n) found)))
+        (ne_eqb found (sees old.view (TreeOf n)) other)
 
     loads : WritesWord (TreeOf n) found (sees old.view) (sees new.view)
     loads =

@@ -1,5 +1,6 @@
 -- A node that waits is marked, comes on the list, and goes off it.
-use Rattle.std.proofs.Common.{◌≡◌, ◌≢◌, ◌⊎◌, ℕ, zero, suc, ◌<◌, ◌≤◌, Bool, true, false, List, [], ◌∷◌, ◌++◌, length, refl, sym, ap, ◌∙◌, subst, ⊎_elim, inl, inr, arith}
+use Rattle.std.proofs.Common.{◌≡◌, ◌≢◌, ◌⊎◌, ℕ, zero, suc, ◌<◌, ◌≤◌, Bool, true, false, List, []}
+use Rattle.std.proofs.Common.{◌∷◌, ◌++◌, length, refl, sym, ap, ◌∙◌, subst, ⊎_elim, inl, inr, arith}
 use Rattle.std.specs.Prelude.{replicate, slice_index, slice_set}
 use Rattle.std.proofs.lemmas.Bool.{cases_eq, cases_lt}
 use Rattle.std.proofs.lemmas.List.{get_or_append_left, get_or-set_other, get_or-set_same, length-append, length-set}
@@ -82,7 +83,8 @@ AreMarked-pop nodes marked n are =
     let on : mark_at marked n ≡ true = ap (mark_at marked) (sym (at-end nodes n)) ∙ are.each (length nodes) last in
     let low = marked-low marked n on in
     let other : (i : ℕ) → i < length nodes → slice_index nodes i ≢ n = λ i here e.
-    let same : i ≡ length nodes = are.once i (length nodes) (omega (arith, length-end nodes n, here)) last (at-front nodes n i here ∙ e ∙ sym (at-end nodes n)) in
+    let same : i ≡ length nodes = are.once i (length nodes) (omega (arith, length-end nodes n, here)) last
+    (at-front nodes n i here ∙ e ∙ sym (at-end nodes n)) in
     absurd (omega (arith, same, here)) in (
       record {
         each = λ i here.
@@ -106,13 +108,15 @@ pub AreMarked-push :
     (nodes : List ℕ) (marked : List Bool) (n : ℕ) → AreMarked nodes marked → n < length marked → mark_at marked n ≡ false
     → AreMarked (nodes ++ n ∷ []) (slice_set marked n true)
 AreMarked-push nodes marked n are low free =
-    let other : (i : ℕ) → i < length nodes → slice_index nodes i ≢ n = λ i here e. absurd (let on = sym (are.each i here) ∙ ap (mark_at marked) e ∙ free in cc) in
+    let other : (i : ℕ) → i < length nodes
+    → slice_index nodes i ≢ n = λ i here e. absurd (let on = sym (are.each i here) ∙ ap (mark_at marked) e ∙ free in cc) in
     let end : (i : ℕ) → i < length (nodes ++ n ∷ []) → length nodes ≤ i → i ≡ length nodes = λ i here past. omega (arith, length-end nodes n, here, past) in
     let last : (i : ℕ) → i ≡ length nodes → slice_index (nodes ++ n ∷ []) i ≡ n = λ i e. ap (slice_index (nodes ++ n ∷ [])) e ∙ at-end nodes n in
     record {
       each = λ i here. ⊎_elim
           (λ (before : i < length nodes).
-          ap (mark_at (slice_set marked n true)) (at-front nodes n i before) ∙ mark-else marked n (slice_index nodes i) true (other i before) ∙ are.each i before)
+          ap (mark_at (slice_set marked n true)) (at-front nodes n i before) ∙ mark-else marked n (slice_index nodes i) true (other i before)
+          ∙ are.each i before)
           (λ (past : length nodes ≤ i). ap (mark_at (slice_set marked n true)) (last i (end i here past)) ∙ mark-set marked n true low)
           (cases_lt i (length nodes));
       only = λ m marks. ⊎_elim

@@ -20,27 +20,38 @@ pub record IsTakenOut (chain front next previous new_chain new_front new_next ne
   pub previous_else : (j : ℕ) → j ≢ next c → new_previous j ≡ previous j
 
 -- what lies below c lies below the one after it
-below_it : (n : ℕ) (chain front next previous rank : ℕ → ℕ) (j c : ℕ) → AreChained n chain front next previous rank → 0 < chain c → chain j ≡ chain c → j ≢ c → rank j ≤ rank c → (0 < next c) × (rank j ≤ rank (next c))
+below_it : (n : ℕ) (chain front next previous rank : ℕ → ℕ) (j c : ℕ) → AreChained n chain front next previous rank → 0 < chain c → chain j ≡ chain c
+    → j ≢ c → rank j ≤ rank c → (0 < next c) × (rank j ≤ rank (next c))
 below_it n chain front next previous rank j c r some_row same other below =
     let apart : rank j ≢ rank c = λ e. other (r.apart j c (omega arith) same e) in
     r.down j c some_row same (omega arith)
 
-pub AreChained-taken_out : (n : ℕ) (chain front next previous new_chain new_front new_next new_previous rank : ℕ → ℕ) (c : ℕ) → AreChained n chain front next previous rank → 0 < chain c → IsTakenOut chain front next previous new_chain new_front new_next new_previous c → AreChained n new_chain new_front new_next new_previous rank
+pub AreChained-taken_out : (n : ℕ) (chain front next previous new_chain new_front new_next new_previous rank : ℕ → ℕ) (c : ℕ)
+    → AreChained n chain front next previous rank → 0 < chain c → IsTakenOut chain front next previous new_chain new_front new_next new_previous c
+    → AreChained n new_chain new_front new_next new_previous rank
 AreChained-taken_out n chain front next previous new_chain new_front new_next new_previous rank c r some_row m =
     let alive : (j : ℕ) → 0 < new_chain j → j ≢ c = λ j h e. let gone : new_chain j ≡ 0 = ap new_chain e ∙ m.chain_here in absurd (omega arith) in
     let same : (j : ℕ) → 0 < new_chain j → new_chain j ≡ chain j = λ j h. m.chain_else j (alive j h) in
     let was : (j : ℕ) → 0 < new_chain j → 0 < chain j = λ j h. subst (λ (y : ℕ). 0 < y) (same j h) h in
-    let some_node : (j : ℕ) → 0 < chain j → 0 < j = λ j h. ⊎_elim (λ (e : j ≡ 0). absurd (let gone : chain j ≡ 0 = ap chain e ∙ r.none in omega arith)) (λ (z : j ≢ 0). omega arith) (cases_eq j 0) in
+    let some_node : (j : ℕ) → 0 < chain j
+    → 0 < j = λ j h. ⊎_elim (λ (e : j ≡ 0). absurd (let gone : chain j ≡ 0 = ap chain e ∙ r.none in omega arith)) (λ (z : j ≢ 0). omega arith)
+    (cases_eq j 0) in
     let kept : (j : ℕ) → j ≢ c → 0 < chain j → 0 < new_chain j = λ j z h. subst (λ (y : ℕ). 0 < y) (sym (m.chain_else j z)) h in
     let next_row : 0 < next c → (chain (next c) ≡ chain c) × (previous (next c) ≡ c) = λ h. r.after c some_row h in
-    let next_apart : next c ≢ c = λ e. let lower : rank (next c) < rank c = r.falls c some_row in absurd (let eq : rank (next c) ≡ rank c = ap rank e in omega arith) in
+    let next_apart : next c ≢ c = λ e. let lower : rank (next c) < rank c = r.falls c some_row in
+    absurd (let eq : rank (next c) ≡ rank c = ap rank e in omega arith) in
     let previous_row : 0 < previous c → (next (previous c) ≡ c) × (chain (previous c) ≡ chain c) = λ h. r.back c some_row h in
-    let previous_above : 0 < previous c → rank c < rank (previous c) = λ h. let row = previous_row h in subst (λ (y : ℕ). rank y < rank (previous c)) row.0 (r.falls (previous c) (omega arith)) in
-    let previous_apart : previous c ≢ c = λ e. ⊎_elim (λ (z : previous c ≡ 0). absurd (let here : chain c ≡ 0 = ap chain (sym e ∙ z) ∙ r.none in omega arith)) (λ (z : previous c ≢ 0). absurd (let eq : rank (previous c) ≡ rank c = ap rank e in omega (arith, previous_above (omega arith)))) (cases_eq (previous c) 0) in
+    let previous_above : 0 < previous c → rank c < rank (previous c) = λ h. let row = previous_row h in
+    subst (λ (y : ℕ). rank y < rank (previous c)) row.0 (r.falls (previous c) (omega arith)) in
+    let previous_apart : previous c ≢ c = λ e. ⊎_elim
+    (λ (z : previous c ≡ 0). absurd (let here : chain c ≡ 0 = ap chain (sym e ∙ z) ∙ r.none in omega arith))
+    (λ (z : previous c ≢ 0). absurd (let eq : rank (previous c) ≡ rank c = ap rank e in omega (arith, previous_above (omega arith))))
+    (cases_eq (previous c) 0) in
     record {
       none = ⊎_elim (λ (e : 0 ≡ c). ap new_chain e ∙ m.chain_here) (λ (z : 0 ≢ c). m.chain_else 0 z ∙ r.none) (cases_eq 0 c);
       bottom = r.bottom;
-      high = λ j. ⊎_elim (λ (e : j ≡ c). let gone : new_chain j ≡ 0 = ap new_chain e ∙ m.chain_here in omega arith) (λ (z : j ≢ c). subst (λ (y : ℕ). y ≤ n) (sym (m.chain_else j z)) (r.high j)) (cases_eq j c);
+      high = λ j. ⊎_elim (λ (e : j ≡ c). let gone : new_chain j ≡ 0 = ap new_chain e ∙ m.chain_here in omega arith)
+          (λ (z : j ≢ c). subst (λ (y : ℕ). y ≤ n) (sym (m.chain_else j z)) (r.high j)) (cases_eq j c);
       top = λ j h.
           let to : new_front (new_chain j) ≡ new_front (chain j) = ap new_front (same j h) in
           let old : (0 < front (chain j)) × (rank j ≤ rank (front (chain j))) = r.top j (was j h) in
@@ -48,16 +59,22 @@ AreChained-taken_out n chain front next previous new_chain new_front new_next ne
           (λ (e : chain j ≡ chain c). ⊎_elim
           (λ (z : previous c ≡ 0).
           let at_top : rank j ≤ rank c = subst (λ (y : ℕ). rank j ≤ rank y) (ap front e ∙ r.first c some_row z) old.1 in
-          subst (λ (y : ℕ). (0 < y) × (rank j ≤ rank y)) (sym (to ∙ ap new_front e ∙ m.front_head z)) (below_it n chain front next previous rank j c r some_row e (alive j h) at_top))
-          (λ (z : previous c ≢ 0). subst (λ (y : ℕ). (0 < y) × (rank j ≤ rank y)) (sym (to ∙ ap new_front e ∙ m.front_keep (omega arith) ∙ ap front (sym e))) old)
+          subst (λ (y : ℕ). (0 < y) × (rank j ≤ rank y)) (sym (to ∙ ap new_front e ∙ m.front_head z))
+          (below_it n chain front next previous rank j c r some_row e (alive j h) at_top))
+          (λ (z : previous c ≢ 0). subst (λ (y : ℕ). (0 < y) × (rank j ≤ rank y))
+          (sym (to ∙ ap new_front e ∙ m.front_keep (omega arith) ∙ ap front (sym e))) old)
           (cases_eq (previous c) 0))
           (λ (z : chain j ≢ chain c). subst (λ (y : ℕ). (0 < y) × (rank j ≤ rank y)) (sym (to ∙ m.front_else (chain j) z)) old)
           (cases_eq (chain j) (chain c));
       head = λ l h.
-          let stays : new_front l ≡ front l → (l ≡ chain c → 0 < previous c) → (0 < l) × (new_chain (new_front l) ≡ l) × (new_previous (new_front l) ≡ 0) = λ e high.
+          let stays : new_front l ≡ front l → (l ≡ chain c → 0 < previous c) → (0 < l) × (new_chain (new_front l) ≡ l)
+          × (new_previous (new_front l) ≡ 0) = λ e high.
           let old : (0 < l) × (chain (front l) ≡ l) × (previous (front l) ≡ 0) = r.head l (subst (λ (y : ℕ). 0 < y) e h) in
-          let not_c : front l ≢ c = λ f. let z : previous c ≡ 0 = ap previous (sym f) ∙ old.2 in absurd (let p : 0 < previous c = high (sym old.1 ∙ ap chain f) in omega arith) in
-          let not_next : front l ≢ next c = λ f. let some_next : 0 < next c = subst (λ (y : ℕ). 0 < y) (e ∙ f) h in let back : c ≡ 0 = sym (next_row some_next).1 ∙ ap previous (sym f) ∙ old.2 in absurd (let here : chain c ≡ 0 = ap chain back ∙ r.none in omega arith) in
+          let not_c : front l ≢ c = λ f. let z : previous c ≡ 0 = ap previous (sym f) ∙ old.2 in
+          absurd (let p : 0 < previous c = high (sym old.1 ∙ ap chain f) in omega arith) in
+          let not_next : front l ≢ next c = λ f. let some_next : 0 < next c = subst (λ (y : ℕ). 0 < y) (e ∙ f) h in
+          let back : c ≡ 0 = sym (next_row some_next).1 ∙ ap previous (sym f) ∙ old.2 in
+          absurd (let here : chain c ≡ 0 = ap chain back ∙ r.none in omega arith) in
           (old.0, ap new_chain e ∙ m.chain_else (front l) not_c ∙ old.1, ap new_previous e ∙ m.previous_else (front l) not_next ∙ old.2) in
           ⊎_elim
           (λ (e : l ≡ chain c). ⊎_elim
@@ -81,13 +98,17 @@ AreChained-taken_out n chain front next previous new_chain new_front new_next ne
           (λ (e : k ≡ previous c).
           let some_previous : 0 < previous c = subst (λ (y : ℕ). 0 < y) e (some_node k (was k h)) in
           let to : new_next k ≡ next c = ap new_next e ∙ m.next_here in
-          let old = next_row (subst (λ (y : ℕ). 0 < y) to some_next) in
-          (ap new_chain to ∙ m.chain_else (next c) next_apart ∙ old.0 ∙ sym (previous_row some_previous).1 ∙ ap chain (sym e) ∙ sym (same k h), ap new_previous to ∙ m.previous_here ∙ sym e))
+          let old = next_row (subst (λ (y : ℕ). 0 < y) to some_next) in (
+            ap new_chain to ∙ m.chain_else (next c) next_apart ∙ old.0 ∙ sym (previous_row some_previous).1 ∙ ap chain (sym e)
+                ∙ sym (same k h),
+            ap new_previous to ∙ m.previous_here ∙ sym e,
+          ))
           (λ (z : k ≢ previous c).
           let to : new_next k ≡ next k = m.next_else k z in
           let old : (chain (next k) ≡ chain k) × (previous (next k) ≡ k) = r.after k (was k h) (subst (λ (y : ℕ). 0 < y) to some_next) in
           let not_c : next k ≢ c = λ f. z (sym old.1 ∙ ap previous f) in
-          let not_next : next k ≢ next c = λ f. let e : k ≡ c = sym old.1 ∙ ap previous f ∙ (next_row (subst (λ (y : ℕ). 0 < y) (to ∙ f) some_next)).1 in absurd (alive k h e) in
+          let not_next : next k ≢ next c = λ f. let e : k ≡ c = sym old.1 ∙ ap previous f
+          ∙ (next_row (subst (λ (y : ℕ). 0 < y) (to ∙ f) some_next)).1 in absurd (alive k h e) in
           (ap new_chain to ∙ m.chain_else (next k) not_c ∙ old.0 ∙ sym (same k h), ap new_previous to ∙ m.previous_else (next k) not_next ∙ old.1))
           (cases_eq k (previous c));
       down = λ j k h row low.
@@ -99,19 +120,24 @@ AreChained-taken_out n chain front next previous new_chain new_front new_next ne
           let some_previous : 0 < previous c = subst (λ (y : ℕ). 0 < y) e (some_node k (was k h)) in
           let is_c : next k ≡ c = ap next e ∙ (previous_row some_previous).0 in
           let row_c : chain j ≡ chain c = old_row ∙ ap chain e ∙ (previous_row some_previous).1 in
-          subst (λ (y : ℕ). (0 < y) × (rank j ≤ rank y)) (sym (ap new_next e ∙ m.next_here)) (below_it n chain front next previous rank j c r some_row row_c (alive j hj) (subst (λ (y : ℕ). rank j ≤ rank y) is_c old.1)))
+          subst (λ (y : ℕ). (0 < y) × (rank j ≤ rank y)) (sym (ap new_next e ∙ m.next_here))
+          (below_it n chain front next previous rank j c r some_row row_c (alive j hj) (subst (λ (y : ℕ). rank j ≤ rank y) is_c old.1)))
           (λ (z : k ≢ previous c). subst (λ (y : ℕ). (0 < y) × (rank j ≤ rank y)) (sym (m.next_else k z)) old)
           (cases_eq k (previous c));
       back = λ j h some_previous. ⊎_elim
           (λ (e : j ≡ next c).
           let to : new_previous j ≡ previous c = ap new_previous e ∙ m.previous_here in
           let some : 0 < previous c = subst (λ (y : ℕ). 0 < y) to some_previous in
-          let some_next : 0 < next c = subst (λ (y : ℕ). 0 < y) e (some_node j (was j h)) in
-          (ap new_next to ∙ m.next_here ∙ sym e, ap new_chain to ∙ m.chain_else (previous c) previous_apart ∙ (previous_row some).1 ∙ sym (next_row some_next).0 ∙ ap chain (sym e) ∙ sym (same j h)))
+          let some_next : 0 < next c = subst (λ (y : ℕ). 0 < y) e (some_node j (was j h)) in (
+            ap new_next to ∙ m.next_here ∙ sym e,
+            ap new_chain to ∙ m.chain_else (previous c) previous_apart ∙ (previous_row some).1
+                ∙ sym (next_row some_next).0 ∙ ap chain (sym e) ∙ sym (same j h),
+          ))
           (λ (z : j ≢ next c).
           let to : new_previous j ≡ previous j = m.previous_else j z in
           let old : (next (previous j) ≡ j) × (chain (previous j) ≡ chain j) = r.back j (was j h) (subst (λ (y : ℕ). 0 < y) to some_previous) in
-          let not_previous : previous j ≢ previous c = λ f. let e : j ≡ c = sym old.0 ∙ ap next f ∙ (previous_row (subst (λ (y : ℕ). 0 < y) (to ∙ f) some_previous)).0 in absurd (alive j h e) in
+          let not_previous : previous j ≢ previous c = λ f. let e : j ≡ c = sym old.0 ∙ ap next f
+          ∙ (previous_row (subst (λ (y : ℕ). 0 < y) (to ∙ f) some_previous)).0 in absurd (alive j h e) in
           let not_c : previous j ≢ c = λ f. z (sym old.0 ∙ ap next f) in
           (ap new_next to ∙ m.next_else (previous j) not_previous ∙ old.0, ap new_chain to ∙ m.chain_else (previous j) not_c ∙ old.1 ∙ sym (same j h)))
           (cases_eq j (next c));
@@ -149,9 +175,14 @@ pub record IsPutIn (chain front next previous rank new_chain new_front new_next 
   pub rank_here : new_rank c ≡ suc (rank (front l))
   pub rank_else : (j : ℕ) → j ≢ c → new_rank j ≡ rank j
 
-pub AreChained-put_in : (n : ℕ) (chain front next previous rank new_chain new_front new_next new_previous new_rank : ℕ → ℕ) (c l : ℕ) → AreChained n chain front next previous rank → chain c ≡ 0 → 0 < c → 0 < l → l ≤ n → IsPutIn chain front next previous rank new_chain new_front new_next new_previous new_rank c l → AreChained n new_chain new_front new_next new_previous new_rank
+pub AreChained-put_in : (n : ℕ) (chain front next previous rank new_chain new_front new_next new_previous new_rank : ℕ → ℕ) (c l : ℕ)
+    → AreChained n chain front next previous rank → chain c ≡ 0 → 0 < c → 0 < l → l ≤ n
+    → IsPutIn chain front next previous rank new_chain new_front new_next new_previous new_rank c l
+    → AreChained n new_chain new_front new_next new_previous new_rank
 AreChained-put_in n chain front next previous rank new_chain new_front new_next new_previous new_rank c l r free some_c some_l in_n m =
-    let some_node : (j : ℕ) → 0 < chain j → 0 < j = λ j h. ⊎_elim (λ (e : j ≡ 0). absurd (let gone : chain j ≡ 0 = ap chain e ∙ r.none in omega arith)) (λ (z : j ≢ 0). omega arith) (cases_eq j 0) in
+    let some_node : (j : ℕ) → 0 < chain j
+    → 0 < j = λ j h. ⊎_elim (λ (e : j ≡ 0). absurd (let gone : chain j ≡ 0 = ap chain e ∙ r.none in omega arith)) (λ (z : j ≢ 0). omega arith)
+    (cases_eq j 0) in
     let other : (j : ℕ) → 0 < chain j → j ≢ c = λ j h e. let gone : chain j ≡ 0 = ap chain e ∙ free in absurd (omega arith) in
     let was : (j : ℕ) → j ≢ c → 0 < new_chain j → 0 < chain j = λ j z h. subst (λ (y : ℕ). 0 < y) (m.chain_else j z) h in
     let head : 0 < front l → (chain (front l) ≡ l) × (previous (front l) ≡ 0) = λ h. let k = r.head l h in (k.1, k.2) in
@@ -160,7 +191,8 @@ AreChained-put_in n chain front next previous rank new_chain new_front new_next 
     record {
       none = m.chain_else 0 (omega arith) ∙ r.none;
       bottom = m.rank_else 0 (omega arith) ∙ r.bottom;
-      high = λ j. ⊎_elim (λ (e : j ≡ c). subst (λ (y : ℕ). y ≤ n) (sym (ap new_chain e ∙ m.chain_here)) in_n) (λ (z : j ≢ c). subst (λ (y : ℕ). y ≤ n) (sym (m.chain_else j z)) (r.high j)) (cases_eq j c);
+      high = λ j. ⊎_elim (λ (e : j ≡ c). subst (λ (y : ℕ). y ≤ n) (sym (ap new_chain e ∙ m.chain_here)) in_n)
+          (λ (z : j ≢ c). subst (λ (y : ℕ). y ≤ n) (sym (m.chain_else j z)) (r.high j)) (cases_eq j c);
       top = λ j h. ⊎_elim
           (λ (e : j ≡ c).
           let to : new_front (new_chain j) ≡ c = ap new_front (ap new_chain e ∙ m.chain_here) ∙ m.front_here in
@@ -199,23 +231,31 @@ AreChained-put_in n chain front next previous rank new_chain new_front new_next 
           (λ (z : k ≢ c).
           let low : rank (next k) < rank k = r.falls k (was k z h) in
           let same : new_rank k ≡ rank k = m.rank_else k z in
-          let not_c : next k ≢ c = λ f. let a = r.after k (was k z h) (omega arith) in absurd (let gone : chain (next k) ≡ 0 = ap chain f ∙ free in let some : 0 < chain k = was k z h in omega arith) in
+          let not_c : next k ≢ c = λ f. let a = r.after k (was k z h) (omega arith) in
+          absurd (let gone : chain (next k) ≡ 0 = ap chain f ∙ free in let some : 0 < chain k = was k z h in omega arith) in
           let level : new_rank (next k) ≡ rank (next k) = m.rank_else (next k) not_c in
           subst (λ (y : ℕ). new_rank y < new_rank k) (sym (m.next_else k z)) (omega arith))
           (cases_eq k c);
       after = λ k h some_next. ⊎_elim
           (λ (e : k ≡ c).
           let to : new_next k ≡ front l = ap new_next e ∙ m.next_here in
-          let some_front : 0 < front l = subst (λ (y : ℕ). 0 < y) to some_next in
-          (ap new_chain to ∙ m.chain_else (front l) head_apart ∙ (head some_front).0 ∙ sym (ap new_chain e ∙ m.chain_here), ap new_previous to ∙ m.previous_front some_front ∙ sym e))
+          let some_front : 0 < front l = subst (λ (y : ℕ). 0 < y) to some_next in (
+            ap new_chain to ∙ m.chain_else (front l) head_apart ∙ (head some_front).0 ∙ sym (ap new_chain e ∙ m.chain_here),
+            ap new_previous to
+                ∙ m.previous_front some_front ∙ sym e,
+          ))
           (λ (z : k ≢ c).
           let to : new_next k ≡ next k = m.next_else k z in
           let row : 0 < chain k = was k z h in
           let old : (chain (next k) ≡ chain k) × (previous (next k) ≡ k) = r.after k row (subst (λ (y : ℕ). 0 < y) to some_next) in
           let not_c : next k ≢ c = other (next k) (omega arith) in
           let some : 0 < next k = subst (λ (y : ℕ). 0 < y) to some_next in
-          let not_head : next k ≢ front l = λ f. let gone : k ≡ 0 = sym old.1 ∙ ap previous f ∙ (head (omega arith)).1 in absurd (let p : 0 < k = some_node k row in omega arith) in
-          (ap new_chain to ∙ m.chain_else (next k) not_c ∙ old.0 ∙ sym (m.chain_else k z), ap new_previous to ∙ m.previous_else (next k) not_c not_head ∙ old.1))
+          let not_head : next k ≢ front l = λ f. let gone : k ≡ 0 = sym old.1 ∙ ap previous f ∙ (head (omega arith)).1 in
+          absurd (let p : 0 < k = some_node k row in omega arith) in (
+            ap new_chain to ∙ m.chain_else (next k) not_c ∙ old.0 ∙ sym (m.chain_else k z),
+            ap new_previous to
+                ∙ m.previous_else (next k) not_c not_head ∙ old.1,
+          ))
           (cases_eq k c);
       down = λ j k h row low. ⊎_elim
           (λ (e : k ≡ c).
@@ -277,13 +317,15 @@ AreChained-put_in n chain front next previous rank new_chain new_front new_next 
           (λ (z : k ≢ c).
           let in_l : chain k ≡ l = sym (m.chain_else k z) ∙ sym row ∙ ap new_chain e ∙ m.chain_here in
           let old : (0 < front l) × (rank k ≤ rank (front l)) = subst (λ (y : ℕ). (0 < front y) × (rank k ≤ rank (front y))) in_l (r.top k (omega arith)) in
-          absurd (let here : new_rank j ≡ suc (rank (front l)) = ap new_rank e ∙ m.rank_here in let same : new_rank k ≡ rank k = m.rank_else k z in omega arith))
+          absurd (let here : new_rank j ≡ suc (rank (front l)) = ap new_rank e ∙ m.rank_here in let same : new_rank k ≡ rank k = m.rank_else k z in
+          omega arith))
           (cases_eq k c))
           (λ (y : j ≢ c). ⊎_elim
           (λ (f : k ≡ c).
           let in_l : chain j ≡ l = sym (m.chain_else j y) ∙ row ∙ ap new_chain f ∙ m.chain_here in
           let old : (0 < front l) × (rank j ≤ rank (front l)) = subst (λ (x : ℕ). (0 < front x) × (rank j ≤ rank (front x))) in_l (r.top j (omega arith)) in
-          absurd (let here : new_rank k ≡ suc (rank (front l)) = ap new_rank f ∙ m.rank_here in let same : new_rank j ≡ rank j = m.rank_else j y in omega arith))
+          absurd (let here : new_rank k ≡ suc (rank (front l)) = ap new_rank f ∙ m.rank_here in let same : new_rank j ≡ rank j = m.rank_else j y in
+          omega arith))
           (λ (z : k ≢ c). r.apart j k (was j y h) (sym (m.chain_else j y) ∙ row ∙ m.chain_else k z) (sym (m.rank_else j y) ∙ level ∙ m.rank_else k z))
           (cases_eq k c))
           (cases_eq j c);
@@ -339,11 +381,13 @@ IsIndex-taken_out nodes chain now first firsts next previous n parent x here out
     let some_chain : 0 < chain n = omega (arith, here) in
     let low : parent < length first = (let high = x.chained.high n in omega (arith, x.firsts, here, high)) in
     record {
-      firsts = ⊎_elim (λ z. ap (λ l. length l) (is_first z) ∙ length-set first parent after ∙ x.firsts) (λ z. ap (λ l. length l) (is_later z) ∙ x.firsts) (cases_eq before 0);
+      firsts = ⊎_elim (λ z. ap (λ l. length l) (is_first z) ∙ length-set first parent after ∙ x.firsts)
+          (λ z. ap (λ l. length l) (is_later z) ∙ x.firsts) (cases_eq before 0);
       nexts = length-set next before after ∙ x.nexts;
       previouses = length-set previous after before ∙ x.previouses;
       some = x.some;
-      within = λ m some. x.within m (⊎_elim (λ (e : m ≡ n). absurd (let gone : now m ≡ 0 = ap now e ∙ out in omega arith)) (λ apart. subst (λ (l : ℕ). 0 < l) (others m apart) some) (cases_eq m n));
+      within = λ m some. x.within m (⊎_elim (λ (e : m ≡ n). absurd (let gone : now m ≡ 0 = ap now e ∙ out in omega arith))
+          (λ apart. subst (λ (l : ℕ). 0 < l) (others m apart) some) (cases_eq m n));
       rank = x.rank;
       chained = AreChained-taken_out nodes chain (front_in first) (slice_index next) (slice_index previous) now (front_in firsts)
           (slice_index (slice_set next before after)) (slice_index (slice_set previous after before)) x.rank n x.chained some_chain
@@ -378,11 +422,13 @@ raised-else rank n top j apart = ap (λ (b : Bool). cond b (suc top) (rank j)) (
 pub IsIndex-put_in :
     (nodes : ℕ) (chain now : ℕ → ℕ) (first next previous : List ℕ) (n parent : ℕ) → IsIndex nodes chain first next previous → n < nodes → parent < nodes
     → 0 < n → chain n ≡ 0 → now n ≡ suc parent → OnlyMoves n chain now
-    → IsIndex nodes now (slice_set first parent n) (slice_set next n (slice_index first parent)) (slice_set (slice_set previous (slice_index first parent) n) n 0)
+    → IsIndex nodes now (slice_set first parent n) (slice_set next n (slice_index first parent))
+    (slice_set (slice_set previous (slice_index first parent) n) n 0)
 IsIndex-put_in nodes chain now first next previous n parent x low parent_low some_node free here others =
     let front = slice_index first parent in
     let rank : ℕ → ℕ = raised x.rank n (x.rank front) in
-    let head_apart : 0 < front → front ≢ n = λ some e. let head = x.chained.head (suc parent) some in absurd (let gone : chain front ≡ 0 = ap chain e ∙ free in omega (arith, head.1)) in
+    let head_apart : 0 < front → front ≢ n = λ some e. let head = x.chained.head (suc parent) some in
+    absurd (let gone : chain front ≡ 0 = ap chain e ∙ free in omega (arith, head.1)) in
     let previouses : List ℕ = slice_set (slice_set previous front n) n 0 in
     record {
       firsts = length-set first parent n ∙ x.firsts;
@@ -401,7 +447,8 @@ IsIndex-put_in nodes chain now first next previous n parent x low parent_low som
             next_here = at_set next n front (omega (arith, x.nexts, low));
             next_else = λ j other. at_else next n j front other;
             previous_here = at_set (slice_set previous front n) n 0 (omega (arith, x.previouses, length-set previous front n, low));
-            previous_front = λ some. at_else (slice_set previous front n) n front 0 (head_apart some) ∙ at_set previous front n (omega (arith, x.previouses, front_within nodes chain first next previous (suc parent) x));
+            previous_front = λ some. at_else (slice_set previous front n) n front 0 (head_apart some)
+                ∙ at_set previous front n (omega (arith, x.previouses, front_within nodes chain first next previous (suc parent) x));
             previous_else = λ j other past. at_else (slice_set previous front n) n j 0 other ∙ at_else previous front j n past;
             rank_here = raised-here x.rank n (x.rank front);
             rank_else = λ j other. raised-else x.rank n (x.rank front) j other;

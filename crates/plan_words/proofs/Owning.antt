@@ -86,7 +86,8 @@ module _ (table : TableId) (key : Opening) (run : SharedRun) (places : WordPlace
       (seat : TableId) (id place x : ℕ) (me : Me Aim View) (hand : Hand) (m : ℕ) (p : Point) → seat ≡ table → me.0.run ≡ run
       → place ≡ place_of (run_sizes run) (PointOf (suc hand.mark)) → hand.mark < length run.marks → me.0.hand ≡ Some hand → hand.stage ≡ Claimed
       → IsSteered me.0 hand.mark m p → x ≡ point_word p
-      → (seat ≡ table) × (place < table.words) × Allows (Kept key) table.slots id me place (λ y. x) (λ y. WritesPoint m p (step table.slots place x 0 none) me x)
+      → (seat ≡ table) × (place < table.words)
+      × Allows (Kept key) table.slots id me place (λ y. x) (λ y. WritesPoint m p (step table.slots place x 0 none) me x)
   may_point_here seat id place x me hand m p same own at_place low held stage steered is = (
     same,
     within (PointOf (suc hand.mark)) place (omega (arith, low)) at_place,
@@ -175,7 +176,8 @@ module _ (table : TableId) (key : Opening) (run : SharedRun) (places : WordPlace
     same_too,
     empty,
     some_word,
-    subst (λ r. Joins (Holds r) id view j other.0 (joined view other.0) spent) (sym fits.key_is) (may_take_over run id view j other.0 own own_too idle idle_too),
+    subst (λ r. Joins (Holds r) id view j other.0 (joined view other.0) spent) (sym fits.key_is)
+        (may_take_over run id view j other.0 own own_too idle idle_too),
   )
 
 -- ---- what a load tells

@@ -139,7 +139,8 @@ module _ (view : View) (hand : Hand) (entry : Record) (cost : ℕ) (lawful : IsL
   at_start = point_of-stands (tree_seen view).points 0 hung.start hung.seen
 
   edge : hand.cost ≡ cost_of (point_of (tree_seen view).points 0) hand.point
-  edge = ap (λ h. h.cost) (sym same_hand) ∙ hung.cost_is ∙ hung.edge ∙ ap (cost_of hung.start) (ap (λ h. h.point) same_hand) ∙ ap (λ p. cost_of p hand.point) (sym at_start)
+  edge = ap (λ h. h.cost) (sym same_hand) ∙ hung.cost_is ∙ hung.edge ∙ ap (cost_of hung.start) (ap (λ h. h.point) same_hand)
+      ∙ ap (λ p. cost_of p hand.point) (sym at_start)
 
   pub MayRecord-first :
       entry.outcome ≡ Placed → entry.first_parent ≡ 0 → entry.first_cost ≡ cost → entry.class ≡ 1 → 1 ≤ sees view Count → MayRecord view hand entry

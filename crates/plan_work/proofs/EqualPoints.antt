@@ -43,4 +43,5 @@ module _ (one other : List (Option Point)) (same : (n : ℕ) → point_at one n 
 
   -- the near nodes of a new node
   pub near_new-same : (setup : Setup) (p : Point) → near_new setup one p ≡ near_new setup other p
-  near_new-same setup p = ap (λ n. near one p (radius_of setup.step setup.gamma n)) count-same ∙ near-same p (radius_of setup.step setup.gamma (node_count other))
+  near_new-same setup p = ap (λ n. near one p (radius_of setup.step setup.gamma n)) count-same
+      ∙ near-same p (radius_of setup.step setup.gamma (node_count other))

@@ -32,7 +32,8 @@ use Rattle.plan_work.proofs.KeptRecords.{KeepsRecords-looks, KeepsRecords-trans}
 use Rattle.plan_work.proofs.KeptSights.{HasSteered-still}
 use Rattle.plan_work.proofs.RecordedMarks.{HandlesMark-recorded, IsSteeredTo-still, MayRecord-steered, has_node-kept, others_still, present_recorded}
 use Rattle.plan_work.proofs.TriedMarks.{HasFilledNear-still}
-use Rattle.plan_work.specs.Extensions.{EndsAt, HandlesMark, HasFilledNear, HasRecorded, HasSteered, IsBlockedAt, IsExtended, IsFilledSince, IsSteeredTo, KeepsRecords, MayPlace, own_unplaced}
+use Rattle.plan_work.specs.Extensions.{EndsAt, HandlesMark, HasFilledNear, HasRecorded, HasSteered, IsBlockedAt, IsExtended}
+use Rattle.plan_work.specs.Extensions.{IsFilledSince, IsSteeredTo, KeepsRecords, MayPlace, own_unplaced}
 use Rattle.plan_model.specs.declared.records.Outcome.{Outcome}
 use Rattle.plan_model.specs.declared.records.Outcome.TheVariants.{Blocked, Placed, Same}
 
@@ -153,7 +154,8 @@ swept_since first before after done one two three p ends free = record {
 }
   where
     there : EndsSince (sight_in done) before.steps p
-    there = EndsSince-later (sight_in after) (sight_in done) (IsLaterMoment-later after done three.later) (KeepsSight-lawful after three.was_lawful) before.steps p ends
+    there = EndsSince-later (sight_in after) (sight_in done) (IsLaterMoment-later after done three.later)
+        (KeepsSight-lawful after three.was_lawful) before.steps p ends
 
 -- ---- marks that end without a node
 

@@ -36,7 +36,8 @@ use Rattle.plan_work.proofs.KeptSights.{SweepsWithin-still}
 use Rattle.plan_work.proofs.HeldMarks.{if_held, of_held}
 use Rattle.plan_work.proofs.RecordedMarks.{IsSteeredTo-still, MayRecord-steered, has_node-kept, others_still, own_count-same, own_recorded, present_recorded}
 use Rattle.plan_work.proofs.TriedMarks.{HasFilledNear-still, clear_of-may}
-use Rattle.plan_work.specs.Extensions.{HasFilledNear, HasRecorded, IsFilledSince, IsPlacedAt, IsTried, KeepsRecords, MayPlace, WasNeighbour, hung_by, own_placed, own_unplaced, radius_in}
+use Rattle.plan_work.specs.Extensions.{HasFilledNear, HasRecorded, IsFilledSince, IsPlacedAt, IsTried, KeepsRecords}
+use Rattle.plan_work.specs.Extensions.{MayPlace, WasNeighbour, hung_by, own_placed, own_unplaced, radius_in}
 use Rattle.plan_work.specs.declared.extending.Hanging.{Hanging}
 
 -- The first word of a node stays once it was seen.
@@ -48,7 +49,8 @@ first_kept before after goes_on n written =
     ]
 
 -- what own nodes were placed at is at least what they cost, as it was seen at any time since
-cost-first : (before mid after : View) → GoesOn before mid → GoesOn mid after → (entry : Record) → ((k : ℕ) → sees after (RecordOf k) ≡ sees before (RecordOf k))
+cost-first : (before mid after : View) → GoesOn before mid → GoesOn mid after → (entry : Record)
+    → ((k : ℕ) → sees after (RecordOf k) ≡ sees before (RecordOf k))
     → (i : ℕ) → IsTrue (is_own after entry i) → SeesPair mid i → cost_seen mid i ≤ own_first_cost after i
 cost-first before mid after one other entry records zero own pair = omega (arith, ((one.lawful.pairs 0 pair).start refl).1)
 cost-first before mid after one other entry records (suc k) own pair = omega (arith, (one.lawful.pairs (suc k) pair).first there, ap cost_in kept)
@@ -94,7 +96,8 @@ Rewired-hand shared before tried after k m p hanging may is_tried rewired i amon
 
 module _
     (shared : SharedState) (first before tried after : PassState) (k m : ℕ) (p : Point) (hanging : Hanging) (may : MayPlace shared before k m p)
-    (since : IsFilledSince shared first before p hanging.class) (keeps : KeepsRecords shared before tried) (is_tried : IsTried before tried may.hand Placed hanging)
+    (since : IsFilledSince shared first before p hanging.class) (keeps : KeepsRecords shared before tried)
+    (is_tried : IsTried before tried may.hand Placed hanging)
     (seen : SeesAnew IsTreeOrPoint tried.view after.view) (pairs : All (SeesPair after.view) tried.near)
     (rewired : (i : ℕ) → Contains tried.near i → Clear (space_of shared.task.scene) p (point_of (tree_seen tried.view).points i)
     → cost_seen after.view i ≤ hanging.cost + cost_of p (point_of (tree_seen tried.view).points i)) where
@@ -261,7 +264,8 @@ module _
     close_neighbour i was = record {
       stood = was.stands;
       near = subst (λ x. squared_distance was.at p ≤ x * x) radius_end was.near;
-      clear = subst (λ s. Clear s was.at p) (ap (λ (x : SharedRun). (setup_in x).space) (recorded.goes_on.later.run ∙ whole.later.run ∙ may.belongs.run)) was.clear;
+      clear = subst (λ s. Clear s was.at p)
+          (ap (λ (x : SharedRun). (setup_in x).space) (recorded.goes_on.later.run ∙ whole.later.run ∙ may.belongs.run)) was.clear;
     }
 
     pub IsPlacedAt-recorded : IsPlacedAt first.view done.view k stored p
@@ -273,7 +277,8 @@ module _
           is_tried.came.stands));
       class_is =
           ap (λ (x : Record). x.class) is ∙ filled.class_is
-          ∙ ap class_of (sym (others_still after.view done.view counted_hand stored held_after (ap (λ (x : PassState). x.view) (recorded.view counted_hand held_after))
+          ∙ ap class_of (sym (others_still after.view done.view counted_hand stored held_after
+          (ap (λ (x : PassState). x.view) (recorded.view counted_hand held_after))
           whole.lawful Count (λ e. cc) ∙ seen.others Count (λ no. no) ∙ is_tried.count));
       swept =
           subst (λ x. SweepsWithin (sight_in first.view) (sight_in done.view) p (x * x)) (sym radius_end)

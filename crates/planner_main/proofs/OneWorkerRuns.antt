@@ -35,7 +35,8 @@ pub IsOfTextbookRun-whole :
     → IsOfTextbookRun (setup_of scene) (mark_points scene) (state_of_grown grown)
 IsOfTextbookRun-whole scene grown of_scene whole textbook =
     let all : take grown.limit grown.task.marks ≡ mark_points scene =
-    ap (take grown.limit) (grown.task.of_scene ∙ ap mark_points of_scene) ∙ ap (λ n. take n (mark_points scene)) whole ∙ take_all (length (mark_points scene)) (mark_points scene) (omega arith) in
+    ap (take grown.limit) (grown.task.of_scene ∙ ap mark_points of_scene) ∙ ap (λ n. take n (mark_points scene)) whole
+    ∙ take_all (length (mark_points scene)) (mark_points scene) (omega arith) in
     subst (λ (s : Scene). IsOfTextbookRun (setup_of s) (mark_points scene) (state_of_grown grown)) of_scene
     (subst (λ marks. IsOfTextbookRun (setup_of grown.task.scene) marks (state_of_grown grown)) all textbook)
 

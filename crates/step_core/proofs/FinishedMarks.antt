@@ -156,7 +156,8 @@ module _ (run : SharedRun) (words after : Words) (views : List View) (id : ℕ) 
         records = records_then grows;
         sights = Sights-set run words views id view world at own then (λ of. tree_then);
         copies = Copies-seen run words after views id view then at own world.copies seen
-            (AreBehind-saw (RecordOf k) x (sees view) (sees then) after saw_it writes.here behind) (λ part. omega (arith, part, same_share)) (RecordOf k) x writes
+            (AreBehind-saw (RecordOf k) x (sees view) (sees then) after saw_it writes.here behind) (λ part. omega (arith, part, same_share))
+            (RecordOf k) x writes
             keeps_links some_share saw_it.here;
       }
     where
@@ -245,7 +246,8 @@ Records-finished run words after views id view world at own hand held member cre
     Records-recorded run words after views world.numbers world.links world.trees grows world.records hand.mark entry
     record {
       absent = mark.absent;
-      recorded = ap (λ w. record_of_word w (after (FirstOf (suc hand.mark)))) writes.here ∙ record_of_word-packed entry (after (FirstOf (suc hand.mark))) fits first;
+      recorded = ap (λ w. record_of_word w (after (FirstOf (suc hand.mark)))) writes.here
+          ∙ record_of_word-packed entry (after (FirstOf (suc hand.mark))) fits first;
       others = stored.others;
     }
     world.run_is.workers.1 (recorded-below run words views world) world.turns.workers
@@ -263,7 +265,8 @@ IsWorld-recorded run words after views id view world at own hand held member cre
     let says = IsTurnWord-packed entry fits in
     let mark = in_hand run words views id view world at hand held in
     IsWorld-finished run words after views id view world at own hand held member crew crew_is (record_word entry) says.written (says.worker_is ∙ worker)
-    (says.turn_is ∙ turn) (inr (entry, fits, refl)) writes (is_placed entry.outcome) (λ first. has_placed-record_word entry first fits) stage.linked stage.counted
+    (says.turn_is ∙ turn) (inr (entry, fits, refl)) writes (is_placed entry.outcome)
+    (λ first. has_placed-record_word entry first fits) stage.linked stage.counted
     (SeesTree-finished run view (live run words views id view world at own) (tree run words views id view world at own) hand held mark.low
     (none_seen run words views id view world at hand held) entry fits stage)
     (Records-finished run words after views id view world at own hand held member crew crew_is entry fits worker turn stage may writes)

@@ -120,7 +120,8 @@ module _ (view : View) (words : Words) (behind : AreBehind (sees view) words) (t
         word = written;
         fits = fits-below hand.point parent cost below;
         hangs =
-            Hangs-grows (setup_in view.run) now next grows (suc hand.mark) hand.point parent cost (Hangs-below (suc hand.mark) hand.point parent cost below apart);
+            Hangs-grows (setup_in view.run) now next grows (suc hand.mark) hand.point parent cost
+            (Hangs-below (suc hand.mark) hand.point parent cost below apart);
         below_first =
             omega (
               arith,

@@ -1,5 +1,6 @@
 -- From what a pass has seen to the record law: a record that the view allows is lawful in the tree now.
-use Rattle.std.proofs.Common.{◌≡◌, ◌≢◌, ℕ, zero, suc, ◌+◌, ◌≤◌, ◌^◌, Bool, true, false, Option, Some, None, List, ◌∷◌, length, refl, sym, ap, ◌∙◌, subst, inl, inr, arith}
+use Rattle.std.proofs.Common.{◌≡◌, ◌≢◌, ℕ, zero, suc, ◌+◌, ◌≤◌, ◌^◌, Bool, true, false, Option, Some}
+use Rattle.std.proofs.Common.{None, List, ◌∷◌, length, refl, sym, ap, ◌∙◌, subst, inl, inr, arith}
 use Rattle.std.specs.Prelude.{◌==◌, ◌&&◌, IsTrue, cond, is_some, nat_lt, unwrap_or}
 use Rattle.std.specs.List.{count_by, range_with_len, sum_by}
 use mathlib.Core.Option.{some}
@@ -61,7 +62,8 @@ earlier_same entry (suc zero) word first other = refl
 earlier_same entry (suc (suc zero)) word first other = refl
 earlier_same entry (suc (suc (suc n))) word first other = refl
 
-earlier-own : (entry : Record) (word first other : ℕ) → is_earlier_record entry (record_of_word word first) ≡ is_earlier_record entry (record_of_word word other)
+earlier-own : (entry : Record) (word first other : ℕ)
+    → is_earlier_record entry (record_of_word word first) ≡ is_earlier_record entry (record_of_word word other)
 earlier-own entry word first other = by_test (nat_lt word (2 ^ 63))
   where
     by_test :
@@ -249,7 +251,8 @@ module _ (words : Words) (views : List View) (id : ℕ) (view : View) (world : I
 
   as_many : earlier_count state entry ≡ own_count view entry
   as_many =
-      let all : length state.points ≡ length own_run.marks + 1 = length-map-range_with_len (linked_point (run_sizes own_run) words) 0 (length own_run.marks + 1) in
+      let all : length state.points ≡ length own_run.marks + 1 = length-map-range_with_len (linked_point (run_sizes own_run) words) 0
+      (length own_run.marks + 1) in
       length-filter (is_earlier state entry) (range_with_len 0 (length state.points))
       ∙ ap (λ n. count_by (is_earlier state entry) (range_with_len 0 n)) all
       ∙ count-same (is_earlier state entry) (is_own view entry) (length own_run.marks + 1) (λ n low. sym (same_own n))
@@ -336,7 +339,8 @@ module _ (words : Words) (views : List View) (id : ℕ) (view : View) (world : I
 
     -- ---- the outcome
 
-    outcome_now : (p : Point) → p ≡ steered (point_of seen_points entry.nearest) (mark_at own_run.marks hand.mark) own_run.step → MayBeRecorded hand.stage entry.outcome
+    outcome_now : (p : Point) → p ≡ steered (point_of seen_points entry.nearest) (mark_at own_run.marks hand.mark) own_run.step
+        → MayBeRecorded hand.stage entry.outcome
         → (outcome : Outcome) → entry.outcome ≡ outcome → MayEnd view hand entry p outcome → HasLawfulOutcome setup state hand.mark entry p outcome
     outcome_now p is stage Placed e may =
         let count : has_count hand.stage ≡ true = sym stage.counted ∙ ap is_placed e in

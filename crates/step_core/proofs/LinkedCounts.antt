@@ -1,5 +1,6 @@
 -- How many nodes are linked, by the count that is kept of them.
-use Rattle.std.proofs.Common.{◌≡◌, ℕ, zero, suc, ◌+◌, ◌<◌, ◌≤◌, Bool, true, false, List, [], ◌∷◌, length, Some, None, Option, refl, sym, ap, ◌∙◌, inl, inr, arith}
+use Rattle.std.proofs.Common.{◌≡◌, ℕ, zero, suc, ◌+◌, ◌<◌, ◌≤◌, Bool, true, false, List, [], ◌∷◌}
+use Rattle.std.proofs.Common.{length, Some, None, Option, refl, sym, ap, ◌∙◌, inl, inr, arith}
 use Rattle.std.specs.Prelude.{◌==◌, ◌&&◌, is_some}
 use Rattle.std.specs.List.{range_with_len, sum_by}
 use Rattle.std.proofs.lemmas.Bool.{cases_Bool}
@@ -82,7 +83,8 @@ module _ (run : SharedRun) (words : Words) (views : List View) (links : Links ru
 
   -- they are node 0 and those of marks
   pub node_count-linked :
-      node_count (linked_points (run_sizes run) words) ≡ 1 + sum_by (λ k. once_if (is_linked (run_sizes run) words (suc k))) (range_with_len 0 (length run.marks))
+      node_count (linked_points (run_sizes run) words) ≡ 1 + sum_by (λ k. once_if (is_linked (run_sizes run) words (suc k)))
+      (range_with_len 0 (length run.marks))
   node_count-linked =
       let next =
       count-next (linked_points (run_sizes run) words) (λ k. is_linked (run_sizes run) words (suc k)) (length run.marks) (present-linked 0 refl)

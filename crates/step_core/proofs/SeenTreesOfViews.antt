@@ -26,7 +26,8 @@ use Rattle.step_core.specs.declared.views.SharedRun.{SharedRun}
 use Rattle.step_core.specs.declared.views.Stage.TheVariants.{Counted, Half, Linked, Pointed, Treed}
 use Rattle.step_core.specs.declared.views.View.{View}
 use Rattle.step_core.proofs.LinkedViews.{AreBehind-child, AreBehind-first, AreBehind-point, AreBehind-shown, AreBehind-tree, MayShow, ShowsNode}
-use Rattle.step_core.proofs.LinkedViews.{WritesWord-child, WritesWord-first, WritesWord-point, WritesWord-tree, child_shown, pair_shown, point_shown, sees-linked}
+use Rattle.step_core.proofs.LinkedViews.{WritesWord-child, WritesWord-first, WritesWord-point, WritesWord-tree}
+use Rattle.step_core.proofs.LinkedViews.{child_shown, pair_shown, point_shown, sees-linked}
 use Rattle.step_core.proofs.Looks.{same_name}
 use Rattle.step_core.proofs.PackedWords.{point_of_word-packed}
 use Rattle.step_core.proofs.PlacedWords.{has_node-same, has_placed-record_word}

@@ -46,7 +46,8 @@ pub tree-written :
     → view.run ≡ run → (n : ℕ) → SeesNode view n → 2 ^ 63 ≤ words (TreeOf n)
 tree-written run words views id view world at own n seen =
     let linked = subst (λ r. is_linked (run_sizes r) words n ≡ true) own
-    (is_linked-seen view words (world.seen.behind id view at) (tree run words views id view world at own) (follow run words views id view world at own) n seen) in
+    (is_linked-seen view words (world.seen.behind id view at) (tree run words views id view world at own)
+    (follow run words views id view world at own) n seen) in
     omega (arith, (world.trees.written n linked).tree)
 
 pub IsSome-seen_tree :

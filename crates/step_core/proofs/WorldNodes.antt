@@ -282,7 +282,8 @@ module _ (run : SharedRun) (words after : Words) (views : List View) (id : ℕ) 
         (λ other e far. subst (λ h. words (PointOf (suc h.mark)) ≡ point_word h.point) (same_Some next other e)
         (world.hands.written id view at hand held (ap has_point stage)))
         (holds_at-stays has_point view.hand hand next held refl (sym (ap has_point stage))))
-        (Pairs-hand run words after views id view then at world.numbers world.links world.pairs grows hand held next refl refl firsts (λ n off. trees n) recorded
+        (Pairs-hand run words after views id view then at world.numbers world.links world.pairs grows hand held next refl refl firsts
+        (λ n off. trees n) recorded
         (λ far. first_word grows) (λ far not_yet. cc) (λ not_yet. cc) (λ not_yet. trees node ∙ no_tree (ap has_tree stage)))
         (SeesTree-half view tree_now hand held stage parent cost)
         (Copies-untold run words after views id view then at own world.copies (AreBehind-refl (sees view))
@@ -343,7 +344,8 @@ module _ (run : SharedRun) (words after : Words) (views : List View) (id : ℕ) 
         (λ other e far. subst (λ h. words (PointOf (suc h.mark)) ≡ point_word h.point) (same_Some next other e)
         (world.hands.written id view at hand held (ap has_point stage)))
         (holds_at-stays has_point view.hand hand next held refl (sym (ap has_point stage))))
-        (Pairs-hand run words after views id view then at world.numbers world.links world.pairs grows hand held next refl refl (λ n off. firsts n) trees recorded
+        (Pairs-hand run words after views id view then at world.numbers world.links world.pairs grows hand held next refl refl
+        (λ n off. firsts n) trees recorded
         (λ far. IsFirstOf-stage run after hand Treed (IsFirstOf-grows run words after hand grows (firsts node)
         (world.pairs.first id view at hand held (ap has_first stage))))
         (λ far not_yet. writes.here) (λ not_yet. cc) (λ not_yet. cc))
@@ -430,7 +432,8 @@ module _ (run : SharedRun) (words after : Words) (views : List View) (id : ℕ) 
           let none : words (ChildOf n (goes_right leads.depth leads.at hand.point)) ≡ 0 = ap (λ s. words (ChildOf n s)) leads.side_is ∙ empty in
           let puts : WritesWord (ChildOf n (goes_right leads.depth leads.at hand.point)) node words after =
           subst (λ s. WritesWord (ChildOf n s) node words after) (sym leads.side_is) writes in
-          let links = Links-linked run words after views id view then at world.numbers world.links hand held next refl refl hand.point leads.at n leads.depth ends low
+          let links = Links-linked run words after views id view then at world.numbers world.links hand held next refl refl hand.point leads.at n
+          leads.depth ends low
           written none (ap has_link stage) refl (sym (ap has_count stage)) puts in
           let recorded = is_recorded-kept words after keeps.records in
           let grows = grows_kept run words after views id view then world at own keeps go links in

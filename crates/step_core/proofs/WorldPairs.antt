@@ -67,7 +67,8 @@ IsFirstOf-grows run before after hand grows same first =
     }
 
 -- It does not ask how far the hand has come.
-pub IsFirstOf-stage : (run : SharedRun) (words : Words) (hand : Hand) (stage : Stage) → IsFirstOf run words hand → IsFirstOf run words (record hand { stage = stage })
+pub IsFirstOf-stage : (run : SharedRun) (words : Words) (hand : Hand) (stage : Stage) → IsFirstOf run words hand
+    → IsFirstOf run words (record hand { stage = stage })
 IsFirstOf-stage run words hand stage first = record {
   word = first.word;
   fits = first.fits;
@@ -160,7 +161,8 @@ module _ (run : SharedRun) (before after : Words) (views : List View) (id : ℕ)
     -- of the hand it is asked that it has come no further
     pub Pairs-step :
         ((k : ℕ) → is_recorded after k ≡ is_recorded before k) → HasFirst run after then → HasTree after then
-        → ((k : ℕ) → holds_at has_first k then.hand ≡ holds_at has_first k view.hand) → ((k : ℕ) → holds_at has_tree k then.hand ≡ holds_at has_tree k view.hand)
+        → ((k : ℕ) → holds_at has_first k then.hand ≡ holds_at has_first k view.hand)
+        → ((k : ℕ) → holds_at has_tree k then.hand ≡ holds_at has_tree k view.hand)
         → Pairs run after (set views id then)
     Pairs-step recorded first tree same_first same_tree = record {
       first = each-set views id then (HasFirst run after) (λ i u apart. first_kept i u) first;
@@ -257,7 +259,8 @@ module _ (run : SharedRun) (before after : Words) (views : List View) (id : ℕ)
     Pairs-hand next now same_mark firsts trees recorded first tree none_first none_tree = record {
       first = each-set views id then (HasFirst run after)
           (λ i u apart e own has far.
-          IsFirstOf-grows run before after own grows (firsts (suc own.mark) (λ same. alone i u own apart e has (omega (arith, same)))) (pairs.first i u e own has far))
+          IsFirstOf-grows run before after own grows (firsts (suc own.mark) (λ same. alone i u own apart e has (omega (arith, same))))
+          (pairs.first i u e own has far))
           (λ own has far. by_own (λ h. has_first h.stage ≡ true → IsFirstOf run after h) first own has far);
       tree = each-set views id then (HasTree after)
           (λ i u apart e own has far not_yet.

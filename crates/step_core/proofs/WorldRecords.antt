@@ -1,5 +1,6 @@
 -- The part of the law of worlds on records, after each kind of step.
-use Rattle.std.proofs.Common.{◌≡◌, ◌≢◌, ℕ, zero, suc, ◌<◌, ◌≤◌, Bool, true, false, List, length, Option, Some, None, refl, sym, ap, ◌∙◌, subst, inl, inr, arith, le_refl}
+use Rattle.std.proofs.Common.{◌≡◌, ◌≢◌, ℕ, zero, suc, ◌<◌, ◌≤◌, Bool, true, false, List, length, Option}
+use Rattle.std.proofs.Common.{Some, None, refl, sym, ap, ◌∙◌, subst, inl, inr, arith, le_refl}
 use Rattle.std.specs.Prelude.{◌⊎◌, ◌==◌, ◌&&◌, is_some, nat_lt}
 use Rattle.std.proofs.lemmas.Bool.{cases_eq}
 use Rattle.plan_model.specs.ClosedLaw.{mark_at}
@@ -39,7 +40,8 @@ none_there : (o : Option Record) → is_some o ≡ false → o ≡ None
 none_there None e = refl
 none_there (Some entry) e = cc
 
-module _ (run : SharedRun) (words : Words) (views : List View) (numbers : Numbers run words views) (links : Links run words views) (trees : Trees run words) where
+module _ (run : SharedRun) (words : Words) (views : List View) (numbers : Numbers run words views) (links : Links run words views)
+    (trees : Trees run words) where
   -- the nodes that a worker had placed earlier are present
   pub earlier-linked : (entry : Record) (n : ℕ) → IsEarlier (state_in run words) entry n → IsPresent (state_in run words).points n
   earlier-linked entry zero h = present-linked run words views links trees 0 refl

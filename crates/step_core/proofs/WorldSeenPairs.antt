@@ -62,7 +62,8 @@ module _ (run : SharedRun) (words : Words) (trees : Trees run words) where
       (λ n pair e.
       elim (fair n) [
         | inl was ↦ inl (says n ∙ ap tree_of_word (sym was) ∙ e)
-        | inr is ↦ inr (whole_pair n (present n (tree.rooted.pairs n (ap is_some e))) ∙ sym (pair_of_word (words (TreeOf n)) pair (ap tree_of_word (sym is) ∙ e))
+        | inr is ↦ inr (whole_pair n (present n (tree.rooted.pairs n (ap is_some e)))
+            ∙ sym (pair_of_word (words (TreeOf n)) pair (ap tree_of_word (sym is) ∙ e))
             ∙ ap tree_of_word (sym is) ∙ e)
       ])
       lawful whole
@@ -89,7 +90,8 @@ AreSeenLawfully-same setup one other state same lawful =
 -- of all views, where one view is another now
 pub SeenPairs-set :
     (run : SharedRun) (before after : Words) (views : List View) (id : ℕ) (then : View) → GrowsInto (state_in run before) (state_in run after)
-    → SeenPairs run before views → (then.run ≡ run → AreSeenLawfully (setup_in run) (tree_seen then) (state_in run after)) → SeenPairs run after (set views id then)
+    → SeenPairs run before views → (then.run ≡ run → AreSeenLawfully (setup_in run) (tree_seen then) (state_in run after))
+    → SeenPairs run after (set views id then)
 SeenPairs-set run before after views id then grows seen own =
     each-set views id then (λ u. u.run ≡ run → AreSeenLawfully (setup_in run) (tree_seen u) (state_in run after))
     (λ i u apart e of. AreSeenLawfully-grows (setup_in run) (tree_seen u) (state_in run before) (state_in run after) grows (seen i u e of)) own

@@ -25,7 +25,8 @@ use Rattle.step_core.proofs.LinkedStates.{GrowsInto-behind, first_cost-linked, l
 use Rattle.step_core.proofs.Looks.{same_name}
 use Rattle.step_core.proofs.LoweredWords.{IsTreeWord-packed}
 use Rattle.step_core.proofs.PackedWords.{IsPointWord-packed, cost_in-tree_word, parent_in-tree_word}
-use Rattle.step_core.proofs.WorldLinks.{KeepsLinks, absent-new, is_linked-kept, is_linked-new, is_linked-others, linked_points-kept, point_at-others, stands-new}
+use Rattle.step_core.proofs.WorldLinks.{KeepsLinks, absent-new, is_linked-kept, is_linked-new, is_linked-others}
+use Rattle.step_core.proofs.WorldLinks.{linked_points-kept, point_at-others, stands-new}
 
 -- All children stay, and the words of linked nodes.
 pub record KeepsNodes (sizes : Sizes) (before after : Words) : Type 0 where

@@ -29,10 +29,10 @@ pub record IsLater (before after : View) : Type 0 where
 
 -- What the law says of one view alone. Its greatest limit, its workers and its mark in hand are within their limits, and so are the numbers
 -- that it has seen, and a worker's next turn while a mark is in hand. Its share is at most that of all workers. Without a share nothing is in
--- hand. Its workers' turns are the numbers of their records seen. It has seen at least what the pass had that it last took over. It sees its tree from node 0 on: each node is
--- where its way leads, no two are at one point, no number is past the last mark's, and none is that of the node in hand before it is linked.
--- The parents and the costs that it has seen are those of a tree within the limits, and those in hand fit a word. With the share of all
--- workers, the tree in the words that it sees keeps the order law.
+-- hand. Its workers' turns are the numbers of their records seen. It has seen at least what the pass had that it last took over. It sees its
+-- tree from node 0 on: each node is where its way leads, no two are at one point, no number is past the last mark's, and none is that of the
+-- node in hand before it is linked. The parents and the costs that it has seen are those of a tree within the limits, and those in hand fit a
+-- word. With the share of all workers, the tree in the words that it sees keeps the order law.
 pub record IsLawfulView (view : View) : Type 0 where
   pub run : IsSharedRun view.run
   pub of_run : IsViewOf view.run view

@@ -65,7 +65,8 @@ module _ (view : View) (tree : Nodes) (n i : ℕ) (from to : Point) (mirrors : M
 -- ---- the node is lowered
 
 -- Node i is lowered below node n, through which it is cheaper.
-module _ (before mid : View) (tree : Nodes) (n i : ℕ) (from to : Point) (lawful : IsLawfulView before) (whole : HasWholeShare before) (mirrors : Mirrors before tree)
+module _ (before mid : View) (tree : Nodes) (n i : ℕ) (from to : Point) (lawful : IsLawfulView before) (whole : HasWholeShare before)
+    (mirrors : Mirrors before tree)
     (parent_stands : SeesPoint before n from) (stands : SeesPoint before i to) (less : cost_seen before n + cost_of from to < cost_seen before i)
     (later : IsLater before mid) (writes : WritesWord (TreeOf i) (tree_word n (cost_seen before n + cost_of from to)) (sees before) (sees mid)) where
   abbrev cost : ℕ

@@ -244,5 +244,6 @@ HasSpread-ends node before now after was goes_on all h c child pair source =
     ] in
     elim (h.loose c child pair earlier) [
       | inl within ↦ IsWithinParent-later now.view after.view c goes_on same level within
-      | inr on ↦ all.settled c on (source_seen node before after.view (parent_seen after.view c) (GoesOn-trans before now.view after.view was goes_on) h.given source)
+      | inr on ↦ all.settled c on (source_seen node before after.view (parent_seen after.view c)
+          (GoesOn-trans before now.view after.view was goes_on) h.given source)
     ]

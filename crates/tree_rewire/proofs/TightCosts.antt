@@ -46,7 +46,8 @@ module _ (view : View) (lawful : IsLawfulView view) where
 
 -- ---- after a spread
 
-module _ (node : ℕ) (before after : View) (lawful : IsLawfulView after) (order : KeepsOrder (setup_in after.run) (state_of_links (run_sizes after.run) (sees after)))
+module _ (node : ℕ) (before after : View) (lawful : IsLawfulView after)
+    (order : KeepsOrder (setup_in after.run) (state_of_links (run_sizes after.run) (sees after)))
     (later : IsLater before after) (kept : KeepsParents before after) (spread : HasSpread node before after) (tight : AllTightBut node before) where
   point_same : (n : ℕ) → point_at (tree_seen after).points n ≡ point_at (tree_seen before).points n
   point_same n = point_at-kept before after n later (kept.others (PointOf n) (λ no. no))

@@ -6,7 +6,8 @@ use Rattle.step_core.specs.ViewTrees.{sight_in}
 use Rattle.step_core.specs.WordNames.Word.{PointOf}
 use Rattle.kd_shared.specs.Spots.{Notes, QueuesWithin}
 use Rattle.kd_shared.proofs.Looking.{LoadsPoint-point}
-use Rattle.kd_shared.proofs.NearPasses.{IsGatheringPass-all_visited, IsGatheringPass-begins, IsGatheringPass-none, IsGatheringPass-visits, HasGathered, half_room, half_seen}
+use Rattle.kd_shared.proofs.NearPasses.{IsGatheringPass-all_visited, IsGatheringPass-begins, IsGatheringPass-none}
+use Rattle.kd_shared.proofs.NearPasses.{IsGatheringPass-visits, HasGathered, half_room, half_seen}
 use Rattle.kd_shared.proofs.NearPasses.{near_room, noted_room, noted_seen, sorted_around, sorted_belongs, sorted_looks, sorted_near, spot_bounded}
 use Rattle.kd_shared.proofs.PassLooks.{PassLooks-load}
 use Rattle.kd_shared.proofs.near_search.near.Goals as goal

@@ -78,14 +78,16 @@ stack_child-requires-clause-belongs c =
     let popped = popped_belongs c.args.shared.now c.args.pass.now c.visits.pass c.args.p c.visits.best.distance c.visits.best.node c.visits._visit
     c.visits.invariant.seeks c.pop_spot.new.self c.pop_spot.ensures.others in
     (PassLooks-load c.args.shared.now c.pop_spot.new.self c.point-here-then-square-best.new.pass (PointOf c.in-Some.spot.node) _ _ popped tt
-    c.point-here-then-square-best.ensures.view c.point-here-then-square-best.ensures.goes_on c.point-here-then-square-best.ensures.seen c.point-here-then-square-best.ensures.whole).belongs
+    c.point-here-then-square-best.ensures.view c.point-here-then-square-best.ensures.goes_on c.point-here-then-square-best.ensures.seen
+    c.point-here-then-square-best.ensures.whole).belongs
 
 pub stack_child-requires-clause-room : goal.stack_child-requires-clause-room
 stack_child-requires-clause-room c =
     let popped = popped_belongs c.args.shared.now c.args.pass.now c.visits.pass c.args.p c.visits.best.distance c.visits.best.node c.visits._visit
     c.visits.invariant.seeks c.pop_spot.new.self c.pop_spot.ensures.others in
     let load = PassLooks-load c.args.shared.now c.pop_spot.new.self c.point-here-then-square-best.new.pass (PointOf c.in-Some.spot.node) _ _ popped tt
-    c.point-here-then-square-best.ensures.view c.point-here-then-square-best.ensures.goes_on c.point-here-then-square-best.ensures.seen c.point-here-then-square-best.ensures.whole in
+    c.point-here-then-square-best.ensures.view c.point-here-then-square-best.ensures.goes_on c.point-here-then-square-best.ensures.seen
+    c.point-here-then-square-best.ensures.whole in
     let point = LoadsPoint-point c.pop_spot.new.self.view c.point-here-then-square-best.new.pass.view c.in-Some.spot.node
     c.point-here-then-square-best.ensures.goes_on c.point-here-then-square-best.result c.point-here-then-square-best.ensures.found
     c.point-here-then-square-best.ensures.seen.others in
@@ -108,7 +110,8 @@ stack_child-requires-then-square-best-clause-room c =
     let popped = popped_belongs c.args.shared.now c.args.pass.now c.visits.pass c.args.p c.visits.best.distance c.visits.best.node c.visits._visit
     c.visits.invariant.seeks c.pop_spot.new.self c.pop_spot.ensures.others in
     let load = PassLooks-load c.args.shared.now c.pop_spot.new.self c.point-here-then-square-best.new.pass (PointOf c.in-Some.spot.node) _ _ popped tt
-    c.point-here-then-square-best.ensures.view c.point-here-then-square-best.ensures.goes_on c.point-here-then-square-best.ensures.seen c.point-here-then-square-best.ensures.whole in
+    c.point-here-then-square-best.ensures.view c.point-here-then-square-best.ensures.goes_on c.point-here-then-square-best.ensures.seen
+    c.point-here-then-square-best.ensures.whole in
     let point = LoadsPoint-point c.pop_spot.new.self.view c.point-here-then-square-best.new.pass.view c.in-Some.spot.node
     c.point-here-then-square-best.ensures.goes_on c.point-here-then-square-best.result c.point-here-then-square-best.ensures.found
     c.point-here-then-square-best.ensures.seen.others in

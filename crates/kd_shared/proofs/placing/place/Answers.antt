@@ -7,7 +7,8 @@ use Rattle.step_core.specs.declared.views.Stage.TheVariants.{Treed}
 use Rattle.kd_shared.proofs.Finding.{IsFinding-begins, IsFinding-comes, IsFinding-depth, IsFinding-goes_on, IsFinding-leads}
 use Rattle.kd_shared.proofs.PassLooks.{PassLooks-load, PassLooks-met, PassLooks-trans}
 use Rattle.kd_shared.proofs.LinkedSights.{IfSome-all, IfSome-free, IfSome-sees_linked}
-use Rattle.kd_shared.proofs.PlacedNodes.{GoesOnPlacing-looks, IfSome-kept, IfSome-leads, IfSome-placed, IfSome-same, PassPlaces, PassPlaces-links, PassPlaces-looks}
+use Rattle.kd_shared.proofs.PlacedNodes.{GoesOnPlacing-looks, IfSome-kept, IfSome-leads, IfSome-placed}
+use Rattle.kd_shared.proofs.PlacedNodes.{IfSome-same, PassPlaces, PassPlaces-links, PassPlaces-looks}
 use Rattle.kd_shared.proofs.placing.place.Goals as goal
 
 pub depths-init : goal.depths-init
@@ -126,7 +127,8 @@ depths-preserved c =
     c.depths.invariant.passes.belongs c.depths.invariant.walks.walk.seen c.in-Err.ensures.view_found c.link.ensures.goes_on
     c.in-Err.ensures.others_found c.in-Err.ensures.whole_found in
     let look = PassLooks-load c.args.shared.now c.link.new.pass c.point-here-in-depths.new.pass (PointOf c.in-Err.child) _ _
-    fails.belongs tt c.point-here-in-depths.ensures.view c.point-here-in-depths.ensures.goes_on c.point-here-in-depths.ensures.seen c.point-here-in-depths.ensures.whole in
+    fails.belongs tt c.point-here-in-depths.ensures.view c.point-here-in-depths.ensures.goes_on c.point-here-in-depths.ensures.seen
+    c.point-here-in-depths.ensures.whole in
     record {
       passes = PassLooks-trans c.args.shared.now c.args.pass.now c.depths.pass c.point-here-in-depths.new.pass c.depths.invariant.passes
           (PassLooks-trans c.args.shared.now c.depths.pass c.link.new.pass c.point-here-in-depths.new.pass fails look);

@@ -83,7 +83,8 @@ depths-preserved c =
     let load = PassLooks-load c.args.shared.now c.depths.pass c.child.new.pass (ChildOf c.depths.node c.goes_right.result) _ _
     c.depths.invariant.passes.belongs tt c.child.ensures.view c.child.ensures.goes_on c.child.ensures.seen c.child.ensures.whole in
     let look = PassLooks-load c.args.shared.now c.child.new.pass c.point-here-in-depths.new.pass (PointOf c.in-Some.child) _ _
-    load.belongs tt c.point-here-in-depths.ensures.view c.point-here-in-depths.ensures.goes_on c.point-here-in-depths.ensures.seen c.point-here-in-depths.ensures.whole in
+    load.belongs tt c.point-here-in-depths.ensures.view c.point-here-in-depths.ensures.goes_on c.point-here-in-depths.ensures.seen
+    c.point-here-in-depths.ensures.whole in
     record {
       passes = PassLooks-trans c.args.shared.now c.args.pass.now c.depths.pass c.point-here-in-depths.new.pass c.depths.invariant.passes
           (PassLooks-trans c.args.shared.now c.depths.pass c.child.new.pass c.point-here-in-depths.new.pass load look);

@@ -56,10 +56,12 @@ loop-next-preserved g c =
           let missed : ¬ Crosses (get_or c.args.zones.now c.in-Zone.zone []) c.args.a c.args.b = λ x.
           (let yes = w.crosses.ensures.crosses.1 (rw (← is) at x) in let no = w.if-crosses.false in cc) in
           rw (w.steps-is, w.crosses.ensures.step)
-          (HasSearched-tested c.args.nodes.now c.args.zones.now c.args.a c.args.b c.args.steps.now c.loop-next.steps n c.in-Zone.zone _ h (omega arith) c.in-Zone.is
+          (HasSearched-tested c.args.nodes.now c.args.zones.now c.args.a c.args.b c.args.steps.now c.loop-next.steps n c.in-Zone.zone _ h
+          (omega arith) c.in-Zone.is
           (rw c.segment_box-segment.ensures at (sym w.if-is_near-2.ensures)) missed))
       | else-is_near-2-via-else-is_near-2 w ↦
           rw w.steps-is
-          (HasSearched-past c.args.nodes.now c.args.zones.now c.args.a c.args.b c.args.steps.now c.loop-next.steps n c.in-Zone.zone _ h (omega arith) c.in-Zone.is
+          (HasSearched-past c.args.nodes.now c.args.zones.now c.args.a c.args.b c.args.steps.now c.loop-next.steps n c.in-Zone.zone _ h
+          (omega arith) c.in-Zone.is
           c.requires.leaves (rw c.segment_box-segment.ensures at (sym w.if-is_near-2.ensures)))
     ]

@@ -8,5 +8,6 @@ finish-requires-clause-may g c =
     let steps = c.number-nodes.ensures in
     let same = ap (λ p. p.view.hand) steps.view in
     let hung = HangsFromStart-kept c.args.pass.now.view view steps.goes_on.later c.args.cost c.requires.hangs same in
-    may_finish view c.requires.holds.hand _ c.args.cost steps.goes_on.lawful hung (same ∙ c.requires.holds.held) refl refl c.requires.holds.from_start refl refl refl
+    may_finish view c.requires.holds.hand _ c.args.cost steps.goes_on.lawful hung
+    (same ∙ c.requires.holds.held) refl refl c.requires.holds.from_start refl refl refl
     refl (omega (arith, steps.seen.here, c.if-nodes-eq0.false))

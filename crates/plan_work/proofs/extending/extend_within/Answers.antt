@@ -217,7 +217,8 @@ whole_steered g c alone =
     let emptied = c.clear_near.new.self.view in
     let looked = steered g c in
     let view : emptied ≡ before = ap (λ (x : PassState). x.view) c.clear_near.ensures.near in
-    let claimed = HasCounted-claimed before looked.hand looked.was_held (of_held before (λ hand. hand.stage ≡ Claimed) looked.hand looked.was_held c.requires.claimed) in
+    let claimed = HasCounted-claimed before looked.hand looked.was_held
+    (of_held before (λ hand. hand.stage ≡ Claimed) looked.hand looked.was_held c.requires.claimed) in
     let got = c.steer_near-class.ensures.whole (subst HasWholeShare (sym view) alone.whole)
     (HasCounted-kept before emptied (ap (λ (v : View). v.hand) view) claimed) in
     (SeesButCount-trans before emptied c.steer_near-class.new.pass.view (SeesButCount-all before emptied (λ name. ap (λ v. sees v name) view)) got.0, got.1)

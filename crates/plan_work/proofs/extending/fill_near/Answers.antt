@@ -43,7 +43,8 @@ returns-clause-filled c =
     let count = c.near.ensures.looks.looks.others Count (λ no. no) ∙ c.number.ensures.seen.here in
     let run = c.near.ensures.looks.looks.goes_on.later.run ∙ c.number.ensures.goes_on.later.run ∙ c.requires.belongs.run in
     let radius =
-    c.at.ensures ∙ ap (λ n. radius_of_class n c.args.radii.now.gamma (class_of c.from-nodes.result)) (c.requires.radii.step ∙ ap (λ (r : SharedRun). r.step) (sym run))
+    c.at.ensures ∙ ap (λ n. radius_of_class n c.args.radii.now.gamma (class_of c.from-nodes.result))
+    (c.requires.radii.step ∙ ap (λ (r : SharedRun). r.step) (sym run))
     ∙ ap (λ n. radius_of_class after.run.step n (class_of c.from-nodes.result)) (c.requires.radii.gamma ∙ ap (λ (r : SharedRun). r.gamma) (sym run))
     ∙ ap (radius_of_class after.run.step after.run.gamma) (sym c.class.ensures.value) in
     HasFilledNear-found before mid after c.number.ensures.goes_on c.near.ensures.looks.looks.goes_on c.args.p nodes c.class.result c.near.new.pass.near
@@ -66,7 +67,8 @@ returns-clause-whole c = λ whole counted.
     let nodes = c.from-nodes.ensures ∙ c.number.ensures.whole whole counted ∙ ap node_count (sym points) in
     let own = run ∙ c.requires.belongs.run in
     let radius =
-    c.at.ensures ∙ ap (λ n. radius_of_class n c.args.radii.now.gamma (class_of c.from-nodes.result)) (c.requires.radii.step ∙ ap (λ (r : SharedRun). r.step) (sym own))
+    c.at.ensures ∙ ap (λ n. radius_of_class n c.args.radii.now.gamma (class_of c.from-nodes.result))
+    (c.requires.radii.step ∙ ap (λ (r : SharedRun). r.step) (sym own))
     ∙ ap (λ n. radius_of_class after.view.run.step n (class_of c.from-nodes.result)) (c.requires.radii.gamma ∙ ap (λ (r : SharedRun). r.gamma) (sym own)) in (
       same,
       IsFilledWhole-found after.view c.args.p c.from-nodes.result c.class.result after.near c.class.ensures.value nodes

@@ -164,7 +164,8 @@ returns-in-Same-clause-textbook g c = λ steers filled alone book.
     let tried = of_held before.view (λ hand. IsTried before after hand c.hang_and_place-placing.result.0 hanging) may.hand may.held
     c.hang_and_place-placing.ensures.tried in
     let same = subst (λ placing. IsTried before after may.hand placing hanging) c.in-Same.is tried in
-    let whole = subst (λ placing. IsTriedWhole (space_of shared.task.scene) before.view after.view c.args.k c.args.steering.point c.args.steering.nearest before.near placing hanging)
+    let whole = subst (λ placing. IsTriedWhole
+    (space_of shared.task.scene) before.view after.view c.args.k c.args.steering.point c.args.steering.nearest before.near placing hanging)
     c.in-Same.is (c.hang_and_place-placing.ensures.whole alone.whole) in
     AloneNext-same shared before after c.record_unplaced.new.pass c.args.k c.args.steering.nearest c.in-Same.node c.args.steering.point hanging
     c.record_unplaced.result may c.hang_and_place-placing.ensures.keeps same whole c.record_unplaced.ensures.recorded c.record_unplaced.ensures.entry steers

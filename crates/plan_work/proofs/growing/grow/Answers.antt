@@ -22,7 +22,8 @@ take_over_all-pass-requires-clause-may_claim g c =
     let count : length after ≡ length before = c.work_all.ensures.count ∙ ap (λ l. length l) c.as_mut_slice.ensures.value in
     let done = subst (λ l. (k : ℕ) (d : PassState) → k < length l → HasDone shared c.args.limit (slice_index_or l k d) (slice_index_or after k d))
     c.as_mut_slice.ensures.value c.work_all.ensures.each in
-    subst (All (MayClaim shared)) (sym same) (all_may_claim shared c.args.grown before after c.args.limit c.in_ok-shared.ensures.passes count done c.requires.low)
+    subst (All (MayClaim shared)) (sym same)
+    (all_may_claim shared c.args.grown before after c.args.limit c.in_ok-shared.ensures.passes count done c.requires.low)
 
 pub end-requires-clause-whole : goal.end-requires-clause-whole
 end-requires-clause-whole g c =

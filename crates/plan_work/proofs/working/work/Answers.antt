@@ -29,7 +29,8 @@ marks-preserved g c = record {
       let whole = so_far.2.alone.whole in (
         suc c.in-Some.k,
         omega (arith, c.in-Some.ensures.some.low),
-        HasHandled-mark c.args.shared.now c.marks.pass c.claim.new.pass c.extend_within.new.pass c.args.limit c.in-Some.k so_far.0 c.extend_within.result so_far.2
+        HasHandled-mark c.args.shared.now c.marks.pass c.claim.new.pass c.extend_within.new.pass c.args.limit c.in-Some.k so_far.0
+            c.extend_within.result so_far.2
             c.claim.ensures.goes_on c.claim.ensures.others c.in-Some.ensures.some (c.in-Some.ensures.whole_some whole) (c.in-Some.ensures.least whole one)
             c.extend_within.ensures.handled c.extend_within.ensures.textbook,
       );

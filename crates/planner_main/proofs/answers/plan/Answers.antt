@@ -9,7 +9,8 @@ pub returns-in_err-hall : goal.returns-in_err-hall
 returns-in_err-hall g c =
     Answers-refusal (commands.Plan c.args.workers c.args.full) _ _ refl c.in_ok-scene.ensures.within c.from_residual-in_err-hall.result _
     c.from_residual-in_err-hall.ensures.1
-    (hall-caused (commands.Plan c.args.workers c.args.full) _ _ c.in_ok-scene.scene c.in_err-hall.field-0.0 refl c.in_ok-scene.ensures.scene c.in_err-hall.ensures.refusal)
+    (hall-caused (commands.Plan c.args.workers c.args.full) _ _ c.in_ok-scene.scene c.in_err-hall.field-0.0 refl c.in_ok-scene.ensures.scene
+    c.in_err-hall.ensures.refusal)
 
 pub returns-in_err-grown : goal.returns-in_err-grown
 returns-in_err-grown g c =
@@ -18,7 +19,8 @@ returns-in_err-grown g c =
 
 pub returns-in_err-report_of : goal.returns-in_err-report_of
 returns-in_err-report_of g c =
-    Answers-no_memory (commands.Plan c.args.workers c.args.full) _ _ refl c.in_ok-scene.ensures.within c.from_residual-in_err-report_of.result c.in_ok-scene.scene
+    Answers-no_memory (commands.Plan c.args.workers c.args.full) _ _ refl c.in_ok-scene.ensures.within c.from_residual-in_err-report_of.result
+    c.in_ok-scene.scene
     c.in_ok-scene.ensures.scene c.from_residual-in_err-report_of.ensures.1
 
 pub returns : goal.returns

@@ -68,8 +68,10 @@ returns-clause-below g c =
     c.least-best.ensures.steps.sees_anew.goes_on in
     let among = c.args.nearest ∷ c.args.pass.now.near in
     IsCostBelow-best c.args.shared.now c.args.pass.now.view c.least-best.new.pass.view c.args.p among c.least-best.result.node c.least-best.result.cost
-    c.least-best.ensures.steps.belongs.run goes_on (All-cons (IsInReach c.args.pass.now.view c.args.p) c.args.nearest c.args.pass.now.near c.requires.nearest c.requires.near)
-    (λ k d below. SeesPair-later c.load_costs.new.pass.view c.least-best.new.pass.view c.least-best.ensures.steps.sees_anew.goes_on _ (c.load_costs.ensures.pairs k d below))
+    c.least-best.ensures.steps.belongs.run goes_on
+    (All-cons (IsInReach c.args.pass.now.view c.args.p) c.args.nearest c.args.pass.now.near c.requires.nearest c.requires.near)
+    (λ k d below. SeesPair-later c.load_costs.new.pass.view c.least-best.new.pass.view c.least-best.ensures.steps.sees_anew.goes_on _
+    (c.load_costs.ensures.pairs k d below))
     (returns-clause-least g c).member (returns-clause-cost g c)
 
 pub returns-clause-whole : goal.returns-clause-whole

@@ -42,7 +42,8 @@ better-best-requires-clause-pair g c κs within =
     let steps = c.choices.invariant.steps in
     SeesPair-later c.args.pass.now.view c.choices.pass.view steps.sees_anew.goes_on c.near_node-node.result
     (near_read (SeesPair c.args.pass.now.view) c.args.pass.now.near c.choices.pass.near c.choices.index c.near_node-node.result
-    (ap (λ p. p.near) steps.view_alone) c.near_node-node.ensures (All-tail (SeesPair c.args.pass.now.view) c.args.nearest c.args.pass.now.near c.requires.pairs))
+    (ap (λ p. p.near) steps.view_alone) c.near_node-node.ensures
+    (All-tail (SeesPair c.args.pass.now.view) c.args.nearest c.args.pass.now.near c.requires.pairs))
 
 pub better-best-requires-clause-best : goal.better-best-requires-clause-best
 better-best-requires-clause-best g c κs within =

@@ -16,7 +16,8 @@ invariant-lowers l = record {
   others : OnlyAt l.node l.fn.pass.view l.pass.view;
   pair : SeesPair l.pass.view l.node;
   whole : HasWholeShare l.fn.pass.view → SeesAsBefore l.fn.pass.view l.pass.view
-      ⊎ WritesWord (TreeOf l.node) (tree_word l.parent (cost_seen l.fn.pass.view l.parent + cost_of l.fn.from l.fn.to)) (sees l.fn.pass.view) (sees l.pass.view);
+      ⊎ WritesWord (TreeOf l.node) (tree_word l.parent (cost_seen l.fn.pass.view l.parent + cost_of l.fn.from l.fn.to)) (sees l.fn.pass.view)
+      (sees l.pass.view);
 }
 
 -- what the node is seen to cost

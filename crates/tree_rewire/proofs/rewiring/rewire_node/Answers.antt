@@ -23,7 +23,8 @@ use Rattle.tree_rewire.proofs.WholeShares.{HasWholeShare-later, SeesAsBefore-non
 use Rattle.tree_rewire.proofs.rewiring.rewire_node.Given.{Over}
 use Rattle.tree_rewire.proofs.rewiring.rewire_node.Goals as goal
 use Rattle.tree_rewire.proofs.rewiring.rewire_node.Goals.{After-seen_cost}
-use Rattle.tree_rewire.proofs.rewiring.rewire_node.Goals.{else-costs_less_through-via-then-costs_less_through+else-clear, else-costs_less_through-via-else-costs_less_through}
+use Rattle.tree_rewire.proofs.rewiring.rewire_node.Goals.{else-costs_less_through-via-then-costs_less_through+else-clear}
+use Rattle.tree_rewire.proofs.rewiring.rewire_node.Goals.{else-costs_less_through-via-else-costs_less_through}
 
 -- the point of the node is loaded again
 loads_point : (g : Over) (c : After-seen_cost g) → PassSees IsNoWord c.args.shared.now c.known_cost-kept_cost.new.pass c.point-to.new.pass

@@ -80,7 +80,8 @@ write_tree-requires-clause-may c =
     ∙ point_of-stands (tree_seen mid.view).points c.args.nearest c.point-from.result c.point-from.ensures.found in
     if_hand (λ hand. MayHang now.view hand c.choose-parent.result.0 c.choose-parent.result.1) now.view.hand holds.hand held
     (MayHang-chosen now.view space holds.hand c.hand_point-p.result c.args.nearest mid.near c.choose-parent.result.0 c.choose-parent.result.1
-    (p_is c.requires.holds c.hand_point-p.ensures) (sym holds.nearest_is) (IsInReach-later mid.view now.view c.hand_point-p.result c.args.nearest choice.seen.goes_on near_reach).present
+    (p_is c.requires.holds c.hand_point-p.ensures) (sym holds.nearest_is)
+    (IsInReach-later mid.view now.view c.hand_point-p.result c.args.nearest choice.seen.goes_on near_reach).present
     (All-head (SeesPair now.view) c.args.nearest mid.near choice.pairs) (subst (λ q. Clear space q c.hand_point-p.result) (sym from_is) free) choice.least
     choice.cost choice.below)
 

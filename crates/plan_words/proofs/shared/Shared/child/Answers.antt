@@ -30,7 +30,8 @@ pub child_in-requires : goal.child_in-requires
 child_in-requires c =
     let own = same_run _ _ _ _ c.pass.view_is c.self.view_is c.requires.belongs in
     let seen = subst (λ p. SeesNode p.view c.args.node) (sym c.pass.view_is) c.requires.seen_node in
-    let place = place_here c.self.inside.places _ c.pass.inside.seat.me.0 (ChildOf c.args.node c.args.right) _ c.self.invariant.places_are own c.child-place.ensures in
+    let place = place_here c.self.inside.places _ c.pass.inside.seat.me.0
+    (ChildOf c.args.node c.args.right) _ c.self.invariant.places_are own c.child-place.ensures in
     child_fits _ _ c.args.node c.args.right _ _ c.pass.invariant.1.lawful seen place refl c.load.ensures.2.told.goes_on.lawful
 
 pub returns-clause-seen : goal.returns-clause-seen
@@ -38,7 +39,8 @@ returns-clause-seen c =
     let own = same_run _ _ _ _ c.pass.view_is c.self.view_is c.requires.belongs in
     let seen = subst (λ p. SeesNode p.view c.args.node) (sym c.pass.view_is) c.requires.seen_node in
     let lawful = c.pass.invariant.1.lawful in
-    let place = place_here c.self.inside.places _ c.pass.inside.seat.me.0 (ChildOf c.args.node c.args.right) _ c.self.invariant.places_are own c.child-place.ensures in
+    let place = place_here c.self.inside.places _ c.pass.inside.seat.me.0
+    (ChildOf c.args.node c.args.right) _ c.self.invariant.places_are own c.child-place.ensures in
     let word = ap (λ o. unwrap_or o 0) c.child_in.ensures ∙ unwrap_or-child c.load.result in
     subst (λ w. WritesWord (ChildOf c.args.node c.args.right) w (sees c.args.pass.now.view) (sees c.load.new.seat.me.0)) (sym word)
     (sees_told _ _ _ (ChildOf c.args.node c.args.right) _ _ (ap (λ p. p.view) c.pass.view_is) lawful (lawful.within c.args.node seen) place
@@ -48,7 +50,8 @@ pub returns-clause-found : goal.returns-clause-found
 returns-clause-found c =
     let own = same_run _ _ _ _ c.pass.view_is c.self.view_is c.requires.belongs in
     let seen = subst (λ p. SeesNode p.view c.args.node) (sym c.pass.view_is) c.requires.seen_node in
-    let place = place_here c.self.inside.places _ c.pass.inside.seat.me.0 (ChildOf c.args.node c.args.right) _ c.self.invariant.places_are own c.child-place.ensures in
+    let place = place_here c.self.inside.places _ c.pass.inside.seat.me.0
+    (ChildOf c.args.node c.args.right) _ c.self.invariant.places_are own c.child-place.ensures in
     let then = c.load.new.seat.me.0 in
     subst
     (λ o. MatchOption o (c.args.pass.now.view.steps < last_zero then (ChildOf c.args.node c.args.right))
@@ -64,7 +67,8 @@ pub invariant_of-pass : goal.invariant_of-pass
 invariant_of-pass c =
     let own = same_run _ _ _ _ c.pass.view_is c.self.view_is c.requires.belongs in
     let seen = subst (λ p. SeesNode p.view c.args.node) (sym c.pass.view_is) c.requires.seen_node in
-    let place = place_here c.self.inside.places _ c.pass.inside.seat.me.0 (ChildOf c.args.node c.args.right) _ c.self.invariant.places_are own c.child-place.ensures in
+    let place = place_here c.self.inside.places _ c.pass.inside.seat.me.0
+    (ChildOf c.args.node c.args.right) _ c.self.invariant.places_are own c.child-place.ensures in
     keeps_saw c.pass.inside.seat.me c.load.new.seat.me _ _ _ _ _ c.pass.inside.pairs (ChildOf c.args.node c.args.right) _ _ _ c.load.ensures.2.told
     c.pass.invariant (c.pass.invariant.1.lawful.within c.args.node seen) place (λ n e. cc)
 

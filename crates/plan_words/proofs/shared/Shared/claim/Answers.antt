@@ -85,7 +85,8 @@ tries-preserved c =
       goes_on = inr (GoesOn-trans _ _ _ (GoesOn-more _ _ _ c.tries.invariant.goes_on c.first_open.ensures.goes_on) c.exchange.ensures.goes_on);
       others = counters_changed _ _ _ _ _ (counters_twice _ _ _ c.tries.invariant.others c.first_open.ensures.others) c.exchange.ensures.seen;
       whole = λ all.
-          let share = HasWholeShare-kept c.args.pass.now.view c.first_open.new.pass.view (KeepsHand-trans _ _ _ c.tries.invariant.kept c.first_open.ensures.kept)
+          let share = HasWholeShare-kept c.args.pass.now.view c.first_open.new.pass.view
+          (KeepsHand-trans _ _ _ c.tries.invariant.kept c.first_open.ensures.kept)
           (c.first_open.ensures.goes_on.later.run ∙ c.tries.invariant.later.run) all in
           absurd (other (c.exchange.ensures.whole share ∙ sym c.in_ok-next.ensures.first.round));
     }

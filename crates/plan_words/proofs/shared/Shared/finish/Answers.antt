@@ -36,7 +36,8 @@ store-requires c =
     let fits = entry_fits _ c.in-Some.hand _ tied.lawful held by at may in
     let place = c.record-place.ensures ∙ ap (λ sizes. place_of sizes (RecordOf c.in-Some.hand.mark)) c.self.invariant.places_are in
     let low = subst (λ r. c.in-Some.hand.mark < length r.marks) own (tied.lawful.mark c.in-Some.hand held) in
-    let stage = subst (λ o. IfSome o (λ hand. MayBeRecorded hand.stage c.args.entry.outcome)) (ap (λ p. p.view.hand) (sym c.pass.view_is) ∙ held) c.requires.stage in
+    let stage = subst (λ o. IfSome o (λ hand. MayBeRecorded hand.stage c.args.entry.outcome))
+    (ap (λ p. p.view.hand) (sym c.pass.view_is) ∙ held) c.requires.stage in
     may_finish_here _ _ _ _ c.self.invariant _ _ _ _ _ c.in-Some.hand has.member has.crew c.args.entry same own place low held has.crew_is fits
     (by ∙ ap worker_of has.crew_is) (at ∙ ap turn_of has.crew_is) stage may c.pack_mark.ensures
 

@@ -20,7 +20,8 @@ returns-then-child-ne0-clause-found c =
     let leads = at_hand (λ h. LeadsTo pass.view h.point c.args.node c.args.right) _ of.0 of.1 c.requires.leads in
     let lawful = c.put-child.ensures.goes_on.was_lawful in
     let made = at_hand
-    (λ h. c.put-child.new.pass ≡ with_view pass (cond (found == 0) (linked pass.view h c.args.node c.args.right) (loaded pass.view (ChildOf c.args.node c.args.right) found)))
+    (λ h. c.put-child.new.pass ≡ with_view pass
+    (cond (found == 0) (linked pass.view h c.args.node c.args.right) (loaded pass.view (ChildOf c.args.node c.args.right) found)))
     _ of.0 of.1 c.put-child.ensures.view in
     child_met pass.view _ c.args.node c.args.right found lawful (leads_seen pass.view of.0 c.args.node c.args.right lawful leads) c.if-child-ne0.true
     (met_view pass c.put-child.new.pass of.0 c.args.node c.args.right found c.if-child-ne0.true made)
@@ -33,7 +34,8 @@ returns-then-child-ne0-clause-deeper c =
     let leads = at_hand (λ h. LeadsTo pass.view h.point c.args.node c.args.right) _ of.0 of.1 c.requires.leads in
     let lawful = c.put-child.ensures.goes_on.was_lawful in
     let made = at_hand
-    (λ h. c.put-child.new.pass ≡ with_view pass (cond (found == 0) (linked pass.view h c.args.node c.args.right) (loaded pass.view (ChildOf c.args.node c.args.right) found)))
+    (λ h. c.put-child.new.pass ≡ with_view pass
+    (cond (found == 0) (linked pass.view h c.args.node c.args.right) (loaded pass.view (ChildOf c.args.node c.args.right) found)))
     _ of.0 of.1 c.put-child.ensures.view in
     let met = child_met pass.view _ c.args.node c.args.right found lawful (leads_seen pass.view of.0 c.args.node c.args.right lawful leads) c.if-child-ne0.true
     (met_view pass c.put-child.new.pass of.0 c.args.node c.args.right found c.if-child-ne0.true made) in
@@ -48,7 +50,8 @@ returns-then-child-ne0-clause-others c =
     let leads = at_hand (λ h. LeadsTo pass.view h.point c.args.node c.args.right) _ of.0 of.1 c.requires.leads in
     let lawful = c.put-child.ensures.goes_on.was_lawful in
     let made = at_hand
-    (λ h. c.put-child.new.pass ≡ with_view pass (cond (found == 0) (linked pass.view h c.args.node c.args.right) (loaded pass.view (ChildOf c.args.node c.args.right) found)))
+    (λ h. c.put-child.new.pass ≡ with_view pass
+    (cond (found == 0) (linked pass.view h c.args.node c.args.right) (loaded pass.view (ChildOf c.args.node c.args.right) found)))
     _ of.0 of.1 c.put-child.ensures.view in
     ChangesOnly-met_node pass.view _ c.args.node c.args.right found lawful (leads_seen pass.view of.0 c.args.node c.args.right lawful leads) c.if-child-ne0.true
     (met_view pass c.put-child.new.pass of.0 c.args.node c.args.right found c.if-child-ne0.true made)
@@ -61,7 +64,8 @@ returns-then-child-ne0-clause-others_found c =
     let leads = at_hand (λ h. LeadsTo pass.view h.point c.args.node c.args.right) _ of.0 of.1 c.requires.leads in
     let lawful = c.put-child.ensures.goes_on.was_lawful in
     let made = at_hand
-    (λ h. c.put-child.new.pass ≡ with_view pass (cond (found == 0) (linked pass.view h c.args.node c.args.right) (loaded pass.view (ChildOf c.args.node c.args.right) found)))
+    (λ h. c.put-child.new.pass ≡ with_view pass
+    (cond (found == 0) (linked pass.view h c.args.node c.args.right) (loaded pass.view (ChildOf c.args.node c.args.right) found)))
     _ of.0 of.1 c.put-child.ensures.view in
     ChangesOnly-met pass.view _ c.args.node c.args.right found lawful (leads_seen pass.view of.0 c.args.node c.args.right lawful leads) c.if-child-ne0.true
     (met_view pass c.put-child.new.pass of.0 c.args.node c.args.right found c.if-child-ne0.true made)

@@ -53,7 +53,8 @@ returns-clause-view_found c =
     ∙ c.pass.invariant.3.seen c.args.node within ∙ ap (λ p. sees p.view (TreeOf c.args.node)) c.pass.view_is in
     let was = subst (λ p. IsLawfulView p.view) c.pass.view_is lawful in
     let other : c.exchange_tree-found.result ≢ sees c.args.pass.now.view (TreeOf c.args.node) = λ same. c.if-found-seen.false (same ∙ sym seen) in
-    found_pass _ _ c.args.node c.args.parent c.args.cost _ was c.requires.may c.exchange_tree-found.ensures.view other (c.exchange_tree-found.ensures.found other)
+    found_pass _ _ c.args.node c.args.parent c.args.cost _ was c.requires.may c.exchange_tree-found.ensures.view other
+    (c.exchange_tree-found.ensures.found other)
 
 pub returns-clause-found : goal.returns-clause-found
 returns-clause-found c =
@@ -64,7 +65,8 @@ returns-clause-found c =
     ∙ c.pass.invariant.3.seen c.args.node within ∙ ap (λ p. sees p.view (TreeOf c.args.node)) c.pass.view_is in
     let was = subst (λ p. IsLawfulView p.view) c.pass.view_is lawful in
     let other : c.exchange_tree-found.result ≢ sees c.args.pass.now.view (TreeOf c.args.node) = λ same. c.if-found-seen.false (same ∙ sym seen) in
-    found_pair _ _ c.args.node c.args.parent c.args.cost _ was c.requires.may c.exchange_tree-found.ensures.view other (c.exchange_tree-found.ensures.found other) c.pair_in.result
+    found_pair _ _ c.args.node c.args.parent c.args.cost _ was c.requires.may c.exchange_tree-found.ensures.view other
+    (c.exchange_tree-found.ensures.found other) c.pair_in.result
     c.pair_in.ensures.parent c.pair_in.ensures.cost
 
 pub returns-clause-seen : goal.returns-clause-seen
@@ -76,7 +78,8 @@ returns-clause-seen c =
     ∙ c.pass.invariant.3.seen c.args.node within ∙ ap (λ p. sees p.view (TreeOf c.args.node)) c.pass.view_is in
     let was = subst (λ p. IsLawfulView p.view) c.pass.view_is lawful in
     let other : c.exchange_tree-found.result ≢ sees c.args.pass.now.view (TreeOf c.args.node) = λ same. c.if-found-seen.false (same ∙ sym seen) in
-    found_writes _ _ c.args.node c.args.parent c.args.cost _ was c.requires.may c.exchange_tree-found.ensures.view other (c.exchange_tree-found.ensures.found other)
+    found_writes _ _ c.args.node c.args.parent c.args.cost _ was c.requires.may c.exchange_tree-found.ensures.view other
+    (c.exchange_tree-found.ensures.found other)
 
 pub returns-clause-falls : goal.returns-clause-falls
 returns-clause-falls c =
@@ -87,7 +90,8 @@ returns-clause-falls c =
     ∙ c.pass.invariant.3.seen c.args.node within ∙ ap (λ p. sees p.view (TreeOf c.args.node)) c.pass.view_is in
     let was = subst (λ p. IsLawfulView p.view) c.pass.view_is lawful in
     let other : c.exchange_tree-found.result ≢ sees c.args.pass.now.view (TreeOf c.args.node) = λ same. c.if-found-seen.false (same ∙ sym seen) in
-    found_less _ _ c.args.node c.args.parent c.args.cost _ was c.requires.may c.exchange_tree-found.ensures.view other (c.exchange_tree-found.ensures.found other)
+    found_less _ _ c.args.node c.args.parent c.args.cost _ was c.requires.may c.exchange_tree-found.ensures.view other
+    (c.exchange_tree-found.ensures.found other)
 
 pub returns-clause-whole : goal.returns-clause-whole
 returns-clause-whole c all =

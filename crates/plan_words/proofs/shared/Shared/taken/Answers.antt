@@ -25,7 +25,8 @@ returns-clause-seen c =
     let own = same_run _ _ _ _ c.pass.view_is c.self.view_is c.requires.belongs in
     let strip = subst (λ s. c.args.strip < s.task.scene.strips) (sym c.self.view_is) c.requires.strip in
     let here = subst (λ r. c.args.strip < r.strips) (sym own) strip in
-    sees_told _ _ _ (Counter c.args.strip) _ _ (ap (λ p. p.view) c.pass.view_is) c.pass.invariant.1.lawful here c.counter-place.ensures c.load.ensures.2.told.view_is
+    sees_told _ _ _ (Counter c.args.strip) _ _
+    (ap (λ p. p.view) c.pass.view_is) c.pass.invariant.1.lawful here c.counter-place.ensures c.load.ensures.2.told.view_is
 
 pub returns-clause-looked : goal.returns-clause-looked
 returns-clause-looked c =
