@@ -17,7 +17,7 @@ impl BoundingBox {
     ghost use Rattle.std.specs.Prelude.{◌<◌, length};
     ghost use Rattle.convex_sets.specs.Boxes.{IsBoundingBox, IsInBox};
 
-    /// The least box round some corners. O(n); no memory.
+    /// The least box round one or more corners; round one it is that point. O(n); no memory.
     pub fn of(corners: &[Vertex]) -> BoundingBox
         requires { 0 < length corners.now }
         ensures { IsBoundingBox corners.now result }

@@ -11,7 +11,7 @@ use plan_model::{LEAST_CORNERS, Vertex};
 
 /// Whether the corners are those of a strictly convex polygon, counterclockwise: three corners at least, and every other corner
 /// strictly to the left of the edge from each corner to the next. So no three corners stand in a line, no corner stands twice,
-/// and the polygon goes round once.
+/// and the polygon goes round once. Coordinates are `LEAST_CORNER_COORDINATE` to `MOST_CORNER_COORDINATE`.
 ///
 /// It stops at the first corner that fails. O(n²) at most; no memory.
 pub fn is_convex(v: &[Vertex]) -> bool

@@ -30,7 +30,7 @@ pub(crate) fn cross(u: Vertex, v: Vertex) -> i64
 }
 
 /// Twice the signed area of the triangle `a b c`: positive if `c` lies strictly to the left of the line from `a` to `b`,
-/// 0 if it lies on it. O(1).
+/// 0 if it lies on it. Coordinates are `LEAST_CORNER_COORDINATE` to `MOST_CORNER_COORDINATE`. O(1).
 pub fn orientation(a: Vertex, b: Vertex, c: Vertex) -> i64
     requires first { IsBoundedCorner a }
     requires second { IsBoundedCorner b }

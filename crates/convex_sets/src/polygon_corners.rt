@@ -7,7 +7,7 @@ ghost use Rattle.plan_model.specs.Convexity.{next_corner};
 
 use plan_model::{Point, Vertex};
 
-/// The number of the corner after corner `i` of `n`: the first comes after the last. O(1).
+/// The number of the corner after corner `i` of `n`, which is below `n`: the first comes after the last. O(1).
 pub fn next_corner(n: usize, i: usize) -> usize
     requires { i < n }
     ensures value { result ≡ next_corner n i }
@@ -16,7 +16,7 @@ pub fn next_corner(n: usize, i: usize) -> usize
     if i + 1 == n { 0 } else { i + 1 }
 }
 
-/// The corner that stands at a point of the lattice. O(1).
+/// The corner that stands at a point of the lattice, of which no coordinate is above `MOST_CORNER_COORDINATE`. O(1).
 pub fn corner_of(p: Point) -> Vertex
     requires { IsBoundedCorner (corner_of p) }
     ensures { result ≡ corner_of p }

@@ -61,6 +61,10 @@ impl Zone {
     /// The zone of a body and an obstacle: the Minkowski sum of the obstacle and the reflected body, by merging their edges
     /// in order of angle. Parallel edges become one, so no corner stands between two others. O(n + m).
     ///
+    /// The body is strictly convex, or has one corner; then the zone is the obstacle, moved by minus that corner. Its
+    /// coordinates are those that a body may have. The obstacle is strictly convex, with coordinates from
+    /// `LEAST_SUMMAND_COORDINATE` to `MOST_SUMMAND_COORDINATE`.
+    ///
     /// # Errors
     ///
     /// `Memory` if out of memory for the corners.
@@ -104,8 +108,8 @@ impl Zone {
         self.bounds
     }
 
-    /// Whether the body at a configuration meets the obstacle. O(1) outside the bounding box, otherwise one orientation of
-    /// 64 bits for each edge; no memory.
+    /// Whether the body at a configuration, which may be any point, meets the obstacle. O(1) outside the bounding box,
+    /// otherwise one orientation of 64 bits for each edge; no memory.
     pub fn has(&self, p: Point) -> bool
         ensures { IsTrue result ↔ IsInside self.now (at_lattice p) }
     {

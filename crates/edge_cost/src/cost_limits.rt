@@ -13,7 +13,8 @@ const COST_BOUND: u64 = 536_870_912;
 /// The question of rewiring: whether a node at `to` that is kept at `kept_cost` costs strictly less through a node at
 /// `from` that costs `cost_to_come`. The same as `cost_to_come + cost(from, to) < kept_cost`, without a root.
 ///
-/// Costs are in 256ths of a lattice step, and any numbers. O(1).
+/// Costs are in 256ths of a lattice step, and any numbers; below a kept cost of 0 there is none. No coordinate is above
+/// `MOST_COORDINATE`. O(1).
 pub fn costs_less_through(cost_to_come: u64, from: Point, to: Point, kept_cost: u64) -> bool
     requires from { IsBounded from }
     requires to { IsBounded to }

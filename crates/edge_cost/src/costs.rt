@@ -14,7 +14,8 @@ pub(crate) const SQUARED_UNITS: u64 = 65_536;
 ///
 /// An edge one lattice step along an axis costs 256, and one along a diagonal of the lattice 363, since 256 times
 /// the root of 2 is 362.04. So no edge costs less than its length, and the costs along a path overestimate
-/// its length by less than a 256th of a lattice step an edge. O(1).
+/// its length by less than a 256th of a lattice step an edge. From a point to itself it is 0. No coordinate is above
+/// `MOST_COORDINATE`, so every cost is below 2^29. O(1).
 pub fn cost(a: Point, b: Point) -> u64
     requires from { IsBounded a }
     requires to { IsBounded b }

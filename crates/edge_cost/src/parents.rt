@@ -23,7 +23,8 @@ pub struct Parent {
 }
 
 impl Parent {
-    /// A node at `from` that costs `cost_to_come`, as the parent of a new one at `to`. O(1), with a root.
+    /// A node at `from` that costs `cost_to_come`, which is below 2^63, as the parent of a new one at `to`. No coordinate is
+    /// above `MOST_COORDINATE`. O(1), with a root.
     pub fn through(node: u32, cost_to_come: u64, from: Point, to: Point) -> Parent
         requires low { cost_to_come < 2 ^ 63 }
         requires from { IsBounded from }
@@ -38,7 +39,8 @@ impl Parent {
     }
 
     /// Whether a node at `from` that costs `cost_to_come` is a better parent of a new one at `to`: the new one costs less
-    /// through it, or as much, and its number is less. Without a root; whether its edge is clear is not looked at. O(1).
+    /// through it, or as much, and its number is less. No coordinate is above `MOST_COORDINATE`. Without a root; whether its
+    /// edge is clear is not looked at. O(1).
     pub fn is_beaten_by(self, node: u32, cost_to_come: u64, from: Point, to: Point) -> bool
         requires from { IsBounded from }
         requires to { IsBounded to }

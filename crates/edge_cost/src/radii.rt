@@ -27,7 +27,8 @@ pub struct Radii {
 }
 
 impl Radii {
-    /// The radii for a step, in lattice steps, and a gamma. With a gamma of 0 all are 0. O(1), a root for each class.
+    /// The radii for any step, in lattice steps, and a gamma up to `MOST_GAMMA`. With a gamma or a step of 0 all are 0. O(1),
+    /// a root for each class.
     pub fn new(step: u32, gamma: u32) -> Radii
         requires { gamma ≤ MOST_GAMMA }
         ensures step { result.step ≡ step }
@@ -44,7 +45,7 @@ impl Radii {
         }
     }
 
-    /// The radius at `n` nodes: from the table, without a root. O(1).
+    /// The radius at `n` nodes, 1 to `MOST_NODES`, in lattice steps: from the table, without a root. O(1); no memory.
     pub fn at(&self, n: u64) -> u32
         requires some { 1 ≤ n }
         requires most { n ≤ MOST_NODES }

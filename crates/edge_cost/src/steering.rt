@@ -17,7 +17,8 @@ use plan_model::{LEAST_STEP, MOST_COORDINATE, MOST_STEERING_STEP, Point};
 /// ```
 ///
 /// With a step of 50, (0, 0) steers towards (60, 80) to (30, 40), and towards (70, 70) to (35, 35).
-/// The length is rounded up and each coordinate towards `a`, so no edge is longer than the step. O(1).
+/// The length is rounded up and each coordinate towards `a`, so no edge is longer than the step. The step is `LEAST_STEP` to
+/// `MOST_STEERING_STEP`, and no coordinate is above `MOST_COORDINATE`. From a point towards itself it stays there. O(1).
 #[tactic(auto, using(plan_model::proofs::SteeringLaws::step_below_root))]
 pub fn steer(a: Point, b: Point, step: u32) -> Point
     requires from { IsBounded a }

@@ -21,9 +21,10 @@ pub enum Placing {
     Same(u32),
 }
 
-/// Links the node of the mark in hand, whose words are written, as a child in the kd-tree. It walks the way of the point from node
-/// 0, and tries an exchange at each node: if another's child is there it goes on to that, also if it came a moment ago. So a try
-/// that fails leads one node deeper, and no way is longer than the marks: O(d) for a tree of depth d.
+/// Links the node of the mark in hand, whose words are written, as a child in the kd-tree, and counts it; or tells the node
+/// that has its point already, and then the hand is as before. It walks the way of the point from node 0, and tries an
+/// exchange at each node: if another's child is there it goes on to that, also if it came a moment ago. So a try that fails
+/// leads one node deeper, and no way is longer than the marks: O(d) for a tree of depth d.
 pub fn place(shared: &Shared, pass: &mut Pass, _mark: u32) -> Placing
     requires belongs { BelongsTo pass.old shared.now }
     requires hand { IsSome pass.old.view.hand }

@@ -12,8 +12,9 @@ use crate::sides::goes_right;
 use plan_model::{MOST_NODES, Point};
 use plan_words::{Pass, Shared};
 
-/// The node at a point, or `None` if none was seen there before the call. It walks the way of the point from node 0, by one load of
-/// a point and one of a child for each node: O(d) for a tree of depth d.
+/// The node at a point, which may be any, and which is seen there then. `None` only if none was seen there before the call,
+/// and its way ended at a place that this call found empty. It walks that way from node 0, by one load of a point and one of a
+/// child for each node: O(d) for a tree of depth d.
 pub fn find(shared: &Shared, pass: &mut Pass, p: Point) -> Option<u32>
     requires belongs { BelongsTo pass.old shared.now }
     ensures belongs { BelongsTo pass.new shared.now }

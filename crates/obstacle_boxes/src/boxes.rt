@@ -41,11 +41,11 @@ impl Boxes {
     ghost use Rattle.obstacle_boxes.specs.NearZones.{AreZoneBoxes, near_count};
     ghost use Rattle.swept_check.specs.Halls.{AreZonesOf};
 
-    /// The collision checker that returns what a hall returns. O(n log² n) for n obstacles.
+    /// The collision checker that returns what a hall returns, also without an obstacle. O(n log² n) for n obstacles.
     ///
     /// # Errors
     ///
-    /// `Memory` if out of memory for the boxes.
+    /// `Memory` if out of memory for the boxes. The hall is gone then.
     pub fn new(alloc: Global, hall: Hall) -> Result<Boxes, Memory>
         ensures { IfOk result (λ boxes. boxes ≡ hall) }
     {
@@ -60,7 +60,8 @@ impl Boxes {
     ///
     /// A zone is tested if its box meets that of the segment from `a` to `b`, and the search ends at the first one that is
     /// crossed. So if the body is clear along the segment, there are as many steps as such zones, and never more. If an end is
-    /// outside of the room of configurations, nothing is tested. O(n) for n nodes and corners at most; no memory.
+    /// outside of the room of configurations, nothing is tested and the answer is false. O(n) for n nodes and corners at most;
+    /// no memory.
     pub fn tests<L: Ledger>(&self, a: Point, b: Point, steps: &mut Steps<L>) -> bool
         ensures clear { IsTrue result ↔ Clear self.now a b }
         ensures few { (boxes : List BoundingBox) → AreZoneBoxes self.now boxes → steps.new ≤ steps.old + near_count boxes a b }

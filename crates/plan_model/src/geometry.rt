@@ -18,7 +18,7 @@ impl Point {
     ghost use Rattle.plan_model.specs.Geometry.{squared_distance};
     ghost use Rattle.plan_model.specs.Bounds.{IsBounded};
 
-    /// The square of the distance to another point, in square lattice steps.
+    /// The square of the distance to another point, in square lattice steps. No coordinate is above `MOST_COORDINATE`. O(1).
     pub fn squared_distance(self, other: Point) -> u64
         requires from { IsBounded self }
         requires to { IsBounded other }
@@ -63,7 +63,7 @@ impl Goal {
     ghost use Rattle.std.specs.Prelude.{◌≡◌};
     ghost use Rattle.plan_model.specs.BestNode.{is_in_goal};
 
-    /// Whether the point lies in the box, on its edges or within them.
+    /// Whether the point lies in the box, on its edges or within them. A box may be a single point. O(1).
     pub fn contains(self, point: Point) -> bool
         ensures { result ≡ is_in_goal self point }
     {

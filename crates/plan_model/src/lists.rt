@@ -19,35 +19,35 @@ impl<T> Model for Sequence<T> {
 }
 
 impl<T> Sequence<T> {
-    /// The list of these values, in this order.
+    /// The list of these values, in this order. O(1).
     pub fn from_vec(items: Vec<T>) -> Self
         ensures { result ≡ items.items }
     {
         Sequence { items }
     }
 
-    /// The values, in order.
+    /// The values, in order. O(1).
     pub fn into_vec(self) -> Vec<T>
         ensures { result.items ≡ self }
     {
         self.items
     }
 
-    /// The values, in order.
+    /// The values, in order. O(1).
     pub fn as_slice(&self) -> &[T]
         ensures { result.now ≡ self.now }
     {
         self.items.as_slice()
     }
 
-    /// How many values there are.
+    /// How many values there are. O(1).
     pub fn len(&self) -> usize
         ensures { result ≡ length self.now }
     {
         self.items.len()
     }
 
-    /// Whether there is no value.
+    /// Whether there is no value. O(1).
     pub fn is_empty(&self) -> bool
         ensures { result ≡ (length self.now == 0) }
     {

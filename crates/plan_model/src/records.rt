@@ -42,7 +42,7 @@ impl Record {
     ghost use Rattle.std.specs.Prelude.{◌≡◌};
     ghost use Rattle.plan_model.specs.Textbook.{unplaced_record};
 
-    /// The record of a mark for which no node is placed.
+    /// The record of a mark for which no node is placed: first parent, first cost and class are 0. O(1).
     pub fn unplaced(worker: u32, turn: u32, nearest: u32, outcome: Outcome) -> Record
         ensures { result ≡ unplaced_record worker turn nearest outcome }
     {

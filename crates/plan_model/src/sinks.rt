@@ -11,7 +11,7 @@ pub trait Sink {
     /// What is known of it: the bytes taken so far, and its count of faults.
     ghost state: { Self → SinkState };
 
-    /// How many writes have failed.
+    /// How many writes have failed. The count never falls; at the greatest `u64` it stands still, and counts as risen.
     fn faults(&self) -> u64
         ensures { result ≡ (state self.now).fault_count };
 

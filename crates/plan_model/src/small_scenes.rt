@@ -58,7 +58,7 @@ pub struct SmallScene {
 }
 
 impl SmallScene {
-    /// The scene with this body, these obstacles and this plan of marks.
+    /// The scene with this body, these obstacles and this plan of marks, each within the limits of a [`Scene`]. O(1).
     pub fn scene(self, body: Poly, obstacles: Polys, plan: Marks) -> Scene
         requires body { IsTrue (is_body body) }
         requires obstacles { IsTrue (are_obstacles obstacles) }
@@ -89,11 +89,12 @@ impl SmallScene {
         }
     }
 
-    /// The task of these listed marks for a point body in the empty room.
+    /// The task of these listed marks for a point body in the empty room, in which the start is clear. There are 0 to
+    /// `MOST_MARKS` marks, with no coordinate above `MOST_SIDE`. O(n) for n marks.
     ///
     /// # Errors
     ///
-    /// `Memory` if out of memory.
+    /// `Memory` if out of memory for the body or the marks.
     pub fn task(self, alloc: Global, marks: &[Point]) -> Result<Task, Memory>
         requires { IsTrue (is_plan (Listed marks.now)) }
         ensures setup { IfOk result (λ task. setup_of task.scene ≡ record {

@@ -11,12 +11,12 @@ pub trait Source {
     /// What is known of it: the bytes that are left, whether it has given its end, and its count of faults.
     ghost state: { Self → SourceState };
 
-    /// How many reads have failed.
+    /// How many reads have failed. The count never falls; at the greatest `u64` it stands still, and counts as risen.
     fn faults(&self) -> u64
         ensures { result ≡ (state self.now).fault_count };
 
     /// Moves the next bytes into the first places of the slice, and returns how many: one at least, or 0 at the end of
-    /// the source. A read into an empty slice returns 0 and changes nothing.
+    /// the source, which is given by that and stays given. A read into an empty slice returns 0 and changes nothing.
     ///
     /// # Errors
     ///

@@ -28,7 +28,7 @@ impl Span {
         }
     }
 
-    /// Whether the span has the coordinate. O(1).
+    /// Whether the span has the coordinate; an empty one has none. O(1).
     pub fn contains(self, n: u32) -> bool
         ensures { IsTrue result ↔ IsInSpan self n }
     {
@@ -58,8 +58,8 @@ pub struct RoomSpans {
 }
 
 impl RoomSpans {
-    /// The columns and rows of a body in a room, by the room's upper right corner and the body's corners. O(n) for n corners;
-    /// no memory.
+    /// The columns and rows of a body in a room, by the room's upper right corner and the body's corners. No side of the room
+    /// is above `MOST_SIDE`. O(n) for n corners; no memory.
     pub fn new(room: Point, body: &[Vertex]) -> RoomSpans
         requires right { room.x ≤ MOST_SIDE }
         requires top { room.y ≤ MOST_SIDE }

@@ -3,7 +3,8 @@
 ghost use Rattle.std.specs.Prelude.{◌≡◌, ◌<◌};
 ghost use Rattle.plan_model.specs.MarkPoints.{strip_of_mark};
 
-/// The strip that mark `k` belongs to. The strips take turns: after the last one comes strip 0 again. O(1).
+/// The strip that mark `k` belongs to, of one strip or more. The strips take turns: after the last one comes strip 0 again.
+/// O(1).
 pub fn strip_of_mark(strips: u32, k: u32) -> u32
     requires { 0 < strips }
     ensures value { result ≡ strip_of_mark strips k }

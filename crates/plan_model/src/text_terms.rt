@@ -61,14 +61,14 @@ pub enum Kind {
 impl Kind {
     ghost use Rattle.plan_model.specs.KindNames.{number_of_kind, name_of_kind};
 
-    /// The number of the kind.
+    /// The number of the kind, 1 to 10.
     pub fn number(self) -> u32
         ensures { result ≡ number_of_kind self }
     {
         self as u32
     }
 
-    /// The name of the kind.
+    /// The name of the kind, ten letters at most.
     pub fn name(self) -> &'static str
         ensures name { result.now ≡ name_of_kind self }
         ensures short { length result.now ≤ 10 }

@@ -35,7 +35,11 @@ impl Shared {
     /// Claims a mark below the limit: it is in this pass's hand from now on. By the counters that this call loads, a
     /// worker's own strips go before the others, and among either the least number goes first. Worker w of W owns the
     /// strips whose number leaves w when divided by W. `None` only if this call has seen each strip's counter at or above
-    /// its quota below the limit. O(s) for s strips, and O(s) more for each claim of another pass that comes between.
+    /// its quota below the limit; the pass then has nothing in hand, as before. O(s) for s strips, and O(s) more for each
+    /// claim of another pass that comes between.
+    ///
+    /// The pass has a share and nothing in hand. The limit is at least that of the opening run, whose marks all have records,
+    /// and at most the number of marks.
     pub fn claim(&self, pass: &mut Pass, limit: u32) -> Option<u32>
         requires belongs { BelongsTo pass.old self.now }
         requires part { 0 < share pass.old.view }

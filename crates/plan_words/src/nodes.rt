@@ -22,7 +22,8 @@ use std::marker::Brand;
 use step_core::{Hand, Stage, pack_point, pack_tree, point_in};
 
 impl Shared {
-    /// The child of a node on its left or its right, or `None` if there was none at this step. The pass has then seen the child.
+    /// The child of a seen node on its left or its right, or `None` only if there was none at this step. The pass has then
+    /// seen the child.
     pub fn child(&self, pass: &mut Pass, node: u32, right: bool) -> Option<u32>
         requires belongs { BelongsTo pass.old self.now }
         requires seen_node { SeesNode pass.old.view node }
@@ -40,7 +41,7 @@ impl Shared {
         child_in(self.table.shared.load::<Load>(seat, place))
     }
 
-    /// The point of a node.
+    /// The point of a seen node, which is seen there then.
     pub fn point(&self, pass: &mut Pass, node: u32) -> Point
         requires belongs { BelongsTo pass.old self.now }
         requires seen_node { SeesNode pass.old.view node }
@@ -58,7 +59,8 @@ impl Shared {
         point_in(self.table.shared.load::<Load>(seat, place))
     }
 
-    /// Writes the point of the node in hand, which is a step from a node that the pass has seen towards the mark.
+    /// Writes the point of the node in hand, for which nothing is written yet. The point is a step towards the mark from a node
+    /// that the pass has seen with its point.
     pub fn write_point(&self, pass: &mut Pass, nearest: u32, p: Point)
         requires belongs { BelongsTo pass.old self.now }
         requires hand { IsSome pass.old.view.hand }
@@ -103,7 +105,7 @@ impl Shared {
     ///
     /// # Errors
     ///
-    /// The child that is there. The pass has then seen it.
+    /// The child that is there at this step. The pass has then seen it, and its hand is as before.
     pub fn link(&self, pass: &mut Pass, node: u32, right: bool) -> Result<(), u32>
         requires belongs { BelongsTo pass.old self.now }
         requires hand { IsSome pass.old.view.hand }

@@ -19,7 +19,8 @@ use crate::shared::Shared;
 use step_core::{Hand, Stage, pack_tree, pair_in};
 
 impl Shared {
-    /// The parent of a node, and its cost in 256ths of a lattice step. The cost is no more than the pass had seen of the node.
+    /// The parent of a seen node, and its cost in 256ths of a lattice step; the start is its own, at 0. The cost is no more
+    /// than the pass had seen of the node.
     pub fn tree(&self, pass: &mut Pass, node: u32) -> (u32, u64)
         requires belongs { BelongsTo pass.old self.now }
         requires seen_node { SeesNode pass.old.view node }
@@ -38,8 +39,9 @@ impl Shared {
         pair_in(word)
     }
 
-    /// Writes the parent and the cost of the node in hand, in its first word and then in its tree word. The parent is seen, with an
-    /// edge that is allowed. The cost is what the parent was seen to cost and the edge, and no more than below the nearest node.
+    /// Writes the parent and the cost of the node in hand, in its first word and then in its tree word: two steps. Its point is
+    /// written, and no more. The parent is seen, with an edge that is allowed. The cost, in 256ths of a lattice step, is what
+    /// the parent was seen to cost and the edge, and no more than below the nearest node.
     pub fn write_tree(&self, pass: &mut Pass, parent: u32, cost: u64)
         requires belongs { BelongsTo pass.old self.now }
         requires hand { IsSome pass.old.view.hand }
@@ -98,12 +100,12 @@ impl Shared {
     }
 
     /// Lowers the cost of a node, which gets another parent or keeps its own. The cost is less than the pass has seen of the node:
-    /// it is what the parent was seen to cost and the edge, which is allowed.
+    /// it is what the parent was seen to cost and the edge, which is allowed. The pass has a share.
     ///
     /// # Errors
     ///
-    /// The parent and the cost that the node has by now, if it has changed since the pass saw it last. They are seen then, and the
-    /// cost is less than was seen.
+    /// The parent and the cost that the node has at this step, only if it has changed since the pass saw it last. They are seen
+    /// then, and the cost is strictly less than was seen.
     pub fn lower(
         &self,
         pass: &mut Pass,

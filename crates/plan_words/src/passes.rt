@@ -52,7 +52,7 @@ impl Model for Pass {
 }
 
 impl Pass {
-    /// The number of its worker.
+    /// The number of its worker, if the pass has a share: below that of workers. O(1).
     pub fn worker(&self) -> u32
         requires { 0 < share self.now.view }
         ensures number { result ≡ worker_of self.now.view.crew }
@@ -65,7 +65,7 @@ impl Pass {
         }
     }
 
-    /// Its next turn, which is the number of its worker's records.
+    /// Its next turn, which is the number of its worker's records, if the pass has a share. O(1).
     pub fn turn(&self) -> u32
         requires { 0 < share self.now.view }
         ensures number { result ≡ turn_of self.now.view.crew }
@@ -78,7 +78,8 @@ impl Pass {
         }
     }
 
-    /// The parent and the cost that it saw last of a node, or `None` if it saw none. This is no step.
+    /// The parent and the cost, in 256ths of a lattice step, that it saw last of a node, or `None` exactly if it saw none. A
+    /// node's number is at most that of marks. This is no step. O(1).
     pub fn pair(&self, node: u32) -> Option<(u32, u64)>
         requires { node ≤ length self.now.view.run.marks }
         ensures word { result ≡ tree_of_word (sees self.now.view (TreeOf node)) }
@@ -88,7 +89,7 @@ impl Pass {
         read_tree(self.pairs.word(node))
     }
 
-    /// The point that it has written for the mark in hand.
+    /// The point for the mark in hand, which is written. O(1).
     pub fn hand_point(&self) -> Point
         requires hand { IsSome self.now.view.hand }
         requires written { IfSome self.now.view.hand (λ hand. IsTrue (has_point hand.stage)) }

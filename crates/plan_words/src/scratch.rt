@@ -64,7 +64,7 @@ impl Pass {
         empty_to_front(&mut self.scratch.spots);
     }
 
-    /// Puts a spot at the end of the list.
+    /// Puts a spot at the end of the list, which has no more than half as many as there are marks. O(1).
     pub fn push_spot(&mut self, spot: Spot)
         requires { 2 * length self.old.spots ≤ length self.old.view.run.marks }
         ensures { self.new ≡ record self.old { spots = self.old.spots ++ spot ∷ [] } }
@@ -72,7 +72,7 @@ impl Pass {
         self.scratch.spots.push_back_reserved(spot);
     }
 
-    /// Takes the last spot off the list.
+    /// Takes the last spot off the list; `None` exactly if it is empty. O(1).
     pub fn pop_spot(&mut self) -> Option<Spot>
         ensures others { self.new ≡ record self.old { spots = self.new.spots } }
         ensures popped { self.old.spots ≡ self.new.spots ++ option_to_list result }
@@ -81,7 +81,7 @@ impl Pass {
         self.scratch.spots.pop_back()
     }
 
-    /// Takes the first spot off the list.
+    /// Takes the first spot off the list; `None` exactly if it is empty. O(1).
     pub fn take_first_spot(&mut self) -> Option<Spot>
         ensures others { self.new ≡ record self.old { spots = self.new.spots } }
         ensures taken { self.old.spots ≡ option_to_list result ++ self.new.spots }
@@ -98,7 +98,7 @@ impl Pass {
         self.scratch.near.clear();
     }
 
-    /// Puts a node at the end of the near list.
+    /// Puts a node at the end of the near list, which has no more than there are marks. O(1).
     pub fn push_near(&mut self, node: u32)
         requires { length self.old.near < length self.old.view.run.marks + 1 }
         ensures { self.new ≡ record self.old { near = self.old.near ++ node ∷ [] } }
@@ -106,7 +106,7 @@ impl Pass {
         self.scratch.near.push_reserved(node);
     }
 
-    /// Sorts the near list in rising number.
+    /// Sorts the near list in rising number. O(n log n) for n nodes.
     pub fn sort_near(&mut self)
         ensures others { self.new ≡ record self.old { near = self.new.near } }
         ensures same { IsPermutation self.old.near self.new.near }
@@ -115,14 +115,15 @@ impl Pass {
         self.scratch.near.sort_unstable();
     }
 
-    /// The nodes that the last search for near nodes found, in rising number.
+    /// The near list: the nodes that the last search for near nodes found, in rising number. O(1).
     pub fn near_list(&self) -> &[u32]
         ensures { result.now ≡ self.now.near }
     {
         self.scratch.near.as_slice()
     }
 
-    /// The node at this index of the near list. Whoever steps with the pass while it walks the list reads it by index.
+    /// The node at this index of the near list, which is below their count. O(1). Whoever steps with the pass while it walks
+    /// the list reads it by index.
     pub fn near_node(&self, index: usize) -> u32
         requires { index < length self.now.near }
         ensures { slice_get self.now.near index ≡ Some result }
@@ -130,7 +131,7 @@ impl Pass {
         self.scratch.near[index]
     }
 
-    /// How many nodes are on the near list.
+    /// How many nodes are on the near list. O(1).
     pub fn near_count(&self) -> usize
         ensures count { result ≡ length self.now.near }
         // what the law says of a view holds of that of each pass
@@ -139,21 +140,21 @@ impl Pass {
         self.scratch.near.len()
     }
 
-    /// The nodes that the last search around a point found, in rising number. It leaves the near list as it is.
+    /// The second list: the nodes that the last search around a point found, in rising number, or those that wait. O(1).
     pub fn around_list(&self) -> &[u32]
         ensures { result.now ≡ self.now.around }
     {
         self.scratch.around.as_slice()
     }
 
-    /// The near list and the second list change places. No node waits then.
+    /// The near list and the second list change places. No node waits then. O(n) for n nodes that waited.
     pub fn swap_lists(&mut self)
         ensures { self.new ≡ record self.old { near = self.old.around; around = self.old.near; waits = false } }
     {
         self.scratch.around.swap(&mut self.scratch.near);
     }
 
-    /// Empties the second list. What comes on it from now on waits to be looked at.
+    /// Empties the second list. What comes on it from now on waits to be looked at. O(n) for n nodes that waited.
     pub fn begin_waiting(&mut self)
         ensures waits { self.new ≡ record self.old { around = []; waits = true } }
         ensures lawful { IsLawfulView self.new.view }
@@ -161,7 +162,8 @@ impl Pass {
         self.scratch.around.begin();
     }
 
-    /// Puts a node on the second list, if it is not there. O(1).
+    /// Puts a node on the second list, if it is not there: after [`begin_waiting`](Pass::begin_waiting), and with a number
+    /// that is at most that of marks. O(1).
     pub fn push_waiting(&mut self, node: u32)
         requires waits { self.old.waits ≡ true }
         requires low { node ≤ length self.old.view.run.marks }
@@ -174,7 +176,7 @@ impl Pass {
     }
 
     /// Puts all nodes on the second list that are not there and whose parent is this node, by their tree words as the pass saw them
-    /// last. O(k) for k children.
+    /// last: none, if it saw no child. After [`begin_waiting`](Pass::begin_waiting), as `push_waiting`. O(k) for k children.
     pub fn queue_children(&mut self, node: u32)
         requires waits { self.old.waits ≡ true }
         requires low { node ≤ length self.old.view.run.marks }
@@ -186,7 +188,7 @@ impl Pass {
         self.pairs.queue_children(node, &mut self.scratch.around);
     }
 
-    /// Takes the last node off the second list.
+    /// Takes the last node that waits off the second list; `None` exactly if none does. O(1).
     pub fn pop_waiting(&mut self) -> Option<u32>
         requires { self.old.waits ≡ true }
         ensures others { self.new ≡ record self.old { around = self.new.around } }

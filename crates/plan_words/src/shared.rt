@@ -31,7 +31,9 @@ use std::alloc::Global;
 use std::marker::Model;
 use step_core::{Member, View, WordPlaces, pack_mark, pair_in, read_tree};
 
-/// The tree that several workers grow, as words of one table.
+/// The tree that several workers grow, as words of one table. Each pass that a call takes was made or split from this very
+/// tree. A call that is one step is O(1); no call but [`Shared::start`] and [`Shared::split`] can be out of memory, and none
+/// waits.
 #[derive(Drop)]
 pub struct Shared {
     pub(crate) table: Table<Aim, View, Opening, WorldLaw, Global>,
@@ -57,14 +59,14 @@ impl Model for Shared {
 }
 
 impl Shared {
-    /// The task that is planned.
+    /// The task that is planned. O(1).
     pub fn task(&self) -> &Task
         ensures { result.now ≡ self.now.task }
     {
         &self.task
     }
 
-    /// Loads the count of nodes.
+    /// Loads the count of nodes, the start included.
     pub fn number(&self, pass: &mut Pass) -> u32
         requires { BelongsTo pass.old self.now }
         ensures view { pass.new ≡ with_view pass.old (loaded pass.old.view Count result) }
@@ -82,7 +84,7 @@ impl Shared {
             .load::<Load>(&mut pass.seat, self.places.count()) as u32
     }
 
-    /// Loads the counter of a strip: how many of its marks are claimed.
+    /// Loads the counter of a strip of the scene: how many of its marks are claimed.
     pub fn taken(&self, pass: &mut Pass, strip: u32) -> u32
         requires belongs { BelongsTo pass.old self.now }
         requires strip { strip < self.now.task.scene.strips }
@@ -98,8 +100,9 @@ impl Shared {
         self.table.shared.load::<Load>(&mut pass.seat, place) as u32
     }
 
-    /// Stores the record of the mark in hand, which leaves the hand. It says that the mark was placed if its node is counted,
-    /// and anything else only if its node is not linked; and what it says is borne out by what the pass has seen.
+    /// Stores the record of the mark in hand, which leaves the hand. It is by the worker of the pass, in its next turn. It says
+    /// that the mark was placed if its node is counted, and anything else only if its node is not linked; and what it says is
+    /// borne out by what the pass has seen.
     pub fn finish(&self, pass: &mut Pass, entry: Record)
         requires belongs { BelongsTo pass.old self.now }
         requires hand { IsSome pass.old.view.hand }
@@ -121,11 +124,12 @@ impl Shared {
         }
     }
 
-    /// A pass that only looks, and has seen all that this one has. It has no share, and so it can claim nothing.
+    /// A pass that only looks, and has seen all that this one has. It has no share, nothing in hand and empty scratch lists,
+    /// and so it can claim nothing. O(n) for n marks.
     ///
     /// # Errors
     ///
-    /// `Memory` if out of memory; nothing has changed then.
+    /// `Memory` if out of memory for what the new pass keeps; nothing has changed then.
     pub fn split(&self, pass: &mut Pass) -> Result<Pass, Memory>
         requires { BelongsTo pass.old self.now }
         ensures left { OnOk result (pass.new ≡ with_view pass.old (stepped pass.old.view)) }
@@ -145,8 +149,8 @@ impl Shared {
         })
     }
 
-    /// Takes over another pass: its share, and what it has seen. Neither has a mark in hand. The count of nodes is loaded
-    /// then, which tells that nothing is lost of what the other had seen.
+    /// Takes over another pass: its share, which may be none, and what it has seen. Neither has a mark in hand. The count of
+    /// nodes is loaded then, which tells that nothing is lost of what the other had seen. O(n) for n marks.
     pub fn join(&self, pass: &mut Pass, other: Pass)
         requires belongs { BelongsTo pass.old self.now }
         requires belongs_too { BelongsTo other self.now }

@@ -26,13 +26,13 @@ use std::alloc::{AllocError, Global};
 use step_core::{Grown, Member, WordPlaces, read_mark};
 
 impl Shared {
-    /// The words of a run in one table, and a pass for each worker, in the order of their numbers, each with a share of 1.
-    /// Each has seen the whole run, and its next turn is the number of its worker's records there. Takes all memory that
-    /// later calls but `split` need. O(n + w) for n words and w workers.
+    /// The words of a run in one table, and a pass for each of 1 to `MOST_WORKERS` workers, in the order of their numbers, each
+    /// with a share of 1; that of an only worker is the whole. Each has seen the whole run, and its next turn is the number of
+    /// its worker's records there. Takes all memory that later calls but `split` need. O(n * w) for n words and w workers.
     ///
     /// # Errors
     ///
-    /// `Memory` if out of memory.
+    /// `Memory` if out of memory, for the table and its seats too. The run is gone then.
     pub fn start(alloc: Global, grown: Grown, workers: u32) -> Result<(Shared, Vec<Pass>), Memory>
         requires some { 1 ≤ workers }
         requires few { workers ≤ MOST_WORKERS }

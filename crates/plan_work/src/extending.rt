@@ -413,7 +413,12 @@ pub(crate) fn extend_within<C: Clearing>(
 
 /// Handles mark k, which is in hand with nothing written of it, as RRT* does (Karaman and Frazzoli, IJRR 2011), in a tree that
 /// others grow: steers from the nearest node, tests the segment, takes the parent through which the new node costs the least,
-/// links it, rewires the nodes near it, and stores the record, which it returns. All of it by what the pass has seen.
+/// links it, rewires the nodes near it, and stores the record, which it returns. All of it by what the pass has seen. The hall
+/// stands for the scene.
+///
+/// The outcome is `Same` only with a node that is seen at the steered point, and `Blocked` exactly if none is seen there at
+/// return; then the segment is not clear. It takes at most five searches of the tree, with the walk to the node's place, tests
+/// at most 2 k + 1 segments for k near nodes, and spreads the costs that fell. No memory.
 pub fn extend<C: Clearing>(shared: &Shared, pass: &mut Pass, hall: &C, k: u32) -> Record
     requires belongs { BelongsTo pass.old shared.now }
     requires hand { IsSome pass.old.view.hand }

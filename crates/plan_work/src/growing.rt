@@ -20,12 +20,16 @@ use std::thread::Threads;
 use step_core::Grown;
 use swept_check::Clearing;
 
-/// RRT* by several workers over the marks (the samples) of a task below a limit, which go on from a run. Each mark below the
-/// limit then has one record.
+/// RRT* by 1 to `MOST_WORKERS` workers over the marks (the samples) of a task below a limit, which go on from a run. Each mark
+/// below the limit then has one record. Each worker has a thread of its own; if no thread can be made, they work one after
+/// another.
+///
+/// The limit is at least the run's own, with which no mark is handled, and at most the number of marks. The hall stands for the
+/// scene. O(n * w) for n words of the run and w workers, and what the marks take ([`extend`](crate::extend)).
 ///
 /// # Errors
 ///
-/// `Memory` if out of memory; all memory is taken before the first mark.
+/// `Memory` if out of memory; all memory is taken before the first mark. The run is gone then.
 pub fn grow<R: Threads + Sync, C: Clearing, G: Gate>(
     rt: &R,
     alloc: Global,

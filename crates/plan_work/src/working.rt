@@ -15,6 +15,9 @@ use swept_check::Clearing;
 
 /// Claims marks below the limit and handles each, until `claim` finds none left. The gate is told before each mark and after it;
 /// it may wait, and no other worker waits for it. It ends, since each mark is one turn more of the worker.
+///
+/// The pass has a share and nothing in hand, before and after. The limit is at least that of the opening run, with which no
+/// mark is left, and at most the number of marks. The hall stands for the scene. No memory.
 pub fn work<C: Clearing, G: Gate>(shared: &Shared, pass: &mut Pass, hall: &C, limit: u32, gate: &G)
     requires may_claim { MayClaim shared.now pass.old }
     requires hall { C.space hall.now ≡ space_of shared.now.task.scene }

@@ -43,13 +43,13 @@ pub struct Answer {
     pub text: Vec<u8>,
 }
 
-/// What is to be written for the words. What their command needs is read from the source. The gate is told of the turns of
-/// the workers, if workers are to plan.
+/// What is to be written for the words. What their command needs is read from the source, which has not given its end. The gate
+/// is told of the turns of the workers, if workers are to plan.
 ///
 /// # Errors
 ///
-/// The refusal with its cause: `Words` if the words ask for no command, and nothing is read then; otherwise that of the
-/// command.
+/// The refusal with its cause: `Words` exactly if the words ask for no command, and nothing is read then; otherwise that of
+/// the command, and the source may have been read.
 pub fn answer_to<R: Threads + Sync, S: Source, G: Gate>(
     rt: &R,
     alloc: Global,

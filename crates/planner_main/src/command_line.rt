@@ -21,7 +21,7 @@ use std::thread::Threads;
 /// Runs the program on the arguments that `env::args` gives, and returns the code that it ends with: the status of `run`.
 ///
 /// Arguments that are no text ask for no command. If the program is out of memory for the words, the code is
-/// `NO_MEMORY`, and nothing is read or written.
+/// `NO_MEMORY`, and nothing is read or written. The source has not given its end.
 pub fn exit_code<R: Threads + Sync, S: Source, K: Sink>(
     rt: &R,
     alloc: Global,

@@ -22,8 +22,8 @@ pub const MOST_GENERATED: u32 = 9_999;
 /// The cells of a generated scene, and its obstacles.
 const CELLS: u32 = 64;
 
-/// The generated scene of a number: a square room of 9,999, a square body of 20, 64 obstacles, and 2,000 to 20,000 drawn
-/// marks (samples) by the last digit of the number. Its start is clear.
+/// The generated scene of a number from 0 to `MOST_GENERATED`: a square room of 9,999, a square body of 20, 64 obstacles, and
+/// 2,000 to 20,000 drawn marks (samples) by the last digit of the number. Its start is clear. O(1).
 ///
 /// # Errors
 ///

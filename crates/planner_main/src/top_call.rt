@@ -37,6 +37,11 @@ pub struct Done {
 /// The text is made whole before anything is written. Each status but `WRITE_FAULT` has one text, which the sink takes
 /// whole; with `WRITE_FAULT` the sink failed, and took a proper prefix of the text. The run that was reported is handed out
 /// even so.
+///
+/// The words are those after the program's name, and the source has not given its end. Other words are refused with
+/// `WORDS_REFUSED`. Unless they ask for a command that reads a scene, nothing is read; else the source may have been read, in
+/// part or to its end, whatever the status. `docs/report-format.md`, "Statuses", has what each status means, and
+/// `docs/proved.md`, "Answers and their causes", when each comes.
 pub fn run<R: Threads + Sync, S: Source, K: Sink, G: Gate>(
     rt: &R,
     alloc: Global,

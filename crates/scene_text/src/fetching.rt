@@ -44,13 +44,14 @@ impl From<AllocError> for FetchFault {
     }
 }
 
-/// All bytes of a source that has not given its end. It is read until it gives the end, or until one byte more than
-/// `MOST_TEXT_BYTES` came.
+/// All bytes of a source that has not given its end, which may be none. It is read until it gives the end, or until one byte
+/// more than `MOST_TEXT_BYTES` came. O(n) for n bytes.
 ///
 /// # Errors
 ///
-/// `Read` if a read failed, `TooLong` exactly if more than `MOST_TEXT_BYTES` bytes came, and `Memory` if out of memory for
-/// the bytes. The source has then not given its end.
+/// `Read` if a read failed, so only if the source's count of faults rose, `TooLong` exactly if more than `MOST_TEXT_BYTES`
+/// bytes came, and `Memory` if out of memory for the bytes. The source has then not given its end, and what was read of it
+/// is gone.
 pub fn fetch<S: Source>(alloc: Global, source: &mut S) -> Result<Vec<u8>, FetchFault>
     requires { (S.state source.old).has_ended ≡ false }
     ensures end { OnOk result ((S.state source.new).has_ended ≡ true) }

@@ -4,7 +4,8 @@ ghost use Rattle.std.specs.Prelude.{◌≡◌, ◌≤◌, ◌+◌, ◌-◌, ◌*
 ghost use Rattle.std.specs.List.{list_all};
 ghost use Rattle.plan_model.specs.TextNumbers.{is_digit, is_positive, is_number as is_number_word, magnitude, value_of};
 
-/// Whether a word is a number: `0`, or digits of which the first is not `0`, and these also after a `-`.
+/// Whether a word is a number: `0`, or digits of which the first is not `0`, and these also after a `-`. A word without a byte
+/// is none. O(n) for n bytes.
 pub fn is_number(word: &[u8]) -> bool
     ensures { result ≡ is_number_word word.now }
 {
@@ -32,7 +33,8 @@ fn are_digits(bytes: &[u8]) -> bool
     bytes.iter().all(|byte| *byte >= b'0' && *byte <= b'9')
 }
 
-/// The number that a word stands for, if it is one from `least` to `most`.
+/// The number that a word stands for, which is a number by [`is_number`]; `None` exactly if it is not one from `least` to
+/// `most`, so each below 0 and each past 64 bits. O(n) for n bytes.
 pub fn natural(word: &[u8], least: u64, most: u64) -> Option<u64>
     requires { IsTrue (is_number_word word.now) }
     ensures value { IfSome result (λ n. value_of word.now ≡ pos n) }

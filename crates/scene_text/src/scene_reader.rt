@@ -11,12 +11,12 @@ use plan_model::Scene;
 use std::alloc::Global;
 
 /// The scene that a text spells, by the grammar. The text has fewer bytes than the greatest `u32`, so that its lines can be
-/// counted.
+/// counted. O(n) for n bytes.
 ///
 /// # Errors
 ///
-/// `Fault` with the first line that fails a check, and that check; if something is missing, with the line after the last.
-/// `Memory` if out of memory.
+/// `Fault` exactly if the grammar refuses the text: with the first line that fails a check, and that check; if something is
+/// missing, with the line after the last, as for an empty text with line 1. `Memory` if out of memory.
 pub fn read_scene(alloc: Global, text: &[u8]) -> Result<Scene, SceneRefusal>
     requires { length text.now < u32.MAX }
     ensures scene { IfOk result (λ scene. Spells supported text.now scene) }

@@ -12,11 +12,11 @@ use plan_model::{Marks, Memory, Point, Poly, Scene, Vertex};
 use std::alloc::{AllocError, Global};
 
 /// The canonical text of a scene: one text for each scene, with a line for each field, one space between words and a
-/// line feed at the end of each line.
+/// line feed at the end of each line. It is never too long to be read. O(n) for n bytes of it.
 ///
 /// # Errors
 ///
-/// `Memory` if out of memory.
+/// `Memory` if out of memory for the text.
 pub fn write_scene(alloc: Global, scene: &Scene) -> Result<Vec<u8>, Memory>
     ensures text { IfOk result (λ text. text.items ≡ canonical_text scene.now) }
     // read again, it gives this scene

@@ -17,7 +17,8 @@ use std::alloc::Global;
 use step_core::Grown;
 use swept_check::Clearing;
 
-/// RRT* over the marks (the samples) of a task in rising number, from its start.
+/// RRT* over the marks (the samples) of a task in rising number, from its start, which is clear. Without a mark the run is
+/// the start alone.
 ///
 /// The points of all nodes are looked at for each mark, once for the nearest node and, if gamma is above 0, once for the
 /// near ones: O(n) for each of n marks. Besides, a mark costs a root for each parent that is tried and each node that is
@@ -27,7 +28,7 @@ use swept_check::Clearing;
 ///
 /// # Errors
 ///
-/// `Memory` if out of memory for the nodes, the records, the lists of near nodes or the closed run.
+/// `Memory` if out of memory for the nodes, the records, the lists of near nodes or the closed run. The task is gone then.
 pub fn textbook<C: Clearing>(alloc: Global, task: Task, hall: &C) -> Result<Grown, Memory>
     requires hall { C.space hall.now ≡ space_of task.scene }
     requires start { ClearAt (space_of task.scene) task.scene.start }

@@ -7,11 +7,12 @@ ghost use Rattle.settle_report.specs.Delivery.{AppendsPrefix};
 
 use plan_model::{Failed, Sink};
 
-/// Writes the text to the sink. Each write is handed all of the text that is left.
+/// Writes the text to the sink. Each write is handed all of the text that is left; an empty text takes no write. It goes on
+/// only after a write that took a byte.
 ///
 /// # Errors
 ///
-/// `Failed` if a write failed, which raised the sink's count of faults. The sink then took a proper prefix of the text.
+/// `Failed` if a write failed, so only if the sink's count of faults rose. The sink then took a proper prefix of the text.
 pub fn deliver<K: Sink>(sink: &mut K, text: &[u8]) -> Result<(), Failed>
     ensures whole { OnOk result (Appends (K.state sink.old).bytes_taken (K.state sink.new).bytes_taken text.now) }
     ensures prefix { OnErr result (AppendsPrefix (K.state sink.old).bytes_taken (K.state sink.new).bytes_taken text.now) }

@@ -24,11 +24,11 @@ pub(crate) fn push_mark_lines(text: &mut String, grown: &Grown) -> Result<(), Al
     Ok(())
 }
 
-/// The line of one mark, as a full report has it: its worker and turn, the nearest node, and what became of it. O(1).
+/// Appends the line of one mark, as a full report has it: its worker and turn, the nearest node, and what became of it. O(1).
 ///
 /// # Errors
 ///
-/// `AllocError` if out of memory for the text.
+/// `AllocError` if out of memory for the text, which may then end with a part of the line.
 pub fn push_mark_line(text: &mut String, mark: u32, entry: Record) -> Result<(), AllocError>
     ensures { OnOk result (string_bytes text.new ≡ string_bytes text.old ++ mark_line mark entry) }
 {

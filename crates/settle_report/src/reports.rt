@@ -19,8 +19,8 @@ use std::alloc::{AllocError, Global};
 use step_core::Grown;
 
 /// The report of a settled run. The short one is the cheapest path from the start into the goal, or that there is none, and
-/// how many nodes and marks of each outcome there are; the full one has a line for each node and for each mark besides.
-/// O(n) for n marks.
+/// how many nodes and marks of each outcome there are; the full one has a line for each node and for each mark besides. Costs
+/// are in 256ths of a lattice step. O(n) for n marks below the limit.
 ///
 /// # Errors
 ///
@@ -32,7 +32,7 @@ pub fn report(alloc: Global, grown: &Grown, full: bool) -> Result<Vec<u8>, Memor
     report_by_best(alloc, grown, best(grown), full)
 }
 
-/// [`report`], for who has found the best node already. O(n) for n marks.
+/// [`report`], for who has found the best node already: `best` is what [`best()`](best) returns. O(n) for n marks.
 ///
 /// # Errors
 ///
@@ -71,7 +71,7 @@ pub fn summary(alloc: Global, grown: &Grown) -> Result<Vec<u8>, Memory>
     summary_by_best(alloc, grown, best(grown))
 }
 
-/// [`summary`], for who has found the best node already. O(n) for n marks.
+/// [`summary`], for who has found the best node already: `best` is what [`best()`](best) returns. O(n) for n marks.
 ///
 /// # Errors
 ///

@@ -22,7 +22,7 @@ use step_core::Grown;
 /// Makes each kept cost the node's cost-to-come, in 256ths of a lattice step: the costs of the edges from the start to it. All
 /// else stays (nodes, parents, records and the kd-tree), and no cost rises. O(n log n) for n nodes, for the sort.
 ///
-/// Settling a second time changes nothing.
+/// It asks for nothing but a run; settling a second time changes nothing.
 ///
 /// # Errors
 ///

@@ -40,11 +40,11 @@ pub struct Grown {
 impl Grown {
     ghost use Rattle.step_core.specs.GrownRuns.{CostsInstead, MayCost, children_of_grown, state_of_grown, words_of_grown};
 
-    /// The run that has handled no mark: the start alone, at limit 0. O(n) for n marks.
+    /// The run that has handled no mark: the start, which is clear, alone, at limit 0. O(n) for n marks of the task.
     ///
     /// # Errors
     ///
-    /// `Memory` if out of memory.
+    /// `Memory` if out of memory for the words. The task is gone then.
     pub fn new(alloc: Global, task: Task) -> Result<Grown, Memory>
         requires { ClearAt (space_of task.scene) task.scene.start }
         ensures task { IfOk result (λ grown. grown.task ≡ task) }
@@ -64,12 +64,13 @@ impl Grown {
         })
     }
 
-    /// The run with these nodes and these records, whose number is its limit. The nodes are linked in rising number, so each
-    /// but the start stands below one of a lesser number. O(n * d) for n nodes, d of them on the longest way.
+    /// The run with these nodes and these records, whose number is its limit; they keep the closed law of the task at that
+    /// limit. The nodes are linked in rising number, so each but the start stands below one of a lesser number. O(n * d) for n
+    /// nodes, d of them on the longest way.
     ///
     /// # Errors
     ///
-    /// `Memory` if out of memory.
+    /// `Memory` if out of memory for the words. The task is gone then.
     pub fn pack(
         alloc: Global,
         task: Task,
@@ -91,28 +92,28 @@ impl Grown {
         })
     }
 
-    /// The task whose marks were handled.
+    /// The task whose marks were handled. O(1).
     pub fn task(&self) -> &Task
         ensures { result.now ≡ self.now.task }
     {
         &self.task
     }
 
-    /// How many marks were handled: those below this number.
+    /// How many marks were handled: those below this number. O(1).
     pub fn limit(&self) -> u32
         ensures { result ≡ self.now.limit }
     {
         self.limit
     }
 
-    /// How many nodes are present, the start included.
+    /// How many nodes are present, the start included. O(1).
     pub fn count(&self) -> u32
         ensures { result ≡ node_count (state_of_grown self.now).points }
     {
         self.words[WordPlaces::of(&self.task).count()] as u32
     }
 
-    /// Where a node stands; `None` exactly if it is absent.
+    /// Where a node stands; `None` exactly if it is absent, as each number past the limit is. O(1).
     pub fn point(&self, node: u32) -> Option<Point>
         ensures { result ≡ point_at (state_of_grown self.now).points node }
     {
@@ -122,7 +123,7 @@ impl Grown {
         read_point(self.words[WordPlaces::of(&self.task).point(node as usize)])
     }
 
-    /// The parent of a node that is present; the start is its own.
+    /// The parent of a node that is present; the start is its own. O(1).
     pub fn parent(&self, node: u32) -> u32
         requires { IsPresent (state_of_grown self.now).points node }
         ensures { result ≡ (state_of_grown self.now).parent node }
@@ -130,7 +131,7 @@ impl Grown {
         parent_in(self.tree_word(node))
     }
 
-    /// The kept cost of a node that is present, in 256ths of a lattice step.
+    /// The kept cost of a node that is present, in 256ths of a lattice step; that of the start is 0. O(1).
     pub fn cost(&self, node: u32) -> u64
         requires { IsPresent (state_of_grown self.now).points node }
         ensures { result ≡ (state_of_grown self.now).cost node }
@@ -138,7 +139,7 @@ impl Grown {
         cost_in(self.tree_word(node))
     }
 
-    /// The record of a mark that was handled.
+    /// The record of a mark that was handled, so of one below the limit. O(1).
     pub fn record_of(&self, mark: u32) -> Record
         requires { mark < self.now.limit }
         ensures { (state_of_grown self.now).record_of mark ≡ Some result }
@@ -146,7 +147,8 @@ impl Grown {
         self.record_at(mark).unwrap()
     }
 
-    /// Lowers the kept cost of a node, to no less than what its parent costs and the edge. All else stays.
+    /// Lowers the kept cost of a node that is present, in 256ths of a lattice step, to no less than what its parent costs and
+    /// the edge; it may stay as it is. All else stays. O(1).
     pub fn lower(&mut self, node: u32, cost: u64)
         requires present { IsPresent (state_of_grown self.old).points node }
         requires not_above { cost ≤ (state_of_grown self.old).cost node }
@@ -160,7 +162,7 @@ impl Grown {
         self.words[WordPlaces::of(&self.task).tree(node as usize)] = word;
     }
 
-    /// The task, the limit and the list of words of a run, which [`Grown::from_words`] takes back. Copies nothing.
+    /// The task, the limit and the list of words of a run, which [`Grown::from_words`] takes back. Copies nothing; O(1).
     pub fn into_words(self) -> (Task, u32, Vec<u64>)
         ensures task { result.0 ≡ self.task }
         ensures limit { result.1 ≡ self.limit }
@@ -171,8 +173,9 @@ impl Grown {
         (self.task, self.limit, self.words)
     }
 
-    /// The run whose words these are. A number without a node may have a point, a parent and a cost left over from a mark that
-    /// came to nothing: they are cleared, in place. O(n) for n marks.
+    /// The run whose words these are: as many as a run of the task has, and once they are cleared they hold a run at this
+    /// limit. A number without a node may have a point, a parent and a cost left over from a mark that came to nothing: they
+    /// are cleared, in place. O(n) for n marks; no memory.
     pub fn from_words(task: Task, limit: u32, words: Vec<u64>) -> Grown
         requires sized { length words.items ≡ word_count (sizes_of task) }
         requires run { HoldRun task limit (cleared (run_words task words.items)) }

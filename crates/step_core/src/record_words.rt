@@ -15,8 +15,9 @@ use crate::layout::{
 use crate::tree_words::{cost_in, parent_in};
 use plan_model::{Outcome, Record};
 
-/// The word of a record. That of worker 0, turn 2, nearest node 1, placed with class 2, is
-/// 2^63 + 2 * 2^6 + 1 * 2^24 + 2 * 2^44.
+/// The word of a record. Its worker is below 2^6, and its turn, its nearest node and its class, or the node that it ended at,
+/// are below 2^18. That of worker 0, turn 2, nearest node 1, placed with class 2, is 2^63 + 2 * 2^6 + 1 * 2^24 + 2 * 2^44.
+/// O(1).
 pub fn pack_mark(entry: &Record) -> u64
     requires { FitsWord entry.now }
     ensures { result ≡ record_word entry.now }
@@ -29,7 +30,7 @@ pub fn pack_mark(entry: &Record) -> u64
         | u64::from(entry.worker)
 }
 
-/// The record of a word; `None` exactly if bit 63 is 0, as it is until the word is written.
+/// The record of a word; `None` exactly if bit 63 is 0, as it is until the word is written. O(1).
 ///
 /// `first` is the first word of the node that was placed, and counts only if one was; its two fields are taken as they
 /// stand. The fourth number of an outcome, which no packed record has, reads as some record, and nothing says which.

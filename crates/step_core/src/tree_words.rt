@@ -9,8 +9,8 @@ ghost use Rattle.step_core.specs.Words.{cost_in, parent_in, tree_of_word, tree_w
 
 use crate::layout::{COST_MASK, COST_SHIFT, NUMBER_MASK, WRITTEN};
 
-/// The word of a parent and a cost in 256ths of a lattice step. That of parent 3 and cost 25,344 is
-/// 2^63 + 25,344 * 2^18 + 3.
+/// The word of a parent below 2^18 and a cost below 2^44, in 256ths of a lattice step. That of parent 3 and cost 25,344 is
+/// 2^63 + 25,344 * 2^18 + 3. O(1).
 pub fn pack_tree(parent: u32, cost: u64) -> u64
     requires parent { parent < 2 ^ 18 }
     requires cost { cost < 2 ^ 44 }
@@ -19,7 +19,7 @@ pub fn pack_tree(parent: u32, cost: u64) -> u64
     WRITTEN | cost << COST_SHIFT | u64::from(parent)
 }
 
-/// The parent and the cost of a word; `None` exactly if bit 63 is 0, as it is until the word is written.
+/// The parent and the cost of a word; `None` exactly if bit 63 is 0, as it is until the word is written. O(1).
 pub fn read_tree(word: u64) -> Option<(u32, u64)>
     ensures read { result ≡ tree_of_word word }
 {
@@ -43,7 +43,7 @@ pub(crate) fn cost_in(word: u64) -> u64
     word >> COST_SHIFT & COST_MASK
 }
 
-/// The parent and the cost in a word that is written.
+/// The parent and the cost in a word that is written; of any other word what its bits say. O(1).
 pub fn pair_in(word: u64) -> (u32, u64)
     ensures parent { result.0 ≡ parent_in word }
     ensures cost { result.1 ≡ cost_in word }

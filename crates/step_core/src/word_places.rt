@@ -13,7 +13,7 @@ ghost use Rattle.step_core.specs.WordPlaces.{place_of, word_count};
 
 use plan_model::{Task, strip_of_mark};
 
-/// The places of the words of a run with so many strips and marks.
+/// The places of the words of a run with so many strips and marks. Each place is found in O(1), without memory.
 #[derive(Clone, Copy)]
 pub struct WordPlaces {
     strips: usize,
@@ -57,7 +57,7 @@ impl WordPlaces {
         0
     }
 
-    /// The counter of a strip.
+    /// The counter of a strip, which is one of the run.
     pub fn counter(self, strip: usize) -> usize
         requires { strip < (sizes_in self).strips }
         ensures { result ≡ place_of (sizes_in self) (Counter strip) }
@@ -65,7 +65,7 @@ impl WordPlaces {
         strip + 1
     }
 
-    /// The counter of the strip that a mark belongs to.
+    /// The counter of the strip that a mark of the run belongs to; the run has one strip or more.
     pub fn counter_of_mark(self, mark: usize) -> usize
         requires strips { 0 < (sizes_in self).strips }
         requires within { mark < (sizes_in self).marks }
@@ -74,7 +74,7 @@ impl WordPlaces {
         self.counter(strip_of_mark(self.strips as u32, mark as u32) as usize)
     }
 
-    /// The point of a node, and the first of its words.
+    /// The point of a node, and the first of its words. A node's number, here and below, is at most that of marks.
     pub fn point(self, node: usize) -> usize
         requires { node ≤ (sizes_in self).marks }
         ensures { result ≡ place_of (sizes_in self) (PointOf node) }
@@ -110,7 +110,7 @@ impl WordPlaces {
         self.point(node) + 4
     }
 
-    /// The record of a mark.
+    /// The record of a mark; of the number of marks it is the place after the last record.
     pub fn record(self, mark: usize) -> usize
         requires { mark ≤ (sizes_in self).marks }
         ensures { result ≡ place_of (sizes_in self) (RecordOf mark) }

@@ -12,7 +12,7 @@ use std::alloc::Global;
 
 /// The mark points (the samples) of a scene, in the order of their numbers: the listed ones as they stand, or the drawn ones.
 /// Marks are drawn only if the body fits into the room, and then each drawn point is one of the room of configurations. Listed
-/// points may lie anywhere. O(n) for n marks; memory is taken once.
+/// points may lie anywhere. A plan of no mark has no point. O(n) for n marks; memory is taken once.
 ///
 /// # Errors
 ///

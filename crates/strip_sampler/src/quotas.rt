@@ -3,8 +3,8 @@
 ghost use Rattle.std.specs.Prelude.{◌≡◌, ◌<◌};
 ghost use Rattle.plan_model.specs.MarkPoints.{quota_of};
 
-/// How many of the marks below `limit` belong to a strip. The strips take turns: strip 0 has the first mark of each round, so
-/// its quota is never below that of another strip. O(1); no memory.
+/// How many of the marks below `limit` belong to a strip, which is below `strips`; none if the limit is 0. The strips take
+/// turns: strip 0 has the first mark of each round, so its quota is never below that of another strip. O(1); no memory.
 ///
 /// ```text
 ///     mark     0  1  2  3  4  5  6

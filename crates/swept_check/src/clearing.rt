@@ -12,7 +12,8 @@ pub trait Clearing: Sync {
     ghost space: { Self → ConfigurationSpace };
 
     /// Whether the body is clear of the walls and the obstacles at every rational point of the segment from `a` to `b`, both
-    /// ends included. Touching an obstacle collides; touching a wall does not. It takes no memory.
+    /// ends included. The ends may be any points, also one and the same. Touching an obstacle collides; touching a wall does
+    /// not. It takes no memory.
     fn clear(&self, a: Point, b: Point) -> bool
         ensures { IsTrue result ↔ Clear (space self.now) a b };
 }

@@ -58,7 +58,8 @@ impl Hall {
     ghost use Rattle.plan_model.specs.Clearance.{ClearAt};
     ghost use Rattle.swept_check.specs.Halls.{AreZonesOf};
 
-    /// The collision checker of a scene's room, body and obstacles. O(n) for n corners in all of the zones.
+    /// The collision checker of a scene's room, body and obstacles; without an obstacle the walls alone count. O(n) for n
+    /// corners in all of the zones.
     ///
     /// # Errors
     ///

@@ -29,7 +29,7 @@ impl<L: Ledger> Model for Steps<L> {
 impl<L: Ledger> Steps<L> {
     ghost use Rattle.std.specs.Prelude.{◌+◌};
 
-    /// No step yet, on a new ledger.
+    /// No step yet, on a new ledger, which is `L` and has one part or more.
     pub fn new(blank: Blank) -> Steps<L>
         requires name { blank.name ≡ L.name }
         requires parts { blank.parts ≡ L.parts }

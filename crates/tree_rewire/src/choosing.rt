@@ -26,6 +26,9 @@ use swept_check::Clearing;
 /// a clear edge to it, the one through which it costs the least by the costs that this call loads; of those with equal costs, the
 /// one with the least number.
 ///
+/// The nearest node is seen with its point, and its edge to the new one is clear and at most a step long. Each near node is
+/// seen with its point, at most a step away; with none the nearest is taken. The cost is in 256ths of a lattice step.
+///
 /// All costs are loaded before the first is compared, so that the loads need not wait for one another. A root is taken, and an
 /// edge is tested, only for a node that would win. O(n) for n near nodes.
 pub fn choose<C: Clearing>(

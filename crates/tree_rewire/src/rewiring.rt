@@ -27,8 +27,9 @@ use plan_model::Point;
 use plan_words::{Pass, Shared};
 use swept_check::Clearing;
 
-/// Rewires the nodes on the near list, in their order, once the node of mark k is placed: it becomes the parent of each that is
-/// then strictly cheaper, over a clear edge, and what fell is [spread] before the next is looked at.
+/// Rewires the nodes on the near list, in their order, once the node of mark k is placed: it becomes the parent of each that
+/// is then strictly cheaper, over a clear edge, and what fell is [spread] before the next is looked at. Each near node is seen
+/// with its point, at most a step from the new one; without any, nothing changes. The pass has a share.
 ///
 /// An edge is tested only if the node would be cheaper than it was seen to be last. Another pass may lower the node first, or give
 /// it another parent; it is lowered again only while it is still dearer. O(n) for n near nodes, and what the spreads take.

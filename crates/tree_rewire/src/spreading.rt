@@ -13,7 +13,8 @@ use edge_cost::{cost, costs_less_through};
 use plan_words::{Pass, Shared};
 
 /// Lowers the subtree of a node whose cost fell: each child that costs more than through its parent, both as the pass has seen them
-/// last, and so on from each node whose cost falls. Children are those by the parents that were seen last.
+/// last, and so on from each node whose cost falls. Children are those by the parents that were seen last; without any, nothing
+/// changes. The node is seen with its parent and its cost, and the pass has a share.
 ///
 /// It loads no costs; an exchange that fails shows what the node costs by now, and with whatever parent. The sum of the costs seen
 /// falls with each exchange, so it ends. O(k) for k children of the node and of those that fell, if no other pass comes between.

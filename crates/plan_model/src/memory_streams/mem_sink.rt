@@ -35,7 +35,8 @@ impl Model for MemSink {
 }
 
 impl MemSink {
-    /// An empty sink. It takes all its memory here.
+    /// An empty sink with room for `room` bytes, which takes at most `most` of them in one call; `most` is 1 or more. With a
+    /// room of 0 each write of a byte fails. It takes all its memory here.
     ///
     /// # Errors
     ///
@@ -54,7 +55,7 @@ impl MemSink {
         })
     }
 
-    /// The bytes taken so far.
+    /// The bytes taken so far. O(1); no memory.
     pub fn bytes(&self) -> &[u8]
         ensures { result.now ≡ self.now.bytes }
     {

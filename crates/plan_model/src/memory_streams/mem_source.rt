@@ -36,7 +36,8 @@ impl Model for MemSource {
 }
 
 impl MemSource {
-    /// A source of these bytes, of which nothing was read.
+    /// A source of these bytes, of which nothing was read. It gives at most `most` of them in one call, which is 1 or more, and
+    /// fails the calls whose numbers are in `fails`; calls are numbered from 1, so 0 there fails none. O(n) for n bytes.
     ///
     /// # Errors
     ///

@@ -25,7 +25,7 @@ impl Model for SureSource {
 }
 
 impl SureSource {
-    /// A source of these bytes.
+    /// A source of these bytes; of none, the first read gives the end. O(n) for n bytes.
     ///
     /// # Errors
     ///
