@@ -2,7 +2,7 @@
 """Runs a built program against the programs of this folder on random scenes, and prints counts.
 
 Usage: compare.py PROGRAM [FIRST [COUNT]]. For each number from FIRST on (0 and 200 if left out):
-- `plain` and `plain full` write what textbook.py writes, and end with its status;
+- `plain`, `plan 1`, `plain full` and `plan 1 full` write what textbook.py writes, and end with its status;
 - `plan W full`, for W of WORKERS, writes a report that judge.py finds lawful;
 - `show` writes the canonical text, and for a text with faults the line and the kind of the first;
 - the judge refuses a report in which one number is changed, or the change is counted as one that is lawful too.
@@ -49,8 +49,10 @@ class Comparison:
         scene = scene_of(number)
         text = scene.text().encode()
         for full in (False, True):
-            words = "plain full" if full else "plain"
-            self.note(number, words, self.run(words, text) == answer(text, full))
+            wanted = answer(text, full)
+            for planner in ("plain", "plan 1"):
+                words = f"{planner} full" if full else planner
+                self.note(number, f"{words}, by the textbook", self.run(words, text) == wanted)
         for workers in WORKERS:
             words = f"plan {workers} full"
             output, status = self.run(words, text)
