@@ -1,0 +1,331 @@
+"""The kinds of step on a world, each with what it asks of the view that makes it. See docs/worlds.md.
+
+A step loads, stores or exchanges one word. The view after it is a function of the view before. `Steps` makes lawful steps
+alone; a bug is a class that asks for less, or does something else.
+"""
+
+from dataclasses import replace
+
+from geometry import squared_distance
+from rules import class_of, cost, radius_of_class, steer
+from world_law import is_earlier, is_not_above, turns_by_worker
+from world_words import SPENT, WRITTEN, Hand, Tree, View, World, cost_in, goes_right, point_word, record_word, seen_tree, tree_word
+
+
+class Refused(Exception):
+    """A step that its view may not make."""
+
+
+def need(holds, what):
+    """Refuses a step unless the condition holds."""
+    if not holds:
+        raise Refused(what)
+
+
+def put(table, place, word):
+    """A table with one word changed."""
+    return table[:place] + (word,) + table[place + 1 :]
+
+
+def newcomer(run, words):
+    """The world in which a run begins: one view, with the share of all workers, has seen all words."""
+    made = turns_by_worker(Tree(run, words, "placed"))
+    crew = tuple((worker, len(made.get(worker, ()))) for worker in range(run.workers))
+    none = (0,) * run.size
+    return World(run, list(words), [View(run, crew, run.opening, None, tuple(words), (), 0, none, none)])
+
+
+def start_words(run):
+    """The words of a run that is the start alone."""
+    words = [0] * run.size
+    words[run.count] = 1
+    words[run.point(0)] = point_word(run.start)
+    words[run.tree(0)] = words[run.first(0)] = tree_word(0, 0)
+    return words
+
+
+def later_word(kind, one, other):
+    """Of two words that may both become one word, the later."""
+    if kind == "rising":
+        return max(one, other)
+    if one == 0:
+        return other
+    return other if kind == "falling" and other >= WRITTEN and cost_in(other) < cost_in(one) else one
+
+
+class Steps:
+    """The steps of the views of one world. `i` is the number of the view that steps. What calls leave out, a bug says."""
+
+    leaves_out = ()
+
+    def __init__(self, world):
+        self.world, self.run = world, world.run
+
+    # ---- what is changed
+
+    def view(self, i):
+        """The view of this number."""
+        return self.world.views[i]
+
+    def hand(self, i, stage):
+        """Its hand, which has come just so far."""
+        hand = self.view(i).hand
+        need(hand and hand.stage == stage, "stage")
+        return hand
+
+    def tree(self, i):
+        """The tree as far as it has seen it."""
+        return seen_tree(self.run, self.view(i).seen)
+
+    def set_view(self, i, **fields):
+        """The view changes so."""
+        self.world.views[i] = replace(self.view(i), **fields)
+
+    def saw(self, i, place, found, left):
+        """One step more, on a word that was found so and is left so."""
+        view = self.view(i)
+        steps = view.steps + 1
+        found_zero = view.found_zero if found else put(view.found_zero, place, steps)
+        self.world.words[place] = left
+        seen, looked = put(view.seen, place, left), put(view.looked, place, steps)
+        self.set_view(i, seen=seen, steps=steps, looked=looked, found_zero=found_zero)
+        return found
+
+    def stepped(self, i, **fields):
+        """One step more, by which no word is seen."""
+        self.set_view(i, steps=self.view(i).steps + 1, **fields)
+
+    # ---- loads
+
+    def sees_node(self, i, node):
+        """Whether node 0, or a child that the view has seen."""
+        run, seen = self.run, self.view(i).seen
+        return node == 0 or any(seen[run.child(n, side)] == node for n in range(run.nodes) for side in (0, 1))
+
+    def load(self, i, place):
+        """A load: of the count, of a counter, or of a seen node's point, child or tree word."""
+        name = self.run.names[place]
+        need(name[0] not in ("first", "record"), "no such load")
+        need(name[0] in ("count", "counter") or self.sees_node(i, name[1]), "seen")
+        word = self.world.words[place]
+        return self.saw(i, place, word, word)
+
+    # ---- claims and records
+
+    def may_claim(self, i, strip, limit):
+        """A view with a share and nothing in hand, and a mark below a limit that is at most the number of marks."""
+        view = self.view(i)
+        mark = view.seen[self.run.counter(strip)] * self.run.strips + strip
+        return self.may_write(i) and view.hand is None and self.is_below(mark, limit) and limit <= len(self.run.marks)
+
+    def is_below(self, mark, limit):
+        """Whether a mark may be claimed below a limit."""
+        return mark < limit
+
+    def claim(self, i, strip, limit):
+        """An exchange of a counter that is as it was seen last. Whether it was."""
+        need(self.may_claim(i, strip, limit), "claim")
+        place = self.run.counter(strip)
+        found, expected = self.world.words[place], self.view(i).seen[place]
+        if not self.matches("claim", found, expected):
+            self.saw(i, place, found, found)
+            return False
+        self.saw(i, place, expected, expected + 1)
+        hand = Hand(expected * self.run.strips + strip)
+        self.set_view(i, hand=hand, most=max(self.view(i).most, limit))
+        return True
+
+    def matches(self, kind, found, expected):
+        """Whether an exchange of a step of this kind finds what it expects."""
+        return found == expected
+
+    def finish(self, i, entry):
+        """A store of the record of the mark in hand."""
+        view = self.view(i)
+        need(view.hand and view.crew and (entry.worker, entry.turn) == view.crew[0], "turn")
+        need(self.may_end(view.hand, entry), "stage")
+        need(self.may_record(i, view.hand, entry), "record")
+        word = record_word(entry)
+        self.saw(i, self.recorded_at(view.hand.mark), word, word)
+        self.set_view(i, hand=None, crew=self.turned(view.crew))
+
+    def turned(self, crew):
+        """A crew after a turn of its first."""
+        (worker, turn), *others = crew
+        return ((worker, turn + 1), *others)
+
+    def recorded_at(self, mark):
+        """The place of a mark's record."""
+        return self.run.record(mark)
+
+    def may_end(self, hand, entry):
+        """A mark is recorded as placed once its node is counted, and as anything else only if it is not linked."""
+        placed = entry.outcome == "placed"
+        return placed == hand.has("linked") and placed == hand.has("counted")
+
+    def may_record(self, i, hand, entry):
+        """Whether what the view has seen bears out the record."""
+        run, tree = self.run, self.tree(i)
+        start, mark = tree.point(entry.nearest), run.marks[hand.mark]
+        own = [n for n in range(run.nodes) if is_earlier(tree, entry, n)]
+        if start is None or not all(is_not_above(lambda n: squared_distance(tree.points[n], mark), entry.nearest, n) for n in own):
+            return False
+        p = steer(start, mark, run.step)
+        if entry.outcome == "same":
+            return tree.point(entry.other) == p
+        if entry.outcome == "blocked":
+            return self.is_blocked(start, p) and all(tree.points[n] != p for n in own)
+        return run.is_clear(start, p) and self.may_place(tree, hand, entry, own)
+
+    def is_blocked(self, a, b):
+        """Whether the segment is not clear."""
+        return not self.run.is_clear(a, b)
+
+    def may_place(self, tree, hand, entry, own):
+        """Whether the record of a placed mark is borne out by what was seen."""
+        run, p = self.run, hand.point
+        if (entry.nearest, entry.first_parent, entry.first_cost) != (hand.nearest, hand.parent, hand.cost):
+            return False
+        if not class_of(len(own)) <= entry.other <= class_of(tree.words[run.count]):
+            return False
+        radius = radius_of_class(run.step, run.gamma, entry.other)
+        near = [n for n in own if squared_distance(tree.points[n], p) <= radius**2 and run.is_clear(tree.points[n], p)]
+        edges = {n: cost(tree.points[n], p) for n in near}
+        chosen = all(hand.cost <= tree.first_cost(n) + edges[n] for n in near)
+        return chosen and all(tree.pair(n) and tree.cost(n) <= hand.cost + edges[n] for n in near)
+
+    # ---- the node in hand
+
+    def write_point(self, i, nearest, p):
+        """A store of the point of the node in hand, a step from a seen node towards the mark."""
+        hand = self.hand(i, "claimed")
+        need(self.is_steered(self.tree(i).point(nearest), self.run.marks[hand.mark], p), "steered")
+        self.world.words[self.run.point(hand.node)] = point_word(p)
+        self.stepped(i, hand=replace(hand, stage="pointed", nearest=nearest, point=p))
+
+    def is_steered(self, start, mark, p):
+        """Whether a step from a node that was seen leads to p."""
+        return start is not None and steer(start, mark, self.run.step) == p
+
+    def steered_to(self, mark, p):
+        """The point that is written for a mark, where p is the one that its nearest node steers to."""
+        return p
+
+    def cost_below(self, i, p, parent):
+        """What a node at p may cost below a parent, by what was seen of that; None if it may not hang there."""
+        tree = self.tree(i)
+        above, pair = tree.point(parent), tree.pair(parent)
+        if above is None or pair is None or not self.is_allowed(above, p):
+            return None
+        return pair[1] + cost(above, p)
+
+    def is_allowed(self, a, b):
+        """Whether a tree may have this edge."""
+        return self.run.is_allowed(a, b)
+
+    def write_first(self, i, parent, kept):
+        """A store of the first word of the node in hand: it may hang so by what was seen, and at no more than below the nearest."""
+        hand = self.hand(i, "pointed")
+        need(self.cost_below(i, hand.point, parent) == kept, "hangs")
+        tree = self.tree(i)
+        nearest = tree.pair(hand.nearest)
+        need(nearest and kept <= nearest[1] + cost(tree.point(hand.nearest), hand.point), "chosen")
+        self.world.words[self.run.first(hand.node)] = tree_word(parent, kept)
+        self.stepped(i, hand=replace(hand, stage="half", parent=parent, cost=kept))
+
+    def write_tree(self, i):
+        """A store of the tree word of the node in hand, as its first word is."""
+        hand = self.hand(i, "half")
+        self.world.words[self.run.tree(hand.node)] = hand.pair
+        self.stepped(i, hand=replace(hand, stage="treed"))
+
+    def leads_to(self, i, p, node, side):
+        """Whether the way of p over what was seen leads on from a node to its child on this side; no node on it is at p."""
+        tree = self.tree(i)
+        depth = dict(tree.way(p)[0]).get(node)
+        at = tree.point(node)
+        return depth is not None and at is not None and at != p and goes_right(depth, at, p) == side
+
+    def is_taken(self, here, p):
+        """Whether a node stands at the very point in hand."""
+        return here == p
+
+    def link(self, i, node, side):
+        """An exchange of an empty child word for the node in hand. What the word was."""
+        hand = self.hand(i, "treed")
+        need(self.leads_to(i, hand.point, node, side), "leads")
+        place, run = self.run.child(node, side), self.run
+        found = self.world.words[place]
+        if not self.matches("link", found, 0):
+            return self.saw(i, place, found, found)
+        self.saw(i, place, 0, hand.node)
+        seen = put(self.view(i).seen, run.point(hand.node), point_word(hand.point))
+        seen = put(put(seen, run.tree(hand.node), hand.pair), run.first(hand.node), hand.pair)
+        self.set_view(i, seen=seen, hand=replace(hand, stage="linked"))
+        return 0
+
+    def count(self, i):
+        """An addition to the count."""
+        hand = self.hand(i, "linked")
+        self.world.words[self.run.count] += 1
+        self.stepped(i, hand=replace(hand, stage="counted"))
+
+    # ---- lowers
+
+    def may_lower(self, i, node, parent, kept):
+        """Whether a node may get this parent and this cost: it was seen dearer."""
+        tree = self.tree(i)
+        at, pair = tree.point(node), tree.pair(node)
+        if not self.may_write(i) or at is None or pair is None or not self.is_cheaper(kept, pair[1]):
+            return False
+        return self.cost_below(i, at, parent) == kept
+
+    def may_write(self, i):
+        """Whether a view may change a word: it has a share."""
+        return bool(self.view(i).crew)
+
+    def is_cheaper(self, kept, before):
+        """Whether a cost is strictly less than the one that was seen."""
+        return kept < before
+
+    def lower(self, i, node, parent, kept):
+        """An exchange of the tree word that was seen last. Whether it was there."""
+        need(self.may_lower(i, node, parent, kept), "lower")
+        place = self.run.tree(node)
+        found, expected = self.world.words[place], self.view(i).seen[place]
+        if not self.matches("lower", found, expected):
+            self.saw(i, place, found, found)
+            return False
+        self.saw(i, place, expected, tree_word(parent, kept))
+        return True
+
+    # ---- splits and joins
+
+    def split(self, i, hand_on):
+        """A new view that has seen as much: without a share, or with the second worker of the crew. Its number."""
+        view = self.view(i)
+        need(not hand_on or len(view.crew) > 1, "crew")
+        given = view.crew[1:2] if hand_on else ()
+        self.world.views.append(replace(view, crew=given, hand=None))
+        self.stepped(i, crew=self.kept_crew(view.crew, given))
+        return len(self.world.views) - 1
+
+    def kept_crew(self, crew, given):
+        """The crew without whom it gave away."""
+        return tuple(member for member in crew if member not in given)
+
+    def join(self, i, j):
+        """A view takes over another."""
+        view, other = self.view(i), self.view(j)
+        need(i != j and other != SPENT and not view.hand and not other.hand, "hand")
+        seen = self.merged(view.seen, other.seen)
+        self.stepped(i, crew=self.both_crews(view.crew, other.crew), most=max(view.most, other.most), seen=seen, took=other.seen)
+        self.world.views[j] = SPENT
+
+    def merged(self, one, other):
+        """The later of what two tables say of each word."""
+        return tuple(map(later_word, self.run.kinds, one, other))
+
+    def both_crews(self, crew, other):
+        """Two crews, one after the other."""
+        return crew + other

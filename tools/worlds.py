@@ -1,0 +1,362 @@
+#!/usr/bin/env python3
+"""Plays shared runs at random, one atomic step at a time, and holds each world against the law of worlds. See docs/worlds.md.
+
+Usage: worlds.py [FIRST [COUNT]] plays the runs of so many numbers (0 and 50 if left out), changes worlds in between, and prints
+counts. `worlds.py --bugs [FIRST [COUNT]]` plants one bug after another into the steps; each is to be reported. It ends with 1
+if a lawful run was reported, a world was taken for lawful that is none, or a bug was not reported.
+"""
+
+import random
+import sys
+from collections import Counter
+
+from make_scenes import polygon
+from scene import Scene
+from world_bugs import BUGS
+from world_calls import Broken, Pass
+from world_law import are_behind, broken_parts, is_world
+from world_steps import Refused, Steps, newcomer, start_words
+from world_tree_mutants import MUTANTS
+from world_views import cleared, closed_run, is_later, view_law
+from world_words import SPENT, Run, Tree, quota
+
+MOST_VIEWS = 7
+
+
+class Report(Exception):
+    """What the player has found wrong."""
+
+
+def report_unless(holds, *what):
+    """Reports unless the condition holds."""
+    if not holds:
+        raise Report(*what)
+
+
+def ring(rng, width, height, step):
+    """Points round the room, each about a step from the one before, so that the tree winds; and some points anywhere."""
+    around = [(x, 0) for x in range(width)] + [(width, y) for y in range(height)]
+    around += [(x, height) for x in range(width, 0, -1)] + [(0, y) for y in range(height, 0, -1)]
+    points = around[:: rng.randint(2, step)][:10]
+    return points + [(rng.randint(0, width), rng.randint(0, height)) for _ in range(rng.randint(0, 4))]
+
+
+def tiny_scene(rng):
+    """A scene of a few marks on a small lattice, whose start is clear. In some the marks are crowded, in some they lie in a ring."""
+    while True:
+        width, height = rng.randint(2, 12), rng.randint(2, 12)
+        step, is_ring = rng.choice([4, 4, 4, 5, 6, 12]), rng.random() < 0.5
+        width = rng.choice([step, width]) if is_ring else width
+        place = lambda: (rng.randint(0, width), rng.randint(0, height))
+        scene = Scene(room=(width, height), start=(0, 0) if is_ring else place(), goal=(0, 0, 0, 0), step=step)
+        scene.gamma = rng.choice([0, 4, 10, 100, 100])
+        scene.strips = rng.choice([1, 1, 2, 3, 4])
+        for _ in range(rng.choice([0, 0, 1, 2])):
+            (x, y), size = place(), rng.randint(1, 4)
+            scene.obstacles.append(polygon(rng, (x, x + size), (y, y + size), 64))
+        places = [place() for _ in range(rng.choice([2, 6, 20, 20]))]
+        scene.marks = ring(rng, width, height, step) if is_ring else [rng.choice(places) for _ in range(rng.randint(1, 9))]
+        if not is_ring and rng.random() < 0.2:
+            scene.drawn, scene.seed = len(scene.marks), rng.getrandbits(64)
+        if Run(scene, 1, 0).is_clear(scene.start, scene.start):
+            return scene
+
+
+class Player:
+    """A world and the passes that step in it, in turns that are drawn."""
+
+    def __init__(self, rng, world, kind, counts):
+        self.rng, self.run, self.counts = rng, world.run, counts
+        self.steps = kind(world)
+        self.world = self.steps.world
+        self.calls = {}
+        self.pending = {}
+        self.weights = {}
+        self.check(0, None, None)
+
+    # ---- steps
+
+    def step(self, kind, arguments):
+        """Makes one atomic step, and looks at the world after it."""
+        before, i = self.world.copy(), arguments[0]
+        result = getattr(self.steps, kind)(*arguments)
+        name = kind if kind != "load" else "load " + self.run.names[arguments[1]][0]
+        if kind == "split":
+            name = "split, worker" if arguments[1] else "split, looker"
+        missed = kind in ("claim", "lower") and not result or kind == "link" and result
+        self.counts[name + (", failed" if missed else "")] += 1
+        self.check(i, before, name)
+        return result
+
+    def check(self, i, before, name):
+        """The law holds, no word has become what it may not, and the view that stepped is a later one."""
+        broken = is_world(self.world)
+        report_unless(broken is None, "law", broken and ".".join(broken), name)
+        for view in self.world.views if before is None else [self.world.views[i]]:
+            broken = next(view_law(self.run, view), None) if view != SPENT else None
+            report_unless(broken is None, "law of a view", broken, name)
+        if before is not None:
+            report_unless(are_behind(self.run, before.words, self.world.words), "a word became what it may not", name)
+            lost = is_later(self.run, before.views[i], self.world.views[i])
+            report_unless(lost is None, "a view lost", lost, name)
+            self.check_costs(before.words)
+
+    def check_costs(self, before):
+        """Linked nodes stay, and no cost of one rises."""
+        one, other = Tree(self.run, before), Tree(self.run, self.world.words)
+        report_unless(all(one.points[n] == other.point(n) for n in one.present), "a node moved")
+        report_unless(all(other.cost(n) <= one.cost(n) for n in one.present), "a cost rose")
+
+    # ---- passes
+
+    def caller(self, i):
+        """The calls of a view."""
+        one = Pass(self.steps, i, self.rng)
+        one.leaves_out = self.steps.leaves_out
+        return one
+
+    def employ(self, i, most):
+        """The view makes the calls of a worker, up to limits that are drawn."""
+        self.calls[i], self.pending[i] = self.work(self.caller(i), most), None
+        self.weights[i] = self.rng.choice([1, 4, 16])
+
+    def work(self, one, most):
+        """Marks until none is left below a limit, for one limit or more."""
+        limit = self.rng.randint(self.run.opening, most)
+        while True:
+            yield None
+            if self.rng.random() < 0.3:
+                yield from one.shorten(self.rng.randint(1, 8))
+            mark = yield from one.claim(limit)
+            if mark is not None:
+                entry = yield from one.extend()
+                self.counts[f"marks {entry.outcome}"] += 1
+            elif limit >= most or self.rng.random() < 0.3:
+                return (yield from one.shorten(self.rng.choice([0, 8])))
+            else:
+                limit = self.rng.randint(limit, most)
+
+    def look(self, one):
+        """Some searches of a pass that only looks."""
+        for _ in range(self.rng.randint(1, 3)):
+            yield None
+            p = (self.rng.randint(0, self.run.scene.room[0]), self.rng.randint(0, self.run.scene.room[1]))
+            call = self.rng.choice([one.nearest, one.find, lambda p: one.near(p, self.rng.randint(0, 8))])
+            yield from call(p)
+
+    def is_free(self, i):
+        """Whether no call of the view is under way."""
+        return self.world.views[i] != SPENT and (i not in self.calls or self.pending[i] is None)
+
+    def advance(self, i):
+        """The next step of a pass, if it has one."""
+        try:
+            result = None if self.pending[i] is None else self.step(*self.pending[i])
+            self.pending[i] = self.calls[i].send(result)
+        except StopIteration:
+            del self.calls[i], self.pending[i]
+
+    # ---- odd steps
+
+    def odd_step(self):
+        """A lawful step that no rule of the planner asks for, of a view that is free."""
+        free = [i for i in range(len(self.world.views)) if self.is_free(i)]
+        if free:
+            i = self.rng.choice(free)
+            self.rng.choice([self.odd_load, self.odd_load, self.odd_lower, self.odd_split, self.odd_join])(i)
+
+    def odd_load(self, i):
+        """A load of anything that the view may load; of the count only with nothing in hand."""
+        run, view = self.run, self.world.views[i]
+        places = [run.counter(g) for g in range(run.strips)] + ([] if view.hand else [run.count])
+        places += [run.point(n) + j for n in range(run.nodes) if self.steps.sees_node(i, n) for j in range(4)]
+        self.step("load", (i, self.rng.choice(places)))
+
+    def odd_lower(self, i):
+        """A lower of any node below any parent, if it may be made."""
+        tree = self.steps.tree(i)
+        seen = [n for n in tree.present if tree.pair(n)]
+        for _ in range(6):
+            node, parent = self.rng.choice(seen), self.rng.choice(seen)
+            kept = self.steps.cost_below(i, tree.points[node], parent)
+            if node != parent and kept is not None and self.steps.may_lower(i, node, parent, kept):
+                self.step("lower", (i, node, parent, kept))
+                return
+
+    def odd_split(self, i):
+        """A split: the second worker gets a view of its own, or a new view looks."""
+        if len(self.world.views) >= MOST_VIEWS + self.run.workers:
+            return
+        hand_on = len(self.world.views[i].crew) > 1
+        j = self.step("split", (i, hand_on))
+        if hand_on:
+            self.employ(j, len(self.run.marks))
+        else:
+            self.calls[j], self.pending[j] = self.look(self.caller(j)), None
+            self.weights[j] = 2
+
+    def odd_join(self, i):
+        """A join of two views without a hand. A view that takes over a worker goes on with its work."""
+        views = self.world.views
+        others = [j for j in range(len(views)) if j != i and self.is_free(j) and not views[j].hand]
+        if views[i].hand or not others or self.rng.random() < 0.5:
+            return
+        self.take_over(i, self.rng.choice(others))
+
+    def take_over(self, i, j):
+        """One view takes over another."""
+        works = i in self.calls and self.world.views[i].crew
+        self.step("join", (i, j))
+        self.calls.pop(j, None)
+        self.pending.pop(j, None)
+        if self.world.views[i].crew and not works:
+            self.employ(i, len(self.run.marks))
+
+    # ---- a whole run
+
+    def begin(self):
+        """Each worker gets a view of its own."""
+        for _ in range(1, self.run.workers):
+            self.step("split", (0, True))
+        for i in range(self.run.workers):
+            self.employ(i, len(self.run.marks))
+
+    def play(self, mutate):
+        """Steps of all passes, until none works any more."""
+        while any(self.world.views[i].crew for i in self.calls):
+            ready = list(self.calls)
+            if self.rng.random() < 0.12:
+                self.odd_step()
+            else:
+                self.advance(self.rng.choices(ready, [self.weights[i] for i in ready])[0])
+            mutate(self.world)
+
+    def end(self):
+        """One view takes over all, and finds no mark left. The closed run that the words have come to: its limit and its words."""
+        run, views = self.run, self.world.views
+        self.calls.clear()
+        self.pending.clear()
+        rest = [i for i in range(len(views)) if views[i] != SPENT]
+        self.rng.shuffle(rest)
+        for j in rest[1:]:
+            self.step("join", (rest[0], j))
+        i = rest[0]
+        self.calls[i], self.pending[i], self.weights[i] = self.finish_all(self.caller(i)), None, 1
+        while i in self.calls:
+            self.advance(i)
+        view, words = views[i], cleared(run, self.world.words)
+        report_unless(all(view.seen[run.counter(g)] >= quota(run.strips, g, view.most) for g in range(run.strips)), "none left")
+        broken = next(closed_run(run, view.most, words), None)
+        report_unless(broken is None, "closed law", broken)
+        self.stands_as_seen(view, words)
+        return view.most, words
+
+    def finish_all(self, one):
+        """The marks that are left below the greatest limit."""
+        while (yield from one.claim(one.view.most)) is not None:
+            yield from one.extend()
+
+    def stands_as_seen(self, view, words):
+        """What the last view has seen stands in the run, and there is no more in it."""
+        run = self.run
+        report_unless(view.crew and len(view.crew) == run.workers, "the share is not whole")
+        seen, tree = Tree(run, view.seen), Tree(run, words, "placed")
+        same = seen.points == tree.points and all(seen.pair(n) == tree.pair(n) for n in tree.present)
+        report_unless(same and seen.records == tree.records, "the run is not as it was seen")
+
+
+def play_number(number, kind, counts, mutate=lambda rng, world: None):
+    """Plays the run of a number: from the start alone, and mostly on from where that came to, by another number of workers."""
+    rng = random.Random(f"worlds {number}")
+    scene = tiny_scene(rng)
+    opening, words, workers = 0, None, rng.choice([1, 2, 2, 3, 4])
+    for _ in range(rng.randint(1, 3)):
+        run = Run(scene, workers, opening)
+        player = Player(rng, newcomer(run, words or start_words(run)), kind, counts)
+        player.begin()
+        player.play(lambda world: mutate(rng, world))
+        opening, words = player.end()
+        counts["runs"] += 1
+        workers = rng.randint(1, 4)
+
+
+class Mutants:
+    """Changes of worlds at random moments, and what the law said of them."""
+
+    def __init__(self):
+        self.first, self.alone, self.kinds, self.lawful, self.missed = Counter(), Counter(), Counter(), Counter(), []
+
+    def mutate(self, rng, world):
+        """Now and then changes a copy of the world, and looks whether the law refuses it."""
+        if rng.random() > 0.12:
+            return
+        name, mutant = rng.choice(list(MUTANTS.items()))
+        changed = world.copy()
+        reason = mutant(rng, changed)
+        if reason is None or changed == world:
+            return
+        broken = list(dict.fromkeys(broken_parts(changed)))
+        self.kinds[name] += 1
+        if broken:
+            self.first[broken[0][0]] += 1
+            self.alone[broken[0][0]] += len({part for part, _ in broken}) == 1
+        elif reason == "":
+            self.missed.append(name)
+        else:
+            self.lawful[f"{name}: {reason}"] += 1
+
+
+def print_counts(title, counts):
+    """A table of counts."""
+    print(f"{title}:")
+    for what, times in sorted(counts.items()):
+        print(f"  {what}: {times}")
+
+
+def play_all(first, count):
+    """Plays so many runs, and gives the exit status."""
+    counts, mutants, reports = Counter(), Mutants(), []
+    for number in range(first, first + count):
+        try:
+            play_number(number, Steps, counts, mutants.mutate)
+        except (Report, Broken, Refused) as found:
+            reports.append((number, found))
+    print_counts("steps", counts)
+    print_counts("mutants", mutants.kinds)
+    print_counts("refused, by the first part that is broken", mutants.first)
+    print_counts("refused, by one part alone", mutants.alone)
+    print_counts("lawful all the same", mutants.lawful)
+    for number, found in reports:
+        print(f"reported: run {number}, {type(found).__name__} {found.args}")
+    for name, times in sorted(Counter(mutants.missed).items()):
+        print(f"taken for lawful: {name} ({times})")
+    print(f"{len(reports)} reports, {len(mutants.missed)} mutants taken for lawful")
+    return 1 if reports or mutants.missed else 0
+
+
+def play_bugs(first, count):
+    """Plants one bug after another, and gives the exit status."""
+    missed = 0
+    for bug in BUGS:
+        found = next(filter(None, (report_of(number, bug) for number in range(first, first + count))), None)
+        missed += found is None
+        print(f"{bug.__name__}: {found or 'not reported'}")
+    print(f"{len(BUGS) - missed} of {len(BUGS)} bugs reported")
+    return 1 if missed else 0
+
+
+def report_of(number, bug):
+    """What is reported of the run of a number with a bug, or None."""
+    try:
+        play_number(number, bug, Counter())
+    except (Report, Broken) as found:
+        return f"run {number}, " + ", ".join(map(str, found.args))
+    except Refused as found:
+        return f"run {number}, a later step is refused: {found}"
+    return None
+
+
+if __name__ == "__main__":
+    arguments = [word for word in sys.argv[1:] if word != "--bugs"]
+    play = play_bugs if "--bugs" in sys.argv else play_all
+    sys.exit(play(*(int(word) for word in arguments + ["0", "50"][len(arguments) :])))
