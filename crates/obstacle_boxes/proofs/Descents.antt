@@ -1,5 +1,6 @@
 -- The steps of a descent.
-use Rattle.std.proofs.Common.{◌≡◌, ℕ, ◌+◌, ◌<◌, ◌≤◌, true, false, List, [], ◌∷◌, ◌++◌, length, length-append, get_or, take, drop, refl, subst, arith, ◌∙◌}
+use Rattle.std.proofs.Common.{◌≡◌, ℕ, ◌+◌, ◌<◌, ◌≤◌, true, false, List, [], ◌∷◌, ◌++◌, length, length-append}
+use Rattle.std.proofs.Common.{get_or, take, drop, take-take, refl, subst, arith, ◌∙◌}
 use Rattle.std.specs.Prelude.{All}
 use Rattle.std.proofs.lemmas.List.{drop_more, drop_all, drop-append-le, take-append-drop, drop_at, length-take-le, get_or_append_left}
 use Rattle.std.proofs.lemmas.List.Elements.{All-nil, All-cons, All-append, All-drop, All-head, All-weaker}
@@ -8,10 +9,11 @@ use Rattle.plan_model.specs.declared.geometry.Vertex.{Vertex}
 use Rattle.swept_check.specs.Crossings.{Crosses}
 use Rattle.obstacle_boxes.specs.declared.leaves.Leaf.{Leaf}
 use Rattle.obstacle_boxes.specs.declared.nodes.Node.{Node}
-use Rattle.obstacle_boxes.specs.declared.nodes.Below.TheVariants.{Nodes, Zone}
-use Rattle.obstacle_boxes.specs.LeafBoxes.{Holds, IsLeafAmong, IsMissed, leaves_met}
+use Rattle.obstacle_boxes.specs.declared.nodes.Node.TheVariants.{Halves, Zone}
+use Rattle.convex_sets.specs.declared.boxes.BoundingBox.{BoundingBox}
+use Rattle.obstacle_boxes.specs.LeafBoxes.{Holds, HoldsAll, IsLeafAmong, IsMissed, leaves_met}
 use Rattle.obstacle_boxes.specs.NearZones.{boxes_meet, segment_box}
-use Rattle.obstacle_boxes.specs.Searches.{HasSearched}
+use Rattle.obstacle_boxes.specs.Searches.{AreApartBelow, HasSearched}
 use Rattle.obstacle_boxes.specs.Trees.{leaves_in, IsAbove, IsTree}
 use Rattle.obstacle_boxes.proofs.Counts.{leaves_met-append, leaves_met-cons, leaves_met-apart}
 use Rattle.obstacle_boxes.proofs.BoxLaws.{apart-inner}
@@ -37,15 +39,15 @@ leaves_from-parts nodes first n l m =
     rw split (leaves_in-append (drop first (take n nodes)) (drop n nodes))
 
 -- the node with a number, and those after it
-leaves_from-none : (nodes : List Node) (n first : ℕ) (d : Node) → n < length nodes → (get_or nodes n d).below ≡ Nodes first
-    → leaves_in (drop n nodes) ≡ leaves_in (drop (n + 1) nodes)
-leaves_from-none nodes n first d l below =
-    rw (drop_more nodes n d l) (leaves_in-append (get_or nodes n d ∷ []) (drop (n + 1) nodes) ∙ (rw below refl))
+leaves_from-none : (nodes : List Node) (n first middle : ℕ) (lower upper : BoundingBox) (d : Node) → n < length nodes
+    → get_or nodes n d ≡ Halves first middle lower upper → leaves_in (drop n nodes) ≡ leaves_in (drop (n + 1) nodes)
+leaves_from-none nodes n first middle lower upper d l is =
+    rw (drop_more nodes n d l) (leaves_in-append (get_or nodes n d ∷ []) (drop (n + 1) nodes) ∙ (rw is refl))
 
-leaves_from-one : (nodes : List Node) (n zone : ℕ) (d : Node) → n < length nodes → (get_or nodes n d).below ≡ Zone zone
-    → leaves_in (drop n nodes) ≡ record { bounds = (get_or nodes n d).bounds; zone = zone } ∷ leaves_in (drop (n + 1) nodes)
-leaves_from-one nodes n zone d l below =
-    rw (drop_more nodes n d l) (leaves_in-append (get_or nodes n d ∷ []) (drop (n + 1) nodes) ∙ (rw below refl))
+leaves_from-one : (nodes : List Node) (n : ℕ) (leaf : Leaf) (d : Node) → n < length nodes → get_or nodes n d ≡ Zone leaf
+    → leaves_in (drop n nodes) ≡ leaf ∷ leaves_in (drop (n + 1) nodes)
+leaves_from-one nodes n leaf d l is =
+    rw (drop_more nodes n d l) (leaves_in-append (get_or nodes n d ∷ []) (drop (n + 1) nodes) ∙ (rw is refl))
 
 pub HasSearched-none : (nodes : List Node) (zones : List (List Vertex)) (a b : Point) (before : ℕ) → HasSearched nodes zones a b before before (length nodes)
 HasSearched-none nodes zones a b before =
@@ -81,42 +83,79 @@ HasSearched-apart nodes zones a b before now first n h l leaves apart =
     }
 
 -- a node above others stands for no zone itself
-pub HasSearched-into : (nodes : List Node) (zones : List (List Vertex)) (a b : Point) (before now n first : ℕ) (d : Node)
-    → HasSearched nodes zones a b before now (n + 1) → n < length nodes → (get_or nodes n d).below ≡ Nodes first
+pub HasSearched-into : (nodes : List Node) (zones : List (List Vertex)) (a b : Point) (before now n first middle : ℕ) (lower upper : BoundingBox) (d : Node)
+    → HasSearched nodes zones a b before now (n + 1) → n < length nodes → get_or nodes n d ≡ Halves first middle lower upper
     → HasSearched nodes zones a b before now n
-HasSearched-into nodes zones a b before now n first d h l below =
-    let same = leaves_from-none nodes n first d l below in
+HasSearched-into nodes zones a b before now n first middle lower upper d h l is =
+    let same = leaves_from-none nodes n first middle lower upper d l is in
     record { within = omega arith; missed = rw same h.missed; tested = rw same h.tested }
 
--- if it is apart, those below it are passed over
-pub HasSearched-over : (nodes : List Node) (zones : List (List Vertex)) (a b : Point) (before now n first : ℕ) (d : Node)
-    → HasSearched nodes zones a b before now (n + 1) → n < length nodes → (get_or nodes n d).below ≡ Nodes first → IsTree nodes
-    → All (IsLeafAmong zones) (leaves_in nodes) → boxes_meet (segment_box a b) (get_or nodes n d).bounds ≡ false
-    → HasSearched nodes zones a b before now first
-HasSearched-over nodes zones a b before now n first d h l below tree leaves apart =
-    let node = get_or nodes n d in
-    let here : IsAbove nodes node.bounds first n = tree n first d l below in
-    HasSearched-apart nodes zones a b before now first n (HasSearched-into nodes zones a b before now n first d h l below) here.earlier leaves
-    (All-weaker (λ leaf. Holds node.bounds leaf.bounds) (λ leaf. boxes_meet (segment_box a b) leaf.bounds ≡ false)
-    (λ leaf inner. apart-inner (segment_box a b) node.bounds leaf.bounds inner apart) (leaves_in (drop first (take n nodes))) here.holds)
+-- leaves within a box that is apart are apart
+apart-within : (a b : Point) (bounds : BoundingBox) (leaves : List Leaf) → HoldsAll bounds leaves → boxes_meet (segment_box a b) bounds ≡ false
+    → All (λ leaf. boxes_meet (segment_box a b) leaf.bounds ≡ false) leaves
+apart-within a b bounds leaves holds apart =
+    All-weaker (λ leaf. Holds bounds leaf.bounds) (λ leaf. boxes_meet (segment_box a b) leaf.bounds ≡ false)
+    (λ leaf inner. apart-inner (segment_box a b) bounds leaf.bounds inner apart) leaves holds
+
+-- if its upper half is apart, the nodes of that are passed over
+pub HasSearched-over : (nodes : List Node) (zones : List (List Vertex)) (a b : Point) (before now n first middle : ℕ) (lower upper : BoundingBox) (d : Node)
+    → HasSearched nodes zones a b before now (n + 1) → n < length nodes → get_or nodes n d ≡ Halves first middle lower upper → IsTree nodes
+    → All (IsLeafAmong zones) (leaves_in nodes) → boxes_meet (segment_box a b) upper ≡ false
+    → HasSearched nodes zones a b before now middle
+HasSearched-over nodes zones a b before now n first middle lower upper d h l is tree leaves apart =
+    let here : IsAbove nodes lower upper first middle n = tree n first middle lower upper d l is in
+    HasSearched-apart nodes zones a b before now middle n (HasSearched-into nodes zones a b before now n first middle lower upper d h l is) here.later leaves
+    (apart-within a b upper (leaves_in (drop middle (take n nodes))) here.upper_holds apart)
+
+-- the leaves up to one number are among those up to a greater one
+AreApartBelow-less : (nodes : List Node) (a b : Point) (n m : ℕ) → n ≤ m → AreApartBelow nodes a b m → AreApartBelow nodes a b n
+AreApartBelow-less nodes a b n m l h =
+    let front = leaves_in (take n nodes) in
+    let rest = leaves_in (drop n (take m nodes)) in
+    let first : take n (take m nodes) ≡ take n nodes = take-take n m nodes l in
+    let parts : leaves_in (take m nodes) ≡ front ++ rest
+    = subst (λ xs. leaves_in xs ≡ leaves_in (take n (take m nodes)) ++ rest) (take-append-drop n (take m nodes))
+    (leaves_in-append (take n (take m nodes)) (drop n (take m nodes))) ∙ (rw first refl) in
+    let long = length-append front rest in
+    let all : All (λ leaf. boxes_meet (segment_box a b) leaf.bounds ≡ false) (front ++ rest) = rw parts at h in
+    λ k d at. rw (get_or_append_left front rest d k at) at (all k d (omega arith))
+
+-- if the lower half of a node is apart, and all before it are, those before the upper half are
+pub AreApartBelow-over : (nodes : List Node) (a b : Point) (low n first middle : ℕ) (lower upper : BoundingBox) (d : Node) → AreApartBelow nodes a b low
+    → first ≤ low → n < length nodes → get_or nodes n d ≡ Halves first middle lower upper → IsTree nodes → boxes_meet (segment_box a b) lower ≡ false
+    → AreApartBelow nodes a b middle
+AreApartBelow-over nodes a b low n first middle lower upper d h l at is tree apart =
+    let here : IsAbove nodes lower upper first middle n = tree n first middle lower upper d at is in
+    let P : Leaf → Type 0 = λ leaf. boxes_meet (segment_box a b) leaf.bounds ≡ false in
+    let front = leaves_in (take first nodes) in
+    let rest = leaves_in (drop first (take middle nodes)) in
+    let same : take first (take middle nodes) ≡ take first nodes = take-take first middle nodes here.earlier in
+    let parts : leaves_in (take middle nodes) ≡ front ++ rest
+    = subst (λ xs. leaves_in xs ≡ leaves_in (take first (take middle nodes)) ++ rest) (take-append-drop first (take middle nodes))
+    (leaves_in-append (take first (take middle nodes)) (drop first (take middle nodes))) ∙ (rw same refl) in
+    rw parts (All-append P front rest (AreApartBelow-less nodes a b first low l h) (apart-within a b lower rest here.lower_holds apart))
+
+-- at the end the nodes that are left are apart
+pub HasSearched-all : (nodes : List Node) (zones : List (List Vertex)) (a b : Point) (before now low n : ℕ) → HasSearched nodes zones a b before now n
+    → AreApartBelow nodes a b low → n ≤ low → All (IsLeafAmong zones) (leaves_in nodes) → HasSearched nodes zones a b before now 0
+HasSearched-all nodes zones a b before now low n h apart l leaves =
+    HasSearched-apart nodes zones a b before now 0 n h (omega arith) leaves (AreApartBelow-less nodes a b n low l apart)
 
 -- the leaf of a zone among the nodes
-pub leaf-among : (nodes : List Node) (zones : List (List Vertex)) (n zone : ℕ) (d : Node) → n < length nodes → (get_or nodes n d).below ≡ Zone zone
-    → All (IsLeafAmong zones) (leaves_in nodes) → IsLeafAmong zones (record { bounds = (get_or nodes n d).bounds; zone = zone })
-leaf-among nodes zones n zone d l below leaves =
-    let leaf : Leaf = record { bounds = (get_or nodes n d).bounds; zone = zone } in
+pub leaf-among : (nodes : List Node) (zones : List (List Vertex)) (n : ℕ) (leaf : Leaf) (d : Node) → n < length nodes → get_or nodes n d ≡ Zone leaf
+    → All (IsLeafAmong zones) (leaves_in nodes) → IsLeafAmong zones leaf
+leaf-among nodes zones n leaf d l is leaves =
     All-head (IsLeafAmong zones) leaf (leaves_in (drop (n + 1) nodes))
-    (rw (leaves_from-one nodes n zone d l below) at (All-leaves_from (IsLeafAmong zones) nodes n leaves))
+    (rw (leaves_from-one nodes n leaf d l is) at (All-leaves_from (IsLeafAmong zones) nodes n leaves))
 
 -- a zone whose box is apart, and one that was tested and is missed
-pub HasSearched-past : (nodes : List Node) (zones : List (List Vertex)) (a b : Point) (before now n zone : ℕ) (d : Node)
-    → HasSearched nodes zones a b before now (n + 1) → n < length nodes → (get_or nodes n d).below ≡ Zone zone
-    → All (IsLeafAmong zones) (leaves_in nodes) → boxes_meet (segment_box a b) (get_or nodes n d).bounds ≡ false → HasSearched nodes zones a b before now n
-HasSearched-past nodes zones a b before now n zone d h l below leaves apart =
-    let leaf : Leaf = record { bounds = (get_or nodes n d).bounds; zone = zone } in
+pub HasSearched-past : (nodes : List Node) (zones : List (List Vertex)) (a b : Point) (before now n : ℕ) (leaf : Leaf) (d : Node)
+    → HasSearched nodes zones a b before now (n + 1) → n < length nodes → get_or nodes n d ≡ Zone leaf
+    → All (IsLeafAmong zones) (leaves_in nodes) → boxes_meet (segment_box a b) leaf.bounds ≡ false → HasSearched nodes zones a b before now n
+HasSearched-past nodes zones a b before now n leaf d h l is leaves apart =
     let rest = leaves_in (drop (n + 1) nodes) in
-    let more = leaves_from-one nodes n zone d l below in
-    let missed = missed-apart zones a b leaf (leaf-among nodes zones n zone d l below leaves) apart in
+    let more = leaves_from-one nodes n leaf d l is in
+    let missed = missed-apart zones a b leaf (leaf-among nodes zones n leaf d l is leaves) apart in
     let count = leaves_met-cons (segment_box a b) leaf rest false apart in
     let tested = h.tested in
     record {
@@ -125,14 +164,13 @@ HasSearched-past nodes zones a b before now n zone d h l below leaves apart =
       tested = rw more (omega arith);
     }
 
-pub HasSearched-tested : (nodes : List Node) (zones : List (List Vertex)) (a b : Point) (before now n zone : ℕ) (d : Node)
-    → HasSearched nodes zones a b before now (n + 1) → n < length nodes → (get_or nodes n d).below ≡ Zone zone
-    → boxes_meet (segment_box a b) (get_or nodes n d).bounds ≡ true → ¬ Crosses (get_or zones zone []) a b
+pub HasSearched-tested : (nodes : List Node) (zones : List (List Vertex)) (a b : Point) (before now n : ℕ) (leaf : Leaf) (d : Node)
+    → HasSearched nodes zones a b before now (n + 1) → n < length nodes → get_or nodes n d ≡ Zone leaf
+    → boxes_meet (segment_box a b) leaf.bounds ≡ true → ¬ Crosses (get_or zones leaf.zone []) a b
     → HasSearched nodes zones a b before (now + 1) n
-HasSearched-tested nodes zones a b before now n zone d h l below near missed =
-    let leaf : Leaf = record { bounds = (get_or nodes n d).bounds; zone = zone } in
+HasSearched-tested nodes zones a b before now n leaf d h l is near missed =
     let rest = leaves_in (drop (n + 1) nodes) in
-    let more = leaves_from-one nodes n zone d l below in
+    let more = leaves_from-one nodes n leaf d l is in
     let count = leaves_met-cons (segment_box a b) leaf rest true near in
     let tested = h.tested in
     record {
@@ -142,13 +180,12 @@ HasSearched-tested nodes zones a b before now n zone d h l below near missed =
     }
 
 -- one test more is within the count if the zone that was tested is near
-pub tested-within : (nodes : List Node) (zones : List (List Vertex)) (a b : Point) (before now n zone : ℕ) (d : Node)
-    → HasSearched nodes zones a b before now (n + 1) → n < length nodes → (get_or nodes n d).below ≡ Zone zone
-    → boxes_meet (segment_box a b) (get_or nodes n d).bounds ≡ true → now + 1 ≤ before + leaves_met (segment_box a b) (leaves_in nodes)
-tested-within nodes zones a b before now n zone d h l below near =
-    let leaf : Leaf = record { bounds = (get_or nodes n d).bounds; zone = zone } in
+pub tested-within : (nodes : List Node) (zones : List (List Vertex)) (a b : Point) (before now n : ℕ) (leaf : Leaf) (d : Node)
+    → HasSearched nodes zones a b before now (n + 1) → n < length nodes → get_or nodes n d ≡ Zone leaf
+    → boxes_meet (segment_box a b) leaf.bounds ≡ true → now + 1 ≤ before + leaves_met (segment_box a b) (leaves_in nodes)
+tested-within nodes zones a b before now n leaf d h l is near =
     let rest = leaves_in (drop (n + 1) nodes) in
-    let more = leaves_from-one nodes n zone d l below in
+    let more = leaves_from-one nodes n leaf d l is in
     let count = leaves_met-cons (segment_box a b) leaf rest true near in
     let tested = h.tested in
     let front = leaves_in (take n nodes) in

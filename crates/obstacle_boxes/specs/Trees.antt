@@ -6,28 +6,29 @@ use Rattle.convex_sets.specs.declared.boxes.BoundingBox.{BoundingBox}
 use Rattle.swept_check.specs.Halls.{AreZonesOf}
 use Rattle.obstacle_boxes.specs.declared.leaves.Leaf.{Leaf}
 use Rattle.obstacle_boxes.specs.declared.nodes.Node.{Node}
-use Rattle.obstacle_boxes.specs.declared.nodes.Below.{Below}
-use Rattle.obstacle_boxes.specs.declared.nodes.Below.TheVariants.{Nodes, Zone}
+use Rattle.obstacle_boxes.specs.declared.nodes.Node.TheVariants.{Halves, Zone}
 use Rattle.obstacle_boxes.specs.LeafBoxes.{AreLeavesOf, HoldsAll}
 
--- the leaf that has this box, if one zone is below it
-abbrev pub leaf_below : BoundingBox → Below → Option Leaf
-leaf_below bounds (Nodes first) = None
-leaf_below bounds (Zone number) = Some (record { bounds = bounds; zone = number })
+-- the leaf that a node is, if one zone is below it
+abbrev pub leaf_of : Node → Option Leaf
+leaf_of (Halves first middle lower upper) = None
+leaf_of (Zone leaf) = Some leaf
 
 -- the leaves among nodes, in their order
 abbrev pub leaves_in : List Node → List Leaf
-leaves_in nodes = filter_map (λ node. leaf_below node.bounds node.below) nodes
+leaves_in nodes = filter_map leaf_of nodes
 
--- The nodes from number `first` up to number n lie below node n: its box holds those of all leaves among them.
-pub record IsAbove (nodes : List Node) (bounds : BoundingBox) (first n : ℕ) : Type 0 where
-  pub earlier : first ≤ n
-  pub holds : HoldsAll bounds (leaves_in (drop first (take n nodes)))
+-- The nodes from number `first` up to number n lie below node n, in two halves: its boxes hold those of all leaves among them.
+pub record IsAbove (nodes : List Node) (lower upper : BoundingBox) (first middle n : ℕ) : Type 0 where
+  pub earlier : first ≤ middle
+  pub later : middle ≤ n
+  pub lower_holds : HoldsAll lower (leaves_in (drop first (take middle nodes)))
+  pub upper_holds : HoldsAll upper (leaves_in (drop middle (take n nodes)))
 
 -- each node that stands above others is above all that it says
 abbrev pub IsTree : List Node → Type 0
-IsTree nodes = (n first : ℕ) (d : Node) → n < length nodes → (slice_index_or nodes n d).below ≡ Nodes first
-    → IsAbove nodes (slice_index_or nodes n d).bounds first n
+IsTree nodes = (n first middle : ℕ) (lower upper : BoundingBox) (d : Node) → n < length nodes
+    → slice_index_or nodes n d ≡ Halves first middle lower upper → IsAbove nodes lower upper first middle n
 
 -- nodes for these leaves were added at the end
 pub record Adds (leaves : List Leaf) (before after : List Node) : Type 0 where

@@ -6,8 +6,8 @@ ghost use Rattle.plan_model.specs.RoomOfConfigurations.{InRoom, at_lattice};
 ghost use Rattle.convex_sets.specs.declared.boxes.BoundingBox.{BoundingBox};
 
 use crate::descent::crosses_none;
-use crate::leaves::{MOST_TOGETHER, leaves_of, order};
-use crate::nodes::{Node, push_all};
+use crate::leaves::{leaves_of, order};
+use crate::nodes::{Node, push_tree};
 use convex_sets::Zone;
 use plan_model::{Memory, Point};
 use std::alloc::Global;
@@ -15,11 +15,14 @@ use std::marker::{Brand, Model};
 use std::sync::ledger::{Blank, Ledger};
 use swept_check::{Clearing, Hall, Steps};
 
+/// Of up to so many zones a hall tests all as fast as a tree finds those that are near.
+const MOST_WITHOUT_TREE: usize = 8;
+
 /// The exact collision checker of a scene, by a tree of boxes over its zones: a bounding volume hierarchy, which is built once.
 ///
-/// The tree is one list of nodes. Read from its end, each node stands before all that lie below it, and has the number at which
-/// these begin, so that a search passes over them if the node's box is apart from the segment's. Up to eight zones stand side by
-/// side below a node.
+/// The tree is one list of nodes. Read from its end, each node stands before the two halves that lie below it. It has a box round
+/// each half and the numbers at which they begin, so that a search passes over a half whose box is apart from the segment's. Up
+/// to two zones stand side by side in a half.
 #[derive(Debug, Drop)]
 pub struct Boxes {
     hall: Hall,
@@ -52,7 +55,7 @@ impl Boxes {
         let mut leaves = leaves_of(alloc, hall.zones())?;
         order(leaves.as_mut_slice());
         let mut nodes = Vec::new(alloc);
-        push_all(leaves.as_slice(), &mut nodes)?;
+        push_tree(leaves.as_slice(), &mut nodes)?;
         Ok(Boxes { hall, nodes })
     }
 
@@ -97,10 +100,10 @@ impl Boxes {
 impl Clearing for Boxes {
     ghost space = { λ b. b };
 
-    /// A test of boxes by four comparisons for each node that is not passed over, and an exact test, as that of a hall, for
-    /// each zone whose box meets the segment's, up to the first that is crossed. Of a few zones a hall tests all as fast.
+    /// Two tests of boxes by four comparisons for each node that is not passed over, and an exact test, as that of a hall, for
+    /// each zone whose box meets the segment's, up to the first that is crossed. Up to eight zones are tested by the hall.
     fn clear(&self, a: Point, b: Point) -> bool {
-        if self.hall.zones().len() <= MOST_TOGETHER {
+        if self.hall.zones().len() <= MOST_WITHOUT_TREE {
             return self.hall.clear(a, b);
         }
         self.tests_by::<Brand>(a, b, Blank::new(1))

@@ -8,15 +8,15 @@ ghost use Rattle.obstacle_boxes.specs.Searches.{CrossesSome, HasSearched};
 ghost use Rattle.obstacle_boxes.specs.Trees.{IsTree, leaves_in};
 
 use crate::meeting::{boxes_meet, segment_box};
-use crate::nodes::{Below, Node};
+use crate::nodes::Node;
 use convex_sets::Zone;
 use plan_model::Point;
 use std::sync::ledger::Ledger;
 use swept_check::{Steps, crosses};
 
 /// Whether the segment from `a` to `b` crosses none of the zones at the leaves of a tree. It goes through the nodes from the
-/// last one on, passes over those below a box that is apart from the segment's, and ends at the first zone that is crossed.
-/// It takes no memory.
+/// last one on, passes over each half whose box is apart from the segment's, and ends at the first zone that is crossed, or
+/// when only halves that are apart are left. It takes no memory.
 pub(crate) fn crosses_none<L: Ledger>(
     nodes: &[Node],
     zones: &[Zone],
@@ -35,15 +35,29 @@ pub(crate) fn crosses_none<L: Ledger>(
     ensures few { steps.new ≤ steps.old + leaves_met (segment_box a b) (leaves_in nodes.now) }
 {
     let segment = segment_box(a, b);
+    // All zones before this number are apart.
+    let mut low = 0;
     let mut next = nodes.len();
-    while next > 0 {
+    while low < next {
         let n = next - 1;
-        let node = nodes[n];
-        let is_near = boxes_meet(segment, node.bounds);
-        match node.below {
-            Below::Nodes(first) => next = if is_near { n } else { first },
-            Below::Zone(zone) => {
-                if is_near && crosses(&zones[zone], a, b, steps) {
+        match nodes[n] {
+            Node::Halves {
+                first,
+                middle,
+                lower,
+                upper,
+            } => {
+                if first <= low && !boxes_meet(segment, lower) {
+                    low = middle;
+                }
+                next = if boxes_meet(segment, upper) {
+                    n
+                } else {
+                    middle
+                };
+            }
+            Node::Zone(leaf) => {
+                if boxes_meet(segment, leaf.bounds) && crosses(&zones[leaf.zone], a, b, steps) {
                     return false;
                 }
                 next = n;

@@ -8,7 +8,7 @@ use plan_model::{Memory, Vertex};
 use std::alloc::Global;
 
 /// Up to so many zones stand side by side, with no box round a part of them.
-pub(crate) const MOST_TOGETHER: usize = 8;
+pub(crate) const MOST_TOGETHER: usize = 2;
 
 /// A zone with its bounding box.
 #[derive(Debug, Clone, Copy)]

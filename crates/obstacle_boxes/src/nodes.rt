@@ -1,58 +1,49 @@
 //! The nodes of the tree, in one list.
 
-ghost use Rattle.std.specs.Prelude.{◌<◌, IfOk, length};
+ghost use Rattle.std.specs.Prelude.{IfOk};
 ghost use Rattle.obstacle_boxes.specs.Trees.{Adds};
 
 use crate::leaves::{Leaf, MOST_TOGETHER, box_round};
 use convex_sets::BoundingBox;
 use plan_model::Memory;
 
-/// A box of the tree.
+/// A node of the tree.
 #[derive(Debug, Clone, Copy)]
-pub(crate) struct Node {
-    /// The box, which holds all boxes below it.
-    pub(crate) bounds: BoundingBox,
-    /// What it stands for.
-    pub(crate) below: Below,
+pub(crate) enum Node {
+    /// Two halves of some zones. Below it lie all nodes before it, from the number `first` on: those of the lower half, and from
+    /// the number `middle` on those of the upper half.
+    Halves {
+        /// The number at which the lower half begins.
+        first: usize,
+        /// The number at which the upper half begins.
+        middle: usize,
+        /// A box round the lower half.
+        lower: BoundingBox,
+        /// A box round the upper half.
+        upper: BoundingBox,
+    },
+    /// A zone with its bounding box.
+    Zone(Leaf),
 }
 
-/// What a box of the tree stands for.
-#[derive(Debug, Clone, Copy)]
-pub(crate) enum Below {
-    /// All nodes before it, from this number on. A descent that does not enter the box goes on before that number.
-    Nodes(usize),
-    /// The zone of this number.
-    Zone(usize),
-}
-
-/// Adds the nodes of some leaves at the end of a list: the leaves alone if they are few, otherwise their tree. O(n log n).
-pub(crate) fn push_all(leaves: &[Leaf], nodes: &mut Vec<Node>) -> Result<(), Memory>
+/// Adds the tree of some leaves at the end of a list: the leaves themselves if they are few, otherwise the trees of both halves,
+/// and then the node above them. O(n log n).
+pub(crate) fn push_tree(leaves: &[Leaf], nodes: &mut Vec<Node>) -> Result<(), Memory>
     ensures { IfOk result (λ _. Adds leaves.now nodes.old.items nodes.new.items) }
 {
     if leaves.len() <= MOST_TOGETHER {
-        push_leaves(leaves, nodes)
-    } else {
-        push_tree(leaves, nodes)
+        return push_leaves(leaves, nodes);
     }
-}
-
-/// Adds the tree of some leaves: the trees of both halves, or the leaves themselves if they are few, and then the node above
-/// them.
-fn push_tree(leaves: &[Leaf], nodes: &mut Vec<Node>) -> Result<(), Memory>
-    requires { 0 < length leaves.now }
-    ensures { IfOk result (λ _. Adds leaves.now nodes.old.items nodes.new.items) }
-{
+    let (lower, upper) = leaves.split_at(leaves.len() / 2);
     let first = nodes.len();
-    if leaves.len() <= MOST_TOGETHER {
-        push_leaves(leaves, nodes)?;
-    } else {
-        let (lower, upper) = leaves.split_at(leaves.len() / 2);
-        push_tree(lower, nodes)?;
-        push_tree(upper, nodes)?;
-    }
-    nodes.push(Node {
-        bounds: box_round(leaves),
-        below: Below::Nodes(first),
+    push_tree(lower, nodes)?;
+    let middle = nodes.len();
+    push_tree(upper, nodes)?;
+    nodes.push(Node::Halves {
+        first,
+        middle,
+        lower: box_round(lower),
+        upper: box_round(upper),
     })?;
     Ok(())
 }
@@ -62,10 +53,7 @@ fn push_leaves(leaves: &[Leaf], nodes: &mut Vec<Node>) -> Result<(), Memory>
     ensures { IfOk result (λ _. Adds leaves.now nodes.old.items nodes.new.items) }
 {
     for leaf in leaves {
-        nodes.push(Node {
-            bounds: leaf.bounds,
-            below: Below::Zone(leaf.zone),
-        })?;
+        nodes.push(Node::Zone(*leaf))?;
     }
     Ok(())
 }

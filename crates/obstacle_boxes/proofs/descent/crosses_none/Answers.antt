@@ -2,66 +2,116 @@ use Rattle.std.proofs.Common.{◌≡◌, ◌+◌, ◌-◌, [], get_or, subst, sy
 use Rattle.std.proofs.lemmas.List.{get_or_default}
 use Rattle.swept_check.specs.Crossings.{Crosses}
 use Rattle.obstacle_boxes.specs.Searches.{HasSearched}
-use Rattle.obstacle_boxes.proofs.Descents.{HasSearched-over, HasSearched-past, HasSearched-tested, leaf-among, tested-within}
+use Rattle.obstacle_boxes.proofs.Descents.{AreApartBelow-over, HasSearched-all, HasSearched-into, HasSearched-over, HasSearched-past, HasSearched-tested}
+use Rattle.obstacle_boxes.proofs.Descents.{leaf-among, tested-within}
 use Rattle.obstacle_boxes.proofs.descent.crosses_none.Goals as goal
-use Rattle.obstacle_boxes.proofs.descent.crosses_none.Goals.{else-is_near-2-via-then-is_near-2+else-crosses, else-is_near-2-via-else-is_near-2}
+use Rattle.obstacle_boxes.proofs.descent.crosses_none.Goals.{then-first-low+then-not-boxes_meet, else-first-low}
+use Rattle.obstacle_boxes.proofs.descent.crosses_none.Goals.{else-boxes_meet-2-via-then-boxes_meet-2+else-crosses, else-boxes_meet-2-via-else-boxes_meet-2}
 
-pub loop-next-preserved-else-is_near : goal.loop-next-preserved-else-is_near
-loop-next-preserved-else-is_near g c =
-    let n = c.loop-next.next - 1 in
-    let within = c.loop-next.invariant.within in
-    let more : c.loop-next.next ≡ n + 1 = omega arith in
-    let h = subst (HasSearched c.args.nodes.now c.args.zones.now c.args.a c.args.b c.args.steps.now c.loop-next.steps) more c.loop-next.invariant in
-    HasSearched-over c.args.nodes.now c.args.zones.now c.args.a c.args.b c.args.steps.now c.loop-next.steps n c.in-Nodes.first _ h (omega arith) c.in-Nodes.is
-    c.requires.tree c.requires.leaves (rw c.segment_box-segment.ensures at (sym c.if-is_near.ensures))
+pub loop-low-preserved-then-boxes_meet : goal.loop-low-preserved-then-boxes_meet
+loop-low-preserved-then-boxes_meet g c =
+    let n = c.loop-low.next - 1 in
+    let within = c.loop-low.invariant.searched.within in
+    let more : c.loop-low.next ≡ n + 1 = omega arith in
+    let h = subst (HasSearched c.args.nodes.now c.args.zones.now c.args.a c.args.b c.args.steps.now c.loop-low.steps) more c.loop-low.invariant.searched in
+    record {
+      searched = HasSearched-into c.args.nodes.now c.args.zones.now c.args.a c.args.b c.args.steps.now c.loop-low.steps n _ _ _ _ _ h (omega arith)
+          c.in-Halves.is;
+      apart = elim c.if-first-low.branch [
+        | then-first-low+then-not-boxes_meet w ↦
+            rw w.low-is
+            (AreApartBelow-over c.args.nodes.now c.args.a c.args.b c.loop-low.low n c.in-Halves.first _ _ _ _ c.loop-low.invariant.apart
+            w.if-first-low.true (omega arith) c.in-Halves.is c.requires.tree (rw c.segment_box-segment.ensures at (sym w.if-not-boxes_meet.ensures)))
+        | else-first-low w ↦ rw w.low-is c.loop-low.invariant.apart
+      ];
+    }
 
-pub offset_bounds-zones-zone : goal.offset_bounds-zones-zone
-offset_bounds-zones-zone g c =
-    let within = c.loop-next.invariant.within in
-    let at = (leaf-among c.args.nodes.now c.args.zones.now (c.loop-next.next - 1) c.in-Zone.zone _ (omega arith) c.in-Zone.is c.requires.leaves).within in
+pub loop-low-preserved-else-boxes_meet : goal.loop-low-preserved-else-boxes_meet
+loop-low-preserved-else-boxes_meet g c =
+    let n = c.loop-low.next - 1 in
+    let within = c.loop-low.invariant.searched.within in
+    let more : c.loop-low.next ≡ n + 1 = omega arith in
+    let h = subst (HasSearched c.args.nodes.now c.args.zones.now c.args.a c.args.b c.args.steps.now c.loop-low.steps) more c.loop-low.invariant.searched in
+    record {
+      searched = HasSearched-over c.args.nodes.now c.args.zones.now c.args.a c.args.b c.args.steps.now c.loop-low.steps n _ _ _ _ _ h (omega arith)
+          c.in-Halves.is c.requires.tree c.requires.leaves (rw c.segment_box-segment.ensures at (sym c.if-boxes_meet.ensures));
+      apart = elim c.if-first-low.branch [
+        | then-first-low+then-not-boxes_meet w ↦
+            rw w.low-is
+            (AreApartBelow-over c.args.nodes.now c.args.a c.args.b c.loop-low.low n c.in-Halves.first _ _ _ _ c.loop-low.invariant.apart
+            w.if-first-low.true (omega arith) c.in-Halves.is c.requires.tree (rw c.segment_box-segment.ensures at (sym w.if-not-boxes_meet.ensures)))
+        | else-first-low w ↦ rw w.low-is c.loop-low.invariant.apart
+      ];
+    }
+
+pub offset_bounds-zones-leaf : goal.offset_bounds-zones-leaf
+offset_bounds-zones-leaf g c =
+    let within = c.loop-low.invariant.searched.within in
+    let at = (leaf-among c.args.nodes.now c.args.zones.now (c.loop-low.next - 1) c.in-Zone.leaf _ (omega arith) c.in-Zone.is c.requires.leaves).within in
     search rules
 
-pub bounds-zones-zone : goal.bounds-zones-zone
-bounds-zones-zone g c =
-    let within = c.loop-next.invariant.within in
-    (leaf-among c.args.nodes.now c.args.zones.now (c.loop-next.next - 1) c.in-Zone.zone _ (omega arith) c.in-Zone.is c.requires.leaves).within
+pub bounds-zones-leaf : goal.bounds-zones-leaf
+bounds-zones-leaf g c =
+    let within = c.loop-low.invariant.searched.within in
+    (leaf-among c.args.nodes.now c.args.zones.now (c.loop-low.next - 1) c.in-Zone.leaf _ (omega arith) c.in-Zone.is c.requires.leaves).within
 
 pub returns-then-crosses-clause-crossed : goal.returns-then-crosses-clause-crossed
 returns-then-crosses-clause-crossed g c = λ e.
-    let within = c.loop-next.invariant.within in
-    let at = (leaf-among c.args.nodes.now c.args.zones.now (c.loop-next.next - 1) c.in-Zone.zone _ (omega arith) c.in-Zone.is c.requires.leaves).within in
-    let is : c.index-zones-zone.result ≡ get_or c.args.zones.now c.in-Zone.zone [] = c.index-zones-zone.is ∙ get_or_default _ c.in-Zone.zone _ [] at in
-    record { number = c.in-Zone.zone; within = at; crosses = rw is at (c.if-crosses.ensures.crosses.0 refl) }
+    let zone = c.in-Zone.leaf.zone in
+    let within = c.loop-low.invariant.searched.within in
+    let at = (leaf-among c.args.nodes.now c.args.zones.now (c.loop-low.next - 1) c.in-Zone.leaf _ (omega arith) c.in-Zone.is c.requires.leaves).within in
+    let is : c.index-zones-leaf.result ≡ get_or c.args.zones.now zone [] = c.index-zones-leaf.is ∙ get_or_default _ zone _ [] at in
+    record { number = zone; within = at; crosses = rw is at (c.if-crosses.ensures.crosses.0 refl) }
 
 pub returns-then-crosses-clause-few : goal.returns-then-crosses-clause-few
 returns-then-crosses-clause-few g c =
-    let n = c.loop-next.next - 1 in
-    let within = c.loop-next.invariant.within in
-    let more : c.loop-next.next ≡ n + 1 = omega arith in
-    let h = subst (HasSearched c.args.nodes.now c.args.zones.now c.args.a c.args.b c.args.steps.now c.loop-next.steps) more c.loop-next.invariant in
+    let n = c.loop-low.next - 1 in
+    let within = c.loop-low.invariant.searched.within in
+    let more : c.loop-low.next ≡ n + 1 = omega arith in
+    let h = subst (HasSearched c.args.nodes.now c.args.zones.now c.args.a c.args.b c.args.steps.now c.loop-low.steps) more c.loop-low.invariant.searched in
     rw c.crosses.ensures.step
-    (tested-within c.args.nodes.now c.args.zones.now c.args.a c.args.b c.args.steps.now c.loop-next.steps n c.in-Zone.zone _ h (omega arith) c.in-Zone.is
-    (rw c.segment_box-segment.ensures at (sym c.if-is_near-2.ensures)))
+    (tested-within c.args.nodes.now c.args.zones.now c.args.a c.args.b c.args.steps.now c.loop-low.steps n c.in-Zone.leaf _ h (omega arith) c.in-Zone.is
+    (rw c.segment_box-segment.ensures at (sym c.if-boxes_meet-2.ensures)))
 
-pub loop-next-preserved : goal.loop-next-preserved
-loop-next-preserved g c =
-    let n = c.loop-next.next - 1 in
-    let within = c.loop-next.invariant.within in
-    let more : c.loop-next.next ≡ n + 1 = omega arith in
-    let h = subst (HasSearched c.args.nodes.now c.args.zones.now c.args.a c.args.b c.args.steps.now c.loop-next.steps) more c.loop-next.invariant in
-    elim c.else-is_near-2.branch [
-      | else-is_near-2-via-then-is_near-2+else-crosses w ↦ (
-          let at = (leaf-among c.args.nodes.now c.args.zones.now n c.in-Zone.zone _ (omega arith) c.in-Zone.is c.requires.leaves).within in
-          let is : w.index-zones-zone.result ≡ get_or c.args.zones.now c.in-Zone.zone [] = w.index-zones-zone.is ∙ get_or_default _ c.in-Zone.zone _ [] at in
-          let missed : ¬ Crosses (get_or c.args.zones.now c.in-Zone.zone []) c.args.a c.args.b = λ x.
-          (let yes = w.crosses.ensures.crosses.1 (rw (← is) at x) in let no = w.if-crosses.false in cc) in
-          rw (w.steps-is, w.crosses.ensures.step)
-          (HasSearched-tested c.args.nodes.now c.args.zones.now c.args.a c.args.b c.args.steps.now c.loop-next.steps n c.in-Zone.zone _ h
-          (omega arith) c.in-Zone.is
-          (rw c.segment_box-segment.ensures at (sym w.if-is_near-2.ensures)) missed))
-      | else-is_near-2-via-else-is_near-2 w ↦
-          rw w.steps-is
-          (HasSearched-past c.args.nodes.now c.args.zones.now c.args.a c.args.b c.args.steps.now c.loop-next.steps n c.in-Zone.zone _ h
-          (omega arith) c.in-Zone.is
-          c.requires.leaves (rw c.segment_box-segment.ensures at (sym w.if-is_near-2.ensures)))
-    ]
+pub loop-low-preserved : goal.loop-low-preserved
+loop-low-preserved g c =
+    let n = c.loop-low.next - 1 in
+    let zone = c.in-Zone.leaf.zone in
+    let within = c.loop-low.invariant.searched.within in
+    let more : c.loop-low.next ≡ n + 1 = omega arith in
+    let h = subst (HasSearched c.args.nodes.now c.args.zones.now c.args.a c.args.b c.args.steps.now c.loop-low.steps) more c.loop-low.invariant.searched in
+    record {
+      searched = elim c.else-boxes_meet-2.branch [
+        | else-boxes_meet-2-via-then-boxes_meet-2+else-crosses w ↦ (
+            let at = (leaf-among c.args.nodes.now c.args.zones.now n c.in-Zone.leaf _ (omega arith) c.in-Zone.is c.requires.leaves).within in
+            let is : w.index-zones-leaf.result ≡ get_or c.args.zones.now zone [] = w.index-zones-leaf.is ∙ get_or_default _ zone _ [] at in
+            let missed : ¬ Crosses (get_or c.args.zones.now zone []) c.args.a c.args.b = λ x.
+            (let yes = w.crosses.ensures.crosses.1 (rw (← is) at x) in let no = w.if-crosses.false in cc) in
+            rw (w.steps-is, w.crosses.ensures.step)
+            (HasSearched-tested c.args.nodes.now c.args.zones.now c.args.a c.args.b c.args.steps.now c.loop-low.steps n c.in-Zone.leaf _ h
+            (omega arith) c.in-Zone.is
+            (rw c.segment_box-segment.ensures at (sym w.if-boxes_meet-2.ensures)) missed))
+        | else-boxes_meet-2-via-else-boxes_meet-2 w ↦
+            rw w.steps-is
+            (HasSearched-past c.args.nodes.now c.args.zones.now c.args.a c.args.b c.args.steps.now c.loop-low.steps n c.in-Zone.leaf _ h
+            (omega arith) c.in-Zone.is
+            c.requires.leaves (rw c.segment_box-segment.ensures at (sym w.if-boxes_meet-2.ensures)))
+      ];
+      apart = c.loop-low.invariant.apart;
+    }
+
+pub returns-clause-missed : goal.returns-clause-missed
+returns-clause-missed g c = λ t.
+    (HasSearched-all c.args.nodes.now c.args.zones.now c.args.a c.args.b c.args.steps.now c.loop-low.steps c.loop-low.low c.loop-low.next
+    c.loop-low.invariant.searched c.loop-low.invariant.apart (omega arith) c.requires.leaves).missed
+
+pub returns-clause-all : goal.returns-clause-all
+returns-clause-all g c = λ t.
+    (HasSearched-all c.args.nodes.now c.args.zones.now c.args.a c.args.b c.args.steps.now c.loop-low.steps c.loop-low.low c.loop-low.next
+    c.loop-low.invariant.searched c.loop-low.invariant.apart (omega arith) c.requires.leaves).tested
+
+pub returns-clause-few : goal.returns-clause-few
+returns-clause-few g c =
+    let tested = (HasSearched-all c.args.nodes.now c.args.zones.now c.args.a c.args.b c.args.steps.now c.loop-low.steps c.loop-low.low c.loop-low.next
+    c.loop-low.invariant.searched c.loop-low.invariant.apart (omega arith) c.requires.leaves).tested in
+    omega (arith, tested)

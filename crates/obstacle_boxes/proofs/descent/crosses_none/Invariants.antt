@@ -1,8 +1,12 @@
-use Rattle.obstacle_boxes.specs.Searches.{HasSearched}
+use Rattle.obstacle_boxes.specs.Searches.{AreApartBelow, HasSearched}
 use Rattle.obstacle_boxes.proofs.descent.crosses_none.Given as goal
 
-abbrev pub invariant-loop-next : goal.invariant-loop-next
-invariant-loop-next g l = HasSearched l.nodes l.zones l.a l.b l.initial.steps l.steps l.next
+abbrev pub invariant-loop-low : goal.invariant-loop-low
+invariant-loop-low g l =
+    record {
+      searched : HasSearched l.nodes l.zones l.a l.b l.initial.steps l.steps l.next;
+      apart : AreApartBelow l.nodes l.a l.b l.low;
+    }
 
-abbrev pub decreases-loop-next : goal.decreases-loop-next
-decreases-loop-next g l = l.next
+abbrev pub decreases-loop-low : goal.decreases-loop-low
+decreases-loop-low g l = l.next

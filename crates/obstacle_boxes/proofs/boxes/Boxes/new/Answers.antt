@@ -13,6 +13,6 @@ invariant_of-result c =
       are_zones = c.zones.ensures;
       leaves = leaves.items;
       are_leaves = c.in_ok-leaves.ensures;
-      permutation = rw (leaves-added _ _ _ c.new-nodes.ensures.items c.in_ok-push_all.ensures, c.as_slice.ensures.value, is) permutation;
-      tree = tree-added _ _ _ c.new-nodes.ensures.items c.in_ok-push_all.ensures;
+      permutation = rw (leaves-added _ _ _ c.new-nodes.ensures.items c.in_ok-push_tree.ensures, c.as_slice.ensures.value, is) permutation;
+      tree = tree-added _ _ _ c.new-nodes.ensures.items c.in_ok-push_tree.ensures;
     }

@@ -51,3 +51,6 @@ returns-clause-all g c =
     rw (← c.self.view_is) (λ t boxes are.
     rw (leaves_met-near c.self.inside.hall c.self.inside.nodes.items boxes c.args.a c.args.b c.self.invariant are) at
     (rw c.as_slice.ensures.value at (c.crosses_none.ensures.all t)))
+
+pub crosses_none-requires-clause-tree : goal.crosses_none-requires-clause-tree
+crosses_none-requires-clause-tree g c = rw c.as_slice.ensures.value c.self.invariant.tree
