@@ -45,6 +45,12 @@ pub counters_changed :
     (g x : ℕ) (before mid after : Words) → ChangesOnly IsCounter before mid → WritesWord (Counter g) x mid after → ChangesOnly IsCounter before after
 counters_changed g x before mid after first writes name apart = writes.others name (λ e. apart (subst IsCounter (sym e) tt)) ∙ first name apart
 
+-- of the pass nothing changes but its view, by one step more
+pub view_alone-more : (before mid after : PassState) (view : View) → mid ≡ with_view before mid.view → after ≡ with_view mid view
+    → after ≡ with_view before after.view
+view_alone-more before mid after view alone is =
+    is ∙ ap (λ (p : PassState). with_view p view) alone ∙ ap (with_view before) (sym (ap (λ (p : PassState). p.view) is))
+
 -- the best strip so far is one of those gone through
 pub best_strip :
     (run : SharedRun) (w limit : ℕ) (counters : ℕ → ℕ) (n strips : ℕ) (best : Option Next) → Scanned run w limit counters n best → n < strips

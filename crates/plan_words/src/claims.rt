@@ -48,8 +48,9 @@ impl Shared {
         requires limit { limit ≤ length self.now.task.marks }
         ensures belongs { BelongsTo pass.new self.now }
         ensures goes_on { GoesOn pass.old.view pass.new.view }
-        // of all words it sees none anew but counters
+        // of all words it sees none anew but counters, and the lists of the pass stay
         ensures others { ChangesOnly IsCounter (sees pass.old.view) (sees pass.new.view) }
+        ensures view_alone { pass.new ≡ with_view pass.old pass.new.view }
         ensures loaded { AllLoaded pass.new.view pass.old.view.steps }
         ensures none { IfNone result (KeepsHand pass.old.view pass.new.view × AllFull pass.new.view limit) }
         ensures some { IfSome result (λ k. IsClaimed pass.old.view pass.new.view limit k) }
@@ -74,6 +75,7 @@ impl Shared {
         ensures kept { KeepsHand pass.old.view pass.new.view }
         ensures goes_on { GoesOn pass.old.view pass.new.view }
         ensures others { ChangesOnly IsCounter (sees pass.old.view) (sees pass.new.view) }
+        ensures view_alone { pass.new ≡ with_view pass.old pass.new.view }
         ensures loaded { AllLoaded pass.new.view pass.old.view.steps }
         ensures first { MatchOption result (AllFull pass.new.view limit)
             (λ next. IsOpen pass.new.view (worker_of pass.old.view.crew) limit next.strip next.round) }

@@ -1,6 +1,6 @@
 use Rattle.std.proofs.Common.{◌≢◌, ◌<◌, inl, inr, refl, ap, sym, subst, ◌∙◌, arith, le_trans, length}
 use Rattle.plan_words.proofs.Claiming.{IfNone-any, IsClaimed-exchanged, KeepsHand-trans, belongs_exchanged, counters_changed, counters_twice}
-use Rattle.plan_words.proofs.Claiming.{claim_nearer, kept_exchanged, loaded_before, loaded_since}
+use Rattle.plan_words.proofs.Claiming.{claim_nearer, kept_exchanged, loaded_before, loaded_since, view_alone-more}
 use Rattle.plan_words.proofs.GoingOn.{GoesOn-more, GoesOn-trans}
 use Rattle.plan_words.proofs.WholeClaims.{HasWholeShare-kept, IsLeastOpen-first, RaisesCounter-exchanged, whole_twice}
 use Rattle.plan_words.proofs.shared.Shared.claim.Goals as goal
@@ -15,6 +15,7 @@ tries-init c = record {
   later = IsLater-refl c.args.pass.now.view;
   goes_on = inl refl;
   others = λ name apart. refl;
+  alone = refl;
   whole = λ all name. refl;
 }
 
@@ -84,6 +85,9 @@ tries-preserved c =
       later = IsLater-trans _ _ _ (IsLater-trans _ _ _ c.tries.invariant.later c.first_open.ensures.goes_on.later) c.exchange.ensures.goes_on.later;
       goes_on = inr (GoesOn-trans _ _ _ (GoesOn-more _ _ _ c.tries.invariant.goes_on c.first_open.ensures.goes_on) c.exchange.ensures.goes_on);
       others = counters_changed _ _ _ _ _ (counters_twice _ _ _ c.tries.invariant.others c.first_open.ensures.others) c.exchange.ensures.seen;
+      alone = view_alone-more c.args.pass.now c.first_open.new.pass c.exchange.new.pass _
+          (view_alone-more c.args.pass.now c.tries.pass c.first_open.new.pass _ c.tries.invariant.alone c.first_open.ensures.view_alone)
+          c.exchange.ensures.view;
       whole = λ all.
           let share = HasWholeShare-kept c.args.pass.now.view c.first_open.new.pass.view
           (KeepsHand-trans _ _ _ c.tries.invariant.kept c.first_open.ensures.kept)
@@ -127,3 +131,13 @@ returns-then-exchange-from-clause-least c all one =
     whole_twice c.args.pass.now.view c.tries.pass.view c.first_open.new.pass.view kept.kept kept.later.run kept.whole c.first_open.ensures.whole all in
     IsLeastOpen-first _ _ c.args.limit next.strip next.round c.args.pass.now.view c.first_open.new.pass (ap (λ s. s.task.scene.strips) c.self.view_is)
     c.first_open.ensures.belongs (c.first_open.ensures.goes_on.later.run ∙ kept.later.run) as_before open_next one
+
+pub returns-in_err-next-clause-view_alone : goal.returns-in_err-next-clause-view_alone
+returns-in_err-next-clause-view_alone c =
+    view_alone-more c.args.pass.now c.tries.pass c.first_open.new.pass _ c.tries.invariant.alone c.first_open.ensures.view_alone
+
+pub returns-then-exchange-from-clause-view_alone : goal.returns-then-exchange-from-clause-view_alone
+returns-then-exchange-from-clause-view_alone c =
+    view_alone-more c.args.pass.now c.first_open.new.pass c.exchange.new.pass _
+    (view_alone-more c.args.pass.now c.tries.pass c.first_open.new.pass _ c.tries.invariant.alone c.first_open.ensures.view_alone)
+    c.exchange.ensures.view

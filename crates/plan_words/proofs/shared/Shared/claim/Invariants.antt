@@ -1,5 +1,6 @@
+use Rattle.std.proofs.Common.{◌≡◌}
 use Rattle.plan_words.specs.Claims.{KeepsHand, SeesAsBefore}
-use Rattle.plan_words.specs.States.{BelongsTo, HasWholeShare}
+use Rattle.plan_words.specs.States.{BelongsTo, HasWholeShare, with_view}
 use Rattle.plan_words.proofs.GoingOn.{HasGoneOn}
 use Rattle.plan_words.proofs.Scanning.{left_over}
 use Rattle.plan_words.proofs.shared.Shared.claim.Given as goal
@@ -15,6 +16,7 @@ invariant-tries l = record {
   later : IsLater l.fn.pass.view l.pass.view;
   goes_on : HasGoneOn l.fn.pass.view l.pass.view;
   others : ChangesOnly IsCounter (sees l.fn.pass.view) (sees l.pass.view);
+  alone : l.pass ≡ with_view l.fn.pass l.pass.view;
   whole : HasWholeShare l.fn.pass.view → SeesAsBefore l.fn.pass.view l.pass.view;
 }
 

@@ -1,5 +1,5 @@
 use Rattle.std.proofs.Common.{refl, ap, arith, inl, inr}
-use Rattle.plan_words.proofs.Claiming.{belongs_loaded, best_strip, counters_changed, kept_loaded, loaded_more, scan_ends, scan_more}
+use Rattle.plan_words.proofs.Claiming.{belongs_loaded, best_strip, counters_changed, kept_loaded, loaded_more, scan_ends, scan_more, view_alone-more}
 use Rattle.plan_words.proofs.GoingOn.{GoesOn-more}
 use Rattle.plan_words.proofs.WholeClaims.{whole_loaded}
 use Rattle.plan_words.proofs.shared.Shared.first_open.Goals as goal
@@ -12,6 +12,7 @@ loop-strip-init c = record {
   later = IsLater-refl c.args.pass.now.view;
   goes_on = inl (refl, refl);
   others = λ name apart. refl;
+  alone = refl;
   whole = λ all name. refl;
   loaded = λ g low. absurd (omega (arith, low));
   scanned = λ h low. absurd (omega (arith, low));
@@ -38,6 +39,7 @@ loop-strip-preserved c =
         | inr first ↦ GoesOn-more _ _ _ (inr first) told.goes_on
       ]);
       others = counters_changed _ _ _ _ _ kept.others told.seen;
+      alone = view_alone-more c.args.pass.now c.loop-strip.pass c.taken-round.new.pass _ kept.alone told.view;
       whole = whole_loaded c.args.pass.now.view c.loop-strip.pass c.taken-round.new.pass _ _ kept.kept kept.later.run kept.whole told.seen told.whole;
       loaded = loaded_more _ _ _ _ kept.loaded told.looked kept.later.steps told.goes_on.later;
       scanned = scan_more _ _ _ c.worker.result _ _ _ _ _ _ c.loop-strip.best kept.belongs strips workers c.worker.ensures.number told.view told.seen
@@ -76,3 +78,6 @@ returns-clause-others c = c.loop-strip.invariant.others
 
 pub returns-clause-whole : goal.returns-clause-whole
 returns-clause-whole c = c.loop-strip.invariant.whole
+
+pub returns-clause-view_alone : goal.returns-clause-view_alone
+returns-clause-view_alone c = c.loop-strip.invariant.alone

@@ -1,6 +1,6 @@
 use Rattle.std.proofs.Common.{◌≡◌, ◌<◌, ◌⊎◌, ℕ}
 use Rattle.plan_words.specs.Claims.{KeepsHand, SeesAsBefore}
-use Rattle.plan_words.specs.States.{BelongsTo, GoesOn, HasWholeShare, worker_of}
+use Rattle.plan_words.specs.States.{BelongsTo, GoesOn, HasWholeShare, with_view, worker_of}
 use Rattle.plan_words.proofs.Scanning.{Scanned}
 use Rattle.plan_words.proofs.shared.Shared.first_open.Given as goal
 use Rattle.step_core.specs.LaterViews.{IsLater}
@@ -15,6 +15,7 @@ invariant-loop-strip l = record {
   later : IsLater l.fn.pass.view l.pass.view;
   goes_on : ((l.strip ≡ 0) × (l.pass.view ≡ l.fn.pass.view)) ⊎ GoesOn l.fn.pass.view l.pass.view;
   others : ChangesOnly IsCounter (sees l.fn.pass.view) (sees l.pass.view);
+  alone : l.pass ≡ with_view l.fn.pass l.pass.view;
   whole : HasWholeShare l.fn.pass.view → SeesAsBefore l.fn.pass.view l.pass.view;
   loaded : (g : ℕ) → g < l.strip → l.fn.pass.view.steps < last_look l.pass.view (Counter g);
   scanned : Scanned l.pass.view.run (worker_of l.fn.pass.view.crew) l.limit (λ g. sees l.pass.view (Counter g)) l.strip l.best;
