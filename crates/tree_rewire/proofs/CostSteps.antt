@@ -9,13 +9,15 @@ use Rattle.plan_words.proofs.Claiming.{KeepsHand-trans}
 use Rattle.plan_words.proofs.GoingOn.{GoesOn-refl, GoesOn-trans}
 use Rattle.step_core.specs.LaterViews.{IsLawfulView}
 use Rattle.step_core.specs.ViewSteps.{loaded, lowered, saw}
+use Rattle.step_core.proofs.SeenByViews.{WritesWord-looked}
+use Rattle.step_core.specs.ViewTrees.{SeesNode}
 use Rattle.step_core.specs.Views.{sees, tree_seen}
 use Rattle.step_core.specs.WordNames.{Word, WritesWord}
 use Rattle.step_core.specs.WordNames.Word.{ChildOf, Count, Counter, FirstOf, PointOf, RecordOf, TreeOf}
 use Rattle.step_core.specs.Words.{cost_in}
 use Rattle.step_core.specs.declared.views.View.{View}
 use Rattle.kd_shared.proofs.Looking.{BelongsTo-later, point_at-kept}
-use Rattle.tree_rewire.specs.SeenCosts.{IsNoWord, IsPointWord, IsTreeOrPoint, IsTreeWord, PassLowers, PassSees, SeesAnew, cost_through}
+use Rattle.tree_rewire.specs.SeenCosts.{IsLoadedSince, IsNoWord, IsPointWord, IsTreeOrPoint, IsTreeWord, PassLowers, PassSees, SeesAnew, cost_through}
 use Rattle.tree_rewire.proofs.SeenCosts.{load_shows_none}
 
 -- ---- views
@@ -92,6 +94,13 @@ pub PassSees-tree : (shared : SharedState) (before after : PassState) (n word va
 PassSees-tree shared before after n word value belongs is goes_on writes =
     PassSees-saw IsTreeWord shared before after (TreeOf n) word word belongs is goes_on
     (λ other off. writes.others other (λ same. off (subst IsTreeWord (sym same) tt)))
+
+-- and so its last look is this step
+pub IsLoadedSince-tree : (before after : PassState) (n word : ℕ) → IsLawfulView before.view → SeesNode before.view n
+    → after ≡ with_view before (loaded before.view (TreeOf n) word) → IsLoadedSince before.view.steps after.view n
+IsLoadedSince-tree before after n word lawful node is =
+    let looks = WritesWord-looked before.view.run before.view lawful.of_run (TreeOf n) (lawful.within n node) word word in
+    subst (λ v. IsLoadedSince before.view.steps v n) (sym (ap (λ (p : PassState). p.view) is)) (omega (arith, looks.here))
 
 -- the point of a node that is seen with it is loaded again
 pub PassSees-point : (shared : SharedState) (before after : PassState) (n word value : ℕ) → BelongsTo before shared

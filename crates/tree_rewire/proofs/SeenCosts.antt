@@ -15,7 +15,7 @@ use Rattle.step_core.proofs.Looks.{same_name}
 use Rattle.step_core.proofs.ReadWords.{if_written-set}
 use Rattle.step_core.proofs.SeenViews.{SeesPoint-later}
 use Rattle.step_core.proofs.SeenWords.{point_at-seen, seen-within}
-use Rattle.tree_rewire.specs.SeenCosts.{SeesPair, cost_seen, parent_seen}
+use Rattle.tree_rewire.specs.SeenCosts.{IsLoadedSince, SeesPair, cost_seen, parent_seen}
 
 -- ---- nodes
 
@@ -54,6 +54,14 @@ module _ (before after : View) (goes_on : GoesOn before after) where
           | inl same ↦ omega (arith, ap cost_in same)
           | inr less ↦ omega (arith, less.1)
         ]
+      ]
+
+  -- what was looked at since a step is so still
+  pub IsLoadedSince-later : (steps n : ℕ) → steps ≤ before.steps → IsLoadedSince steps before n → IsLoadedSince steps after n
+  IsLoadedSince-later steps n order since =
+      elim (goes_on.later.looked (TreeOf n)) [
+        | inl same ↦ omega (arith, same, since)
+        | inr later ↦ omega (arith, later, order)
       ]
 
   -- ---- points

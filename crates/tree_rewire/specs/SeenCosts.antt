@@ -1,12 +1,12 @@
 -- What a pass has seen of costs, and what calls that look at costs or lower them leave of it.
-use Rattle.std.specs.Prelude.{◌≡◌, ℕ, ◌+◌, ◌*◌, ◌^◌, ◌≤◌}
+use Rattle.std.specs.Prelude.{◌≡◌, ℕ, ◌+◌, ◌*◌, ◌^◌, ◌<◌, ◌≤◌}
 use Rattle.plan_model.specs.declared.geometry.Point.{Point}
 use Rattle.plan_model.specs.Cost.{cost_of}
 use Rattle.plan_model.specs.Geometry.{squared_distance}
 use Rattle.plan_model.specs.PointsByNumber.{IsPresent, point_of}
 use Rattle.plan_words.specs.Claims.{KeepsHand}
 use Rattle.plan_words.specs.States.{BelongsTo, GoesOn, PassState, SharedState, with_view}
-use Rattle.step_core.specs.Views.{sees, tree_seen}
+use Rattle.step_core.specs.Views.{last_look, sees, tree_seen}
 use Rattle.step_core.specs.WordNames.{ChangesOnly, Word}
 use Rattle.step_core.specs.WordNames.Word.{PointOf, TreeOf}
 use Rattle.step_core.specs.Words.{cost_in, parent_in}
@@ -25,6 +25,10 @@ parent_seen view n = parent_in (sees view (TreeOf n))
 -- and the cost
 abbrev pub cost_seen : View → ℕ → ℕ
 cost_seen view n = cost_in (sees view (TreeOf n))
+
+-- its parent and its cost were looked at after the first so many steps of the pass
+abbrev pub IsLoadedSince : ℕ → View → ℕ → Type 0
+IsLoadedSince steps view n = steps < last_look view (TreeOf n)
 
 -- what a node at p costs through node n, by what was seen of that
 abbrev pub cost_through : View → Point → ℕ → ℕ

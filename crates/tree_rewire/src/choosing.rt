@@ -14,7 +14,7 @@ ghost use Rattle.step_core.specs.LaterViews.{IsLawfulView};
 ghost use Rattle.step_core.specs.ViewTrees.{IsCostBelow};
 ghost use Rattle.step_core.specs.Views.{tree_seen};
 ghost use Rattle.tree_rewire.specs.Choices.{IsBetter};
-ghost use Rattle.tree_rewire.specs.SeenCosts.{IsInReach, IsNoWord, IsTreeWord, PassSees, SeesAnew, SeesPair, cost_through};
+ghost use Rattle.tree_rewire.specs.SeenCosts.{IsInReach, IsLoadedSince, IsNoWord, IsTreeWord, PassSees, SeesAnew, SeesPair, cost_through};
 
 use crate::seen_costs::seen_cost;
 use edge_cost::Parent;
@@ -48,6 +48,8 @@ pub fn choose<C: Clearing>(
     ensures seen { SeesAnew IsTreeWord pass.old.view pass.new.view }
     ensures view_alone { pass.new ≡ with_view pass.old pass.new.view }
     ensures pairs { All (SeesPair pass.new.view) (nearest ∷ pass.old.near) }
+    // each cost was loaded in this call
+    ensures loaded { All (IsLoadedSince pass.old.view.steps pass.new.view) (nearest ∷ pass.old.near) }
     ensures least { IsFirstLeast (cost_through pass.new.view p)
         (IsOpenTo (space_of shared.now.task.scene) (tree_seen pass.new.view).points p (nearest ∷ pass.old.near)) result.0 }
     ensures cost { result.1 ≡ cost_through pass.new.view p result.0 }
@@ -71,6 +73,7 @@ fn load_costs(shared: &Shared, pass: &mut Pass, nearest: u32, count: usize)
     requires near { All (IsPresent (tree_seen pass.old.view).points) pass.old.near }
     ensures steps { PassSees IsTreeWord shared.now pass.old pass.new }
     ensures pairs { All (SeesPair pass.new.view) (nearest ∷ pass.old.near) }
+    ensures loaded { All (IsLoadedSince pass.old.view.steps pass.new.view) (nearest ∷ pass.old.near) }
     ensures whole { HasWholeShare pass.old.view → SeesAsBefore pass.old.view pass.new.view }
 {
     let _pair = shared.tree(pass, nearest);

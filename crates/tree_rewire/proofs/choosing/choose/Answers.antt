@@ -12,7 +12,7 @@ use Rattle.step_core.proofs.SeenViews.{IsPresent-later}
 use Rattle.tree_rewire.specs.SeenCosts.{IsInReach, IsNoWord, IsTreeWord, cost_through}
 use Rattle.tree_rewire.proofs.ChosenParents.{IsCostBelow-best, IsFirstLeast-after, points_later}
 use Rattle.tree_rewire.proofs.CostSteps.{PassSees-more, PassSees-trans, cost_through-same}
-use Rattle.tree_rewire.proofs.SeenCosts.{SeesPair-later}
+use Rattle.tree_rewire.proofs.SeenCosts.{IsLoadedSince-later, SeesPair-later}
 use Rattle.tree_rewire.proofs.WholeShares.{SeesAsBefore-none, SeesAsBefore-trans}
 use Rattle.tree_rewire.proofs.choosing.choose.Goals as goal
 
@@ -42,6 +42,13 @@ returns-clause-seen g c =
     (PassSees-trans IsTreeWord c.args.shared.now c.args.pass.now c.load_costs.new.pass c.least-best.new.pass c.load_costs.ensures.steps
     (PassSees-more IsNoWord IsTreeWord c.args.shared.now c.load_costs.new.pass c.least-best.new.pass (λ name no. absurd no)
     c.least-best.ensures.steps)).sees_anew
+
+pub returns-clause-loaded : goal.returns-clause-loaded
+returns-clause-loaded g c =
+    let begun = c.load_costs.ensures.steps.sees_anew.goes_on.later.steps in
+    λ k d below.
+    IsLoadedSince-later c.load_costs.new.pass.view c.least-best.new.pass.view c.least-best.ensures.steps.sees_anew.goes_on c.args.pass.now.view.steps _ begun
+    (c.load_costs.ensures.loaded k d below)
 
 pub returns-clause-least : goal.returns-clause-least
 returns-clause-least g c =

@@ -1,13 +1,15 @@
 use Rattle.std.proofs.Common.{All, take}
 use Rattle.plan_words.specs.Claims.{SeesAsBefore}
 use Rattle.plan_words.specs.States.{HasWholeShare}
-use Rattle.tree_rewire.specs.SeenCosts.{IsTreeWord, PassSees, SeesPair}
+use Rattle.tree_rewire.specs.SeenCosts.{IsLoadedSince, IsTreeWord, PassSees, SeesPair}
 use Rattle.tree_rewire.proofs.choosing.load_costs.Given as goal
 
 abbrev pub invariant-loads : goal.invariant-loads
 invariant-loads l = record {
   steps : PassSees IsTreeWord l.shared l.fn.pass l.pass;
   first : SeesPair l.pass.view l.nearest;
+  first_loaded : IsLoadedSince l.fn.pass.view.steps l.pass.view l.nearest;
   earlier : All (SeesPair l.pass.view) (take l.index l.fn.pass.near);
+  earlier_loaded : All (IsLoadedSince l.fn.pass.view.steps l.pass.view) (take l.index l.fn.pass.near);
   whole : HasWholeShare l.fn.pass.view → SeesAsBefore l.fn.pass.view l.pass.view;
 }
