@@ -1,5 +1,5 @@
 -- The near list of a new node, from the count that was loaded before.
-use Rattle.std.proofs.Common.{◌≡◌, ℕ, zero, suc, ◌+◌, ◌-◌, ◌*◌, ◌^◌, ◌≤◌, Bool, true, false, List, length, refl, sym, ap, ◌∙◌, arith}
+use Rattle.std.proofs.Common.{◌≡◌, ℕ, zero, suc, ◌+◌, ◌-◌, ◌*◌, ◌^◌, ◌<◌, ◌≤◌, Bool, true, false, List, length, refl, sym, ap, ◌∙◌, subst, inl, inr, arith}
 use Rattle.std.specs.Prelude.{cond, nat_le, slice_index_or}
 use Rattle.std.specs.List.{range_with_len}
 use Rattle.std.proofs.lemmas.List.Elements.{Contains-get_or}
@@ -13,15 +13,17 @@ use Rattle.plan_model.specs.declared.geometry.Point.{Point}
 use Rattle.plan_model.specs.declared.records.Record.{Record}
 use Rattle.plan_model.proofs.CountsBelow.{count-some}
 use Rattle.plan_model.proofs.NewNodes.{IsPresent-stands, point_of-stands}
-use Rattle.plan_words.specs.States.{GoesOn}
+use Rattle.plan_words.specs.States.{GoesOn, PassState, with_view}
 use Rattle.plan_work.proofs.RecordedMarks.{own_count-same}
 use Rattle.plan_work.specs.Extensions.{HasFilledNear, radius_in}
 use Rattle.step_core.specs.SeenRecords.{is_own, own_count}
+use Rattle.step_core.specs.ViewSteps.{loaded}
 use Rattle.step_core.specs.ViewTrees.{sight_in}
-use Rattle.step_core.specs.Views.{sees, tree_seen}
+use Rattle.step_core.specs.Views.{last_look, sees, tree_seen}
 use Rattle.step_core.specs.WordNames.Word.{Count, RecordOf}
 use Rattle.step_core.specs.declared.views.View.{View}
 use Rattle.step_core.proofs.LawfulSights.{IsLaterMoment-later}
+use Rattle.step_core.proofs.SeenByViews.{WritesWord-looked}
 use Rattle.tree_rewire.proofs.SeenCosts.{stands_later}
 
 -- a worker has the start at least
@@ -48,17 +50,33 @@ radius-most step gamma b = greatest-most (λ r. nat_le (r * r * 2 ^ (b - 1)) (ga
 square-le : (a b : ℕ) → a ≤ b → a * a ≤ b * b
 square-le a b h = mul-le a a b b h h
 
+-- a load of the count is the last look at it
+pub looks_at_count : (before after : PassState) (nodes : ℕ) → after ≡ with_view before (loaded before.view Count nodes)
+    → GoesOn before.view after.view → before.view.steps < last_look after.view Count
+looks_at_count before after nodes is goes_on =
+    let looks = WritesWord-looked before.view.run before.view goes_on.was_lawful.of_run Count tt nodes nodes in
+    subst (λ v. before.view.steps < last_look v Count) (sym (ap (λ (p : PassState). p.view) is)) (omega (arith, looks.here))
+
+-- if it was loaded since a step, it was so still later on
+pub looked_still : (steps : ℕ) (mid after : View) → GoesOn mid after → steps < last_look mid Count → steps < last_look after Count
+looked_still steps mid after goes_on since =
+    elim (goes_on.later.looked Count) [
+      | inl same ↦ omega (arith, same, since)
+      | inr later ↦ omega (arith, later, since, goes_on.was_lawful.of_run.looks Count)
+    ]
+
 -- The list that a search found after the count was loaded.
 pub HasFilledNear-found :
     (before mid after : View) → GoesOn before mid → GoesOn mid after → (p : Point) (nodes class : ℕ) (near : List ℕ)
-    → ((entry : Record) → own_count before entry ≤ nodes) → sees after Count ≡ nodes → class ≡ class_of nodes
+    → before.steps < last_look mid Count → ((entry : Record) → own_count before entry ≤ nodes) → sees after Count ≡ nodes → class ≡ class_of nodes
     → AreNearSeen (sight_in mid) (sight_in after) p (radius_in after class) near → HasFilledNear before after p class near
-HasFilledNear-found before mid after one other p nodes class near own count is found =
+HasFilledNear-found before mid after one other p nodes class near looked own count is found =
     let later = IsLaterMoment-later before mid one.later in
     let next = IsLaterMoment-later mid after other.later in
     let r : ℕ = radius_in after class in
     record {
       class_is = is ∙ ap class_of (sym count);
+      looked = looked_still before.steps mid after other looked;
       counted = λ entry. omega (arith, own entry, count);
       all = λ i q stands close.
           AreNearSeen-all (sight_in mid) (sight_in after) p r near found next i q (stands_later before mid one i q stands) close;
@@ -84,6 +102,7 @@ pub HasFilledNear-begun :
     (near : List ℕ) → HasFilledNear before after p class near → HasFilledNear first after p class near
 HasFilledNear-begun first before after one records p class near h = record {
   class_is = h.class_is;
+  looked = omega (arith, h.looked, one.later.steps);
   counted = λ entry. omega (arith, h.counted entry, own_count-same first before entry one records);
   all = λ i q stands close. h.all i q (stands_later first before one i q stands) close;
   in_reach = h.in_reach;

@@ -32,6 +32,7 @@ use Rattle.step_core.specs.declared.views.Stage.TheVariants.{Counted}
 use Rattle.step_core.specs.declared.views.View.{View}
 use Rattle.tree_rewire.proofs.SeenCosts.{cost_seen-later, stands_later}
 use Rattle.tree_rewire.specs.SeenCosts.{IsTreeOrPoint, SeesAnew, SeesPair, cost_seen}
+use Rattle.plan_work.proofs.FilledNear.{looked_still}
 use Rattle.plan_work.proofs.KeptSights.{SweepsWithin-still}
 use Rattle.plan_work.proofs.HeldMarks.{if_held, of_held}
 use Rattle.plan_work.proofs.RecordedMarks.{IsSteeredTo-still, MayRecord-steered, has_node-kept, others_still, own_count-same, own_recorded, present_recorded}
@@ -280,6 +281,7 @@ module _
           ∙ ap class_of (sym (others_still after.view done.view counted_hand stored held_after
           (ap (λ (x : PassState). x.view) (recorded.view counted_hand held_after))
           whole.lawful Count (λ e. cc) ∙ seen.others Count (λ no. no) ∙ is_tried.count));
+      looked = looked_still first.view.steps mid done.view (GoesOn-trans mid after.view done.view later recorded.goes_on) filled.looked;
       swept =
           subst (λ x. SweepsWithin (sight_in first.view) (sight_in done.view) p (x * x)) (sym radius_end)
           (SweepsWithin-still mid done.view (GoesOn-trans mid after.view done.view later recorded.goes_on) first.view p (r * r) filled.swept);

@@ -23,6 +23,7 @@ use Rattle.step_core.specs.declared.views.Hand.{Hand}
 use Rattle.step_core.specs.declared.views.View.{View}
 use Rattle.tree_rewire.proofs.ChosenParents.{IsInReach-later}
 use Rattle.tree_rewire.specs.SeenCosts.{IsInReach}
+use Rattle.plan_work.proofs.FilledNear.{looked_still}
 use Rattle.plan_work.proofs.KeptRecords.{KeepsRecords-trans}
 use Rattle.plan_work.proofs.KeptSights.{SweepsWithin-still, distance_still, point_still}
 use Rattle.plan_work.specs.Extensions.{HasFilledNear, IsFilledSince, IsHung, IsSteeredTo, IsTried, KeepsRecords, MayPlace, hung_by, radius_in}
@@ -72,6 +73,7 @@ HasFilledNear-recounted before mid after p class near goes_on is filled =
     let same : radius_in after class ≡ radius_in mid class = ap (λ (run : SharedRun). radius_of_class run.step run.gamma class) goes_on.later.run in
     record {
       class_is = is;
+      looked = looked_still before.steps mid after goes_on filled.looked;
       counted = λ entry. omega (arith, filled.counted entry, goes_on.later.seen Count);
       all = λ i q stands close.
           filled.all i q stands (subst (λ r. squared_distance q p ≤ r * r) same close);

@@ -1,5 +1,5 @@
 -- What the handling of one mark leaves, by what the pass has seen.
-use Rattle.std.specs.Prelude.{◌≡◌, ◌≢◌, true, ℕ, suc, ◌+◌, ◌*◌, ◌≤◌, All, Contains, Some, List, refl}
+use Rattle.std.specs.Prelude.{◌≡◌, ◌≢◌, true, ℕ, suc, ◌+◌, ◌*◌, ◌<◌, ◌≤◌, All, Contains, Some, List, refl}
 use Rattle.edge_cost.specs.declared.radii.Radii.{Radii}
 use Rattle.kd_shared.specs.Searches.{SweepsWithin}
 use Rattle.kd_shared.specs.Placings.{IsPlacing}
@@ -27,7 +27,7 @@ use Rattle.step_core.specs.SeenRecords.{own_count}
 use Rattle.step_core.specs.GrownWords.{has_node, record_at}
 use Rattle.step_core.specs.ViewSteps.{finished, one_turn_more}
 use Rattle.step_core.specs.ViewTrees.{SeesPoint, sight_in}
-use Rattle.step_core.specs.Views.{sees, setup_in, tree_seen}
+use Rattle.step_core.specs.Views.{last_look, sees, setup_in, tree_seen}
 use Rattle.step_core.specs.WordNames.Word.{Count, Counter, RecordOf}
 use Rattle.step_core.specs.Words.{record_word}
 use Rattle.step_core.specs.declared.views.Hand.{Hand}
@@ -65,10 +65,12 @@ pub record HasSteered (before after : View) (k m : ℕ) (from p : Point) : Type 
 abbrev pub radius_in : View → ℕ → ℕ
 radius_in view class = radius_of_class view.run.step view.run.gamma class
 
--- The class is that of the count seen, which is no less than how many nodes a worker has placed, by the records seen. The near list has each
--- node that was seen before within the radius of p, and all of it are in reach, and within the radius. All points within it are swept.
+-- The class is that of the count seen, which was loaded since, and is no less than how many nodes a worker has placed, by the records seen. The
+-- near list has each node that was seen before within the radius of p, and all of it are in reach, and within the radius. All points within it
+-- are swept.
 pub record HasFilledNear (before after : View) (p : Point) (class : ℕ) (near : List ℕ) : Type 0 where
   pub class_is : class ≡ class_of (sees after Count)
+  pub looked : before.steps < last_look after Count
   pub counted : (entry : Record) → own_count before entry ≤ sees after Count
   pub all : (i : ℕ) (q : Point) → SeesPoint before i q → squared_distance q p ≤ radius_in after class * radius_in after class → Contains near i
   pub in_reach : All (IsInReach after p) near
@@ -186,11 +188,12 @@ pub record WasNeighbour (before after : View) (entry : Record) (p : Point) (i : 
   pub near : squared_distance at p ≤ radius_in after entry.class * radius_in after entry.class
   pub clear : Clear (setup_in after.run).space at p
 
--- The node of the mark is seen at p. Its class is that of the count seen, and all points within the radius are swept. No neighbour was a
--- cheaper parent, and none is seen dearer than through it.
+-- The node of the mark is seen at p. Its class is that of the count seen, which was loaded since, and all points within the radius are swept. No
+-- neighbour was a cheaper parent, and none is seen dearer than through it.
 pub record IsPlacedAt (before after : View) (k : ℕ) (entry : Record) (p : Point) : Type 0 where
   pub stands : SeesPoint after (suc k) p
   pub class_is : entry.class ≡ class_of (sees after Count)
+  pub looked : before.steps < last_look after Count
   pub swept : SweepsWithin (sight_in before) (sight_in after) p (radius_in after entry.class * radius_in after entry.class)
   pub chosen : (i : ℕ) (was : WasNeighbour before after entry p i) → entry.first_cost ≤ cost_seen before i + cost_of was.at p
   pub rewired : (i : ℕ) (was : WasNeighbour before after entry p i) → cost_seen after i ≤ entry.first_cost + cost_of was.at p

@@ -3,7 +3,7 @@ use Rattle.kd_shared.specs.Searches.{AreNearSeen}
 use Rattle.plan_model.specs.Radius.{class_of, radius_of_class}
 use Rattle.plan_model.specs.Textbook.{unplaced_record}
 use Rattle.plan_model.specs.declared.records.Outcome.TheVariants.{Blocked}
-use Rattle.plan_work.proofs.FilledNear.{HasFilledNear-found, own_count-some}
+use Rattle.plan_work.proofs.FilledNear.{HasFilledNear-found, looks_at_count, own_count-some}
 use Rattle.plan_work.proofs.KeptRecords.{KeepsRecords-looks, KeepsRecords-number, KeepsRecords-trans}
 use Rattle.plan_model.specs.Nearness.{near}
 use Rattle.plan_model.specs.PointsByNumber.{node_count}
@@ -48,7 +48,8 @@ returns-clause-filled c =
     ∙ ap (λ n. radius_of_class after.run.step n (class_of c.from-nodes.result)) (c.requires.radii.gamma ∙ ap (λ (r : SharedRun). r.gamma) (sym run))
     ∙ ap (radius_of_class after.run.step after.run.gamma) (sym c.class.ensures.value) in
     HasFilledNear-found before mid after c.number.ensures.goes_on c.near.ensures.looks.looks.goes_on c.args.p nodes c.class.result c.near.new.pass.near
-    c.number.ensures.own count (c.class.ensures.value ∙ ap class_of c.from-nodes.ensures)
+    (looks_at_count c.args.pass.now c.number.new.pass nodes c.number.ensures.view c.number.ensures.goes_on) c.number.ensures.own count
+    (c.class.ensures.value ∙ ap class_of c.from-nodes.ensures)
     (subst (λ r. AreNearSeen (sight_in mid) (sight_in after) c.args.p r c.near.new.pass.near) radius c.near.ensures.near)
 
 -- by the number of nodes seen, which the count is
