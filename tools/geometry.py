@@ -76,11 +76,19 @@ def segments_meet(a, b, c, d):
 
 def segment_meets(polygon, a, b):
     """Whether the closed segment from a to b has a point in the closed convex polygon."""
-    xs = [p[0] for p in polygon]
-    ys = [p[1] for p in polygon]
-    if max(a[0], b[0]) < min(xs) or min(a[0], b[0]) > max(xs) or max(a[1], b[1]) < min(ys) or min(a[1], b[1]) > max(ys):
-        return False
     return contains(polygon, a) or contains(polygon, b) or any(segments_meet(a, b, c, d) for c, d in sides(polygon))
+
+
+def bounds(points):
+    """The lower left and the upper right corner of the box round some points."""
+    xs, ys = zip(*points)
+    return (min(xs), min(ys)), (max(xs), max(ys))
+
+
+def is_beside(box, a, b):
+    """Whether both ends of a segment lie on one side of a box."""
+    (left, bottom), (right, top) = box
+    return max(a[0], b[0]) < left or min(a[0], b[0]) > right or max(a[1], b[1]) < bottom or min(a[1], b[1]) > top
 
 
 class Space:
@@ -95,6 +103,7 @@ class Space:
             scene.room[1] - max(0, max(body_y)),
         )
         self.zones = [hull([(ox - bx, oy - by) for ox, oy in obstacle for bx, by in scene.body]) for obstacle in scene.obstacles]
+        self.boxes = [bounds(zone) for zone in self.zones]
 
     def is_in_room(self, p):
         """Whether the whole body fits in the room at p."""
@@ -102,4 +111,7 @@ class Space:
 
     def is_clear(self, a, b):
         """Whether the body is clear at every point of the segment from a to b."""
-        return self.is_in_room(a) and self.is_in_room(b) and not any(segment_meets(zone, a, b) for zone in self.zones)
+        if not (self.is_in_room(a) and self.is_in_room(b)):
+            return False
+        near = (zone for box, zone in zip(self.boxes, self.zones) if not is_beside(box, a, b))
+        return not any(segment_meets(zone, a, b) for zone in near)

@@ -9,6 +9,8 @@ and for no other; each record by what its worker must have known when it handled
 report.
 """
 
+import bisect
+import random
 import re
 import sys
 
@@ -19,6 +21,9 @@ from textbook import Record, Tree, head_lines
 
 MOST_WORKERS = 64
 N = r"(0|[1-9][0-9]*)"
+PATH = re.compile(f"path {N} cost {N}")
+POINT = re.compile(f"{N} {N}")
+COUNTS = re.compile(f"nodes {N} placed {N} same {N} blocked {N}")
 NODE = re.compile(f"node {N} at {N} {N} parent {N} cost {N}")
 MARK = re.compile(f"mark {N} worker {N} turn {N} nearest {N} (?:(placed) class {N} first {N} {N}|(same) {N}|(blocked))")
 
@@ -44,14 +49,14 @@ def record_of(match):
 
 
 class Judge:
-    """A report beside its scene."""
+    """A report beside its scene. With a number given, only so many drawn nodes and marks are looked at, of a large report."""
 
-    def __init__(self, scene, text):
-        self.scene = scene
+    def __init__(self, scene, text, most=None):
+        self.scene, self.most = scene, most
         self.space = Space(scene)
         self.marks = mark_points(scene, self.space)
         self.tree = Tree(scene.start)
-        self.costs = {}
+        self.costs, self.ranked = {}, {}
         self.parse(text)
 
     def parse(self, text):
@@ -76,14 +81,19 @@ class Judge:
             need(match and int(match[1]) == k, f"not the line of mark {k}: {line}")
             self.records.append(record_of(match))
 
+    def drawn(self, numbers):
+        """The numbers of nodes or marks that are looked at."""
+        numbers = list(numbers)
+        return numbers if self.most is None else random.Random(0).sample(numbers, min(self.most, len(numbers)))
+
     def check(self):
         """Checks all laws in their order."""
         self.check_nodes()
         self.check_turns()
         for k, record in enumerate(self.records):
             need((record.outcome == "placed") == (k + 1 in self.tree.points), f"mark {k} and node {k + 1} do not agree")
-        for k, record in enumerate(self.records):
-            self.check_record(k, record)
+        for k in self.drawn(range(len(self.records))):
+            self.check_record(k, self.records[k])
         need(self.head == head_lines(self.tree, self.records, self.scene.goal), "the short report is another one")
 
     def edge(self, a, b, what):
@@ -97,7 +107,7 @@ class Judge:
         points, parents = self.tree.points, self.tree.parents
         need(points.get(0) == self.scene.start and parents[0] == 0 and self.costs.get(0) == 0, "node 0 is not the start")
         need(len(set(points.values())) == len(points), "two nodes stand at one point")
-        for n in points:
+        for n in self.drawn(points):
             if n != 0:
                 parent = parents[n]
                 need(parent in points and parent != n, f"node {n} has no parent")
@@ -105,13 +115,35 @@ class Judge:
                 need(self.costs[n] == self.costs[parent] + edge, f"the cost of node {n} is not its sum")
 
     def check_turns(self):
-        """The turns of each worker run from 0, with no gap and none twice."""
+        """The turns of each worker run from 0, with no gap and none twice. Keeps the nodes of each worker by turn."""
         turns = {}
-        for record in self.records:
+        for k, record in enumerate(self.records):
             need(record.worker < MOST_WORKERS, "there are too many workers")
-            turns.setdefault(record.worker, []).append(record.turn)
+            turns.setdefault(record.worker, []).append((record.turn, k))
+        self.placed = {}
         for worker, own in turns.items():
-            need(sorted(own) == list(range(len(own))), f"worker {worker} leaves out a turn or has one twice")
+            own.sort()
+            need([turn for turn, _ in own] == list(range(len(own))), f"worker {worker} leaves out a turn or has one twice")
+            placed = [(turn, k + 1) for turn, k in own if self.records[k].outcome == "placed"]
+            self.placed[worker] = [turn for turn, _ in placed], [node for _, node in placed]
+
+    def earlier_nodes(self, record):
+        """The start, and the nodes that its worker had placed before it handled the mark of a record."""
+        turns, nodes = self.placed[record.worker]
+        return [0] + nodes[: bisect.bisect_left(turns, record.turn)]
+
+    def least_rank(self, mark, record):
+        """The least pair of squared distance and number among the earlier nodes. Each node is looked at once for a point."""
+        turns, nodes = self.placed[record.worker]
+        count = bisect.bisect_left(turns, record.turn)
+        begin = 0, (squared_distance(self.tree.points[0], mark), 0)
+        seen, least = self.ranked.get((record.worker, mark), begin)
+        if seen > count:
+            seen, least = begin
+        for node in nodes[seen:count]:
+            least = min(least, (squared_distance(self.tree.points[node], mark), node))
+        self.ranked[record.worker, mark] = count, least
+        return least
 
     def first_cost(self, n):
         """What a node cost when it was placed."""
@@ -121,19 +153,16 @@ class Judge:
         """What the record of mark k says is borne out by the tree and the earlier nodes of its worker."""
         points, mark, what = self.tree.points, self.marks[k], f"mark {k}"
         m = record.nearest
-        own = lambda r: r.outcome == "placed" and r.worker == record.worker and r.turn < record.turn
-        earlier = [0] + [i + 1 for i, r in enumerate(self.records) if own(r)]
-        rank = lambda i: (squared_distance(points[i], mark), i)
         need(m in points, f"{what}: there is no nearest node")
-        need(all(rank(m) <= rank(i) for i in earlier), f"{what}: an earlier node is nearer")
+        need((squared_distance(points[m], mark), m) <= self.least_rank(mark, record), f"{what}: an earlier node is nearer")
         p = steer(points[m], mark, self.scene.step)
         if record.outcome == "same":
             need(points.get(record.other) == p, f"{what}: the node stands at another point")
         elif record.outcome == "blocked":
             need(not self.space.is_clear(points[m], p), f"{what}: the edge is clear")
-            need(all(points[i] != p for i in earlier), f"{what}: an earlier node stands there")
+            need(all(points[i] != p for i in self.earlier_nodes(record)), f"{what}: an earlier node stands there")
         else:
-            self.check_placed(k, record, earlier, p)
+            self.check_placed(k, record, self.earlier_nodes(record), p)
 
     def check_placed(self, k, record, earlier, p):
         """What holds of a mark that was placed at p."""
@@ -155,10 +184,41 @@ class Judge:
                 need(costs[i] <= c + near, f"{what}: near node {i} was not rewired")
 
 
-def verdict(scene, text):
-    """`lawful`, or the reason why the report is not."""
+def check_short(scene, text):
+    """Checks what a short report alone can show: the path is clear and costs what it says, and each mark is counted once."""
+    need(text.endswith("\n"), "the last line has no line feed")
+    first, *middle, last = text[:-1].split("\n")
+    counts = COUNTS.fullmatch(last)
+    need(counts, "there is no line of counts")
+    nodes, *handled = map(int, counts.groups())
+    marks = len(scene.marks) if scene.drawn is None else scene.drawn
+    need(nodes == handled[0] + 1 and sum(handled) == marks, "the counts do not add up")
+    if first == "no path":
+        need(not middle and not is_in(scene.goal, scene.start), "there is a path")
+        return
+    matches = [PATH.fullmatch(first), *(POINT.fullmatch(line) for line in middle)]
+    need(all(matches), "not the lines of a path")
+    path = [(int(match[1]), int(match[2])) for match in matches[1:]]
+    need(len(path) == int(matches[0][1]) >= 1, "the path has another number of points")
+    need(path[0] == scene.start and is_in(scene.goal, path[-1]), "the path does not lead from the start into the goal")
+    space, edges = Space(scene), list(zip(path, path[1:]))
+    need(space.is_clear(path[0], path[0]) and all(space.is_clear(a, b) for a, b in edges), "the path is not clear")
+    need(all(squared_distance(a, b) <= scene.step**2 for a, b in edges), "an edge of the path is too long")
+    need(sum(cost(a, b) for a, b in edges) == int(matches[0][2]), "the cost of the path is not its sum")
+
+
+def is_in(goal, point):
+    """Whether a point lies in the goal."""
+    return goal[0] <= point[0] <= goal[2] and goal[1] <= point[1] <= goal[3]
+
+
+def verdict(scene, text, full=True, most=None):
+    """`lawful`, or the reason why the report is not. Of a short one, only what it shows is checked."""
     try:
-        Judge(scene, text).check()
+        if full:
+            Judge(scene, text, most).check()
+        else:
+            check_short(scene, text)
     except Broken as broken:
         return str(broken)
     return "lawful"
