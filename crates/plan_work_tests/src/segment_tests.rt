@@ -3,14 +3,19 @@
 ghost use Rattle.std.specs.Prelude.{◌≡◌, IfOk, length};
 ghost use Rattle.plan_model.specs.Clearance.{ClearAt};
 ghost use Rattle.plan_model.specs.ConfigurationSpace.{space_of};
+ghost use Rattle.plan_work_tests.specs.Sharers.{HasClaimed, HasShare, IsOfThree};
 
 use crate::test_runs::{Entry, entry_of, marks_to_rewire};
+use crate::two_passes::{joined_run, two_passes};
 use plan_model::{Goal, Memory, Outcome, Point, SmallScene, Task};
-use plan_work::{Gate, grow};
+use plan_words::{Pass, Shared};
+use plan_work::{Gate, NoGate, extend, grow, work};
 use std::alloc::Global;
 use std::process::Abort;
 use std::sync::atomic::{AtomicBool, Ordering};
+use std::test::Fail;
 use std::thread;
+use std::thread::Threads;
 use step_core::Grown;
 use swept_check::{Clearing, Hall};
 
@@ -29,6 +34,19 @@ struct Meeting {
 }
 
 impl Meeting {
+    /// A meeting in this hall.
+    fn in_hall(hall: Hall) -> Meeting
+        ensures { result.hall ≡ hall }
+    {
+        Meeting {
+            hall,
+            come: AtomicBool::new(false),
+            tested: AtomicBool::new(false),
+            handled: AtomicBool::new(false),
+            in_time: AtomicBool::new(true),
+        }
+    }
+
     /// Waits for a flag, and notes if it did not come in time.
     fn wait_for(&self, flag: &AtomicBool) {
         for _ in 0..100_000_000u32 {
@@ -96,19 +114,102 @@ fn assert_record(rt: &impl Abort, grown: &Grown, mark: u32, want: Entry) {
     assert!(rt; entry_of(grown.record_of(mark)) == want, "mark {mark}");
 }
 
+/// Asserts that nobody waited too long, and the records of the two marks. Mark 0 counts the node of mark 1.
+fn assert_met(rt: &impl Abort, meeting: &Meeting, grown: &Grown) {
+    assert!(rt; meeting.in_time.load(Ordering::SeqCst));
+    assert_record(rt, grown, 0, (0, 0, 0, Outcome::Placed, 0, 12_800, 2));
+    assert_record(rt, grown, 1, (1, 0, 0, Outcome::Placed, 0, 12_594, 1));
+}
+
 #[test]
 fn a_node_is_placed_while_a_segment_is_tested(rt: HostRuntime) -> Result<(), Memory> {
     let grown = Grown::new(rt.alloc(), task_in_two_strips(rt.alloc())?)?;
-    let meeting = Meeting {
-        hall: Hall::new(rt.alloc(), &grown.task().scene)?,
-        come: AtomicBool::new(false),
-        tested: AtomicBool::new(false),
-        handled: AtomicBool::new(false),
-        in_time: AtomicBool::new(true),
-    };
+    let meeting = Meeting::in_hall(Hall::new(rt.alloc(), &grown.task().scene)?);
     let grown = grow(&rt, rt.alloc(), grown, &meeting, 2, 3, &meeting)?;
-    assert!(rt; meeting.in_time.load(Ordering::SeqCst));
-    assert_record(&rt, &grown, 0, (0, 0, 0, Outcome::Placed, 0, 12_800, 2));
-    assert_record(&rt, &grown, 1, (1, 0, 0, Outcome::Placed, 0, 12_594, 1));
+    assert_met(&rt, &meeting, &grown);
+    Ok(())
+}
+
+// ---- the same by two callers, who begin with a mark in hand
+
+/// Asserts that a pass claims this mark.
+fn assert_claimed(rt: &impl Abort, shared: &Shared, pass: &mut Pass, mark: u32)
+    requires shared { IsOfThree shared.now }
+    requires pass { HasShare shared.now 1 pass.old }
+    ensures { HasClaimed shared.now 1 mark pass.new }
+{
+    let Some(claimed) = shared.claim(pass, 3) else {
+        panic!(rt; "no mark is left")
+    };
+    assert_eq!(rt; claimed, mark);
+}
+
+/// Handles mark 0, in the test of whose segment it waits for the other caller, and then what marks are left.
+fn test_long(shared: &Shared, pass: Pass, meeting: &Meeting) -> Pass
+    requires shared { IsOfThree shared.now }
+    requires pass { HasClaimed shared.now 1 0 pass }
+    requires hall { meeting.now.hall ≡ space_of shared.now.task.scene }
+    ensures { HasShare shared.now 1 result }
+{
+    let mut pass = pass;
+    extend(shared, &mut pass, meeting, 0);
+    work(shared, &mut pass, &meeting.hall, 3, &NoGate);
+    pass
+}
+
+/// Handles mark 1 while that segment is being tested, says so, and then handles what marks are left.
+fn go_on(shared: &Shared, pass: Pass, meeting: &Meeting) -> Pass
+    requires shared { IsOfThree shared.now }
+    requires pass { HasClaimed shared.now 1 1 pass }
+    requires hall { meeting.now.hall ≡ space_of shared.now.task.scene }
+    ensures { HasShare shared.now 1 result }
+{
+    let mut pass = pass;
+    meeting.wait_for(&meeting.tested);
+    extend(shared, &mut pass, &meeting.hall, 1);
+    meeting.handled.store(true, Ordering::SeqCst);
+    work(shared, &mut pass, &meeting.hall, 3, &NoGate);
+    pass
+}
+
+/// Both callers, each in a thread of its own.
+fn call_both<R: Threads>(
+    rt: &R,
+    shared: &Shared,
+    first: Pass,
+    second: Pass,
+    meeting: &Meeting,
+) -> (Pass, Pass)
+    requires shared { IsOfThree shared.now }
+    requires first { HasClaimed shared.now 1 0 first }
+    requires second { HasClaimed shared.now 1 1 second }
+    requires hall { meeting.now.hall ≡ space_of shared.now.task.scene }
+    ensures first { HasShare shared.now 1 result.0 }
+    ensures second { HasShare shared.now 1 result.1 }
+{
+    thread::join(
+        rt,
+        move || -> Pass
+            requires { IsOfThree shared.now × HasClaimed shared.now 1 0 first × (meeting.now.hall ≡ space_of shared.now.task.scene) }
+            ensures { HasShare shared.entry.now 1 result }
+        { test_long(shared, first, meeting) },
+        move || -> Pass
+            requires { IsOfThree shared.now × HasClaimed shared.now 1 1 second × (meeting.now.hall ≡ space_of shared.now.task.scene) }
+            ensures { HasShare shared.entry.now 1 result }
+        { go_on(shared, second, meeting) },
+    )
+}
+
+#[test]
+fn a_caller_is_answered_while_another_tests_its_segment(rt: HostRuntime) -> Result<(), Fail> {
+    let task = task_in_two_strips(rt.alloc())?;
+    let (shared, hall, mut first, mut second) = two_passes(rt.alloc(), task)?;
+    let meeting = Meeting::in_hall(hall);
+    assert_claimed(&rt, &shared, &mut first, 0);
+    assert_claimed(&rt, &shared, &mut second, 1);
+    let (first, second) = call_both(&rt, &shared, first, second, &meeting);
+    let grown = joined_run(&rt, shared, first, second);
+    assert_eq!(rt; grown.limit(), 3);
+    assert_met(&rt, &meeting, &grown);
     Ok(())
 }
