@@ -1,10 +1,14 @@
 //! Passes that take turns in one thread.
 
-ghost use Rattle.std.specs.Prelude.{◌≡◌, ◌≤◌, ◌<◌, None, length};
+ghost use Rattle.std.specs.Prelude.{◌≡◌, ◌≤◌, ◌<◌, IfOk, IsTrue, None, length};
+ghost use Rattle.plan_model.specs.Limits.{is_plan};
+ghost use Rattle.plan_model.specs.declared.scenes.Marks.TheVariants.{Listed};
 ghost use Rattle.plan_words.specs.States.{BelongsTo, MayClaim};
 
 use crate::passes::{START, take_turn, three_passes};
+use plan_model::{MOST_MARKS, Memory, Point};
 use plan_words::{Pass, Shared};
+use std::alloc::Global;
 use std::process::Abort;
 use std::test::Fail;
 
@@ -96,5 +100,34 @@ fn a_looker_takes_over_a_worker(rt: HostRuntime) -> Result<(), Fail> {
     expect_turn(&rt, &shared, &mut looker, 7, Some(1));
     expect_worker(&rt, &shared, &looker, 1, 1);
     expect_turn(&rt, &shared, &mut looker, 7, Some(4));
+    Ok(())
+}
+
+/// As many marks as a task may have, on the start.
+fn most_marks(alloc: Global) -> Result<Vec<Point>, Memory>
+    ensures plan { IfOk result (λ marks. IsTrue (is_plan (Listed marks.items))) }
+    ensures count { IfOk result (λ marks. length marks.items ≡ 262143) }
+{
+    Ok(vec![in alloc; START; MOST_MARKS as usize]?)
+}
+
+/// Compares how many nodes a pass counts.
+fn expect_number<R: Abort>(rt: &R, shared: &Shared, pass: &mut Pass, want: u32)
+    requires { BelongsTo pass.old shared.now }
+{
+    let nodes = shared.number(pass);
+    assert_eq!(rt; nodes, want);
+}
+
+#[test]
+fn the_longest_task_is_claimed_and_looked_at(rt: HostRuntime) -> Result<(), Fail> {
+    let marks = most_marks(rt.alloc())?;
+    let (shared, mut first, _, mut third) = three_passes(rt.alloc(), &marks)?;
+    let mut looker = shared.split(&mut first)?;
+    expect_turn(&rt, &shared, &mut third, 262_143, Some(2));
+    expect_turn(&rt, &shared, &mut first, 262_143, Some(0));
+    expect_turn(&rt, &shared, &mut first, 262_143, Some(3));
+    expect_taken(&rt, &shared, &mut first, 0, 2);
+    expect_number(&rt, &shared, &mut looker, 1);
     Ok(())
 }
