@@ -38,13 +38,19 @@ fn expect_read_faults<R: Threads + Sync + Abort>(
     }
 }
 
-static EARLY: [(u32, &str); 3] = [
+// The last bytes of the small scene come at read 7, and read 8 would give its end.
+static EARLY: [(u32, &str); 8] = [
     (1, "read 1 fails"),
     (2, "read 2 fails"),
+    (3, "read 3 fails"),
+    (4, "read 4 fails"),
+    (5, "read 5 fails"),
+    (6, "read 6 fails"),
+    (7, "read 7 fails"),
     (8, "read 8 fails"),
 ];
 
-// The same of a small scene, at one of the first reads.
+// The same of a small scene, at each of its reads.
 pub fn expect_early_faults<R: Threads + Sync + Abort>(rt: &R, alloc: Global, words: &[&str]) {
     expect_read_faults(rt, alloc, words, ONE_MARK, 10, &EARLY);
 }
@@ -85,11 +91,13 @@ fn refuses_a_source_that_fails_late(rt: HostRuntime) {
     let text = sure(&rt, numbered(rt.alloc(), scene, "mark ", (1, 1500), ""));
     expect_that(&rt, text.len() == 16_949, "the length of the text");
     expect_late_faults(&rt, rt.alloc(), &["plain"], &text);
+    expect_late_faults(&rt, rt.alloc(), &["plan", "1"], &text);
     expect_late_faults(&rt, rt.alloc(), &["show"], &text);
 }
 
 // What is taken by a sink that fails at one of its writes, and how many nodes and marks the run has that is handed out even
 // so, if one is.
+#[derive(Clone, Copy)]
 struct Cut<'a> {
     words: &'a [&'a str],
     fails: u32,
@@ -97,9 +105,9 @@ struct Cut<'a> {
     run: Option<(u32, u32)>,
 }
 
-// Compares what such a sink takes, and the run that is handed out even so.
-fn expect_cut<R: Threads + Sync + Abort>(rt: &R, alloc: Global, cut: &Cut) {
-    let sink = sure(rt, MemSink::new(alloc, 1000, 10, &[cut.fails]));
+// Compares what such a sink takes, which has room for so many bytes, and the run that is handed out even so.
+fn expect_cut<R: Threads + Sync + Abort>(rt: &R, alloc: Global, room: usize, cut: &Cut) {
+    let sink = sure(rt, MemSink::new(alloc, room, 10, &[cut.fails]));
     let called = call_into(rt, alloc, cut.words, ONE_MARK, 1 << 16, 0, sink, &NoGate);
     let case = Case {
         shows: "a write fails",
@@ -112,19 +120,7 @@ fn expect_cut<R: Threads + Sync + Abort>(rt: &R, alloc: Global, cut: &Cut) {
     expect_number(rt, called.sink.faults(), 1, "a write fails");
 }
 
-static CUTS: [Cut; 12] = [
-    Cut {
-        words: &["plain"],
-        fails: 2,
-        taken: "path 2 cos",
-        run: Some((2, 1)),
-    },
-    Cut {
-        words: &["plain"],
-        fails: 1,
-        taken: "",
-        run: Some((2, 1)),
-    },
+static CUTS: [Cut; 10] = [
     Cut {
         words: &["plain", "full"],
         fails: 1,
@@ -191,6 +187,41 @@ static CUTS: [Cut; 12] = [
 #[test]
 fn keeps_a_prefix_if_the_sink_fails(rt: HostRuntime) {
     for cut in &CUTS {
-        expect_cut(&rt, rt.alloc(), cut);
+        expect_cut(&rt, rt.alloc(), 1000, cut);
+    }
+}
+
+// The room of a sink, the write that fails (0: none, until there is no room left), and what is taken of the report, which has
+// 62 bytes.
+static TAKEN: [(usize, u32, &str); 8] = [
+    (1000, 1, ""),
+    (1000, 2, "path 2 cos"),
+    (1000, 3, "path 2 cost 12800\n0 "),
+    (1000, 4, "path 2 cost 12800\n0 0\n30 40\nno"),
+    (1000, 5, "path 2 cost 12800\n0 0\n30 40\nnodes 2 plac"),
+    (
+        1000,
+        6,
+        "path 2 cost 12800\n0 0\n30 40\nnodes 2 placed 1 same ",
+    ),
+    (
+        1000,
+        7,
+        "path 2 cost 12800\n0 0\n30 40\nnodes 2 placed 1 same 0 blocked ",
+    ),
+    (25, 0, "path 2 cost 12800\n0 0\n30 "),
+];
+
+// At each of its writes, and where the room ends.
+#[test]
+fn a_report_is_taken_up_to_the_write_that_fails(rt: HostRuntime) {
+    for (room, fails, taken) in &TAKEN {
+        let cut = Cut {
+            words: &["plain"],
+            fails: *fails,
+            taken,
+            run: Some((2, 1)),
+        };
+        expect_cut(&rt, rt.alloc(), *room, &cut);
     }
 }
