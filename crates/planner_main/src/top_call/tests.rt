@@ -244,13 +244,21 @@ static CORRIDORS: [Corridor; 2] = [
     },
 ];
 
+// The scene of a corridor, in rising order of the marks.
+fn corridor_scene<R: Abort>(rt: &R, alloc: Global, corridor: &Corridor) -> String {
+    let marks = (1, corridor.length);
+    sure(rt, numbered(alloc, corridor.scene, "mark ", marks, ""))
+}
+
 // Compares the report of a corridor.
-fn expect_corridor<R: Threads + Sync + Abort>(rt: &R, alloc: Global, corridor: &Corridor) {
+fn expect_corridor<R: Threads + Sync + Abort>(
+    rt: &R,
+    alloc: Global,
+    words: &[&str],
+    corridor: &Corridor,
+) {
     let length = corridor.length;
-    let scene = sure(
-        rt,
-        numbered(alloc, corridor.scene, "mark ", (1, length), ""),
-    );
+    let scene = corridor_scene(rt, alloc, corridor);
     let report = sure(
         rt,
         numbered(alloc, corridor.path, "", (0, length), corridor.counts),
@@ -262,13 +270,14 @@ fn expect_corridor<R: Threads + Sync + Abort>(rt: &R, alloc: Global, corridor: &
         text: &report,
         run: Some((corridor.nodes, length)),
     };
-    expect_by_pieces(rt, alloc, &["plain"], 1 << 16, &case);
+    expect_by_pieces(rt, alloc, words, 1 << 16, &case);
 }
 
 #[test]
 fn plans_one_branch_of_thousands_of_nodes(rt: HostRuntime) {
     for corridor in &CORRIDORS {
-        expect_corridor(&rt, rt.alloc(), corridor);
+        expect_corridor(&rt, rt.alloc(), &["plain"], corridor);
+        expect_corridor(&rt, rt.alloc(), &["plan", "1"], corridor);
     }
 }
 
@@ -360,6 +369,15 @@ fn plans_for_a_body(rt: HostRuntime) {
     expect_each(&rt, rt.alloc(), &["plain"], &WITH_BODY);
 }
 
+static READERS: [&[&str]; 3] = [&["plain"], &["plan", "2"], &["show"]];
+
+// Compares the answer to a case by the commands that read a scene.
+fn expect_by_readers<R: Threads + Sync + Abort>(rt: &R, alloc: Global, case: &Case) {
+    for words in READERS {
+        expect(rt, alloc, words, case);
+    }
+}
+
 // Compares the refusal of each text by the commands that read a scene. Each is given with what it shows and with the line
 // that tells its fault.
 fn expect_refused<R: Threads + Sync + Abort>(rt: &R, alloc: Global, cases: &[(&str, &str, &str)]) {
@@ -371,8 +389,7 @@ fn expect_refused<R: Threads + Sync + Abort>(rt: &R, alloc: Global, cases: &[(&s
             text,
             run: None,
         };
-        expect(rt, alloc, &["plain"], &case);
-        expect(rt, alloc, &["show"], &case);
+        expect_by_readers(rt, alloc, &case);
     }
 }
 
@@ -643,6 +660,7 @@ static TRIED: Case = Case {
 };
 
 mod calls;
+mod cut_texts;
 mod faults;
 mod full_reports;
 mod limits;

@@ -1,4 +1,4 @@
-//! Full reports: what `plain full` writes.
+//! Full reports: what `plain full` writes, and `plan 1 full`.
 
 use super::*;
 
@@ -105,6 +105,7 @@ static FULL_REPORTS: [Case; 7] = [
 #[test]
 fn writes_each_node_and_each_mark(rt: HostRuntime) {
     expect_each(&rt, rt.alloc(), &["plain", "full"], &FULL_REPORTS);
+    expect_each(&rt, rt.alloc(), &["plan", "1", "full"], &FULL_REPORTS);
 }
 
 // How many lines a text has.

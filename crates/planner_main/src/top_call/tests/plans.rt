@@ -164,11 +164,11 @@ pub fn expect_whole<R: Abort>(rt: &R, alloc: Global, called: &Called, marks: u64
     expect_that(rt, told, &counts);
 }
 
-// How many lines of a report tell of a mark.
-fn mark_lines(report: &str) -> u64 {
+// How many lines of a report begin with this.
+pub fn lines_with(report: &str, begin: &str) -> u64 {
     let mut count = 0_u64;
     for line in report.lines() {
-        if line.starts_with("mark ") {
+        if line.starts_with(begin) {
             count = count.saturating_add(1);
         }
     }
@@ -181,7 +181,8 @@ fn plans_hundreds_of_marks_by_three_workers(rt: HostRuntime) {
     let words = ["plan", "3", "full"];
     let called = call(&rt, rt.alloc(), &words, DRAWN_MARKS, 1000, 0);
     expect_that(&rt, called.ended.run.greatest_worker < 3, "three workers");
-    expect_number(&rt, mark_lines(called.text()), 400, "lines of marks");
+    let marks = lines_with(called.text(), "mark ");
+    expect_number(&rt, marks, 400, "lines of marks");
     expect_whole(&rt, rt.alloc(), &called, 400, true);
 }
 
@@ -191,6 +192,38 @@ fn plans_a_generated_scene_by_four_workers(rt: HostRuntime) {
     let called = call(&rt, rt.alloc(), &["plan", "4"], scene.text(), 1000, 0);
     expect_that(&rt, called.status() <= 1, "a path or none");
     expect_whole(&rt, rt.alloc(), &called, 20_000, false);
+}
+
+// The marks of a row, in rising order. Handled in this order their nodes are one branch of the search tree; by four workers
+// only the counts are certain.
+#[test]
+fn four_workers_handle_each_mark_of_one_branch(rt: HostRuntime) {
+    let scene = corridor_scene(&rt, rt.alloc(), &CORRIDORS[0]);
+    let called = call(&rt, rt.alloc(), &["plan", "4"], &scene, 1000, 0);
+    expect_that(&rt, called.status() <= 1, "a path or none");
+    expect_whole(&rt, rt.alloc(), &called, 1000, false);
+}
+
+// Compares what two forms of words write for a scene.
+fn expect_same_text<R: Threads + Sync + Abort>(
+    rt: &R,
+    alloc: Global,
+    words: &[&str],
+    others: &[&str],
+    scene: &str,
+) {
+    let want = call(rt, alloc, words, scene, 1 << 16, 0);
+    let called = call(rt, alloc, others, scene, 1 << 16, 0);
+    expect_text(rt, others, called.text(), want.text(), "the same text");
+}
+
+#[test]
+fn one_worker_plans_a_generated_scene_as_plain_does(rt: HostRuntime) {
+    let scene = call_unread(&rt, rt.alloc(), &["gen", "3"]);
+    let scene = scene.text();
+    expect_same_text(&rt, rt.alloc(), &["plain"], &["plan", "1"], scene);
+    let (plain, plan) = (["plain", "full"], ["plan", "1", "full"]);
+    expect_same_text(&rt, rt.alloc(), &plain, &plan, scene);
 }
 
 static NO_PLANS: [&[&str]; 24] = [
