@@ -62,16 +62,20 @@ mod tests {
     use plan_model::{MemSink, SureSource};
     use std::process::Abort;
 
-    const SCENE: &[u8] = b"prrt 1\nroom 10 10\nstart 5 5\ngoal 0 0 1 1\nstep 4\n";
+    const ONE_MARK: &str =
+        "prrt 1\nroom 100 100\nstart 0 0\ngoal 30 40 30 40\nstep 100\nmark 30 40\n";
 
-    // The code that the program ends with on these arguments over this sink.
+    const NO_MARK: &str = "prrt 1\nroom 10 10\nstart 5 5\ngoal 0 0 1 1\nstep 4\n";
+
+    // The code that the program ends with on this scene and these arguments over this sink.
     fn code_on<R: Threads + Sync + Abort>(
         rt: &R,
         alloc: Global,
+        scene: &str,
         args: io::Result<Args>,
         sink: &mut MemSink,
     ) -> ExitCode {
-        match SureSource::new(alloc, SCENE) {
+        match SureSource::new(alloc, scene.as_bytes()) {
             Ok(mut source) => exit_code(rt, alloc, args, &mut source, sink),
             Err(_) => panic!(rt; "no memory"),
         }
@@ -81,46 +85,61 @@ mod tests {
     fn expect<R: Threads + Sync + Abort>(
         rt: &R,
         alloc: Global,
+        scene: &str,
         args: io::Result<Args>,
         code: u8,
         text: &str,
     ) {
         let mut sink = sure(rt, MemSink::new(alloc, 1000, 1000, &[]));
-        let ended = code_on(rt, alloc, args, &mut sink);
+        let ended = code_on(rt, alloc, scene, args, &mut sink);
         expect_text(rt, &[], text_in(&sink), text, "what is written");
         expect_that(rt, ended == ExitCode::from(code), text);
     }
 
-    static CODES: [(&[&str], u8, &str); 6] = [
+    static CODES: [(&str, &[&str], u8, &str); 7] = [
         (
+            ONE_MARK,
+            &["prrt", "plain"],
+            0,
+            "path 2 cost 12800\n0 0\n30 40\nnodes 2 placed 1 same 0 blocked 0\n",
+        ),
+        (
+            NO_MARK,
             &["prrt", "plain"],
             1,
             "no path\nnodes 1 placed 0 same 0 blocked 0\n",
         ),
         (
+            NO_MARK,
             &["prrt", "plain", "full"],
             1,
             "no path\nnodes 1 placed 0 same 0 blocked 0\nnode 0 at 5 5 parent 0 cost 0\n",
         ),
-        (&["plain"], 2, "words refused\n"),
-        (&["prrt", "plain", "full", "full"], 2, "words refused\n"),
-        (&["plain", "show", "show"], 2, "words refused\n"),
-        (&[], 2, "words refused\n"),
+        (NO_MARK, &["plain"], 2, "words refused\n"),
+        (
+            NO_MARK,
+            &["prrt", "plain", "full", "full"],
+            2,
+            "words refused\n",
+        ),
+        (NO_MARK, &["plain", "show", "show"], 2, "words refused\n"),
+        (NO_MARK, &[], 2, "words refused\n"),
     ];
 
     #[test]
     fn ends_by_all_words_after_the_name(rt: HostRuntime) {
-        for (words, code, text) in &CODES {
+        for (scene, words, code, text) in &CODES {
             let args = sure(&rt, given_words(rt.alloc(), words)).into_iter();
-            expect(&rt, rt.alloc(), Ok(args), *code, text);
+            expect(&rt, rt.alloc(), scene, Ok(args), *code, text);
         }
     }
 
     #[test]
     fn ends_without_words(rt: HostRuntime) {
         let no_memory = io::Error::from(io::ErrorKind::OutOfMemory);
-        expect(&rt, rt.alloc(), Err(no_memory), 7, "");
+        expect(&rt, rt.alloc(), NO_MARK, Err(no_memory), 7, "");
         let no_text = io::Error::from(io::ErrorKind::InvalidData);
-        expect(&rt, rt.alloc(), Err(no_text), 2, "words refused\n");
+        let refused = "words refused\n";
+        expect(&rt, rt.alloc(), NO_MARK, Err(no_text), 2, refused);
     }
 }
