@@ -226,6 +226,24 @@ fn one_worker_plans_a_generated_scene_as_plain_does(rt: HostRuntime) {
     expect_same_text(&rt, rt.alloc(), &plain, &plan, scene);
 }
 
+// Compares whether each of these lines stands in a text.
+fn expect_each_line<R: Abort>(rt: &R, text: &str, lines: &str) {
+    for line in lines.lines() {
+        expect_that(rt, text.contains(line), line);
+    }
+}
+
+// Generated scenes have 20,000 marks at most. The two lines of a trial are those of the report, without its points.
+#[test]
+fn tries_a_generated_scene_of_the_most_marks(rt: HostRuntime) {
+    let scene = call_unread(&rt, rt.alloc(), &["gen", "9"]);
+    let report = call(&rt, rt.alloc(), &["plan", "1"], scene.text(), 1 << 16, 0);
+    let trial = call_unread(&rt, rt.alloc(), &["trial", "9"]);
+    expect_number(&rt, trial.status(), report.status(), "a path or none");
+    expect_number(&rt, lines_with(trial.text(), ""), 2, "lines");
+    expect_each_line(&rt, report.text(), trial.text());
+}
+
 static NO_PLANS: [&[&str]; 24] = [
     &[],
     &["plan"],
