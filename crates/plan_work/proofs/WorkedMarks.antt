@@ -15,7 +15,7 @@ use Rattle.plan_work.specs.Extensions.{HandlesMark}
 use Rattle.plan_work.specs.Workers.{HasWorked}
 
 -- a turn more changes neither the share nor the worker
-share-turned : (crew : List Member) → length (one_turn_more crew) ≡ length crew
+pub share-turned : (crew : List Member) → length (one_turn_more crew) ≡ length crew
 share-turned [] = refl
 share-turned (member ∷ crew) = refl
 

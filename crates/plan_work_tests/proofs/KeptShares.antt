@@ -1,0 +1,29 @@
+-- What steps and whole marks leave of the share of a pass.
+use Rattle.std.proofs.Common.{◌≡◌, ℕ, ◌<◌, length, sym, ap, ◌∙◌, subst}
+use Rattle.plan_model.specs.declared.records.Record.{Record}
+use Rattle.plan_words.specs.States.{PassState, SharedState}
+use Rattle.plan_work.specs.Extensions.{HandlesMark}
+use Rattle.plan_work.proofs.WorkedMarks.{share-turned}
+use Rattle.plan_work_tests.specs.Sharers.{HasShare}
+use Rattle.step_core.specs.WordNames.{Word}
+use Rattle.tree_rewire.specs.SeenCosts.{PassSees}
+
+-- steps that show words anew leave it, and the pass may claim as before
+pub HasShare-sees : (which : Word → Type 0) (shared : SharedState) (before after : PassState) (n : ℕ) → PassSees which shared before after
+    → HasShare shared n before → HasShare shared n after
+HasShare-sees which shared before after n sees has = record {
+  may_claim = record {
+    belongs = sees.belongs;
+    part = subst (λ crew. 0 < length crew) (sym sees.sees_anew.kept.crew) has.may_claim.part;
+    idle = sees.sees_anew.kept.hand ∙ has.may_claim.idle;
+  };
+  share_is = ap (λ crew. length crew) sees.sees_anew.kept.crew ∙ has.share_is;
+}
+
+-- and so does a mark that is claimed and handled
+pub HasShare-handled : (shared : SharedState) (before claimed after : PassState) (n k : ℕ) (entry : Record) → claimed.view.crew ≡ before.view.crew
+    → HandlesMark shared claimed after k entry → HasShare shared n before → HasShare shared n after
+HasShare-handled shared before claimed after n k entry same handles has = record {
+  may_claim = handles.may_claim;
+  share_is = ap (λ crew. length crew) handles.crew ∙ share-turned claimed.view.crew ∙ ap (λ crew. length crew) same ∙ has.share_is;
+}
