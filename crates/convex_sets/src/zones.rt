@@ -58,8 +58,8 @@ impl Zone {
     ghost use Rattle.plan_model.specs.HalfPlanes.{IsInside};
     ghost use Rattle.plan_model.specs.RoomOfConfigurations.{at_lattice};
 
-    /// The zone of a body and an obstacle: the Minkowski sum of the obstacle and the reflected body, by merging their edges
-    /// in order of angle. Parallel edges become one, so no corner stands between two others. O(n + m).
+    /// The zone of a body and an obstacle: the Minkowski sum of the obstacle and the reflected body, made of the edges of
+    /// both, sorted by angle. Parallel edges become one, so no corner stands between two others. O(n + m).
     ///
     /// The body is strictly convex, or has one corner; then the zone is the obstacle, moved by minus that corner. Its
     /// coordinates are those that a body may have. The obstacle is strictly convex, with coordinates from

@@ -1,4 +1,5 @@
--- Points by number: where each node of a tree stands. Node 0 is the start, node k + 1 belongs to mark k; a number without a node has no point.
+-- Points by number: where each node of a tree stands. The start has number 0, and the node that mark k gives has number k + 1; a number
+-- without a node has no point.
 use Rattle.std.specs.Prelude.{◌≡◌, ◌≤◌, ℕ, Option, Some, None, IsSome, is_some, unwrap_or, List, count_by, slice_index_or}
 use Rattle.plan_model.specs.declared.geometry.Point.{Point}
 

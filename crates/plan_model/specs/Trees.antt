@@ -1,4 +1,5 @@
--- Trees: nodes by number, each absent or a point with a parent. Node 0 is the start, and node k + 1 belongs to mark k.
+-- Trees, as lists by number: at each number a point with its parent, or nothing. The start has number 0; the node that mark k gives has
+-- number k + 1.
 use Rattle.std.specs.Prelude.{◌≡◌, ℕ, zero, suc, ◌+◌, ◌<◌, Option, Some, None, List, [], ◌∷◌, map, slice_index_or, option_map}
 use Rattle.plan_model.specs.declared.geometry.Point.{Point}
 use Rattle.plan_model.specs.declared.trees.Twig.{Twig}

@@ -40,11 +40,11 @@ pub enum Kind {
     Version = 1,
     /// The line begins with no key.
     Key = 2,
-    /// The number of words after the key is wrong.
+    /// Too many or too few words follow the key.
     Words = 3,
-    /// A word after the key is not a number.
+    /// A word that follows the key is no number.
     Number = 4,
-    /// A number is out of its range, or the corners of a goal are in the wrong order.
+    /// A number lies outside its range, or the first corner of a goal is not the lower left one.
     Range = 5,
     /// A key that may stand once stands again, or `mark` and `marks` stand both.
     Repeat = 6,

@@ -1,4 +1,4 @@
-//! The tree of nodes. Node 0 is the start, and node `k + 1` belongs to mark `k`.
+//! The tree of nodes. The start has number 0, and the node that mark `k` gives has number `k + 1`.
 
 use crate::geometry::Point;
 use crate::lists::Sequence;

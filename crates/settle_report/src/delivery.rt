@@ -7,7 +7,7 @@ ghost use Rattle.settle_report.specs.Delivery.{AppendsPrefix};
 
 use plan_model::{Failed, Sink};
 
-/// Writes the text to the sink. Each write is handed all of the text that is left; an empty text takes no write. It goes on
+/// Writes the text to the sink. Each write is handed the whole rest of the text; an empty text takes no write. It goes on
 /// only after a write that took a byte.
 ///
 /// # Errors

@@ -12,7 +12,8 @@ ghost use Rattle.plan_model.specs.declared.geometry.Vertex.{Vertex};
 /// The lattice points of the room of configurations are those in one of its columns and one of its rows. So if the body
 /// is clear anywhere on the lattice, it fits into the room.
 pub fn lattice_points_have_a_column_and_a_row()
-    ensures spans { (space : ConfigurationSpace) (p : Point) → InRoom space (at_lattice p) ↔ (IsInSpan (columns space.room space.body) p.x × IsInSpan (rows space.room space.body) p.y) }
+    ensures spans { (space : ConfigurationSpace) (p : Point)
+        → InRoom space (at_lattice p) ↔ (IsInSpan (columns space.room space.body) p.x × IsInSpan (rows space.room space.body) p.y) }
     ensures fits { (space : ConfigurationSpace) (p : Point) → ClearAt space p → BodyFits space.room space.body }
 {}
 
