@@ -88,18 +88,26 @@ class Pass:
         promise(sweeps(self.run, self.view, entry, p, radius**2), "near: swept")
         return found
 
-    def find(self, p):
-        """The node at p, or None."""
-        before, run = self.view, self.run
+    def walk(self, p):
+        """Walks the way of p by loads. The depth and the node that it comes to: that is at p, or has no child on the side of p."""
         node = 0
-        for depth in range(run.nodes + 1):
-            yield from self.step("load", run.point(node))
+        for depth in range(self.run.nodes + 1):
+            yield from self.step("load", self.run.point(node))
             here = self.tree().point(node)
             if here == p:
-                return node
-            node = yield from self.step("load", run.child(node, int(goes_right(depth, here, p))))
-            if not node:
-                break
+                return depth, node
+            child = yield from self.step("load", self.run.child(node, int(goes_right(depth, here, p))))
+            if not child:
+                return depth, node
+            node = child
+        raise RuntimeError("a way is longer than there are nodes")
+
+    def find(self, p):
+        """The node at p, or None."""
+        before = self.view
+        _, node = yield from self.walk(p)
+        if self.tree().point(node) == p:
+            return node
         promise(ends_since(self.view, self.tree(), before.steps, p), "find: ends")
         promise(p not in self.tree().points, "find: free")
         return None
@@ -188,16 +196,16 @@ class Pass:
 
     def place(self):
         """Links the node in hand and counts it: None, or the node that is at its point."""
-        p, node = self.view.hand.point, 0
-        for depth in range(self.run.nodes + 1):
-            yield from self.step("load", self.run.point(node))
-            here = self.tree().point(node)
-            if self.steps.is_taken(here, p):
-                return node
-            child = yield from self.step("link", node, int(goes_right(depth, here, p)))
+        p = self.view.hand.point
+        depth, node = yield from self.walk(p)
+        while not self.steps.is_taken(self.tree().point(node), p):
+            child = yield from self.step("link", node, int(goes_right(depth, self.tree().point(node), p)))
             if not child:
                 break
-            node = child
+            depth, node = depth + 1, child
+            yield from self.step("load", self.run.point(node))
+        else:
+            return node
         hand = self.view.hand
         yield from self.step("count")
         promise(self.tree().leads_to(p, hand.node) and self.tree().point(hand.node) == p, "place: placed")

@@ -1,7 +1,7 @@
 #!/usr/bin/env python3
 """Plays shared runs at random, one atomic step at a time, and holds each world against the law of worlds. See docs/worlds.md.
 
-Usage: worlds.py [FIRST [COUNT]] plays the runs of so many numbers (0 and 50 if left out), changes worlds in between, and prints
+Usage: worlds.py [FIRST [COUNT]] plays the runs of so many numbers (0 and 50 if left out; with --bugs 0 and 300), changes worlds in between, and prints
 counts. `worlds.py --bugs [FIRST [COUNT]]` plants one bug after another into the steps; each is to be reported. It ends with 1
 if a lawful run was reported, a world was taken for lawful that is none, or a bug was not reported.
 """
@@ -358,5 +358,6 @@ def report_of(number, bug):
 
 if __name__ == "__main__":
     arguments = [word for word in sys.argv[1:] if word != "--bugs"]
-    play = play_bugs if "--bugs" in sys.argv else play_all
-    sys.exit(play(*(int(word) for word in arguments + ["0", "50"][len(arguments) :])))
+    # a bug that shows in few runs gets more of them; most show in the first
+    play, count = (play_bugs, "300") if "--bugs" in sys.argv else (play_all, "50")
+    sys.exit(play(*(int(word) for word in arguments + ["0", count][len(arguments) :])))
