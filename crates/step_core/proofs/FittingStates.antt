@@ -1,5 +1,5 @@
 -- The fields of a closed run fit their words: its numbers, costs and classes, the points of its nodes, and its records.
-use Rattle.std.proofs.Common.{◌≡◌, ℕ, zero, suc, ◌<◌, ◌≤◌, ◌^◌, true, eqb, Some, length, arith, refl, sym, ◌∙◌, subst, inl, inr}
+use Rattle.std.proofs.Common.{◌≡◌, ℕ, zero, suc, ◌*◌, ◌<◌, ◌≤◌, ◌^◌, true, eqb, Some, length, arith, refl, sym, ◌∙◌, subst, inl, inr}
 use Rattle.std.specs.Prelude.{◌&&◌}
 use Rattle.std.specs.List.{range_with_len}
 use Rattle.std.proofs.lemmas.Bool.{cases_lt, and_parts, eqb-true}
@@ -90,11 +90,13 @@ module _
   pub kept-low : (n : ℕ) → IsPresent state.points n → state.cost n < 2 ^ 44
   kept-low n h = low_cost (state.cost n) (closed.order.bounded n h)
 
+  -- by a variable, since the class of a numeral computes long
+  class_below : (most class : ℕ) → 2 ^ 18 ≤ most → most < 2 * 2 ^ 18 → node_count state.points ≤ most → class ≤ class_of (node_count state.points)
+      → class < 2 ^ 18
+  class_below most class low below within h = omega (arith, h, class_of-le (node_count state.points) most within, class_from_powers most 18 low below)
+
   low_class : (class : ℕ) → class ≤ class_of (node_count state.points) → class < 2 ^ 18
-  low_class class h =
-      let most = class_of-le (node_count state.points) 262144 few_nodes in
-      let last = class_from_powers 262144 18 (omega arith) (omega arith) in
-      omega (arith, h, most, last)
+  low_class class h = class_below 262144 class (omega arith) (omega arith) few_nodes h
 
   -- ---- points
 

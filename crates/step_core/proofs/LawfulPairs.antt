@@ -1,16 +1,20 @@
 -- What the law says of the parents and the costs that a view has seen, of the view alone.
 use Rattle.std.proofs.Common.{◌≡◌, ◌≢◌, ℕ, zero, suc, ◌<◌, ◌≤◌, ◌^◌, true, length, Some, None, refl, sym, ap, ◌∙◌, subst, inl, inr, arith}
-use Rattle.std.specs.Prelude.{cond}
+use Rattle.std.specs.Int.{abs_diff}
+use Rattle.std.specs.Prelude.{◌*◌, cond}
 use Rattle.std.proofs.lemmas.Bool.{le-ltb}
 use Rattle.plan_model.specs.declared.geometry.Point.{Point}
 use Rattle.plan_model.specs.declared.limits.TheConstants.{MOST_NODES}
+use Rattle.plan_model.specs.Clearance.{ClearAt}
 use Rattle.plan_model.specs.OrderLaw.{Hangs, IsAllowedEdge}
 use Rattle.plan_model.specs.PointsByNumber.{IsPresent, StandsAt, node_count, point_of}
 use Rattle.plan_model.specs.SeenParents.{AreSeenLawfully}
+use Rattle.plan_model.specs.Textbook.{Setup}
 use Rattle.plan_model.specs.TreeStates.{first_cost_of}
 use Rattle.plan_model.specs.Ways.{FollowWays}
 use Rattle.plan_model.proofs.NewNodes.{point_of-stands}
 use Rattle.plan_model.proofs.OrderLaws.{most_cost_of-within}
+use Rattle.plan_model.proofs.SegmentLaws.{Clear-alone}
 use Rattle.step_core.specs.GrownWords.{children_of_words, is_linked}
 use Rattle.step_core.specs.SharedWords.{linked_points}
 use Rattle.step_core.specs.ViewTrees.{IsSeenPair, SeesPoint, SeesTree}
@@ -23,6 +27,16 @@ use Rattle.step_core.specs.Worlds.{Trees, state_in}
 use Rattle.step_core.specs.declared.views.View.{View}
 use Rattle.step_core.proofs.LawfulSights.{IsTrueOf-seen}
 use Rattle.step_core.proofs.TrueWords.{linked-within}
+
+-- the edge from a clear point to itself is allowed
+IsAllowedEdge-alone : (setup : Setup) (p : Point) → ClearAt setup.space p → IsAllowedEdge setup p p
+IsAllowedEdge-alone setup p clear =
+    let across : abs_diff p.x p.x ≡ 0 = omega arith in
+    let up : abs_diff p.y p.y ≡ 0 = omega arith in
+    record {
+      clear = Clear-alone setup.space p clear;
+      short = omega (arith, ap (λ (g : ℕ). g * g) across, ap (λ (g : ℕ). g * g) up);
+    }
 
 -- a word with bit 63 holds its parent and its cost
 pub tree_of_word-written : (word : ℕ) → 2 ^ 63 ≤ word → tree_of_word word ≡ Some (parent_in word, cost_in word)
@@ -66,10 +80,23 @@ module _ (view : View) (words : Words) (behind : AreBehind (sees view) words) (t
   above zero some_node e = elim some_node [ ]
   above (suc m) some_node e = (hangs m e).other
 
-  allowed : (m : ℕ) → 0 < m → n ≡ m → (at from : Point) → SeesPoint view n at → SeesPoint view (parent_in word) from
+  -- the start is its own parent, and is clear
+  alone : n ≡ 0 → (at from : Point) → SeesPoint view n at → SeesPoint view (parent_in word) from → IsAllowedEdge (setup_in view.run) from at
+  alone e at from here there =
+      let points = linked_points (run_sizes view.run) words in
+      let start : Point = view.run.start in
+      let at_is : at ≡ start = sym (point_of-stands points 0 at (subst (λ i. StandsAt points i at) e (stays n at here)))
+      ∙ point_of-stands points 0 start trees.order.start_stands in
+      let from_is : from ≡ start =
+      sym (point_of-stands points 0 from (subst (λ i. StandsAt points i from) (at_start e).0 (stays (parent_in word) from there)))
+      ∙ point_of-stands points 0 start trees.order.start_stands in
+      subst (λ p. IsAllowedEdge (setup_in view.run) p at) (sym from_is)
+      (subst (λ p. IsAllowedEdge (setup_in view.run) start p) (sym at_is) (IsAllowedEdge-alone (setup_in view.run) start trees.order.start_clear))
+
+  allowed : (m : ℕ) → n ≡ m → (at from : Point) → SeesPoint view n at → SeesPoint view (parent_in word) from
       → IsAllowedEdge (setup_in view.run) from at
-  allowed zero some_node e at from here there = elim some_node [ ]
-  allowed (suc m) some_node e at from here there =
+  allowed zero e at from here there = alone e at from here there
+  allowed (suc m) e at from here there =
       let own = point_of-stands (linked_points (run_sizes view.run) words) n at (stays n at here) in
       let other = point_of-stands (linked_points (run_sizes view.run) words) (parent_in word) from (stays (parent_in word) from there) in
       subst (λ p. IsAllowedEdge (setup_in view.run) p at) other
@@ -86,7 +113,7 @@ module _ (view : View) (words : Words) (behind : AreBehind (sees view) words) (t
         within = by_number n refl;
         start = at_start;
         other = λ some_node. above n some_node refl;
-        edge = λ some_node. allowed n some_node refl;
+        edge = allowed n refl;
         first = λ seen_first.
             elim (behind (FirstOf n)) [
               | inl none ↦ absurd (omega (arith, none, seen_first))

@@ -30,7 +30,7 @@ use Rattle.plan_model.proofs.CountsBelow.{count-more, count-same}
 use Rattle.plan_model.proofs.NewNodes.{IsPresent-stands, StandsAt-present}
 use Rattle.plan_model.proofs.RecordLaws.{class_of-le}
 use Rattle.step_core.specs.GrownWords.{has_node, has_placed, record_at}
-use Rattle.step_core.specs.SeenRecords.{IsOwnNeighbour, MayBePlaced, MayEnd, MayRecord, is_own, own_count, own_first_cost}
+use Rattle.step_core.specs.SeenRecords.{IsOwnNeighbour, MayBePlaced, MayEnd, MayRecord, is_own_node, own_count, own_first_cost}
 use Rattle.step_core.specs.SharedWords.{linked_point}
 use Rattle.step_core.specs.Stages.{MayBeRecorded, has_count, has_first, has_link, has_point}
 use Rattle.step_core.specs.ViewTrees.{SeesHand, SeesPoint, SeesTree}
@@ -102,9 +102,9 @@ module _ (view : View) (words : Words) (entry : Record) (behind : AreBehind (see
           ap (λ w. is_earlier_record entry (record_of_word w (words (FirstOf (suc k))))) (sym seen)
           ∙ earlier-own entry (sees view (RecordOf k)) (words (FirstOf (suc k))) (sees view (FirstOf (suc k)))
 
-  pub is_own-earlier : (n : ℕ) → is_own view entry n ≡ is_earlier (state_in view.run words) entry n
-  is_own-earlier zero = refl
-  is_own-earlier (suc k) = sym (earlier_seen k)
+  pub is_own_node-earlier : (n : ℕ) → is_own_node view entry n ≡ is_earlier (state_in view.run words) entry n
+  is_own_node-earlier zero = refl
+  is_own_node-earlier (suc k) = sym (earlier_seen k)
 
 -- ---- as many nodes
 
@@ -122,10 +122,10 @@ own_count-most run words views id view world at own entry =
     let marks : length view.run.marks ≡ length run.marks = ap (λ r. length r.marks) own in
     let next : length view.run.marks + 1 ≡ suc (length view.run.marks) = omega arith in
     let all =
-    length-filter (is_own view entry) (range_with_len 0 (length view.run.marks + 1))
-    ∙ ap (λ n. count_by (is_own view entry) (range_with_len 0 n)) next ∙ count-first (is_own view entry) (length view.run.marks) in
+    length-filter (is_own_node view entry) (range_with_len 0 (length view.run.marks + 1))
+    ∙ ap (λ n. count_by (is_own_node view entry) (range_with_len 0 n)) next ∙ count-first (is_own_node view entry) (length view.run.marks) in
     let few =
-    sum-le (λ k. once_if (is_own view entry (suc k))) (counted_once words views) (length view.run.marks) (λ k low. at_most k) in
+    sum-le (λ k. once_if (is_own_node view entry (suc k))) (counted_once words views) (length view.run.marks) (λ k low. at_most k) in
     let same = ap (λ n. sum_by (counted_once words views) (range_with_len 0 n)) marks in
     omega (arith, all, few, same, world.links.count)
   where
@@ -140,11 +140,11 @@ own_count-most run words views id view world at own entry =
           | inl unseen ↦ (let no = ap (λ w. has_placed (record_of_word w (sees view (FirstOf (suc k))))) (sym unseen) ∙ placed in cc)
         ]
 
-    at_most : (k : ℕ) → once_if (is_own view entry (suc k)) ≤ counted_once words views k
+    at_most : (k : ℕ) → once_if (is_own_node view entry (suc k)) ≤ counted_once words views k
     at_most k =
         omega (
           arith,
-          by_test (is_own view entry (suc k)) (has_node words (suc k)) (λ h. node_now k (earlier-placed entry (record_at (sees view) k) h)),
+          by_test (is_own_node view entry (suc k)) (has_node words (suc k)) (λ h. node_now k (earlier-placed entry (record_at (sees view) k) h)),
         )
 
 -- ---- stages
@@ -204,18 +204,18 @@ module _ (words : Words) (views : List View) (id : ℕ) (view : View) (world : I
       (world.turns.members id view at 0 member (ap (λ l. get_elem? l 0) crew_is)).own k
       (subst (λ w. is_of_worker w (record_at words k) ≡ true) worker of)
 
-  same_own : (n : ℕ) → is_own view entry n ≡ is_earlier state entry n
-  same_own = is_own-earlier view words entry behind own_records
+  same_own : (n : ℕ) → is_own_node view entry n ≡ is_earlier state entry n
+  same_own = is_own_node-earlier view words entry behind own_records
 
-  own_of : (n : ℕ) → IsEarlier state entry n → IsTrue (is_own view entry n)
+  own_of : (n : ℕ) → IsEarlier state entry n → IsTrue (is_own_node view entry n)
   own_of n early = same_own n ∙ early
 
   -- it sees its worker's own nodes, with what they were placed at
-  own_seen : (n : ℕ) → IsTrue (is_own view entry n) → IsPresent seen_points n
+  own_seen : (n : ℕ) → IsTrue (is_own_node view entry n) → IsPresent seen_points n
   own_seen zero h = tree.rooted.start
   own_seen (suc k) h = tree.placed k (earlier-placed entry (record_at (sees view) k) h)
 
-  own_cost : (n : ℕ) → IsTrue (is_own view entry n) → own_first_cost view n ≡ first_cost_of state n
+  own_cost : (n : ℕ) → IsTrue (is_own_node view entry n) → own_first_cost view n ≡ first_cost_of state n
   own_cost zero h = refl
   own_cost (suc k) h =
       let placed = earlier-placed entry (record_at (sees view) k) h in
@@ -255,8 +255,8 @@ module _ (words : Words) (views : List View) (id : ℕ) (view : View) (world : I
       (length own_run.marks + 1) in
       length-filter (is_earlier state entry) (range_with_len 0 (length state.points))
       ∙ ap (λ n. count_by (is_earlier state entry) (range_with_len 0 n)) all
-      ∙ count-same (is_earlier state entry) (is_own view entry) (length own_run.marks + 1) (λ n low. sym (same_own n))
-      ∙ sym (length-filter (is_own view entry) (range_with_len 0 (length own_run.marks + 1)))
+      ∙ count-same (is_earlier state entry) (is_own_node view entry) (length own_run.marks + 1) (λ n low. sym (same_own n))
+      ∙ sym (length-filter (is_own_node view entry) (range_with_len 0 (length own_run.marks + 1)))
 
   module _ (present : IsPresent seen_points entry.nearest) where
     -- what the worker knows

@@ -6,7 +6,7 @@ use Rattle.plan_model.specs.declared.geometry.Point.{Point}
 use Rattle.plan_model.specs.Bounds.{IsBounded}
 use Rattle.plan_model.specs.ClosedLaw.{mark_at}
 use Rattle.plan_model.specs.Geometry.{IsInBoxOf}
-use Rattle.plan_model.specs.PointsByNumber.{AreDistinct, IsPresent, point_of}
+use Rattle.plan_model.specs.PointsByNumber.{AreDistinct, IsFree, IsPresent, point_of}
 use Rattle.plan_model.specs.SeenTrees.{FollowSeenWays, IsTrueOf, SharedTree}
 use Rattle.plan_model.specs.Sights.{IsLaterMoment, KeepsSight}
 use Rattle.plan_model.specs.Steering.{steered}
@@ -14,6 +14,7 @@ use Rattle.plan_model.specs.Ways.{EndsBelow, FollowWays}
 use Rattle.plan_model.proofs.NewNodes.{StandsAt-present}
 use Rattle.plan_model.proofs.SteeringLaws.{IsStep-steered}
 use Rattle.plan_model.proofs.TrueSights.{AreDistinct-true, FollowSeenWays-true, IsOnWay-true, IsPresent-true}
+use Rattle.plan_model.proofs.WayLaws.{EndsBelow-free}
 use Rattle.step_core.specs.GrownWords.{child_of_word, children_of_words, is_linked}
 use Rattle.step_core.specs.LaterViews.{IsLater, IsLawfulView}
 use Rattle.step_core.specs.SharedWords.{linked_points, shared_tree_of_words}
@@ -107,6 +108,11 @@ module _ (view : View) (words : Words) (behind : AreBehind (sees view) words) (t
     other = leads.apart;
     empty = ap (children_of_words words n) leads.side_is ∙ ap child_of_word empty;
   }
+
+  -- So no linked node stands at its point.
+  pub IsFree-leads : (p : Point) (n : ℕ) (side : Bool) → LeadsTo view p n side → words (ChildOf n side) ≡ 0 → IsFree (linked_points sizes words) p
+  IsFree-leads p n side leads empty =
+      EndsBelow-free (children_of_words words) (linked_points sizes words) follow p leads.depth n leads.at (EndsBelow-leads p n side leads empty)
 
 -- ---- sights
 

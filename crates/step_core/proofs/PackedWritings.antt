@@ -16,7 +16,7 @@ use Rattle.step_core.specs.WordNames.{Word, Words, WritesWord, IsCounter, IsKnot
 use Rattle.step_core.specs.WordNames.Word.{Counter, PointOf, TreeOf, FirstOf, RecordOf}
 use Rattle.step_core.specs.WordPlaces.{Sizes}
 use Rattle.step_core.specs.Words.{point_word, tree_word, record_word}
-use Rattle.step_core.specs.PackedRuns.{IsKnot, HoldsNode, HoldsRecord, HasKnot, IsRecordWord, IsWordOfRecords}
+use Rattle.step_core.specs.PackedRuns.{IsKnot, HoldsNode, HoldsRecord, HasKnot, IsWholeRecord, IsWordOfRecords}
 use Rattle.step_core.specs.PackedRuns.{ChangesNode, ChangesRecord, WritesNodes, WritesRecords, CountsMarks}
 
 -- ---- one node or one record
@@ -38,7 +38,7 @@ module _ (k : ℕ) (entry : Record) (before mid : Words) (own : WritesWord (Reco
   HoldsRecord-unplaced other = record { own = own.here; first = λ placed. absurd (other placed) }
 
   pub ChangesRecord-unplaced : ChangesRecord k entry before mid
-  ChangesRecord-unplaced name other = own.others name (λ e. other (subst (IsRecordWord k entry) (sym e) refl))
+  ChangesRecord-unplaced name other = own.others name (λ e. other (subst (IsWholeRecord k entry) (sym e) refl))
 
   module _ (after : Words) (placed : entry.outcome ≡ Placed)
       (first : WritesWord (FirstOf (suc k)) (tree_word entry.first_parent entry.first_cost) mid after) where
@@ -47,7 +47,7 @@ module _ (k : ℕ) (entry : Record) (before mid : Words) (own : WritesWord (Reco
 
     pub ChangesRecord-placed : ChangesRecord k entry before after
     ChangesRecord-placed name other =
-        first.others name (λ e. other (subst (IsRecordWord k entry) (sym e) (refl, placed))) ∙ ChangesRecord-unplaced name other
+        first.others name (λ e. other (subst (IsWholeRecord k entry) (sym e) (refl, placed))) ∙ ChangesRecord-unplaced name other
 
 -- ---- nodes
 
@@ -107,7 +107,7 @@ module _
   same_record k other e is = same_Some entry other (sym own ∙ ap (slice_get records) (sym e) ∙ is)
 
   -- its words are words of the records up to this one
-  own_word : (name : Word) → IsRecordWord m entry name → IsWordOfRecords records (m + 1) name
+  own_word : (name : Word) → IsWholeRecord m entry name → IsWordOfRecords records (m + 1) name
   own_word (RecordOf k) e = omega (arith, e)
   own_word (FirstOf zero) is = omega (arith, is.0)
   own_word (FirstOf (suc k)) is =

@@ -43,7 +43,7 @@ is_child_of words n m = (words (ChildOf m false) == n) || (words (ChildOf m true
 abbrev pub is_linked : Sizes → Words → ℕ → Bool
 is_linked sizes words n = (n == 0) || list_any (is_child_of words n) (range_with_len 0 (sizes.marks + 1))
 
--- Node n is linked: it is the start, or stands in a child word of a linked node.
+-- Links from node 0 on lead to node n.
 pub data IsLinked (words : Words) : ℕ → Type 0 where
   start : IsLinked words 0
   below : (m k : ℕ) (side : Bool) → IsLinked words m → words (ChildOf m side) ≡ suc k → IsLinked words (suc k)

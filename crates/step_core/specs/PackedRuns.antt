@@ -73,14 +73,14 @@ abbrev pub ChangesNode : ℕ → Words → Words → Type 0
 ChangesNode n = ChangesOnly (IsKnotWord (λ node. node ≡ n))
 
 -- the word of the record of mark k, and of a placed one the first word of its node
-abbrev pub IsRecordWord : ℕ → Record → Word → Type 0
-IsRecordWord k entry (RecordOf mark) = mark ≡ k
-IsRecordWord k entry (FirstOf node) = (node ≡ suc k) × (entry.outcome ≡ Placed)
-IsRecordWord k entry _ = ⊥
+abbrev pub IsWholeRecord : ℕ → Record → Word → Type 0
+IsWholeRecord k entry (RecordOf mark) = mark ≡ k
+IsWholeRecord k entry (FirstOf node) = (node ≡ suc k) × (entry.outcome ≡ Placed)
+IsWholeRecord k entry _ = ⊥
 
 -- no word changes but these
 abbrev pub ChangesRecord : ℕ → Record → Words → Words → Type 0
-ChangesRecord k entry = ChangesOnly (IsRecordWord k entry)
+ChangesRecord k entry = ChangesOnly (IsWholeRecord k entry)
 
 -- node n is one of the list
 abbrev pub HasKnot : List (Option Knot) → ℕ → Type 0

@@ -25,13 +25,13 @@ use Rattle.step_core.specs.declared.views.View.{View}
 -- ---- the worker's own nodes
 
 -- node n stood already when the worker of this record handled its mark, by the worker's own records: the start, or a node that it placed
-abbrev pub is_own : View → Record → ℕ → Bool
-is_own view entry zero = true
-is_own view entry (suc k) = is_earlier_record entry (record_at (sees view) k)
+abbrev pub is_own_node : View → Record → ℕ → Bool
+is_own_node view entry zero = true
+is_own_node view entry (suc k) = is_earlier_record entry (record_at (sees view) k)
 
 -- how many they are
 abbrev pub own_count : View → Record → ℕ
-own_count view entry = length (filter (is_own view entry) (range_with_len 0 (length view.run.marks + 1)))
+own_count view entry = length (filter (is_own_node view entry) (range_with_len 0 (length view.run.marks + 1)))
 
 -- what such a node was placed at
 abbrev pub own_first_cost : View → ℕ → ℕ
@@ -40,7 +40,7 @@ own_first_cost view (suc k) = cost_in (sees view (FirstOf (suc k)))
 
 -- Node i is one of them within the radius of the record's class of p, with a clear edge.
 pub record IsOwnNeighbour (view : View) (entry : Record) (p : Point) (i : ℕ) : Type 0 where
-  pub own : IsTrue (is_own view entry i)
+  pub own : IsTrue (is_own_node view entry i)
   pub near : IsTrue (is_within p (radius_of_class view.run.step view.run.gamma entry.class) (point_at (tree_seen view).points i))
   pub clear : Clear (setup_in view.run).space (point_of (tree_seen view).points i) p
 
@@ -62,7 +62,7 @@ pub record MayBePlaced (view : View) (hand : Hand) (entry : Record) : Type 0 whe
 -- The segment to p is not clear, and no own node stands at p.
 pub record MayBeBlocked (view : View) (entry : Record) (p : Point) : Type 0 where
   pub blocked : ¬ Clear (setup_in view.run).space (point_of (tree_seen view).points entry.nearest) p
-  pub free : (i : ℕ) → IsTrue (is_own view entry i) → ¬ SeesPoint view i p
+  pub free : (i : ℕ) → IsTrue (is_own_node view entry i) → ¬ SeesPoint view i p
 
 -- what the outcome asks, where the nearest node steered to p
 abbrev pub MayEnd : View → Hand → Record → Point → Outcome → Type 0
@@ -73,7 +73,7 @@ MayEnd view hand entry p Blocked = MayBeBlocked view entry p
 -- The nearest node is seen, no own node is nearer to the mark, and the outcome is what it says.
 pub record MayRecord (view : View) (hand : Hand) (entry : Record) : Type 0 where
   pub present : IsPresent (tree_seen view).points entry.nearest
-  pub nearest : (i : ℕ) → IsTrue (is_own view entry i)
+  pub nearest : (i : ℕ) → IsTrue (is_own_node view entry i)
       → IsNotAbove (distance_to (mark_at view.run.marks hand.mark) (tree_seen view).points) entry.nearest i
   pub outcome :
       MayEnd view hand entry (steered (point_of (tree_seen view).points entry.nearest) (mark_at view.run.marks hand.mark) view.run.step) entry.outcome

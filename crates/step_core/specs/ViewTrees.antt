@@ -93,14 +93,14 @@ pub record MayLower (view : View) (n parent cost : ℕ) : Type 0 where
   pub cheaper : cost < old_cost
 
 -- What the law says of the parent and the cost that were seen of node n. The cost is one of a tree within the limits. The start is its own
--- parent, at no cost. The parent of any other is another node; if both are seen with their points, the edge is allowed. The cost is at most
--- that of the first word, if that is seen.
+-- parent, at no cost; the parent of any other is another node. If node and parent are seen with their points, the edge is allowed: of the
+-- start this says that it is clear. The cost is at most that of the first word, if that is seen.
 pub record IsSeenPair (view : View) (n : ℕ) : Type 0 where
   pub low : cost_in (sees view (TreeOf n)) < 2 ^ 38
   pub within : parent_in (sees view (TreeOf n)) ≤ length view.run.marks
   pub start : n ≡ 0 → (parent_in (sees view (TreeOf n)) ≡ 0) × (cost_in (sees view (TreeOf n)) ≡ 0)
   pub other : 0 < n → parent_in (sees view (TreeOf n)) ≢ n
-  pub edge : 0 < n → (at from : Point) → SeesPoint view n at → SeesPoint view (parent_in (sees view (TreeOf n))) from
+  pub edge : (at from : Point) → SeesPoint view n at → SeesPoint view (parent_in (sees view (TreeOf n))) from
       → IsAllowedEdge (setup_in view.run) from at
   pub first : 2 ^ 63 ≤ sees view (FirstOf n) → cost_in (sees view (TreeOf n)) ≤ cost_in (sees view (FirstOf n))
 

@@ -87,9 +87,9 @@ hands_at test k views = sum_by (λ view. once_if (holds_at test k view.hand)) vi
 abbrev pub counted_once : Words → List View → ℕ → ℕ
 counted_once words views k = once_if (has_node words (suc k)) + hands_at has_count k views
 
--- Each linked node but node 0 stands in one child word, at the end of the way of its point, and no other node has a child. Beside node 0
--- those are linked whose marks are recorded as placed, or are in a hand that has linked them. The count is 1, and 1 for each mark that is
--- recorded as placed, or is in a hand that has counted its node.
+-- The way of a linked node's point leads to one child word, which names the node, and no other word does; node 0 is in none. A number that
+-- is not linked has no child. Beside node 0 those are linked whose marks are recorded as placed, or are in a hand that has linked them. The
+-- count is 1, and 1 for each mark that is recorded as placed, or is in a hand that has counted its node.
 pub record Links (run : SharedRun) (words : Words) (views : List View) : Type 0 where
   pub start : words (PointOf 0) ≡ point_word run.start
   pub ways : FollowWays (children_of_words words) (linked_points (run_sizes run) words)

@@ -26,7 +26,7 @@ mod seen_laws;
 mod tree_words;
 mod views;
 mod word_places;
-mod world_laws;
+pub mod world_laws;
 
 pub use grown::Grown;
 pub use point_words::{pack_point, point_in, read_point};

@@ -6,7 +6,7 @@ ghost use Rattle.std.specs.Prelude.{◌≡◌, ◌≢◌, ◌↔◌, ℕ, suc, �
 ghost use lib.ListN.{get_elem?};
 ghost use mathlib.Core.Option.{some};
 ghost use Rattle.plan_model.specs.MarkPoints.{is_claimed, quota_of};
-ghost use Rattle.plan_model.specs.PointsByNumber.{node_count};
+ghost use Rattle.plan_model.specs.PointsByNumber.{IsFree, node_count};
 ghost use Rattle.plan_model.specs.Sights.{IsLaterMoment, KeepsSight};
 ghost use Rattle.plan_model.specs.declared.geometry.Point.{Point};
 ghost use Rattle.plan_model.specs.declared.limits.TheConstants.{MOST_WORKERS};
@@ -19,7 +19,8 @@ ghost use Rattle.step_core.specs.ViewStarts.{newcomer};
 ghost use Rattle.step_core.specs.SeenRecords.{MayRecord, own_count};
 ghost use Rattle.step_core.specs.SharedWords.{linked_points};
 ghost use Rattle.step_core.specs.Stages.{MayBeRecorded};
-ghost use Rattle.step_core.specs.ViewSteps.{claimed, counted, finished, half, joined, linked, loaded, looker, lowered, mark_of, pair_in_hand, parted, pointed, stepped, treed, worker_apart};
+ghost use Rattle.step_core.specs.ViewSteps.{claimed, counted, finished, half, joined, linked, loaded, looker, lowered, mark_of, pair_in_hand, parted};
+ghost use Rattle.step_core.specs.ViewSteps.{pointed, stepped, treed, worker_apart};
 ghost use Rattle.step_core.specs.ViewTrees.{IsOnWayOf, IsSteered, LeadsTo, MayHang, MayLoad, MayLower, SeesNode, sight_in};
 ghost use Rattle.step_core.specs.Views.{holds, run_of, run_sizes, sees, share, spent, tree_seen};
 ghost use Rattle.step_core.specs.WordKinds.{AreBehind};
@@ -131,6 +132,15 @@ pub fn links_keep_the_law()
     // the linked nodes are those that links lead to from node 0
     ensures linked { (run : SharedRun) (words : Words) (views : List View) → IsWorld run words views → (n : ℕ)
         → is_linked (run_sizes run) words n ≡ true ↔ IsLinked words n }
+{}
+
+/// A place of a child that is empty has no node beyond it: if the way of a point over what a view has seen leads to the place, and its
+/// word is 0, no linked node stands at that point. So a pass that finds the place empty has missed none, and whoever comes to that
+/// point is linked later.
+pub fn empty_places_have_no_node()
+    ensures { (run : SharedRun) (words : Words) (views : List View) (id : ℕ) (view : View) → IsWorld run words views → get_elem? views id ≡ some view
+        → view.run ≡ run → (q : Point) (n : ℕ) (side : Bool) → LeadsTo view q n side → words (ChildOf n side) ≡ 0
+        → IsFree (linked_points (run_sizes run) words) q }
 {}
 
 /// Counting the linked node in hand keeps the law.
