@@ -14,6 +14,7 @@ use Rattle.kd_shared.specs.Loads.{FindsEmpty}
 use Rattle.kd_shared.specs.Looking.{OnlyLooks}
 use Rattle.kd_shared.specs.Searches.{Finds}
 use Rattle.kd_shared.specs.Sides.{goes_right_by, is_by_rows}
+use Rattle.kd_shared.specs.Walks.{HasCome}
 use Rattle.kd_shared.proofs.Looking.{LoadsPoint-seen, OnlyLooks-trans}
 use Rattle.kd_shared.proofs.SplitSides.{goes_right-by, is_by_rows-next}
 use Rattle.kd_shared.proofs.Walking.{IsWalking, IsWalking-begins, IsWalking-depth, IsWalking-ends, IsWalking-free, IsWalking-goes_on, IsWalking-later}
@@ -34,7 +35,27 @@ IsFinding-begins entry now p here looks stands = record {
   by_rows_is = refl;
 }
 
+-- a walk that has come to a node has only looked
+pub IsFinding-come : (entry now : View) (p : Point) (depth node : ℕ) (by_rows : Bool) (here : Point) → OnlyLooks entry now
+    → HasCome now p depth node by_rows here → IsFinding entry now p depth node by_rows here
+IsFinding-come entry now p depth node by_rows here looks come = record {
+  looks = looks;
+  walk = record { later = IsLaterMoment-later entry now looks.looks.goes_on.later; on_way = come.on_way; seen = come.seen };
+  stands = come.stands;
+  by_rows_is = come.by_rows_is;
+}
+
 module _ (entry now : View) (p : Point) (depth node : ℕ) (by_rows : Bool) (here : Point) (h : IsFinding entry now p depth node by_rows here) where
+  pub HasCome-finding : HasCome now p depth node by_rows here
+  HasCome-finding = record { on_way = h.walk.on_way; seen = h.walk.seen; stands = h.stands; by_rows_is = h.by_rows_is }
+
+  -- and so it has at a later moment
+  pub HasCome-later : (after : View) → OnlyLooks now after → HasCome after p depth node by_rows here
+  HasCome-later after looks =
+      let later = IsLaterMoment-later now after looks.looks.goes_on.later in
+      let walk = IsWalking-later (sight_in entry) (sight_in now) p depth node h.walk (sight_in after) later in
+      record { on_way = walk.on_way; seen = walk.seen; stands = later.seen.places.nodes node here h.stands; by_rows_is = h.by_rows_is }
+
   pub IsFinding-lawful : IsLawfulView now
   IsFinding-lawful = h.looks.looks.goes_on.lawful
 

@@ -7,7 +7,7 @@ use Rattle.plan_model.specs.PointsByNumber.{point_at}
 use Rattle.plan_model.specs.Sights.{IsLaterMoment, KeepsSight}
 use Rattle.plan_model.proofs.SeenTreeLaws.{IsSeen-more}
 use Rattle.plan_words.specs.Claims.{SeesAsBefore}
-use Rattle.plan_words.specs.Nodes.{IsChildOrPoint}
+use Rattle.plan_words.specs.Nodes.{NamesChildOrPoint}
 use Rattle.plan_words.specs.States.{BelongsTo, GoesOn, HasWholeShare, PassState, SharedState}
 use Rattle.step_core.specs.LaterViews.{IsLater, IsLawfulView}
 use Rattle.step_core.specs.SeenWords.{seen_tree_of_words}
@@ -85,7 +85,7 @@ same_words before after name value writes same other =
 
 -- a step that shows no word but that of a child or of a point
 pub OnlyLooks-loaded : (before after : View) (name : Word) (word : ℕ) → after ≡ loaded before name word → GoesOn before after
-    → ChangesOnly IsChildOrPoint (sees before) (sees after) → (HasWholeShare before → SeesAsBefore before after) → OnlyLooks before after
+    → ChangesOnly NamesChildOrPoint (sees before) (sees after) → (HasWholeShare before → SeesAsBefore before after) → OnlyLooks before after
 OnlyLooks-loaded before after name word is goes_on others whole = record {
   looks = record { goes_on = goes_on; others = others };
   kept = record {

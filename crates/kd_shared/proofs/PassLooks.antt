@@ -1,7 +1,7 @@
 -- What loads leave of a pass: all but what it sees of the loaded words.
 use Rattle.std.proofs.Common.{◌≡◌, ℕ, Bool, sym, ap, ◌∙◌, subst}
 use Rattle.plan_words.specs.Claims.{SeesAsBefore}
-use Rattle.plan_words.specs.Nodes.{IsChildOrPoint}
+use Rattle.plan_words.specs.Nodes.{NamesChildOrPoint}
 use Rattle.plan_words.specs.States.{BelongsTo, GoesOn, HasWholeShare, PassState, SharedState, with_view}
 use Rattle.step_core.specs.ViewSteps.{loaded}
 use Rattle.step_core.specs.ViewTrees.{SeesNode}
@@ -28,7 +28,8 @@ PassLooks-trans shared before mid after one other = record {
 
 -- one step that shows no word but that of a child or of a point
 pub PassLooks-step : (shared : SharedState) (before after : PassState) (name : Word) (word : ℕ) → BelongsTo before shared
-    → after ≡ with_view before (loaded before.view name word) → GoesOn before.view after.view → ChangesOnly IsChildOrPoint (sees before.view) (sees after.view)
+    → after ≡ with_view before (loaded before.view name word) → GoesOn before.view after.view
+    → ChangesOnly NamesChildOrPoint (sees before.view) (sees after.view)
     → (HasWholeShare before.view → SeesAsBefore before.view after.view) → PassLooks shared before after
 PassLooks-step shared before after name word belongs is goes_on others whole =
     let view_is : after.view ≡ loaded before.view name word = ap (λ (p : PassState). p.view) is in
@@ -39,18 +40,18 @@ PassLooks-step shared before after name word belongs is goes_on others whole =
     }
 
 -- one load of it
-pub PassLooks-load : (shared : SharedState) (before after : PassState) (name : Word) (word value : ℕ) → BelongsTo before shared → IsChildOrPoint name
+pub PassLooks-load : (shared : SharedState) (before after : PassState) (name : Word) (word value : ℕ) → BelongsTo before shared → NamesChildOrPoint name
     → after ≡ with_view before (loaded before.view name word) → GoesOn before.view after.view → WritesWord name value (sees before.view) (sees after.view)
     → (HasWholeShare before.view → value ≡ sees before.view name) → PassLooks shared before after
 PassLooks-load shared before after name word value belongs node is goes_on writes whole =
     PassLooks-step shared before after name word belongs is goes_on
-    (λ other k. writes.others other (λ same. k (subst IsChildOrPoint (sym same) node)))
+    (λ other k. writes.others other (λ same. k (subst NamesChildOrPoint (sym same) node)))
     (λ all. same_words (sees before.view) (sees after.view) name value writes (whole all))
 
 -- one try of a link that met a child
 pub PassLooks-met : (shared : SharedState) (before after : PassState) (n : ℕ) (side : Bool) (word : ℕ) → BelongsTo before shared → SeesNode before.view n
     → after ≡ with_view before (loaded before.view (ChildOf n side) word) → GoesOn before.view after.view
-    → ChangesOnly IsChildOrPoint (sees before.view) (sees after.view) → (HasWholeShare before.view → word ≡ sees before.view (ChildOf n side))
+    → ChangesOnly NamesChildOrPoint (sees before.view) (sees after.view) → (HasWholeShare before.view → word ≡ sees before.view (ChildOf n side))
     → PassLooks shared before after
 PassLooks-met shared before after n side word belongs seen is goes_on others whole =
     let lawful = goes_on.was_lawful in

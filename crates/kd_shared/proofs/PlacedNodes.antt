@@ -2,7 +2,7 @@
 use Rattle.std.proofs.Common.{◌≡◌, ℕ, suc, Bool, Option, Some, None, sym, ap, ◌∙◌, subst}
 use Rattle.std.specs.Prelude.{IfSome, IsSome}
 use Rattle.plan_model.specs.declared.geometry.Point.{Point}
-use Rattle.plan_words.specs.Nodes.{IsLinkedAt, IsNodeWord}
+use Rattle.plan_words.specs.Nodes.{IsLinkedAt, NamesNode}
 use Rattle.plan_words.specs.States.{BelongsTo, GoesOn, PassState, SharedState, with_view}
 use Rattle.step_core.specs.ViewSteps.{counted, linked}
 use Rattle.step_core.specs.ViewTrees.{LeadsTo, SeesPoint, sight_in}
@@ -15,7 +15,7 @@ use Rattle.kd_shared.specs.Placings.{GoesOnPlacing, IsPlaced, IsSame, KeepsShare
 use Rattle.kd_shared.proofs.Looking.{BelongsTo-later}
 use Rattle.kd_shared.proofs.PassLooks.{PassLooks}
 use Rattle.plan_words.proofs.GoingOn.{GoesOn-trans}
-use Rattle.plan_words.proofs.HandSteps.{IsNodeWord-child}
+use Rattle.plan_words.proofs.HandSteps.{NamesNode-child}
 use Rattle.kd_shared.proofs.Walking.{IsWalking}
 
 -- the hand of a pass that only looked
@@ -58,7 +58,7 @@ IfSome-placed entry now after p depth n side (Some hand) kept is links comes =
 pub GoesOnPlacing-looks : (before after : View) → GoesOnLooking before after → GoesOnPlacing before after
 GoesOnPlacing-looks before after looks = record {
   goes_on = looks.goes_on;
-  others = λ name off. looks.others name (λ h. off (IsNodeWord-child name h));
+  others = λ name off. looks.others name (λ h. off (NamesNode-child name h));
 }
 
 -- A pass of this tree has placed its node: share and limit stay, and nothing but its view changes.
@@ -74,7 +74,7 @@ PassPlaces-looks shared before mid after one other = record {
   belongs = other.belongs;
   goes_on = record {
     goes_on = GoesOn-trans before.view mid.view after.view one.looks.looks.goes_on other.goes_on.goes_on;
-    others = λ name off. other.goes_on.others name off ∙ one.looks.looks.others name (λ h. off (IsNodeWord-child name h));
+    others = λ name off. other.goes_on.others name off ∙ one.looks.looks.others name (λ h. off (NamesNode-child name h));
   };
   share = record { crew = other.share.crew ∙ one.looks.kept.crew; most = other.share.most ∙ one.looks.kept.most };
   view_alone = other.view_alone ∙ ap (λ p. with_view p after.view) one.view_alone;
@@ -82,7 +82,7 @@ PassPlaces-looks shared before mid after one other = record {
 
 pub PassPlaces-links : (shared : SharedState) (before after : PassState) (n : ℕ) (side : Bool) → BelongsTo before shared → IsSome before.view.hand
     → IfSome before.view.hand (λ hand. after ≡ with_view before (counted (linked before.view hand n side) hand)) → GoesOn before.view after.view
-    → ChangesOnly IsNodeWord (sees before.view) (sees after.view) → PassPlaces shared before after
+    → ChangesOnly NamesNode (sees before.view) (sees after.view) → PassPlaces shared before after
 PassPlaces-links shared before after n side belongs held view goes_on others = by_hand before.view.hand held view
   where
     by_hand : (o : Option Hand) → IsSome o → IfSome o (λ hand. after ≡ with_view before (counted (linked before.view hand n side) hand))

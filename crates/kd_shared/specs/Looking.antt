@@ -1,7 +1,7 @@
 -- What calls that look at nodes leave of a pass.
 use Rattle.std.specs.Prelude.{◌≡◌}
 use Rattle.plan_words.specs.Claims.{KeepsHand, SeesAsBefore}
-use Rattle.plan_words.specs.Nodes.{IsChildOrPoint}
+use Rattle.plan_words.specs.Nodes.{NamesChildOrPoint}
 use Rattle.plan_words.specs.States.{GoesOn, HasWholeShare, PassState}
 use Rattle.step_core.specs.Views.{sees}
 use Rattle.step_core.specs.WordNames.{ChangesOnly}
@@ -10,7 +10,7 @@ use Rattle.step_core.specs.declared.views.View.{View}
 -- What was seen stays seen, and of all words none is seen anew but children and points.
 pub record GoesOnLooking (before after : View) : Type 0 where
   pub goes_on : GoesOn before after
-  pub others : ChangesOnly IsChildOrPoint (sees before) (sees after)
+  pub others : ChangesOnly NamesChildOrPoint (sees before) (sees after)
 
 -- It only looks: share, limit and hand stay too. A pass with the share of all workers sees nothing new.
 pub record OnlyLooks (before after : View) : Type 0 where

@@ -6,7 +6,7 @@ use Rattle.plan_model.specs.PointsByNumber.{IsPresent, StandsAt, point_at}
 use Rattle.plan_model.specs.TreeStates.{TreeState}
 use Rattle.plan_model.specs.Ways.{IsOnWay}
 use Rattle.plan_words.specs.Claims.{SeesAsBefore}
-use Rattle.plan_words.specs.Nodes.{IsNodeWord}
+use Rattle.plan_words.specs.Nodes.{NamesNode}
 use Rattle.plan_words.specs.States.{GoesOn}
 use Rattle.step_core.specs.SharedWords.{state_of_links}
 use Rattle.step_core.specs.ViewSteps.{pair_in_hand}
@@ -22,7 +22,7 @@ use Rattle.step_core.specs.declared.views.View.{View}
 -- What was seen stays seen, and of all words none is seen anew but words of nodes.
 pub record GoesOnPlacing (before after : View) : Type 0 where
   pub goes_on : GoesOn before after
-  pub others : ChangesOnly IsNodeWord (sees before) (sees after)
+  pub others : ChangesOnly NamesNode (sees before) (sees after)
 
 -- share and limit stay
 pub record KeepsShare (before after : View) : Type 0 where

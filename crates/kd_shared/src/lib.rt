@@ -29,6 +29,7 @@ mod placing;
 mod point_search;
 mod sides;
 mod squares;
+mod walks;
 
 pub use near_search::{around, near};
 pub use nearest_search::nearest;

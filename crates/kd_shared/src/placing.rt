@@ -9,6 +9,7 @@ ghost use Rattle.step_core.specs.Views.{tree_seen};
 ghost use Rattle.step_core.specs.declared.views.Stage.TheVariants.{Treed};
 
 use crate::sides::goes_right;
+use crate::walks::walk;
 use plan_model::{MOST_NODES, Point};
 use plan_words::{Pass, Shared};
 
@@ -22,9 +23,9 @@ pub enum Placing {
 }
 
 /// Links the node of the mark in hand, whose words are written, as a child in the kd-tree, and counts it; or tells the node
-/// that has its point already, and then the hand is as before. It walks the way of the point from node 0, and tries an
-/// exchange at each node: if another's child is there it goes on to that, also if it came a moment ago. So a try that fails
-/// leads one node deeper, and no way is longer than the marks: O(d) for a tree of depth d.
+/// that has its point already, and then the hand is as before. It walks the way of the point from node 0 by loads, which take no
+/// word from another worker, and tries an exchange where it found no child. If another's child has come there meanwhile, it goes on
+/// to that: so a try that fails leads one node deeper, and no way is longer than the marks. O(d) for a tree of depth d.
 pub fn place(shared: &Shared, pass: &mut Pass, _mark: u32) -> Placing
     requires belongs { BelongsTo pass.old shared.now }
     requires hand { IsSome pass.old.view.hand }
@@ -41,10 +42,11 @@ pub fn place(shared: &Shared, pass: &mut Pass, _mark: u32) -> Placing
     ensures whole_seen { HasWholeShare pass.old.view → IfSome pass.old.view.hand (λ hand. SeesPlacing pass.old.view pass.new.view hand result) }
 {
     let p = pass.hand_point();
-    let mut node = 0;
-    let mut here = shared.point(pass, 0);
-    let mut by_rows = false;
-    'depths: for _depth in 0..MOST_NODES {
+    let stop = walk(shared, pass, p);
+    let mut node = stop.node;
+    let mut here = stop.here;
+    let mut by_rows = stop.by_rows;
+    'depths: for _depth in stop.depth..MOST_NODES {
         if here == p {
             return Placing::Same(node);
         }

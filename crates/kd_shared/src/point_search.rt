@@ -8,8 +8,8 @@ ghost use Rattle.plan_words.specs.States.{BelongsTo, with_view};
 ghost use Rattle.step_core.specs.ViewTrees.{SeesPoint, sight_in};
 ghost use Rattle.step_core.specs.Views.{tree_seen};
 
-use crate::sides::goes_right;
-use plan_model::{MOST_NODES, Point};
+use crate::walks::walk;
+use plan_model::Point;
 use plan_words::{Pass, Shared};
 
 /// The node at a point, which may be any, and which is seen there then. `None` only if none was seen there before the call,
@@ -27,19 +27,9 @@ pub fn find(shared: &Shared, pass: &mut Pass, p: Point) -> Option<u32>
     // nor is one seen there now
     ensures free { IfNone result (IsFree (tree_seen pass.new.view).points p) }
 {
-    let mut node = 0;
-    let mut here = shared.point(pass, 0);
-    let mut by_rows = false;
-    'depths: for _depth in 0..MOST_NODES {
-        if here == p {
-            return Some(node);
-        }
-        let Some(child) = shared.child(pass, node, goes_right(by_rows, here, p)) else {
-            return None;
-        };
-        node = child;
-        here = shared.point(pass, child);
-        by_rows = !by_rows;
+    let stop = walk(shared, pass, p);
+    if stop.here == p {
+        return Some(stop.node);
     }
-    unreachable!()
+    None
 }

@@ -32,7 +32,7 @@ use Rattle.plan_words.proofs.KeptPairs.{if_hand}
 use Rattle.plan_words.proofs.Tying.{HasMember-held}
 use Rattle.step_core.specs.GrownWords.{has_node, has_placed, record_at}
 use Rattle.step_core.specs.LaterViews.{IsLawfulView}
-use Rattle.step_core.specs.SeenRecords.{IsOwnNeighbour, MayBePlaced, MayEnd, MayRecord, is_own, own_count}
+use Rattle.step_core.specs.SeenRecords.{IsOwnNeighbour, MayBePlaced, MayEnd, MayRecord, is_own_node, own_count}
 use Rattle.step_core.specs.Stages.{has_link}
 use Rattle.step_core.specs.ViewTrees.{SeesPoint}
 use Rattle.step_core.specs.Views.{sees, setup_in, tree_seen}
@@ -78,7 +78,7 @@ within_zero p (Some q) near = ap Some (same-from_distance q p (omega (arith, leb
 -- ---- a worker's own nodes
 
 -- the record of each is seen
-own_recorded : (view : View) (entry : Record) (n : ℕ) → IsTrue (is_own view entry n) → has_node (sees view) n ≡ true
+own_recorded : (view : View) (entry : Record) (n : ℕ) → IsTrue (is_own_node view entry n) → has_node (sees view) n ≡ true
 own_recorded view entry zero own = refl
 own_recorded view entry (suc k) own = by_record (record_at (sees view) k) own
   where
@@ -110,10 +110,10 @@ own_count-turns view hand entry lawful held worker =
     let marks : ℕ = length view.run.marks in
     let next : marks + 1 ≡ suc marks = omega arith in
     let of_worker : ℕ → Bool = λ k. is_of_worker entry.worker (record_at (sees view) k) in
-    let all = length-filter (is_own view entry) (range_with_len 0 (marks + 1)) ∙ ap (λ n. count_by (is_own view entry) (range_with_len 0 n)) next in
-    let wider = count-wider (λ k. is_own view entry (suc k)) of_worker marks (λ k own. own_of_worker entry (record_at (sees view) k) own) in
+    let all = length-filter (is_own_node view entry) (range_with_len 0 (marks + 1)) ∙ ap (λ n. count_by (is_own_node view entry) (range_with_len 0 n)) next in
+    let wider = count-wider (λ k. is_own_node view entry (suc k)) of_worker marks (λ k own. own_of_worker entry (record_at (sees view) k) own) in
     let mine = ap (λ w. count_by (λ k. is_of_worker w (record_at (sees view) k)) (range_with_len 0 marks)) same in
-    omega (arith, all, count-first (is_own view entry) marks, wider, mine, turns, ap turn_of has.crew_is)
+    omega (arith, all, count-first (is_own_node view entry) marks, wider, mine, turns, ap turn_of has.crew_is)
 
 -- ---- records
 

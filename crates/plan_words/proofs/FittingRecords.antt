@@ -1,5 +1,5 @@
 -- What a pass may record fits the word of a record.
-use Rattle.std.proofs.Common.{ℕ, ◌<◌, ◌≤◌, ◌^◌, ap, arith}
+use Rattle.std.proofs.Common.{ℕ, ◌*◌, ◌<◌, ◌≤◌, ◌^◌, ap, arith}
 use Rattle.std.specs.Prelude.{is_some}
 use Rattle.plan_model.specs.ClosedLaw.{mark_at}
 use Rattle.plan_model.specs.PointsByNumber.{IsPresent, point_of}
@@ -25,11 +25,9 @@ module _ (view : View) (hand : Hand) (entry : Record) (lawful : IsLawfulView vie
   pub nearest_fits : entry.nearest < 2 ^ 18
   nearest_fits = small_number entry.nearest may.present
 
-  low_class : entry.class ≤ class_of (sees view Count) → entry.class < 2 ^ 18
-  low_class high =
-      let most = class_of-le (sees view Count) 262144 (omega (arith, lawful.count, lawful.run.marks)) in
-      let last = class_from_powers 262144 18 (omega arith) (omega arith) in
-      omega (arith, high, most, last)
+  -- by a variable, since the class of a numeral computes long
+  low_class : (most : ℕ) → 2 ^ 18 ≤ most → most < 2 * 2 ^ 18 → sees view Count ≤ most → entry.class ≤ class_of (sees view Count) → entry.class < 2 ^ 18
+  low_class most low below within high = omega (arith, high, class_of-le (sees view Count) most within, class_from_powers most 18 low below)
 
   pub last_fits : last_field entry.outcome entry.class < 2 ^ 18
   last_fits = by_outcome entry.outcome may.outcome
@@ -37,6 +35,6 @@ module _ (view : View) (hand : Hand) (entry : Record) (lawful : IsLawfulView vie
       by_outcome : (o : Outcome)
           → MayEnd view hand entry (steered (point_of (tree_seen view).points entry.nearest) (mark_at view.run.marks hand.mark) view.run.step) o
           → last_field o entry.class < 2 ^ 18
-      by_outcome Placed h = low_class h.high
+      by_outcome Placed h = low_class 262144 (omega arith) (omega arith) (omega (arith, lawful.count, lawful.run.marks)) h.high
       by_outcome (Same j) h = small_number j (ap is_some h)
       by_outcome Blocked h = omega arith

@@ -3,7 +3,7 @@ use Rattle.std.proofs.Common.{◌≡◌, ◌≢◌, ℕ, zero, suc, ◌<◌, ◌
 use Rattle.std.specs.Prelude.{◌==◌, cond, IfSome, IsSome, is_some}
 use Rattle.std.proofs.lemmas.Bool.{eqb-true, ne_eqb}
 use Rattle.plan_model.specs.Bounds.{IsBounded}
-use Rattle.plan_words.specs.Nodes.{IsChildOrPoint, IsLinkedAt, IsNodeWord}
+use Rattle.plan_words.specs.Nodes.{NamesChildOrPoint, IsLinkedAt, NamesNode}
 use Rattle.plan_words.specs.States.{PassState, with_view}
 use Rattle.step_core.specs.GrownWords.{child_of_word}
 use Rattle.step_core.specs.LaterViews.{IsLawfulView}
@@ -25,14 +25,14 @@ use Rattle.step_core.proofs.SeenWords.{point_at-seen}
 use Rattle.plan_words.proofs.LookedNodes.{child_fits, child_seen}
 
 -- children and points are words of nodes
-pub IsNodeWord-child : (name : Word) → IsChildOrPoint name → IsNodeWord name
-IsNodeWord-child Count h = h
-IsNodeWord-child (Counter g) h = h
-IsNodeWord-child (PointOf n) h = tt
-IsNodeWord-child (ChildOf n side) h = tt
-IsNodeWord-child (TreeOf n) h = tt
-IsNodeWord-child (FirstOf n) h = tt
-IsNodeWord-child (RecordOf k) h = h
+pub NamesNode-child : (name : Word) → NamesChildOrPoint name → NamesNode name
+NamesNode-child Count h = h
+NamesNode-child (Counter g) h = h
+NamesNode-child (PointOf n) h = tt
+NamesNode-child (ChildOf n side) h = tt
+NamesNode-child (TreeOf n) h = tt
+NamesNode-child (FirstOf n) h = tt
+NamesNode-child (RecordOf k) h = h
 
 -- what is said of a hand holds of the one that there is
 pub at_hand : (has : Hand → Type 0) (o : Option Hand) (hand : Hand) → o ≡ Some hand → IfSome o has → has hand
@@ -111,12 +111,12 @@ module _ (view then : View) (hand : Hand) (n : ℕ) (side : Bool) (lawful : IsLa
       })
 
   -- and nothing else is seen anew
-  pub ChangesOnly-linked : ChangesOnly IsNodeWord (sees view) (sees then)
+  pub ChangesOnly-linked : ChangesOnly NamesNode (sees view) (sees then)
   ChangesOnly-linked name other =
       let shows = sees-linked view.run view lawful.of_run hand n side within low in
       ap (λ v. sees v name) is
-      ∙ shows.others name (λ e. other (subst IsNodeWord (sym e) tt)) (λ e. other (subst IsNodeWord (sym e) tt)) (λ e. other (subst IsNodeWord (sym e) tt))
-      (λ e. other (subst IsNodeWord (sym e) tt))
+      ∙ shows.others name (λ e. other (subst NamesNode (sym e) tt)) (λ e. other (subst NamesNode (sym e) tt)) (λ e. other (subst NamesNode (sym e) tt))
+      (λ e. other (subst NamesNode (sym e) tt))
 
 -- ---- a link that met a child
 
@@ -139,10 +139,10 @@ module _
           let child = child_seen view then n side (place_in view (ChildOf n side)) c lawful seen refl is ∙ ap child_of_word e in
           (child, inr (n, side, child))
 
-  pub ChangesOnly-met : ChangesOnly IsChildOrPoint (sees view) (sees then)
+  pub ChangesOnly-met : ChangesOnly NamesChildOrPoint (sees view) (sees then)
   ChangesOnly-met name other =
       ap (λ v. sees v name) is
-      ∙ (WritesWord-saw view.run view lawful.of_run (ChildOf n side) (lawful.within n seen) c c).others name (λ e. other (subst IsChildOrPoint (sym e) tt))
+      ∙ (WritesWord-saw view.run view lawful.of_run (ChildOf n side) (lawful.within n seen) c c).others name (λ e. other (subst NamesChildOrPoint (sym e) tt))
 
-  pub ChangesOnly-met_node : ChangesOnly IsNodeWord (sees view) (sees then)
-  ChangesOnly-met_node name other = ChangesOnly-met name (λ h. other (IsNodeWord-child name h))
+  pub ChangesOnly-met_node : ChangesOnly NamesNode (sees view) (sees then)
+  ChangesOnly-met_node name other = ChangesOnly-met name (λ h. other (NamesNode-child name h))

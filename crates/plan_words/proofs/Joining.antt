@@ -1,14 +1,15 @@
 -- A pass goes on by a join and the load that follows it.
 use Rattle.std.proofs.Common.{◌≡◌, ℕ, ◌<◌, ◌≤◌, ◌^◌, Bool, List, [], ◌∷◌, ◌++◌, length, Option, Some, None, false, true, refl, sym, ap, ◌∙◌, subst, arith}
 use Rattle.std.specs.Prelude.{◌==◌, ◌&&◌, cond, is_some, nat_le, nat_lt, slice_index}
+use Rattle.atomic_table.specs.Seated.{TableId}
 use Rattle.atomic_table.specs.Table.{Me}
 use Rattle.plan_words.specs.declared.openings.Aim.{Aim}
 use Rattle.plan_words.specs.Plays.{Tells}
-use Rattle.plan_words.specs.States.{GoesOn, HasPairs, HasRoom, PassState, first_of}
+use Rattle.plan_words.specs.States.{GoesOn, HasPairs, HasRoom, PassState, first_of, with_view}
 use Rattle.step_core.specs.LaterViews.{IsLater, IsLawfulView}
-use Rattle.step_core.specs.ViewSteps.{joined, place_in, saw_at}
-use Rattle.step_core.specs.Views.{run_sizes, sees, words_of_run}
-use Rattle.step_core.specs.WordKinds.{later_word}
+use Rattle.step_core.specs.ViewSteps.{joined, loaded, place_in, saw_at}
+use Rattle.step_core.specs.Views.{run_sizes, sees, took_over, words_of_run}
+use Rattle.step_core.specs.WordKinds.{AreBehind, later_word}
 use Rattle.step_core.specs.WordKinds.WordKind.{Falling}
 use Rattle.step_core.specs.WordNames.Word.{Count, TreeOf}
 use Rattle.step_core.specs.Words.{cost_in}
@@ -18,6 +19,7 @@ use Rattle.step_core.specs.declared.views.View.{View}
 use Rattle.step_core.proofs.LaterViews.{IsLater-joined, IsLater-trans}
 use Rattle.step_core.proofs.LaterWords.{word_at-merged}
 use Rattle.plan_words.proofs.KeptPairs.{Keeps, keeps_saw}
+use Rattle.plan_words.proofs.Owning.{sees_told, with_view_told}
 
 IsLater-taken_over :
     (pass inner : PassState) (other : View) (me mid after : Me Aim View) → inner ≡ pass → mid ≡ (joined inner.view other, me.1) → {view : View}
@@ -36,6 +38,31 @@ GoesOn-taken_over pass inner other me mid after lawful pass_is mid_is told = rec
   later = IsLater-taken_over pass inner other me mid after pass_is mid_is told;
   lawful = subst IsLawfulView (sym told.view_is) told.goes_on.lawful;
 }
+
+-- It is left but for its view, which sees the count as it was loaded.
+pub with_view-taken_over :
+    (pass inner other theirs : PassState) (table : TableId) (me mid after : Me Aim View) (place x : ℕ) → inner ≡ pass → theirs ≡ other
+    → table ≡ inner.table → mid ≡ (joined inner.view theirs.view, me.1) → Tells mid (saw_at mid.0 place x x) after → place ≡ place_in mid.0 Count
+    → record inner { table = table; view = after.0 } ≡ with_view pass (loaded (joined pass.view other.view) Count (sees after.0 Count))
+with_view-taken_over pass inner other theirs table me mid after place x pass_is theirs_is table_is mid_is told at_place =
+    let then : View = after.0 in
+    let word : sees then Count ≡ x = (sees_told mid.0 mid.0 then Count place x refl told.goes_on.was_lawful tt at_place told.view_is).here in
+    let is : then ≡ loaded (joined inner.view other.view) Count (sees then Count) =
+    told.view_is ∙ ap (λ n. saw_at mid.0 n x x) at_place ∙ ap (loaded mid.0 Count) (sym word)
+    ∙ ap (λ m. loaded m.0 Count (sees then Count)) mid_is ∙ ap (λ (o : PassState). loaded (joined inner.view o.view) Count (sees then Count)) theirs_is in
+    with_view_told pass inner table then (λ v. loaded (joined v other.view) Count (sees then Count)) pass_is table_is is
+
+-- It has seen at least what the other had.
+pub AreBehind-taken_over :
+    (inner : View) (other theirs : PassState) (me mid after : Me Aim View) → theirs ≡ other → theirs.view.run ≡ inner.run
+    → mid ≡ (joined inner theirs.view, me.1) → {view : View} → Tells mid view after → took_over view ≡ took_over mid.0
+    → AreBehind (sees other.view) (sees after.0)
+AreBehind-taken_over inner other theirs me mid after theirs_is same mid_is told took =
+    let lawful : IsLawfulView after.0 = subst IsLawfulView (sym told.view_is) told.goes_on.lawful in
+    subst (λ words. AreBehind words (sees after.0))
+    (ap took_over told.view_is ∙ took ∙ ap (λ m. took_over m.0) mid_is ∙ ap (λ r. words_of_run r theirs.view.seen) (sym same)
+    ∙ ap (λ (o : PassState). sees o.view) theirs_is)
+    lawful.took
 
 -- ---- what the pass keeps
 

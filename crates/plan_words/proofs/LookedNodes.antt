@@ -1,8 +1,9 @@
 -- What a pass has seen of a node after it has loaded a word of it.
-use Rattle.std.proofs.Common.{◌≡◌, ℕ, zero, suc, ◌<◌, ◌≤◌, ◌^◌, Bool, length, Some, inr, refl, sym, ap, ◌∙◌, subst, arith}
+use Rattle.std.proofs.Common.{◌≡◌, ℕ, zero, suc, ◌<◌, ◌≤◌, ◌^◌, Bool, length, Some, inl, inr, refl, sym, ap, ◌∙◌, subst, arith}
 use Rattle.std.specs.Prelude.{MatchOption, unwrap_or}
-use Rattle.plan_words.specs.Parents.{IsPairIn}
+use Rattle.plan_words.specs.Parents.{IsEdgeSeen, IsPairIn}
 use Rattle.plan_words.specs.Plays.{FindsPoint}
+use Rattle.plan_words.specs.States.{GoesOn}
 use Rattle.step_core.specs.GrownWords.{child_of_word}
 use Rattle.step_core.specs.LaterViews.{IsLawfulView}
 use Rattle.step_core.specs.PlacesOfWords.{sizes_in}
@@ -109,3 +110,18 @@ module _
     parent = parent ∙ ap parent_in (sym tree_word_seen);
     cost = cost ∙ ap cost_in (sym tree_word_seen);
   }
+
+-- of a pair that is found, whichever step found it
+module _ (before after : View) (node : ℕ) (pair : ℕ × ℕ) (goes_on : GoesOn before after) (found : IsPairIn (sees after (TreeOf node)) pair) where
+  -- the cost is no more than one that was seen
+  pub pair_not_above : 2 ^ 63 ≤ sees before (TreeOf node) → pair.1 ≤ cost_in (sees before (TreeOf node))
+  pair_not_above written =
+      elim (goes_on.later.seen (TreeOf node)) [
+        | inl none ↦ absurd (omega (arith, none, written))
+        | inr (inl same) ↦ omega (arith, found.cost, ap cost_in same)
+        | inr (inr fell) ↦ omega (arith, found.cost, fell.1)
+      ]
+
+  -- and the edge is allowed
+  pub IsEdgeSeen-pair : IsEdgeSeen after node pair.0
+  IsEdgeSeen-pair = subst (IsEdgeSeen after node) (sym found.parent) ((goes_on.lawful.pairs node found.written).edge)

@@ -5,7 +5,7 @@ use Rattle.std.specs.Prelude.{replicate, slice_index, slice_set}
 use Rattle.std.proofs.lemmas.Bool.{cases_eq, ne_eqb}
 use Rattle.std.proofs.lemmas.List.{get_or-set_other, get_or-set_same, length-replicate, length-set}
 use Rattle.plan_words.specs.Chains.{AreChained, HasInChain, IsIndex, MovesNode, OnlyMoves, front_in}
-use Rattle.plan_words.specs.declared.children.Children.{Children}
+use Rattle.plan_words.specs.declared.children.ChildIndex.{ChildIndex}
 
 -- the node c has gone out of its chain
 pub record IsTakenOut (chain front next previous new_chain new_front new_next new_previous : ℕ → ℕ) (c : ℕ) : Type 0 where
@@ -534,14 +534,14 @@ unfolding without
 without-else node chain n apart = ap (λ (b : Bool). cond b 0 (chain n)) (ne_eqb n node apart)
 
 -- a move to where the node is
-pub MovesNode-none : (node l : ℕ) (children : Children) → MovesNode node l l children children
+pub MovesNode-none : (node l : ℕ) (children : ChildIndex) → MovesNode node l l children children
 MovesNode-none node l children nodes chain now index here there others =
     IsIndex-same nodes chain now _ _ _ index
     (λ n. ⊎_elim (λ (e : n ≡ node). ap now e ∙ there ∙ sym here ∙ ap chain (sym e)) (λ apart. others n apart) (cases_eq n node))
 
 -- a move out of a chain, and one into another
 pub MovesNode-trans :
-    (node from to : ℕ) (before between after : Children) → MovesNode node from 0 before between → MovesNode node 0 to between after
+    (node from to : ℕ) (before between after : ChildIndex) → MovesNode node from 0 before between → MovesNode node 0 to between after
     → MovesNode node from to before after
 MovesNode-trans node from to before between after out into nodes chain now index here there others =
     into nodes (without node chain) now (out nodes chain (without node chain) index here (without-here node chain) (without-else node chain))
@@ -549,7 +549,7 @@ MovesNode-trans node from to before between after out into nodes chain now index
 
 -- the node is in no chain then, and there are as many nodes
 pub HasInChain-out :
-    (node from : ℕ) (before between : Children) → HasInChain before node from → MovesNode node from 0 before between → HasInChain between node 0
+    (node from : ℕ) (before between : ChildIndex) → HasInChain before node from → MovesNode node from 0 before between → HasInChain between node 0
 HasInChain-out node from before between has out = record {
   nodes = has.nodes;
   chain = without node has.chain;
@@ -559,7 +559,7 @@ HasInChain-out node from before between has out = record {
 }
 
 pub length-out :
-    (node from : ℕ) (before between : Children) → HasInChain before node from → MovesNode node from 0 before between
+    (node from : ℕ) (before between : ChildIndex) → HasInChain before node from → MovesNode node from 0 before between
     → length between.first.items ≡ length before.first.items
 length-out node from before between has out =
     (out has.nodes has.chain (without node has.chain) has.index has.here (without-here node has.chain) (without-else node has.chain)).firsts

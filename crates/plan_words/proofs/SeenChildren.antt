@@ -2,7 +2,7 @@
 use Rattle.std.proofs.Common.{◌≡◌, ℕ, zero, suc, ◌+◌, ◌<◌, ◌≤◌, ◌^◌, Bool, true, false, List, [], ◌∷◌, length, refl, sym, ap, ◌∙◌, subst, ⊎_elim, arith}
 use Rattle.std.specs.Prelude.{cond, nat_lt, slice_index}
 use Rattle.std.proofs.lemmas.Bool.{cases_lt, le-ltb, ltb-false}
-use Rattle.plan_words.specs.Chains.{HasParentsBelow, chain_in, chain_of}
+use Rattle.plan_words.specs.Chains.{HasParentsBelow, sibling_chain_in, chain_of}
 use Rattle.plan_words.specs.States.{HasPairs}
 use Rattle.plan_words.specs.Waiting.{HasSeenParent}
 use Rattle.step_core.specs.LaterViews.{IsLawfulView}
@@ -55,13 +55,13 @@ written-chain zero word m some written e = absurd (omega (arith, some))
 written-chain (suc n) word m some written e =
     ap (λ b. cond b 0 (parent_in word + 1)) (le-ltb word (2 ^ 63) written) ∙ (omega (arith, e))
 
-pub HasSeenParent-chain : (view : View) (pairs : List ℕ) (m n : ℕ) → HasPairs view pairs → chain_in pairs n ≡ suc m → HasSeenParent view m n
+pub HasSeenParent-chain : (view : View) (pairs : List ℕ) (m n : ℕ) → HasPairs view pairs → sibling_chain_in pairs n ≡ suc m → HasSeenParent view m n
 HasSeenParent-chain view pairs m n has e =
     let (some, written, parent) = chain-written n (slice_index pairs n) m e in
     let same = pair-kept view pairs n has written in
     record { child = some; written = subst (λ w. 2 ^ 63 ≤ w) same written; parent = ap parent_in (sym same) ∙ parent }
 
-pub chain-HasSeenParent : (view : View) (pairs : List ℕ) (m n : ℕ) → HasPairs view pairs → HasSeenParent view m n → chain_in pairs n ≡ suc m
+pub chain-HasSeenParent : (view : View) (pairs : List ℕ) (m n : ℕ) → HasPairs view pairs → HasSeenParent view m n → sibling_chain_in pairs n ≡ suc m
 chain-HasSeenParent view pairs m n has seen =
     let same = sym (pair-seen view pairs n has seen.written) in
     written-chain n (slice_index pairs n) m seen.child (subst (λ w. 2 ^ 63 ≤ w) same seen.written) (ap parent_in (sym same) ∙ seen.parent)

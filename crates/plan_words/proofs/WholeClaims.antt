@@ -1,16 +1,20 @@
 -- What a claim of a pass with the share of all workers leaves: it finds the counters as it has seen them, and takes the least mark left.
-use Rattle.std.proofs.Common.{◌≡◌, ℕ, ◌+◌, ◌*◌, ◌/◌, ◌%◌, ◌<◌, ◌≤◌, true, sym, ap, ◌∙◌, subst, inl, inr, arith}
+use Rattle.std.proofs.Common.{◌≡◌, ℕ, ◌+◌, ◌*◌, ◌/◌, ◌%◌, ◌<◌, ◌≤◌, true, List, [], ◌∷◌, refl, sym, ap, ◌∙◌, subst, inl, inr, arith}
 use Rattle.std.specs.Prelude.{◌==◌, cond, length}
+use lib.ListN.{get_elem?}
+use mathlib.Core.Option.{some}
 use Rattle.std.proofs.lemmas.Bool.{cases_eq, cases_lt, eq-eqb, le-ltb, lt-ltb}
 use Rattle.std.proofs.lemmas.Nat.{div-add-mod', div-mul-add, mod-mul-add, mod_below, mul-le}
 use Rattle.plan_model.specs.MarkPoints.{is_claimed}
-use Rattle.plan_words.specs.Claims.{GoesBefore, IsLeastOpen, IsOpen, KeepsHand, RaisesCounter, SeesAsBefore, next_mark}
+use Rattle.plan_words.specs.Claims.{GoesBefore, IsLeastOpen, IsOpen, KeepsHand, OwnsAllStrips, RaisesCounter, SeesAsBefore, is_own, next_mark}
 use Rattle.plan_words.specs.States.{BelongsTo, HasWholeShare, PassState, SharedState, worker_of}
+use Rattle.step_core.specs.LaterViews.{IsLawfulView}
 use Rattle.step_core.specs.ViewSteps.{mark_of}
 use Rattle.step_core.specs.Views.{sees}
 use Rattle.step_core.specs.WordNames.{Word, Words, WritesWord}
 use Rattle.step_core.specs.WordNames.Word.{ChildOf, Count, Counter, FirstOf, PointOf, RecordOf, TreeOf}
 use Rattle.step_core.specs.Worlds.{counters}
+use Rattle.step_core.specs.declared.views.Member.{Member}
 use Rattle.step_core.specs.declared.views.View.{View}
 
 -- the share stays
@@ -48,6 +52,17 @@ whole_twice old mid after kept run first then whole name = then (HasWholeShare-k
 
 -- ---- the mark that is claimed
 
+worker-alone : (crew : List Member) (n : ℕ) → n ≡ 1 → ((member : Member) → get_elem? crew 0 ≡ some member → member.worker < n) → worker_of crew ≡ 0
+worker-alone [] n one below = refl
+worker-alone (member ∷ crew) n one below = omega (arith, below member refl, one)
+
+-- all strips are a single worker's own
+pub OwnsAllStrips-alone : (view : View) → IsLawfulView view → view.run.workers ≡ 1 → OwnsAllStrips view.run (worker_of view.crew)
+OwnsAllStrips-alone view lawful one g low =
+    let rest : g % 1 ≡ 0 = omega arith in
+    eq-eqb (g % view.run.workers) (worker_of view.crew)
+    (ap (λ n. g % n) one ∙ rest ∙ sym (worker-alone view.crew view.run.workers one (lawful.worker 0)))
+
 module _
     (shared : SharedState) (strips limit g c : ℕ) (before : View) (mid : PassState) (strips_are : strips ≡ shared.task.scene.strips)
     (belongs : BelongsTo mid shared) (run : mid.view.run ≡ before.run) (as_before : SeesAsBefore before mid.view)
@@ -73,19 +88,13 @@ module _
         others = λ other apart. seen.others other apart ∙ as_before other;
       })
 
-  -- all strips are the one worker's own, so the least mark goes first
-  module _ (one : shared.workers ≡ 1) where
-    workers : mid.view.run.workers ≡ 1
-    workers = ap (λ r. r.workers) belongs.run ∙ one
-
-    least : (h m : ℕ) → GoesBefore mid.view.run (worker_of before.crew) g (mark_of mid.view.run g c) h m → mark_of mid.view.run g c ≤ m
-    least h m (inl other) =
-        let a : g % 1 ≡ 0 = omega arith in
-        let b : h % 1 ≡ 0 = omega arith in
-        let same : g % mid.view.run.workers ≡ h % mid.view.run.workers =
-        ap (λ n. g % n) workers ∙ a ∙ sym b ∙ ap (λ n. h % n) (sym workers) in
-        (let gone = sym other.0 ∙ ap (λ n. n == worker_of before.crew) same ∙ other.1 in cc)
-    least h m (inr order) = order.1
+  -- all strips are its own, so the least mark goes first
+  module _ (own : OwnsAllStrips before.run (worker_of before.crew)) where
+    least : (h m : ℕ) → h < before.run.strips → GoesBefore mid.view.run (worker_of before.crew) g (mark_of mid.view.run g c) h m
+        → mark_of mid.view.run g c ≤ m
+    least h m in_run (inl other) =
+        (let gone = sym other.1 ∙ ap (λ r. is_own r (worker_of before.crew) h) run ∙ own h in_run in cc)
+    least h m in_run (inr order) = order.1
 
     number : mark_of mid.view.run g c ≡ c * strips + g
     number = ap (λ r. c * r.strips + g) run ∙ ap (λ s. c * s + g) sized
@@ -112,9 +121,10 @@ module _
                   let rows : n * G ≡ c * strips = ap (λ i. i * G) same ∙ ap (λ s. c * s) sized in
                   omega (arith, below, row, whole, e, rows))
               | inr apart ↦ (
-                  let in_run = subst (λ r. h < r.strips) (sym run) (mod_below j G (omega (arith, low))) in
+                  let in_run = mod_below j G (omega (arith, low)) in
                   let under : next_mark mid.view h < limit = omega (arith, next, row, whole, below, number, open_g.low) in
-                  omega (arith, least h (next_mark mid.view h) (open_g.first h in_run apart under), next, row, whole, below, number))
+                  let first = open_g.first h (subst (λ r. h < r.strips) (sym run) in_run) apart under in
+                  omega (arith, least h (next_mark mid.view h) in_run first, next, row, whole, below, number))
             ]
 
     pub IsLeastOpen-first : IsLeastOpen before (c * strips + g)

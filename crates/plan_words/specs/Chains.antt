@@ -1,6 +1,6 @@
 -- An index of children: for each node a chain of its children, linked both ways.
 use Rattle.std.specs.Prelude.{◌≡◌, ◌≢◌, ℕ, zero, suc, ◌+◌, ◌<◌, ◌≤◌, ◌^◌, List, length, if◌then◌else◌, nat_lt, slice_index}
-use Rattle.plan_words.specs.declared.children.Children.{Children}
+use Rattle.plan_words.specs.declared.children.ChildIndex.{ChildIndex}
 use Rattle.step_core.specs.Words.{parent_in}
 
 -- The chain that a node is in by its tree word: 1 more than the number of its parent, or 0 if it is nobody's child. Node 0 is never one.
@@ -9,8 +9,8 @@ chain_of zero word = 0
 chain_of (suc n) word = if nat_lt word (2 ^ 63) then 0 else parent_in word + 1
 
 -- the same by the tree words of all nodes
-abbrev pub chain_in : List ℕ → ℕ → ℕ
-chain_in words n = chain_of n (slice_index words n)
+abbrev pub sibling_chain_in : List ℕ → ℕ → ℕ
+sibling_chain_in words n = chain_of n (slice_index words n)
 
 -- Each node is in one chain, or in none, which is chain 0. A chain begins with its front node, and next and previous are the neighbours there;
 -- 0 is no node. The rank falls along a chain, and no node of the chain lies between two neighbours.
@@ -42,11 +42,11 @@ pub record IsIndex (nodes : ℕ) (chain : ℕ → ℕ) (first next previous : Li
   pub rank : ℕ → ℕ
   pub chained : AreChained nodes chain (front_in first) (slice_index next) (slice_index previous) rank
 
-abbrev pub IndexesChains : ℕ → (ℕ → ℕ) → Children → Type 0
+abbrev pub IndexesChains : ℕ → (ℕ → ℕ) → ChildIndex → Type 0
 IndexesChains nodes chain children = IsIndex nodes chain children.first.items children.next.items children.previous.items
 
 -- the node is in this chain of some index
-pub record HasInChain (children : Children) (node l : ℕ) : Type 0 where
+pub record HasInChain (children : ChildIndex) (node l : ℕ) : Type 0 where
   pub nodes : ℕ
   pub chain : ℕ → ℕ
   pub index : IndexesChains nodes chain children
@@ -58,7 +58,7 @@ abbrev pub OnlyMoves : ℕ → (ℕ → ℕ) → (ℕ → ℕ) → Type 0
 OnlyMoves node before after = (n : ℕ) → n ≢ node → after n ≡ before n
 
 -- whatever was indexed before is indexed after the node moved from one chain to another
-abbrev pub MovesNode : ℕ → ℕ → ℕ → Children → Children → Type 0
+abbrev pub MovesNode : ℕ → ℕ → ℕ → ChildIndex → ChildIndex → Type 0
 MovesNode node from to before after =
     (nodes : ℕ) (chain now : ℕ → ℕ) → IndexesChains nodes chain before → chain node ≡ from → now node ≡ to → OnlyMoves node chain now
     → IndexesChains nodes now after

@@ -70,6 +70,10 @@ pub record IsClaimed (before after : View) (limit k : ℕ) : Type 0 where
 
 -- ---- a claim of a pass with the share of all workers
 
+-- Each strip is one of the worker's own: so it is for an only worker, and for worker 0 if there is one strip.
+abbrev pub OwnsAllStrips : SharedRun → ℕ → Type 0
+OwnsAllStrips run worker = (g : ℕ) → g < run.strips → is_own run worker g ≡ true
+
 -- every word is seen as it was
 abbrev pub SeesAsBefore : View → View → Type 0
 SeesAsBefore before after = (name : Word) → sees after name ≡ sees before name

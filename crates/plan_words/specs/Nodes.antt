@@ -11,18 +11,18 @@ use Rattle.step_core.specs.declared.views.Stage.TheVariants.{Counted}
 use Rattle.step_core.specs.declared.views.View.{View}
 
 -- the words of children and points
-abbrev pub IsChildOrPoint : Word → Type 0
-IsChildOrPoint (ChildOf n side) = Unit {0}
-IsChildOrPoint (PointOf n) = Unit {0}
-IsChildOrPoint _ = ⊥
+abbrev pub NamesChildOrPoint : Word → Type 0
+NamesChildOrPoint (ChildOf n side) = Unit {0}
+NamesChildOrPoint (PointOf n) = Unit {0}
+NamesChildOrPoint _ = ⊥
 
 -- all words of nodes
-abbrev pub IsNodeWord : Word → Type 0
-IsNodeWord (ChildOf n side) = Unit {0}
-IsNodeWord (PointOf n) = Unit {0}
-IsNodeWord (TreeOf n) = Unit {0}
-IsNodeWord (FirstOf n) = Unit {0}
-IsNodeWord _ = ⊥
+abbrev pub NamesNode : Word → Type 0
+NamesNode (ChildOf n side) = Unit {0}
+NamesNode (PointOf n) = Unit {0}
+NamesNode (TreeOf n) = Unit {0}
+NamesNode (FirstOf n) = Unit {0}
+NamesNode _ = ⊥
 
 -- The node of this hand is seen as the child of node n on this side, at its point, with its parent and its cost. It is counted.
 pub record IsLinkedAt (view : View) (n : ℕ) (side : Bool) (hand : Hand) : Type 0 where

@@ -1,6 +1,11 @@
 -- What a pass is told of parents and costs.
 use Rattle.std.specs.Prelude.{◌≡◌, ℕ, ◌<◌, ◌≤◌, ◌^◌}
+use Rattle.plan_model.specs.declared.geometry.Point.{Point}
+use Rattle.plan_model.specs.OrderLaw.{IsAllowedEdge}
+use Rattle.step_core.specs.ViewTrees.{SeesPoint}
+use Rattle.step_core.specs.Views.{setup_in}
 use Rattle.step_core.specs.Words.{cost_in, parent_in}
+use Rattle.step_core.specs.declared.views.View.{View}
 
 -- the word is written, with this parent and this cost
 pub record IsPairIn (word : ℕ) (pair : ℕ × ℕ) : Type 0 where
@@ -12,3 +17,7 @@ pub record IsPairIn (word : ℕ) (pair : ℕ × ℕ) : Type 0 where
 pub record FindsLess (word found : ℕ) : Type 0 where
   pub written : 2 ^ 63 ≤ found
   pub less : cost_in found < cost_in word
+
+-- if the node and the parent are seen with their points, the edge between them is allowed
+abbrev pub IsEdgeSeen : View → ℕ → ℕ → Type 0
+IsEdgeSeen view node parent = (at from : Point) → SeesPoint view node at → SeesPoint view parent from → IsAllowedEdge (setup_in view.run) from at

@@ -9,19 +9,19 @@ use std::alloc::{AllocError, Global};
 /// children of its parent. 0 is no node, as node 0 is nobody's child; so the neighbours of node 0 mean nothing, and are written
 /// where a node has none. The index does not have the parents: who moves a node says where it was.
 #[derive(Drop)]
-pub(crate) struct Children {
+pub(crate) struct ChildIndex {
     pub(crate) first: Vec<u32>,
     pub(crate) next: Vec<u32>,
     pub(crate) previous: Vec<u32>,
 }
 
-impl Children {
+impl ChildIndex {
     /// No node has a child.
-    pub(crate) fn new(alloc: Global, nodes: usize) -> Result<Children, AllocError>
+    pub(crate) fn new(alloc: Global, nodes: usize) -> Result<ChildIndex, AllocError>
         requires { 0 < nodes }
         ensures { IfOk result (λ r. IndexesChains nodes (λ n. 0) r) }
     {
-        Ok(Children {
+        Ok(ChildIndex {
             first: Vec::from_elem(alloc, 0u32, nodes)?,
             next: Vec::from_elem(alloc, 0u32, nodes)?,
             previous: Vec::from_elem(alloc, 0u32, nodes)?,
@@ -29,10 +29,10 @@ impl Children {
     }
 
     /// The same index again.
-    pub(crate) fn copy(&self, alloc: Global) -> Result<Children, AllocError>
+    pub(crate) fn copy(&self, alloc: Global) -> Result<ChildIndex, AllocError>
         ensures { IfOk result (λ r. (nodes : ℕ) (chain : ℕ → ℕ) → IndexesChains nodes chain self.now → IndexesChains nodes chain r) }
     {
-        Ok(Children {
+        Ok(ChildIndex {
             first: Vec::from_slice(alloc, self.first.as_slice())?,
             next: Vec::from_slice(alloc, self.next.as_slice())?,
             previous: Vec::from_slice(alloc, self.previous.as_slice())?,

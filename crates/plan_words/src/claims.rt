@@ -1,7 +1,8 @@
 //! Claims: the next mark of a strip is put into the hand of one pass.
 
 ghost use Rattle.std.specs.Prelude.{◌≡◌, ℕ, ◌+◌, ◌<◌, ◌≤◌, ◌==◌, if◌then◌else◌, length, None, IfNone, IfSome, MatchOption};
-ghost use Rattle.plan_words.specs.Claims.{AllFull, AllLoaded, IsClaimed, IsLeastOpen, IsOpen, KeepsHand, RaisesCounter, SeesAsBefore, better_of, goes_first};
+ghost use Rattle.plan_words.specs.Claims.{AllFull, AllLoaded, IsClaimed, IsLeastOpen, IsOpen, KeepsHand, OwnsAllStrips, RaisesCounter, SeesAsBefore};
+ghost use Rattle.plan_words.specs.Claims.{better_of, goes_first};
 ghost use Rattle.plan_words.specs.States.{BelongsTo, GoesOn, HasWholeShare, run_in, with_view, worker_of};
 ghost use Rattle.step_core.specs.ViewSteps.{claimed, loaded, mark_of};
 ghost use Rattle.step_core.specs.Views.{sees, share};
@@ -54,10 +55,11 @@ impl Shared {
         ensures loaded { AllLoaded pass.new.view pass.old.view.steps }
         ensures none { IfNone result (KeepsHand pass.old.view pass.new.view × AllFull pass.new.view limit) }
         ensures some { IfSome result (λ k. IsClaimed pass.old.view pass.new.view limit k) }
-        // a pass with the whole share finds nothing new, and counts its mark; as the only worker it takes the least that is left
+        // a pass with the whole share finds nothing new, and counts its mark; if all strips are its own it takes the least that is left
         ensures whole_none { HasWholeShare pass.old.view → IfNone result (SeesAsBefore pass.old.view pass.new.view) }
         ensures whole_some { HasWholeShare pass.old.view → IfSome result (λ k. RaisesCounter pass.old.view pass.new.view k) }
-        ensures least { HasWholeShare pass.old.view → self.now.workers ≡ 1 → IfSome result (λ k. IsLeastOpen pass.old.view k) }
+        ensures least { HasWholeShare pass.old.view → OwnsAllStrips pass.old.view.run (worker_of pass.old.view.crew)
+            → IfSome result (λ k. IsLeastOpen pass.old.view k) }
     {
         'tries: loop {
             let next = self.first_open(pass, limit)?;

@@ -23,8 +23,8 @@ use step_core::{Grown, WordPlaces};
 
 impl Shared {
     /// The closed run that the words have come to. Its limit is the greatest that the pass knows of: that of the opening run, of
-    /// its claims, or of those of the passes that it took over. What the pass has seen stands in it, and no node costs more than it
-    /// was seen to cost. The pass has the whole share and nothing in hand, and `claim` has found no mark below its greatest limit.
+    /// its claims, or of those of the passes that it took over. All that the pass has seen is in it, each node at the cost that was
+    /// seen or less. The pass has the whole share and nothing in hand, and `claim` has found no mark below its greatest limit.
     /// Takes no memory, since the words go into the list that they came from. O(n) for n words.
     pub fn end(self, pass: Pass) -> Grown
         requires belongs { BelongsTo pass self }

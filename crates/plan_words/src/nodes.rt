@@ -4,7 +4,7 @@
 ghost use Rattle.std.specs.Prelude.{◌≡◌, ◌≢◌, ℕ, suc, ◌+◌, ◌<◌, ◌≤◌, ◌^◌, ◌==◌, if◌then◌else◌, length, unwrap_or};
 ghost use Rattle.std.specs.Prelude.{IfErr, IfOk, IfSome, IsOk, IsSome, MatchOption, Some};
 ghost use Rattle.plan_model.specs.Bounds.{IsBounded};
-ghost use Rattle.plan_words.specs.Nodes.{IsChildOrPoint, IsLinkedAt, IsNodeWord, LeadsOn};
+ghost use Rattle.plan_words.specs.Nodes.{NamesChildOrPoint, IsLinkedAt, NamesNode, LeadsOn};
 ghost use Rattle.plan_words.specs.States.{BelongsTo, GoesOn, HasWholeShare, with_view};
 ghost use Rattle.step_core.specs.GrownWords.{child_of_word};
 ghost use Rattle.step_core.specs.ViewSteps.{counted, linked, loaded, pointed};
@@ -111,7 +111,8 @@ impl Shared {
         requires hand { IsSome pass.old.view.hand }
         requires treed { IfSome pass.old.view.hand (λ hand. hand.stage ≡ Treed) }
         requires leads { IfSome pass.old.view.hand (λ hand. LeadsTo pass.old.view hand.point node right) }
-        ensures view { IfOk result (λ _. IfSome pass.old.view.hand (λ hand. pass.new ≡ with_view pass.old (counted (linked pass.old.view hand node right) hand))) }
+        ensures view { IfOk result (λ _. IfSome pass.old.view.hand (λ hand.
+            pass.new ≡ with_view pass.old (counted (linked pass.old.view hand node right) hand))) }
         ensures goes_on { GoesOn pass.old.view pass.new.view }
         ensures linked { IfOk result (λ _. IfSome pass.old.view.hand (λ hand. IsLinkedAt pass.new.view node right hand)) }
         ensures view_found { IfErr result (λ c. pass.new ≡ with_view pass.old (loaded pass.old.view (ChildOf node right) c)) }
@@ -120,8 +121,8 @@ impl Shared {
         ensures on_way { IfOk result (λ _. IfSome pass.old.view.hand (λ hand. LeadsOn pass.old.view pass.new.view hand.point node right (suc hand.mark))) }
         ensures deeper { IfErr result (λ c. IfSome pass.old.view.hand (λ hand. LeadsOn pass.old.view pass.new.view hand.point node right c)) }
         // nothing is seen anew but words of nodes, and by a try that fails but children and points
-        ensures others { ChangesOnly IsNodeWord (sees pass.old.view) (sees pass.new.view) }
-        ensures others_found { IfErr result (λ _. ChangesOnly IsChildOrPoint (sees pass.old.view) (sees pass.new.view)) }
+        ensures others { ChangesOnly NamesNode (sees pass.old.view) (sees pass.new.view) }
+        ensures others_found { IfErr result (λ _. ChangesOnly NamesChildOrPoint (sees pass.old.view) (sees pass.new.view)) }
         // a pass with the whole share succeeds where it has seen no child, and finds none but the child that it has seen
         ensures whole { HasWholeShare pass.old.view → sees pass.old.view (ChildOf node right) ≡ 0 → IsOk result }
         ensures whole_found { HasWholeShare pass.old.view → IfErr result (λ c. c ≡ sees pass.old.view (ChildOf node right)) }

@@ -2,7 +2,7 @@
 //! word of the node in its hand, and lowers the cost of a node below a parent by which it is cheaper.
 
 ghost use Rattle.std.specs.Prelude.{◌≡◌, ◌≢◌, ℕ, ◌<◌, ◌≤◌, ◌^◌, ◌==◌, if◌then◌else◌, IfErr, IfOk, IfSome, IsOk, IsSome};
-ghost use Rattle.plan_words.specs.Parents.{FindsLess, IsPairIn};
+ghost use Rattle.plan_words.specs.Parents.{FindsLess, IsEdgeSeen, IsPairIn};
 ghost use Rattle.plan_words.specs.States.{BelongsTo, GoesOn, HasWholeShare, with_view};
 ghost use Rattle.step_core.specs.ViewSteps.{half, loaded, lowered, pair_in_hand, treed};
 ghost use Rattle.step_core.specs.ViewTrees.{MayHang, MayLower, SeesNode};
@@ -20,7 +20,7 @@ use step_core::{Hand, Stage, pack_tree, pair_in};
 
 impl Shared {
     /// The parent of a seen node, and its cost in 256ths of a lattice step; the start is its own, at 0. The cost is no more
-    /// than the pass had seen of the node.
+    /// than the pass had seen of the node. If the pass sees both with their points, the edge between them is allowed.
     pub fn tree(&self, pass: &mut Pass, node: u32) -> (u32, u64)
         requires belongs { BelongsTo pass.old self.now }
         requires seen_node { SeesNode pass.old.view node }
@@ -29,6 +29,8 @@ impl Shared {
         // all other words are seen as before
         ensures seen { WritesWord (TreeOf node) (sees pass.new.view (TreeOf node)) (sees pass.old.view) (sees pass.new.view) }
         ensures found { IsPairIn (sees pass.new.view (TreeOf node)) result }
+        ensures not_above { 2 ^ 63 ≤ sees pass.old.view (TreeOf node) → result.1 ≤ cost_in (sees pass.old.view (TreeOf node)) }
+        ensures edge { IsEdgeSeen pass.new.view node result.0 }
         // a pass with the whole share finds nothing new
         ensures whole { HasWholeShare pass.old.view → sees pass.new.view (TreeOf node) ≡ sees pass.old.view (TreeOf node) }
     {
@@ -105,7 +107,7 @@ impl Shared {
     /// # Errors
     ///
     /// The parent and the cost that the node has at this step, only if it has changed since the pass saw it last. They are seen
-    /// then, and the cost is strictly less than was seen.
+    /// then, and the cost is strictly less than was seen. The edge is allowed, as that of [`tree`](Shared::tree).
     pub fn lower(
         &self,
         pass: &mut Pass,
@@ -120,6 +122,7 @@ impl Shared {
         ensures goes_on { GoesOn pass.old.view pass.new.view }
         ensures view_found { IfErr result (λ _. pass.new ≡ with_view pass.old (loaded pass.old.view (TreeOf node) (sees pass.new.view (TreeOf node)))) }
         ensures found { IfErr result (λ pair. IsPairIn (sees pass.new.view (TreeOf node)) pair) }
+        ensures edge_found { IfErr result (λ pair. IsEdgeSeen pass.new.view node pair.0) }
         // all other words are seen as before
         ensures seen { WritesWord (TreeOf node) (sees pass.new.view (TreeOf node)) (sees pass.old.view) (sees pass.new.view) }
         // the cost that is seen falls, whichever it is

@@ -4,7 +4,8 @@
 //! run may be found. No more than half of them wait to be visited: a visit takes one off and puts at most two on, so after n visits
 //! at most n + 1 other nodes wait.
 
-ghost use Rattle.std.specs.Prelude.{◌≡◌, ◌⊎◌, ℕ, ◌<◌, ◌≤◌, ◌+◌, ◌*◌, ◌++◌, ◌∷◌, [], true, false, IfOk, IfSome, IsPermutation, None, Some, length, option_to_list, slice_get};
+ghost use Rattle.std.specs.Prelude.{◌≡◌, ◌⊎◌, ℕ, ◌<◌, ◌≤◌, ◌+◌, ◌*◌, ◌++◌, ◌∷◌, [], true, false};
+ghost use Rattle.std.specs.Prelude.{IfOk, IfSome, IsPermutation, None, Some, length, option_to_list, slice_get};
 ghost use Rattle.std.specs.List.Sorted.{IsNonDecreasing};
 ghost use Rattle.std.specs.Vec.{vec_capacity};
 ghost use Rattle.std.specs.VecDeque.{deque_capacity};
@@ -43,7 +44,8 @@ pub(crate) struct Scratch {
 impl Scratch {
     /// Empty lists with room for so many nodes, and for spots of half of them.
     pub(crate) fn new(alloc: Global, nodes: usize) -> Result<Scratch, AllocError>
-        ensures empty { IfOk result (λ lists. (lists.spots.items ≡ []) × (lists.near.items ≡ []) × (lists.around ≡ record { nodes = []; waits = false; size = nodes })) }
+        ensures empty { IfOk result (λ lists. (lists.spots.items ≡ []) × (lists.near.items ≡ [])
+            × (lists.around ≡ record { nodes = []; waits = false; size = nodes })) }
         ensures room { IfOk result (λ lists. (nodes ≤ 2 * deque_capacity lists.spots) × (nodes ≤ vec_capacity lists.near) × (lists.around.size ≡ nodes)) }
     {
         Ok(Scratch {
@@ -162,21 +164,9 @@ impl Pass {
         self.scratch.around.begin();
     }
 
-    /// Puts a node on the second list, if it is not there: after [`begin_waiting`](Pass::begin_waiting), and with a number
-    /// that is at most that of marks. O(1).
-    pub fn push_waiting(&mut self, node: u32)
-        requires waits { self.old.waits ≡ true }
-        requires low { node ≤ length self.old.view.run.marks }
-        ensures others { self.new ≡ record self.old { around = self.new.around } }
-        ensures here { IsOn self.new.around node }
-        ensures keeps { (n : ℕ) → IsOn self.old.around n → IsOn self.new.around n }
-        ensures only { (n : ℕ) → IsOn self.new.around n → IsOn self.old.around n ⊎ (n ≡ node) }
-    {
-        self.scratch.around.push(node);
-    }
-
     /// Puts all nodes on the second list that are not there and whose parent is this node, by their tree words as the pass saw them
-    /// last: none, if it saw no child. After [`begin_waiting`](Pass::begin_waiting), as `push_waiting`. O(k) for k children.
+    /// last: none, if it saw no child. After [`begin_waiting`](Pass::begin_waiting), and with a number that is at most that of marks.
+    /// O(k) for k children.
     pub fn queue_children(&mut self, node: u32)
         requires waits { self.old.waits ≡ true }
         requires low { node ≤ length self.old.view.run.marks }

@@ -1,11 +1,11 @@
 //! The parents and costs that a pass saw last, with the children of each node by them.
 
 ghost use Rattle.std.specs.Prelude.{◌≡◌, ℕ, suc, ◌<◌, ◌≤◌, ◌^◌, ◌⊎◌, length, slice_index, slice_set, true, IfOk, replicate};
-ghost use Rattle.plan_words.specs.Chains.{chain_in, chain_of};
+ghost use Rattle.plan_words.specs.Chains.{sibling_chain_in, chain_of};
 ghost use Rattle.plan_words.specs.Waiting.{IsOn};
 ghost use Rattle.step_core.specs.Words.{parent_in};
 
-use crate::children::Children;
+use crate::children::ChildIndex;
 use crate::waiting::Waiting;
 use std::alloc::{AllocError, Global};
 use std::marker::Model;
@@ -16,18 +16,18 @@ use step_core::read_tree;
 #[derive(Drop)]
 pub(crate) struct SeenPairs {
     words: Vec<u64>,
-    children: Children,
+    children: ChildIndex,
 }
 
 impl Model for SeenPairs {
     ghost use Rattle.std.specs.Prelude.{◌<◌, ◌^◌, ℕ, List, length};
-    ghost use Rattle.plan_words.specs.Chains.{IndexesChains, chain_in};
+    ghost use Rattle.plan_words.specs.Chains.{IndexesChains, sibling_chain_in};
 
     ghost Value = { List ℕ };
 
     ghost view = { λ p. p.words.items };
 
-    ghost invariant = { λ p. (length p.words.items < 2 ^ 32) × IndexesChains (length p.words.items) (chain_in p.words.items) p.children };
+    ghost invariant = { λ p. (length p.words.items < 2 ^ 32) × IndexesChains (length p.words.items) (sibling_chain_in p.words.items) p.children };
 }
 
 impl SeenPairs {
@@ -38,7 +38,7 @@ impl SeenPairs {
         ensures { IfOk result (λ r. r ≡ replicate nodes 0) }
     {
         let words = Vec::from_elem(alloc, 0u64, nodes)?;
-        let children = Children::new(alloc, nodes)?;
+        let children = ChildIndex::new(alloc, nodes)?;
         Ok(SeenPairs { words, children })
     }
 
@@ -87,9 +87,9 @@ impl SeenPairs {
         requires waits { waiting.old.waits ≡ true }
         requires size { waiting.old.size ≡ length self.now }
         ensures kept { waiting.new ≡ record waiting.old { nodes = waiting.new.nodes } }
-        ensures all { (n : ℕ) → chain_in self.now n ≡ suc parent → IsOn waiting.new.nodes n }
+        ensures all { (n : ℕ) → sibling_chain_in self.now n ≡ suc parent → IsOn waiting.new.nodes n }
         ensures keeps { (n : ℕ) → IsOn waiting.old.nodes n → IsOn waiting.new.nodes n }
-        ensures only { (n : ℕ) → IsOn waiting.new.nodes n → IsOn waiting.old.nodes n ⊎ (chain_in self.now n ≡ suc parent) }
+        ensures only { (n : ℕ) → IsOn waiting.new.nodes n → IsOn waiting.old.nodes n ⊎ (sibling_chain_in self.now n ≡ suc parent) }
     {
         let mut child = self.children.first[parent as usize];
         for _ in 0..self.words.len() {

@@ -100,7 +100,7 @@ impl Shared {
         self.table.shared.load::<Load>(&mut pass.seat, place) as u32
     }
 
-    /// Stores the record of the mark in hand, which leaves the hand. It is by the worker of the pass, in its next turn. It says
+    /// Stores the record of the mark in hand; the hand is empty then. The record is by the worker of the pass, in its next turn. It says
     /// that the mark was placed if its node is counted, and anything else only if its node is not linked; and what it says is
     /// borne out by what the pass has seen.
     pub fn finish(&self, pass: &mut Pass, entry: Record)
@@ -156,8 +156,10 @@ impl Shared {
         requires belongs_too { BelongsTo other self.now }
         requires idle { pass.old.view.hand ≡ None }
         requires idle_too { other.view.hand ≡ None }
-        ensures view { (count : ℕ) × (pass.new ≡ with_view pass.old (loaded (joined pass.old.view other.view) Count count)) }
+        ensures view { pass.new ≡ with_view pass.old (loaded (joined pass.old.view other.view) Count (sees pass.new.view Count)) }
         ensures goes_on { GoesOn pass.old.view pass.new.view }
+        // the count is no lower than either had seen it
+        ensures count { (sees pass.old.view Count ≤ sees pass.new.view Count) × (sees other.view Count ≤ sees pass.new.view Count) }
         // it has seen at least what the other had
         ensures others_seen { AreBehind (sees other.view) (sees pass.new.view) }
         ensures share { share pass.new.view ≡ share pass.old.view + share other.view }

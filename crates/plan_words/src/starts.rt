@@ -1,29 +1,29 @@
 //! How a shared tree begins: with the words of a closed run, and a pass for each worker.
 
-ghost use Rattle.std.specs.Prelude.{◌≡◌, ℕ, ◌+◌, ◌≤◌, ◌<◌, None, [], ◌∷◌, All, length, IfOk, OnOk, slice_index};
+ghost use Rattle.std.specs.Prelude.{◌≡◌, ℕ, ◌+◌, ◌≤◌, ◌<◌, None, Some, [], ◌∷◌, All, length, IfOk, OnOk, slice_index};
 ghost use lib.ListN.{get_elem?};
 ghost use mathlib.Core.Option.{some};
 ghost use Rattle.plan_model.specs.Turns.{turns_of};
 ghost use Rattle.plan_model.specs.declared.limits.TheConstants.{MOST_WORKERS};
 ghost use Rattle.plan_words.specs.Chains.{HasParentsWithin};
-ghost use Rattle.plan_words.specs.States.{BelongsTo, MayClaim, PassState, StartsAs, new_pass, run_in, with_view};
-ghost use Rattle.step_core.specs.GrownWords.{record_at, run_words, sizes_of};
+ghost use Rattle.plan_words.specs.States.{BelongsTo, HasPairs, IsTied, MayClaim, PassState, StartsAs, first_view, new_pass, run_in, with_view};
+ghost use Rattle.step_core.specs.GrownWords.{HoldRun, record_at, run_words, sizes_of};
 ghost use Rattle.step_core.specs.ViewSteps.{parted, second_alone, worker_apart};
 ghost use Rattle.step_core.specs.ViewStarts.{crew_from, member_of};
 ghost use Rattle.step_core.specs.Views.{sees};
 ghost use Rattle.step_core.specs.WordNames.Word.{TreeOf};
 ghost use Rattle.step_core.specs.WordPlaces.{word_count};
 
-use crate::openings::Opening;
+use crate::openings::{Aim, Opening};
 use crate::passes::Pass;
 use crate::rules::HandOn;
 use crate::scratch::Scratch;
 use crate::seen_pairs::SeenPairs;
 use crate::shared::Shared;
-use atomic_table::Table;
+use atomic_table::{Seat, Table};
 use plan_model::{Memory, Task};
 use std::alloc::{AllocError, Global};
-use step_core::{Grown, Member, WordPlaces, read_mark};
+use step_core::{Grown, Member, View, WordPlaces, read_mark};
 
 impl Shared {
     /// The words of a run in one table, and a pass for each of 1 to `MOST_WORKERS` workers, in the order of their numbers, each
@@ -46,43 +46,43 @@ impl Shared {
     {
         let (task, limit, words) = grown.into_words();
         let turns = count_turns(alloc, &task, words.as_slice(), workers)?;
-        let pairs = tree_words(alloc, &task, words.as_slice())?;
         let opening = Opening {
             task,
             workers,
             limit,
             words,
         };
-        let (table, seat) = Table::of_words(alloc, opening.words.as_slice(), &opening)?;
-        let Opening {
-            task,
-            workers,
-            limit,
-            words,
-        } = opening;
-        let places = WordPlaces::of(&task);
-        let shared = Shared {
-            table,
-            task,
-            workers,
-            opening: limit,
-            places,
-            alloc,
-            spare: words,
-        };
-        let scratch = Scratch::new(alloc, places.marks() + 1)?;
-        let first = Pass {
-            seat,
-            member: Some(Member {
-                worker: 0,
-                turn: turns[0],
-            }),
-            hand: None,
-            pairs,
-            scratch,
-        };
+        let (shared, first) = Shared::open(alloc, opening, turns[0])?;
         let passes = shared.hand_out(first, turns.as_slice())?;
         Ok((shared, passes))
+    }
+
+    /// The words of a run in one table, and the pass that stands for all workers. It works as worker 0, whose next turn this is.
+    fn open(alloc: Global, opening: Opening, turn: u32) -> Result<(Shared, Pass), Memory>
+        requires sized { length opening.words.items ≡ word_count (sizes_of opening.task) }
+        requires run { HoldRun opening.task opening.limit (run_words opening.task opening.words.items) }
+        requires some { 1 ≤ opening.workers }
+        requires few { opening.workers ≤ MOST_WORKERS }
+        requires turn { turn ≡ turns_of (record_at (run_words opening.task opening.words.items)) (length opening.task.marks) 0 }
+        ensures task { IfOk result (λ opened. opened.0.task ≡ opening.task) }
+        ensures workers { IfOk result (λ opened. opened.0.workers ≡ opening.workers) }
+        ensures opening { IfOk result (λ opened. opened.0.opening ≡ opening.limit) }
+        ensures first { IfOk result (λ opened. opened.1 ≡ new_pass opened.0.table (first_view opening)) }
+    {
+        let pairs = tree_words(alloc, &opening.task, opening.words.as_slice())?;
+        let (table, seat) = Table::of_words(alloc, opening.words.as_slice(), &opening)?;
+        let first = first_pass(alloc, seat, turn, pairs)?;
+        let places = WordPlaces::of(&opening.task);
+        let shared = Shared {
+            table,
+            task: opening.task,
+            workers: opening.workers,
+            opening: opening.limit,
+            places,
+            alloc,
+            spare: opening.words,
+        };
+        Ok((shared, first))
     }
 
     /// The passes of all workers, made from the one that stands for them all.
@@ -104,7 +104,8 @@ impl Shared {
         let mut first = first;
         let mut passes = Vec::new(self.alloc);
         for worker in 1..self.workers {
-            passes.push(self.hand_on(&mut first, worker, turns[worker as usize])?)?;
+            let pass = self.hand_on(&mut first, worker, turns[worker as usize])?;
+            passes.push(pass)?;
         }
         passes.insert(0, first)?;
         Ok(passes)
@@ -128,6 +129,28 @@ impl Shared {
             scratch,
         })
     }
+}
+
+/// The pass that stands for all workers. It works as worker 0, whose next turn this is.
+fn first_pass(
+    alloc: Global,
+    seat: Seat<Aim, View>,
+    turn: u32,
+    pairs: SeenPairs,
+) -> Result<Pass, AllocError>
+    requires slots { seat.me.1 ≡ [] }
+    requires tied { IsTied seat.me.0 (Some (record { worker = 0; turn = turn })) None }
+    requires pairs { HasPairs seat.me.0 pairs }
+    ensures { IfOk result (λ pass. pass ≡ new_pass seat.table_id seat.me.0) }
+{
+    let scratch = Scratch::new(alloc, pairs.len() as usize)?;
+    Ok(Pass {
+        seat,
+        member: Some(Member { worker: 0, turn }),
+        hand: None,
+        pairs,
+        scratch,
+    })
 }
 
 /// How many records each worker has in the words of a run. O(n) for n marks.

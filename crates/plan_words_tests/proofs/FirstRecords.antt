@@ -24,7 +24,7 @@ use Rattle.plan_words.proofs.HandSteps.{at_hand}
 use Rattle.plan_words.proofs.KeptPairs.{if_hand}
 use Rattle.step_core.specs.GrownWords.{record_at}
 use Rattle.step_core.specs.LaterViews.{IsLater, IsLawfulView}
-use Rattle.step_core.specs.SeenRecords.{MayBePlaced, MayEnd, MayRecord, is_own, own_count, own_first_cost}
+use Rattle.step_core.specs.SeenRecords.{MayBePlaced, MayEnd, MayRecord, is_own_node, own_count, own_first_cost}
 use Rattle.step_core.specs.ViewSteps.{counted, linked, loaded}
 use Rattle.step_core.specs.ViewTrees.{SeesPoint}
 use Rattle.step_core.specs.Views.{sees, setup_in, tree_seen}
@@ -99,7 +99,7 @@ HangsFromStart-linked old new cost n side (Err c) later hung is other =
 
 module _ (view : View) (entry : Record) (first : entry.turn ≡ 0) where
   -- the start alone is an own node
-  own_start : (i : ℕ) → IsTrue (is_own view entry i) → i ≡ 0
+  own_start : (i : ℕ) → IsTrue (is_own_node view entry i) → i ≡ 0
   own_start zero own = refl
   own_start (suc k) own = by_record (record_at (sees view) k) own
     where
@@ -111,16 +111,16 @@ module _ (view : View) (entry : Record) (first : entry.turn ≡ 0) where
           let none = sym (le-ltb other.turn entry.turn (omega (arith, first))) ∙ before in
           cc
 
-  own_alone : (i : ℕ) → i ≢ 0 → is_own view entry i ≡ false
+  own_alone : (i : ℕ) → i ≢ 0 → is_own_node view entry i ≡ false
   own_alone i other =
-      elim (cases_Bool (is_own view entry i)) [
+      elim (cases_Bool (is_own_node view entry i)) [
         | inl own ↦ absurd (other (own_start i own))
         | inr none ↦ none
       ]
 
   own_count-one : own_count view entry ≡ 1
   own_count-one =
-      length-filter (is_own view entry) _ ∙ count-single (is_own view entry) (length view.run.marks + 1) 0 (omega arith) refl own_alone
+      length-filter (is_own_node view entry) _ ∙ count-single (is_own_node view entry) (length view.run.marks + 1) 0 (omega arith) refl own_alone
 
 class_of-some : (n : ℕ) → 1 ≤ n → 1 ≤ class_of n
 class_of-some n some =

@@ -32,7 +32,7 @@ use Rattle.plan_work.proofs.KeptRecords.{KeepsRecords-looks, KeepsRecords-trans}
 use Rattle.plan_work.proofs.KeptSights.{HasSteered-still}
 use Rattle.plan_work.proofs.RecordedMarks.{HandlesMark-recorded, IsSteeredTo-still, MayRecord-steered, has_node-kept, others_still, present_recorded}
 use Rattle.plan_work.proofs.TriedMarks.{HasFilledNear-still}
-use Rattle.plan_work.specs.Extensions.{EndsAt, HandlesMark, HasFilledNear, HasRecorded, HasSteered, IsBlockedAt, IsExtended}
+use Rattle.plan_work.specs.Extensions.{EndsAsSeen, HandlesMark, HasFilledNear, HasRecorded, HasSteered, IsBlockedAt, IsExtended}
 use Rattle.plan_work.specs.Extensions.{IsFilledSince, IsSteeredTo, KeepsRecords, MayPlace, own_unplaced}
 use Rattle.plan_model.specs.declared.records.Outcome.{Outcome}
 use Rattle.plan_model.specs.declared.records.Outcome.TheVariants.{Blocked, Placed, Same}
@@ -134,7 +134,7 @@ free_still before after run same p free j stands =
     ∙ sym (point_at-seen (run_sizes after.run) (sees after) j low) ∙ stands)
 
 -- where a mark ended at such a point, it was blocked
-Blocked-free : (before after : View) (k : ℕ) (entry : Record) (p : Point) (outcome : Outcome) → EndsAt before after k entry p outcome
+Blocked-free : (before after : View) (k : ℕ) (entry : Record) (p : Point) (outcome : Outcome) → EndsAsSeen before after k entry p outcome
     → IsFree (tree_seen after).points p → outcome ≡ Blocked
 Blocked-free before after k entry p Placed placed free = absurd (free (suc k) placed.stands)
 Blocked-free before after k entry p (Same j) stands free = absurd (free j stands)
@@ -181,7 +181,7 @@ module _
     handles : HandlesMark shared before done k entry
     handles = HandlesMark-recorded shared before found done hand k entry keeps recorded held mark
 
-    extended : entry.nearest ≡ m → EndsAt before.view done.view k entry p entry.outcome → IsExtended before.view done.view k entry
+    extended : entry.nearest ≡ m → EndsAsSeen before.view done.view k entry p entry.outcome → IsExtended before.view done.view k entry
     extended is outcome = record {
       stored = handles.stored;
       from = from;
@@ -196,7 +196,7 @@ module _
     pub IsExtended-found : (j : ℕ) → entry ≡ own_unplaced found.view m (Same j) → SeesPoint found.view j p → IsExtended before.view done.view k entry
     IsExtended-found j is stands =
         extended (ap (λ (e : Record). e.nearest) is)
-        (subst (EndsAt before.view done.view k entry p) (sym (ap (λ (e : Record). e.outcome) is))
+        (subst (EndsAsSeen before.view done.view k entry p) (sym (ap (λ (e : Record). e.outcome) is))
         (stands_later found.view done.view recorded.goes_on j p stands))
 
     pub IsExtended-blocked : (steering : View) → GoesOn before.view steering → GoesOn steering found.view → entry ≡ own_unplaced found.view m Blocked
@@ -219,7 +219,7 @@ module _
               (λ n. others_still found.view done.view hand entry held last keeps.goes_on.lawful (PointOf n) (λ e. cc)) p free;
           swept = swept_since before.view steering found.view done.view one two recorded.goes_on p ends;
         } in
-        extended nearest (subst (EndsAt before.view done.view k entry p) (sym (ap (λ (e : Record). e.outcome) is)) ended)
+        extended nearest (subst (EndsAsSeen before.view done.view k entry p) (sym (ap (λ (e : Record). e.outcome) is)) ended)
 
 -- ---- marks whose point is written
 
@@ -283,7 +283,7 @@ module _
 pub IsExtended-written :
     (shared : SharedState) (before steering found written done : PassState) (k m : ℕ) (from p : Point) (entry : Record)
     → HasLooked shared before steering found k m from p → KeepsRecords shared before written → GoesOn found.view written.view
-    → HandlesMark shared written done k entry → entry.nearest ≡ m → EndsAt before.view done.view k entry p entry.outcome
+    → HandlesMark shared written done k entry → entry.nearest ≡ m → EndsAsSeen before.view done.view k entry p entry.outcome
     → IsExtended before.view done.view k entry
 IsExtended-written shared before steering found written done k m from p entry looked keeps goes_on handles is ended = record {
   stored = handles.stored;

@@ -16,7 +16,7 @@ use Rattle.plan_model.proofs.NewNodes.{IsPresent-stands, point_of-stands}
 use Rattle.plan_words.specs.States.{GoesOn, PassState, with_view}
 use Rattle.plan_work.proofs.RecordedMarks.{own_count-same}
 use Rattle.plan_work.specs.Extensions.{HasFilledNear, radius_in}
-use Rattle.step_core.specs.SeenRecords.{is_own, own_count}
+use Rattle.step_core.specs.SeenRecords.{is_own_node, own_count}
 use Rattle.step_core.specs.ViewSteps.{loaded}
 use Rattle.step_core.specs.ViewTrees.{sight_in}
 use Rattle.step_core.specs.Views.{last_look, sees, tree_seen}
@@ -31,8 +31,8 @@ pub own_count-some : (view : View) (entry : Record) → 1 ≤ own_count view ent
 own_count-some view entry =
     omega (
       arith,
-      length-filter (is_own view entry) (range_with_len 0 (length view.run.marks + 1)),
-      count-some (is_own view entry) (length view.run.marks + 1) 0 (omega arith) refl,
+      length-filter (is_own_node view entry) (range_with_len 0 (length view.run.marks + 1)),
+      count-some (is_own_node view entry) (length view.run.marks + 1) 0 (omega arith) refl,
     )
 
 greatest-most : (test : ℕ → Bool) (n : ℕ) → greatest test n ≤ n

@@ -31,7 +31,7 @@ use Rattle.plan_work.proofs.TextbookSteps.{Handles-placed, Handles-same, KeepsOr
 use Rattle.plan_work.specs.Extensions.{HasRecorded, IsTried, KeepsRecords, MayPlace, hung_by, own_placed, own_unplaced}
 use Rattle.plan_work.specs.OneWorker.{SeesTextbook, WorksAlone}
 use Rattle.plan_work.specs.WholeShares.{IsFilledWhole, IsSteeredWhole, IsTriedWhole}
-use Rattle.plan_work.specs.declared.extending.Hanging.{Hanging}
+use Rattle.plan_work.specs.declared.placing.Hanging.{Hanging}
 use Rattle.step_core.proofs.PackedWords.{cost_in-tree_word, parent_in-tree_word}
 use Rattle.step_core.proofs.SeenWords.{point_at-seen}
 use Rattle.step_core.specs.SeenWords.{seen_point}
@@ -46,7 +46,7 @@ use Rattle.step_core.specs.declared.views.Stage.TheVariants.{Counted}
 use Rattle.step_core.specs.declared.views.View.{View}
 use Rattle.tree_rewire.proofs.SeenCosts.{stands_later}
 use Rattle.tree_rewire.specs.Mirrors.{Mirrors}
-use Rattle.tree_rewire.specs.SeenCosts.{IsInReach, IsTreeOrPoint, SeesAnew, cost_through}
+use Rattle.tree_rewire.specs.SeenCosts.{IsInReach, NamesTreeOrPoint, SeesAnew, cost_through}
 
 -- where a node is seen goes by its own word
 point_kept : (before after : View) → after.run ≡ before.run → (n : ℕ) → sees after (PointOf n) ≡ sees before (PointOf n)
@@ -217,7 +217,7 @@ module _
   -- ---- rewired and recorded
 
   module _
-      (after done : PassState) (entry : Record) (seen : SeesAnew IsTreeOrPoint tried.view after.view) (now : Nodes)
+      (after done : PassState) (entry : Record) (seen : SeesAnew NamesTreeOrPoint tried.view after.view) (now : Nodes)
       (rewired : Rewires (space_of shared.task.scene) (book.tree ++ Some (record { point = p; parent = hanging.parent }) ∷ []) (suc k) tried.near now)
       (mirrors : Mirrors after.view now) (recorded : HasRecorded shared after done entry) (is : entry ≡ own_placed after.view m hanging)
       (alone : WorksAlone before.view k) where

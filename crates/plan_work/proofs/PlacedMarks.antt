@@ -20,7 +20,7 @@ use Rattle.plan_model.proofs.RecordLaws.{class_of-le}
 use Rattle.plan_model.proofs.SegmentLaws.{Clear-back}
 use Rattle.plan_words.specs.States.{GoesOn, PassState, SharedState}
 use Rattle.plan_words.proofs.GoingOn.{GoesOn-trans}
-use Rattle.step_core.specs.SeenRecords.{IsOwnNeighbour, MayRecord, is_own, own_count, own_first_cost}
+use Rattle.step_core.specs.SeenRecords.{IsOwnNeighbour, MayRecord, is_own_node, own_count, own_first_cost}
 use Rattle.kd_shared.specs.Searches.{SweepsWithin}
 use Rattle.step_core.specs.ViewTrees.{SeesPoint, sight_in}
 use Rattle.step_core.specs.Views.{sees, setup_in, tree_seen}
@@ -31,7 +31,7 @@ use Rattle.step_core.specs.declared.views.SharedRun.{SharedRun}
 use Rattle.step_core.specs.declared.views.Stage.TheVariants.{Counted}
 use Rattle.step_core.specs.declared.views.View.{View}
 use Rattle.tree_rewire.proofs.SeenCosts.{cost_seen-later, stands_later}
-use Rattle.tree_rewire.specs.SeenCosts.{IsTreeOrPoint, SeesAnew, SeesPair, cost_seen}
+use Rattle.tree_rewire.specs.SeenCosts.{NamesTreeOrPoint, SeesAnew, SeesPair, cost_seen}
 use Rattle.plan_work.proofs.FilledNear.{looked_still}
 use Rattle.plan_work.proofs.KeptSights.{SweepsWithin-still}
 use Rattle.plan_work.proofs.HeldMarks.{if_held, of_held}
@@ -39,7 +39,7 @@ use Rattle.plan_work.proofs.RecordedMarks.{IsSteeredTo-still, MayRecord-steered,
 use Rattle.plan_work.proofs.TriedMarks.{HasFilledNear-still, clear_of-may}
 use Rattle.plan_work.specs.Extensions.{HasFilledNear, HasRecorded, IsFilledSince, IsPlacedAt, IsTried, KeepsRecords}
 use Rattle.plan_work.specs.Extensions.{MayPlace, WasNeighbour, hung_by, own_placed, own_unplaced, radius_in}
-use Rattle.plan_work.specs.declared.extending.Hanging.{Hanging}
+use Rattle.plan_work.specs.declared.placing.Hanging.{Hanging}
 
 -- The first word of a node stays once it was seen.
 first_kept : (before after : View) → GoesOn before after → (n : ℕ) → 2 ^ 63 ≤ sees before (FirstOf n) → sees after (FirstOf n) ≡ sees before (FirstOf n)
@@ -52,7 +52,7 @@ first_kept before after goes_on n written =
 -- what own nodes were placed at is at least what they cost, as it was seen at any time since
 cost-first : (before mid after : View) → GoesOn before mid → GoesOn mid after → (entry : Record)
     → ((k : ℕ) → sees after (RecordOf k) ≡ sees before (RecordOf k))
-    → (i : ℕ) → IsTrue (is_own after entry i) → SeesPair mid i → cost_seen mid i ≤ own_first_cost after i
+    → (i : ℕ) → IsTrue (is_own_node after entry i) → SeesPair mid i → cost_seen mid i ≤ own_first_cost after i
 cost-first before mid after one other entry records zero own pair = omega (arith, ((one.lawful.pairs 0 pair).start refl).1)
 cost-first before mid after one other entry records (suc k) own pair = omega (arith, (one.lawful.pairs (suc k) pair).first there, ap cost_in kept)
   where
@@ -99,7 +99,7 @@ module _
     (shared : SharedState) (first before tried after : PassState) (k m : ℕ) (p : Point) (hanging : Hanging) (may : MayPlace shared before k m p)
     (since : IsFilledSince shared first before p hanging.class) (keeps : KeepsRecords shared before tried)
     (is_tried : IsTried before tried may.hand Placed hanging)
-    (seen : SeesAnew IsTreeOrPoint tried.view after.view) (pairs : All (SeesPair after.view) tried.near)
+    (seen : SeesAnew NamesTreeOrPoint tried.view after.view) (pairs : All (SeesPair after.view) tried.near)
     (rewired : (i : ℕ) → Contains tried.near i → Clear (space_of shared.task.scene) p (point_of (tree_seen tried.view).points i)
     → cost_seen after.view i ≤ hanging.cost + cost_of p (point_of (tree_seen tried.view).points i)) where
   abbrev mid : View
@@ -190,7 +190,7 @@ module _
   abbrev counted_hand : Hand
   counted_hand = record (hung_by may.hand hanging) { stage = Counted }
 
-  stood_first : (i : ℕ) → IsTrue (is_own after.view entry i) → SeesPoint first.view i (point_of (tree_seen first.view).points i)
+  stood_first : (i : ℕ) → IsTrue (is_own_node after.view entry i) → SeesPoint first.view i (point_of (tree_seen first.view).points i)
   stood_first i own =
       StandsAt-present (tree_seen first.view).points i
       (present_recorded first.view since.keeps.goes_on.was_lawful i

@@ -19,13 +19,13 @@ use Rattle.plan_model.proofs.NewNodes.{IsPresent-stands, point_of-stands}
 use Rattle.plan_words.specs.States.{GoesOn, MayClaim, PassState, SharedState, turn_of, with_view, worker_of}
 use Rattle.plan_words.proofs.GoingOn.{GoesOn-trans}
 use Rattle.plan_words.proofs.Tying.{entry_fits}
-use Rattle.step_core.proofs.LawfulRecords.{is_own-earlier}
+use Rattle.step_core.proofs.LawfulRecords.{is_own_node-earlier}
 use Rattle.step_core.proofs.PackedRecords.{record_of_word-packed}
 use Rattle.step_core.proofs.PlacedWords.{has_node-same}
 use Rattle.step_core.proofs.SeenByViews.{WritesWord-saw}
 use Rattle.step_core.specs.GrownWords.{has_node, has_placed, record_at}
 use Rattle.step_core.specs.LaterViews.{IsLawfulView}
-use Rattle.step_core.specs.SeenRecords.{MayBePlaced, MayEnd, MayRecord, is_own, own_count}
+use Rattle.step_core.specs.SeenRecords.{MayBePlaced, MayEnd, MayRecord, is_own_node, own_count}
 use Rattle.step_core.specs.Stages.{has_first}
 use Rattle.step_core.specs.ViewSteps.{finished, one_turn_more, pair_in_hand}
 use Rattle.step_core.specs.Views.{sees, tree_seen}
@@ -49,7 +49,7 @@ present_recorded view lawful zero here = lawful.tree.rooted.start
 present_recorded view lawful (suc k) here = lawful.tree.placed k here
 
 -- the record of each own node is seen
-pub own_recorded : (view : View) (entry : Record) (n : ℕ) → IsTrue (is_own view entry n) → has_node (sees view) n ≡ true
+pub own_recorded : (view : View) (entry : Record) (n : ℕ) → IsTrue (is_own_node view entry n) → has_node (sees view) n ≡ true
 own_recorded view entry zero own = refl
 own_recorded view entry (suc k) own = by_record (record_at (sees view) k) own
   where
@@ -66,12 +66,12 @@ has_node-kept before after records (suc k) = has_node-same (sees before) (sees a
 pub own_count-same : (before after : View) (entry : Record) → GoesOn before after → ((k : ℕ) → sees after (RecordOf k) ≡ sees before (RecordOf k))
     → own_count after entry ≡ own_count before entry
 own_count-same before after entry goes_on records =
-    ap (λ (r : SharedRun). length (filter (is_own after entry) (range_with_len 0 (length r.marks + 1)))) goes_on.later.run
-    ∙ ap length (filter_agree (is_own after entry) (is_own before entry) same (range_with_len 0 (length before.run.marks + 1)))
+    ap (λ (r : SharedRun). length (filter (is_own_node after entry) (range_with_len 0 (length r.marks + 1)))) goes_on.later.run
+    ∙ ap length (filter_agree (is_own_node after entry) (is_own_node before entry) same (range_with_len 0 (length before.run.marks + 1)))
   where
-    same : (n : ℕ) → is_own after entry n ≡ is_own before entry n
+    same : (n : ℕ) → is_own_node after entry n ≡ is_own_node before entry n
     same zero = refl
-    same (suc k) = sym (is_own-earlier before (sees after) entry goes_on.later.seen (λ j of_worker. sym (records j)) (suc k))
+    same (suc k) = sym (is_own_node-earlier before (sees after) entry goes_on.later.seen (λ j of_worker. sym (records j)) (suc k))
 
 -- ---- steering
 

@@ -27,7 +27,7 @@ use Rattle.plan_work.proofs.FilledNear.{looked_still}
 use Rattle.plan_work.proofs.KeptRecords.{KeepsRecords-trans}
 use Rattle.plan_work.proofs.KeptSights.{SweepsWithin-still, distance_still, point_still}
 use Rattle.plan_work.specs.Extensions.{HasFilledNear, IsFilledSince, IsHung, IsSteeredTo, IsTried, KeepsRecords, MayPlace, hung_by, radius_in}
-use Rattle.plan_work.specs.declared.extending.Hanging.{Hanging}
+use Rattle.plan_work.specs.declared.placing.Hanging.{Hanging}
 
 -- a node that steers to p is at most a step from it
 pub reach_of-steered : (view : View) (k m : ℕ) (p : Point) → IsSteeredTo view k m p → IsInReach view p m

@@ -34,7 +34,7 @@ use Rattle.step_core.specs.declared.views.Hand.{Hand}
 use Rattle.step_core.specs.declared.views.Stage.TheVariants.{Pointed, Treed}
 use Rattle.step_core.specs.declared.views.View.{View}
 use Rattle.tree_rewire.specs.SeenCosts.{IsInReach, SeesPair, cost_seen, cost_through}
-use Rattle.plan_work.specs.declared.extending.Hanging.{Hanging}
+use Rattle.plan_work.specs.declared.placing.Hanging.{Hanging}
 
 -- the radii are those of the scene's step and gamma
 pub record AreRadiiOf (scene : Scene) (radii : Radii) : Type 0 where
@@ -205,10 +205,10 @@ pub record IsBlockedAt (before after : View) (entry : Record) (p : Point) : Type
   pub swept : IsSwept (sight_in after) before.steps p
 
 -- what the outcome says
-abbrev pub EndsAt : View → View → ℕ → Record → Point → Outcome → Type 0
-EndsAt before after k entry p Placed = IsPlacedAt before after k entry p
-EndsAt before after k entry p (Same j) = SeesPoint after j p
-EndsAt before after k entry p Blocked = IsBlockedAt before after entry p
+abbrev pub EndsAsSeen : View → View → ℕ → Record → Point → Outcome → Type 0
+EndsAsSeen before after k entry p Placed = IsPlacedAt before after k entry p
+EndsAsSeen before after k entry p (Same j) = SeesPoint after j p
+EndsAsSeen before after k entry p Blocked = IsBlockedAt before after entry p
 
 -- Mark k was handled: the record that stands there is the one answered. The nearest node steered to a point, and the outcome is what it says:
 -- blocked if no node is seen at that point, and only then.
@@ -217,5 +217,5 @@ pub record IsExtended (before after : View) (k : ℕ) (entry : Record) : Type 0 
   pub from : Point
   pub point : Point
   pub steered : HasSteered before after k entry.nearest from point
-  pub outcome : EndsAt before after k entry point entry.outcome
+  pub outcome : EndsAsSeen before after k entry point entry.outcome
   pub free_is_blocked : IsFree (tree_seen after).points point → entry.outcome ≡ Blocked

@@ -10,7 +10,7 @@ use Rattle.plan_model.specs.PointsByNumber.{node_count}
 use Rattle.plan_model.specs.Radius.{class_of}
 use Rattle.plan_model.specs.Textbook.{SteersTo, near_new}
 use Rattle.plan_model.specs.declared.geometry.Point.{Point}
-use Rattle.plan_work.specs.declared.extending.Hanging.{Hanging}
+use Rattle.plan_work.specs.declared.placing.Hanging.{Hanging}
 use Rattle.step_core.specs.Views.{sees, setup_in, tree_seen}
 use Rattle.step_core.specs.WordNames.{Word}
 use Rattle.step_core.specs.WordNames.Word.{Count, FirstOf, PointOf, TreeOf}

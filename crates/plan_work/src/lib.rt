@@ -15,6 +15,9 @@
 mod extending;
 mod gates;
 mod growing;
+mod placing;
+mod recording;
+mod steering;
 mod working;
 
 pub use extending::extend;

@@ -7,7 +7,7 @@ ghost use Rattle.plan_words.specs.States.{GoesOn, MayClaim};
 ghost use Rattle.plan_work.specs.OneWorker.{HandlesRest};
 ghost use Rattle.plan_work.specs.Workers.{HasWorked};
 
-use crate::extending::extend_within;
+use crate::extending::extend_by_radii;
 use crate::gates::Gate;
 use edge_cost::Radii;
 use plan_words::{Pass, Shared};
@@ -37,7 +37,7 @@ pub fn work<C: Clearing, G: Gate>(shared: &Shared, pass: &mut Pass, hall: &C, li
         let worker = pass.worker();
         let turn = pass.turn();
         gate.before(worker, turn);
-        extend_within(shared, pass, &radii, hall, k);
+        extend_by_radii(shared, pass, &radii, hall, k);
         gate.after(worker, turn);
     }
 }

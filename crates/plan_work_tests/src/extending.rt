@@ -1,45 +1,47 @@
 //! Marks that two passes of one thread handle in turn.
 
 ghost use Rattle.std.specs.Prelude.{◌≡◌, IfOk, IsTrue};
+ghost use Rattle.plan_model.specs.Clearance.{ClearAt};
 ghost use Rattle.plan_model.specs.ConfigurationSpace.{space_of};
 ghost use Rattle.plan_model.specs.Limits.{is_plan};
 ghost use Rattle.plan_model.specs.declared.scenes.Marks.TheVariants.{Listed};
 ghost use Rattle.plan_work_tests.specs.Sharers.{HasShare};
 
-use crate::test_runs::{assert_nodes, assert_records, marks_to_rewire, small_task};
-use crate::two_passes::{Two, assert_extended, assert_found, joined_run, two_passes};
+use crate::test_runs::{Ending, TO_REWIRE, small_task, sure};
+use crate::two_passes::{assert_ending, assert_extended, assert_found, two_passes};
 use plan_model::{Goal, Marks, Memory, Outcome, Point, Sequence, SmallScene, Task, Vertex};
 use plan_words::{Pass, Shared};
 use std::alloc::Global;
 use std::process::Abort;
-use std::test::Fail;
 use swept_check::Hall;
 
-#[test]
-fn two_passes_grow_one_tree(rt: HostRuntime) -> Result<(), Fail> {
-    let records = [
+/// The point that mark 0 steers to.
+const ABOVE: Point = Point { x: 0, y: 50 };
+
+static REWIRED: Ending = Ending {
+    count: 4,
+    records: &[
         (0, 0, 0, Outcome::Placed, 0, 12_800, 1),
         (1, 0, 1, Outcome::Placed, 1, 25_449, 2),
         (0, 1, 1, Outcome::Placed, 0, 12_800, 2),
-    ];
-    let nodes = [
+    ],
+    nodes: &[
         Some((0, 0, 0, 0)),
         Some((0, 50, 0, 12_800)),
         Some((40, 79, 3, 25_344)),
         Some((40, 30, 0, 12_800)),
-    ];
-    let task = small_task(rt.alloc(), &marks_to_rewire())?;
-    let (shared, hall, mut first, mut second) = two_passes(rt.alloc(), task)?;
-    assert_extended(&rt, &shared, &hall, &mut first, 0, records[0]);
-    let above = Point { x: 0, y: 50 };
-    assert_found(&rt, &shared, &mut first, above, (1, (0, 12_800)))?;
-    assert_extended(&rt, &shared, &hall, &mut second, 1, records[1]);
-    assert_extended(&rt, &shared, &hall, &mut first, 2, records[2]);
-    let grown = joined_run(&rt, shared, first, second);
-    assert_eq!(rt; (grown.limit(), grown.count()), (3, 4));
-    assert_records(&rt, &grown, &records);
-    assert_nodes(&rt, &grown, &nodes);
-    Ok(())
+    ],
+};
+
+#[test]
+fn two_passes_grow_one_tree(rt: HostRuntime) {
+    let task = small_task(&rt, rt.alloc(), &TO_REWIRE);
+    let (shared, hall, mut first, mut second) = two_passes(&rt, rt.alloc(), task);
+    assert_extended(&rt, &shared, &hall, &mut first, 0, &REWIRED);
+    assert_found(&rt, &shared, &mut first, ABOVE, (1, (0, 12_800)));
+    assert_extended(&rt, &shared, &hall, &mut second, 1, &REWIRED);
+    assert_extended(&rt, &shared, &hall, &mut first, 2, &REWIRED);
+    assert_ending(&rt, shared, first, second, &REWIRED);
 }
 
 /// The task of these marks for a point body in a room of 100 by 100, with a wall that stands to the right of the start.
@@ -74,26 +76,20 @@ fn walled_task(alloc: Global, marks: &[Point]) -> Result<Task, Memory>
     })
 }
 
-/// Two passes that may claim these marks in the room with the wall.
-fn two_by_wall(rt: &impl Abort, alloc: Global, marks: &[Point]) -> Result<Two, Fail>
+/// The task of these marks in the room with the wall, where its start is clear.
+fn task_by_wall<R: Abort>(rt: &R, alloc: Global, marks: &[Point]) -> Task
     requires { IsTrue (is_plan (Listed marks.now)) }
-    ensures opening { IfOk result (λ two. two.0.opening ≡ 0) }
-    ensures workers { IfOk result (λ two. two.0.workers ≡ 2) }
-    ensures marks { IfOk result (λ two. two.0.task.marks ≡ marks.now) }
-    ensures hall { IfOk result (λ two. two.1 ≡ space_of two.0.task.scene) }
-    ensures first { IfOk result (λ two. HasShare two.0 1 two.2) }
-    ensures second { IfOk result (λ two. HasShare two.0 1 two.3) }
+    ensures clear { ClearAt (space_of result.scene) result.scene.start }
+    ensures marks { result.marks ≡ marks.now }
 {
-    let task = walled_task(alloc, marks)?;
-    let hall = Hall::new(alloc, &task.scene)?;
-    if !hall.clear_at(task.scene.start) {
-        panic!(rt; "the start is not clear");
-    }
-    two_passes(alloc, task)
+    let task = sure(rt, walled_task(alloc, marks));
+    let hall = sure(rt, Hall::new(alloc, &task.scene));
+    assert!(rt; hall.clear_at(task.scene.start));
+    task
 }
 
 /// Asserts how many nodes are counted.
-fn assert_number(rt: &impl Abort, shared: &Shared, pass: &mut Pass, want: u32)
+fn assert_number<R: Abort>(rt: &R, shared: &Shared, pass: &mut Pass, want: u32)
     requires { HasShare shared.now 1 pass.old }
     ensures { HasShare shared.now 1 pass.new }
 {
@@ -101,26 +97,27 @@ fn assert_number(rt: &impl Abort, shared: &Shared, pass: &mut Pass, want: u32)
     assert_eq!(rt; nodes, want);
 }
 
-#[test]
-fn no_node_is_placed_on_another_or_behind_a_wall(rt: HostRuntime) -> Result<(), Fail> {
-    let above = Point { x: 0, y: 50 };
-    let marks = [above, above, Point { x: 40, y: 10 }];
-    let records = [
+static BLOCKED: Ending = Ending {
+    count: 2,
+    records: &[
         (0, 0, 0, Outcome::Placed, 0, 12_800, 1),
         (1, 0, 1, Outcome::Same(1), 0, 0, 0),
         (0, 1, 0, Outcome::Blocked, 0, 0, 0),
-    ];
-    let nodes = [Some((0, 0, 0, 0)), Some((0, 50, 0, 12_800)), None, None];
-    let (shared, hall, mut first, mut second) = two_by_wall(&rt, rt.alloc(), &marks)?;
-    assert_extended(&rt, &shared, &hall, &mut first, 0, records[0]);
+    ],
+    nodes: &[Some((0, 0, 0, 0)), Some((0, 50, 0, 12_800)), None, None],
+};
+
+static ON_ANOTHER_AND_BEHIND: [Point; 3] = [ABOVE, ABOVE, Point { x: 40, y: 10 }];
+
+#[test]
+fn no_node_is_placed_on_another_or_behind_a_wall(rt: HostRuntime) {
+    let task = task_by_wall(&rt, rt.alloc(), &ON_ANOTHER_AND_BEHIND);
+    let (shared, hall, mut first, mut second) = two_passes(&rt, rt.alloc(), task);
+    assert_extended(&rt, &shared, &hall, &mut first, 0, &BLOCKED);
     assert_number(&rt, &shared, &mut first, 2);
-    assert_extended(&rt, &shared, &hall, &mut second, 1, records[1]);
+    assert_extended(&rt, &shared, &hall, &mut second, 1, &BLOCKED);
     assert_number(&rt, &shared, &mut second, 2);
-    assert_extended(&rt, &shared, &hall, &mut first, 2, records[2]);
+    assert_extended(&rt, &shared, &hall, &mut first, 2, &BLOCKED);
     assert_number(&rt, &shared, &mut first, 2);
-    let grown = joined_run(&rt, shared, first, second);
-    assert_eq!(rt; (grown.limit(), grown.count()), (3, 2));
-    assert_records(&rt, &grown, &records);
-    assert_nodes(&rt, &grown, &nodes);
-    Ok(())
+    assert_ending(&rt, shared, first, second, &BLOCKED);
 }

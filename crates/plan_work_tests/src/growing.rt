@@ -1,10 +1,10 @@
 //! Runs by one worker and by several, and what their gates are told.
 
-ghost use Rattle.std.specs.Prelude.{◌≡◌, ◌≤◌, IfOk};
+ghost use Rattle.std.specs.Prelude.{◌≡◌, ◌≤◌, length};
 ghost use Rattle.plan_model.specs.declared.limits.TheConstants.{MOST_WORKERS};
 
-use crate::test_runs::{assert_records, marks_to_rewire, node_of, small_task};
-use plan_model::{MOST_WORKERS, Memory, Outcome};
+use crate::test_runs::{Entry, TO_REWIRE, assert_node, assert_records, small_task, sure};
+use plan_model::{MOST_WORKERS, Outcome};
 use plan_work::{Gate, NoGate, grow};
 use std::alloc::Global;
 use std::process::Abort;
@@ -17,21 +17,21 @@ use swept_check::Hall;
 // ---- runs
 
 /// The run of three marks by so many workers, up to a limit. The node of the third mark gives that of the second a cheaper way.
-fn small_run<R: Threads + Sync, G: Gate>(
+fn small_run<R: Threads + Sync + Abort, G: Gate>(
     rt: &R,
     alloc: Global,
     workers: u32,
     limit: u32,
     gate: &G,
-) -> Result<Grown, Memory>
+) -> Grown
     requires some { 1 ≤ workers }
     requires few { workers ≤ MOST_WORKERS }
     requires within { limit ≤ 3 }
-    ensures { IfOk result (λ grown. grown.limit ≡ limit) }
+    ensures { result.limit ≡ limit }
 {
-    let grown = Grown::new(alloc, small_task(alloc, &marks_to_rewire())?)?;
-    let hall = Hall::new(alloc, &grown.task().scene)?;
-    grow(rt, alloc, grown, &hall, workers, limit, gate)
+    let grown = sure(rt, Grown::new(alloc, small_task(rt, alloc, &TO_REWIRE)));
+    let hall = sure(rt, Hall::new(alloc, &grown.task().scene));
+    sure(rt, grow(rt, alloc, grown, &hall, workers, limit, gate))
 }
 
 /// How many marks below this one a worker has handled.
@@ -80,68 +80,87 @@ fn adds_up(grown: &Grown) -> bool {
     u64::from(placed) + others == u64::from(grown.limit()) && u64::from(grown.count()) == nodes
 }
 
-#[test]
-fn one_worker_handles_the_marks_in_turn(rt: HostRuntime) -> Result<(), Memory> {
-    let grown = small_run(&rt, rt.alloc(), 1, 3, &NoGate)?;
-    let records = [
-        (0, 0, 0, Outcome::Placed, 0, 12_800, 1),
-        (0, 1, 1, Outcome::Placed, 1, 25_449, 2),
-        (0, 2, 1, Outcome::Placed, 0, 12_800, 2),
-    ];
-    assert_records(&rt, &grown, &records);
-    assert!(rt; node_of(&grown, 2) == Some((40, 79, 3, 25_344)));
-    Ok(())
+/// Asserts that a run adds up, and counts the turns of each worker. It was grown by so many workers up to this limit.
+fn assert_whole<R: Abort>(rt: &R, grown: &Grown, workers: u32, limit: u32) {
+    assert!(rt; adds_up(grown), "by {workers} to {limit}");
+    assert!(rt; has_turns(grown), "by {workers} to {limit}");
 }
 
-/// Asserts for each case, a number of workers with a limit, that the run adds up, has so many nodes and none past the limit,
-/// and counts the turns of each worker.
-fn assert_runs<R: Threads + Sync + Abort>(
+static IN_TURN: [Entry; 3] = [
+    (0, 0, 0, Outcome::Placed, 0, 12_800, 1),
+    (0, 1, 1, Outcome::Placed, 1, 25_449, 2),
+    (0, 2, 1, Outcome::Placed, 0, 12_800, 2),
+];
+
+#[test]
+fn one_worker_handles_the_marks_in_turn(rt: HostRuntime) {
+    let grown = small_run(&rt, rt.alloc(), 1, 3, &NoGate);
+    assert_records(&rt, &grown, &IN_TURN);
+    assert_node(&rt, &grown, 2, &Some((40, 79, 3, 25_344)));
+}
+
+/// Asserts how many nodes a run by so many workers up to a limit has, and that it has none past the limit.
+fn assert_nodes_within<R: Abort>(rt: &R, grown: &Grown, workers: u32, limit: u32, nodes: u32)
+    requires { limit ≤ 3 }
+{
+    assert!(rt; grown.count() == nodes, "by {workers} to {limit}");
+    assert!(rt; grown.point(limit + 1).is_none(), "by {workers} to {limit}");
+}
+
+/// Asserts that the run by so many workers up to a limit adds up, has so many nodes and none past the limit, and counts the
+/// turns of each worker.
+fn assert_run_by<R: Threads + Sync + Abort>(
     rt: &R,
     alloc: Global,
-    cases: &[(u32, u32, u32)],
-) -> Result<(), Memory> {
-    for &(workers, limit, nodes) in cases {
-        assert!(rt; 1 <= workers && workers <= MOST_WORKERS && limit <= 3);
-        let grown = small_run(rt, alloc, workers, limit, &NoGate)?;
-        assert!(rt; adds_up(&grown), "by {workers} to {limit}");
-        assert!(rt; has_turns(&grown), "by {workers} to {limit}");
-        assert!(rt; grown.count() == nodes, "by {workers} to {limit}");
-        assert!(rt; grown.point(limit + 1).is_none(), "by {workers} to {limit}");
-    }
-    Ok(())
+    workers: u32,
+    limit: u32,
+    nodes: u32,
+)
+    requires some { 1 ≤ workers }
+    requires few { workers ≤ MOST_WORKERS }
+    requires within { limit ≤ 3 }
+{
+    let grown = small_run(rt, alloc, workers, limit, &NoGate);
+    assert_whole(rt, &grown, workers, limit);
+    assert_nodes_within(rt, &grown, workers, limit, nodes);
 }
 
 #[test]
-fn several_workers_handle_all_marks(rt: HostRuntime) -> Result<(), Memory> {
-    assert_runs(
-        &rt,
-        rt.alloc(),
-        &[(2, 3, 4), (3, 3, 4), (MOST_WORKERS, 3, 4)],
-    )
+fn several_workers_handle_all_marks(rt: HostRuntime) {
+    assert_run_by(&rt, rt.alloc(), 2, 3, 4);
+    assert_run_by(&rt, rt.alloc(), 3, 3, 4);
+    assert_run_by(&rt, rt.alloc(), MOST_WORKERS, 3, 4);
 }
 
 #[test]
-fn marks_from_the_limit_on_are_left(rt: HostRuntime) -> Result<(), Memory> {
-    assert_runs(&rt, rt.alloc(), &[(2, 2, 3)])
+fn marks_from_the_limit_on_are_left(rt: HostRuntime) {
+    assert_run_by(&rt, rt.alloc(), 2, 2, 3);
 }
 
 #[test]
-fn a_limit_of_0_leaves_all_marks(rt: HostRuntime) -> Result<(), Memory> {
-    assert_runs(&rt, rt.alloc(), &[(2, 0, 1)])
+fn a_limit_of_0_leaves_all_marks(rt: HostRuntime) {
+    assert_run_by(&rt, rt.alloc(), 2, 0, 1);
+}
+
+/// The run of three marks by three workers that goes on from one of a single mark.
+fn grown_on<R: Threads + Sync + Abort>(rt: &R, alloc: Global, begun: Grown) -> Grown
+    requires limit { begun.limit ≡ 1 }
+    requires marks { length begun.task.marks ≡ 3 }
+    ensures { result.limit ≡ 3 }
+{
+    let hall = sure(rt, Hall::new(alloc, &begun.task().scene));
+    sure(rt, grow(rt, alloc, begun, &hall, 3, 3, &NoGate))
 }
 
 #[test]
-fn a_run_is_grown_on(rt: HostRuntime) -> Result<(), Memory> {
-    let begun = small_run(&rt, rt.alloc(), 2, 1, &NoGate)?;
+fn a_run_is_grown_on(rt: HostRuntime) {
+    let begun = small_run(&rt, rt.alloc(), 2, 1, &NoGate);
     let first = begun.record_of(0);
-    let hall = Hall::new(rt.alloc(), &begun.task().scene)?;
-    assert!(rt; begun.limit() == 1 && begun.task().marks.len() == 3);
-    let grown = grow(&rt, rt.alloc(), begun, &hall, 3, 3, &NoGate)?;
-    assert!(rt; grown.record_of(0) == first);
-    assert!(rt; adds_up(&grown));
-    assert!(rt; has_turns(&grown));
-    assert_eq!(rt; grown.count(), 4);
-    Ok(())
+    assert!(&rt; begun.limit() == 1 && begun.task().marks.len() == 3);
+    let grown = grown_on(&rt, rt.alloc(), begun);
+    assert!(&rt; grown.record_of(0) == first);
+    assert_whole(&rt, &grown, 3, 3);
+    assert!(&rt; grown.count() == 4);
 }
 
 // ---- gates
@@ -205,24 +224,42 @@ impl Gate for Counts {
     }
 }
 
-#[test]
-fn gates_are_told_of_each_turn(rt: HostRuntime) -> Result<(), Memory> {
-    for limit in 0..=3 {
-        let gate = Counts::new();
-        let grown = small_run(&rt, rt.alloc(), 3, limit, &gate)?;
-        assert!(rt; gate.in_order.load(Ordering::SeqCst));
-        for worker in 0..3u32 {
-            let count = &gate.workers[worker as usize];
-            let turns = count.after.load(Ordering::SeqCst);
-            assert_eq!(rt;
-                turns,
-                turns_below(&grown, limit, worker),
-                "worker {worker}"
-            );
-            assert_eq!(rt; count.before.load(Ordering::SeqCst), turns);
-        }
+/// Asserts that a gate was told of so many turns of a worker, before each and after it.
+fn assert_told<R: Abort>(rt: &R, count: &Count, worker: u32, turns: u32) {
+    assert!(rt;
+        count.after.load(Ordering::SeqCst) == turns,
+        "worker {worker}"
+    );
+    assert!(rt;
+        count.before.load(Ordering::SeqCst) == turns,
+        "worker {worker}"
+    );
+}
+
+/// Asserts that a gate was told in order of the turns of each of three workers, in a run up to this limit.
+fn assert_all_told<R: Abort>(rt: &R, gate: &Counts, grown: &Grown, limit: u32)
+    requires { limit ≤ grown.now.limit }
+{
+    assert!(rt; gate.in_order.load(Ordering::SeqCst));
+    for (worker, count) in (0..).zip(&gate.workers) {
+        assert_told(rt, count, worker, turns_below(grown, limit, worker));
     }
-    Ok(())
+}
+
+/// Asserts what a gate is told of a run by three workers up to a limit.
+fn assert_gate<R: Threads + Sync + Abort>(rt: &R, alloc: Global, limit: u32)
+    requires { limit ≤ 3 }
+{
+    let gate = Counts::new();
+    let grown = small_run(rt, alloc, 3, limit, &gate);
+    assert_all_told(rt, &gate, &grown, limit);
+}
+
+#[test]
+fn gates_are_told_of_each_turn(rt: HostRuntime) {
+    for limit in 0..=3 {
+        assert_gate(&rt, rt.alloc(), limit);
+    }
 }
 
 /// A gate for two workers: worker 0 goes on with its first mark only after worker 1 has handled one, and worker 1 only after
@@ -235,6 +272,14 @@ struct OtherFirst {
 }
 
 impl OtherFirst {
+    fn new() -> OtherFirst {
+        OtherFirst {
+            come: AtomicBool::new(false),
+            handled: AtomicBool::new(false),
+            in_time: AtomicBool::new(true),
+        }
+    }
+
     /// Waits for a flag, and notes if it did not come in time.
     fn wait_for(&self, flag: &AtomicBool) {
         for _ in 0..10_000_000u32 {
@@ -264,18 +309,24 @@ impl Gate for OtherFirst {
     }
 }
 
-#[test]
-fn a_worker_goes_on_while_another_waits(rt: HostRuntime) -> Result<(), Memory> {
-    let gate = OtherFirst {
-        come: AtomicBool::new(false),
-        handled: AtomicBool::new(false),
-        in_time: AtomicBool::new(true),
-    };
-    let grown = small_run(&rt, rt.alloc(), 2, 3, &gate)?;
+/// Asserts that a mark was handled while another was waited for, and that nobody waited too long.
+fn assert_handled<R: Abort>(rt: &R, gate: &OtherFirst) {
     assert!(rt; gate.handled.load(Ordering::SeqCst));
     assert!(rt; gate.in_time.load(Ordering::SeqCst));
-    assert!(rt; adds_up(&grown));
-    assert!(rt; 1 <= turns_below(&grown, 3, 0) && 1 <= turns_below(&grown, 3, 1));
-    assert!(rt; has_turns(&grown));
-    Ok(())
+}
+
+/// Asserts that each of two workers has handled a mark of a run of three.
+fn assert_both_at_work<R: Abort>(rt: &R, grown: &Grown)
+    requires { 3 ≤ grown.now.limit }
+{
+    assert!(rt; 1 <= turns_below(grown, 3, 0) && 1 <= turns_below(grown, 3, 1));
+}
+
+#[test]
+fn a_worker_goes_on_while_another_waits(rt: HostRuntime) {
+    let gate = OtherFirst::new();
+    let grown = small_run(&rt, rt.alloc(), 2, 3, &gate);
+    assert_handled(&rt, &gate);
+    assert_whole(&rt, &grown, 2, 3);
+    assert_both_at_work(&rt, &grown);
 }

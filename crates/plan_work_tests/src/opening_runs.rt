@@ -1,26 +1,28 @@
 //! Passes that go on from a run of some marks.
 
-ghost use Rattle.std.specs.Prelude.{◌≡◌, ◌≤◌, All, IfOk, IfSome, length};
+ghost use Rattle.std.specs.Prelude.{◌≡◌, ◌≤◌, All, IfSome, length};
+ghost use Rattle.plan_model.specs.Clearance.{ClearAt};
 ghost use Rattle.plan_model.specs.ConfigurationSpace.{space_of};
 ghost use Rattle.plan_words.specs.States.{MayClaim};
 
-use plan_model::{Goal, Memory, Point, SmallScene};
+use crate::test_runs::{some, sure};
+use plan_model::{Goal, Point, SmallScene, Task};
 use plan_words::{Pass, Shared};
 use plan_work::{NoGate, extend, grow};
 use std::alloc::Global;
 use std::process::Abort;
-use std::test::Fail;
 use std::thread::Threads;
 use step_core::Grown;
 use swept_check::Hall;
 
 const START: Point = Point { x: 0, y: 0 };
 
-/// Seven marks on the start, in three strips, of which one worker has handled four.
-fn run_of_four<R: Threads + Sync>(rt: &R, alloc: Global) -> Result<(Grown, Hall), Memory>
-    ensures limit { IfOk result (λ begun. begun.0.limit ≡ 4) }
-    ensures marks { IfOk result (λ begun. length begun.0.task.marks ≡ 7) }
-    ensures hall { IfOk result (λ begun. begun.1 ≡ space_of begun.0.task.scene) }
+static SEVEN: [Point; 7] = [START; 7];
+
+/// Seven marks on the start, in three strips.
+fn seven_marks<R: Abort>(rt: &R, alloc: Global) -> Task
+    ensures clear { ClearAt (space_of result.scene) result.scene.start }
+    ensures marks { length result.marks ≡ 7 }
 {
     let small = SmallScene {
         room: Point { x: 100, y: 100 },
@@ -34,11 +36,20 @@ fn run_of_four<R: Threads + Sync>(rt: &R, alloc: Global) -> Result<(Grown, Hall)
         seed: 0,
         strips: 3,
     };
-    let task = small.task(alloc, &[START; 7])?;
-    let hall = Hall::new(alloc, &task.scene)?;
-    let fresh = Grown::new(alloc, task)?;
-    let grown = grow(rt, alloc, fresh, &hall, 1, 4, &NoGate)?;
-    Ok((grown, hall))
+    sure(rt, small.task(alloc, &SEVEN))
+}
+
+/// The run of these seven marks of which one worker has handled four, and the collision checker of its room.
+fn run_of_four<R: Threads + Sync + Abort>(rt: &R, alloc: Global) -> (Grown, Hall)
+    ensures limit { result.0.limit ≡ 4 }
+    ensures marks { length result.0.task.marks ≡ 7 }
+    ensures hall { result.1 ≡ space_of result.0.task.scene }
+{
+    let task = seven_marks(rt, alloc);
+    let hall = sure(rt, Hall::new(alloc, &task.scene));
+    let fresh = sure(rt, Grown::new(alloc, task));
+    let grown = sure(rt, grow(rt, alloc, fresh, &hall, 1, 4, &NoGate));
+    (grown, hall)
 }
 
 /// The last pass of the list.
@@ -54,25 +65,25 @@ fn last_pass(shared: &Shared, passes: &mut Vec<Pass>) -> Option<Pass>
 type Three = (Shared, Hall, Pass, Pass, Pass);
 
 /// Three passes that go on from the run of four marks.
-fn passes_after_four<R: Threads + Sync>(rt: &R, alloc: Global) -> Result<Three, Fail>
-    ensures opening { IfOk result (λ three. three.0.opening ≡ 4) }
-    ensures marks { IfOk result (λ three. length three.0.task.marks ≡ 7) }
-    ensures hall { IfOk result (λ three. three.1 ≡ space_of three.0.task.scene) }
-    ensures first { IfOk result (λ three. MayClaim three.0 three.2) }
-    ensures second { IfOk result (λ three. MayClaim three.0 three.3) }
-    ensures third { IfOk result (λ three. MayClaim three.0 three.4) }
+fn passes_after_four<R: Threads + Sync + Abort>(rt: &R, alloc: Global) -> Three
+    ensures opening { result.0.opening ≡ 4 }
+    ensures marks { length result.0.task.marks ≡ 7 }
+    ensures hall { result.1 ≡ space_of result.0.task.scene }
+    ensures first { MayClaim result.0 result.2 }
+    ensures second { MayClaim result.0 result.3 }
+    ensures third { MayClaim result.0 result.4 }
 {
-    let (grown, hall) = run_of_four(rt, alloc)?;
-    let (shared, mut passes) = Shared::start(alloc, grown, 3)?;
-    let third = last_pass(&shared, &mut passes).ok_or(Memory)?;
-    let second = last_pass(&shared, &mut passes).ok_or(Memory)?;
-    let first = last_pass(&shared, &mut passes).ok_or(Memory)?;
-    Ok((shared, hall, first, second, third))
+    let (grown, hall) = run_of_four(rt, alloc);
+    let (shared, mut passes) = sure(rt, Shared::start(alloc, grown, 3));
+    let third = some(rt, last_pass(&shared, &mut passes));
+    let second = some(rt, last_pass(&shared, &mut passes));
+    let first = some(rt, last_pass(&shared, &mut passes));
+    (shared, hall, first, second, third)
 }
 
 /// Asserts which mark a pass claims below a limit, if any, and handles it.
-fn assert_turn(
-    rt: &impl Abort,
+fn assert_turn<R: Abort>(
+    rt: &R,
     shared: &Shared,
     hall: &Hall,
     pass: &mut Pass,
@@ -86,17 +97,17 @@ fn assert_turn(
     ensures may_claim { MayClaim shared.now pass.new }
 {
     let claimed = shared.claim(pass, limit);
-    assert_eq!(rt; claimed, want);
+    assert!(rt; claimed == want);
     if let Some(mark) = claimed {
         extend(shared, pass, hall, mark);
     }
 }
 
 /// Asserts the worker of a pass, and its next turn.
-fn assert_worker(rt: &impl Abort, shared: &Shared, pass: &Pass, worker: u32, turn: u32)
+fn assert_worker<R: Abort>(rt: &R, shared: &Shared, pass: &Pass, worker: u32, turn: u32)
     requires { MayClaim shared.now pass.now }
 {
-    assert_eq!(rt; (pass.worker(), pass.turn()), (worker, turn));
+    assert!(rt; pass.worker() == worker && pass.turn() == turn);
 }
 
 /// A pass takes over another.
@@ -108,21 +119,74 @@ fn take_over(shared: &Shared, pass: &mut Pass, other: Pass)
     shared.join(pass, other);
 }
 
+/// Asserts that the first pass finds no mark below the limit of the opening run, and then claims one of its own strip.
+fn assert_first_turn<R: Abort>(rt: &R, shared: &Shared, hall: &Hall, first: &mut Pass)
+    requires may_claim { MayClaim shared.now first.old }
+    requires hall { hall.now ≡ space_of shared.now.task.scene }
+    requires opening { shared.now.opening ≡ 4 }
+    requires marks { length shared.now.task.marks ≡ 7 }
+    ensures { MayClaim shared.now first.new }
+{
+    assert_worker(rt, shared, first, 0, 4);
+    assert_turn(rt, shared, hall, first, 4, None);
+    assert_turn(rt, shared, hall, first, 7, Some(6));
+    assert_worker(rt, shared, first, 0, 5);
+}
+
+/// Asserts that the first pass takes over the third, and then claims a mark of another strip.
+fn assert_next_turn<R: Abort>(rt: &R, shared: &Shared, hall: &Hall, first: &mut Pass, third: Pass)
+    requires may_claim { MayClaim shared.now first.old }
+    requires third { MayClaim shared.now third }
+    requires hall { hall.now ≡ space_of shared.now.task.scene }
+    requires opening { shared.now.opening ≡ 4 }
+    requires marks { length shared.now.task.marks ≡ 7 }
+    ensures { MayClaim shared.now first.new }
+{
+    assert_worker(rt, shared, &third, 2, 0);
+    take_over(shared, first, third);
+    assert_worker(rt, shared, first, 0, 5);
+    assert_turn(rt, shared, hall, first, 6, Some(4));
+}
+
+/// Asserts that the second pass claims the last mark below 6, and finds none below 7.
+fn assert_last_turn<R: Abort>(rt: &R, shared: &Shared, hall: &Hall, second: &mut Pass)
+    requires may_claim { MayClaim shared.now second.old }
+    requires hall { hall.now ≡ space_of shared.now.task.scene }
+    requires opening { shared.now.opening ≡ 4 }
+    requires marks { length shared.now.task.marks ≡ 7 }
+    ensures { MayClaim shared.now second.new }
+{
+    assert_worker(rt, shared, second, 1, 0);
+    assert_turn(rt, shared, hall, second, 6, Some(5));
+    assert_turn(rt, shared, hall, second, 7, None);
+}
+
+/// Asserts the turns of three passes, and lets them go.
+fn assert_turns<R: Abort>(
+    rt: &R,
+    shared: &Shared,
+    hall: &Hall,
+    first: Pass,
+    second: Pass,
+    third: Pass,
+)
+    requires first { MayClaim shared.now first }
+    requires second { MayClaim shared.now second }
+    requires third { MayClaim shared.now third }
+    requires hall { hall.now ≡ space_of shared.now.task.scene }
+    requires opening { shared.now.opening ≡ 4 }
+    requires marks { length shared.now.task.marks ≡ 7 }
+{
+    let (mut first, mut second) = (first, second);
+    assert_first_turn(rt, shared, hall, &mut first);
+    assert_next_turn(rt, shared, hall, &mut first, third);
+    assert_last_turn(rt, shared, hall, &mut second);
+    assert_worker(rt, shared, &first, 0, 6);
+    assert_worker(rt, shared, &second, 1, 1);
+}
+
 #[test]
-fn turns_and_claims_go_on_from_the_opening_run(rt: HostRuntime) -> Result<(), Fail> {
-    let (shared, hall, mut first, mut second, third) = passes_after_four(&rt, rt.alloc())?;
-    assert_worker(&rt, &shared, &first, 0, 4);
-    assert_worker(&rt, &shared, &second, 1, 0);
-    assert_worker(&rt, &shared, &third, 2, 0);
-    assert_turn(&rt, &shared, &hall, &mut first, 4, None);
-    assert_turn(&rt, &shared, &hall, &mut first, 7, Some(6));
-    assert_worker(&rt, &shared, &first, 0, 5);
-    take_over(&shared, &mut first, third);
-    assert_worker(&rt, &shared, &first, 0, 5);
-    assert_turn(&rt, &shared, &hall, &mut first, 6, Some(4));
-    assert_turn(&rt, &shared, &hall, &mut second, 6, Some(5));
-    assert_turn(&rt, &shared, &hall, &mut second, 7, None);
-    assert_worker(&rt, &shared, &first, 0, 6);
-    assert_worker(&rt, &shared, &second, 1, 1);
-    Ok(())
+fn turns_and_claims_go_on_from_the_opening_run(rt: HostRuntime) {
+    let (shared, hall, first, second, third) = passes_after_four(&rt, rt.alloc());
+    assert_turns(&rt, &shared, &hall, first, second, third);
 }

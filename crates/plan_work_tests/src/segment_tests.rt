@@ -1,19 +1,18 @@
 //! A worker that is inside the test of its segment while another places a node.
 
-ghost use Rattle.std.specs.Prelude.{◌≡◌, IfOk, length};
+ghost use Rattle.std.specs.Prelude.{◌≡◌, length};
 ghost use Rattle.plan_model.specs.Clearance.{ClearAt};
 ghost use Rattle.plan_model.specs.ConfigurationSpace.{space_of};
 ghost use Rattle.plan_work_tests.specs.Sharers.{HasClaimed, HasShare, IsOfThree};
 
-use crate::test_runs::{Entry, entry_of, marks_to_rewire};
+use crate::test_runs::{Entry, TO_REWIRE, assert_records, sure};
 use crate::two_passes::{joined_run, two_passes};
-use plan_model::{Goal, Memory, Outcome, Point, SmallScene, Task};
+use plan_model::{Goal, Outcome, Point, SmallScene, Task};
 use plan_words::{Pass, Shared};
 use plan_work::{Gate, NoGate, extend, grow, work};
 use std::alloc::Global;
 use std::process::Abort;
 use std::sync::atomic::{AtomicBool, Ordering};
-use std::test::Fail;
 use std::thread;
 use std::thread::Threads;
 use step_core::Grown;
@@ -88,9 +87,9 @@ impl Clearing for Meeting {
 }
 
 /// Three marks in two strips, so that each of two workers has one to begin with.
-fn task_in_two_strips(alloc: Global) -> Result<Task, Memory>
-    ensures clear { IfOk result (λ task. ClearAt (space_of task.scene) task.scene.start) }
-    ensures marks { IfOk result (λ task. length task.marks ≡ 3) }
+fn task_in_two_strips<R: Abort>(rt: &R, alloc: Global) -> Task
+    ensures clear { ClearAt (space_of result.scene) result.scene.start }
+    ensures marks { length result.marks ≡ 3 }
 {
     let goal = Point { x: 40, y: 79 };
     let small = SmallScene {
@@ -105,35 +104,35 @@ fn task_in_two_strips(alloc: Global) -> Result<Task, Memory>
         seed: 0,
         strips: 2,
     };
-    small.task(alloc, &marks_to_rewire())
+    sure(rt, small.task(alloc, &TO_REWIRE))
 }
 
-/// Asserts the record of a mark.
-fn assert_record(rt: &impl Abort, grown: &Grown, mark: u32, want: Entry) {
-    assert!(rt; mark < grown.limit());
-    assert!(rt; entry_of(grown.record_of(mark)) == want, "mark {mark}");
-}
+static MET: [Entry; 2] = [
+    (0, 0, 0, Outcome::Placed, 0, 12_800, 2),
+    (1, 0, 0, Outcome::Placed, 0, 12_594, 1),
+];
 
 /// Asserts that nobody waited too long, and the records of the two marks. Mark 0 counts the node of mark 1.
-fn assert_met(rt: &impl Abort, meeting: &Meeting, grown: &Grown) {
+fn assert_met<R: Abort>(rt: &R, meeting: &Meeting, grown: &Grown) {
     assert!(rt; meeting.in_time.load(Ordering::SeqCst));
-    assert_record(rt, grown, 0, (0, 0, 0, Outcome::Placed, 0, 12_800, 2));
-    assert_record(rt, grown, 1, (1, 0, 0, Outcome::Placed, 0, 12_594, 1));
+    assert_records(rt, grown, &MET);
 }
 
 #[test]
-fn a_node_is_placed_while_a_segment_is_tested(rt: HostRuntime) -> Result<(), Memory> {
-    let grown = Grown::new(rt.alloc(), task_in_two_strips(rt.alloc())?)?;
-    let meeting = Meeting::in_hall(Hall::new(rt.alloc(), &grown.task().scene)?);
-    let grown = grow(&rt, rt.alloc(), grown, &meeting, 2, 3, &meeting)?;
+fn a_node_is_placed_while_a_segment_is_tested(rt: HostRuntime) {
+    let fresh = sure(
+        &rt,
+        Grown::new(rt.alloc(), task_in_two_strips(&rt, rt.alloc())),
+    );
+    let meeting = Meeting::in_hall(sure(&rt, Hall::new(rt.alloc(), &fresh.task().scene)));
+    let grown = sure(&rt, grow(&rt, rt.alloc(), fresh, &meeting, 2, 3, &meeting));
     assert_met(&rt, &meeting, &grown);
-    Ok(())
 }
 
 // ---- the same by two callers, who begin with a mark in hand
 
 /// Asserts that a pass claims this mark.
-fn assert_claimed(rt: &impl Abort, shared: &Shared, pass: &mut Pass, mark: u32)
+fn assert_claimed<R: Abort>(rt: &R, shared: &Shared, pass: &mut Pass, mark: u32)
     requires shared { IsOfThree shared.now }
     requires pass { HasShare shared.now 1 pass.old }
     ensures { HasClaimed shared.now 1 mark pass.new }
@@ -141,7 +140,7 @@ fn assert_claimed(rt: &impl Abort, shared: &Shared, pass: &mut Pass, mark: u32)
     let Some(claimed) = shared.claim(pass, 3) else {
         panic!(rt; "no mark is left")
     };
-    assert_eq!(rt; claimed, mark);
+    assert!(rt; claimed == mark);
 }
 
 /// Handles mark 0, in the test of whose segment it waits for the other caller, and then what marks are left.
@@ -200,16 +199,19 @@ fn call_both<R: Threads>(
     )
 }
 
+/// Asserts a run of three marks in which both callers have met.
+fn assert_called<R: Abort>(rt: &R, meeting: &Meeting, grown: &Grown) {
+    assert!(rt; grown.limit() == 3);
+    assert_met(rt, meeting, grown);
+}
+
 #[test]
-fn a_caller_is_answered_while_another_tests_its_segment(rt: HostRuntime) -> Result<(), Fail> {
-    let task = task_in_two_strips(rt.alloc())?;
-    let (shared, hall, mut first, mut second) = two_passes(rt.alloc(), task)?;
+fn a_caller_is_answered_while_another_tests_its_segment(rt: HostRuntime) {
+    let task = task_in_two_strips(&rt, rt.alloc());
+    let (shared, hall, mut first, mut second) = two_passes(&rt, rt.alloc(), task);
     let meeting = Meeting::in_hall(hall);
     assert_claimed(&rt, &shared, &mut first, 0);
     assert_claimed(&rt, &shared, &mut second, 1);
     let (first, second) = call_both(&rt, &shared, first, second, &meeting);
-    let grown = joined_run(&rt, shared, first, second);
-    assert_eq!(rt; grown.limit(), 3);
-    assert_met(&rt, &meeting, &grown);
-    Ok(())
+    assert_called(&rt, &meeting, &joined_run(&rt, shared, first, second));
 }

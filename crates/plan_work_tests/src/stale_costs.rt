@@ -1,6 +1,6 @@
 //! A cost that one pass lowers after another saw it, which then finds the lowered one.
 
-ghost use Rattle.std.specs.Prelude.{◌≡◌, ◌≢◌, ◌+◌, ◌<◌, IfOk, IfSome, IsTrue, length};
+ghost use Rattle.std.specs.Prelude.{◌≡◌, ◌≢◌, ◌+◌, ◌<◌, IfSome, IsTrue, length};
 ghost use Rattle.plan_model.specs.Bounds.{IsBounded};
 ghost use Rattle.plan_model.specs.ConfigurationSpace.{space_of};
 ghost use Rattle.plan_model.specs.Cost.{cost_of};
@@ -12,14 +12,13 @@ ghost use Rattle.step_core.specs.ViewTrees.{SeesPoint};
 ghost use Rattle.step_core.specs.Views.{setup_in};
 ghost use Rattle.tree_rewire.specs.SeenCosts.{SeesPair, cost_seen};
 
-use crate::test_runs::{assert_nodes, assert_records, task_to};
-use crate::two_passes::{assert_extended, joined_run, two_passes};
+use crate::test_runs::{Ending, task_to};
+use crate::two_passes::{assert_ending, assert_extended, two_passes};
 use edge_cost::cost;
 use kd_shared::find;
 use plan_model::{Outcome, Point};
 use plan_words::{Pass, Shared};
 use std::process::Abort;
-use std::test::Fail;
 use swept_check::{Clearing, Hall};
 
 const START: Point = Point { x: 0, y: 0 };
@@ -29,8 +28,8 @@ const ACROSS: Point = Point { x: 30, y: 30 };
 const RIGHT: Point = Point { x: 10, y: 0 };
 
 /// The node at a point. It is this one, and its parent and its cost, which are loaded, are these.
-fn load_node(
-    rt: &impl Abort,
+fn load_node<R: Abort>(
+    rt: &R,
     shared: &Shared,
     pass: &mut Pass,
     at: Point,
@@ -46,8 +45,29 @@ fn load_node(
         panic!(rt; "no node stands there")
     };
     let pair = shared.tree(pass, node);
-    assert_eq!(rt; (node, pair), want);
+    assert!(rt; (node, pair) == want);
     node
+}
+
+/// Two nodes, each as `load_node` gives it.
+fn load_two<R: Abort>(
+    rt: &R,
+    shared: &Shared,
+    pass: &mut Pass,
+    one: (Point, (u32, (u32, u64))),
+    other: (Point, (u32, (u32, u64))),
+) -> (u32, u32)
+    requires { HasShare shared.now 1 pass.old }
+    ensures share { HasShare shared.now 1 pass.new }
+    ensures lawful { IsLawfulView pass.new.view }
+    ensures stands { SeesPoint pass.new.view result.0 one.0 }
+    ensures pair { SeesPair pass.new.view result.0 }
+    ensures other_stands { SeesPoint pass.new.view result.1 other.0 }
+    ensures other_pair { SeesPair pass.new.view result.1 }
+{
+    let first = load_node(rt, shared, pass, one.0, one.1);
+    let second = load_node(rt, shared, pass, other.0, other.1);
+    (first, second)
 }
 
 /// Whether an edge is clear and no longer than the step.
@@ -70,16 +90,16 @@ fn seen_cost(pass: &Pass, node: u32) -> u64
     pass.pair(node).unwrap().1
 }
 
-/// What an exchange gives that lowers a node below another, by what was seen of both.
-fn lower_below(
-    rt: &impl Abort,
+/// Lowers a node below another, by what was seen of both, to this cost, and asserts what the exchange gives.
+fn assert_lowered<R: Abort>(
+    rt: &R,
     shared: &Shared,
     hall: &Hall,
     pass: &mut Pass,
     node: (u32, Point),
     parent: (u32, Point),
-    want: u64,
-) -> Result<(), (u32, u64)>
+    want: (u64, Result<(), (u32, u64)>),
+)
     requires share { HasShare shared.now 1 pass.old }
     requires lawful { IsLawfulView pass.old.view }
     requires hall { hall.now ≡ space_of shared.now.task.scene }
@@ -92,59 +112,70 @@ fn lower_below(
     ensures { HasShare shared.now 1 pass.new }
 {
     let lowered = seen_cost(pass, parent.0) + cost(parent.1, node.1);
-    assert_eq!(rt; lowered, want);
+    assert!(rt; lowered == want.0);
     if !is_allowed(shared, hall, parent.1, node.1) || lowered >= seen_cost(pass, node.0) {
         panic!(rt; "it may not be lowered so");
     }
-    shared.lower(pass, node.0, parent.0, lowered)
+    let found = shared.lower(pass, node.0, parent.0, lowered);
+    assert!(rt; found == want.1);
 }
 
-#[test]
-fn a_stale_cost_is_not_exchanged(rt: HostRuntime) -> Result<(), Fail> {
-    let marks = [Point { x: 0, y: 30 }, ACROSS, RIGHT];
-    let records = [
+static NEARER: Ending = Ending {
+    count: 4,
+    records: &[
         (0, 0, 0, Outcome::Placed, 0, 7_680, 1),
         (0, 1, 1, Outcome::Placed, 1, 15_360, 2),
         (0, 2, 0, Outcome::Placed, 0, 2_560, 2),
-    ];
-    let nodes = [
+    ],
+    nodes: &[
         Some((0, 0, 0, 0)),
         Some((0, 30, 0, 7_680)),
         Some((30, 30, 0, 10_862)),
         Some((10, 0, 0, 2_560)),
-    ];
-    let task = task_to(rt.alloc(), ACROSS, 0, &marks)?;
-    let (shared, hall, mut first, mut second) = two_passes(rt.alloc(), task)?;
-    assert_extended(&rt, &shared, &hall, &mut first, 0, records[0]);
-    assert_extended(&rt, &shared, &hall, &mut first, 1, records[1]);
-    assert_extended(&rt, &shared, &hall, &mut first, 2, records[2]);
-    let start = load_node(&rt, &shared, &mut first, START, (0, (0, 0)));
-    let across = load_node(&rt, &shared, &mut first, ACROSS, (2, (1, 15_360)));
-    let stale = load_node(&rt, &shared, &mut second, ACROSS, (2, (1, 15_360)));
-    let right = load_node(&rt, &shared, &mut second, RIGHT, (3, (0, 2_560)));
-    let lowered = lower_below(
+    ],
+};
+
+static MARKS: [Point; 3] = [Point { x: 0, y: 30 }, ACROSS, RIGHT];
+
+/// Asserts that a pass handles the three marks.
+fn assert_three<R: Abort>(rt: &R, shared: &Shared, hall: &Hall, pass: &mut Pass)
+    requires pass { HasShare shared.now 1 pass.old }
+    requires hall { hall.now ≡ space_of shared.now.task.scene }
+    requires opening { shared.now.opening ≡ 0 }
+    requires marks { length shared.now.task.marks ≡ 3 }
+    ensures { HasShare shared.now 1 pass.new }
+{
+    assert_extended(rt, shared, hall, pass, 0, &NEARER);
+    assert_extended(rt, shared, hall, pass, 1, &NEARER);
+    assert_extended(rt, shared, hall, pass, 2, &NEARER);
+}
+
+#[test]
+fn a_stale_cost_is_not_exchanged(rt: HostRuntime) {
+    let task = task_to(&rt, rt.alloc(), ACROSS, 0, &MARKS);
+    let (shared, hall, mut first, mut second) = two_passes(&rt, rt.alloc(), task);
+    assert_three(&rt, &shared, &hall, &mut first);
+    let kept = (ACROSS, (2, (1, 15_360)));
+    let (start, across) = load_two(&rt, &shared, &mut first, (START, (0, (0, 0))), kept);
+    let (stale, right) = load_two(&rt, &shared, &mut second, kept, (RIGHT, (3, (0, 2_560))));
+    assert_lowered(
         &rt,
         &shared,
         &hall,
         &mut first,
         (across, ACROSS),
         (start, START),
-        10_862,
+        (10_862, Ok(())),
     );
-    assert_eq!(rt; lowered, Ok(()));
-    let found = lower_below(
+    assert_lowered(
         &rt,
         &shared,
         &hall,
         &mut second,
         (stale, ACROSS),
         (right, RIGHT),
-        11_791,
+        (11_791, Err((0, 10_862))),
     );
-    assert_eq!(rt; found, Err((0, 10_862)));
     load_node(&rt, &shared, &mut second, ACROSS, (2, (0, 10_862)));
-    let grown = joined_run(&rt, shared, first, second);
-    assert_records(&rt, &grown, &records);
-    assert_nodes(&rt, &grown, &nodes);
-    Ok(())
+    assert_ending(&rt, shared, first, second, &NEARER);
 }

@@ -1,6 +1,6 @@
 //! Two passes of one thread over a shared tree, from its first mark to the run that it comes to.
 
-ghost use Rattle.std.specs.Prelude.{◌≡◌, All, IfOk, IfSome, length};
+ghost use Rattle.std.specs.Prelude.{◌≡◌, ◌<◌, All, IfSome, length};
 ghost use Rattle.plan_model.specs.Clearance.{ClearAt};
 ghost use Rattle.plan_model.specs.ConfigurationSpace.{space_of};
 ghost use Rattle.plan_words.specs.Claims.{AllFull};
@@ -8,14 +8,13 @@ ghost use Rattle.plan_words.specs.States.{BelongsTo};
 ghost use Rattle.step_core.specs.LaterViews.{IsLawfulView};
 ghost use Rattle.plan_work_tests.specs.Sharers.{HasShare};
 
-use crate::test_runs::{Entry, entry_of};
+use crate::test_runs::{Ending, assert_entry, assert_run, some, sure};
 use kd_shared::find;
-use plan_model::{Memory, Point, Task};
+use plan_model::{Point, Task};
 use plan_words::{Pass, Shared};
 use plan_work::extend;
 use std::alloc::Global;
 use std::process::Abort;
-use std::test::Fail;
 use step_core::Grown;
 use swept_check::Hall;
 
@@ -31,33 +30,45 @@ fn last_sharer(shared: &Shared, passes: &mut Vec<Pass>) -> Option<Pass>
     passes.pop()
 }
 
-/// Two passes that may claim the marks of a task.
-pub(crate) fn two_passes(alloc: Global, task: Task) -> Result<Two, Fail>
+/// The tree of a task, and two passes that may claim its marks.
+fn shared_by_two<R: Abort>(rt: &R, alloc: Global, task: Task) -> (Shared, Vec<Pass>)
     requires clear { ClearAt (space_of task.scene) task.scene.start }
-    ensures opening { IfOk result (λ two. two.0.opening ≡ 0) }
-    ensures workers { IfOk result (λ two. two.0.workers ≡ 2) }
-    ensures task { IfOk result (λ two. two.0.task ≡ task) }
-    ensures hall { IfOk result (λ two. two.1 ≡ space_of task.scene) }
-    ensures first { IfOk result (λ two. HasShare two.0 1 two.2) }
-    ensures second { IfOk result (λ two. HasShare two.0 1 two.3) }
+    ensures opening { result.0.opening ≡ 0 }
+    ensures workers { result.0.workers ≡ 2 }
+    ensures task { result.0.task ≡ task }
+    ensures passes { All (HasShare result.0 1) result.1.items }
 {
-    let hall = Hall::new(alloc, &task.scene)?;
-    let grown = Grown::new(alloc, task)?;
-    let (shared, mut passes) = Shared::start(alloc, grown, 2)?;
-    let second = last_sharer(&shared, &mut passes).ok_or(Memory)?;
-    let first = last_sharer(&shared, &mut passes).ok_or(Memory)?;
-    Ok((shared, hall, first, second))
+    let grown = sure(rt, Grown::new(alloc, task));
+    sure(rt, Shared::start(alloc, grown, 2))
 }
 
-/// Asserts that a pass claims this mark of three, and that its record is this one.
-pub(crate) fn assert_extended(
-    rt: &impl Abort,
+/// Two passes that may claim the marks of a task.
+pub(crate) fn two_passes<R: Abort>(rt: &R, alloc: Global, task: Task) -> Two
+    requires clear { ClearAt (space_of task.scene) task.scene.start }
+    ensures opening { result.0.opening ≡ 0 }
+    ensures workers { result.0.workers ≡ 2 }
+    ensures task { result.0.task ≡ task }
+    ensures hall { result.1 ≡ space_of task.scene }
+    ensures first { HasShare result.0 1 result.2 }
+    ensures second { HasShare result.0 1 result.3 }
+{
+    let hall = sure(rt, Hall::new(alloc, &task.scene));
+    let (shared, mut passes) = shared_by_two(rt, alloc, task);
+    let second = some(rt, last_sharer(&shared, &mut passes));
+    let first = some(rt, last_sharer(&shared, &mut passes));
+    (shared, hall, first, second)
+}
+
+/// Asserts that a pass claims this mark of three, and that its record is the one that is wanted.
+pub(crate) fn assert_extended<R: Abort>(
+    rt: &R,
     shared: &Shared,
     hall: &Hall,
     pass: &mut Pass,
     mark: u32,
-    want: Entry,
+    want: &Ending,
 )
+    requires mark { mark < 3 }
     requires pass { HasShare shared.now 1 pass.old }
     requires hall { hall.now ≡ space_of shared.now.task.scene }
     requires opening { shared.now.opening ≡ 0 }
@@ -69,7 +80,7 @@ pub(crate) fn assert_extended(
     };
     assert_eq!(rt; claimed, mark);
     let record = extend(shared, pass, hall, claimed);
-    assert!(rt; entry_of(record) == want, "mark {mark}");
+    assert_entry(rt, record, mark, &want.records[mark as usize]);
 }
 
 /// The node at a point, with its parent and its kept cost. The hand stays.
@@ -85,25 +96,24 @@ pub(crate) fn load_at(shared: &Shared, pass: &mut Pass, at: Point) -> Option<(u3
 }
 
 /// Asserts what a pass that only looks, split from this one and then taken over by it, finds at a point.
-pub(crate) fn assert_found(
-    rt: &impl Abort,
+pub(crate) fn assert_found<R: Abort>(
+    rt: &R,
     shared: &Shared,
     pass: &mut Pass,
     at: Point,
     want: (u32, (u32, u64)),
-) -> Result<(), Memory>
+)
     requires { HasShare shared.now 1 pass.old }
-    ensures { IfOk result (λ _. HasShare shared.now 1 pass.new) }
+    ensures { HasShare shared.now 1 pass.new }
 {
-    let mut looker = shared.split(pass)?;
+    let mut looker = sure(rt, shared.split(pass));
     let found = load_at(shared, &mut looker, at);
-    assert_eq!(rt; found, Some(want));
+    assert!(rt; found == Some(want));
     shared.join(pass, looker);
-    Ok(())
 }
 
 /// Asserts that a pass finds none of three marks left, by the counters that it has then seen.
-fn assert_none_left(rt: &impl Abort, shared: &Shared, pass: &mut Pass)
+fn assert_none_left<R: Abort>(rt: &R, shared: &Shared, pass: &mut Pass)
     requires pass { HasShare shared.now 1 pass.old }
     requires opening { shared.now.opening ≡ 0 }
     requires marks { length shared.now.task.marks ≡ 3 }
@@ -128,7 +138,7 @@ fn take_both(shared: &Shared, pass: &mut Pass, other: Pass)
 }
 
 /// The run of two passes that both find none of three marks left.
-pub(crate) fn joined_run(rt: &impl Abort, shared: Shared, first: Pass, second: Pass) -> Grown
+pub(crate) fn joined_run<R: Abort>(rt: &R, shared: Shared, first: Pass, second: Pass) -> Grown
     requires first { HasShare shared 1 first }
     requires second { HasShare shared 1 second }
     requires workers { shared.workers ≡ 2 }
@@ -140,4 +150,21 @@ pub(crate) fn joined_run(rt: &impl Abort, shared: Shared, first: Pass, second: P
     assert_none_left(rt, &shared, &mut second);
     take_both(&shared, &mut first, second);
     shared.end(first)
+}
+
+/// Asserts the run of two passes that both find none of three marks left.
+pub(crate) fn assert_ending<R: Abort>(
+    rt: &R,
+    shared: Shared,
+    first: Pass,
+    second: Pass,
+    want: &Ending,
+)
+    requires first { HasShare shared 1 first }
+    requires second { HasShare shared 1 second }
+    requires workers { shared.workers ≡ 2 }
+    requires opening { shared.opening ≡ 0 }
+    requires marks { length shared.task.marks ≡ 3 }
+{
+    assert_run(rt, &joined_run(rt, shared, first, second), want);
 }

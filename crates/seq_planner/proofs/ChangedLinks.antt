@@ -37,7 +37,8 @@ use Rattle.plan_model.specs.Trees.{node_at, points_of}
 use Rattle.plan_model.proofs.TreeChanges.{node_at-push_new, node_at-past, node_at-absent}
 use Rattle.plan_model.proofs.NewNodes.{Adds-push, present_below}
 use Rattle.seq_planner.specs.declared.child_lists.ChildLists.{ChildLists}
-use Rattle.seq_planner.specs.LinkedTrees.{parent_if_child, is_number, is_child_of, HaveSlots, AreChildLists, ChangesOne, MayBecomeChild, MayUnlink, AreLinked}
+use Rattle.seq_planner.specs.LinkedTrees.{parent_if_child, is_parent_number, is_child_of, HaveSlots, AreChildLists, ChangesOne}
+use Rattle.seq_planner.specs.LinkedTrees.{MayBecomeChild, MayUnlink, AreLinked}
 use Rattle.seq_planner.proofs.ChildLists.{AreChildLists-same, HaveSlots-fewer}
 
 -- ---- by nodes
@@ -140,7 +141,7 @@ MayBecomeChild-unlinked tree old new number parent node positive here children u
         | inl e ↦ (let none = changes.here in let some = sym (ap (without up number) e) ∙ h in cc)
         | inr ne ↦ (
             let was : up c ≡ Some parent = sym (changes.elsewhere c ne) ∙ h in
-            last c (ap (is_number parent) was ∙ eq-eqb parent parent refl))
+            last c (ap (is_parent_number parent) was ∙ eq-eqb parent parent refl))
       ];
     }
 

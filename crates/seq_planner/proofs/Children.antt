@@ -6,7 +6,7 @@ use Rattle.plan_model.specs.declared.trees.Twig.{Twig}
 use Rattle.plan_model.specs.PointsByNumber.{IsPresent}
 use Rattle.plan_model.specs.Trees.{node_at, points_of, parent_or_zero, parent_of, CostsFall}
 use Rattle.plan_model.proofs.TreeChanges.{point_at-points_of}
-use Rattle.seq_planner.specs.LinkedTrees.{is_number, is_child_of}
+use Rattle.seq_planner.specs.LinkedTrees.{is_parent_number, is_child_of}
 
 -- Node c is present and not the start, and has node f as its parent.
 pub record IsChild (tree : List (Option Twig)) (f c : ℕ) : Type 0 where
@@ -14,15 +14,15 @@ pub record IsChild (tree : List (Option Twig)) (f c : ℕ) : Type 0 where
   pub present : IsPresent (points_of tree) c
   pub parent : parent_of tree c ≡ f
 
-is_number-node :
-    (f : ℕ) (node : Option Twig) → is_number f (option_map (λ n. n.parent) node) ≡ true
+is_parent_number-node :
+    (f : ℕ) (node : Option Twig) → is_parent_number f (option_map (λ n. n.parent) node) ≡ true
     → (is_some (option_map (λ n. n.point) node) ≡ true) × (parent_or_zero node ≡ f)
-is_number-node f None h = cc
-is_number-node f (Some node) h = (refl, eqb-true node.parent f h)
+is_parent_number-node f None h = cc
+is_parent_number-node f (Some node) h = (refl, eqb-true node.parent f h)
 
 node-is_number :
     (f : ℕ) (node : Option Twig) → is_some (option_map (λ n. n.point) node) ≡ true → parent_or_zero node ≡ f
-    → is_number f (option_map (λ n. n.parent) node) ≡ true
+    → is_parent_number f (option_map (λ n. n.parent) node) ≡ true
 node-is_number f None present parent = cc
 node-is_number f (Some node) present parent = eq-eqb node.parent f parent
 
@@ -30,7 +30,7 @@ node-is_number f (Some node) present parent = eq-eqb node.parent f parent
 pub IsChild-is_child_of : (tree : List (Option Twig)) (f c : ℕ) → is_child_of tree f c ≡ true → IsChild tree f c
 IsChild-is_child_of tree f zero h = cc
 IsChild-is_child_of tree f (suc n) h =
-    let is = is_number-node f (node_at tree (suc n)) h in
+    let is = is_parent_number-node f (node_at tree (suc n)) h in
     record { child = omega arith; present = ap is_some (point_at-points_of tree (suc n)) ∙ is.0; parent = is.1 }
 
 -- and each child is listed

@@ -11,7 +11,7 @@ use Rattle.plan_model.specs.PointsByNumber.{point_of}
 use Rattle.plan_model.specs.Trees.{points_of}
 use Rattle.plan_model.specs.Textbook.{Nodes, with_parent, RewiresOne, Rewires}
 use Rattle.seq_planner.specs.declared.search_tree.SearchTree.{SearchTree}
-use Rattle.seq_planner.specs.LinkedTrees.{is_number, is_child_of}
+use Rattle.seq_planner.specs.LinkedTrees.{is_parent_number, is_child_of}
 use Rattle.seq_planner.specs.SearchTrees.{IsSoundTree}
 
 -- one more near node
@@ -29,7 +29,7 @@ is_child_of-elsewhere :
 is_child_of-elsewhere tree i n f zero apart = refl
 is_child_of-elsewhere tree i n f (suc m) apart =
     let node : Option Twig = Some (record { point = point_of (points_of tree) i; parent = n }) in
-    ap (λ o. is_number f (option_map (λ (t : Twig). t.parent) o)) (get_or-set_other tree i (suc m) node _ apart)
+    ap (λ o. is_parent_number f (option_map (λ (t : Twig). t.parent) o)) (get_or-set_other tree i (suc m) node _ apart)
 
 -- after a near node is looked at, it may be a child; others were
 child_after_one :

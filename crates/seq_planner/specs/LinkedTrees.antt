@@ -11,13 +11,13 @@ parent_if_child tree zero = None
 parent_if_child tree (suc n) = option_map (λ node. node.parent) (node_at tree (suc n))
 
 -- whether the parent, if there is one, is f
-abbrev pub is_number : ℕ → Option ℕ → Bool
-is_number f None = false
-is_number f (Some g) = g == f
+abbrev pub is_parent_number : ℕ → Option ℕ → Bool
+is_parent_number f None = false
+is_parent_number f (Some g) = g == f
 
 -- whether c is a child of node f
 abbrev pub is_child_of : List (Option Twig) → ℕ → ℕ → Bool
-is_child_of tree f c = is_number f (parent_if_child tree c)
+is_child_of tree f c = is_parent_number f (parent_if_child tree c)
 
 -- the greatest of some numbers, if there is one
 abbrev pub IsGreatest : (ℕ → Type 0) → Option ℕ → Type 0

@@ -1,7 +1,7 @@
 //! Lists of the children of each node of a tree.
 
 ghost use Rattle.std.specs.Prelude.{IfOk, OnOk, ◌≡◌, ℕ, ◌+◌, ◌==◌, Option, Some, None, count_by, if◌then◌else◌};
-ghost use Rattle.seq_planner.specs.LinkedTrees.{AreChildLists, ChangesOne, HaveSlots, MayBecomeChild, MayUnlink, is_number};
+ghost use Rattle.seq_planner.specs.LinkedTrees.{AreChildLists, ChangesOne, HaveSlots, MayBecomeChild, MayUnlink, is_parent_number};
 
 use plan_model::Memory;
 use std::alloc::Global;
@@ -100,7 +100,7 @@ impl ChildLists {
         requires parent { HaveSlots (parent + 1) self.now }
         requires linked { (up : ℕ → Option ℕ) × AreChildLists up self.now }
         ensures { OnOk result ((up : ℕ → Option ℕ) → AreChildLists up self.now → (c : ℕ) → count_by (λ k. k == c) list.new.items
-            ≡ count_by (λ k. k == c) list.old.items + (if is_number parent (up c) then 1 else 0)) }
+            ≡ count_by (λ k. k == c) list.old.items + (if is_parent_number parent (up c) then 1 else 0)) }
     {
         let mut child = self.first[parent as usize];
         while let Some(number) = child {

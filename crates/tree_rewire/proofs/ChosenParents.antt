@@ -22,7 +22,7 @@ use Rattle.step_core.specs.Views.{setup_in, tree_seen}
 use Rattle.step_core.specs.declared.views.View.{View}
 use Rattle.step_core.proofs.SeenViews.{IsPresent-later}
 use Rattle.tree_rewire.specs.Choices.{IsBetter}
-use Rattle.tree_rewire.specs.SeenCosts.{IsInReach, IsNoWord, SeesAnew, SeesPair, cost_seen, cost_through}
+use Rattle.tree_rewire.specs.SeenCosts.{IsInReach, NamesNothing, SeesAnew, SeesPair, cost_seen, cost_through}
 use Rattle.tree_rewire.proofs.CostSteps.{cost_through-same, point_of-same}
 use Rattle.tree_rewire.proofs.SeenCosts.{point_later}
 
@@ -60,7 +60,7 @@ read_through before after p from n cost goes_on present found cost_is =
 
 -- ---- if no word is seen anew, all is as it was
 
-module _ (space : ConfigurationSpace) (before after : View) (same : SeesAnew IsNoWord before after) (p : Point) where
+module _ (space : ConfigurationSpace) (before after : View) (same : SeesAnew NamesNothing before after) (p : Point) where
   IsNotAbove-before : (m n : ℕ) → IsNotAbove (cost_through after p) m n → IsNotAbove (cost_through before p) m n
   IsNotAbove-before m n h = record {
     least = omega (arith, h.least, cost_through-same before after same p m, cost_through-same before after same p n);

@@ -17,7 +17,7 @@ use Rattle.step_core.specs.WordNames.Word.{ChildOf, Count, Counter, FirstOf, Poi
 use Rattle.step_core.specs.Words.{cost_in}
 use Rattle.step_core.specs.declared.views.View.{View}
 use Rattle.kd_shared.proofs.Looking.{BelongsTo-later, point_at-kept}
-use Rattle.tree_rewire.specs.SeenCosts.{IsLoadedSince, IsNoWord, IsPointWord, IsTreeOrPoint, IsTreeWord, PassLowers, PassSees, SeesAnew, cost_through}
+use Rattle.tree_rewire.specs.SeenCosts.{IsLoadedSince, NamesNothing, NamesPoint, NamesTreeOrPoint, NamesTree, PassLowers, PassSees, SeesAnew, cost_through}
 use Rattle.tree_rewire.proofs.SeenCosts.{load_shows_none}
 
 -- ---- views
@@ -90,10 +90,10 @@ PassSees-saw which shared before after name found left belongs is goes_on others
 -- the tree word of a node is loaded
 pub PassSees-tree : (shared : SharedState) (before after : PassState) (n word value : ℕ) → BelongsTo before shared
     → after ≡ with_view before (loaded before.view (TreeOf n) word) → GoesOn before.view after.view
-    → WritesWord (TreeOf n) value (sees before.view) (sees after.view) → PassSees IsTreeWord shared before after
+    → WritesWord (TreeOf n) value (sees before.view) (sees after.view) → PassSees NamesTree shared before after
 PassSees-tree shared before after n word value belongs is goes_on writes =
-    PassSees-saw IsTreeWord shared before after (TreeOf n) word word belongs is goes_on
-    (λ other off. writes.others other (λ same. off (subst IsTreeWord (sym same) tt)))
+    PassSees-saw NamesTree shared before after (TreeOf n) word word belongs is goes_on
+    (λ other off. writes.others other (λ same. off (subst NamesTree (sym same) tt)))
 
 -- and so its last look is this step
 pub IsLoadedSince-tree : (before after : PassState) (n word : ℕ) → IsLawfulView before.view → SeesNode before.view n
@@ -105,32 +105,32 @@ IsLoadedSince-tree before after n word lawful node is =
 -- the point of a node that is seen with it is loaded again
 pub PassSees-point : (shared : SharedState) (before after : PassState) (n word value : ℕ) → BelongsTo before shared
     → IsPresent (tree_seen before.view).points n → after ≡ with_view before (loaded before.view (PointOf n) word) → GoesOn before.view after.view
-    → WritesWord (PointOf n) value (sees before.view) (sees after.view) → PassSees IsNoWord shared before after
+    → WritesWord (PointOf n) value (sees before.view) (sees after.view) → PassSees NamesNothing shared before after
 PassSees-point shared before after n word value belongs present is goes_on writes =
-    PassSees-saw IsNoWord shared before after (PointOf n) word word belongs is goes_on
+    PassSees-saw NamesNothing shared before after (PointOf n) word word belongs is goes_on
     (λ other off. load_shows_none before.view after.view goes_on n value present writes other)
 
 -- the point of any seen node is loaded
 pub PassSees-any_point : (shared : SharedState) (before after : PassState) (n word value : ℕ) → BelongsTo before shared
     → after ≡ with_view before (loaded before.view (PointOf n) word) → GoesOn before.view after.view
-    → WritesWord (PointOf n) value (sees before.view) (sees after.view) → PassSees IsPointWord shared before after
+    → WritesWord (PointOf n) value (sees before.view) (sees after.view) → PassSees NamesPoint shared before after
 PassSees-any_point shared before after n word value belongs is goes_on writes =
-    PassSees-saw IsPointWord shared before after (PointOf n) word word belongs is goes_on
-    (λ other off. writes.others other (λ same. off (subst IsPointWord (sym same) tt)))
+    PassSees-saw NamesPoint shared before after (PointOf n) word word belongs is goes_on
+    (λ other off. writes.others other (λ same. off (subst NamesPoint (sym same) tt)))
 
 -- the cost of a node is lowered, or another word was found
 pub PassSees-lower : (shared : SharedState) (before after : PassState) (n parent cost word value : ℕ) (result : Result Unit (ℕ × ℕ))
     → BelongsTo before shared → IfOk result (λ done. after ≡ with_view before (lowered before.view n parent cost))
     → IfErr result (λ pair. after ≡ with_view before (loaded before.view (TreeOf n) word)) → GoesOn before.view after.view
-    → WritesWord (TreeOf n) value (sees before.view) (sees after.view) → PassSees IsTreeWord shared before after
+    → WritesWord (TreeOf n) value (sees before.view) (sees after.view) → PassSees NamesTree shared before after
 PassSees-lower shared before after n parent cost word value (Ok done) belongs is found goes_on writes =
-    PassSees-saw IsTreeWord shared before after (TreeOf n) _ _ belongs is goes_on
-    (λ other off. writes.others other (λ same. off (subst IsTreeWord (sym same) tt)))
+    PassSees-saw NamesTree shared before after (TreeOf n) _ _ belongs is goes_on
+    (λ other off. writes.others other (λ same. off (subst NamesTree (sym same) tt)))
 PassSees-lower shared before after n parent cost word value (Err pair) belongs is found goes_on writes =
     PassSees-tree shared before after n word value belongs found goes_on writes
 
 -- both kinds of words
-pub TreeOrPoint-tree : (name : Word) → IsTreeWord name → IsTreeOrPoint name
+pub TreeOrPoint-tree : (name : Word) → NamesTree name → NamesTreeOrPoint name
 TreeOrPoint-tree (TreeOf n) h = h
 TreeOrPoint-tree (PointOf n) h = absurd h
 TreeOrPoint-tree Count h = absurd h
@@ -139,7 +139,7 @@ TreeOrPoint-tree (ChildOf n side) h = absurd h
 TreeOrPoint-tree (FirstOf n) h = absurd h
 TreeOrPoint-tree (RecordOf k) h = absurd h
 
-pub TreeOrPoint-point : (name : Word) → IsPointWord name → IsTreeOrPoint name
+pub TreeOrPoint-point : (name : Word) → NamesPoint name → NamesTreeOrPoint name
 TreeOrPoint-point (PointOf n) h = h
 TreeOrPoint-point (TreeOf n) h = absurd h
 TreeOrPoint-point Count h = absurd h
@@ -150,7 +150,7 @@ TreeOrPoint-point (RecordOf k) h = absurd h
 
 -- ---- passes that lower costs
 
-pub PassLowers-sees : (shared : SharedState) (before after : PassState) → PassSees IsTreeOrPoint shared before after → PassLowers shared before after
+pub PassLowers-sees : (shared : SharedState) (before after : PassState) → PassSees NamesTreeOrPoint shared before after → PassLowers shared before after
 PassLowers-sees shared before after one = record {
   belongs = one.belongs;
   sees_anew = one.sees_anew;
@@ -162,7 +162,7 @@ pub PassLowers-trans : (shared : SharedState) (before mid after : PassState) →
     → PassLowers shared before after
 PassLowers-trans shared before mid after one other = record {
   belongs = other.belongs;
-  sees_anew = SeesAnew-trans IsTreeOrPoint before.view mid.view after.view one.sees_anew other.sees_anew;
+  sees_anew = SeesAnew-trans NamesTreeOrPoint before.view mid.view after.view one.sees_anew other.sees_anew;
   near = other.near ∙ one.near;
   spots = other.spots ∙ one.spots;
 }
@@ -172,14 +172,14 @@ pub PassLowers-lists : (shared : SharedState) (before after : PassState) → Bel
     → after.table ≡ before.table → after.view ≡ before.view → after.near ≡ before.near → after.spots ≡ before.spots → PassLowers shared before after
 PassLowers-lists shared before after belongs lawful table view near spots = record {
   belongs = record { table = table ∙ belongs.table; run = ap (λ (v : View). v.run) view ∙ belongs.run };
-  sees_anew = subst (SeesAnew IsTreeOrPoint before.view) (sym view) (SeesAnew-refl IsTreeOrPoint before.view lawful);
+  sees_anew = subst (SeesAnew NamesTreeOrPoint before.view) (sym view) (SeesAnew-refl NamesTreeOrPoint before.view lawful);
   near = near;
   spots = spots;
 }
 
 -- ---- if no word is seen anew, costs and points are the same
 
-module _ (before after : View) (same : SeesAnew IsNoWord before after) where
+module _ (before after : View) (same : SeesAnew NamesNothing before after) where
   pub point_of-same : (n : ℕ) → point_of (tree_seen after).points n ≡ point_of (tree_seen before).points n
   point_of-same n =
       ap (λ o. unwrap_or o (record { x = 0; y = 0 })) (point_at-kept before after n same.goes_on.later (same.others (PointOf n) (λ no. no)))

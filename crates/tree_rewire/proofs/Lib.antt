@@ -4,6 +4,7 @@ pub mod ChosenParents
 pub mod LoweredCosts
 pub mod RewiredNodes
 pub mod SpreadCosts
+pub mod SpreadFalls
 pub mod WholeShares
 pub mod TightCosts
 pub mod MirroredTrees

@@ -1,6 +1,5 @@
 -- When a cost may be lowered, and when it need not.
-use Rattle.std.proofs.Common.{◌≡◌, ◌≢◌, ℕ, ◌+◌, ◌^◌, ◌<◌, ◌≤◌, is_some, arith, inl, inr, refl, sym, ap, ◌∙◌, subst}
-use Rattle.std.proofs.lemmas.Bool.{cases_eq}
+use Rattle.std.proofs.Common.{◌≡◌, ◌≢◌, ℕ, ◌+◌, ◌^◌, ◌<◌, ◌≤◌, is_some, arith, refl, sym, ap, ◌∙◌, subst}
 use Rattle.plan_model.specs.declared.geometry.Point.{Point}
 use Rattle.plan_model.specs.Cost.{cost_of}
 use Rattle.plan_model.specs.OrderLaw.{IsAllowedEdge}
@@ -19,7 +18,7 @@ use Rattle.step_core.specs.declared.views.View.{View}
 use Rattle.step_core.proofs.PackedWords.{cost_in-tree_word, parent_in-tree_word}
 use Rattle.step_core.proofs.SeenByViews.{WritesWord-saw}
 use Rattle.tree_rewire.specs.SeenCosts.{SeesPair, cost_seen, cost_through, parent_seen}
-use Rattle.tree_rewire.specs.Spreads.{IsSettled}
+use Rattle.tree_rewire.specs.Spreads.{IsWithinSeenParent, IsWithinParent}
 use Rattle.tree_rewire.proofs.SeenCosts.{pair_low, stands_later}
 
 -- a node may be lowered to less than it was seen to cost, through a seen parent over an allowed edge
@@ -38,6 +37,21 @@ MayLower-less view n parent cost at from stands written parent_stands parent_wri
     cost_is = cost_is;
   };
   cheaper = less;
+}
+
+-- a node is within its parent if it costs no more than through it, both at the points where they are seen
+pub IsWithinParent-below : (view : View) (n parent : ℕ) (at from : Point) → parent_seen view n ≡ parent → SeesPoint view n at → SeesPoint view parent from
+    → cost_seen view n ≤ cost_seen view parent + cost_of from at → IsWithinParent view n
+IsWithinParent-below view n parent at from own stands parent_stands most = record {
+  stands = ap is_some stands;
+  parent_stands = subst (λ m. IsPresent (tree_seen view).points m) (sym own) (ap is_some parent_stands);
+  most = subst (λ m. cost_seen view n ≤ cost_through view (point_of (tree_seen view).points n) m) (sym own)
+      (omega (
+        arith,
+        most,
+        ap (λ q. cost_of q (point_of (tree_seen view).points n)) (point_of-stands (tree_seen view).points parent from parent_stands),
+        ap (cost_of from) (point_of-stands (tree_seen view).points n at stands),
+      ));
 }
 
 -- A node and its parent, as they were seen before their points were loaded.
@@ -59,29 +73,14 @@ module _ (before after : View) (n parent kept above grand : ℕ) (here there : P
   -- it may be lowered if it is cheaper through its parent
   pub MayLower-parent : (cost : ℕ) → cost ≡ above + cost_of there here → cost < kept → MayLower after n parent cost
   MayLower-parent cost cost_is less =
-      let child : 0 < n = elim (cases_eq n 0) [
-        | inl start ↦ absurd (omega (arith, less, kept_is, ((lawful.pairs n written).start start).1))
-        | inr other ↦ omega (arith, other)
-      ] in
       MayLower-less after n parent cost here there stands written parent_stands (omega (arith, same parent, parent_pair.written))
-      ((lawful.pairs n written).edge child here there stands (subst (λ m. SeesPoint after m there) (sym parent_is) parent_stands))
+      ((lawful.pairs n written).edge here there stands (subst (λ m. SeesPoint after m there) (sym parent_is) parent_stands))
       (omega (arith, cost_is, above_is)) (omega (arith, less, kept_is))
 
   -- and else it is settled
-  pub IsSettled-parent : kept ≤ above + cost_of there here → IsSettled after n
-  IsSettled-parent most seen = record {
-    stands = ap is_some stands;
-    parent_stands = subst (λ m. IsPresent (tree_seen after).points m) (sym parent_is) (ap is_some parent_stands);
-    most = subst (λ m. cost_seen after n ≤ cost_through after (point_of (tree_seen after).points n) m) (sym parent_is)
-        (omega (
-          arith,
-          most,
-          kept_is,
-          above_is,
-          ap (λ q. cost_of q (point_of (tree_seen after).points n)) (point_of-stands (tree_seen after).points parent there parent_stands),
-          ap (cost_of there) (point_of-stands (tree_seen after).points n here stands),
-        ));
-  }
+  pub IsWithinSeenParent-parent : kept ≤ above + cost_of there here → IsWithinSeenParent after n
+  IsWithinSeenParent-parent most seen =
+      IsWithinParent-below after n parent here there parent_is stands parent_stands (omega (arith, most, kept_is, above_is))
 
 -- A node is lowered: its word alone is seen anew.
 pub WritesWord-lowered : (before after : View) (n parent cost : ℕ) → IsLawfulView before → SeesPair before n → after ≡ lowered before n parent cost
@@ -103,11 +102,11 @@ module _ (before after : View) (n parent cost : ℕ) (lawful : IsLawfulView befo
   parent_same : sees after (TreeOf parent) ≡ sees before (TreeOf parent)
   parent_same = writes.others (TreeOf parent) (λ e. apart (let own : parent ≡ n = cc in own))
 
-  pub IsSettled-lowered : IsSettled after n
-  IsSettled-lowered =
+  pub IsWithinSeenParent-lowered : IsWithinSeenParent after n
+  IsWithinSeenParent-lowered =
       let small : parent < 2 ^ 18 = omega (arith, pair_low before parent lawful may.below.seen.written, lawful.run.marks) in
       let low : cost < 2 ^ 44 = omega (arith, may.cheaper, may.seen.cost_is, (lawful.pairs n may.seen.written).low) in
-      IsSettled-parent after after n parent cost (cost_seen after parent) (parent_seen after parent) may.at may.below.from goes_on.lawful (λ m. refl)
+      IsWithinSeenParent-parent after after n parent cost (cost_seen after parent) (parent_seen after parent) may.at may.below.from goes_on.lawful (λ m. refl)
       (record {
         written = omega (arith, writes.here);
         parent = sym (ap parent_in writes.here ∙ parent_in-tree_word parent cost small);

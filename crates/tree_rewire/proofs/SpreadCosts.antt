@@ -1,20 +1,34 @@
 -- Costs that fall come to the nodes below.
-use Rattle.std.proofs.Common.{◌≡◌, ◌≢◌, ◌⊎◌, ℕ, zero, suc, ◌+◌, ◌<◌, ◌≤◌, ◌^◌, List, [], Some, arith, inl, inr, refl, sym, ap, ◌∙◌, subst}
+use Rattle.std.proofs.Common.{◌≡◌, ◌≢◌, ◌⊎◌, ℕ, zero, suc, ◌+◌, ◌<◌, ◌≤◌, ◌^◌, List, [], Some, is_some, arith, inl, inr, refl, sym, ap, ◌∙◌, subst}
 use Rattle.std.proofs.lemmas.Bool.{cases_eq}
 use Rattle.plan_model.specs.Cost.{cost_of}
 use Rattle.plan_model.specs.PointsByNumber.{IsPresent, point_of}
 use Rattle.plan_words.specs.States.{GoesOn, PassState}
 use Rattle.plan_words.specs.Waiting.{HasSeenParent, IsOn}
 use Rattle.plan_words.proofs.GoingOn.{GoesOn-trans}
+use Rattle.step_core.specs.LaterViews.{IsLawfulView}
 use Rattle.step_core.specs.Views.{sees, tree_seen}
 use Rattle.step_core.specs.WordNames.Word.{TreeOf}
 use Rattle.step_core.specs.Words.{cost_in, parent_in}
 use Rattle.step_core.specs.declared.views.View.{View}
 use Rattle.step_core.proofs.SeenViews.{IsPresent-later}
 use Rattle.tree_rewire.specs.SeenCosts.{SeesPair, cost_seen, cost_through, parent_seen}
-use Rattle.tree_rewire.specs.Spreads.{HasFallen, HasSettledAll, HasSpread, IsSettled, IsSource, IsWithinParent, KeepsPairs, OnlyAt}
+use Rattle.tree_rewire.specs.Spreads.{HasFallen, HasSettledAll, HasSettledChanges, HasSpread, IsWithinSeenParent, IsSource, IsWithinParent, KeepsPairs, OnlyAt}
 use Rattle.tree_rewire.proofs.ChosenParents.{points_later}
 use Rattle.tree_rewire.proofs.SeenCosts.{SeesPair-later}
+
+-- ---- the start
+
+-- it is its own parent, and costs nothing
+pub IsWithinParent-start : (view : View) → IsLawfulView view → SeesPair view 0 → IsWithinParent view 0
+IsWithinParent-start view lawful written =
+    let start = (lawful.pairs 0 written).start refl in
+    let stands : IsPresent (tree_seen view).points 0 = ap is_some lawful.start in
+    record {
+      stands = stands;
+      parent_stands = subst (IsPresent (tree_seen view).points) (sym start.0) stands;
+      most = omega (arith, start.1);
+    }
 
 -- ---- what stays
 
@@ -41,9 +55,9 @@ IsWithinParent-later before after n goes_on same level h =
           ));
     }
 
-pub IsSettled-later : (before after : View) (n : ℕ) → GoesOn before after → sees after (TreeOf n) ≡ sees before (TreeOf n)
-    → sees after (TreeOf (parent_seen before n)) ≡ sees before (TreeOf (parent_seen before n)) → IsSettled before n → IsSettled after n
-IsSettled-later before after n goes_on same level settled seen =
+pub IsWithinSeenParent-later : (before after : View) (n : ℕ) → GoesOn before after → sees after (TreeOf n) ≡ sees before (TreeOf n)
+    → sees after (TreeOf (parent_seen before n)) ≡ sees before (TreeOf (parent_seen before n)) → IsWithinSeenParent before n → IsWithinSeenParent after n
+IsWithinSeenParent-later before after n goes_on same level settled seen =
     let parent : ℕ = parent_seen before n in
     let written : SeesPair before parent = subst (λ w. 2 ^ 63 ≤ w) level
     (subst (SeesPair after) (ap parent_in same) seen) in
@@ -95,9 +109,9 @@ weigh-falls (suc n) i before after low others falls =
 
 -- A node was taken off the list of those that wait, and then settled.
 module _ (before now popped after : PassState) (n : ℕ) (view_is : popped.view ≡ now.view) (around_is : after.around ≡ popped.around)
-    (goes_on : GoesOn now.view after.view) (same : KeepsPairs before.view now.view) (settled : IsSettled after.view n)
+    (goes_on : GoesOn now.view after.view) (same : KeepsPairs before.view now.view) (settled : IsWithinSeenParent after.view n)
     (waited : (m : ℕ) → IsOn now.around m → IsOn before.around m)
-    (rest : (m : ℕ) → IsOn before.around m → IsOn now.around m ⊎ IsSettled now.view m)
+    (rest : (m : ℕ) → IsOn before.around m → IsOn now.around m ⊎ IsWithinSeenParent now.view m)
     (keeps : (m : ℕ) → IsOn now.around m → IsOn popped.around m ⊎ (Some n ≡ Some m))
     (only : (m : ℕ) → IsOn popped.around m → IsOn now.around m) where
   pub waited_still : (m : ℕ) → IsOn after.around m → IsOn before.around m
@@ -114,14 +128,14 @@ module _ (before now popped after : PassState) (n : ℕ) (view_is : popped.view 
     others_now : OnlyAt n now.view after.view
     others_now m apart = others m apart ∙ ap (λ v. sees v (TreeOf m)) view_is
 
-    rest_fallen : (m : ℕ) → IsSettled now.view m → (parent_seen after.view m ≡ n) ⊎ IsSettled after.view m
+    rest_fallen : (m : ℕ) → IsWithinSeenParent now.view m → (parent_seen after.view m ≡ n) ⊎ IsWithinSeenParent after.view m
     rest_fallen m h = elim (cases_eq m n) [
-      | inl e ↦ inr (subst (IsSettled after.view) (sym e) settled)
+      | inl e ↦ inr (subst (IsWithinSeenParent after.view) (sym e) settled)
       | inr other ↦ elim (cases_eq (parent_seen after.view m) n) [
         | inl own ↦ inl own
         | inr apart ↦
             let level = others_now (parent_seen now.view m) (λ e. apart (ap parent_in (others_now m other) ∙ e)) in
-            inr (IsSettled-later now.view after.view m goes_on (others_now m other) level h)
+            inr (IsWithinSeenParent-later now.view after.view m goes_on (others_now m other) level h)
       ]
     ]
 
@@ -135,7 +149,7 @@ module _ (before now popped after : PassState) (n : ℕ) (view_is : popped.view 
       rest = λ m on. elim (rest m on) [
         | inl waits ↦ elim (waits_or_is m waits) [
           | inl still ↦ inl still
-          | inr is ↦ inr (inr (subst (IsSettled after.view) is settled))
+          | inr is ↦ inr (inr (subst (IsWithinSeenParent after.view) is settled))
         ]
         | inr h ↦ inr (rest_fallen m h)
       ];
@@ -149,21 +163,29 @@ module _ (before now popped after : PassState) (n : ℕ) (view_is : popped.view 
     pub same_still : KeepsPairs before.view after.view
     same_still m = stays_now m ∙ same m
 
-    pub rest_still : (m : ℕ) → IsOn before.around m → IsOn after.around m ⊎ IsSettled after.view m
+    pub rest_still : (m : ℕ) → IsOn before.around m → IsOn after.around m ⊎ IsWithinSeenParent after.view m
     rest_still m on = elim (rest m on) [
       | inl waits ↦ elim (waits_or_is m waits) [
         | inl still ↦ inl still
-        | inr is ↦ inr (subst (IsSettled after.view) is settled)
+        | inr is ↦ inr (subst (IsWithinSeenParent after.view) is settled)
       ]
-      | inr h ↦ inr (IsSettled-later now.view after.view m goes_on (stays_now m) (stays_now (parent_seen now.view m)) h)
+      | inr h ↦ inr (IsWithinSeenParent-later now.view after.view m goes_on (stays_now m) (stays_now (parent_seen now.view m)) h)
     ]
 
 -- ---- a spread
 
--- Each child of a source costs no more than through its parent, or it waits. All that wait are seen with their costs.
+-- A child that is seen with its parent and its cost, and is settled or waits.
+pub record IsLooked (now : View) (around : List ℕ) (c : ℕ) : Type 0 where
+  pub child : 0 < c
+  pub written : SeesPair now c
+  pub rest : IsWithinSeenParent now c ⊎ IsOn around c
+
+-- Each child of a source costs no more than through its parent, or it waits. Each node that is seen with another parent or cost is settled,
+-- or it waits. All that wait are seen with their costs.
 pub record IsSpreading (node : ℕ) (before now : View) (around : List ℕ) : Type 0 where
   pub given : SeesPair before node
   pub loose : (c : ℕ) → 0 < c → SeesPair before c → IsSource node before now (parent_seen now c) → IsWithinParent now c ⊎ IsOn around c
+  pub changed : (c : ℕ) → sees now (TreeOf c) ≢ sees before (TreeOf c) → IsLooked now around c
   pub waiting : (n : ℕ) → IsOn around n → SeesPair now n
 
 pub IsOn-none : (n : ℕ) → ¬ IsOn [] n
@@ -179,6 +201,7 @@ IsSpreading-begins node view around given all only = record {
     | inl e ↦ inr (all c (record { child = child; written = pair; parent = e }))
     | inr fell ↦ absurd (omega (arith, fell))
   ];
+  changed = λ c changed. absurd (changed refl);
   waiting = λ n on. elim (only n on) [
     | inl none ↦ absurd (IsOn-none n none)
     | inr own ↦ own.written
@@ -195,9 +218,15 @@ IsSpreading-falls node n before now mid around was goes_on fallen all keeps only
   loose = λ c child pair source. elim (cases_eq (parent_seen mid.view c) n) [
     | inl own ↦ inr (all c (record { child = child; written = SeesPair-later before mid.view whole c pair; parent = own }))
     | inr apart ↦ elim (cases_eq c n) [
-      | inl e ↦ inl (subst (IsSettled mid.view) (sym e) fallen.settled (source_seen node before mid.view (parent_seen mid.view c) whole h.given source))
+      | inl e ↦ inl (subst (IsWithinSeenParent mid.view) (sym e) fallen.settled
+          (source_seen node before mid.view (parent_seen mid.view c) whole h.given source))
       | inr other ↦ stays c child pair source apart other
     ]
+  ];
+  changed = λ c changed. elim (cases_eq c n) [
+    | inl e ↦ subst (IsLooked mid.view around) (sym e)
+        (record { child = lowest; written = SeesPair-later now.view mid.view goes_on n fallen.pair; rest = inl fallen.settled })
+    | inr other ↦ looked c other (h.changed c (λ e. changed (fallen.others c other ∙ e)))
   ];
   waiting = λ c on. elim (only c on) [
     | inl waited ↦ SeesPair-later now.view mid.view goes_on c (h.waiting c (fallen.waited c waited))
@@ -207,6 +236,37 @@ IsSpreading-falls node n before now mid around was goes_on fallen all keeps only
   where
     whole : GoesOn before mid.view
     whole = GoesOn-trans before now.view mid.view was goes_on
+
+    -- the start costs nothing, so it is another that fell
+    lowest : 0 < n
+    lowest = elim (cases_eq n 0) [
+      | inl e ↦ absurd (omega (arith, fallen.fell, ((goes_on.was_lawful.pairs n fallen.pair).start e).1))
+      | inr other ↦ omega (arith, other)
+    ]
+
+    -- a child of node n waits, and any other was looked at before
+    looked : (c : ℕ) → c ≢ n → IsLooked now.view now.around c → IsLooked mid.view around c
+    looked c other was =
+        let same = fallen.others c other in
+        let written = SeesPair-later now.view mid.view goes_on c was.written in
+        elim (cases_eq (parent_seen mid.view c) n) [
+          | inl own ↦ record { child = was.child; written = written; rest = inr (all c (record { child = was.child; written = written; parent = own })) }
+          | inr apart ↦ record {
+            child = was.child;
+            written = written;
+            rest = elim was.rest [
+              | inl settled ↦ inl (IsWithinSeenParent-later now.view mid.view c goes_on same
+                  (fallen.others (parent_seen now.view c) (λ e. apart (ap parent_in same ∙ e))) settled)
+              | inr on ↦ elim (fallen.rest c on) [
+                | inl still ↦ inr (keeps c still)
+                | inr others ↦ elim others [
+                  | inl own ↦ absurd (apart own)
+                  | inr settled ↦ inl settled
+                ]
+              ]
+            ];
+          }
+        ]
 
     stays : (c : ℕ) → 0 < c → SeesPair before c → IsSource node before mid.view (parent_seen mid.view c) → parent_seen mid.view c ≢ n → c ≢ n
         → IsWithinParent mid.view c ⊎ IsOn around c
@@ -233,17 +293,34 @@ IsSpreading-falls node n before now mid around was goes_on fallen all keeps only
 -- at last none waits
 pub HasSpread-ends : (node : ℕ) (before : View) (now after : PassState) → GoesOn before now.view → GoesOn now.view after.view → HasSettledAll now after
     → IsSpreading node before now.view now.around → HasSpread node before after.view
-HasSpread-ends node before now after was goes_on all h c child pair source =
+HasSpread-ends node before now after was goes_on all h c pair source =
+    elim (cases_eq c 0) [
+      | inl start ↦ subst (IsWithinParent after.view) (sym start) (IsWithinParent-start after.view goes_on.lawful
+          (subst (SeesPair after.view) start (SeesPair-later before after.view (GoesOn-trans before now.view after.view was goes_on) c pair)))
+      | inr other ↦ child (omega (arith, other))
+    ]
+  where
+    child : 0 < c → IsWithinParent after.view c
+    child below =
+        let same = all.same c in
+        let up : parent_seen after.view c ≡ parent_seen now.view c = ap parent_in same in
+        let level = all.same (parent_seen now.view c) in
+        let earlier : IsSource node before now.view (parent_seen now.view c) =
+        elim (subst (IsSource node before after.view) up source) [
+          | inl e ↦ inl e
+          | inr fell ↦ inr (omega (arith, fell, ap cost_in level))
+        ] in
+        elim (h.loose c below pair earlier) [
+          | inl within ↦ IsWithinParent-later now.view after.view c goes_on same level within
+          | inr on ↦ all.settled c on (source_seen node before after.view (parent_seen after.view c)
+              (GoesOn-trans before now.view after.view was goes_on) h.given source)
+        ]
+
+pub HasSettledChanges-ends : (node : ℕ) (before : View) (now after : PassState) → GoesOn now.view after.view → HasSettledAll now after
+    → IsSpreading node before now.view now.around → HasSettledChanges before after.view
+HasSettledChanges-ends node before now after goes_on all h c changed =
     let same = all.same c in
-    let up : parent_seen after.view c ≡ parent_seen now.view c = ap parent_in same in
-    let level = all.same (parent_seen now.view c) in
-    let earlier : IsSource node before now.view (parent_seen now.view c) =
-    elim (subst (IsSource node before after.view) up source) [
-      | inl e ↦ inl e
-      | inr fell ↦ inr (omega (arith, fell, ap cost_in level))
-    ] in
-    elim (h.loose c child pair earlier) [
-      | inl within ↦ IsWithinParent-later now.view after.view c goes_on same level within
-      | inr on ↦ all.settled c on (source_seen node before after.view (parent_seen after.view c)
-          (GoesOn-trans before now.view after.view was goes_on) h.given source)
+    elim (h.changed c (λ e. changed (same ∙ e))).rest [
+      | inl settled ↦ IsWithinSeenParent-later now.view after.view c goes_on same (all.same (parent_seen now.view c)) settled
+      | inr on ↦ all.settled c on
     ]

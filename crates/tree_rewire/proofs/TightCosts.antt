@@ -1,5 +1,5 @@
 -- The tree that a view with the whole share sees keeps the order law: so costs that are at most what they are through parents are exact.
-use Rattle.std.proofs.Common.{◌≡◌, ◌≢◌, ℕ, zero, suc, ◌+◌, ◌<◌, ◌≤◌, is_some, arith, inl, inr, refl, sym, ap, ◌∙◌, subst}
+use Rattle.std.proofs.Common.{◌≡◌, ◌≢◌, ℕ, zero, suc, ◌<◌, ◌≤◌, is_some, arith, inl, inr, sym, ap, ◌∙◌, subst}
 use Rattle.std.specs.Prelude.{unwrap_or}
 use Rattle.std.proofs.lemmas.Bool.{cases_eq, cases_lt}
 use Rattle.plan_model.specs.Cost.{cost_of}
@@ -59,7 +59,7 @@ module _ (node : ℕ) (before after : View) (lawful : IsLawfulView after)
   of_source : (n : ℕ) → 0 < n → SeesKnot after n → IsSource node before after (parent_seen after n)
       → cost_seen after n ≡ cost_through after (point_of (tree_seen after).points n) (parent_seen after n)
   of_source n child knot source =
-      let most = (spread n child (kept.written n knot.written) source).most in
+      let most = (spread n (kept.written n knot.written) source).most in
       omega (arith, most, cost_through-least after lawful order n child knot.stands)
 
   -- the parent of any other costs what it did, and so does the child

@@ -15,7 +15,7 @@ use Rattle.step_core.specs.declared.views.SharedRun.{SharedRun}
 use Rattle.step_core.specs.declared.views.View.{View}
 use Rattle.step_core.proofs.Looks.{same_name}
 use Rattle.step_core.proofs.PackedWords.{cost_in-tree_word, parent_in-tree_word}
-use Rattle.tree_rewire.specs.SeenCosts.{IsNoWord, IsTreeWord, SeesAnew, SeesPair, cost_seen, parent_seen}
+use Rattle.tree_rewire.specs.SeenCosts.{NamesNothing, NamesTree, SeesAnew, SeesPair, cost_seen, parent_seen}
 use Rattle.tree_rewire.specs.Spreads.{KeepsParents}
 use Rattle.tree_rewire.proofs.LoweredCosts.{WritesWord-lowered}
 use Rattle.tree_rewire.proofs.SeenCosts.{pair_low}
@@ -44,7 +44,7 @@ SeesAsBefore-loaded before after name value writes same other =
       | inr apart ↦ writes.others other apart
     ]
 
-pub SeesAsBefore-none : (before after : View) → SeesAnew IsNoWord before after → SeesAsBefore before after
+pub SeesAsBefore-none : (before after : View) → SeesAnew NamesNothing before after → SeesAsBefore before after
 SeesAsBefore-none before after steps name = steps.others name (λ no. no)
 
 -- ---- parents are kept
@@ -111,5 +111,5 @@ KeepsParents-lowered before after n parent cost lawful may is own = record { par
           | inr apart ↦ omega (arith, h, elsewhere m apart)
         ]
 
-    others : (name : Word) → ¬ IsTreeWord name → sees after name ≡ sees before name
-    others name off = writes.others name (λ e. off (subst IsTreeWord (sym e) tt))
+    others : (name : Word) → ¬ NamesTree name → sees after name ≡ sees before name
+    others name off = writes.others name (λ e. off (subst NamesTree (sym e) tt))

@@ -22,7 +22,7 @@ SeesPair view n = 2 ^ 63 ≤ sees view (TreeOf n)
 abbrev pub parent_seen : View → ℕ → ℕ
 parent_seen view n = parent_in (sees view (TreeOf n))
 
--- and the cost
+-- the cost that was seen of node n last
 abbrev pub cost_seen : View → ℕ → ℕ
 cost_seen view n = cost_in (sees view (TreeOf n))
 
@@ -41,25 +41,25 @@ pub record IsInReach (view : View) (p : Point) (n : ℕ) : Type 0 where
 
 -- ---- steps
 
--- no word
-abbrev pub IsNoWord : Word → Type 0
-IsNoWord name = ⊥
+-- the name is of no word
+abbrev pub NamesNothing : Word → Type 0
+NamesNothing name = ⊥
 
--- the words of parents and costs
-abbrev pub IsTreeWord : Word → Type 0
-IsTreeWord (TreeOf n) = Unit {0}
-IsTreeWord _ = ⊥
+-- the name is of a node's parent and cost
+abbrev pub NamesTree : Word → Type 0
+NamesTree (TreeOf n) = Unit {0}
+NamesTree _ = ⊥
 
--- those of points
-abbrev pub IsPointWord : Word → Type 0
-IsPointWord (PointOf n) = Unit {0}
-IsPointWord _ = ⊥
+-- the name is of a node's point
+abbrev pub NamesPoint : Word → Type 0
+NamesPoint (PointOf n) = Unit {0}
+NamesPoint _ = ⊥
 
--- and both
-abbrev pub IsTreeOrPoint : Word → Type 0
-IsTreeOrPoint (PointOf n) = Unit {0}
-IsTreeOrPoint (TreeOf n) = Unit {0}
-IsTreeOrPoint _ = ⊥
+-- the name is of either
+abbrev pub NamesTreeOrPoint : Word → Type 0
+NamesTreeOrPoint (PointOf n) = Unit {0}
+NamesTreeOrPoint (TreeOf n) = Unit {0}
+NamesTreeOrPoint _ = ⊥
 
 -- What was seen stays seen, and of all words none is seen anew but these. Share, limit and hand stay.
 pub record SeesAnew (which : Word → Type 0) (before after : View) : Type 0 where
@@ -76,6 +76,6 @@ pub record PassSees (which : Word → Type 0) (shared : SharedState) (before aft
 -- A pass of this tree sees parents, costs and points anew. Its near list and its spots stay.
 pub record PassLowers (shared : SharedState) (before after : PassState) : Type 0 where
   pub belongs : BelongsTo after shared
-  pub sees_anew : SeesAnew IsTreeOrPoint before.view after.view
+  pub sees_anew : SeesAnew NamesTreeOrPoint before.view after.view
   pub near : after.near ≡ before.near
   pub spots : after.spots ≡ before.spots

@@ -7,7 +7,7 @@ use Rattle.step_core.specs.Views.{sees, tree_seen}
 use Rattle.step_core.specs.WordNames.{ChangesOnly}
 use Rattle.step_core.specs.WordNames.Word.{TreeOf}
 use Rattle.step_core.specs.declared.views.View.{View}
-use Rattle.tree_rewire.specs.SeenCosts.{IsTreeWord, SeesPair, cost_seen, cost_through, parent_seen}
+use Rattle.tree_rewire.specs.SeenCosts.{NamesTree, SeesPair, cost_seen, cost_through, parent_seen}
 
 -- Node n and its parent are seen with their points, and it costs at most what it costs through its parent, as all this was seen last.
 pub record IsWithinParent (view : View) (n : ℕ) : Type 0 where
@@ -15,18 +15,22 @@ pub record IsWithinParent (view : View) (n : ℕ) : Type 0 where
   pub parent_stands : IsPresent (tree_seen view).points (parent_seen view n)
   pub most : cost_seen view n ≤ cost_through view (point_of (tree_seen view).points n) (parent_seen view n)
 
--- so it is, if its parent is seen with a cost
-abbrev pub IsSettled : View → ℕ → Type 0
-IsSettled view n = SeesPair view (parent_seen view n) → IsWithinParent view n
+-- node n is within its parent, if a cost of that parent was seen
+abbrev pub IsWithinSeenParent : View → ℕ → Type 0
+IsWithinSeenParent view n = SeesPair view (parent_seen view n) → IsWithinParent view n
 
 -- this node, or one whose seen cost fell
 abbrev pub IsSource : ℕ → View → View → ℕ → Type 0
 IsSource node before after n = (n ≡ node) ⊎ (cost_seen after n < cost_seen before n)
 
--- The children of the sources are within their parents, of all nodes that were seen with their parents before; node 0 is no child.
+-- The children of the sources are within their parents, of all nodes that were seen with their parents before. The start is its own.
 abbrev pub HasSpread : ℕ → View → View → Type 0
 HasSpread node before after =
-    (c : ℕ) → 0 < c → SeesPair before c → IsSource node before after (parent_seen after c) → IsWithinParent after c
+    (c : ℕ) → SeesPair before c → IsSource node before after (parent_seen after c) → IsWithinParent after c
+
+-- each node that is seen with another parent or cost is settled
+abbrev pub HasSettledChanges : View → View → Type 0
+HasSettledChanges before after = (n : ℕ) → sees after (TreeOf n) ≢ sees before (TreeOf n) → IsWithinSeenParent after n
 
 -- ---- exact costs
 
@@ -39,11 +43,11 @@ pub record SeesKnot (view : View) (n : ℕ) : Type 0 where
 abbrev pub IsTight : View → ℕ → Type 0
 IsTight view n = cost_seen view n ≡ cost_through view (point_of (tree_seen view).points n) (parent_seen view n)
 
--- each seen node does, but the start
+-- each node seen with its point and its cost, but the start, costs exactly its parent's cost and the edge
 abbrev pub AllTight : View → Type 0
 AllTight view = (n : ℕ) → 0 < n → SeesKnot view n → IsTight view n
 
--- and each but the start and the children of this node
+-- so does each but the start and the children of this node
 abbrev pub AllTightBut : ℕ → View → Type 0
 AllTightBut node view = (n : ℕ) → 0 < n → SeesKnot view n → parent_seen view n ≢ node → IsTight view n
 
@@ -52,7 +56,7 @@ pub record KeepsParents (before after : View) : Type 0 where
   pub parents : (n : ℕ) → parent_seen after n ≡ parent_seen before n
   pub costs : (n : ℕ) → cost_seen after n ≤ cost_seen before n
   pub written : (n : ℕ) → SeesPair after n → SeesPair before n
-  pub others : ChangesOnly IsTreeWord (sees before) (sees after)
+  pub others : ChangesOnly NamesTree (sees before) (sees after)
 
 -- ---- steps
 
@@ -60,7 +64,7 @@ pub record KeepsParents (before after : View) : Type 0 where
 abbrev pub OnlyAt : ℕ → View → View → Type 0
 OnlyAt n before after = (m : ℕ) → m ≢ n → sees after (TreeOf m) ≡ sees before (TreeOf m)
 
--- no node is
+-- no node is seen with another parent or cost
 abbrev pub KeepsPairs : View → View → Type 0
 KeepsPairs before after = (m : ℕ) → sees after (TreeOf m) ≡ sees before (TreeOf m)
 
@@ -73,13 +77,13 @@ SeesWaiting pass = (n : ℕ) → IsOn pass.around n → SeesPair pass.view n
 -- All that waited are settled, and no cost fell.
 pub record HasSettledAll (before after : PassState) : Type 0 where
   pub same : KeepsPairs before.view after.view
-  pub settled : (n : ℕ) → IsOn before.around n → IsSettled after.view n
+  pub settled : (n : ℕ) → IsOn before.around n → IsWithinSeenParent after.view n
 
 -- The cost of node n alone fell, and it is settled. Of those that waited each waits still, or is a child of node n, or is settled.
 pub record HasFallen (before after : PassState) (n : ℕ) : Type 0 where
   pub pair : SeesPair before.view n
   pub fell : cost_seen after.view n < cost_seen before.view n
   pub others : OnlyAt n before.view after.view
-  pub settled : IsSettled after.view n
+  pub settled : IsWithinSeenParent after.view n
   pub waited : (m : ℕ) → IsOn after.around m → IsOn before.around m
-  pub rest : (m : ℕ) → IsOn before.around m → IsOn after.around m ⊎ (parent_seen after.view m ≡ n) ⊎ IsSettled after.view m
+  pub rest : (m : ℕ) → IsOn before.around m → IsOn after.around m ⊎ (parent_seen after.view m ≡ n) ⊎ IsWithinSeenParent after.view m

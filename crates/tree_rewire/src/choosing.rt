@@ -14,7 +14,7 @@ ghost use Rattle.step_core.specs.LaterViews.{IsLawfulView};
 ghost use Rattle.step_core.specs.ViewTrees.{IsCostBelow};
 ghost use Rattle.step_core.specs.Views.{tree_seen};
 ghost use Rattle.tree_rewire.specs.Choices.{IsBetter};
-ghost use Rattle.tree_rewire.specs.SeenCosts.{IsInReach, IsLoadedSince, IsNoWord, IsTreeWord, PassSees, SeesAnew, SeesPair, cost_through};
+ghost use Rattle.tree_rewire.specs.SeenCosts.{IsInReach, IsLoadedSince, NamesNothing, NamesTree, PassSees, SeesAnew, SeesPair, cost_through};
 
 use crate::seen_costs::seen_cost;
 use edge_cost::Parent;
@@ -45,7 +45,7 @@ pub fn choose<C: Clearing>(
     requires clear { Clear (space_of shared.now.task.scene) (point_of (tree_seen pass.old.view).points nearest) p }
     requires near { All (IsInReach pass.old.view p) pass.old.near }
     ensures belongs { BelongsTo pass.new shared.now }
-    ensures seen { SeesAnew IsTreeWord pass.old.view pass.new.view }
+    ensures seen { SeesAnew NamesTree pass.old.view pass.new.view }
     ensures view_alone { pass.new ≡ with_view pass.old pass.new.view }
     ensures pairs { All (SeesPair pass.new.view) (nearest ∷ pass.old.near) }
     // each cost was loaded in this call
@@ -71,7 +71,7 @@ fn load_costs(shared: &Shared, pass: &mut Pass, nearest: u32, count: usize)
     requires count { count ≡ length pass.old.near }
     requires nearest { IsPresent (tree_seen pass.old.view).points nearest }
     requires near { All (IsPresent (tree_seen pass.old.view).points) pass.old.near }
-    ensures steps { PassSees IsTreeWord shared.now pass.old pass.new }
+    ensures steps { PassSees NamesTree shared.now pass.old pass.new }
     ensures pairs { All (SeesPair pass.new.view) (nearest ∷ pass.old.near) }
     ensures loaded { All (IsLoadedSince pass.old.view.steps pass.new.view) (nearest ∷ pass.old.near) }
     ensures whole { HasWholeShare pass.old.view → SeesAsBefore pass.old.view pass.new.view }
@@ -100,7 +100,7 @@ fn least<C: Clearing>(
     requires clear { Clear (C.space hall.now) (point_of (tree_seen pass.old.view).points nearest) p }
     requires near { All (IsPresent (tree_seen pass.old.view).points) pass.old.near }
     requires pairs { All (SeesPair pass.old.view) (nearest ∷ pass.old.near) }
-    ensures steps { PassSees IsNoWord shared.now pass.old pass.new }
+    ensures steps { PassSees NamesNothing shared.now pass.old pass.new }
     ensures least { IsLeastParent (cost_through pass.old.view p)
         (IsOpenTo (C.space hall.now) (tree_seen pass.old.view).points p (nearest ∷ pass.old.near)) result }
 {
@@ -119,7 +119,7 @@ fn as_parent(shared: &Shared, pass: &mut Pass, p: Point, node: u32) -> Parent
     requires bounded { IsBounded p }
     requires node { IsPresent (tree_seen pass.old.view).points node }
     requires pair { SeesPair pass.old.view node }
-    ensures steps { PassSees IsNoWord shared.now pass.old pass.new }
+    ensures steps { PassSees NamesNothing shared.now pass.old pass.new }
     ensures node { result.node ≡ node }
     ensures cost { result.cost ≡ cost_through pass.old.view p node }
 {
@@ -143,7 +143,7 @@ fn better<C: Clearing>(
     requires node { IsPresent (tree_seen pass.old.view).points node }
     requires pair { SeesPair pass.old.view node }
     requires best { best.cost ≡ cost_through pass.old.view p best.node }
-    ensures steps { PassSees IsNoWord shared.now pass.old pass.new }
+    ensures steps { PassSees NamesNothing shared.now pass.old pass.new }
     ensures better { IsBetter (C.space hall.now) pass.old.view p best node result }
 {
     let cost = seen_cost(pass, node);

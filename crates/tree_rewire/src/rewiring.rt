@@ -17,8 +17,9 @@ ghost use Rattle.step_core.specs.WordNames.{WritesWord};
 ghost use Rattle.step_core.specs.WordNames.Word.{TreeOf};
 ghost use Rattle.step_core.specs.Words.{tree_word};
 ghost use Rattle.tree_rewire.specs.Mirrors.{Mirrors};
-ghost use Rattle.tree_rewire.specs.Rewirings.{HasPlaced};
-ghost use Rattle.tree_rewire.specs.SeenCosts.{IsInReach, IsTreeOrPoint, IsTreeWord, PassLowers, PassSees, SeesAnew, SeesPair, cost_seen};
+ghost use Rattle.tree_rewire.specs.Rewirings.{HasPlaced, HasSpreadFalls};
+ghost use Rattle.tree_rewire.specs.SeenCosts.{IsInReach, NamesTreeOrPoint, NamesTree, PassLowers, PassSees, SeesAnew, SeesPair, cost_seen};
+ghost use Rattle.tree_rewire.specs.Spreads.{OnlyAt};
 
 use crate::seen_costs::seen_cost;
 use crate::spreading::spread;
@@ -41,13 +42,16 @@ pub fn rewire<C: Clearing>(shared: &Shared, pass: &mut Pass, hall: &C, k: u32)
     requires placed { IfSome pass.old.view.hand (λ hand. HasPlaced pass.old.view k hand) }
     requires near { IfSome pass.old.view.hand (λ hand. All (IsInReach pass.old.view hand.point) pass.old.near) }
     ensures belongs { BelongsTo pass.new shared.now }
-    ensures seen { SeesAnew IsTreeOrPoint pass.old.view pass.new.view }
+    ensures seen { SeesAnew NamesTreeOrPoint pass.old.view pass.new.view }
     ensures lists { (pass.new.near ≡ pass.old.near) × (pass.new.spots ≡ pass.old.spots) }
     ensures pairs { All (SeesPair pass.new.view) pass.old.near }
     // each near node with a clear edge costs no more than through the new node, by the cost that this was placed at
     ensures rewired { IfSome pass.old.view.hand (λ hand. (i : ℕ) → Contains pass.old.near i
         → Clear (space_of shared.now.task.scene) hand.point (point_of (tree_seen pass.old.view).points i)
         → cost_seen pass.new.view i ≤ hand.cost + cost_of hand.point (point_of (tree_seen pass.old.view).points i)) }
+    // each node whose cost fell, or whose parent's did, costs no more than through its parent, by what is seen then; of the near nodes
+    // to which the new one is a shortcut this is said only of those below it, as another pass may have lowered any other
+    ensures spread { HasSpreadFalls (space_of shared.now.task.scene) (Contains pass.old.near) (suc k) pass.old.view pass.new.view }
     // a pass with the whole share sees a tree, and then that tree rewired as in the textbook
     ensures whole { HasWholeShare pass.old.view → (tree : Nodes) → Mirrors pass.old.view tree
         → (after : Nodes) × Rewires (space_of shared.now.task.scene) tree (suc k) pass.old.near after × Mirrors pass.new.view after }
@@ -81,6 +85,7 @@ fn rewire_node<C: Clearing>(
     ensures rewired { Clear (C.space hall.now) from (point_of (tree_seen pass.old.view).points node)
         → cost_seen pass.new.view node
         ≤ cost_seen pass.old.view parent + cost_of from (point_of (tree_seen pass.old.view).points node) }
+    ensures spread { HasSpreadFalls (C.space hall.now) (λ n. n ≡ node) parent pass.old.view pass.new.view }
     ensures whole { HasWholeShare pass.old.view → (tree : Nodes) → Mirrors pass.old.view tree
         → (after : Nodes) × RewiresOne (C.space hall.now) tree parent node after × Mirrors pass.new.view after }
 {
@@ -98,9 +103,11 @@ fn known_cost(shared: &Shared, pass: &mut Pass, node: u32) -> u64
     requires belongs { BelongsTo pass.old shared.now }
     requires lawful { IsLawfulView pass.old.view }
     requires node { IsPresent (tree_seen pass.old.view).points node }
-    ensures steps { PassSees IsTreeWord shared.now pass.old pass.new }
+    ensures steps { PassSees NamesTree shared.now pass.old pass.new }
     ensures pair { SeesPair pass.new.view node }
     ensures cost { result ≡ cost_seen pass.new.view node }
+    // of a node that was seen with its cost nothing is seen anew
+    ensures kept { (n : ℕ) → SeesPair pass.old.view n → sees pass.new.view (TreeOf n) ≡ sees pass.old.view (TreeOf n) }
     ensures whole { HasWholeShare pass.old.view → SeesAsBefore pass.old.view pass.new.view }
 {
     if let Some((_, cost)) = pass.pair(node) {
@@ -122,7 +129,8 @@ fn improve(shared: &Shared, pass: &mut Pass, parent: u32, from: Point, node: u32
     requires edge { IsAllowedEdge (setup_in pass.old.view.run) from to }
     requires from { IsBounded from }
     requires to { IsBounded to }
-    ensures steps { PassSees IsTreeWord shared.now pass.old pass.new }
+    ensures steps { PassSees NamesTree shared.now pass.old pass.new }
+    ensures others { OnlyAt node pass.old.view pass.new.view }
     ensures most { cost_seen pass.new.view node ≤ cost_seen pass.old.view parent + cost_of from to }
     // a pass with the whole share lowers it once
     ensures whole { HasWholeShare pass.old.view → cost_seen pass.old.view parent + cost_of from to < cost_seen pass.old.view node

@@ -6,8 +6,9 @@ ghost use Rattle.plan_words.specs.States.{BelongsTo, HasWholeShare};
 ghost use Rattle.step_core.specs.LaterViews.{IsLawfulView};
 ghost use Rattle.step_core.specs.ViewTrees.{MayLower};
 ghost use Rattle.step_core.specs.Views.{share};
-ghost use Rattle.tree_rewire.specs.SeenCosts.{IsPointWord, IsTreeOrPoint, PassLowers, PassSees, SeesAnew, SeesPair, cost_seen, parent_seen};
-ghost use Rattle.tree_rewire.specs.Spreads.{AllTight, AllTightBut, HasFallen, HasSettledAll, HasSpread, IsSettled, KeepsPairs, KeepsParents, OnlyAt, SeesWaiting};
+ghost use Rattle.tree_rewire.specs.SeenCosts.{NamesPoint, NamesTreeOrPoint, PassLowers, PassSees, SeesAnew, SeesPair, cost_seen, parent_seen};
+ghost use Rattle.tree_rewire.specs.Spreads.{AllTight, AllTightBut, HasFallen, HasSettledAll, HasSettledChanges, HasSpread};
+ghost use Rattle.tree_rewire.specs.Spreads.{IsWithinSeenParent, KeepsPairs, KeepsParents, OnlyAt, SeesWaiting};
 
 use edge_cost::{cost, costs_less_through};
 use plan_words::{Pass, Shared};
@@ -23,10 +24,12 @@ pub fn spread(shared: &Shared, pass: &mut Pass, node: u32)
     requires part { 0 < share pass.old.view }
     requires pair { SeesPair pass.old.view node }
     ensures belongs { BelongsTo pass.new shared.now }
-    ensures seen { SeesAnew IsTreeOrPoint pass.old.view pass.new.view }
+    ensures seen { SeesAnew NamesTreeOrPoint pass.old.view pass.new.view }
     ensures lists { (pass.new.near ≡ pass.old.near) × (pass.new.spots ≡ pass.old.spots) }
     // by what is seen then, each child of the node, and of each node whose cost fell, costs no more than through its parent
     ensures spread { HasSpread node pass.old.view pass.new.view }
+    // and so does each node that is seen with another parent or cost, if its parent is seen with a cost
+    ensures settled { HasSettledChanges pass.old.view pass.new.view }
     // of a pass with the whole share each lower succeeds, so no parent changes
     ensures whole { HasWholeShare pass.old.view → KeepsParents pass.old.view pass.new.view }
     // and where all costs but those of the node's children were exact, all are
@@ -66,9 +69,9 @@ fn settle(shared: &Shared, pass: &mut Pass, node: u32) -> bool
     requires part { 0 < share pass.old.view }
     requires lawful { IsLawfulView pass.old.view }
     requires pair { SeesPair pass.old.view node }
-    ensures steps { PassSees IsTreeOrPoint shared.now pass.old pass.new }
+    ensures steps { PassSees NamesTreeOrPoint shared.now pass.old pass.new }
     ensures others { OnlyAt node pass.old.view pass.new.view }
-    ensures settled { IsSettled pass.new.view node }
+    ensures settled { IsWithinSeenParent pass.new.view node }
     ensures fell { IsTrue result → cost_seen pass.new.view node < cost_seen pass.old.view node }
     ensures same { IsFalse result → KeepsPairs pass.old.view pass.new.view }
     ensures whole { HasWholeShare pass.old.view → KeepsParents pass.old.view pass.new.view }
@@ -89,9 +92,9 @@ fn looser(shared: &Shared, pass: &mut Pass, node: u32) -> Option<(u32, u64)>
     requires belongs { BelongsTo pass.old shared.now }
     requires lawful { IsLawfulView pass.old.view }
     requires pair { SeesPair pass.old.view node }
-    ensures steps { PassSees IsPointWord shared.now pass.old pass.new }
+    ensures steps { PassSees NamesPoint shared.now pass.old pass.new }
     ensures some { IfSome result (λ lower. MayLower pass.new.view node lower.0 lower.1) }
-    ensures none { IfNone result (IsSettled pass.new.view node) }
+    ensures none { IfNone result (IsWithinSeenParent pass.new.view node) }
     ensures own_parent { IfSome result (λ lower. lower.0 ≡ parent_seen pass.new.view node) }
     ensures whole { HasWholeShare pass.old.view → SeesAsBefore pass.old.view pass.new.view }
 {

@@ -4,22 +4,21 @@ use Rattle.plan_model.proofs.SamePoints.{same_point-false, same_point-true}
 use Rattle.step_core.specs.ViewTrees.{SeesPoint}
 use Rattle.step_core.specs.WordNames.Word.{PointOf}
 use Rattle.step_core.specs.declared.views.Stage.TheVariants.{Treed}
-use Rattle.kd_shared.proofs.Finding.{IsFinding-begins, IsFinding-comes, IsFinding-depth, IsFinding-goes_on, IsFinding-leads}
+use Rattle.kd_shared.proofs.Finding.{IsFinding-come, IsFinding-comes, IsFinding-depth, IsFinding-goes_on, IsFinding-leads}
 use Rattle.kd_shared.proofs.PassLooks.{PassLooks-load, PassLooks-met, PassLooks-trans}
 use Rattle.kd_shared.proofs.LinkedSights.{IfSome-all, IfSome-free, IfSome-sees_linked}
 use Rattle.kd_shared.proofs.PlacedNodes.{GoesOnPlacing-looks, IfSome-kept, IfSome-leads, IfSome-placed}
 use Rattle.kd_shared.proofs.PlacedNodes.{IfSome-same, PassPlaces, PassPlaces-links, PassPlaces-looks}
 use Rattle.kd_shared.proofs.placing.place.Goals as goal
 
+-- the walk before has only looked
 pub depths-init : goal.depths-init
-depths-init c =
-    let first = PassLooks-load c.args.shared.now c.args.pass.now c.point-here.new.pass (PointOf 0) _ _ c.requires.belongs tt
-    c.point-here.ensures.view c.point-here.ensures.goes_on c.point-here.ensures.seen c.point-here.ensures.whole in
-    record {
-      passes = first;
-      walks = IsFinding-begins c.args.pass.now.view c.point-here.new.pass.view c.hand_point-p.result c.point-here.result first.looks
-          c.point-here.ensures.found;
-    }
+depths-init c = record {
+  passes = record { belongs = c.walk-stop.ensures.belongs; looks = c.walk-stop.ensures.looks; view_alone = c.walk-stop.ensures.view_alone };
+  walks =
+      IsFinding-come c.args.pass.now.view c.walk-stop.new.pass.view c.hand_point-p.result c.walk-stop.result.depth c.walk-stop.result.node
+      c.walk-stop.result.by_rows c.walk-stop.result.here c.walk-stop.ensures.looks c.walk-stop.ensures.come;
+}
 
 -- another node has the point
 pub returns-then-eq-clause-belongs : goal.returns-then-eq-clause-belongs
@@ -115,8 +114,8 @@ returns-in_default-clause-whole_seen c = λ all.
     c.in_default.ensures.view
 
 -- or a child is there
-pub point-here-requires-in-depths-clause-belongs : goal.point-here-requires-in-depths-clause-belongs
-point-here-requires-in-depths-clause-belongs c =
+pub point-here-requires-clause-belongs : goal.point-here-requires-clause-belongs
+point-here-requires-clause-belongs c =
     (PassLooks-met c.args.shared.now c.depths.pass c.link.new.pass c.depths.node c.goes_right.result c.in-Err.child
     c.depths.invariant.passes.belongs c.depths.invariant.walks.walk.seen c.in-Err.ensures.view_found c.link.ensures.goes_on
     c.in-Err.ensures.others_found c.in-Err.ensures.whole_found).belongs
@@ -126,16 +125,16 @@ depths-preserved c =
     let fails = PassLooks-met c.args.shared.now c.depths.pass c.link.new.pass c.depths.node c.goes_right.result c.in-Err.child
     c.depths.invariant.passes.belongs c.depths.invariant.walks.walk.seen c.in-Err.ensures.view_found c.link.ensures.goes_on
     c.in-Err.ensures.others_found c.in-Err.ensures.whole_found in
-    let look = PassLooks-load c.args.shared.now c.link.new.pass c.point-here-in-depths.new.pass (PointOf c.in-Err.child) _ _
-    fails.belongs tt c.point-here-in-depths.ensures.view c.point-here-in-depths.ensures.goes_on c.point-here-in-depths.ensures.seen
-    c.point-here-in-depths.ensures.whole in
+    let look = PassLooks-load c.args.shared.now c.link.new.pass c.point-here.new.pass (PointOf c.in-Err.child) _ _
+    fails.belongs tt c.point-here.ensures.view c.point-here.ensures.goes_on c.point-here.ensures.seen
+    c.point-here.ensures.whole in
     record {
-      passes = PassLooks-trans c.args.shared.now c.args.pass.now c.depths.pass c.point-here-in-depths.new.pass c.depths.invariant.passes
-          (PassLooks-trans c.args.shared.now c.depths.pass c.link.new.pass c.point-here-in-depths.new.pass fails look);
+      passes = PassLooks-trans c.args.shared.now c.args.pass.now c.depths.pass c.point-here.new.pass c.depths.invariant.passes
+          (PassLooks-trans c.args.shared.now c.depths.pass c.link.new.pass c.point-here.new.pass fails look);
       walks = IsFinding-goes_on c.args.pass.now.view c.depths.pass.view c.hand_point-p.result c.depths._depth c.depths.node c.depths.by_rows
           c.depths.here c.depths.invariant.walks (same_point-false c.depths.here c.hand_point-p.result (sym c.eq.ensures ∙ c.if-eq.false))
-          c.goes_right.result c.goes_right.ensures c.link.new.pass.view c.point-here-in-depths.new.pass.view c.in-Err.child (c.depths._depth + 1)
-          c.point-here-in-depths.result fails.looks c.in-Err.ensures.found.0 look.looks c.point-here-in-depths.ensures.found (omega arith);
+          c.goes_right.result c.goes_right.ensures c.link.new.pass.view c.point-here.new.pass.view c.in-Err.child (c.depths._depth + 1)
+          c.point-here.result fails.looks c.in-Err.ensures.found.0 look.looks c.point-here.ensures.found (omega arith);
     }
 
 pub unreachable-requires : goal.unreachable-requires

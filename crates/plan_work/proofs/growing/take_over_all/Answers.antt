@@ -48,7 +48,7 @@ others-preserved c =
         other ∷ taken,
         taken_next c.args.passes.items c.others.others.items other rest taken c.others.invariant.taken.1 split,
         HasTakenOver-more c.args.shared.now taken c.others.pass other c.join.new.pass takes may c.join.ensures.goes_on.later.seen c.join.ensures.others_seen
-            c.join.ensures.share (ap (λ (p : PassState). p.view.most) c.join.ensures.view.1),
+            c.join.ensures.share (ap (λ (p : PassState). p.view.most) c.join.ensures.view),
       );
       one = λ own is.
           absurd

@@ -9,7 +9,7 @@ use Rattle.plan_model.specs.PointsByNumber.{IsPresent, point_of}
 use Rattle.plan_words.proofs.GoingOn.{GoesOn-trans}
 use Rattle.step_core.specs.Views.{tree_seen}
 use Rattle.step_core.proofs.SeenViews.{IsPresent-later}
-use Rattle.tree_rewire.specs.SeenCosts.{IsInReach, IsNoWord, IsTreeWord, cost_through}
+use Rattle.tree_rewire.specs.SeenCosts.{IsInReach, NamesNothing, NamesTree, cost_through}
 use Rattle.tree_rewire.proofs.ChosenParents.{IsCostBelow-best, IsFirstLeast-after, points_later}
 use Rattle.tree_rewire.proofs.CostSteps.{PassSees-more, PassSees-trans, cost_through-same}
 use Rattle.tree_rewire.proofs.SeenCosts.{IsLoadedSince-later, SeesPair-later}
@@ -39,8 +39,8 @@ least-best-requires-clause-near g c κs within =
 
 pub returns-clause-seen : goal.returns-clause-seen
 returns-clause-seen g c =
-    (PassSees-trans IsTreeWord c.args.shared.now c.args.pass.now c.load_costs.new.pass c.least-best.new.pass c.load_costs.ensures.steps
-    (PassSees-more IsNoWord IsTreeWord c.args.shared.now c.load_costs.new.pass c.least-best.new.pass (λ name no. absurd no)
+    (PassSees-trans NamesTree c.args.shared.now c.args.pass.now c.load_costs.new.pass c.least-best.new.pass c.load_costs.ensures.steps
+    (PassSees-more NamesNothing NamesTree c.args.shared.now c.load_costs.new.pass c.least-best.new.pass (λ name no. absurd no)
     c.least-best.ensures.steps)).sees_anew
 
 pub returns-clause-loaded : goal.returns-clause-loaded

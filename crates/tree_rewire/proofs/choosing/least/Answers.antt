@@ -8,7 +8,7 @@ use Rattle.plan_model.specs.PointsByNumber.{IsPresent}
 use Rattle.plan_model.proofs.ParentChoices.{IsFirstLeast-alone}
 use Rattle.step_core.specs.Views.{tree_seen}
 use Rattle.step_core.proofs.SeenViews.{IsPresent-later}
-use Rattle.tree_rewire.specs.SeenCosts.{IsNoWord, SeesPair, cost_through}
+use Rattle.tree_rewire.specs.SeenCosts.{NamesNothing, SeesPair, cost_through}
 use Rattle.tree_rewire.proofs.ChosenParents.{IsLeastParent-better, near_read, take_read}
 use Rattle.tree_rewire.proofs.CostSteps.{PassSees-trans, cost_through-same}
 use Rattle.tree_rewire.proofs.SeenCosts.{SeesPair-later}
@@ -57,7 +57,7 @@ choices-preserved g c =
     let more = take_read near c.choices.pass.near c.choices.index c.near_node-node.result (ap (λ p. p.near) h.steps.view_alone)
     c.near_node-node.ensures in
     record {
-      steps = PassSees-trans IsNoWord c.args.shared.now c.args.pass.now c.choices.pass c.better-best.new.pass h.steps c.better-best.ensures.steps;
+      steps = PassSees-trans NamesNothing c.args.shared.now c.args.pass.now c.choices.pass c.better-best.new.pass h.steps c.better-best.ensures.steps;
       best = IsLeastParent-better (g.C.Clearing.space c.args.hall.now) c.args.pass.now.view c.choices.pass.view h.steps.sees_anew c.args.p
           (c.args.nearest ∷ take c.choices.index near) _ c.near_node-node.result c.choices.best c.better-best.result
           (ap (λ ns. c.args.nearest ∷ ns) more) h.best c.better-best.ensures.better;

@@ -6,7 +6,7 @@ use Rattle.plan_model.specs.PointsByNumber.{IsPresent}
 use Rattle.step_core.specs.Views.{tree_seen}
 use Rattle.step_core.specs.WordNames.Word.{TreeOf}
 use Rattle.step_core.proofs.SeenViews.{IsPresent-later}
-use Rattle.tree_rewire.specs.SeenCosts.{IsLoadedSince, IsTreeWord, SeesPair}
+use Rattle.tree_rewire.specs.SeenCosts.{IsLoadedSince, NamesTree, SeesPair}
 use Rattle.tree_rewire.proofs.ChosenParents.{All-more, near_read, take_read}
 use Rattle.tree_rewire.proofs.CostSteps.{IsLoadedSince-tree, PassSees-trans, PassSees-tree}
 use Rattle.tree_rewire.proofs.SeenCosts.{IsLoadedSince-later, SeesNode-present, SeesPair-later}
@@ -51,7 +51,7 @@ loads-preserved c =
     let here = IsLoadedSince-tree c.loads.pass then n _ steps.sees_anew.goes_on.lawful node load.view in
     let step = PassSees-tree c.args.shared.now c.loads.pass then n _ _ steps.belongs load.view load.goes_on load.seen in
     record {
-      steps = PassSees-trans IsTreeWord c.args.shared.now c.args.pass.now c.loads.pass then steps step;
+      steps = PassSees-trans NamesTree c.args.shared.now c.args.pass.now c.loads.pass then steps step;
       first = SeesPair-later c.loads.pass.view then.view load.goes_on c.args.nearest c.loads.invariant.first;
       first_loaded = IsLoadedSince-later c.loads.pass.view then.view load.goes_on c.args.pass.now.view.steps c.args.nearest later.steps
           c.loads.invariant.first_loaded;
@@ -65,7 +65,7 @@ loads-preserved c =
       whole = λ all.
           SeesAsBefore-trans c.args.pass.now.view c.loads.pass.view then.view (c.loads.invariant.whole all)
           (SeesAsBefore-loaded c.loads.pass.view then.view (TreeOf n) _ load.seen
-          (load.whole (HasWholeShare-later IsTreeWord c.args.pass.now.view c.loads.pass.view steps.sees_anew all)));
+          (load.whole (HasWholeShare-later NamesTree c.args.pass.now.view c.loads.pass.view steps.sees_anew all)));
     }
 
 pub returns-clause-pairs : goal.returns-clause-pairs

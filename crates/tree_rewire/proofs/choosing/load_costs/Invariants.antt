@@ -1,12 +1,12 @@
 use Rattle.std.proofs.Common.{All, take}
 use Rattle.plan_words.specs.Claims.{SeesAsBefore}
 use Rattle.plan_words.specs.States.{HasWholeShare}
-use Rattle.tree_rewire.specs.SeenCosts.{IsLoadedSince, IsTreeWord, PassSees, SeesPair}
+use Rattle.tree_rewire.specs.SeenCosts.{IsLoadedSince, NamesTree, PassSees, SeesPair}
 use Rattle.tree_rewire.proofs.choosing.load_costs.Given as goal
 
 abbrev pub invariant-loads : goal.invariant-loads
 invariant-loads l = record {
-  steps : PassSees IsTreeWord l.shared l.fn.pass l.pass;
+  steps : PassSees NamesTree l.shared l.fn.pass l.pass;
   first : SeesPair l.pass.view l.nearest;
   first_loaded : IsLoadedSince l.fn.pass.view.steps l.pass.view l.nearest;
   earlier : All (SeesPair l.pass.view) (take l.index l.fn.pass.near);

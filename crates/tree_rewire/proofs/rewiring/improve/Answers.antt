@@ -6,7 +6,7 @@ use Rattle.step_core.specs.ViewSteps.{lowered}
 use Rattle.step_core.specs.Views.{setup_in}
 use Rattle.step_core.specs.WordNames.Word.{TreeOf}
 use Rattle.step_core.specs.Words.{cost_in, tree_word}
-use Rattle.tree_rewire.specs.SeenCosts.{IsTreeWord, cost_seen}
+use Rattle.tree_rewire.specs.SeenCosts.{NamesTree, cost_seen}
 use Rattle.tree_rewire.proofs.CostSteps.{PassSees-lower, PassSees-refl, PassSees-trans}
 use Rattle.tree_rewire.proofs.LoweredCosts.{MayLower-less, WritesWord-lowered}
 use Rattle.tree_rewire.proofs.SeenCosts.{SeesPair-later, pair_low, stands_later}
@@ -19,7 +19,7 @@ put_cost parent cost small = omega (arith, small)
 
 pub lowers-init : goal.lowers-init
 lowers-init c = record {
-  steps = PassSees-refl IsTreeWord c.args.shared.now c.args.pass.now c.requires.belongs c.requires.lawful;
+  steps = PassSees-refl NamesTree c.args.shared.now c.args.pass.now c.requires.belongs c.requires.lawful;
   others = λ m apart. refl;
   pair = c.requires.pair;
   whole = λ all. inl (λ name. refl);
@@ -43,7 +43,7 @@ lowers-preserved c =
     let h = c.lowers.invariant in
     let lower = c.lower-found.ensures in
     record {
-      steps = PassSees-trans IsTreeWord c.args.shared.now c.args.pass.now c.lowers.pass c.lower-found.new.pass h.steps
+      steps = PassSees-trans NamesTree c.args.shared.now c.args.pass.now c.lowers.pass c.lower-found.new.pass h.steps
           (PassSees-lower c.args.shared.now c.lowers.pass c.lower-found.new.pass c.args.node c.args.parent _ _ _ c.lower-found.result h.steps.belongs
           lower.view lower.view_found lower.goes_on lower.seen);
       others = λ m apart. lower.seen.others (TreeOf m) (λ e. apart (let own : m ≡ c.args.node = cc in own)) ∙ h.others m apart;
@@ -57,7 +57,7 @@ lowers-preserved c =
           elim (h.whole all) [
             | inl same ↦
                 let is = on_ok c.lower-found.result (c.lower-found.new.pass ≡ with_view c.lowers.pass (lowered now c.args.node c.args.parent limit))
-                (lower.whole (HasWholeShare-later IsTreeWord before now h.steps.sees_anew all)) lower.view in
+                (lower.whole (HasWholeShare-later NamesTree before now h.steps.sees_anew all)) lower.view in
                 let writes = WritesWord-lowered now c.lower-found.new.pass.view c.args.node c.args.parent limit h.steps.sees_anew.goes_on.lawful h.pair
                 (ap (λ (p : PassState). p.view) is) in
                 inr (record {

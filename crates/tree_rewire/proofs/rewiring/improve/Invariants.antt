@@ -6,13 +6,13 @@ use Rattle.step_core.specs.Views.{sees}
 use Rattle.step_core.specs.WordNames.{WritesWord}
 use Rattle.step_core.specs.WordNames.Word.{TreeOf}
 use Rattle.step_core.specs.Words.{tree_word}
-use Rattle.tree_rewire.specs.SeenCosts.{IsTreeWord, PassSees, SeesPair, cost_seen}
+use Rattle.tree_rewire.specs.SeenCosts.{NamesTree, PassSees, SeesPair, cost_seen}
 use Rattle.tree_rewire.specs.Spreads.{OnlyAt}
 use Rattle.tree_rewire.proofs.rewiring.improve.Given as goal
 
 abbrev pub invariant-lowers : goal.invariant-lowers
 invariant-lowers l = record {
-  steps : PassSees IsTreeWord l.shared l.fn.pass l.pass;
+  steps : PassSees NamesTree l.shared l.fn.pass l.pass;
   others : OnlyAt l.node l.fn.pass.view l.pass.view;
   pair : SeesPair l.pass.view l.node;
   whole : HasWholeShare l.fn.pass.view → SeesAsBefore l.fn.pass.view l.pass.view

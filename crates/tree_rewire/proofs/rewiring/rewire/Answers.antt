@@ -1,16 +1,18 @@
-use Rattle.std.proofs.Common.{◌+◌, ◌≡◌, ℕ, List, [], arith, drop, refl, subst, suc, sym, take}
-use Rattle.std.specs.Prelude.{All}
+use Rattle.std.proofs.Common.{◌+◌, ◌≡◌, ℕ, List, [], ap, arith, drop, is_some, refl, subst, suc, sym, take}
+use Rattle.std.specs.Prelude.{All, Contains}
 use Rattle.std.proofs.lemmas.List.{drop_all, take_all}
-use Rattle.std.proofs.lemmas.List.Elements.{All-nil}
+use Rattle.std.proofs.lemmas.List.Elements.{All-contains_itself, All-nil}
 use Rattle.plan_model.specs.ConfigurationSpace.{space_of}
 use Rattle.plan_model.specs.Textbook.{Rewires}
 use Rattle.plan_words.proofs.HandSteps.{some_hand}
-use Rattle.tree_rewire.specs.SeenCosts.{IsInReach, IsTreeOrPoint, SeesPair, cost_seen}
+use Rattle.tree_rewire.specs.Rewirings.{HasSpreadFalls}
+use Rattle.tree_rewire.specs.SeenCosts.{IsInReach, NamesTreeOrPoint, SeesPair, cost_seen}
 use Rattle.tree_rewire.proofs.ChosenParents.{All-more, IsInReach-later, drop_read, near_read, take_read}
 use Rattle.tree_rewire.proofs.CostSteps.{PassLowers-lists, PassLowers-trans}
 use Rattle.tree_rewire.proofs.RewiredNodes.{IsRewired, IsRewired-later, IsRewired-looked, all_rewired, placed_near, placed_pair, placed_stands}
 use Rattle.tree_rewire.proofs.RewiredTrees.{IsRewiring-more}
 use Rattle.tree_rewire.proofs.SeenCosts.{SeesPair-later, stands_later}
+use Rattle.tree_rewire.proofs.SpreadFalls.{HasSpreadFalls-more, HasSpreadFalls-none}
 use Rattle.tree_rewire.proofs.WholeShares.{HasWholeShare-later}
 use Rattle.tree_rewire.proofs.rewiring.rewire.Given.{Over}
 use Rattle.tree_rewire.proofs.rewiring.rewire.Goals as goal
@@ -31,6 +33,7 @@ nodes-init g c =
     record {
       steps = PassLowers-lists c.args.shared.now pass pass c.requires.belongs c.near_count-count.ensures.lawful refl refl refl refl;
       earlier = All-nil (IsRewired (g.C.Clearing.space c.args.hall.now) pass.view pass.view c.hand_point-from.result (cost_seen pass.view (c.args.k + 1)));
+      spread = HasSpreadFalls-none (g.C.Clearing.space c.args.hall.now) (Contains pass.near) (c.args.k + 1) pass.view pass.view (λ n pair. refl);
       whole = λ all tree mirrors. record { now = tree; mirrors = mirrors; leads = λ last r. r };
     }
 
@@ -69,12 +72,19 @@ nodes-preserved g c =
           (IsRewired-looked space before c.nodes.pass.view new.view from (c.args.k + 1) n h.steps.sees_anew.goes_on
           (reach g (goal.at.nodes-preserved g c).After-near_node-node).present
           (placed_pair before c.args.k from held.0 held.1 c.requires.placed c.hand_point-from.ensures) done.pair done.rewired);
+      spread = HasSpreadFalls-more space (Contains c.args.pass.now.near) (c.args.k + 1) n before c.nodes.pass.view new.view
+          h.steps.sees_anew.goes_on done.steps.sees_anew.goes_on
+          (near_read (Contains c.args.pass.now.near) c.args.pass.now.near c.nodes.pass.near c.nodes.index n h.steps.near c.near_node-node.ensures
+          (All-contains_itself c.args.pass.now.near))
+          (reach g (goal.at.nodes-preserved g c).After-near_node-node).present
+          (ap is_some (placed_stands before c.args.k from held.0 held.1 c.requires.placed c.hand_point-from.ensures))
+          (placed_pair before c.args.k from held.0 held.1 c.requires.placed c.hand_point-from.ensures) h.spread done.spread;
       whole = λ all tree mirrors.
           let was = h.whole all tree mirrors in
           IsRewiring-more space tree (c.args.k + 1) n c.args.pass.now.near (drop c.nodes.index c.args.pass.now.near)
           (drop (c.nodes.index + 1) c.args.pass.now.near) c.nodes.pass.view new.view
           (drop_read c.args.pass.now.near c.nodes.pass.near c.nodes.index n h.steps.near c.near_node-node.ensures) was
-          (done.whole (HasWholeShare-later IsTreeOrPoint before c.nodes.pass.view h.steps.sees_anew all) was.now was.mirrors);
+          (done.whole (HasWholeShare-later NamesTreeOrPoint before c.nodes.pass.view h.steps.sees_anew all) was.now was.mirrors);
     }
 
 pub returns-clause-pairs : goal.returns-clause-pairs
@@ -93,6 +103,13 @@ returns-clause-rewired g c =
     all_rewired before c.args.k from held.0 held.1 c.requires.placed c.hand_point-from.ensures (space_of c.args.shared.now.task.scene)
     c.nodes.pass.view c.args.pass.now.near c.near_count-count.ensures.lawful
     (subst (All (IsRewired (space_of c.args.shared.now.task.scene) before c.nodes.pass.view from (cost_seen before (c.args.k + 1)))) all own)
+
+pub returns-clause-spread : goal.returns-clause-spread
+returns-clause-spread g c =
+    let next : c.args.k + 1 ≡ suc c.args.k = omega arith in
+    subst (λ s. HasSpreadFalls s (Contains c.args.pass.now.near) (suc c.args.k) c.args.pass.now.view c.nodes.pass.view) c.requires.hall
+    (subst (λ n. HasSpreadFalls (g.C.Clearing.space c.args.hall.now) (Contains c.args.pass.now.near) n c.args.pass.now.view c.nodes.pass.view) next
+    c.nodes.invariant.spread)
 
 pub returns-clause-whole : goal.returns-clause-whole
 returns-clause-whole g c =

@@ -1,4 +1,4 @@
-use Rattle.std.proofs.Common.{◌≡◌, ◌+◌, ◌*◌, ◌<◌, ◌≤◌, ap, arith, inl, inr, refl, subst, sym}
+use Rattle.std.proofs.Common.{◌≡◌, ◌≢◌, ℕ, ◌∙◌, ◌+◌, ◌*◌, ◌<◌, ◌≤◌, ap, arith, inl, inr, refl, subst, sym}
 use Rattle.std.proofs.lemmas.Bool.{cases_lt}
 use Rattle.plan_model.specs.Clearance.{Clear}
 use Rattle.plan_model.specs.Cost.{cost_of}
@@ -9,16 +9,18 @@ use Rattle.plan_model.proofs.NearNodes.{squared_distance-swap}
 use Rattle.plan_words.specs.Claims.{SeesAsBefore}
 use Rattle.plan_words.specs.States.{HasWholeShare}
 use Rattle.plan_words.proofs.GoingOn.{GoesOn-trans}
-use Rattle.step_core.specs.Views.{setup_in, tree_seen}
+use Rattle.step_core.specs.Views.{sees, setup_in, tree_seen}
 use Rattle.step_core.specs.WordNames.Word.{TreeOf}
 use Rattle.step_core.specs.Words.{cost_in}
 use Rattle.step_core.proofs.LawfulSights.{IsBounded-seen}
 use Rattle.step_core.proofs.SeenViews.{IsPresent-later}
-use Rattle.tree_rewire.specs.SeenCosts.{IsNoWord, IsTreeOrPoint, IsTreeWord, PassLowers, PassSees, cost_seen}
+use Rattle.tree_rewire.specs.SeenCosts.{NamesNothing, NamesTreeOrPoint, NamesTree, PassLowers, PassSees, SeesPair, cost_seen}
 use Rattle.tree_rewire.proofs.CostSteps.{PassLowers-sees, PassLowers-trans, PassSees-more, PassSees-point, PassSees-trans, TreeOrPoint-tree}
+use Rattle.tree_rewire.proofs.LoweredCosts.{IsWithinParent-below}
 use Rattle.tree_rewire.proofs.MirroredTrees.{Mirrors-same}
 use Rattle.tree_rewire.proofs.RewiredTrees.{AllTightBut-lowered, Clear-cheaper_through, IsCheaperThrough-seen, Mirrors-rewired, less-cheaper_through}
 use Rattle.tree_rewire.proofs.SeenCosts.{SeesPair-later, cost_seen-later, point_later, stands_later}
+use Rattle.tree_rewire.proofs.SpreadFalls.{HasSpreadFalls-none, HasSpreadFalls-turn, IsShortcut-seen}
 use Rattle.tree_rewire.proofs.WholeShares.{HasWholeShare-later, SeesAsBefore-none, SeesAsBefore-trans}
 use Rattle.tree_rewire.proofs.rewiring.rewire_node.Given.{Over}
 use Rattle.tree_rewire.proofs.rewiring.rewire_node.Goals as goal
@@ -27,7 +29,7 @@ use Rattle.tree_rewire.proofs.rewiring.rewire_node.Goals.{else-costs_less_throug
 use Rattle.tree_rewire.proofs.rewiring.rewire_node.Goals.{else-costs_less_through-via-else-costs_less_through}
 
 -- the point of the node is loaded again
-loads_point : (g : Over) (c : After-seen_cost g) → PassSees IsNoWord c.args.shared.now c.known_cost-kept_cost.new.pass c.point-to.new.pass
+loads_point : (g : Over) (c : After-seen_cost g) → PassSees NamesNothing c.args.shared.now c.known_cost-kept_cost.new.pass c.point-to.new.pass
 loads_point g c =
     let known = c.known_cost-kept_cost.ensures.steps in
     let later = known.sees_anew.goes_on.later in
@@ -36,16 +38,21 @@ loads_point g c =
     c.point-to.ensures.view c.point-to.ensures.goes_on c.point-to.ensures.seen
 
 -- its cost is known, and its point is loaded
-loads : (g : Over) (c : After-seen_cost g) → PassSees IsTreeWord c.args.shared.now c.args.pass.now c.point-to.new.pass
+loads : (g : Over) (c : After-seen_cost g) → PassSees NamesTree c.args.shared.now c.args.pass.now c.point-to.new.pass
 loads g c =
-    PassSees-trans IsTreeWord c.args.shared.now c.args.pass.now c.known_cost-kept_cost.new.pass c.point-to.new.pass c.known_cost-kept_cost.ensures.steps
-    (PassSees-more IsNoWord IsTreeWord c.args.shared.now c.known_cost-kept_cost.new.pass c.point-to.new.pass (λ name no. absurd no) (loads_point g c))
+    PassSees-trans NamesTree c.args.shared.now c.args.pass.now c.known_cost-kept_cost.new.pass c.point-to.new.pass c.known_cost-kept_cost.ensures.steps
+    (PassSees-more NamesNothing NamesTree c.args.shared.now c.known_cost-kept_cost.new.pass c.point-to.new.pass (λ name no. absurd no) (loads_point g c))
 
 -- a pass with the whole share sees nothing new by that
 loads_whole : (g : Over) (c : After-seen_cost g) → HasWholeShare c.args.pass.now.view → SeesAsBefore c.args.pass.now.view c.point-to.new.pass.view
 loads_whole g c all =
     SeesAsBefore-trans c.args.pass.now.view c.known_cost-kept_cost.new.pass.view c.point-to.new.pass.view (c.known_cost-kept_cost.ensures.whole all)
     (SeesAsBefore-none c.known_cost-kept_cost.new.pass.view c.point-to.new.pass.view (loads_point g c).sees_anew)
+
+-- and what was seen with a cost is seen as before
+loads_kept : (g : Over) (c : After-seen_cost g) → (n : ℕ) → SeesPair c.args.pass.now.view n
+    → sees c.point-to.new.pass.view (TreeOf n) ≡ sees c.args.pass.now.view (TreeOf n)
+loads_kept g c n pair = (loads_point g c).sees_anew.others (TreeOf n) (λ no. no) ∙ c.known_cost-kept_cost.ensures.kept n pair
 
 -- it is where it was seen
 to_is : (g : Over) (c : After-seen_cost g) → c.point-to.result ≡ point_of (tree_seen c.args.pass.now.view).points c.args.node
@@ -95,7 +102,7 @@ pub returns-then-clear-clause-steps : goal.returns-then-clear-clause-steps
 returns-then-clear-clause-steps g c =
     let to = (goal.at.returns-then-clear-clause-steps g c).After-seen_cost in
     let shared = c.args.shared.now in
-    let lowers = PassSees-trans IsTreeWord shared c.args.pass.now c.point-to.new.pass c.improve.new.pass (loads g to) c.improve.ensures.steps in
+    let lowers = PassSees-trans NamesTree shared c.args.pass.now c.point-to.new.pass c.improve.new.pass (loads g to) c.improve.ensures.steps in
     let spreads : PassLowers shared c.improve.new.pass c.spread.new.pass = record {
       belongs = c.spread.ensures.belongs;
       sees_anew = c.spread.ensures.seen;
@@ -104,7 +111,7 @@ returns-then-clear-clause-steps g c =
     } in
     PassLowers-trans shared c.args.pass.now c.improve.new.pass c.spread.new.pass
     (PassLowers-sees shared c.args.pass.now c.improve.new.pass
-    (PassSees-more IsTreeWord IsTreeOrPoint shared c.args.pass.now c.improve.new.pass TreeOrPoint-tree lowers))
+    (PassSees-more NamesTree NamesTreeOrPoint shared c.args.pass.now c.improve.new.pass TreeOrPoint-tree lowers))
     spreads
 
 pub returns-then-clear-clause-pair : goal.returns-then-clear-clause-pair
@@ -127,11 +134,50 @@ returns-then-clear-clause-rewired g c =
       ap (cost_of c.args.from) (to_is g to),
     )
 
+pub returns-then-clear-clause-spread : goal.returns-then-clear-clause-spread
+returns-then-clear-clause-spread g c =
+    let to = (goal.at.returns-then-clear-clause-spread g c).After-seen_cost in
+    let space = g.C.Clearing.space c.args.hall.now in
+    let start = c.args.pass.now.view in
+    let before = c.point-to.new.pass.view in
+    let mid = c.improve.new.pass.view in
+    let after = c.spread.new.pass.view in
+    let n = c.args.parent in
+    let i = c.args.node in
+    let from = c.args.from in
+    let at = c.point-to.result in
+    let improved = c.improve.ensures.steps.sees_anew.goes_on in
+    let spread = c.spread.ensures.seen.goes_on in
+    let to_mid = GoesOn-trans start before mid (loads g to).sees_anew.goes_on improved in
+    let kept_is : c.known_cost-kept_cost.result ≡ cost_seen before i =
+    omega (arith, c.known_cost-kept_cost.ensures.cost, ap cost_in ((loads_point g to).sees_anew.others (TreeOf i) (λ no. no))) in
+    let less : cost_seen before n + cost_of from at < cost_seen before i =
+    omega (arith, c.costs_less_through.ensures.0 c.if-costs_less_through.true, c.seen_cost.ensures, kept_is) in
+    let apart : n ≢ i = λ e. omega (arith, less, ap (cost_seen before) e) in
+    HasSpreadFalls-turn space n i start mid after to_mid spread (λ m pair other. c.improve.ensures.others m other ∙ loads_kept g to m pair)
+    (λ pair. IsShortcut-seen space start after n i from at (GoesOn-trans start mid after to_mid spread) c.requires.parent (to_is g to)
+    (c.clear.ensures.0 c.if-clear.true)
+    (omega (
+      arith,
+      less,
+      cost_seen-later start before (loads g to).sees_anew.goes_on i pair,
+      ap cost_in (c.improve.ensures.others n apart),
+      cost_seen-later mid after spread n (SeesPair-later start mid to_mid n c.requires.parent_pair),
+    )))
+    (λ own. IsWithinParent-below mid i n at from own (stands_later before mid improved i at c.point-to.ensures.found)
+    (stands_later start mid to_mid n from c.requires.parent) (omega (arith, c.improve.ensures.most, ap cost_in (c.improve.ensures.others n apart))))
+    c.spread.ensures.spread c.spread.ensures.settled
+
+pub returns-else-costs_less_through-clause-spread : goal.returns-else-costs_less_through-clause-spread
+returns-else-costs_less_through-clause-spread g c =
+    HasSpreadFalls-none (g.C.Clearing.space c.args.hall.now) (λ n. n ≡ c.args.node) c.args.parent c.args.pass.now.view c.point-to.new.pass.view
+    (loads_kept g (goal.at.returns-else-costs_less_through-clause-spread g c).After-seen_cost)
+
 pub returns-else-costs_less_through-clause-steps : goal.returns-else-costs_less_through-clause-steps
 returns-else-costs_less_through-clause-steps g c =
     let to = (goal.at.returns-else-costs_less_through-clause-steps g c).After-seen_cost in
     PassLowers-sees c.args.shared.now c.args.pass.now c.point-to.new.pass
-    (PassSees-more IsTreeWord IsTreeOrPoint c.args.shared.now c.args.pass.now c.point-to.new.pass TreeOrPoint-tree (loads g to))
+    (PassSees-more NamesTree NamesTreeOrPoint c.args.shared.now c.args.pass.now c.point-to.new.pass TreeOrPoint-tree (loads g to))
 
 pub returns-else-costs_less_through-clause-rewired : goal.returns-else-costs_less_through-clause-rewired
 returns-else-costs_less_through-clause-rewired g c =
@@ -182,9 +228,9 @@ returns-then-clear-clause-whole g c =
     ) in
     let lawful = loads.sees_anew.goes_on.lawful in
     λ all tree mirrors.
-    let all_before = HasWholeShare-later IsTreeWord start before loads.sees_anew all in
-    let all_mid = HasWholeShare-later IsTreeWord before mid improved all_before in
-    let all_after = HasWholeShare-later IsTreeOrPoint mid after spread all_mid in
+    let all_before = HasWholeShare-later NamesTree start before loads.sees_anew all in
+    let all_mid = HasWholeShare-later NamesTree before mid improved all_before in
+    let all_after = HasWholeShare-later NamesTreeOrPoint mid after spread all_mid in
     let same = Mirrors-same start before tree loads.sees_anew.goes_on.later (loads_whole g to all) mirrors in
     let writes = c.improve.ensures.whole all_before less in
     let tight = c.spread.ensures.whole_tight all_mid

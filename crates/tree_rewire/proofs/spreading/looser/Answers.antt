@@ -7,9 +7,9 @@ use Rattle.plan_words.specs.Parents.{IsPairIn}
 use Rattle.plan_words.specs.States.{HasWholeShare}
 use Rattle.step_core.specs.Views.{sees}
 use Rattle.step_core.specs.WordNames.Word.{PointOf, TreeOf}
-use Rattle.tree_rewire.specs.SeenCosts.{IsPointWord, PassSees}
+use Rattle.tree_rewire.specs.SeenCosts.{NamesPoint, PassSees}
 use Rattle.tree_rewire.proofs.CostSteps.{PassSees-any_point, PassSees-trans}
-use Rattle.tree_rewire.proofs.LoweredCosts.{IsSettled-parent, MayLower-parent}
+use Rattle.tree_rewire.proofs.LoweredCosts.{IsWithinSeenParent-parent, MayLower-parent}
 use Rattle.tree_rewire.proofs.SeenCosts.{pair_low, stands_later}
 use Rattle.tree_rewire.proofs.WholeShares.{HasWholeShare-later, SeesAsBefore-loaded, SeesAsBefore-trans}
 use Rattle.tree_rewire.proofs.spreading.looser.Goals as goal
@@ -19,13 +19,13 @@ pub pair-requires : goal.pair-requires
 pair-requires c = pair_low c.args.pass.now.view c.args.node c.requires.lawful c.requires.pair
 
 -- both points are loaded
-loads : (c : After-costs_less_through) → PassSees IsPointWord c.args.shared.now c.args.pass.now c.point-there.new.pass
+loads : (c : After-costs_less_through) → PassSees NamesPoint c.args.shared.now c.args.pass.now c.point-there.new.pass
 loads c =
     let one = PassSees-any_point c.args.shared.now c.args.pass.now c.point-here.new.pass c.args.node _ _ c.requires.belongs c.point-here.ensures.view
     c.point-here.ensures.goes_on c.point-here.ensures.seen in
     let other = PassSees-any_point c.args.shared.now c.point-here.new.pass c.point-there.new.pass c.unwrap-parent.result.0 _ _ one.belongs
     c.point-there.ensures.view c.point-there.ensures.goes_on c.point-there.ensures.seen in
-    PassSees-trans IsPointWord c.args.shared.now c.args.pass.now c.point-here.new.pass c.point-there.new.pass one other
+    PassSees-trans NamesPoint c.args.shared.now c.args.pass.now c.point-here.new.pass c.point-there.new.pass one other
 
 -- and a pass with the whole share finds them as it saw them
 loads_whole : (c : After-costs_less_through) → HasWholeShare c.args.pass.now.view → SeesAsBefore c.args.pass.now.view c.point-there.new.pass.view
@@ -38,7 +38,7 @@ loads_whole c all =
     SeesAsBefore-trans before mid after
     (SeesAsBefore-loaded before mid (PointOf c.args.node) _ c.point-here.ensures.seen (c.point-here.ensures.whole all))
     (SeesAsBefore-loaded mid after (PointOf c.unwrap-parent.result.0) _ c.point-there.ensures.seen
-    (c.point-there.ensures.whole (HasWholeShare-later IsPointWord before mid one.sees_anew all)))
+    (c.point-there.ensures.whole (HasWholeShare-later NamesPoint before mid one.sees_anew all)))
 
 pub returns-then-costs_less_through-clause-whole : goal.returns-then-costs_less_through-clause-whole
 returns-then-costs_less_through-clause-whole c = loads_whole (goal.at.returns-then-costs_less_through-clause-whole c).After-costs_less_through
@@ -68,7 +68,7 @@ returns-else-costs_less_through-clause-none c =
     let steps = loads (goal.at.returns-else-costs_less_through-clause-none c).After-costs_less_through in
     let new = c.point-there.new.pass.view in
     let pair = subst (λ o. IfSome o (IsPairIn (sees c.args.pass.now.view (TreeOf c.args.node)))) c.unwrap-parent.ensures c.pair.ensures.found in
-    IsSettled-parent c.args.pass.now.view new c.args.node c.unwrap-parent.result.0 c.unwrap-parent.result.1 c.in_ok-above.above _ c.point-here.result
+    IsWithinSeenParent-parent c.args.pass.now.view new c.args.node c.unwrap-parent.result.0 c.unwrap-parent.result.1 c.in_ok-above.above _ c.point-here.result
     c.point-there.result steps.sees_anew.goes_on.lawful (λ m. steps.sees_anew.others (TreeOf m) (λ no. no)) pair c.in_ok-above.ensures.found
     (stands_later c.point-here.new.pass.view new c.point-there.ensures.goes_on c.args.node c.point-here.result c.point-here.ensures.found)
     c.point-there.ensures.found

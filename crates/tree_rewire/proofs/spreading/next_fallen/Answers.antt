@@ -3,8 +3,8 @@ use Rattle.plan_words.specs.States.{HasWholeShare}
 use Rattle.plan_words.specs.Waiting.{IsOn}
 use Rattle.step_core.specs.Views.{sees}
 use Rattle.step_core.specs.WordNames.Word.{TreeOf}
-use Rattle.tree_rewire.specs.SeenCosts.{IsTreeOrPoint, PassLowers, SeesPair}
-use Rattle.tree_rewire.specs.Spreads.{IsSettled, KeepsParents}
+use Rattle.tree_rewire.specs.SeenCosts.{NamesTreeOrPoint, PassLowers, SeesPair}
+use Rattle.tree_rewire.specs.Spreads.{IsWithinSeenParent, KeepsParents}
 use Rattle.tree_rewire.proofs.CostSteps.{PassLowers-lists, PassLowers-sees, PassLowers-trans}
 use Rattle.tree_rewire.proofs.SeenCosts.{SeesPair-later}
 use Rattle.tree_rewire.proofs.SpreadCosts.{HasFallen-settles, IsOn-none, rest_still, same_still, waited_still}
@@ -37,7 +37,7 @@ settles_whole c all =
     let new = c.settle.new.pass.view in
     KeepsParents-trans c.args.pass.now.view c.visits.pass.view new (h.whole all)
     (subst (λ v. HasWholeShare v → KeepsParents v new) (ap (λ p. p.view) c.pop_waiting.ensures.others) c.settle.ensures.whole
-    (HasWholeShare-later IsTreeOrPoint c.args.pass.now.view c.visits.pass.view h.steps.sees_anew all))
+    (HasWholeShare-later NamesTreeOrPoint c.args.pass.now.view c.visits.pass.view h.steps.sees_anew all))
 
 pub returns-then-settle-clause-whole : goal.returns-then-settle-clause-whole
 returns-then-settle-clause-whole c = λ all. settles_whole (goal.at.returns-then-settle-clause-whole c).After-settle all
@@ -100,6 +100,6 @@ returns-clause-none c =
       same = λ m. ap (λ v. sees v (TreeOf m)) view_is ∙ h.same m;
       settled = λ m on. elim (h.rest m on) [
         | inl waits ↦ absurd (IsOn-none m (subst (λ ns. IsOn ns m) (c.pop_waiting.ensures.none c.in_default.is) waits))
-        | inr settled ↦ subst (λ v. IsSettled v m) (sym view_is) settled
+        | inr settled ↦ subst (λ v. IsWithinSeenParent v m) (sym view_is) settled
       ];
     }

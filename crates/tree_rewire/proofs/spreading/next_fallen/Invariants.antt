@@ -2,7 +2,7 @@ use Rattle.std.proofs.Common.{◌≡◌, ◌⊎◌, ℕ, true, length}
 use Rattle.plan_words.specs.States.{HasWholeShare}
 use Rattle.plan_words.specs.Waiting.{IsOn}
 use Rattle.tree_rewire.specs.SeenCosts.{PassLowers}
-use Rattle.tree_rewire.specs.Spreads.{IsSettled, KeepsPairs, KeepsParents}
+use Rattle.tree_rewire.specs.Spreads.{IsWithinSeenParent, KeepsPairs, KeepsParents}
 use Rattle.tree_rewire.proofs.spreading.next_fallen.Given as goal
 
 -- those that no longer wait are settled, and no cost fell
@@ -12,7 +12,7 @@ invariant-visits l = record {
   waits : l.pass.waits ≡ true;
   same : KeepsPairs l.fn.pass.view l.pass.view;
   waited : (m : ℕ) → IsOn l.pass.around m → IsOn l.fn.pass.around m;
-  rest : (m : ℕ) → IsOn l.fn.pass.around m → IsOn l.pass.around m ⊎ IsSettled l.pass.view m;
+  rest : (m : ℕ) → IsOn l.fn.pass.around m → IsOn l.pass.around m ⊎ IsWithinSeenParent l.pass.view m;
   whole : HasWholeShare l.fn.pass.view → KeepsParents l.fn.pass.view l.pass.view;
 }
 

@@ -4,25 +4,25 @@ use Rattle.step_core.specs.WordNames.Word.{TreeOf}
 use Rattle.step_core.specs.Words.{cost_in}
 use Rattle.plan_words.specs.Claims.{SeesAsBefore}
 use Rattle.plan_words.specs.States.{HasWholeShare, PassState}
-use Rattle.tree_rewire.specs.SeenCosts.{IsPointWord, IsTreeOrPoint, IsTreeWord, PassSees, cost_seen}
+use Rattle.tree_rewire.specs.SeenCosts.{NamesPoint, NamesTreeOrPoint, NamesTree, PassSees, cost_seen}
 use Rattle.tree_rewire.specs.Spreads.{OnlyAt}
 use Rattle.tree_rewire.proofs.CostSteps.{PassSees-lower, PassSees-more, PassSees-trans, TreeOrPoint-point, TreeOrPoint-tree}
-use Rattle.tree_rewire.proofs.LoweredCosts.{IsSettled-lowered}
+use Rattle.tree_rewire.proofs.LoweredCosts.{IsWithinSeenParent-lowered}
 use Rattle.tree_rewire.proofs.SeenCosts.{cost_seen-later}
 use Rattle.tree_rewire.proofs.WholeShares.{HasWholeShare-later, KeepsParents-lowered, KeepsParents-same, KeepsParents-trans, SeesAsBefore-trans}
 use Rattle.tree_rewire.proofs.spreading.settle.Goals as goal
 use Rattle.tree_rewire.proofs.spreading.settle.Goals.{After-looser, After-lower}
 
 -- the node's points are looked at, and its tree word is lowered or found lower
-all_steps : (c : After-lower) → PassSees IsTreeOrPoint c.args.shared.now c.args.pass.now c.lower.new.pass
+all_steps : (c : After-lower) → PassSees NamesTreeOrPoint c.args.shared.now c.args.pass.now c.lower.new.pass
 all_steps c =
     let shared = c.args.shared.now in
     let lower = c.lower.ensures in
     let looks = c.looser.ensures.steps in
-    PassSees-trans IsTreeOrPoint shared c.args.pass.now c.lowers.pass c.lower.new.pass c.lowers.invariant.steps
-    (PassSees-trans IsTreeOrPoint shared c.lowers.pass c.looser.new.pass c.lower.new.pass
-    (PassSees-more IsPointWord IsTreeOrPoint shared c.lowers.pass c.looser.new.pass TreeOrPoint-point looks)
-    (PassSees-more IsTreeWord IsTreeOrPoint shared c.looser.new.pass c.lower.new.pass TreeOrPoint-tree
+    PassSees-trans NamesTreeOrPoint shared c.args.pass.now c.lowers.pass c.lower.new.pass c.lowers.invariant.steps
+    (PassSees-trans NamesTreeOrPoint shared c.lowers.pass c.looser.new.pass c.lower.new.pass
+    (PassSees-more NamesPoint NamesTreeOrPoint shared c.lowers.pass c.looser.new.pass TreeOrPoint-point looks)
+    (PassSees-more NamesTree NamesTreeOrPoint shared c.looser.new.pass c.lower.new.pass TreeOrPoint-tree
     (PassSees-lower shared c.looser.new.pass c.lower.new.pass c.args.node c.in-Some.parent c.in-Some.cost _ _ c.lower.result looks.belongs lower.view
     lower.view_found lower.goes_on lower.seen)))
 
@@ -31,13 +31,13 @@ looked : (c : After-looser) → HasWholeShare c.args.pass.now.view → SeesAsBef
 looked c all =
     let h = c.lowers.invariant in
     SeesAsBefore-trans c.args.pass.now.view c.lowers.pass.view c.looser.new.pass.view (h.whole all)
-    (c.looser.ensures.whole (HasWholeShare-later IsTreeOrPoint c.args.pass.now.view c.lowers.pass.view h.steps.sees_anew all))
+    (c.looser.ensures.whole (HasWholeShare-later NamesTreeOrPoint c.args.pass.now.view c.lowers.pass.view h.steps.sees_anew all))
 
 -- and its share is whole then
 whole_then : (c : After-looser) → HasWholeShare c.args.pass.now.view → HasWholeShare c.looser.new.pass.view
 whole_then c all =
-    HasWholeShare-later IsPointWord c.lowers.pass.view c.looser.new.pass.view c.looser.ensures.steps.sees_anew
-    (HasWholeShare-later IsTreeOrPoint c.args.pass.now.view c.lowers.pass.view c.lowers.invariant.steps.sees_anew all)
+    HasWholeShare-later NamesPoint c.lowers.pass.view c.looser.new.pass.view c.looser.ensures.steps.sees_anew
+    (HasWholeShare-later NamesTreeOrPoint c.args.pass.now.view c.lowers.pass.view c.lowers.invariant.steps.sees_anew all)
 
 only_here : (c : After-lower) → OnlyAt c.args.node c.args.pass.now.view c.lower.new.pass.view
 only_here c m apart =
@@ -82,7 +82,7 @@ returns-in-Ok-clause-others c = only_here (goal.at.returns-in-Ok-clause-others c
 pub returns-in-Ok-clause-settled : goal.returns-in-Ok-clause-settled
 returns-in-Ok-clause-settled c =
     let looser = c.looser.ensures in
-    IsSettled-lowered c.looser.new.pass.view c.lower.new.pass.view c.args.node c.in-Some.parent c.in-Some.cost looser.steps.sees_anew.goes_on.lawful
+    IsWithinSeenParent-lowered c.looser.new.pass.view c.lower.new.pass.view c.args.node c.in-Some.parent c.in-Some.cost looser.steps.sees_anew.goes_on.lawful
     c.in-Some.ensures.some (ap (λ (p : PassState). p.view) c.in-Ok.ensures.view) c.lower.ensures.goes_on
 
 pub returns-in-Ok-clause-fell : goal.returns-in-Ok-clause-fell
@@ -105,5 +105,5 @@ returns-clause-whole c =
 
 pub returns-clause-steps : goal.returns-clause-steps
 returns-clause-steps c =
-    PassSees-trans IsTreeOrPoint c.args.shared.now c.args.pass.now c.lowers.pass c.looser.new.pass c.lowers.invariant.steps
-    (PassSees-more IsPointWord IsTreeOrPoint c.args.shared.now c.lowers.pass c.looser.new.pass TreeOrPoint-point c.looser.ensures.steps)
+    PassSees-trans NamesTreeOrPoint c.args.shared.now c.args.pass.now c.lowers.pass c.looser.new.pass c.lowers.invariant.steps
+    (PassSees-more NamesPoint NamesTreeOrPoint c.args.shared.now c.lowers.pass c.looser.new.pass TreeOrPoint-point c.looser.ensures.steps)

@@ -2,11 +2,11 @@ use Rattle.std.proofs.Common.{◌≡◌, ◌⊎◌, ◌≤◌, ◌<◌, ◌+◌,
 use Rattle.plan_words.specs.States.{HasWholeShare}
 use Rattle.plan_words.specs.Waiting.{HasSeenParent, IsOn}
 use Rattle.step_core.specs.LaterViews.{IsLawfulView}
-use Rattle.tree_rewire.specs.SeenCosts.{IsTreeOrPoint, SeesPair}
+use Rattle.tree_rewire.specs.SeenCosts.{NamesTreeOrPoint, SeesPair}
 use Rattle.tree_rewire.specs.Spreads.{KeepsParents}
 use Rattle.tree_rewire.proofs.CostSteps.{PassLowers-lists, PassLowers-trans}
 use Rattle.tree_rewire.proofs.SeenCosts.{pair_low}
-use Rattle.tree_rewire.proofs.SpreadCosts.{HasSpread-ends, IsSpreading, IsSpreading-begins, IsSpreading-falls, weigh, weigh-falls}
+use Rattle.tree_rewire.proofs.SpreadCosts.{HasSettledChanges-ends, HasSpread-ends, IsSpreading, IsSpreading-begins, IsSpreading-falls, weigh, weigh-falls}
 use Rattle.tree_rewire.proofs.TightCosts.{AllTight-spread}
 use Rattle.tree_rewire.proofs.WholeShares.{HasWholeShare-later, KeepsParents-same, KeepsParents-trans}
 use Rattle.tree_rewire.proofs.spreading.spread.Goals as goal
@@ -22,7 +22,7 @@ falls_whole : (c : After-next_fallen) → HasWholeShare c.args.pass.now.view →
 falls_whole c all =
     let h = c.falls.invariant in
     KeepsParents-trans c.args.pass.now.view c.falls.pass.view c.next_fallen.new.pass.view (h.whole all)
-    (c.next_fallen.ensures.whole (HasWholeShare-later IsTreeOrPoint c.args.pass.now.view c.falls.pass.view h.steps.sees_anew all))
+    (c.next_fallen.ensures.whole (HasWholeShare-later NamesTreeOrPoint c.args.pass.now.view c.falls.pass.view h.steps.sees_anew all))
 
 pub falls-init : goal.falls-init
 falls-init c =
@@ -96,6 +96,11 @@ returns-clause-spread c =
     HasSpread-ends c.args.node c.args.pass.now.view c.falls.pass c.next_fallen.new.pass c.falls.invariant.steps.sees_anew.goes_on
     c.next_fallen.ensures.steps.sees_anew.goes_on c.in_default.ensures.none c.falls.invariant.spreads
 
+pub returns-clause-settled : goal.returns-clause-settled
+returns-clause-settled c =
+    HasSettledChanges-ends c.args.node c.args.pass.now.view c.falls.pass c.next_fallen.new.pass c.next_fallen.ensures.steps.sees_anew.goes_on
+    c.in_default.ensures.none c.falls.invariant.spreads
+
 pub returns-clause-whole : goal.returns-clause-whole
 returns-clause-whole c = λ all. falls_whole (goal.at.returns-clause-whole c).After-next_fallen all
 
@@ -109,5 +114,5 @@ returns-clause-whole_tight c =
     c.next_fallen.ensures.steps.sees_anew.goes_on c.in_default.ensures.none c.falls.invariant.spreads in
     λ all tight.
     AllTight-spread c.args.node old.view new.view goes_on.lawful
-    (goes_on.lawful.whole (HasWholeShare-later IsTreeOrPoint old.view new.view steps.sees_anew all)) goes_on.later
+    (goes_on.lawful.whole (HasWholeShare-later NamesTreeOrPoint old.view new.view steps.sees_anew all)) goes_on.later
     (falls_whole (goal.at.returns-clause-whole_tight c).After-next_fallen all) spread tight

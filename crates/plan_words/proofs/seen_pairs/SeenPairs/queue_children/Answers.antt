@@ -1,6 +1,6 @@
 use Rattle.std.proofs.Common.{◌+◌, ◌<◌, suc, length, refl, sym, ap, ◌∙◌, subst, arith}
 use Rattle.std.proofs.lemmas.List.{get_or_default}
-use Rattle.plan_words.specs.Chains.{chain_in}
+use Rattle.plan_words.specs.Chains.{sibling_chain_in}
 use Rattle.plan_words.specs.Waiting.{WaitingState}
 use Rattle.plan_words.proofs.ChainWalks.{IsWalk, IsWalk-all, IsWalk-ends, IsWalk-start, IsWalk-step}
 use Rattle.plan_words.proofs.seen_pairs.SeenPairs.queue_children.Goals as goal
@@ -16,9 +16,11 @@ loop-init c =
       walk =
           subst
           (λ n.
-          IsWalk 0 (length words) (chain_in words) lists.first.items lists.next.items lists.previous.items (suc c.args.parent) n c.args.waiting.now.nodes
+          IsWalk 0 (length words) (sibling_chain_in words) lists.first.items lists.next.items lists.previous.items
+          (suc c.args.parent) n c.args.waiting.now.nodes
           c.args.waiting.now.nodes) (sym first)
-          (IsWalk-start (length words) (chain_in words) lists.first.items lists.next.items lists.previous.items c.args.parent c.args.waiting.now.nodes index);
+          (IsWalk-start (length words) (sibling_chain_in words) lists.first.items lists.next.items lists.previous.items
+          c.args.parent c.args.waiting.now.nodes index);
       kept = refl;
     }
 
@@ -37,9 +39,9 @@ loop-preserved c =
       walk =
           subst
           (λ n.
-          IsWalk (c.loop.counter + 1) (length words) (chain_in words) lists.first.items lists.next.items lists.previous.items (suc c.args.parent) n
+          IsWalk (c.loop.counter + 1) (length words) (sibling_chain_in words) lists.first.items lists.next.items lists.previous.items (suc c.args.parent) n
           c.args.waiting.now.nodes c.push.new.self.nodes) (sym next)
-          (IsWalk-step c.loop.counter (length words) (chain_in words) lists.first.items lists.next.items lists.previous.items (suc c.args.parent) child
+          (IsWalk-step c.loop.counter (length words) (sibling_chain_in words) lists.first.items lists.next.items lists.previous.items (suc c.args.parent) child
           c.args.waiting.now.nodes c.loop.waiting.nodes c.push.new.self.nodes walk (omega arith) some pushed.here pushed.keeps pushed.only);
       kept = pushed.kept ∙ ap {A = WaitingState} (λ w. record w { nodes = c.push.new.self.nodes }) c.loop.invariant.kept;
     }
@@ -48,4 +50,4 @@ pub returns-clause-all : goal.returns-clause-all
 returns-clause-all c n e =
     let walk = c.loop.invariant.walk in
     let end = IsWalk-ends _ _ _ _ _ _ _ _ _ _ walk (omega arith) (omega (arith, c.loop-test.false, c.len-end.ensures)) in
-    IsWalk-all _ _ _ _ _ _ _ _ _ _ walk end n (ap (λ l. chain_in l n) c.self.view_is ∙ e)
+    IsWalk-all _ _ _ _ _ _ _ _ _ _ walk end n (ap (λ l. sibling_chain_in l n) c.self.view_is ∙ e)

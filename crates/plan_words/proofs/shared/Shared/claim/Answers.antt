@@ -122,7 +122,7 @@ returns-then-exchange-from-clause-whole_some c all =
     (c.if-exchange-from.true ∙ c.from.ensures) c.exchange.ensures.seen
 
 pub returns-then-exchange-from-clause-least : goal.returns-then-exchange-from-clause-least
-returns-then-exchange-from-clause-least c all one =
+returns-then-exchange-from-clause-least c all own =
     let kept = c.tries.invariant in
     let scan = c.in_ok-next.ensures in
     let next = c.in_ok-next.next in
@@ -130,7 +130,7 @@ returns-then-exchange-from-clause-least c all one =
     let as_before =
     whole_twice c.args.pass.now.view c.tries.pass.view c.first_open.new.pass.view kept.kept kept.later.run kept.whole c.first_open.ensures.whole all in
     IsLeastOpen-first _ _ c.args.limit next.strip next.round c.args.pass.now.view c.first_open.new.pass (ap (λ s. s.task.scene.strips) c.self.view_is)
-    c.first_open.ensures.belongs (c.first_open.ensures.goes_on.later.run ∙ kept.later.run) as_before open_next one
+    c.first_open.ensures.belongs (c.first_open.ensures.goes_on.later.run ∙ kept.later.run) as_before open_next own
 
 pub returns-in_err-next-clause-view_alone : goal.returns-in_err-next-clause-view_alone
 returns-in_err-next-clause-view_alone c =

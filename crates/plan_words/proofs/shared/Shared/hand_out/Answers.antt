@@ -30,8 +30,8 @@ pub loop-worker-preserved : goal.loop-worker-preserved
 loop-worker-preserved c =
     let low : c.loop-worker.worker < c.args.self.now.workers = omega (arith, c.loop-worker-test.true, ap (λ s. s.workers) c.self.view_is) in
     let kept = c.loop-worker.invariant in
-    let told = c.in_ok-hand_on.ensures in
-    let other = c.in_ok-hand_on.field-0 in
+    let told = c.in_ok-pass.ensures in
+    let other = c.in_ok-pass.pass in
     let pushed = c.in_ok-push.ensures.items in
     let own = IsPassOf-next c.args.self.now c.args.first c.loop-worker.worker c.loop-worker.first kept.stands other low told.right in
     record {

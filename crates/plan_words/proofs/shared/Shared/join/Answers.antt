@@ -1,6 +1,6 @@
-use Rattle.std.proofs.Common.{◌≡◌, ◌+◌, None, length, ap, subst, sym, ◌∙◌}
+use Rattle.std.proofs.Common.{◌≡◌, ◌+◌, None, length, refl, ap, subst, sym, ◌∙◌}
 use Rattle.std.specs.Prelude.{is_some, not}
-use Rattle.plan_words.proofs.Joining.{GoesOn-taken_over, first-own, first-theirs, keeps_taken_over, none-member}
+use Rattle.plan_words.proofs.Joining.{AreBehind-taken_over, GoesOn-taken_over, first-own, first-theirs, keeps_taken_over, none-member, with_view-taken_over}
 use Rattle.plan_words.proofs.Owning.{may_load_here, may_take_over_here, same_run, same_table}
 use Rattle.plan_words.proofs.SeenChildren.{HasParentsBelow-seen}
 use Rattle.plan_words.proofs.shared.Shared.join.Goals as goal
@@ -33,6 +33,36 @@ pub returns-clause-goes_on : goal.returns-clause-goes_on
 returns-clause-goes_on c =
     GoesOn-taken_over _ _ c.other.inside.seat.me.0 c.pass.inside.seat.me _ _ c.pass.invariant.1.lawful c.pass.view_is c.join_seat.ensures.2
     c.load-count.ensures.2.told
+
+pub returns-then-is_none-clause-view : goal.returns-then-is_none-clause-view
+returns-then-is_none-clause-view c =
+    with_view-taken_over _ _ _ _ _ c.pass.inside.seat.me c.join_seat.new.seat.me c.load-count.new.seat.me _ _ c.pass.view_is c.other.view_is
+    (c.load-count.ensures.0 ∙ c.join_seat.ensures.0) c.join_seat.ensures.2 c.load-count.ensures.2.told c.count.ensures
+
+pub returns-then-is_none-clause-others_seen : goal.returns-then-is_none-clause-others_seen
+returns-then-is_none-clause-others_seen c =
+    let own = same_run _ _ _ _ c.pass.view_is c.self.view_is c.requires.belongs in
+    let own_too = same_run _ _ _ _ c.other.view_is c.self.view_is c.requires.belongs_too in
+    AreBehind-taken_over c.pass.inside.seat.me.0 _ _ c.pass.inside.seat.me c.join_seat.new.seat.me c.load-count.new.seat.me c.other.view_is (own_too ∙ sym own)
+    c.join_seat.ensures.2 c.load-count.ensures.2.told refl
+
+pub returns-then-is_none-clause-count : goal.returns-then-is_none-clause-count
+returns-then-is_none-clause-count c = ((returns-then-is_none-clause-goes_on c).later.seen Count, returns-then-is_none-clause-others_seen c Count)
+
+pub returns-clause-view : goal.returns-clause-view
+returns-clause-view c =
+    with_view-taken_over _ _ _ _ _ c.pass.inside.seat.me c.join_seat.new.seat.me c.load-count.new.seat.me _ _ c.pass.view_is c.other.view_is
+    (c.load-count.ensures.0 ∙ c.join_seat.ensures.0) c.join_seat.ensures.2 c.load-count.ensures.2.told c.count.ensures
+
+pub returns-clause-others_seen : goal.returns-clause-others_seen
+returns-clause-others_seen c =
+    let own = same_run _ _ _ _ c.pass.view_is c.self.view_is c.requires.belongs in
+    let own_too = same_run _ _ _ _ c.other.view_is c.self.view_is c.requires.belongs_too in
+    AreBehind-taken_over c.pass.inside.seat.me.0 _ _ c.pass.inside.seat.me c.join_seat.new.seat.me c.load-count.new.seat.me c.other.view_is (own_too ∙ sym own)
+    c.join_seat.ensures.2 c.load-count.ensures.2.told refl
+
+pub returns-clause-count : goal.returns-clause-count
+returns-clause-count c = ((returns-clause-goes_on c).later.seen Count, returns-clause-others_seen c Count)
 
 pub take_cheaper-requires-clause-sized : goal.take_cheaper-requires-clause-sized
 take_cheaper-requires-clause-sized c =

@@ -1,5 +1,6 @@
 use Rattle.std.proofs.Common.{◌≢◌, ap, arith, subst, sym, ◌∙◌}
 use Rattle.std.specs.Prelude.{is_some}
+use Rattle.plan_words.proofs.LookedNodes.{IsEdgeSeen-pair}
 use Rattle.plan_words.proofs.LoweredNodes.{found_less, found_pair, found_pass, found_writes, lowered_less, lowered_pass, lowered_writes}
 use Rattle.plan_words.proofs.shared.Shared.lower.Goals as goal
 use Rattle.step_core.specs.LaterViews.{IsLawfulView}
@@ -68,6 +69,9 @@ returns-clause-found c =
     found_pair _ _ c.args.node c.args.parent c.args.cost _ was c.requires.may c.exchange_tree-found.ensures.view other
     (c.exchange_tree-found.ensures.found other) c.pair_in.result
     c.pair_in.ensures.parent c.pair_in.ensures.cost
+
+pub returns-clause-edge_found : goal.returns-clause-edge_found
+returns-clause-edge_found c = IsEdgeSeen-pair _ _ c.args.node _ c.exchange_tree-found.ensures.goes_on (returns-clause-found c)
 
 pub returns-clause-seen : goal.returns-clause-seen
 returns-clause-seen c =

@@ -1,6 +1,6 @@
 use Rattle.std.proofs.Common.{◌+◌, ◌≡◌, ◌≤◌, Some, ap, arith, cond, refl, subst, sym, ◌∙◌}
 use Rattle.std.proofs.lemmas.Bool.{eq-eqb, ne_eqb}
-use Rattle.std.specs.Prelude.{IfSome}
+use Rattle.std.specs.Prelude.{◌==◌, IfSome}
 use Rattle.plan_words.proofs.HandSteps.{at_hand, leads_seen, tried_fits}
 use Rattle.plan_words.proofs.KeptPairs.{HasPairs-linked, HasPairs-saw, keeps_parent, keeps_view}
 use Rattle.plan_words.proofs.LookedNodes.{place_here, seen_low}
@@ -140,9 +140,13 @@ invariant_of-pass-else-found-eq0 c =
 
 pub returns-clause-goes_on : goal.returns-clause-goes_on
 returns-clause-goes_on c =
-    let held = sym c.pass.invariant.1.hand_is ∙ c.in-Some.is in
-    let told = c.compare_exchange-found.ensures.2.told c.in-Some.hand held in
-    let on = tells_on _ c.pass.inside.seat.me c.compare_exchange-found.new.seat.me _ (ap (λ p. p.view) c.pass.view_is) told in
+    let me = c.pass.inside.seat.me in
+    let hand = c.in-Some.hand in
+    let place = c.child-place.result in
+    let found = c.compare_exchange-found.result in
+    let told = c.compare_exchange-found.ensures.2.told hand (sym c.pass.invariant.1.hand_is ∙ c.in-Some.is) in
+    let on = tells_on _ me c.compare_exchange-found.new.seat.me (cond (found == 0) (linked_at me.0 hand place) (saw_at me.0 place found found))
+    (ap (λ p. p.view) c.pass.view_is) told in
     elim c.if-found-eq0.branch [
       | then-found-eq0 w ↦ subst (λ p. GoesOn c.args.pass.now.view p.view) (sym w.pass-is) on
       | else-found-eq0 w ↦ subst (λ p. GoesOn c.args.pass.now.view p.view) (sym w.pass-is) on

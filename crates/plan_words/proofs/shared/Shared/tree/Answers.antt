@@ -1,7 +1,7 @@
 use Rattle.std.proofs.Common.{◌≤◌, ap, arith, subst, sym, ◌∙◌}
 use Rattle.plan_words.proofs.KeptPairs.{keeps_pair, keeps_parent}
-use Rattle.plan_words.proofs.LookedNodes.{pair_found, place_here, seen_low, tree_word_seen}
-use Rattle.plan_words.proofs.Owning.{found_whole, may_load_here, same_run, same_table, sees_told, with_view_told}
+use Rattle.plan_words.proofs.LookedNodes.{IsEdgeSeen-pair, pair_found, pair_not_above, place_here, seen_low, tree_word_seen}
+use Rattle.plan_words.proofs.Owning.{found_whole, goes_on_told, may_load_here, same_run, same_table, sees_told, with_view_told}
 use Rattle.plan_words.proofs.shared.Shared.tree.Goals as goal
 use Rattle.step_core.specs.ViewSteps.{loaded, saw_at}
 use Rattle.step_core.specs.ViewTrees.{SeesNode}
@@ -81,6 +81,15 @@ returns-clause-found c =
     let told = c.load-word.ensures.2 in
     pair_found _ c.load-word.new.seat.me.0 c.args.node _ _ c.pass.invariant.1.lawful seen place told.told.view_is c.pair_in.result c.pair_in.ensures.parent
     c.pair_in.ensures.cost (told.tree c.args.node seen place)
+
+pub returns-clause-goes_on : goal.returns-clause-goes_on
+returns-clause-goes_on c = goes_on_told _ _ _ _ c.pass.view_is c.load-word.ensures.2.told.view_is c.load-word.ensures.2.told.goes_on
+
+pub returns-clause-not_above : goal.returns-clause-not_above
+returns-clause-not_above c = pair_not_above _ _ c.args.node _ (returns-clause-goes_on c) (returns-clause-found c)
+
+pub returns-clause-edge : goal.returns-clause-edge
+returns-clause-edge c = IsEdgeSeen-pair _ _ c.args.node _ (returns-clause-goes_on c) (returns-clause-found c)
 
 pub returns-clause-whole : goal.returns-clause-whole
 returns-clause-whole c all =

@@ -1,0 +1,10 @@
+use Rattle.std.proofs.Common.{rules, ◌≡◌, replicate}
+use Rattle.plan_words.proofs.MovedChildren.{IsIndex-none}
+use Rattle.plan_words.proofs.children.ChildIndex.new.Goals as goal
+
+pub returns : goal.returns
+returns c =
+    let first : c.in_ok-from_elem.field-0.items ≡ replicate c.args.nodes 0 = c.in_ok-from_elem.ensures.items_if_clones_equal (search rules) in
+    let next : c.in_ok-from_elem-2.field-0.items ≡ replicate c.args.nodes 0 = c.in_ok-from_elem-2.ensures.items_if_clones_equal (search rules) in
+    let previous : c.in_ok-from_elem-3.field-0.items ≡ replicate c.args.nodes 0 = c.in_ok-from_elem-3.ensures.items_if_clones_equal (search rules) in
+    rw (first, next, previous) (IsIndex-none c.args.nodes c.requires)

@@ -1,0 +1,18 @@
+use Rattle.std.proofs.Common.{subst, arith}
+use Rattle.plan_words.specs.Chains.{MovesNode}
+use Rattle.plan_words.proofs.MovedChildren.{HasInChain-out, MovesNode-none, MovesNode-trans, length-out}
+use Rattle.plan_words.proofs.children.ChildIndex.relink.Goals as goal
+
+pub returns-then-from-to : goal.returns-then-from-to
+returns-then-from-to c =
+    subst (λ l. MovesNode c.args.node c.args.from l c.args.self.now c.args.self.now) c.if-from-to.true (MovesNode-none c.args.node c.args.from c.args.self.now)
+
+pub put_in-requires-clause-here : goal.put_in-requires-clause-here
+put_in-requires-clause-here c = HasInChain-out c.args.node c.args.from c.args.self.now c.take_out.new.self c.requires.here c.take_out.ensures
+
+pub put_in-requires-clause-parent : goal.put_in-requires-clause-parent
+put_in-requires-clause-parent c =
+    omega (arith, c.requires.parent, length-out c.args.node c.args.from c.args.self.now c.take_out.new.self c.requires.here c.take_out.ensures)
+
+pub returns : goal.returns
+returns c = MovesNode-trans c.args.node c.args.from c.args.to c.args.self.now c.take_out.new.self c.put_in.new.self c.take_out.ensures c.put_in.ensures

@@ -1,0 +1,172 @@
+use Rattle.std.proofs.Common.{◌≡◌, suc, sym, ap, ◌∙◌, subst}
+use Rattle.std.specs.Prelude.{All}
+use Rattle.plan_model.specs.declared.records.Record.{Record}
+use Rattle.plan_work.proofs.HeldMarks.{if_held, of_held}
+use Rattle.plan_work.proofs.KeptRecords.{KeepsRecords-anew, KeepsRecords-trans}
+use Rattle.plan_work.proofs.PlacedMarks.{IsPlacedAt-recorded, MayRecord-placed, MayRecord-same, Rewired-hand}
+use Rattle.plan_work.proofs.RecordedMarks.{HandlesMark-recorded}
+use Rattle.plan_model.specs.ConfigurationSpace.{space_of}
+use Rattle.plan_work.proofs.PlacedAlone.{AloneNext-placed, AloneNext-same, Mirrors-tried}
+use Rattle.plan_work.proofs.WholeLists.{HasWholeShare-kept}
+use Rattle.plan_work.specs.WholeShares.{IsFilledWhole, IsTriedWhole}
+use Rattle.plan_work.proofs.placing.place_rewire_and_record.Goals as goal
+use Rattle.plan_work.specs.Extensions.{EndsAsSeen, IsFilledSince, IsTried, hung_by}
+use Rattle.step_core.specs.ViewSteps.{pair_in_hand}
+use Rattle.step_core.specs.ViewTrees.{SeesPoint}
+use Rattle.step_core.specs.Views.{sees}
+use Rattle.step_core.specs.WordNames.Word.{FirstOf}
+use Rattle.step_core.specs.declared.views.Stage.TheVariants.{Counted}
+use Rattle.tree_rewire.proofs.ChosenParents.{IsInReach-later}
+use Rattle.tree_rewire.proofs.SeenCosts.{stands_later}
+use Rattle.tree_rewire.specs.SeenCosts.{IsInReach, NamesTreeOrPoint}
+
+pub rewire-requires-clause-near : goal.rewire-requires-clause-near
+rewire-requires-clause-near g c κs within =
+    let before = c.args.pass.now in
+    let after = c.choose_and_place-placing.new.pass in
+    let may = c.requires.may in
+    let tried = of_held before.view (λ hand. IsTried before after hand c.choose_and_place-placing.result.0 c.choose_and_place-placing.result.1) may.hand
+    may.held c.choose_and_place-placing.ensures.tried in
+    let placed = subst (λ placing. IsTried before after may.hand placing c.choose_and_place-placing.result.1) c.in-Placed.is tried in
+    let filled = c.requires.filled.1.filled in
+    if_held after.view (λ hand. All (IsInReach after.view hand.point) after.near) _ placed.came.counted
+    (subst (λ q. All (IsInReach after.view q) after.near) (sym may.pointed.point)
+    (subst (All (IsInReach after.view c.args.steering.point)) (sym placed.near)
+    (λ k d below.
+    IsInReach-later before.view after.view c.args.steering.point _ c.choose_and_place-placing.ensures.keeps.goes_on (filled.in_reach k d below))))
+
+pub record_placed-requires-clause-may : goal.record_placed-requires-clause-may
+record_placed-requires-clause-may g c =
+    let before = c.args.pass.now in
+    let after = c.choose_and_place-placing.new.pass in
+    let may = c.requires.may in
+    let tried = of_held before.view (λ hand. IsTried before after hand c.choose_and_place-placing.result.0 c.choose_and_place-placing.result.1) may.hand
+    may.held c.choose_and_place-placing.ensures.tried in
+    let placed = subst (λ placing. IsTried before after may.hand placing c.choose_and_place-placing.result.1) c.in-Placed.is tried in
+    let since = subst (IsFilledSince c.args.shared.now c.requires.filled.0 before c.args.steering.point) (sym c.choose_and_place-placing.ensures.class)
+    c.requires.filled.1 in
+    MayRecord-placed c.args.shared.now c.requires.filled.0 before after c.rewire.new.pass c.args.k c.args.steering.nearest c.args.steering.point
+    c.choose_and_place-placing.result.1 may since c.choose_and_place-placing.ensures.keeps placed c.rewire.ensures.seen c.rewire.ensures.pairs
+    (Rewired-hand c.args.shared.now before after c.rewire.new.pass c.args.k c.args.steering.nearest c.args.steering.point
+    c.choose_and_place-placing.result.1 may placed c.rewire.ensures.rewired)
+
+pub record_placed-requires-clause-first : goal.record_placed-requires-clause-first
+record_placed-requires-clause-first g c =
+    let before = c.args.pass.now in
+    let after = c.choose_and_place-placing.new.pass in
+    let may = c.requires.may in
+    let tried = of_held before.view (λ hand. IsTried before after hand c.choose_and_place-placing.result.0 c.choose_and_place-placing.result.1) may.hand
+    may.held c.choose_and_place-placing.ensures.tried in
+    let placed = subst (λ placing. IsTried before after may.hand placing c.choose_and_place-placing.result.1) c.in-Placed.is tried in
+    if_held c.rewire.new.pass.view (λ hand. sees c.rewire.new.pass.view (FirstOf (suc hand.mark)) ≡ pair_in_hand hand) _
+    (c.rewire.ensures.seen.kept.hand ∙ placed.came.counted)
+    (c.rewire.ensures.seen.others (FirstOf (suc may.hand.mark)) (λ no. no) ∙ placed.came.first)
+
+pub record_unplaced-requires-clause-may : goal.record_unplaced-requires-clause-may
+record_unplaced-requires-clause-may g c =
+    let before = c.args.pass.now in
+    let after = c.choose_and_place-placing.new.pass in
+    let may = c.requires.may in
+    let tried = of_held before.view (λ hand. IsTried before after hand c.choose_and_place-placing.result.0 c.choose_and_place-placing.result.1) may.hand
+    may.held c.choose_and_place-placing.ensures.tried in
+    MayRecord-same c.args.shared.now before after c.args.k c.args.steering.nearest c.args.steering.point c.choose_and_place-placing.result.1
+    c.in-Same.node may c.choose_and_place-placing.ensures.keeps
+    (subst (λ placing. IsTried before after may.hand placing c.choose_and_place-placing.result.1) c.in-Same.is tried)
+
+pub returns-in-Placed-clause-handled : goal.returns-in-Placed-clause-handled
+returns-in-Placed-clause-handled g c =
+    let before = c.args.pass.now in
+    let after = c.choose_and_place-placing.new.pass in
+    let may = c.requires.may in
+    let tried = of_held before.view (λ hand. IsTried before after hand c.choose_and_place-placing.result.0 c.choose_and_place-placing.result.1) may.hand
+    may.held c.choose_and_place-placing.ensures.tried in
+    let placed = subst (λ placing. IsTried before after may.hand placing c.choose_and_place-placing.result.1) c.in-Placed.is tried in
+    HandlesMark-recorded c.args.shared.now before c.rewire.new.pass c.record_placed.new.pass
+    (record (hung_by may.hand c.choose_and_place-placing.result.1) { stage = Counted }) c.args.k c.record_placed.result
+    (KeepsRecords-trans c.args.shared.now before after c.rewire.new.pass c.choose_and_place-placing.ensures.keeps
+    (KeepsRecords-anew NamesTreeOrPoint c.args.shared.now after c.rewire.new.pass (λ j no. no) (λ g no. no) c.rewire.ensures.belongs c.rewire.ensures.seen))
+    c.record_placed.ensures.recorded (c.rewire.ensures.seen.kept.hand ∙ placed.came.counted) may.mark
+
+pub returns-in-Placed-clause-ended : goal.returns-in-Placed-clause-ended
+returns-in-Placed-clause-ended g c = λ first filled.
+    let before = c.args.pass.now in
+    let after = c.choose_and_place-placing.new.pass in
+    let may = c.requires.may in
+    let tried = of_held before.view (λ hand. IsTried before after hand c.choose_and_place-placing.result.0 c.choose_and_place-placing.result.1) may.hand
+    may.held c.choose_and_place-placing.ensures.tried in
+    let placed = subst (λ placing. IsTried before after may.hand placing c.choose_and_place-placing.result.1) c.in-Placed.is tried in
+    let since = subst (IsFilledSince c.args.shared.now first before c.args.steering.point) (sym c.choose_and_place-placing.ensures.class) filled in
+    subst (EndsAsSeen first.view c.record_placed.new.pass.view c.args.k c.record_placed.result c.args.steering.point)
+    (sym (ap (λ (entry : Record). entry.outcome) c.record_placed.ensures.entry))
+    (IsPlacedAt-recorded c.args.shared.now first before after c.rewire.new.pass c.args.k c.args.steering.nearest c.args.steering.point
+    c.choose_and_place-placing.result.1 may since c.choose_and_place-placing.ensures.keeps placed c.rewire.ensures.seen c.rewire.ensures.pairs
+    (Rewired-hand c.args.shared.now before after c.rewire.new.pass c.args.k c.args.steering.nearest c.args.steering.point
+    c.choose_and_place-placing.result.1 may placed c.rewire.ensures.rewired)
+    c.record_placed.new.pass c.record_placed.result c.record_placed.ensures.recorded c.record_placed.ensures.entry)
+
+pub returns-in-Same-clause-handled : goal.returns-in-Same-clause-handled
+returns-in-Same-clause-handled g c =
+    let before = c.args.pass.now in
+    let after = c.choose_and_place-placing.new.pass in
+    let may = c.requires.may in
+    let tried = of_held before.view (λ hand. IsTried before after hand c.choose_and_place-placing.result.0 c.choose_and_place-placing.result.1) may.hand
+    may.held c.choose_and_place-placing.ensures.tried in
+    let same = subst (λ placing. IsTried before after may.hand placing c.choose_and_place-placing.result.1) c.in-Same.is tried in
+    HandlesMark-recorded c.args.shared.now before after c.record_unplaced.new.pass (hung_by may.hand c.choose_and_place-placing.result.1) c.args.k
+    c.record_unplaced.result c.choose_and_place-placing.ensures.keeps c.record_unplaced.ensures.recorded same.came.unchanged may.mark
+
+pub returns-in-Same-clause-ended : goal.returns-in-Same-clause-ended
+returns-in-Same-clause-ended g c = λ first filled.
+    let before = c.args.pass.now in
+    let after = c.choose_and_place-placing.new.pass in
+    let may = c.requires.may in
+    let tried = of_held before.view (λ hand. IsTried before after hand c.choose_and_place-placing.result.0 c.choose_and_place-placing.result.1) may.hand
+    may.held c.choose_and_place-placing.ensures.tried in
+    let same = subst (λ placing. IsTried before after may.hand placing c.choose_and_place-placing.result.1) c.in-Same.is tried in
+    subst (EndsAsSeen first.view c.record_unplaced.new.pass.view c.args.k c.record_unplaced.result c.args.steering.point)
+    (sym (ap (λ (entry : Record). entry.outcome) c.record_unplaced.ensures.entry))
+    (subst (SeesPoint c.record_unplaced.new.pass.view c.in-Same.node) may.pointed.point
+    (stands_later after.view c.record_unplaced.new.pass.view c.record_unplaced.ensures.recorded.goes_on c.in-Same.node may.hand.point same.came.stands))
+
+-- ---- of a pass that works alone
+
+pub returns-in-Placed-clause-textbook : goal.returns-in-Placed-clause-textbook
+returns-in-Placed-clause-textbook g c = λ steers filled alone book.
+    let shared = c.args.shared.now in
+    let before = c.args.pass.now in
+    let after = c.choose_and_place-placing.new.pass in
+    let hanging = c.choose_and_place-placing.result.1 in
+    let p = c.args.steering.point in
+    let m = c.args.steering.nearest in
+    let may = c.requires.may in
+    let keeps = c.choose_and_place-placing.ensures.keeps in
+    let tried = of_held before.view (λ hand. IsTried before after hand c.choose_and_place-placing.result.0 hanging) may.hand may.held
+    c.choose_and_place-placing.ensures.tried in
+    let placed = subst (λ placing. IsTried before after may.hand placing hanging) c.in-Placed.is tried in
+    let whole = subst (λ placing. IsTriedWhole (space_of shared.task.scene) before.view after.view c.args.k p m before.near placing hanging) c.in-Placed.is
+    (c.choose_and_place-placing.ensures.whole alone.whole) in
+    let reach = c.requires.filled.1.filled.in_reach in
+    let filled_class = subst (λ n. IsFilledWhole before.view p n before.near) (sym c.choose_and_place-placing.ensures.class) filled in
+    let start_clear = (keeps.goes_on.was_lawful.whole alone.whole).start_clear in
+    let mirrors = Mirrors-tried shared before after c.args.k m p hanging may keeps placed whole reach steers filled_class book start_clear in
+    let rewired = c.rewire.ensures.whole (HasWholeShare-kept shared before after keeps alone.whole) _ mirrors in
+    AloneNext-placed shared before after c.args.k m p hanging may keeps placed whole reach steers filled_class book start_clear c.rewire.new.pass
+    c.record_placed.new.pass c.record_placed.result c.rewire.ensures.seen rewired.0 rewired.1 rewired.2 c.record_placed.ensures.recorded
+    c.record_placed.ensures.entry alone
+
+pub returns-in-Same-clause-textbook : goal.returns-in-Same-clause-textbook
+returns-in-Same-clause-textbook g c = λ steers filled alone book.
+    let shared = c.args.shared.now in
+    let before = c.args.pass.now in
+    let after = c.choose_and_place-placing.new.pass in
+    let hanging = c.choose_and_place-placing.result.1 in
+    let may = c.requires.may in
+    let tried = of_held before.view (λ hand. IsTried before after hand c.choose_and_place-placing.result.0 hanging) may.hand may.held
+    c.choose_and_place-placing.ensures.tried in
+    let same = subst (λ placing. IsTried before after may.hand placing hanging) c.in-Same.is tried in
+    let whole = subst (λ placing. IsTriedWhole
+    (space_of shared.task.scene) before.view after.view c.args.k c.args.steering.point c.args.steering.nearest before.near placing hanging)
+    c.in-Same.is (c.choose_and_place-placing.ensures.whole alone.whole) in
+    AloneNext-same shared before after c.record_unplaced.new.pass c.args.k c.args.steering.nearest c.in-Same.node c.args.steering.point hanging
+    c.record_unplaced.result may c.choose_and_place-placing.ensures.keeps same whole c.record_unplaced.ensures.recorded c.record_unplaced.ensures.entry steers
+    alone book

@@ -1,0 +1,49 @@
+use Rattle.std.proofs.Common.{◌≡◌, suc, refl, sym, subst}
+use Rattle.std.specs.Prelude.{IfSome}
+use Rattle.plan_model.proofs.UniqueRuns.{Record-from_fields}
+use Rattle.plan_work.proofs.HeldMarks.{of_held}
+use Rattle.plan_work.proofs.RecordedMarks.{HasRecorded-finished, IsFirstWord-placed}
+use Rattle.plan_work.proofs.recording.record_placed.Goals as goal
+use Rattle.plan_work.specs.Extensions.{own_placed}
+use Rattle.step_core.specs.SeenRecords.{MayRecord}
+use Rattle.step_core.specs.ViewSteps.{pair_in_hand}
+use Rattle.step_core.specs.Views.{sees}
+use Rattle.step_core.specs.WordNames.Word.{FirstOf}
+use Rattle.step_core.specs.declared.views.Stage.TheVariants.{Counted}
+
+pub finish-requires-clause-may : goal.finish-requires-clause-may
+finish-requires-clause-may c =
+    subst (λ entry. IfSome c.args.pass.now.view.hand (λ hand. MayRecord c.args.pass.now.view hand entry))
+    (sym (Record-from_fields _ (own_placed c.args.pass.now.view c.args.nearest c.args.hanging) record {
+      worker = c.worker.ensures.number;
+      turn = c.turn.ensures.number;
+      nearest = refl;
+      outcome = refl;
+      first_parent = refl;
+      first_cost = refl;
+      class = refl;
+    }))
+    c.requires.may
+
+pub returns-clause-entry : goal.returns-clause-entry
+returns-clause-entry c =
+    Record-from_fields _ (own_placed c.args.pass.now.view c.args.nearest c.args.hanging) record {
+      worker = c.worker.ensures.number;
+      turn = c.turn.ensures.number;
+      nearest = refl;
+      outcome = refl;
+      first_parent = refl;
+      first_cost = refl;
+      class = refl;
+    }
+
+pub returns-clause-recorded : goal.returns-clause-recorded
+returns-clause-recorded c =
+    let before = c.args.pass.now in
+    let own = own_placed before.view c.args.nearest c.args.hanging in
+    HasRecorded-finished c.args.shared.now before c.finish.new.pass _ own (returns-clause-entry c) c.finish.ensures.may_claim c.finish.ensures.goes_on
+    c.finish.ensures.view refl refl c.requires.may
+    (λ hand held.
+    IsFirstWord-placed before.view hand own c.finish.ensures.goes_on.was_lawful held (of_held before.view (λ h. h.stage ≡ Counted) hand held c.requires.counted)
+    refl (of_held before.view (λ h. MayRecord before.view h own) hand held c.requires.may) (sees before.view (FirstOf (suc hand.mark)))
+    (of_held before.view (λ h. sees before.view (FirstOf (suc h.mark)) ≡ pair_in_hand h) hand held c.requires.first))

@@ -1,0 +1,164 @@
+-- While near nodes are rewired, what fell comes to the nodes below.
+use Rattle.std.proofs.Common.{◌≡◌, ◌≢◌, ◌⊎◌, ℕ, ◌+◌, ◌<◌, arith, inl, inr, sym, ap, ◌∙◌, subst}
+use Rattle.std.proofs.lemmas.Bool.{cases_eq}
+use Rattle.plan_model.specs.declared.geometry.Point.{Point}
+use Rattle.plan_model.specs.Clearance.{Clear}
+use Rattle.plan_model.specs.ConfigurationSpace.{ConfigurationSpace}
+use Rattle.plan_model.specs.Cost.{cost_of}
+use Rattle.plan_model.specs.PointsByNumber.{IsPresent, point_of}
+use Rattle.plan_model.proofs.NewNodes.{point_of-stands}
+use Rattle.plan_words.specs.States.{GoesOn}
+use Rattle.step_core.specs.ViewTrees.{SeesPoint}
+use Rattle.step_core.specs.Views.{sees, tree_seen}
+use Rattle.step_core.specs.WordNames.Word.{TreeOf}
+use Rattle.step_core.specs.Words.{cost_in, parent_in}
+use Rattle.step_core.specs.declared.views.View.{View}
+use Rattle.step_core.proofs.SeenViews.{IsPresent-later}
+use Rattle.tree_rewire.specs.Rewirings.{CostsLess, HasSpreadFalls, IsInFall, IsShortcut}
+use Rattle.tree_rewire.specs.SeenCosts.{SeesPair, cost_seen, cost_through, parent_seen}
+use Rattle.tree_rewire.specs.Spreads.{HasSettledChanges, HasSpread, IsWithinParent}
+use Rattle.tree_rewire.proofs.ChosenParents.{points_later}
+use Rattle.tree_rewire.proofs.SeenCosts.{SeesPair-later, cost_seen-later, stands_later}
+use Rattle.tree_rewire.proofs.SpreadCosts.{IsWithinParent-later}
+
+-- a node that was seen with its cost is seen as before, or costs less
+same_or_less : (before after : View) (n : ℕ) → GoesOn before after → SeesPair before n
+    → (sees after (TreeOf n) ≡ sees before (TreeOf n)) ⊎ CostsLess before after n
+same_or_less before after n goes_on pair =
+    elim (goes_on.later.seen (TreeOf n)) [
+      | inl none ↦ absurd (omega (arith, none, pair))
+      | inr falls ↦ elim falls [
+        | inl same ↦ inl (sym same)
+        | inr less ↦ inr less.1
+      ]
+    ]
+
+-- if no node is seen anew that was seen with its cost, none is in a fall
+pub HasSpreadFalls-none : (space : ConfigurationSpace) (near : ℕ → Type 0) (node : ℕ) (before after : View)
+    → ((n : ℕ) → SeesPair before n → sees after (TreeOf n) ≡ sees before (TreeOf n)) → HasSpreadFalls space near node before after
+HasSpreadFalls-none space near node before after kept c h own =
+    elim h.fell [
+      | inl fell ↦ absurd (omega (arith, fell, ap cost_in (kept c h.pair)))
+      | inr fell ↦ absurd (omega (arith, fell, ap cost_in (kept (parent_seen after c) h.parent_pair)))
+    ]
+
+-- ---- one near node
+
+-- a node at p is a shortcut to one at q if that costs more, by the points that were seen of both
+pub IsShortcut-seen : (space : ConfigurationSpace) (before after : View) (m n : ℕ) (p q : Point) → GoesOn before after → SeesPoint before m p
+    → q ≡ point_of (tree_seen before).points n → Clear space p q → cost_seen after m + cost_of p q < cost_seen before n → IsShortcut space before after m n
+IsShortcut-seen space before after m n p q goes_on stands at clear less =
+    let was : point_of (tree_seen before).points m ≡ p = point_of-stands (tree_seen before).points m p stands in
+    let now : point_of (tree_seen after).points m ≡ p = point_of-stands (tree_seen after).points m p (stands_later before after goes_on m p stands) in
+    record {
+      clear = subst (λ from. Clear space from (point_of (tree_seen before).points n)) (sym was) (subst (Clear space p) at clear);
+      dearer = omega (arith, less, ap (cost_of p) at, ap (λ from. cost_of from (point_of (tree_seen before).points n)) now);
+    }
+
+-- Node j alone is lowered, as this node is a shortcut to it, and then what fell is spread from it. If it hangs below this node then, it is
+-- within it.
+module _ (space : ConfigurationSpace) (node j : ℕ) (before mid after : View) (to_mid : GoesOn before mid) (goes_on : GoesOn mid after)
+    (others : (n : ℕ) → SeesPair before n → n ≢ j → sees mid (TreeOf n) ≡ sees before (TreeOf n))
+    (shortcut : SeesPair before j → IsShortcut space before after node j) (hangs : parent_seen mid j ≡ node → IsWithinParent mid j)
+    (spread : HasSpread j mid after) (settled : HasSettledChanges mid after) where
+  -- if neither it nor its parent is seen anew by the spread, it is node j itself
+  unspread : (c : ℕ) → IsInFall before after c → (c ≡ j → IsShortcut space before after node c → parent_seen after c ≡ node)
+      → sees after (TreeOf c) ≡ sees mid (TreeOf c) → parent_seen after c ≢ j
+      → sees after (TreeOf (parent_seen after c)) ≡ sees mid (TreeOf (parent_seen after c)) → IsWithinParent after c
+  unspread c h own same apart level =
+      let kept : cost_seen after (parent_seen after c) ≡ cost_seen before (parent_seen after c) =
+      ap cost_in (level ∙ others (parent_seen after c) h.parent_pair apart) in
+      let up : parent_seen after c ≡ parent_seen mid c = ap parent_in same in
+      elim (cases_eq c j) [
+        | inl is ↦
+            let below = own is (subst (λ n. SeesPair before n → IsShortcut space before after node n) (sym is) shortcut h.pair) in
+            IsWithinParent-later mid after c goes_on same (subst (λ m. sees after (TreeOf m) ≡ sees mid (TreeOf m)) up level)
+            (subst (IsWithinParent mid) (sym is) (hangs (ap (parent_seen mid) (sym is) ∙ sym up ∙ below)))
+        | inr other ↦ elim h.fell [
+          | inl fell ↦ absurd (omega (arith, fell, ap cost_in (same ∙ others c h.pair other)))
+          | inr fell ↦ absurd (omega (arith, fell, kept))
+        ]
+      ]
+
+  pub HasSpreadFalls-turn : HasSpreadFalls space (λ n. n ≡ j) node before after
+  HasSpreadFalls-turn c h own =
+      let parent : ℕ = parent_seen after c in
+      let pair = SeesPair-later before mid to_mid c h.pair in
+      let parent_pair = SeesPair-later before mid to_mid parent h.parent_pair in
+      elim (cases_eq (sees after (TreeOf c)) (sees mid (TreeOf c))) [
+        | inr changed ↦ settled c changed (SeesPair-later mid after goes_on parent parent_pair)
+        | inl same ↦ elim (cases_eq parent j) [
+          | inl is ↦ spread c pair (inl is)
+          | inr apart ↦ elim (same_or_less mid after parent goes_on parent_pair) [
+            | inl level ↦ unspread c h own same apart level
+            | inr fell ↦ spread c pair (inr fell)
+          ]
+        ]
+      ]
+
+-- ---- one after another
+
+-- What fell was spread so far, and is by one near node more.
+module _ (space : ConfigurationSpace) (near : ℕ → Type 0) (node j : ℕ) (before now after : View) (was : GoesOn before now)
+    (goes_on : GoesOn now after) (member : near j) (present : IsPresent (tree_seen before).points j)
+    (node_present : IsPresent (tree_seen before).points node) (node_pair : SeesPair before node)
+    (so_far : HasSpreadFalls space near node before now) (turn : HasSpreadFalls space (λ n. n ≡ j) node now after) where
+  -- a shortcut so far is one at last
+  IsShortcut-later : (c : ℕ) → IsShortcut space before now node c → IsShortcut space before after node c
+  IsShortcut-later c h = record {
+    clear = h.clear;
+    dearer =
+        omega (
+          arith,
+          h.dearer,
+          cost_seen-later now after goes_on node (SeesPair-later before now was node node_pair),
+          ap (λ q. cost_of q (point_of (tree_seen before).points c))
+              (points_later now after node goes_on (IsPresent-later before now was.later.run was.later.seen node node_present)),
+        );
+  }
+
+  -- and so is one of this turn
+  IsShortcut-before : SeesPair before j → IsShortcut space now after node j → IsShortcut space before after node j
+  IsShortcut-before pair h =
+      let here = points_later before now j was present in
+      record {
+        clear = subst (λ p. Clear space p (point_of (tree_seen before).points j)) (points_later before now node was node_present)
+            (subst (Clear space (point_of (tree_seen now).points node)) here h.clear);
+        dearer = omega (arith, h.dearer, ap (λ p. cost_through after p node) here, cost_seen-later before now was j pair);
+      }
+
+  -- neither it nor its parent is seen anew by the turn
+  unturned : (c : ℕ) → IsInFall before after c → (near c → IsShortcut space before after node c → parent_seen after c ≡ node)
+      → sees after (TreeOf c) ≡ sees now (TreeOf c) → sees after (TreeOf (parent_seen after c)) ≡ sees now (TreeOf (parent_seen after c))
+      → IsWithinParent after c
+  unturned c h own same level =
+      let up : parent_seen after c ≡ parent_seen now c = ap parent_in same in
+      let earlier : IsInFall before now c = record {
+        pair = h.pair;
+        parent_pair = subst (SeesPair before) up h.parent_pair;
+        fell = elim h.fell [
+          | inl fell ↦ inl (omega (arith, fell, ap cost_in same))
+          | inr fell ↦
+              let less : CostsLess before now (parent_seen after c) = omega (arith, fell, ap cost_in level) in
+              inr (subst (CostsLess before now) up less)
+        ];
+      } in
+      IsWithinParent-later now after c goes_on same (subst (λ m. sees after (TreeOf m) ≡ sees now (TreeOf m)) up level)
+      (so_far c earlier (λ one shortcut. sym up ∙ own one (IsShortcut-later c shortcut)))
+
+  pub HasSpreadFalls-more : HasSpreadFalls space near node before after
+  HasSpreadFalls-more c h own =
+      let parent : ℕ = parent_seen after c in
+      let pair = SeesPair-later before now was c h.pair in
+      let parent_pair = SeesPair-later before now was parent h.parent_pair in
+      let own_turn : c ≡ j → IsShortcut space now after node c → parent_seen after c ≡ node =
+      λ is shortcut. own (subst near (sym is) member)
+      (subst (IsShortcut space before after node) (sym is)
+      (IsShortcut-before (subst (SeesPair before) is h.pair) (subst (IsShortcut space now after node) is shortcut))) in
+      elim (same_or_less now after c goes_on pair) [
+        | inr fell ↦ turn c (record { pair = pair; parent_pair = parent_pair; fell = inl fell }) own_turn
+        | inl same ↦ elim (same_or_less now after parent goes_on parent_pair) [
+          | inr fell ↦ turn c (record { pair = pair; parent_pair = parent_pair; fell = inr fell }) own_turn
+          | inl level ↦ unturned c h own same level
+        ]
+      ]
