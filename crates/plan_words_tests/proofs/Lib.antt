@@ -1,3 +1,4 @@
 pub mod FirstRecords
 pub mod LinkedPlaces
 pub mod Elements
+pub mod StartMarks

@@ -22,6 +22,18 @@ fn last_sharer(shared: &Shared, passes: &mut Vec<Pass>) -> Option<Pass>
     passes.pop()
 }
 
+/// The last two passes of a list.
+fn last_sharers(shared: &Shared, passes: Vec<Pass>) -> Option<(Pass, Pass)>
+    requires { All (HasShare shared.now 1) passes.items }
+    ensures first { IfSome result (λ two. HasShare shared.now 1 two.0) }
+    ensures second { IfSome result (λ two. HasShare shared.now 1 two.1) }
+{
+    let mut passes = passes;
+    let second = last_sharer(shared, &mut passes)?;
+    let first = last_sharer(shared, &mut passes)?;
+    Some((first, second))
+}
+
 /// Two passes over five marks that lie on the start.
 fn two_sharers(alloc: Global) -> Result<(Shared, Pass, Pass), Fail>
     ensures opening { IfOk result (λ two. two.0.opening ≡ 0) }
@@ -32,9 +44,8 @@ fn two_sharers(alloc: Global) -> Result<(Shared, Pass, Pass), Fail>
 {
     let task = marks_in_strips(alloc, &[START; 5])?;
     let grown = Grown::new(alloc, task)?;
-    let (shared, mut passes) = Shared::start(alloc, grown, 2)?;
-    let second = last_sharer(&shared, &mut passes).ok_or(Memory)?;
-    let first = last_sharer(&shared, &mut passes).ok_or(Memory)?;
+    let (shared, passes) = Shared::start(alloc, grown, 2)?;
+    let (first, second) = last_sharers(&shared, passes).ok_or(Memory)?;
     Ok((shared, first, second))
 }
 

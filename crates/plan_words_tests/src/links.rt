@@ -7,7 +7,7 @@ ghost use Rattle.plan_words_tests.specs.HeldMarks.{HangsFromStart, HoldsMark};
 ghost use Rattle.step_core.specs.Views.{tree_seen};
 ghost use Rattle.step_core.specs.declared.views.Stage.TheVariants.{Claimed, Counted, Pointed, Treed};
 
-use crate::passes::{START, last_pass};
+use crate::passes::{START, last_two};
 use edge_cost::{cost, steer};
 use plan_model::{Goal, Memory, Outcome, Point, Record, SmallScene};
 use plan_words::{Pass, Shared};
@@ -20,6 +20,9 @@ use swept_check::{Clearing, Hall};
 const ABOVE: Point = Point { x: 0, y: 50 };
 
 const FAR: Point = Point { x: 40, y: 79 };
+
+/// A step from the start towards `FAR`.
+const PARTWAY: Point = Point { x: 22, y: 44 };
 
 /// Two passes over three marks, of which the first two lie to the right of the start, and the collision checker of their room.
 fn two_passes(alloc: Global) -> Result<(Shared, Hall, Pass, Pass), Fail>
@@ -42,11 +45,10 @@ fn two_passes(alloc: Global) -> Result<(Shared, Hall, Pass, Pass), Fail>
         strips: 1,
     }
     .task(alloc, &[ABOVE, FAR, Point { x: 40, y: 30 }])?;
+    let hall = Hall::new(alloc, &task.scene)?;
     let grown = Grown::new(alloc, task)?;
-    let (shared, mut passes) = Shared::start(alloc, grown, 2)?;
-    let hall = Hall::new(alloc, &shared.task().scene)?;
-    let second = last_pass(&shared, &mut passes).ok_or(Memory)?;
-    let first = last_pass(&shared, &mut passes).ok_or(Memory)?;
+    let (shared, passes) = Shared::start(alloc, grown, 2)?;
+    let (first, second) = last_two(&shared, passes).ok_or(Memory)?;
     Ok((shared, hall, first, second))
 }
 
@@ -60,8 +62,21 @@ fn take_mark(shared: &Shared, pass: &mut Pass) -> Option<u32>
     shared.claim(pass, 3)
 }
 
-/// Writes the point of the mark in hand, steered from the start.
-fn write_from_start(shared: &Shared, pass: &mut Pass, mark: u32) -> Point
+/// Claims this mark, the next one.
+fn claim_mark<R: Abort>(rt: &R, shared: &Shared, pass: &mut Pass, mark: u32)
+    requires may_claim { MayClaim shared.now pass.old }
+    requires opening { shared.now.opening ≡ 0 }
+    requires marks { length shared.now.task.marks ≡ 3 }
+    ensures { HoldsMark shared.now mark Claimed pass.new }
+{
+    let Some(claimed) = take_mark(shared, pass) else {
+        panic!(rt; "no mark is left");
+    };
+    assert_eq!(rt; claimed, mark);
+}
+
+/// Writes the point of the mark in hand, steered from the start to where it must come.
+fn write_from_start<R: Abort>(rt: &R, shared: &Shared, pass: &mut Pass, mark: u32, want: Point)
     requires { HoldsMark shared.now mark Claimed pass.old }
     ensures { HoldsMark shared.now mark Pointed pass.new }
 {
@@ -69,7 +84,7 @@ fn write_from_start(shared: &Shared, pass: &mut Pass, mark: u32) -> Point
     let towards = shared.task().marks.as_slice()[mark as usize];
     let p = steer(start, towards, shared.task().scene.step);
     shared.write_point(pass, 0, p);
-    p
+    assert_eq!(rt; p, want);
 }
 
 /// Writes the parent and the cost of the node in hand, below the start. Returns the cost.
@@ -95,6 +110,24 @@ fn hang_from_start<R: Abort>(
     let edge = cost(start, p);
     shared.write_tree(pass, 0, edge);
     edge
+}
+
+/// Hangs the node in hand below the start, at the cost that it must have.
+fn hang_at_cost<R: Abort>(
+    rt: &R,
+    shared: &Shared,
+    hall: &Hall,
+    pass: &mut Pass,
+    mark: u32,
+    want: u64,
+)
+    requires holds { HoldsMark shared.now mark Pointed pass.old }
+    requires hall { hall.now ≡ space_of shared.now.task.scene }
+    ensures holds { HoldsMark shared.now mark Treed pass.new }
+    ensures hangs { HangsFromStart want pass.new.view }
+{
+    let edge = hang_from_start(rt, shared, hall, pass, mark);
+    assert_eq!(rt; edge, want);
 }
 
 /// Looks to the right of the start, and finds no node there.
@@ -167,6 +200,34 @@ fn link_below<R: Abort>(
     shared.link(pass, met, false)
 }
 
+/// Links the node in hand to the right of the start, where no other was linked.
+fn link_first<R: Abort>(rt: &R, shared: &Shared, pass: &mut Pass, mark: u32, cost: u64)
+    requires holds { HoldsMark shared.now mark Treed pass.old }
+    requires hangs { HangsFromStart cost pass.old.view }
+    ensures holds { HoldsMark shared.now mark Counted pass.new }
+    ensures hangs { HangsFromStart cost pass.new.view }
+{
+    let Ok(()) = link_at_start(rt, shared, pass, mark, cost) else {
+        panic!(rt; "the place was taken");
+    };
+}
+
+/// Meets the first node where the node in hand was to be linked, and links it below.
+fn link_second<R: Abort>(rt: &R, shared: &Shared, pass: &mut Pass, mark: u32, cost: u64)
+    requires holds { HoldsMark shared.now mark Treed pass.old }
+    requires hangs { HangsFromStart cost pass.old.view }
+    ensures holds { HoldsMark shared.now mark Counted pass.new }
+    ensures hangs { HangsFromStart cost pass.new.view }
+{
+    let Err(met) = link_at_start(rt, shared, pass, mark, cost) else {
+        panic!(rt; "the place was free");
+    };
+    assert_eq!(rt; met, 1);
+    let Ok(()) = link_below(rt, shared, pass, mark, cost, met) else {
+        panic!(rt; "the place was taken");
+    };
+}
+
 /// Counts the start and two nodes.
 fn expect_three<R: Abort>(rt: &R, shared: &Shared, pass: &mut Pass, mark: u32, cost: u64)
     requires holds { HoldsMark shared.now mark Counted pass.old }
@@ -202,33 +263,78 @@ fn finish_placed<R: Abort>(rt: &R, shared: &Shared, pass: &mut Pass, mark: u32, 
     shared.finish(pass, entry);
 }
 
+/// Both passes claim a mark, write its point and hang its node below the start, in turn.
+fn hang_both<R: Abort>(rt: &R, shared: &Shared, hall: &Hall, first: &mut Pass, second: &mut Pass)
+    requires opening { shared.now.opening ≡ 0 }
+    requires marks { length shared.now.task.marks ≡ 3 }
+    requires hall { hall.now ≡ space_of shared.now.task.scene }
+    requires first { MayClaim shared.now first.old }
+    requires second { MayClaim shared.now second.old }
+    ensures first { HoldsMark shared.now 0 Treed first.new }
+    ensures first_hangs { HangsFromStart 12800 first.new.view }
+    ensures second { HoldsMark shared.now 1 Treed second.new }
+    ensures second_hangs { HangsFromStart 12594 second.new.view }
+{
+    claim_mark(rt, shared, first, 0);
+    claim_mark(rt, shared, second, 1);
+    write_from_start(rt, shared, first, 0, ABOVE);
+    write_from_start(rt, shared, second, 1, PARTWAY);
+    hang_at_cost(rt, shared, hall, first, 0, 12_800);
+    hang_at_cost(rt, shared, hall, second, 1, 12_594);
+}
+
+/// The first pass links its node to the right of the start, where both have seen none. The second meets that node, and links its
+/// own to its left.
+fn link_both<R: Abort>(rt: &R, shared: &Shared, first: &mut Pass, second: &mut Pass)
+    requires first { HoldsMark shared.now 0 Treed first.old }
+    requires first_hangs { HangsFromStart 12800 first.old.view }
+    requires second { HoldsMark shared.now 1 Treed second.old }
+    requires second_hangs { HangsFromStart 12594 second.old.view }
+    ensures first { HoldsMark shared.now 0 Counted first.new }
+    ensures first_hangs { HangsFromStart 12800 first.new.view }
+    ensures second { HoldsMark shared.now 1 Counted second.new }
+    ensures second_hangs { HangsFromStart 12594 second.new.view }
+{
+    expect_free(rt, shared, first, 0, 12_800);
+    expect_free(rt, shared, second, 1, 12_594);
+    link_first(rt, shared, first, 0, 12_800);
+    link_second(rt, shared, second, 1, 12_594);
+}
+
+/// Both passes record that their marks were placed.
+fn finish_both<R: Abort>(rt: &R, shared: &Shared, first: &mut Pass, second: &mut Pass)
+    requires first { HoldsMark shared.now 0 Counted first.old }
+    requires first_hangs { HangsFromStart 12800 first.old.view }
+    requires second { HoldsMark shared.now 1 Counted second.old }
+    requires second_hangs { HangsFromStart 12594 second.old.view }
+{
+    expect_three(rt, shared, first, 0, 12_800);
+    finish_placed(rt, shared, first, 0, 12_800);
+    finish_placed(rt, shared, second, 1, 12_594);
+}
+
+/// Two passes whose points lead to one place link their nodes there, one below the other, and record them.
+fn link_at_one_place<R: Abort>(
+    rt: &R,
+    shared: &Shared,
+    hall: &Hall,
+    first: &mut Pass,
+    second: &mut Pass,
+)
+    requires opening { shared.now.opening ≡ 0 }
+    requires marks { length shared.now.task.marks ≡ 3 }
+    requires hall { hall.now ≡ space_of shared.now.task.scene }
+    requires first { MayClaim shared.now first.old }
+    requires second { MayClaim shared.now second.old }
+{
+    hang_both(rt, shared, hall, first, second);
+    link_both(rt, shared, first, second);
+    finish_both(rt, shared, first, second);
+}
+
 #[test]
 fn two_passes_link_at_one_place(rt: HostRuntime) -> Result<(), Fail> {
     let (shared, hall, mut first, mut second) = two_passes(rt.alloc())?;
-    let one = take_mark(&shared, &mut first).ok_or(Memory)?;
-    let other = take_mark(&shared, &mut second).ok_or(Memory)?;
-    assert_eq!(rt; (one, other), (0, 1));
-    let upper = write_from_start(&shared, &mut first, one);
-    assert_eq!(rt; upper, ABOVE);
-    let partway = write_from_start(&shared, &mut second, other);
-    assert_eq!(rt; partway, Point { x: 22, y: 44 });
-    let above = hang_from_start(&rt, &shared, &hall, &mut first, one);
-    let beside = hang_from_start(&rt, &shared, &hall, &mut second, other);
-    assert_eq!(rt; (above, beside), (12_800, 12_594));
-    expect_free(&rt, &shared, &mut first, one, above);
-    expect_free(&rt, &shared, &mut second, other, beside);
-    let Ok(()) = link_at_start(&rt, &shared, &mut first, one, above) else {
-        panic!(rt; "the place was taken")
-    };
-    let Err(met) = link_at_start(&rt, &shared, &mut second, other, beside) else {
-        panic!(rt; "the place was free")
-    };
-    assert_eq!(rt; met, 1);
-    let Ok(()) = link_below(&rt, &shared, &mut second, other, beside, met) else {
-        panic!(rt; "the place was taken")
-    };
-    expect_three(&rt, &shared, &mut first, one, above);
-    finish_placed(&rt, &shared, &mut first, one, above);
-    finish_placed(&rt, &shared, &mut second, other, beside);
+    link_at_one_place(&rt, &shared, &hall, &mut first, &mut second);
     Ok(())
 }

@@ -52,6 +52,31 @@ pub(crate) fn last_pass(shared: &Shared, passes: &mut Vec<Pass>) -> Option<Pass>
     passes.pop()
 }
 
+/// The last two passes of a list.
+pub(crate) fn last_two(shared: &Shared, passes: Vec<Pass>) -> Option<(Pass, Pass)>
+    requires { All (MayClaim shared.now) passes.items }
+    ensures first { IfSome result (λ two. MayClaim shared.now two.0) }
+    ensures second { IfSome result (λ two. MayClaim shared.now two.1) }
+{
+    let mut passes = passes;
+    let second = last_pass(shared, &mut passes)?;
+    let first = last_pass(shared, &mut passes)?;
+    Some((first, second))
+}
+
+/// The last three passes of a list.
+fn last_three(shared: &Shared, passes: Vec<Pass>) -> Option<(Pass, Pass, Pass)>
+    requires { All (MayClaim shared.now) passes.items }
+    ensures first { IfSome result (λ three. MayClaim shared.now three.0) }
+    ensures second { IfSome result (λ three. MayClaim shared.now three.1) }
+    ensures third { IfSome result (λ three. MayClaim shared.now three.2) }
+{
+    let mut passes = passes;
+    let third = last_pass(shared, &mut passes)?;
+    let (first, second) = last_two(shared, passes)?;
+    Some((first, second, third))
+}
+
 /// A shared tree, and its first, its second and its third pass.
 pub(crate) type Three = (Shared, Pass, Pass, Pass);
 
@@ -63,10 +88,8 @@ fn passes_from(alloc: Global, grown: Grown) -> Result<Three, Fail>
     ensures second { IfOk result (λ three. MayClaim three.0 three.2) }
     ensures third { IfOk result (λ three. MayClaim three.0 three.3) }
 {
-    let (shared, mut passes) = Shared::start(alloc, grown, 3)?;
-    let third = last_pass(&shared, &mut passes).ok_or(Memory)?;
-    let second = last_pass(&shared, &mut passes).ok_or(Memory)?;
-    let first = last_pass(&shared, &mut passes).ok_or(Memory)?;
+    let (shared, passes) = Shared::start(alloc, grown, 3)?;
+    let (first, second, third) = last_three(&shared, passes).ok_or(Memory)?;
     Ok((shared, first, second, third))
 }
 

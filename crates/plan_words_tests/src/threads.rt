@@ -66,16 +66,35 @@ fn marks_of(alloc: Global, workers: &[Worker]) -> Result<Vec<u32>, Memory> {
     Ok(marks)
 }
 
+/// The marks that three passes claim, each in a thread of its own, in rising number.
+fn claimed_by<R: Threads + Sync + Abort>(
+    rt: &R,
+    alloc: Global,
+    shared: &Shared,
+    first: Pass,
+    second: Pass,
+    third: Pass,
+    limit: u32,
+) -> Result<Vec<u32>, Memory>
+    requires first { MayClaim shared.now first }
+    requires second { MayClaim shared.now second }
+    requires third { MayClaim shared.now third }
+    requires low { shared.now.opening ≤ limit }
+    requires limit { limit ≤ length shared.now.task.marks }
+{
+    let first = worker_of(alloc, shared, first);
+    let second = worker_of(alloc, shared, second);
+    let third = worker_of(alloc, shared, third);
+    let mut workers = [first, second, third];
+    work_all(rt, shared, &mut workers, limit);
+    marks_of(alloc, &workers)
+}
+
 #[test]
 fn threads_claim_each_mark_once(rt: HostRuntime) -> Result<(), Fail> {
     let points = [START; 3000];
     let (shared, first, second, third) = three_passes(rt.alloc(), &points)?;
-    let first = worker_of(rt.alloc(), &shared, first);
-    let second = worker_of(rt.alloc(), &shared, second);
-    let third = worker_of(rt.alloc(), &shared, third);
-    let mut workers = [first, second, third];
-    work_all(&rt, &shared, &mut workers, 3000);
-    let marks = marks_of(rt.alloc(), &workers)?;
+    let marks = claimed_by(&rt, rt.alloc(), &shared, first, second, third, 3000)?;
     assert!(rt; marks.iter().copied().eq(0..3000));
     Ok(())
 }

@@ -1,9 +1,10 @@
 //! Passes that take turns in one thread.
 
-ghost use Rattle.std.specs.Prelude.{◌≡◌, ◌≤◌, ◌<◌, IfOk, IsTrue, None, length};
+ghost use Rattle.std.specs.Prelude.{◌≡◌, ◌≤◌, ◌<◌, IfOk, IsTrue, OnOk, length};
 ghost use Rattle.plan_model.specs.Limits.{is_plan};
 ghost use Rattle.plan_model.specs.declared.scenes.Marks.TheVariants.{Listed};
 ghost use Rattle.plan_words.specs.States.{BelongsTo, MayClaim};
+ghost use Rattle.plan_words_tests.specs.Sharers.{IsIdle};
 
 use crate::passes::{START, take_turn, three_passes};
 use plan_model::{MOST_MARKS, Memory, Point};
@@ -23,6 +24,24 @@ fn expect_turn<R: Abort>(rt: &R, shared: &Shared, pass: &mut Pass, limit: u32, w
     assert_eq!(rt; mark, want);
 }
 
+/// Compares the marks that a pass takes, one after the other.
+fn expect_turns<R: Abort>(
+    rt: &R,
+    shared: &Shared,
+    pass: &mut Pass,
+    limit: u32,
+    wants: &[Option<u32>],
+)
+    requires may_claim { MayClaim shared.now pass.old }
+    requires low { shared.now.opening ≤ limit }
+    requires limit { limit ≤ length shared.now.task.marks }
+    ensures may_claim { MayClaim shared.now pass.new }
+{
+    'turns: for &want in wants {
+        expect_turn(rt, shared, pass, limit, want);
+    }
+}
+
 /// Compares the counter of a strip.
 fn expect_taken<R: Abort>(rt: &R, shared: &Shared, pass: &mut Pass, strip: u32, want: u32)
     requires may_claim { MayClaim shared.now pass.old }
@@ -33,6 +52,43 @@ fn expect_taken<R: Abort>(rt: &R, shared: &Shared, pass: &mut Pass, strip: u32, 
     assert_eq!(rt; taken, want);
 }
 
+/// Compares the marks that three passes take, one after the other.
+fn expect_round<R: Abort>(
+    rt: &R,
+    shared: &Shared,
+    first: &mut Pass,
+    second: &mut Pass,
+    third: &mut Pass,
+    limit: u32,
+    want: [Option<u32>; 3],
+)
+    requires first { MayClaim shared.now first.old }
+    requires second { MayClaim shared.now second.old }
+    requires third { MayClaim shared.now third.old }
+    requires low { shared.now.opening ≤ limit }
+    requires limit { limit ≤ length shared.now.task.marks }
+    ensures first { MayClaim shared.now first.new }
+    ensures second { MayClaim shared.now second.new }
+    ensures third { MayClaim shared.now third.new }
+{
+    let [one, two, three] = want;
+    expect_turn(rt, shared, first, limit, one);
+    expect_turn(rt, shared, second, limit, two);
+    expect_turn(rt, shared, third, limit, three);
+}
+
+/// Compares the counters of three strips.
+fn expect_counters<R: Abort>(rt: &R, shared: &Shared, pass: &mut Pass, want: [u32; 3])
+    requires may_claim { MayClaim shared.now pass.old }
+    requires strips { shared.now.task.scene.strips ≡ 3 }
+    ensures { MayClaim shared.now pass.new }
+{
+    let [one, two, three] = want;
+    expect_taken(rt, shared, pass, 0, one);
+    expect_taken(rt, shared, pass, 1, two);
+    expect_taken(rt, shared, pass, 2, three);
+}
+
 /// Compares the worker of a pass, and its next turn.
 fn expect_worker<R: Abort>(rt: &R, shared: &Shared, pass: &Pass, worker: u32, turn: u32)
     requires { MayClaim shared.now pass.now }
@@ -41,66 +97,155 @@ fn expect_worker<R: Abort>(rt: &R, shared: &Shared, pass: &Pass, worker: u32, tu
     assert_eq!(rt; pass.turn(), turn);
 }
 
+/// Three passes record seven marks in turn, and find no other.
+fn record_seven<R: Abort>(
+    rt: &R,
+    shared: &Shared,
+    first: &mut Pass,
+    second: &mut Pass,
+    third: &mut Pass,
+)
+    requires first { MayClaim shared.now first.old }
+    requires second { MayClaim shared.now second.old }
+    requires third { MayClaim shared.now third.old }
+    requires opening { shared.now.opening ≡ 0 }
+    requires marks { length shared.now.task.marks ≡ 7 }
+    requires strips { shared.now.task.scene.strips ≡ 3 }
+{
+    expect_round(
+        rt,
+        shared,
+        first,
+        second,
+        third,
+        7,
+        [Some(0), Some(1), Some(2)],
+    );
+    expect_round(
+        rt,
+        shared,
+        first,
+        second,
+        third,
+        7,
+        [Some(3), Some(4), Some(5)],
+    );
+    expect_turn(rt, shared, first, 7, Some(6));
+    expect_counters(rt, shared, first, [3, 2, 2]);
+    expect_round(rt, shared, third, second, first, 7, [None; 3]);
+}
+
 #[test]
 fn three_passes_record_seven_marks_on_one_point(rt: HostRuntime) -> Result<(), Fail> {
     let (shared, mut first, mut second, mut third) = three_passes(rt.alloc(), &[START; 7])?;
-    expect_turn(&rt, &shared, &mut first, 7, Some(0));
-    expect_turn(&rt, &shared, &mut second, 7, Some(1));
-    expect_turn(&rt, &shared, &mut third, 7, Some(2));
-    expect_turn(&rt, &shared, &mut first, 7, Some(3));
-    expect_turn(&rt, &shared, &mut second, 7, Some(4));
-    expect_turn(&rt, &shared, &mut third, 7, Some(5));
-    expect_turn(&rt, &shared, &mut first, 7, Some(6));
-    expect_taken(&rt, &shared, &mut first, 0, 3);
-    expect_taken(&rt, &shared, &mut first, 1, 2);
-    expect_taken(&rt, &shared, &mut first, 2, 2);
-    expect_turn(&rt, &shared, &mut third, 7, None);
-    expect_turn(&rt, &shared, &mut second, 7, None);
-    expect_turn(&rt, &shared, &mut first, 7, None);
+    record_seven(&rt, &shared, &mut first, &mut second, &mut third);
     Ok(())
 }
 
 #[test]
 fn a_worker_takes_its_own_strips_first(rt: HostRuntime) -> Result<(), Fail> {
     let (shared, _, mut second, _) = three_passes(rt.alloc(), &[START; 7])?;
-    expect_turn(&rt, &shared, &mut second, 7, Some(1));
-    expect_turn(&rt, &shared, &mut second, 3, Some(0));
-    expect_turn(&rt, &shared, &mut second, 3, Some(2));
-    expect_turn(&rt, &shared, &mut second, 3, None);
-    expect_turn(&rt, &shared, &mut second, 7, Some(4));
-    expect_turn(&rt, &shared, &mut second, 7, Some(3));
-    expect_turn(&rt, &shared, &mut second, 7, Some(5));
-    expect_turn(&rt, &shared, &mut second, 7, Some(6));
-    expect_turn(&rt, &shared, &mut second, 7, None);
+    expect_turns(&rt, &shared, &mut second, 7, &[Some(1)]);
+    expect_turns(&rt, &shared, &mut second, 3, &[Some(0), Some(2), None]);
+    expect_turns(
+        &rt,
+        &shared,
+        &mut second,
+        7,
+        &[Some(4), Some(3), Some(5), Some(6), None],
+    );
     Ok(())
 }
 
 /// A pass takes over another, which may claim, and so it may claim too.
 fn take_over(shared: &Shared, pass: &mut Pass, other: Pass)
-    requires belongs { BelongsTo pass.old shared.now }
-    requires idle { pass.old.view.hand ≡ None }
+    requires idle { IsIdle shared.now pass.old }
     requires may_claim { MayClaim shared.now other }
-    ensures may_claim { MayClaim shared.now pass.new }
+    ensures { MayClaim shared.now pass.new }
 {
     shared.join(pass, other);
+}
+
+/// Claims this mark.
+fn expect_claim<R: Abort>(rt: &R, shared: &Shared, pass: &mut Pass, limit: u32, want: u32)
+    requires may_claim { MayClaim shared.now pass.old }
+    requires low { shared.now.opening ≤ limit }
+    requires limit { limit ≤ length shared.now.task.marks }
+    ensures { BelongsTo pass.new shared.now }
+{
+    let mark = shared.claim(pass, limit);
+    assert_eq!(rt; mark, Some(want));
+}
+
+/// A pass that only looks, which is split from another.
+fn looker_of(shared: &Shared, pass: &mut Pass) -> Result<Pass, Memory>
+    requires { BelongsTo pass.old shared.now }
+    ensures looks { IfOk result (IsIdle shared.now) }
+    ensures kept { MayClaim shared.now pass.old → OnOk result (MayClaim shared.now pass.new) }
+{
+    shared.split(pass)
+}
+
+/// Compares how many nodes a pass counts.
+fn expect_number<R: Abort>(rt: &R, shared: &Shared, pass: &mut Pass, want: u32)
+    requires { IsIdle shared.now pass.old }
+    ensures { IsIdle shared.now pass.new }
+{
+    let nodes = shared.number(pass);
+    assert_eq!(rt; nodes, want);
+}
+
+/// Compares how many marks of a strip a pass sees claimed.
+fn expect_claimed<R: Abort>(rt: &R, shared: &Shared, pass: &mut Pass, strip: u32, want: u32)
+    requires idle { IsIdle shared.now pass.old }
+    requires strip { strip < shared.now.task.scene.strips }
+    ensures { IsIdle shared.now pass.new }
+{
+    let claimed = shared.taken(pass, strip);
+    assert_eq!(rt; claimed, want);
+}
+
+/// A pass that only looks, beside one that has claimed the first mark.
+fn looker_beside<R: Abort>(rt: &R, shared: &Shared, pass: &mut Pass) -> Result<Pass, Memory>
+    requires may_claim { MayClaim shared.now pass.old }
+    requires opening { shared.now.opening ≡ 0 }
+    requires marks { length shared.now.task.marks ≡ 7 }
+    requires strips { shared.now.task.scene.strips ≡ 3 }
+    ensures { IfOk result (IsIdle shared.now) }
+{
+    expect_claim(rt, shared, pass, 7, 0);
+    let mut looker = looker_of(shared, pass)?;
+    expect_number(rt, shared, &mut looker, 1);
+    expect_claimed(rt, shared, &mut looker, 0, 1);
+    Ok(looker)
+}
+
+/// A pass that only looks, beside the first one, takes over the second, and then claims in its place.
+fn take_over_second<R: Abort>(
+    rt: &R,
+    shared: &Shared,
+    first: &mut Pass,
+    second: Pass,
+) -> Result<(), Fail>
+    requires first { MayClaim shared.now first.old }
+    requires second { MayClaim shared.now second }
+    requires opening { shared.now.opening ≡ 0 }
+    requires marks { length shared.now.task.marks ≡ 7 }
+    requires strips { shared.now.task.scene.strips ≡ 3 }
+{
+    let mut looker = looker_beside(rt, shared, first)?;
+    take_over(shared, &mut looker, second);
+    expect_worker(rt, shared, &looker, 1, 0);
+    expect_turn(rt, shared, &mut looker, 7, Some(1));
+    expect_worker(rt, shared, &looker, 1, 1);
+    expect_turn(rt, shared, &mut looker, 7, Some(4));
+    Ok(())
 }
 
 #[test]
 fn a_looker_takes_over_a_worker(rt: HostRuntime) -> Result<(), Fail> {
     let (shared, mut first, second, _) = three_passes(rt.alloc(), &[START; 7])?;
-    let mark = shared.claim(&mut first, 7);
-    assert_eq!(rt; mark, Some(0));
-    let mut looker = shared.split(&mut first)?;
-    let nodes = shared.number(&mut looker);
-    assert_eq!(rt; nodes, 1);
-    let claimed = shared.taken(&mut looker, 0);
-    assert_eq!(rt; claimed, 1);
-    take_over(&shared, &mut looker, second);
-    expect_worker(&rt, &shared, &looker, 1, 0);
-    expect_turn(&rt, &shared, &mut looker, 7, Some(1));
-    expect_worker(&rt, &shared, &looker, 1, 1);
-    expect_turn(&rt, &shared, &mut looker, 7, Some(4));
-    Ok(())
+    take_over_second(&rt, &shared, &mut first, second)
 }
 
 /// As many marks as a task may have, on the start.
@@ -111,23 +256,30 @@ fn most_marks(alloc: Global) -> Result<Vec<Point>, Memory>
     Ok(vec![in alloc; START; MOST_MARKS as usize]?)
 }
 
-/// Compares how many nodes a pass counts.
-fn expect_number<R: Abort>(rt: &R, shared: &Shared, pass: &mut Pass, want: u32)
-    requires { BelongsTo pass.old shared.now }
+/// Two passes claim marks of the longest task, and one that only looks counts the start.
+fn claim_and_look<R: Abort>(
+    rt: &R,
+    shared: &Shared,
+    first: &mut Pass,
+    third: &mut Pass,
+) -> Result<(), Fail>
+    requires first { MayClaim shared.now first.old }
+    requires third { MayClaim shared.now third.old }
+    requires opening { shared.now.opening ≡ 0 }
+    requires marks { length shared.now.task.marks ≡ 262143 }
+    requires strips { shared.now.task.scene.strips ≡ 3 }
 {
-    let nodes = shared.number(pass);
-    assert_eq!(rt; nodes, want);
+    let mut looker = looker_of(shared, first)?;
+    expect_turn(rt, shared, third, 262_143, Some(2));
+    expect_turns(rt, shared, first, 262_143, &[Some(0), Some(3)]);
+    expect_taken(rt, shared, first, 0, 2);
+    expect_number(rt, shared, &mut looker, 1);
+    Ok(())
 }
 
 #[test]
 fn the_longest_task_is_claimed_and_looked_at(rt: HostRuntime) -> Result<(), Fail> {
     let marks = most_marks(rt.alloc())?;
     let (shared, mut first, _, mut third) = three_passes(rt.alloc(), &marks)?;
-    let mut looker = shared.split(&mut first)?;
-    expect_turn(&rt, &shared, &mut third, 262_143, Some(2));
-    expect_turn(&rt, &shared, &mut first, 262_143, Some(0));
-    expect_turn(&rt, &shared, &mut first, 262_143, Some(3));
-    expect_taken(&rt, &shared, &mut first, 0, 2);
-    expect_number(&rt, &shared, &mut looker, 1);
-    Ok(())
+    claim_and_look(&rt, &shared, &mut first, &mut third)
 }

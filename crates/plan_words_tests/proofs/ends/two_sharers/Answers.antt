@@ -3,8 +3,8 @@ use Rattle.std.specs.Prelude.{slice_index_or}
 use Rattle.plan_words_tests.proofs.Elements.{there}
 use Rattle.plan_words_tests.proofs.ends.two_sharers.Goals as goal
 
-pub last_sharer-requires : goal.last_sharer-requires
-last_sharer-requires c k d low =
+pub last_sharers-requires : goal.last_sharers-requires
+last_sharers-requires c k d low =
     let passes = c.in_ok-shared.passes.items in
     let pass = slice_index_or passes k d in
     record {

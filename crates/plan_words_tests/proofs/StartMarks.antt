@@ -1,0 +1,52 @@
+-- A mark that lies on the start ends there: no node is nearer, and the start is where the step to it leads.
+use Rattle.std.proofs.Common.{◌≡◌, ℕ, ◌*◌, ◌≤◌, Some, refl, sym, ap, ◌∙◌, subst, arith}
+use Rattle.std.specs.Int.{abs_diff}
+use Rattle.std.specs.Prelude.{IfSome}
+use Rattle.plan_model.specs.ClosedLaw.{mark_at}
+use Rattle.plan_model.specs.Geometry.{squared_distance}
+use Rattle.plan_model.specs.LeastPairs.{IsNotAbove}
+use Rattle.plan_model.specs.Nearness.{distance_to}
+use Rattle.plan_model.specs.PointsByNumber.{IsPresent, point_of}
+use Rattle.plan_model.specs.Steering.{steered}
+use Rattle.plan_model.specs.declared.geometry.Point.{Point}
+use Rattle.plan_model.specs.declared.records.Outcome.TheVariants.{Same}
+use Rattle.plan_model.specs.declared.records.Record.{Record}
+use Rattle.plan_model.proofs.NewNodes.{IsPresent-stands, point_of-stands}
+use Rattle.plan_model.proofs.SteeringLaws.{steered-near}
+use Rattle.plan_words.proofs.KeptPairs.{if_hand}
+use Rattle.step_core.specs.SeenRecords.{MayEnd, MayRecord}
+use Rattle.step_core.specs.ViewTrees.{SeesPoint}
+use Rattle.step_core.specs.Views.{tree_seen}
+use Rattle.step_core.specs.declared.views.Hand.{Hand}
+use Rattle.step_core.specs.declared.views.View.{View}
+
+squared_distance-same : (p : Point) → squared_distance p p ≡ 0
+squared_distance-same p =
+    let across : abs_diff p.x p.x ≡ 0 = omega arith in
+    let up : abs_diff p.y p.y ≡ 0 = omega arith in
+    omega (arith, ap (λ (g : ℕ). g * g) across, ap (λ (g : ℕ). g * g) up)
+
+module _ (view : View) (hand : Hand) (entry : Record) (seen : SeesPoint view 0 (mark_at view.run.marks hand.mark)) (nearest : entry.nearest ≡ 0) where
+  nearest_at : point_of (tree_seen view).points entry.nearest ≡ mark_at view.run.marks hand.mark
+  nearest_at = ap (point_of (tree_seen view).points) nearest ∙ point_of-stands (tree_seen view).points 0 (mark_at view.run.marks hand.mark) seen
+
+  at_mark : distance_to (mark_at view.run.marks hand.mark) (tree_seen view).points entry.nearest ≡ 0
+  at_mark =
+      ap (λ p. squared_distance p (mark_at view.run.marks hand.mark)) nearest_at ∙ squared_distance-same (mark_at view.run.marks hand.mark)
+
+  stays : mark_at view.run.marks hand.mark
+      ≡ steered (point_of (tree_seen view).points entry.nearest) (mark_at view.run.marks hand.mark) view.run.step
+  stays = sym (steered-near _ _ view.run.step (omega (arith, at_mark)))
+
+  MayRecord-start : entry.outcome ≡ Same 0 → MayRecord view hand entry
+  MayRecord-start outcome = record {
+    present = subst (IsPresent (tree_seen view).points) (sym nearest) (IsPresent-stands (tree_seen view).points 0 (mark_at view.run.marks hand.mark) seen);
+    nearest = λ i own. record { least = omega (arith, at_mark); first = λ e. omega (arith, nearest) };
+    outcome = subst (MayEnd view hand entry _) (sym outcome) (subst (SeesPoint view 0) stays seen);
+  }
+
+pub may_finish-start :
+    (view : View) (hand : Hand) (entry : Record) → view.hand ≡ Some hand → SeesPoint view 0 (mark_at view.run.marks hand.mark) → entry.nearest ≡ 0
+    → entry.outcome ≡ Same 0 → IfSome view.hand (λ h. MayRecord view h entry)
+may_finish-start view hand entry held seen nearest outcome =
+    if_hand (λ h. MayRecord view h entry) view.hand hand held (MayRecord-start view hand entry seen nearest outcome)
