@@ -1,6 +1,6 @@
 //! Two passes whose points lead to one place of the kd-tree, and a pass that comes to a point second.
 
-ghost use Rattle.std.specs.Prelude.{◌≡◌, IfOk, IsTrue};
+ghost use Rattle.std.specs.Prelude.{◌≡◌, ◌≤◌, All, IfOk, IfSome, IsTrue, length};
 ghost use Rattle.kd_shared_tests.specs.HeldMarks.{HoldsMark, SteersFrom};
 ghost use Rattle.plan_model.specs.ConfigurationSpace.{space_of};
 ghost use Rattle.plan_model.specs.Limits.{is_plan};
@@ -26,6 +26,18 @@ const MIDDLE: Point = Point { x: 22, y: 44 };
 
 const RIGHT: Point = Point { x: 40, y: 30 };
 
+/// The last two passes of a list.
+fn last_two(shared: &Shared, passes: Vec<Pass>) -> Option<(Pass, Pass)>
+    requires { All (MayClaim shared.now) passes.items }
+    ensures first { IfSome result (λ two. MayClaim shared.now two.0) }
+    ensures second { IfSome result (λ two. MayClaim shared.now two.1) }
+{
+    let mut passes = passes;
+    let second = last_pass(shared, &mut passes)?;
+    let first = last_pass(shared, &mut passes)?;
+    Some((first, second))
+}
+
 /// Two passes over these marks, from a corner of a small room, and the collision checker of that.
 fn two_passes(alloc: Global, marks: &[Point]) -> Result<(Shared, Hall, Pass, Pass), Fail>
     requires { IsTrue (is_plan (Listed marks.now)) }
@@ -48,12 +60,35 @@ fn two_passes(alloc: Global, marks: &[Point]) -> Result<(Shared, Hall, Pass, Pas
         strips: 1,
     }
     .task(alloc, marks)?;
+    let hall = Hall::new(alloc, &task.scene)?;
     let grown = Grown::new(alloc, task)?;
-    let (shared, mut passes) = Shared::start(alloc, grown, 2)?;
-    let hall = Hall::new(alloc, &shared.task().scene)?;
-    let second = last_pass(&shared, &mut passes).ok_or(Memory)?;
-    let first = last_pass(&shared, &mut passes).ok_or(Memory)?;
+    let (shared, passes) = Shared::start(alloc, grown, 2)?;
+    let (first, second) = last_two(&shared, passes).ok_or(Memory)?;
     Ok((shared, hall, first, second))
+}
+
+/// Claims this mark, the next one below the limit, and writes its point, steered from the nearest node to where it must come.
+fn begin_mark<R: Abort>(
+    rt: &R,
+    shared: &Shared,
+    pass: &mut Pass,
+    limit: u32,
+    mark: u32,
+    want: Point,
+) -> Steering
+    requires may_claim { MayClaim shared.now pass.old }
+    requires low { shared.now.opening ≤ limit }
+    requires limit { limit ≤ length shared.now.task.marks }
+    ensures holds { HoldsMark shared.now mark Pointed pass.new }
+    ensures steers { SteersFrom result.nearest pass.new.view }
+{
+    let Some(claimed) = take_mark(shared, pass, limit) else {
+        panic!(rt; "no mark is left");
+    };
+    assert_eq!(rt; claimed, mark);
+    let steering = write_from_nearest(shared, pass, claimed);
+    assert_eq!(rt; steering.point, want);
+    steering
 }
 
 /// Finds no node at the point that was written for the mark in hand.
@@ -91,25 +126,13 @@ fn expect_placing<R: Abort>(
 #[test]
 fn the_second_at_a_place_goes_one_node_deeper(rt: HostRuntime) -> Result<(), Fail> {
     let (shared, hall, mut first, mut second) = two_passes(rt.alloc(), &[ABOVE, FAR, RIGHT])?;
-    let one = take_mark(&shared, &mut first, 3).ok_or(Memory)?;
-    let other = take_mark(&shared, &mut second, 3).ok_or(Memory)?;
-    assert_eq!(rt; (one, other), (0, 1));
-    let upper = write_from_nearest(&shared, &mut first, one);
-    let middle = write_from_nearest(&shared, &mut second, other);
-    assert_eq!(rt; (upper.point, middle.point), (ABOVE, MIDDLE));
+    let upper = begin_mark(&rt, &shared, &mut first, 3, 0, ABOVE);
+    let middle = begin_mark(&rt, &shared, &mut second, 3, 1, MIDDLE);
     // both see that the place is empty
-    expect_free(&rt, &shared, &mut first, one, upper);
-    expect_free(&rt, &shared, &mut second, other, middle);
-    expect_placing(&rt, &shared, &hall, &mut first, one, upper, Placing::Placed);
-    expect_placing(
-        &rt,
-        &shared,
-        &hall,
-        &mut second,
-        other,
-        middle,
-        Placing::Placed,
-    );
+    expect_free(&rt, &shared, &mut first, 0, upper);
+    expect_free(&rt, &shared, &mut second, 1, middle);
+    expect_placing(&rt, &shared, &hall, &mut first, 0, upper, Placing::Placed);
+    expect_placing(&rt, &shared, &hall, &mut second, 1, middle, Placing::Placed);
     let found = find(&shared, &mut first, MIDDLE);
     assert_eq!(rt; found, Some(2));
     let closest = nearest(&shared, &mut first, FAR);
@@ -124,30 +147,11 @@ fn the_second_at_a_place_goes_one_node_deeper(rt: HostRuntime) -> Result<(), Fai
 #[test]
 fn the_second_at_a_point_is_told_the_first(rt: HostRuntime) -> Result<(), Fail> {
     let (shared, hall, mut first, mut second) = two_passes(rt.alloc(), &[ABOVE, ABOVE])?;
-    let one = take_mark(&shared, &mut first, 2).ok_or(Memory)?;
-    let other = take_mark(&shared, &mut second, 2).ok_or(Memory)?;
-    let upper = write_from_nearest(&shared, &mut first, one);
-    let also = write_from_nearest(&shared, &mut second, other);
-    assert_eq!(rt; (upper.point, also.point), (ABOVE, ABOVE));
-    expect_free(&rt, &shared, &mut first, one, upper);
-    expect_placing(
-        &rt,
-        &shared,
-        &hall,
-        &mut second,
-        other,
-        also,
-        Placing::Placed,
-    );
-    expect_placing(
-        &rt,
-        &shared,
-        &hall,
-        &mut first,
-        one,
-        upper,
-        Placing::Same(2),
-    );
+    let upper = begin_mark(&rt, &shared, &mut first, 2, 0, ABOVE);
+    let also = begin_mark(&rt, &shared, &mut second, 2, 1, ABOVE);
+    expect_free(&rt, &shared, &mut first, 0, upper);
+    expect_placing(&rt, &shared, &hall, &mut second, 1, also, Placing::Placed);
+    expect_placing(&rt, &shared, &hall, &mut first, 0, upper, Placing::Same(2));
     let nodes = shared.number(&mut first);
     assert_eq!(rt; nodes, 2);
     Ok(())
