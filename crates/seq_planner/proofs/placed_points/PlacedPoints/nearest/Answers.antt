@@ -1,8 +1,10 @@
-use Rattle.std.proofs.Common.{◌≡◌, ◌<◌, ◌≤◌, length, get_or, sym, ap, subst, arith}
+use Rattle.std.proofs.Common.{◌≡◌, ◌+◌, ◌<◌, ◌≤◌, length, get_or, sym, ap, ◌∙◌, rules, subst, arith}
 use Rattle.std.proofs.lemmas.List.{get_or_read}
 use Rattle.plan_model.specs.Nearness.{IsNearest}
-use Rattle.seq_planner.proofs.ScannedLists.{IsNearest-all}
+use Rattle.plan_model.proofs.LeastScans.{IsFirstLeastBelow-keeps, IsFirstLeastBelow-takes}
+use Rattle.seq_planner.proofs.ScannedLists.{IsNearest-all, IsNearestIndex, distance_at}
 use Rattle.seq_planner.proofs.placed_points.PlacedPoints.nearest.Goals as goal
+use Rattle.seq_planner.proofs.placed_points.PlacedPoints.nearest.Goals.{then-distance-least, else-distance-least}
 
 pub returns : goal.returns
 returns c = λ points h. (
@@ -13,3 +15,28 @@ returns c = λ points h. (
     let number : c.index-2.result.now ≡ get_or placed.numbers.items l.best 0 =
     get_or_read placed.numbers.items l.best c.index-2.result.now below c.index-2.ensures 0 in
     subst (IsNearest points c.args.mark) (sym number) (IsNearest-all points placed c.args.mark l.index l.best l.least h l.invariant all))
+
+pub loop-index-preserved : goal.loop-index-preserved
+loop-index-preserved c =
+    let ps = c.args.self.now.points.items in
+    let mark = c.args.mark in
+    let l = c.loop-index in
+    let here : c.squared_distance-distance.result ≡ distance_at ps mark l.index = search rules in
+    let below : l.index < length ps = omega (arith, c.loop-index-test.true, ap length c.deref-point-items.ensures.value) in
+    let old = l.invariant in
+    elim c.if-distance-least.branch [
+      | then-distance-least w ↦
+          subst (λ b. IsNearestIndex ps mark (l.index + 1) b c.if-distance-least.least) (sym w.best-is)
+          (record {
+            scanned = IsFirstLeastBelow-takes (distance_at ps mark) (λ i. i < length ps) l.index l.best old.scanned below
+                (omega (arith, here, old.is, w.if-distance-least));
+            is = w.least-is ∙ here;
+          })
+      | else-distance-least w ↦
+          subst (λ b. IsNearestIndex ps mark (l.index + 1) b c.if-distance-least.least) (sym w.best-is)
+          (record {
+            scanned = IsFirstLeastBelow-keeps (distance_at ps mark) (λ i. i < length ps) l.index l.best old.scanned
+                (omega (arith, here, old.is, w.if-distance-least));
+            is = w.least-is ∙ old.is;
+          })
+    ]

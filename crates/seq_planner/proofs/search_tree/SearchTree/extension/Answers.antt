@@ -12,16 +12,40 @@ use Rattle.plan_model.specs.Textbook.{setup_of, near_new, cost_through}
 use Rattle.plan_model.specs.Trees.{points_of}
 use Rattle.plan_model.proofs.DistinctPoints.{near-present}
 use Rattle.plan_model.proofs.SamePoints.{same_point-true, same_point-false}
-use Rattle.seq_planner.proofs.PresentNumbers.{ArePlaced-bounded}
+use Rattle.seq_planner.proofs.PresentNumbers.{ArePlaced-bounded, ArePlaced-count, ArePlaced-numbered}
 use Rattle.seq_planner.proofs.ReadCosts.{through-bound}
-use Rattle.seq_planner.proofs.SoundTrees.{some_present}
+use Rattle.seq_planner.proofs.SoundTrees.{IsBounded-present, few_present, some_present}
 use Rattle.seq_planner.proofs.ReadSteering.{Steers-read, IsBounded-steered}
 use Rattle.seq_planner.proofs.MarkExtensions.{is_free, IsExtensionOf-same, IsExtensionOf-blocked, IsExtensionOf-placed}
 use Rattle.seq_planner.proofs.search_tree.SearchTree.extension.Goals as goal
 
+pub overflow_cast-turn : goal.overflow_cast-turn
+overflow_cast-turn g c = omega (arith, c.len-turn.ensures, c.requires.turn, c.requires.few, c.args.self.now.records.ok.0)
+
+pub nearest-nearest-requires-clause-some : goal.nearest-nearest-requires-clause-some
+nearest-nearest-requires-clause-some g c =
+    let tree = c.args.self.now in
+    omega (
+      arith,
+      ArePlaced-count (points_of tree.nodes) tree.placed c.requires.sound.are_placed,
+      some_present tree.nodes tree.costs.items tree.placed c.requires.sound,
+    )
+
+pub nearest-nearest-requires-clause-numbered : goal.nearest-nearest-requires-clause-numbered
+nearest-nearest-requires-clause-numbered g c = ArePlaced-numbered (points_of c.args.self.now.nodes) c.args.self.now.placed c.requires.sound.are_placed
+
 pub nearest-nearest-requires-clause-nodes : goal.nearest-nearest-requires-clause-nodes
 nearest-nearest-requires-clause-nodes g c =
     ArePlaced-bounded (points_of c.args.self.now.nodes) c.args.self.now.placed c.requires.sound.are_placed c.requires.sound.bounded
+
+pub point-from-requires : goal.point-from-requires
+point-from-requires g c = (c.nearest-nearest.ensures (points_of c.args.self.now.nodes) c.requires.sound.are_placed).member
+
+pub steer-point-requires-clause-from : goal.steer-point-requires-clause-from
+steer-point-requires-clause-from g c =
+    let tree = c.args.self.now in
+    IsBounded-present tree.nodes tree.costs.items tree.placed c.nearest-nearest.result c.point-from.result c.requires.sound
+    (c.nearest-nearest.ensures (points_of tree.nodes) c.requires.sound.are_placed).member c.point-from.ensures
 
 pub returns-then-eq : goal.returns-then-eq
 returns-then-eq g c =
@@ -43,6 +67,23 @@ returns-then-not-clear g c =
     c.clear-2.ensures.1 (subst (λ (space : ConfigurationSpace). Clear space c.point-from.result c.steer-point.result) (sym c.requires.hall) clear) in
     cc))
     (record { node = c.blocked.ensures.node; cost = c.blocked.ensures.cost; recorded = c.blocked.ensures.entry })
+
+pub at-requires-clause-some : goal.at-requires-clause-some
+at-requires-clause-some g c =
+    let tree = c.args.self.now in
+    omega (
+      arith,
+      c.count-present.ensures (points_of tree.nodes) c.requires.sound.are_placed,
+      some_present tree.nodes tree.costs.items tree.placed c.requires.sound,
+    )
+
+pub at-requires-clause-most : goal.at-requires-clause-most
+at-requires-clause-most g c =
+    let tree = c.args.self.now in
+    omega (arith, c.count-present.ensures (points_of tree.nodes) c.requires.sound.are_placed, few_present tree.nodes, c.requires.few)
+
+pub near-requires-clause-numbered : goal.near-requires-clause-numbered
+near-requires-clause-numbered g c = ArePlaced-numbered (points_of c.args.self.now.nodes) c.args.self.now.placed c.requires.sound.are_placed
 
 pub near-requires-clause-nodes : goal.near-requires-clause-nodes
 near-requires-clause-nodes g c =

@@ -1,0 +1,9 @@
+//! Tests of `seq_planner` by its public call. They are a crate of their own, so that the library is proved once.
+#![tactic(auto)]
+
+#[cfg(test)]
+mod near_nodes;
+#[cfg(test)]
+mod test_runs;
+#[cfg(test)]
+mod textbook_runs;
