@@ -1,7 +1,6 @@
 pub mod RootLaws
 pub mod SamePoints
 pub mod EmptyRoomClearance
-pub mod ShortLists
 pub mod ChainLaws
 pub mod TreeChanges
 pub mod NewNodes
@@ -14,9 +13,6 @@ pub mod UniqueRuns
 pub mod OpenRoomMarks
 pub mod ThreeMarks
 pub mod RewiredRun
-pub mod KeptRun
-pub mod HandledThird
-pub mod OverlappingMarks
 pub mod RunLaws
 pub mod MarkBounds
 pub mod FreePoints
@@ -81,5 +77,3 @@ pub mod SightLaws
 pub mod TrueSights
 pub mod SightsTogether
 pub mod SeenParentLaws
-pub mod SeenByOne
-pub mod SeenByTwo

@@ -1,4 +1,4 @@
--- Worked examples of the definitions, each a statement that the contract of a function in src/vectors.rt names.
+-- Worked examples of the definitions, each a statement that the contract of a function in plan_model_tests/src/vectors.rt names.
 pub mod Shapes
 pub mod Costs
 pub mod Steps

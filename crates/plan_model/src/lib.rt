@@ -24,7 +24,6 @@ mod tasks;
 mod text_terms;
 mod tree_laws;
 mod trees;
-mod vectors;
 mod way_laws;
 
 pub use errors::{Failed, Memory};

@@ -11,3 +11,5 @@ mod memory_streams;
 mod small_scenes;
 #[cfg(test)]
 mod spans;
+#[cfg(test)]
+mod vectors;

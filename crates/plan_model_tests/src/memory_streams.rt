@@ -1,69 +1,96 @@
 //! Sources and sinks in memory, that move bytes in pieces and fail chosen calls.
 
 use plan_model::{Failed, MemSink, MemSource, Sink, Source, SureSource};
+use std::process::Abort;
 use std::test::Fail;
+
+/// Asserts one read of a source into a piece of three bytes: these come.
+fn assert_piece(rt: &impl Abort, source: &mut SureSource, want: &str) {
+    let mut piece = [0; 3];
+    let count = source.read(&mut piece).unwrap_or(0);
+    assert_eq!(rt; &piece[..count], want.as_bytes());
+}
 
 #[test]
 fn reads_in_pieces(rt: HostRuntime) -> Result<(), Fail> {
     let mut source = SureSource::new(rt.alloc(), b"prrt 1\n")?;
-    let mut piece = [0; 3];
-    for want in ["prr", "t 1", "\n", ""] {
-        let count = source.read(&mut piece)?;
-        assert_eq!(rt; &piece[..count], want.as_bytes());
-    }
-    assert_eq!(rt; source.read(&mut [])?, 0);
+    assert_piece(&rt, &mut source, "prr");
+    assert_piece(&rt, &mut source, "t 1");
+    assert_piece(&rt, &mut source, "\n");
+    assert_piece(&rt, &mut source, "");
+    assert_eq!(rt; source.read(&mut []), Ok(0));
     assert_eq!(rt; source.faults(), 0);
     Ok(())
 }
 
+/// What a read is to answer, and what is to stand in its piece of four bytes after it.
+type Reading = (Result<usize, Failed>, &'static str);
+
+/// Asserts one read of a source, after one into nothing, which does not count.
+fn assert_read(rt: &impl Abort, source: &mut MemSource, (want, bytes): Reading) {
+    assert_eq!(rt; source.read(&mut []), Ok(0));
+    let mut piece = *b"....";
+    assert_eq!(rt; source.read(&mut piece), want, "before {bytes:?}");
+    assert_eq!(rt; piece.as_slice(), bytes.as_bytes());
+}
+
+/// Asserts the first reads of a source of seven bytes, and how many of them failed.
+fn assert_reads(rt: &impl Abort, mut source: MemSource, readings: &[Reading], faults: u64) {
+    for reading in readings {
+        assert_read(rt, &mut source, *reading);
+    }
+    assert_eq!(rt; source.faults(), faults);
+}
+
 #[test]
 fn gives_as_its_numbers_say(rt: HostRuntime) -> Result<(), Fail> {
-    let fails = Err(Failed);
-    for (most, numbers, wants, faults) in [
-        (
-            9,
-            [0, 7],
-            [(Ok(4), "abcd"), (Ok(3), "efg."), (Ok(0), "....")],
-            0,
-        ),
-        (
-            3,
-            [5, 2],
-            [(Ok(3), "abc."), (fails, "...."), (Ok(3), "def.")],
-            1,
-        ),
-        (
-            1,
-            [2, 1],
-            [(fails, "...."), (fails, "...."), (Ok(1), "a...")],
-            2,
-        ),
-    ] {
-        let mut source = MemSource::new(rt.alloc(), b"abcdefg", most, &numbers)?;
-        for (want, bytes) in wants {
-            assert_eq!(rt; source.read(&mut [])?, 0);
-            let mut piece = *b"....";
-            assert_eq!(rt; source.read(&mut piece), want, "before {bytes:?}");
-            assert_eq!(rt; piece.as_slice(), bytes.as_bytes());
-        }
-        assert_eq!(rt; source.faults(), faults);
-    }
+    let source = MemSource::new(rt.alloc(), b"abcdefg", 9, &[0, 7])?;
+    let readings = [(Ok(4), "abcd"), (Ok(3), "efg."), (Ok(0), "....")];
+    assert_reads(&rt, source, &readings, 0);
     Ok(())
 }
 
 #[test]
+fn fails_a_read_between_two(rt: HostRuntime) -> Result<(), Fail> {
+    let source = MemSource::new(rt.alloc(), b"abcdefg", 3, &[5, 2])?;
+    let readings = [(Ok(3), "abc."), (Err(Failed), "...."), (Ok(3), "def.")];
+    assert_reads(&rt, source, &readings, 1);
+    Ok(())
+}
+
+#[test]
+fn fails_the_first_two_reads(rt: HostRuntime) -> Result<(), Fail> {
+    let source = MemSource::new(rt.alloc(), b"abcdefg", 1, &[2, 1])?;
+    let readings = [
+        (Err(Failed), "...."),
+        (Err(Failed), "...."),
+        (Ok(1), "a..."),
+    ];
+    assert_reads(&rt, source, &readings, 2);
+    Ok(())
+}
+
+/// Asserts one write to a sink.
+fn assert_write(rt: &impl Abort, sink: &mut MemSink, bytes: &str, want: Result<usize, Failed>) {
+    assert_eq!(rt; sink.write(bytes.as_bytes()), want, "of {bytes:?}");
+}
+
+/// Writes to a sink of seven bytes that fails its second and its fifth call, and what each is to answer.
+static WRITES: [(&str, Result<usize, Failed>); 7] = [
+    ("abcd", Ok(3)),
+    ("de", Err(Failed)),
+    ("", Ok(0)),
+    ("de", Ok(2)),
+    ("fghi", Ok(2)),
+    ("hi", Err(Failed)),
+    ("hi", Err(Failed)),
+];
+
+#[test]
 fn takes_as_its_numbers_say(rt: HostRuntime) -> Result<(), Fail> {
     let mut sink = MemSink::new(rt.alloc(), 7, 3, &[2, 5])?;
-    for (bytes, want) in [
-        ("abcd", Ok(3)),
-        ("de", Err(Failed)),
-        ("", Ok(0)),
-        ("de", Ok(2)),
-        ("fghi", Ok(2)),
-        ("hi", Err(Failed)),
-        ("hi", Err(Failed)),
-    ] {
-        assert_eq!(rt; sink.write(bytes.as_bytes()), want, "of {bytes:?}");
+    for (bytes, want) in &WRITES {
+        assert_write(&rt, &mut sink, bytes, *want);
     }
     assert_eq!(rt; sink.bytes(), b"abcdefg".as_slice());
     assert_eq!(rt; sink.faults(), 3);

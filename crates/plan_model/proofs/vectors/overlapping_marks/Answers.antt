@@ -1,8 +1,0 @@
-use Rattle.plan_model.proofs.OverlappingMarks.{IsClosed-overlapped, not_handled_whole}
-use Rattle.plan_model.proofs.vectors.overlapping_marks.Goals as goal
-
-pub returns : goal.returns
-returns c = record {
-  closed = IsClosed-overlapped;
-  not_whole = λ before moved grows whole. not_handled_whole before grows moved whole;
-}

@@ -1,0 +1,62 @@
+use Rattle.std.proofs.Common.{[], ◌∷◌, arith, refl}
+use Rattle.plan_model.specs.declared.scenes.Scene.{Scene}
+use Rattle.plan_model.specs.declared.scenes.Marks.TheVariants.{Listed}
+use Rattle.plan_model.specs.TextLines.{lines_of}
+use Rattle.plan_model.specs.SceneGrammar.{supported}
+use Rattle.plan_model.specs.Vectors.Shapes.{at, corner, corner_below}
+use Rattle.plan_model.specs.Vectors.Texts.{text_with_polygons}
+use Rattle.plan_model.proofs.Soundness.{are_sound, IsSoundBelow-from_test}
+use Rattle.plan_model_tests.proofs.vectors.polygon_spelling.Goals as goal
+
+the_scene : Scene
+the_scene = record {
+  version = 1;
+  room = at 9 9;
+  body = corner_below 1 2 ∷ corner 3 0 ∷ corner 0 4 ∷ [];
+  obstacles = (corner 4 4 ∷ corner 6 4 ∷ corner 5 7 ∷ []) ∷ (corner_below 9 2 ∷ corner 3 2 ∷ corner 3 3 ∷ []) ∷ [];
+  start = at 0 0;
+  goal = record { low = at 1 1; high = at 2 2 };
+  step = 4;
+  gamma = 0;
+  seed = 0;
+  strips = 1;
+  plan = Listed [];
+  version_is_one = refl;
+  room_within = record { left = omega arith; right = omega arith; bottom = omega arith; top = omega arith };
+  body_within = refl;
+  obstacles_within = refl;
+  start_within = record { left = omega arith; right = omega arith; bottom = omega arith; top = omega arith };
+  goal_within = record { right = omega arith; top = omega arith; horizontal = omega arith; vertical = omega arith };
+  step_low = omega arith;
+  step_high = omega arith;
+  gamma_high = omega arith;
+  seed_high = omega arith;
+  strips_low = omega arith;
+  strips_high = omega arith;
+  plan_within = refl;
+}
+
+pub returns : goal.returns
+unfolding the_scene are_sound
+returns c = record {
+  scene = the_scene;
+  spelled = record {
+    sound = IsSoundBelow-from_test supported (lines_of text_with_polygons) 8 refl;
+    whole = refl;
+    fields = record {
+      version = refl;
+      room = refl;
+      body = refl;
+      obstacles = refl;
+      start = refl;
+      goal = refl;
+      step = refl;
+      gamma = refl;
+      seed = refl;
+      strips = refl;
+      plan = refl;
+    };
+  };
+  body = refl;
+  obstacles = refl;
+}

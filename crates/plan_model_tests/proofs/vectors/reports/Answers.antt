@@ -1,0 +1,25 @@
+use Rattle.std.proofs.Common.{◌≡◌, arith, refl}
+use Rattle.std.specs.Fmt.{digits}
+use Rattle.plan_model.specs.Roots.{root_ceiling}
+use Rattle.plan_model.proofs.RootLaws.{root_ceiling-from_squares}
+use Rattle.plan_model_tests.proofs.vectors.reports.Goals as goal
+
+edge : root_ceiling 163840000 ≡ 12800
+edge = root_ceiling-from_squares 163840000 12800 (omega arith) (omega arith)
+
+pub returns : goal.returns
+unfolding digits
+returns c = record {
+  best = λ scene e. rw e refl;
+  past_the_limit = λ scene e. rw e refl;
+  report = λ scene e. rw (e, edge) refl;
+  low_corner = refl;
+  high_corner = refl;
+  left_of_it = refl;
+  above_it = refl;
+  tied = λ scene e. rw (e, edge) refl;
+  none_reached = λ scene e. rw e refl;
+  no_path = λ scene e. rw e refl;
+  start_in_goal = λ scene e. rw e refl;
+  in_full = λ scene e. rw (e, edge) refl;
+}
