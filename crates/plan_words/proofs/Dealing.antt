@@ -8,6 +8,7 @@ use Rattle.atomic_table.specs.Seated.{TableId}
 use Rattle.plan_model.specs.Turns.{turns_of}
 use Rattle.plan_model.specs.declared.limits.TheConstants.{MOST_WORKERS}
 use Rattle.plan_words.specs.Chains.{HasParentsWithin}
+use Rattle.plan_words.specs.Dealt.{IsPassOf, StandsFor, each_after}
 use Rattle.plan_words.specs.States.{BelongsTo, HoldsWorld, IsTableOf, IsTied, MayClaim, PassState, SharedState}
 use Rattle.plan_words.specs.States.{StartsAs, first_of, first_view, new_pass, run_in, run_of_opening, with_view}
 use Rattle.plan_words.specs.declared.openings.Opening.{Opening}
@@ -85,21 +86,6 @@ module _
 
 -- ---- one pass after another
 
--- the pass stands for worker w alone, and has seen what the first pass had
-abbrev pub IsPassOf : SharedState → PassState → ℕ → PassState → Type 0
-IsPassOf shared first w pass =
-    BelongsTo pass shared × (pass.view.crew ≡ member_of (run_in shared) (sees first.view) w ∷ []) × (pass.view.most ≡ first.view.most)
-    × (pass.view.hand ≡ None) × (sees pass.view ≡ sees first.view) × (pass ≡ new_pass pass.table pass.view)
-
--- Before worker w has a pass of its own, the first pass stands for worker 0 and for those from w on.
-pub record StandsFor (shared : SharedState) (first : PassState) (w : ℕ) (pass : PassState) : Type 0 where
-  pub belongs : BelongsTo pass shared
-  pub crew : pass.view.crew ≡ member_of (run_in shared) (sees first.view) 0 ∷ crew_from (run_in shared) (sees first.view) w (shared.workers - w)
-  pub most : pass.view.most ≡ first.view.most
-  pub hand : pass.view.hand ≡ None
-  pub seen : sees pass.view ≡ sees first.view
-  pub lists : pass ≡ new_pass pass.table pass.view
-
 -- at first it stands for all
 pub StandsFor-all :
     (shared : SharedState) (first : PassState) → 0 < shared.workers → BelongsTo first shared
@@ -168,10 +154,6 @@ each-push has [] last all own zero pass e = subst (has 0) (some-injective last p
 each-push has [] last all own (suc i) pass e = absurd (some-ne-none pass (sym e))
 each-push has (one ∷ passes) last all own zero pass e = all zero pass e
 each-push has (one ∷ passes) last all own (suc i) pass e = each-push (λ j. has (suc j)) passes last (λ j. all (suc j)) own i pass e
-
--- each pass of a list has it for the number after its place
-abbrev pub each_after : (ℕ → PassState → Type 0) → List PassState → Type 0
-each_after has passes = (i : ℕ) (pass : PassState) → get_elem? passes i ≡ some pass → has (i + 1) pass
 
 pub each_after-push :
     (has : ℕ → PassState → Type 0) (passes after : List PassState) (last : PassState) (n : ℕ) → after ≡ passes ++ last ∷ [] → length passes + 1 ≡ n

@@ -1,6 +1,7 @@
 -- A pass goes on by a join and the load that follows it.
-use Rattle.std.proofs.Common.{◌≡◌, ℕ, ◌<◌, ◌≤◌, ◌^◌, Bool, List, [], ◌∷◌, ◌++◌, length, Option, Some, None, false, true, refl, sym, ap, ◌∙◌, subst, arith}
-use Rattle.std.specs.Prelude.{◌==◌, ◌&&◌, cond, is_some, nat_le, nat_lt, slice_index}
+use Rattle.std.proofs.Common.{◌≡◌, ℕ, ◌<◌, ◌≤◌, ◌^◌, Bool, List, [], ◌∷◌, ◌++◌, length, Option, false, true, refl, sym, ap, ◌∙◌, subst, arith}
+use Rattle.std.specs.Prelude.{◌==◌, ◌&&◌, cond, nat_le, nat_lt, slice_index}
+use Rattle.std.specs.Option.{option_or}
 use Rattle.atomic_table.specs.Seated.{TableId}
 use Rattle.atomic_table.specs.Table.{Me}
 use Rattle.plan_words.specs.declared.openings.Aim.{Aim}
@@ -67,13 +68,9 @@ AreBehind-taken_over inner other theirs me mid after theirs_is same mid_is told 
 -- ---- what the pass keeps
 
 -- the first of both crews is that of the one, or of the other if the one is empty
-pub first-own : (crew other : List Member) → is_some (first_of crew) ≡ true → first_of (crew ++ other) ≡ first_of crew
-first-own [] other h = cc
-first-own (member ∷ crew) other h = refl
-
-pub first-theirs : (crew other : List Member) → first_of crew ≡ None → first_of (crew ++ other) ≡ first_of other
-first-theirs [] other h = refl
-first-theirs (member ∷ crew) other h = cc
+pub first-joined : (crew other : List Member) → first_of (crew ++ other) ≡ option_or (first_of crew) (first_of other)
+first-joined [] other = refl
+first-joined (member ∷ crew) other = refl
 
 -- the tree words that either has seen, at the lower costs
 HasPairs-joined :
@@ -108,12 +105,6 @@ keeps_taken_over me mid after other own member hand for_spots for_near waiting p
       subst (λ m. HasPairs m.0 now) (sym mid_is) (HasPairs-joined me.0 other pairs others now same has theirs sized taken),
     ) in
     keeps_saw mid after member hand for_spots for_near waiting now Count place x x told kept tt at_place (λ n e. cc)
-
--- ---- whether the pass has a worker of its own
-
-pub none-member : (o : Option Member) → is_some o ≡ false → o ≡ None
-none-member None h = refl
-none-member (Some member) h = cc
 
 -- ---- the later of two tree words
 

@@ -7,6 +7,7 @@ pub mod LookedNodes
 pub mod FittingRecords
 pub mod Tying
 pub mod HandSteps
+pub mod ToldHands
 pub mod KeptPairs
 pub mod Joining
 pub mod LoweredNodes

@@ -1,7 +1,7 @@
 -- A node that waits is marked, comes on the list, and goes off it.
 use Rattle.std.proofs.Common.{◌≡◌, ◌≢◌, ◌⊎◌, ℕ, zero, suc, ◌<◌, ◌≤◌, Bool, true, false, List, []}
-use Rattle.std.proofs.Common.{◌∷◌, ◌++◌, length, refl, sym, ap, ◌∙◌, subst, ⊎_elim, inl, inr, arith}
-use Rattle.std.specs.Prelude.{replicate, slice_index, slice_set}
+use Rattle.std.proofs.Common.{◌∷◌, ◌++◌, Option, None, Some, append-nil, length, refl, sym, ap, ◌∙◌, subst, ⊎_elim, inl, inr, arith}
+use Rattle.std.specs.Prelude.{IfSome, option_to_list, replicate, slice_index, slice_set}
 use Rattle.std.proofs.lemmas.Bool.{cases_eq, cases_lt}
 use Rattle.std.proofs.lemmas.List.{get_or_append_left, get_or-set_other, get_or-set_same, length-append, length-set}
 use Rattle.plan_words.specs.Waiting.{AreMarked, IsOn, NoneMarked, count_marked, mark_at}
@@ -37,6 +37,24 @@ IsOn-cases nodes n m on = ⊎_elim
     let last : on.0 ≡ length nodes = omega (arith, length-end nodes n, on.1) in
     inr (sym on.2 ∙ ap (slice_index (nodes ++ n ∷ [])) last ∙ at-end nodes n))
     (cases_lt on.0 (length nodes))
+
+-- what was taken off the end was on the list, which has all others still, and is shorter
+pub IsOn-popped : (before after : List ℕ) (last : Option ℕ) → before ≡ after ++ option_to_list last → IfSome last (IsOn before)
+IsOn-popped before after None is = tt
+IsOn-popped before after (Some n) is = subst (λ l. IsOn l n) (sym is) (IsOn-end after n)
+
+pub IsOn-unless_popped :
+    (before after : List ℕ) (last : Option ℕ) → before ≡ after ++ option_to_list last → (m : ℕ) → IsOn before m → IsOn after m ⊎ (last ≡ Some m)
+IsOn-unless_popped before after None is m on = inl (subst (λ l. IsOn l m) (is ∙ append-nil after) on)
+IsOn-unless_popped before after (Some n) is m on = ⊎_elim
+    (λ (stays : IsOn after m). inl stays)
+    (λ (same : m ≡ n). inr (ap Some (sym same)))
+    (IsOn-cases after n m (subst (λ l. IsOn l m) is on))
+
+pub shorter-popped :
+    (before after : List ℕ) (last : Option ℕ) → before ≡ after ++ option_to_list last → IfSome last (λ _. length after < length before)
+shorter-popped before after None is = tt
+shorter-popped before after (Some n) is = omega (arith, ap (λ l. length l) is, length-end after n)
 
 -- ---- counting marks
 

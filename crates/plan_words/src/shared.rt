@@ -114,14 +114,16 @@ impl Shared {
         ensures goes_on { GoesOn pass.old.view pass.new.view }
         ensures may_claim { MayClaim self.now pass.new }
     {
-        if let Some(hand) = pass.hand {
-            let place = self.places.record(hand.mark as usize);
-            self.table
-                .shared
-                .store::<Finish>(&mut pass.seat, place, pack_mark(&entry));
-            pass.hand = None;
-            pass.member = next_turn(pass.member);
-        }
+        let Some(hand) = pass.hand else {
+            unreachable!()
+        };
+        let place = self.places.record(hand.mark as usize);
+        let word = pack_mark(&entry);
+        self.table
+            .shared
+            .store::<Finish>(&mut pass.seat, place, word);
+        pass.hand = None;
+        pass.member = next_turn(pass.member);
     }
 
     /// A pass that only looks, and has seen all that this one has. It has no share, nothing in hand and empty scratch lists,
@@ -181,9 +183,7 @@ impl Shared {
             .table
             .shared
             .load::<Load>(&mut pass.seat, self.places.count());
-        if pass.member.is_none() {
-            pass.member = member;
-        }
+        pass.member = pass.member.or(member);
     }
 }
 

@@ -6,17 +6,19 @@ ghost use mathlib.Core.Option.{some};
 ghost use Rattle.plan_model.specs.Turns.{turns_of};
 ghost use Rattle.plan_model.specs.declared.limits.TheConstants.{MOST_WORKERS};
 ghost use Rattle.plan_words.specs.Chains.{HasParentsWithin};
+ghost use Rattle.plan_words.specs.Dealt.{IsPassOf, StandsFor, each_after};
 ghost use Rattle.plan_words.specs.States.{BelongsTo, HasPairs, IsTied, MayClaim, PassState, StartsAs, first_view, new_pass, run_in, with_view};
+ghost use Rattle.step_core.specs.GrownRuns.{words_of_grown};
 ghost use Rattle.step_core.specs.GrownWords.{HoldRun, record_at, run_words, sizes_of};
 ghost use Rattle.step_core.specs.ViewSteps.{parted, second_alone, worker_apart};
-ghost use Rattle.step_core.specs.ViewStarts.{crew_from, member_of};
+ghost use Rattle.step_core.specs.ViewStarts.{crew_from};
 ghost use Rattle.step_core.specs.Views.{sees};
 ghost use Rattle.step_core.specs.WordNames.Word.{TreeOf};
 ghost use Rattle.step_core.specs.WordPlaces.{word_count};
 
 use crate::openings::{Aim, Opening};
 use crate::passes::Pass;
-use crate::rules::HandOn;
+use crate::rules::{HandOn, WorldLaw};
 use crate::scratch::Scratch;
 use crate::seen_pairs::SeenPairs;
 use crate::shared::Shared;
@@ -44,16 +46,29 @@ impl Shared {
             → StartsAs started.0 grown w pass) }
         ensures may_claim { IfOk result (λ started. All (MayClaim started.0) started.1.items) }
     {
-        let (task, limit, words) = grown.into_words();
-        let turns = count_turns(alloc, &task, words.as_slice(), workers)?;
-        let opening = Opening {
-            task,
-            workers,
-            limit,
-            words,
-        };
+        let opening = opening_of(grown, workers);
+        let turns = count_turns(alloc, &opening.task, opening.words.as_slice(), workers)?;
+        Shared::deal(alloc, opening, turns.as_slice())
+    }
+
+    /// The words of a run in one table, and a pass for each worker, whose next turns these are.
+    fn deal(alloc: Global, opening: Opening, turns: &[u32]) -> Result<(Shared, Vec<Pass>), Memory>
+        requires sized { length opening.words.items ≡ word_count (sizes_of opening.task) }
+        requires run { HoldRun opening.task opening.limit (run_words opening.task opening.words.items) }
+        requires some { 1 ≤ opening.workers }
+        requires few { opening.workers ≤ MOST_WORKERS }
+        requires counted { length turns.now ≡ opening.workers }
+        requires turns { (w : ℕ) → w < opening.workers
+            → slice_index turns.now w ≡ turns_of (record_at (run_words opening.task opening.words.items)) (length opening.task.marks) w }
+        ensures task { IfOk result (λ dealt. dealt.0.task ≡ opening.task) }
+        ensures workers { IfOk result (λ dealt. dealt.0.workers ≡ opening.workers) }
+        ensures opening { IfOk result (λ dealt. dealt.0.opening ≡ opening.limit) }
+        ensures count { IfOk result (λ dealt. length dealt.1.items ≡ opening.workers) }
+        ensures passes { IfOk result (λ dealt. (w : ℕ) (pass : PassState) → get_elem? dealt.1.items w ≡ some pass
+            → IsPassOf dealt.0 (new_pass dealt.0.table (first_view opening)) w pass) }
+    {
         let (shared, first) = Shared::open(alloc, opening, turns[0])?;
-        let passes = shared.hand_out(first, turns.as_slice())?;
+        let passes = shared.hand_out(first, turns)?;
         Ok((shared, passes))
     }
 
@@ -69,9 +84,7 @@ impl Shared {
         ensures opening { IfOk result (λ opened. opened.0.opening ≡ opening.limit) }
         ensures first { IfOk result (λ opened. opened.1 ≡ new_pass opened.0.table (first_view opening)) }
     {
-        let pairs = tree_words(alloc, &opening.task, opening.words.as_slice())?;
-        let (table, seat) = Table::of_words(alloc, opening.words.as_slice(), &opening)?;
-        let first = first_pass(alloc, seat, turn, pairs)?;
+        let (table, first) = table_of(alloc, &opening, turn)?;
         let places = WordPlaces::of(&opening.task);
         let shared = Shared {
             table,
@@ -96,18 +109,30 @@ impl Shared {
         requires turns { (w : ℕ) → w < self.now.workers
             → slice_index turns.now w ≡ turns_of (record_at (sees first.view)) (length self.now.task.marks) w }
         ensures count { IfOk result (λ passes. length passes.items ≡ self.now.workers) }
-        ensures passes { IfOk result (λ passes. (w : ℕ) (pass : PassState) → get_elem? passes.items w ≡ some pass
-            → BelongsTo pass self.now × (pass.view.crew ≡ member_of (run_in self.now) (sees first.view) w ∷ [])
-            × (pass.view.most ≡ first.view.most) × (pass.view.hand ≡ None) × (sees pass.view ≡ sees first.view)
-            × (pass ≡ new_pass pass.table pass.view)) }
+        ensures passes { IfOk result (λ passes. (w : ℕ) (pass : PassState) → get_elem? passes.items w ≡ some pass → IsPassOf self.now first w pass) }
     {
         let mut first = first;
+        let mut passes = self.hand_on_all(&mut first, turns)?;
+        passes.insert(0, first)?;
+        Ok(passes)
+    }
+
+    /// The passes of all workers but the first, made from the one that stands for them all, which is that of worker 0 then.
+    fn hand_on_all(&self, first: &mut Pass, turns: &[u32]) -> Result<Vec<Pass>, AllocError>
+        requires some { 1 ≤ self.now.workers }
+        requires stands { StandsFor self.now first.old 1 first.old }
+        requires counted { length turns.now ≡ self.now.workers }
+        requires turns { (w : ℕ) → w < self.now.workers
+            → slice_index turns.now w ≡ turns_of (record_at (sees first.old.view)) (length self.now.task.marks) w }
+        ensures first { OnOk result (IsPassOf self.now first.old 0 first.new) }
+        ensures count { IfOk result (λ passes. length passes.items + 1 ≡ self.now.workers) }
+        ensures passes { IfOk result (λ passes. each_after (IsPassOf self.now first.old) passes.items) }
+    {
         let mut passes = Vec::new(self.alloc);
         for worker in 1..self.workers {
-            let pass = self.hand_on(&mut first, worker, turns[worker as usize])?;
+            let pass = self.hand_on(first, worker, turns[worker as usize])?;
             passes.push(pass)?;
         }
-        passes.insert(0, first)?;
         Ok(passes)
     }
 
@@ -129,6 +154,47 @@ impl Shared {
             scratch,
         })
     }
+}
+
+/// A closed run that so many workers go on from.
+fn opening_of(grown: Grown, workers: u32) -> Opening
+    ensures task { result.task ≡ grown.task }
+    ensures workers { result.workers ≡ workers }
+    ensures limit { result.limit ≡ grown.limit }
+    ensures sized { length result.words.items ≡ word_count (sizes_of result.task) }
+    ensures words { run_words result.task result.words.items ≡ words_of_grown grown }
+    ensures run { HoldRun result.task result.limit (run_words result.task result.words.items) }
+{
+    let (task, limit, words) = grown.into_words();
+    Opening {
+        task,
+        workers,
+        limit,
+        words,
+    }
+}
+
+/// The table of an opening, and the pass that stands for all workers. It works as worker 0, whose next turn this is.
+fn table_of(
+    alloc: Global,
+    opening: &Opening,
+    turn: u32,
+) -> Result<(Table<Aim, View, Opening, WorldLaw, Global>, Pass), AllocError>
+    requires sized { length opening.now.words.items ≡ word_count (sizes_of opening.now.task) }
+    requires run { HoldRun opening.now.task opening.now.limit (run_words opening.now.task opening.now.words.items) }
+    requires some { 1 ≤ opening.now.workers }
+    requires few { opening.now.workers ≤ MOST_WORKERS }
+    requires turn { turn ≡ turns_of (record_at (run_words opening.now.task opening.now.words.items)) (length opening.now.task.marks) 0 }
+    ensures words { IfOk result (λ laid. laid.0.shared.table_id.words ≡ length opening.now.words.items) }
+    ensures slots { IfOk result (λ laid. laid.0.shared.table_id.slots ≡ 0) }
+    ensures key { IfOk result (λ laid. laid.0.shared.key ≡ opening.now) }
+    ensures first { IfOk result (λ laid. laid.1 ≡ new_pass laid.0.shared.table_id (first_view opening.now)) }
+{
+    let words = opening.words.as_slice();
+    let pairs = tree_words(alloc, &opening.task, words)?;
+    let (table, seat) = Table::of_words(alloc, words, opening)?;
+    let first = first_pass(alloc, seat, turn, pairs)?;
+    Ok((table, first))
 }
 
 /// The pass that stands for all workers. It works as worker 0, whose next turn this is.

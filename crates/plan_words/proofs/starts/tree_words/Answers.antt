@@ -16,6 +16,13 @@ loop-node-init c =
     let count = ap (λ l. length l) c.in_ok-pairs.ensures ∙ length-replicate (c.marks.result + 1) zero in
     record { sized = count ∙ ap (λ n. n + 1) marks; read = λ n low. absurd (omega (arith, low)) }
 
+pub set-requires-clause-node : goal.set-requires-clause-node
+set-requires-clause-node c =
+    let marks = c.marks.ensures ∙ ap (λ s. s.marks) c.of-places.ensures in
+    let zero : ℕ = 0 in
+    let count = ap (λ l. length l) c.in_ok-pairs.ensures ∙ length-replicate (c.marks.result + 1) zero in
+    omega (arith, c.loop-node-test.true, c.len-node-end.ensures, count, marks, c.loop-node.invariant.sized)
+
 pub set-requires-clause-parent : goal.set-requires-clause-parent
 set-requires-clause-parent c written =
     let marks = c.marks.ensures ∙ ap (λ s. s.marks) c.of-places.ensures in
@@ -63,3 +70,6 @@ returns-clause-each c n low =
     let zero : ℕ = 0 in
     let count = ap (λ l. length l) c.in_ok-pairs.ensures ∙ length-replicate (c.marks.result + 1) zero in
     c.loop-node.invariant.read n (omega (arith, low, marks, count, c.len-node-end.ensures, c.loop-node-test.false))
+
+pub returns-clause-count : goal.returns-clause-count
+returns-clause-count c = c.loop-node.invariant.sized

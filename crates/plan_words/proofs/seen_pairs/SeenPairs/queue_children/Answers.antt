@@ -1,7 +1,7 @@
-use Rattle.std.proofs.Common.{◌+◌, ◌<◌, suc, length, refl, sym, ap, ◌∙◌, subst, arith}
+use Rattle.std.proofs.Common.{◌≡◌, ◌⊎◌, ◌+◌, ◌<◌, suc, length, refl, sym, ap, ◌∙◌, subst, arith}
 use Rattle.std.proofs.lemmas.List.{get_or_default}
 use Rattle.plan_words.specs.Chains.{sibling_chain_in}
-use Rattle.plan_words.specs.Waiting.{WaitingState}
+use Rattle.plan_words.specs.Waiting.{IsOn, WaitingState}
 use Rattle.plan_words.proofs.ChainWalks.{IsWalk, IsWalk-all, IsWalk-ends, IsWalk-start, IsWalk-step}
 use Rattle.plan_words.proofs.seen_pairs.SeenPairs.queue_children.Goals as goal
 
@@ -23,6 +23,39 @@ loop-init c =
           c.args.parent c.args.waiting.now.nodes index);
       kept = refl;
     }
+
+pub returns-then-child-eq0-clause-kept : goal.returns-then-child-eq0-clause-kept
+returns-then-child-eq0-clause-kept c = c.loop.invariant.kept
+
+pub returns-then-child-eq0-clause-all : goal.returns-then-child-eq0-clause-all
+returns-then-child-eq0-clause-all c n e =
+    IsWalk-all _ _ _ _ _ _ _ _ _ _ c.loop.invariant.walk c.if-child-eq0.true n (ap (λ l. sibling_chain_in l n) c.self.view_is ∙ e)
+
+pub returns-then-child-eq0-clause-keeps : goal.returns-then-child-eq0-clause-keeps
+returns-then-child-eq0-clause-keeps c = c.loop.invariant.walk.keeps
+
+pub returns-then-child-eq0-clause-only : goal.returns-then-child-eq0-clause-only
+returns-then-child-eq0-clause-only c n on =
+    subst (λ l. IsOn c.args.waiting.now.nodes n ⊎ (sibling_chain_in l n ≡ suc c.args.parent)) c.self.view_is (c.loop.invariant.walk.only n on)
+
+pub push-requires-clause-waits : goal.push-requires-clause-waits
+push-requires-clause-waits c = ap (λ w. w.waits) c.loop.invariant.kept ∙ c.requires.waits
+
+pub push-requires-clause-low : goal.push-requires-clause-low
+push-requires-clause-low c =
+    let walk = c.loop.invariant.walk in
+    omega (
+      arith,
+      walk.within c.loop.child (omega (arith, walk.here (omega (arith, c.if-child-eq0.false)))),
+      ap (λ w. w.size) c.loop.invariant.kept,
+      c.requires.size,
+      ap (λ l. length l) c.self.view_is,
+    )
+
+pub index-child-requires-in-loop : goal.index-child-requires-in-loop
+index-child-requires-in-loop c =
+    let walk = c.loop.invariant.walk in
+    omega (arith, c.self.invariant.1.nexts, walk.within c.loop.child (omega (arith, walk.here (omega (arith, c.if-child-eq0.false)))))
 
 pub loop-preserved : goal.loop-preserved
 loop-preserved c =
@@ -51,3 +84,13 @@ returns-clause-all c n e =
     let walk = c.loop.invariant.walk in
     let end = IsWalk-ends _ _ _ _ _ _ _ _ _ _ walk (omega arith) (omega (arith, c.loop-test.false, c.len-end.ensures)) in
     IsWalk-all _ _ _ _ _ _ _ _ _ _ walk end n (ap (λ l. sibling_chain_in l n) c.self.view_is ∙ e)
+
+pub returns-clause-kept : goal.returns-clause-kept
+returns-clause-kept c = c.loop.invariant.kept
+
+pub returns-clause-keeps : goal.returns-clause-keeps
+returns-clause-keeps c = c.loop.invariant.walk.keeps
+
+pub returns-clause-only : goal.returns-clause-only
+returns-clause-only c n on =
+    subst (λ l. IsOn c.args.waiting.now.nodes n ⊎ (sibling_chain_in l n ≡ suc c.args.parent)) c.self.view_is (c.loop.invariant.walk.only n on)

@@ -5,7 +5,8 @@ use Rattle.plan_words.proofs.GoingOn.{GoesOn-more, GoesOn-trans}
 use Rattle.plan_words.proofs.WholeClaims.{HasWholeShare-kept, IsLeastOpen-first, RaisesCounter-exchanged, whole_twice}
 use Rattle.plan_words.proofs.shared.Shared.claim.Goals as goal
 use Rattle.plan_words.specs.Claims.{AllFull, IsOpen, KeepsHand, SeesAsBefore}
-use Rattle.plan_words.specs.States.{worker_of}
+use Rattle.plan_words.specs.States.{run_in, worker_of}
+use Rattle.step_core.specs.ViewSteps.{mark_of}
 use Rattle.step_core.proofs.LaterViews.{IsLater-refl, IsLater-trans}
 
 pub tries-init : goal.tries-init
@@ -141,3 +142,34 @@ returns-then-exchange-from-clause-view_alone c =
     view_alone-more c.args.pass.now c.first_open.new.pass c.exchange.new.pass _
     (view_alone-more c.args.pass.now c.tries.pass c.first_open.new.pass _ c.tries.invariant.alone c.first_open.ensures.view_alone)
     c.exchange.ensures.view
+
+pub returns-in_err-next-clause-belongs : goal.returns-in_err-next-clause-belongs
+returns-in_err-next-clause-belongs c = c.first_open.ensures.belongs
+
+pub exchange-requires-clause-belongs : goal.exchange-requires-clause-belongs
+exchange-requires-clause-belongs c = c.first_open.ensures.belongs
+
+pub exchange-requires-clause-strip : goal.exchange-requires-clause-strip
+exchange-requires-clause-strip c = subst (λ r. c.in_ok-next.next.strip < r.strips) c.first_open.ensures.belongs.run c.in_ok-next.ensures.first.strip
+
+pub exchange-requires-clause-low : goal.exchange-requires-clause-low
+exchange-requires-clause-low c =
+    let next = c.in_ok-next.next in
+    subst (λ r. mark_of r next.strip next.round < c.args.limit) c.first_open.ensures.belongs.run c.in_ok-next.ensures.first.low
+
+pub returns-then-exchange-from-clause-belongs : goal.returns-then-exchange-from-clause-belongs
+returns-then-exchange-from-clause-belongs c =
+    let belongs = c.first_open.ensures.belongs in
+    record { table = ap (λ p. p.table) c.exchange.ensures.view ∙ belongs.table; run = c.exchange.ensures.goes_on.later.run ∙ belongs.run }
+
+pub overflow_mul-result : goal.overflow_mul-result
+overflow_mul-result c =
+    let next = c.in_ok-next.next in
+    let low = subst (λ r. mark_of r next.strip next.round < c.args.limit) c.first_open.ensures.belongs.run c.in_ok-next.ensures.first.low in
+    omega (arith, subst (λ s. mark_of (run_in s) next.strip next.round < c.args.limit) (sym c.self.view_is) low, c.ranges.limit)
+
+pub overflow_add-result : goal.overflow_add-result
+overflow_add-result c =
+    let next = c.in_ok-next.next in
+    let low = subst (λ r. mark_of r next.strip next.round < c.args.limit) c.first_open.ensures.belongs.run c.in_ok-next.ensures.first.low in
+    omega (arith, subst (λ s. mark_of (run_in s) next.strip next.round < c.args.limit) (sym c.self.view_is) low, c.ranges.limit)

@@ -1,14 +1,25 @@
-use Rattle.std.proofs.Common.{◌≡◌, ◌*◌, ◌+◌, ◌<◌, ◌≤◌, ◌==◌, None, Some, ap, cond, length, refl, subst, sym, ◌∙◌}
+use Rattle.std.proofs.Common.{◌≡◌, ℕ, ◌*◌, ◌+◌, ◌<◌, ◌≤◌, ◌==◌, None, Some, ap, cond, length, refl, subst, sym, ◌∙◌}
 use Rattle.std.proofs.lemmas.Bool.{eq-eqb, ne_eqb}
 use Rattle.plan_words.proofs.KeptPairs.{HasPairs-claimed, keeps_saw, keeps_view}
-use Rattle.plan_words.proofs.Owning.{found_whole, may_claim_here, same_run, same_table, sees_exchanged}
+use Rattle.plan_words.proofs.Owning.{found_whole, may_claim_here, same_run, same_table, sees_exchanged, tells_on, with_view_told}
 use Rattle.plan_words.proofs.shared.Shared.exchange.Goals as goal
 use Rattle.plan_words.specs.Plays.{Tells}
 use Rattle.plan_words.specs.States.{run_in}
-use Rattle.step_core.specs.ViewSteps.{claimed, mark_of, new_hand, saw_at}
+use Rattle.step_core.specs.ViewSteps.{claimed, loaded, mark_of, new_hand, place_in, saw_at}
 use Rattle.step_core.specs.Views.{sees, share}
 use Rattle.step_core.specs.WordNames.{WritesWord}
 use Rattle.step_core.specs.WordNames.Word.{Counter}
+use Rattle.step_core.specs.declared.views.View.{View}
+
+-- the view after an exchange was tried, by what the counter was
+abbrev view_exchanged : View → ℕ → ℕ → ℕ → ℕ → View
+view_exchanged view strip round limit x = cond (x == round) (claimed view strip round limit) (loaded view (Counter strip) x)
+
+view_exchanged-told :
+    (view then : View) (strip round next limit x place : ℕ) → then ≡ cond (x == round) (claimed view strip round limit) (saw_at view place x x)
+    → place ≡ place_in view (Counter strip) → round ≡ next → then ≡ view_exchanged view strip next limit x
+view_exchanged-told view then strip round next limit x place is at same =
+    is ∙ ap (λ n. cond (x == round) (claimed view strip round limit) (saw_at view n x x)) at ∙ ap (λ n. view_exchanged view strip n limit x) same
 
 pub compare_exchange_with-found-requires : goal.compare_exchange_with-found-requires
 compare_exchange_with-found-requires c =
@@ -88,3 +99,31 @@ returns-else-found-round-clause-whole c all =
     let here = subst (λ r. c.args.next.strip < r.strips) (sym own) strip in
     found_whole _ _ (Counter c.args.next.strip) _ _ (ap (λ p. p.view) c.pass.view_is) c.compare_exchange_with-found.ensures.2.whole (λ e. cc) here
     c.counter-place.ensures all
+
+pub returns-then-found-round-clause-view : goal.returns-then-found-round-clause-view
+returns-then-found-round-clause-view c =
+    let next = c.args.next in
+    with_view_told _ _ _ c.compare_exchange_with-found.new.seat.me.0
+    (λ v. view_exchanged v next.strip next.round c.args.limit c.compare_exchange_with-found.result) c.pass.view_is
+    c.compare_exchange_with-found.ensures.0
+    (view_exchanged-told c.pass.inside.seat.me.0 c.compare_exchange_with-found.new.seat.me.0 next.strip c.from-round.result next.round c.args.limit
+    c.compare_exchange_with-found.result c.counter-place.result c.compare_exchange_with-found.ensures.2.told.view_is c.counter-place.ensures
+    c.from-round.ensures)
+
+pub returns-then-found-round-clause-goes_on : goal.returns-then-found-round-clause-goes_on
+returns-then-found-round-clause-goes_on c =
+    tells_on _ c.pass.inside.seat.me c.compare_exchange_with-found.new.seat.me _ (ap (λ p. p.view) c.pass.view_is) c.compare_exchange_with-found.ensures.2.told
+
+pub returns-else-found-round-clause-view : goal.returns-else-found-round-clause-view
+returns-else-found-round-clause-view c =
+    let next = c.args.next in
+    with_view_told _ _ _ c.compare_exchange_with-found.new.seat.me.0
+    (λ v. view_exchanged v next.strip next.round c.args.limit c.compare_exchange_with-found.result) c.pass.view_is
+    c.compare_exchange_with-found.ensures.0
+    (view_exchanged-told c.pass.inside.seat.me.0 c.compare_exchange_with-found.new.seat.me.0 next.strip c.from-round.result next.round c.args.limit
+    c.compare_exchange_with-found.result c.counter-place.result c.compare_exchange_with-found.ensures.2.told.view_is c.counter-place.ensures
+    c.from-round.ensures)
+
+pub returns-else-found-round-clause-goes_on : goal.returns-else-found-round-clause-goes_on
+returns-else-found-round-clause-goes_on c =
+    tells_on _ c.pass.inside.seat.me c.compare_exchange_with-found.new.seat.me _ (ap (λ p. p.view) c.pass.view_is) c.compare_exchange_with-found.ensures.2.told

@@ -1,20 +1,37 @@
-use Rattle.std.proofs.Common.{◌<◌, length, refl, ap, subst, sym, ◌∙◌}
+use Rattle.std.proofs.Common.{◌<◌, arith, length, refl, ap, subst, sym, ◌∙◌}
 use Rattle.plan_words.proofs.KeptPairs.{HasPairs-finished, keeps_view, turned-first}
 use Rattle.plan_words.proofs.HandSteps.{at_hand}
 use Rattle.plan_words.proofs.LookedNodes.{place_here}
-use Rattle.plan_words.proofs.Owning.{may_finish_here, same_run, same_table}
-use Rattle.plan_words.proofs.Tying.{HasMember-held, entry_fits, turn_fits}
+use Rattle.plan_words.proofs.Owning.{goes_on_told, may_finish_here, same_run, same_table}
+use Rattle.plan_words.proofs.Tying.{HasMember-held, MayClaim-finished, entry_fits, turn_fits}
+use Rattle.plan_words.proofs.ToldHands.{none_held, with_view_told_hand}
 use Rattle.plan_words.proofs.shared.Shared.finish.Goals as goal
-use Rattle.plan_words.specs.States.{turn_of, turned, worker_of}
+use Rattle.plan_words.specs.States.{BelongsTo, turn_of, turned, worker_of}
 use Rattle.std.specs.Prelude.{IfSome}
-use Rattle.step_core.specs.ViewSteps.{finished_at}
+use Rattle.step_core.specs.ViewSteps.{finished, finished_at}
 use Rattle.step_core.specs.SeenRecords.{MayRecord}
 use Rattle.step_core.specs.Stages.{MayBeRecorded}
 use Rattle.step_core.specs.WordNames.Word.{RecordOf}
 use Rattle.step_core.specs.WordPlaces.{place_of}
+use Rattle.step_core.specs.Words.{record_word}
 
-pub pack_mark-requires : goal.pack_mark-requires
-pack_mark-requires c =
+pub unreachable-requires : goal.unreachable-requires
+unreachable-requires c = none_held _ _ _ c.pass.view_is c.pass.invariant.1.hand_is c.in_default.is c.requires.hand
+
+pub overflow_cast-hand : goal.overflow_cast-hand
+overflow_cast-hand c =
+    let lawful = c.pass.invariant.1.lawful in
+    omega (arith, lawful.mark c.in-Some.hand (sym c.pass.invariant.1.hand_is ∙ c.in-Some.is), lawful.run.marks)
+
+pub record-place-requires : goal.record-place-requires
+record-place-requires c =
+    let own = same_run _ _ _ _ c.pass.view_is c.self.view_is c.requires.belongs in
+    let low = c.pass.invariant.1.lawful.mark c.in-Some.hand (sym c.pass.invariant.1.hand_is ∙ c.in-Some.is) in
+    let here = subst (λ s. c.in-Some.hand.mark < s.marks) (sym c.self.invariant.places_are) (subst (λ r. c.in-Some.hand.mark < length r.marks) own low) in
+    omega (arith, here)
+
+pub pack_mark-word-requires : goal.pack_mark-word-requires
+pack_mark-word-requires c =
     let tied = c.pass.invariant.1 in
     let held = sym tied.hand_is ∙ c.in-Some.is in
     let may = at_hand (λ h. MayRecord c.pass.inside.seat.me.0 h c.args.entry) _ c.in-Some.hand held
@@ -39,7 +56,7 @@ store-requires c =
     let stage = subst (λ o. IfSome o (λ hand. MayBeRecorded hand.stage c.args.entry.outcome))
     (ap (λ p. p.view.hand) (sym c.pass.view_is) ∙ held) c.requires.stage in
     may_finish_here _ _ _ _ c.self.invariant _ _ _ _ _ c.in-Some.hand has.member has.crew c.args.entry same own place low held has.crew_is fits
-    (by ∙ ap worker_of has.crew_is) (at ∙ ap turn_of has.crew_is) stage may c.pack_mark.ensures
+    (by ∙ ap worker_of has.crew_is) (at ∙ ap turn_of has.crew_is) stage may c.pack_mark-word.ensures
 
 pub next_turn-pass-inside-requires : goal.next_turn-pass-inside-requires
 next_turn-pass-inside-requires c =
@@ -54,6 +71,26 @@ invariant_of-pass c =
     let hand = c.in-Some.hand in
     let held = sym tied.hand_is ∙ c.in-Some.is in
     let place = place_here c.self.inside.places _ me.0 (RecordOf hand.mark) _ c.self.invariant.places_are own c.record-place.ensures in
-    keeps_view me c.store.new.seat.me (finished_at me.0 c.record-place.result c.pack_mark.result) _ _ _ _ _ _ _ c.pass.inside.pairs _ c.store.ensures.2
+    keeps_view me c.store.new.seat.me (finished_at me.0 c.record-place.result c.pack_mark-word.result) _ _ _ _ _ _ _ c.pass.inside.pairs _ c.store.ensures.2
     c.pass.invariant refl (c.next_turn-pass-inside.ensures ∙ ap turned tied.member_is ∙ turned-first me.0.crew) refl
     (HasPairs-finished me.0 c.pass.inside.pairs hand.mark _ _ tied.lawful (tied.lawful.mark hand held) place)
+
+pub returns-clause-view : goal.returns-clause-view
+returns-clause-view c =
+    let own = same_run _ _ _ _ c.pass.view_is c.self.view_is c.requires.belongs in
+    let view = c.pass.inside.seat.me.0 in
+    let hand = c.in-Some.hand in
+    let place = place_here c.self.inside.places _ view (RecordOf hand.mark) _ c.self.invariant.places_are own c.record-place.ensures in
+    with_view_told_hand _ _ hand _ c.store.new.seat.me.0 (λ v h. finished v h.mark (record_word c.args.entry)) c.pass.view_is
+    (sym c.pass.invariant.1.hand_is ∙ c.in-Some.is) c.store.ensures.0
+    (c.store.ensures.2.view_is ∙ ap (λ n. finished_at view n c.pack_mark-word.result) place ∙ ap (finished view hand.mark) c.pack_mark-word.ensures)
+
+pub returns-clause-goes_on : goal.returns-clause-goes_on
+returns-clause-goes_on c = goes_on_told _ _ _ _ c.pass.view_is c.store.ensures.2.view_is c.store.ensures.2.goes_on
+
+pub returns-clause-may_claim : goal.returns-clause-may_claim
+returns-clause-may_claim c =
+    let belongs = subst (λ p. BelongsTo p c.args.self.now) (sym c.pass.view_is) c.requires.belongs in
+    let may = MayClaim-finished c.args.self.now _ c.store.new.seat.me.0 c.record-place.result c.pack_mark-word.result c.in-Some.hand belongs
+    c.pass.invariant.1.lawful (sym c.pass.invariant.1.hand_is ∙ c.in-Some.is) c.store.ensures.2.view_is in
+    record { belongs = record { table = c.store.ensures.0 ∙ belongs.table; run = may.belongs.run }; part = may.part; idle = may.idle }

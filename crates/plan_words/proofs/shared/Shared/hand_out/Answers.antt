@@ -1,64 +1,17 @@
-use Rattle.std.proofs.Common.{◌+◌, ◌<◌, ◌≤◌, ◌∷◌, [], length, length-append, sym, ap, ◌∙◌, subst, arith}
-use mathlib.Core.Option.{some-ne-none}
-use Rattle.plan_words.proofs.Dealing.{IsPassOf, IsPassOf-first, IsPassOf-next, StandsFor-all}
-use Rattle.plan_words.proofs.Dealing.{StandsFor-next, each-head, each_after, each_after-push, second-next}
+use Rattle.std.proofs.Common.{length, ap, arith}
+use Rattle.plan_words.proofs.Dealing.{StandsFor-all, each-head}
 use Rattle.plan_words.proofs.shared.Shared.hand_out.Goals as goal
+use Rattle.plan_words.specs.Dealt.{IsPassOf}
 
-pub loop-worker-init : goal.loop-worker-init
-loop-worker-init c =
-    let none = c.new-passes.ensures.items in
-    record {
-      stands = StandsFor-all c.args.self.now c.args.first (omega (arith, c.requires.some)) c.requires.belongs c.requires.crew c.requires.hand
-          c.requires.lists;
-      counted = ap (λ l. length l + 1) none;
-      passes = subst (each_after (IsPassOf c.args.self.now c.args.first)) (sym none) (λ i pass e. absurd (some-ne-none pass (sym e)));
-    }
-
-pub bounds-turns-worker : goal.bounds-turns-worker
-bounds-turns-worker c = omega (arith, c.loop-worker-test.true, ap (λ s. s.workers) c.self.view_is, c.requires.counted)
-
-pub hand_on-requires-clause-belongs : goal.hand_on-requires-clause-belongs
-hand_on-requires-clause-belongs c = c.loop-worker.invariant.stands.belongs
-
-pub hand_on-requires-clause-second : goal.hand_on-requires-clause-second
-hand_on-requires-clause-second c =
-    let low : c.loop-worker.worker < c.args.self.now.workers = omega (arith, c.loop-worker-test.true, ap (λ s. s.workers) c.self.view_is) in
-    second-next c.args.self.now c.args.first c.loop-worker.worker c.loop-worker.first c.loop-worker.invariant.stands low
-    ∙ ap (λ turn. record { worker = c.loop-worker.worker; turn = turn } ∷ []) (sym (c.requires.turns c.loop-worker.worker low))
-
-pub loop-worker-preserved : goal.loop-worker-preserved
-loop-worker-preserved c =
-    let low : c.loop-worker.worker < c.args.self.now.workers = omega (arith, c.loop-worker-test.true, ap (λ s. s.workers) c.self.view_is) in
-    let kept = c.loop-worker.invariant in
-    let told = c.in_ok-pass.ensures in
-    let other = c.in_ok-pass.pass in
-    let pushed = c.in_ok-push.ensures.items in
-    let own = IsPassOf-next c.args.self.now c.args.first c.loop-worker.worker c.loop-worker.first kept.stands other low told.right in
-    record {
-      stands = StandsFor-next c.args.self.now c.args.first c.loop-worker.worker c.loop-worker.first kept.stands c.hand_on.new.pass low told.left;
-      counted = omega (arith, ap (λ l. length l) pushed, length-append c.loop-worker.passes.items (other ∷ []), kept.counted);
-      passes =
-          each_after-push (IsPassOf c.args.self.now c.args.first) c.loop-worker.passes.items c.push.new.self.items other c.loop-worker.worker
-          pushed kept.counted kept.passes own;
-    }
+pub hand_on_all-requires-clause-stands : goal.hand_on_all-requires-clause-stands
+hand_on_all-requires-clause-stands c =
+    StandsFor-all c.args.self.now c.args.first (omega (arith, c.requires.some)) c.requires.belongs c.requires.crew c.requires.hand c.requires.lists
 
 pub returns-clause-count : goal.returns-clause-count
-returns-clause-count c =
-    let kept = c.loop-worker.invariant in
-    omega (
-      arith,
-      ap (λ l. length l) c.in_ok-insert.ensures.items,
-      kept.counted,
-      ap (λ s. s.workers) c.self.view_is,
-      c.loop-worker-test.false,
-      c.loop-worker.auto.worker-end,
-      c.requires.some,
-    )
+returns-clause-count c = omega (arith, ap (λ l. length l) c.in_ok-insert.ensures.items, c.in_ok-passes.ensures.count)
 
 pub returns-clause-passes : goal.returns-clause-passes
 returns-clause-passes c =
-    let kept = c.loop-worker.invariant in
-    let past : c.args.self.now.workers ≤ c.loop-worker.worker = omega (arith, c.loop-worker-test.false, ap (λ s. s.workers) c.self.view_is) in
-    let own = IsPassOf-first c.args.self.now c.args.first c.loop-worker.worker c.loop-worker.first kept.stands past in
-    each-head (IsPassOf c.args.self.now c.args.first) c.loop-worker.first c.loop-worker.passes.items c.insert.new.self.items c.in_ok-insert.ensures.items own
-    kept.passes
+    let told = c.in_ok-passes.ensures in
+    each-head (IsPassOf c.args.self.now c.args.first) c.hand_on_all.new.first c.in_ok-passes.passes.items c.insert.new.self.items
+    c.in_ok-insert.ensures.items told.first told.passes

@@ -1,10 +1,12 @@
-use Rattle.std.proofs.Common.{◌≡◌, ◌+◌, None, length, refl, ap, subst, sym, ◌∙◌}
-use Rattle.std.specs.Prelude.{is_some, not}
-use Rattle.plan_words.proofs.Joining.{AreBehind-taken_over, GoesOn-taken_over, first-own, first-theirs, keeps_taken_over, none-member, with_view-taken_over}
+use Rattle.std.proofs.Common.{length-append, ◌≡◌, ◌+◌, None, length, refl, ap, subst, sym, ◌∙◌}
+use Rattle.std.specs.Option.{option_or}
+use Rattle.plan_words.proofs.Joining.{AreBehind-taken_over, GoesOn-taken_over, first-joined, keeps_taken_over, with_view-taken_over}
 use Rattle.plan_words.proofs.Owning.{may_load_here, may_take_over_here, same_run, same_table}
 use Rattle.plan_words.proofs.SeenChildren.{HasParentsBelow-seen}
 use Rattle.plan_words.proofs.shared.Shared.join.Goals as goal
 use Rattle.plan_words.specs.Chains.{HasParentsBelow}
+use Rattle.plan_words.specs.States.{first_of}
+use Rattle.step_core.specs.Views.{share}
 use Rattle.step_core.specs.WordNames.Word.{Count}
 
 pub join_seat-requires : goal.join_seat-requires
@@ -24,30 +26,10 @@ load-count-requires c =
     let told = c.join_seat.ensures in
     may_load_here _ _ _ _ c.self.invariant _ _ _ _ Count (told.0 ∙ same) (ap (λ m. m.0.run) told.2 ∙ own) tt tt c.count.ensures
 
-pub returns-then-is_none-clause-goes_on : goal.returns-then-is_none-clause-goes_on
-returns-then-is_none-clause-goes_on c =
-    GoesOn-taken_over _ _ c.other.inside.seat.me.0 c.pass.inside.seat.me _ _ c.pass.invariant.1.lawful c.pass.view_is c.join_seat.ensures.2
-    c.load-count.ensures.2.told
-
 pub returns-clause-goes_on : goal.returns-clause-goes_on
 returns-clause-goes_on c =
     GoesOn-taken_over _ _ c.other.inside.seat.me.0 c.pass.inside.seat.me _ _ c.pass.invariant.1.lawful c.pass.view_is c.join_seat.ensures.2
     c.load-count.ensures.2.told
-
-pub returns-then-is_none-clause-view : goal.returns-then-is_none-clause-view
-returns-then-is_none-clause-view c =
-    with_view-taken_over _ _ _ _ _ c.pass.inside.seat.me c.join_seat.new.seat.me c.load-count.new.seat.me _ _ c.pass.view_is c.other.view_is
-    (c.load-count.ensures.0 ∙ c.join_seat.ensures.0) c.join_seat.ensures.2 c.load-count.ensures.2.told c.count.ensures
-
-pub returns-then-is_none-clause-others_seen : goal.returns-then-is_none-clause-others_seen
-returns-then-is_none-clause-others_seen c =
-    let own = same_run _ _ _ _ c.pass.view_is c.self.view_is c.requires.belongs in
-    let own_too = same_run _ _ _ _ c.other.view_is c.self.view_is c.requires.belongs_too in
-    AreBehind-taken_over c.pass.inside.seat.me.0 _ _ c.pass.inside.seat.me c.join_seat.new.seat.me c.load-count.new.seat.me c.other.view_is (own_too ∙ sym own)
-    c.join_seat.ensures.2 c.load-count.ensures.2.told refl
-
-pub returns-then-is_none-clause-count : goal.returns-then-is_none-clause-count
-returns-then-is_none-clause-count c = ((returns-then-is_none-clause-goes_on c).later.seen Count, returns-then-is_none-clause-others_seen c Count)
 
 pub returns-clause-view : goal.returns-clause-view
 returns-clause-view c =
@@ -84,25 +66,29 @@ pub invariant_of-pass : goal.invariant_of-pass
 invariant_of-pass c =
     let own = same_run _ _ _ _ c.pass.view_is c.self.view_is c.requires.belongs in
     let own_too = same_run _ _ _ _ c.other.view_is c.self.view_is c.requires.belongs_too in
-    let none = none-member c.pass.inside.member (c.is_none.ensures ∙ ap not c.if-is_none.true) in
-    let place = c.count.ensures in
     keeps_taken_over c.pass.inside.seat.me c.join_seat.new.seat.me c.load-count.new.seat.me c.other.inside.seat.me.0 _ _ _ _ _ _ c.pass.inside.pairs
-    c.other.inside.pairs c.take_cheaper.new.pairs _ _ c.join_seat.ensures.2 c.load-count.ensures.2.told place c.pass.invariant (own_too ∙ sym own)
+    c.other.inside.pairs c.take_cheaper.new.pairs _ _ c.join_seat.ensures.2 c.load-count.ensures.2.told c.count.ensures c.pass.invariant (own_too ∙ sym own)
     c.other.invariant.3
-    (c.other.invariant.1.member_is
-    ∙ sym (first-theirs c.pass.inside.seat.me.0.crew c.other.inside.seat.me.0.crew (sym c.pass.invariant.1.member_is ∙ none)))
+    (c.or-pass-inside.ensures ∙ ap (λ o. option_or o c.other.inside.member) c.pass.invariant.1.member_is
+    ∙ ap (option_or (first_of c.pass.inside.seat.me.0.crew)) c.other.invariant.1.member_is
+    ∙ sym (first-joined c.pass.inside.seat.me.0.crew c.other.inside.seat.me.0.crew))
     c.take_cheaper.ensures.as_many
     c.take_cheaper.ensures.each
 
-pub invariant_of-pass-else-is_none : goal.invariant_of-pass-else-is_none
-invariant_of-pass-else-is_none c =
-    let own = same_run _ _ _ _ c.pass.view_is c.self.view_is c.requires.belongs in
-    let own_too = same_run _ _ _ _ c.other.view_is c.self.view_is c.requires.belongs_too in
-    let some_member = c.is_none.ensures ∙ ap not c.if-is_none.false in
-    keeps_taken_over c.pass.inside.seat.me c.join_seat.new.seat.me c.load-count.new.seat.me c.other.inside.seat.me.0 _ _ _ _ _ _ c.pass.inside.pairs
-    c.other.inside.pairs c.take_cheaper.new.pairs _ _ c.join_seat.ensures.2 c.load-count.ensures.2.told c.count.ensures c.pass.invariant
-    (own_too ∙ sym own) c.other.invariant.3
-    (c.pass.invariant.1.member_is
-    ∙ sym (first-own c.pass.inside.seat.me.0.crew c.other.inside.seat.me.0.crew (ap is_some (sym c.pass.invariant.1.member_is) ∙ some_member)))
-    c.take_cheaper.ensures.as_many
-    c.take_cheaper.ensures.each
+pub returns-clause-share : goal.returns-clause-share
+returns-clause-share c =
+    ap (λ v. share v) c.load-count.ensures.2.told.view_is ∙ ap (λ m. share m.0) c.join_seat.ensures.2
+    ∙ length-append c.pass.inside.seat.me.0.crew c.other.inside.seat.me.0.crew
+    ∙ ap (λ p. share p.view + share c.other.inside.seat.me.0) c.pass.view_is
+    ∙ ap (λ p. share c.args.pass.now.view + share p.view) c.other.view_is
+
+pub returns-clause-belongs : goal.returns-clause-belongs
+returns-clause-belongs c = record {
+  table = c.load-count.ensures.0 ∙ c.join_seat.ensures.0 ∙ ap (λ p. p.table) c.pass.view_is ∙ c.requires.belongs.table;
+  run = ap (λ v. v.run) c.load-count.ensures.2.told.view_is ∙ ap (λ m. m.0.run) c.join_seat.ensures.2 ∙ ap (λ p. p.view.run) c.pass.view_is
+      ∙ c.requires.belongs.run;
+}
+
+pub returns-clause-idle : goal.returns-clause-idle
+returns-clause-idle c =
+    ap (λ v. v.hand) c.load-count.ensures.2.told.view_is ∙ ap (λ m. m.0.hand) c.join_seat.ensures.2 ∙ ap (λ p. p.view.hand) c.pass.view_is ∙ c.requires.idle

@@ -5,6 +5,7 @@ use Rattle.plan_words.proofs.HandSteps.{at_hand, leads_seen, tried_fits}
 use Rattle.plan_words.proofs.KeptPairs.{HasPairs-linked, HasPairs-saw, keeps_parent, keeps_view}
 use Rattle.plan_words.proofs.LookedNodes.{place_here, seen_low}
 use Rattle.plan_words.proofs.Owning.{found_whole, may_link_here, same_run, same_table, tells_on}
+use Rattle.plan_words.proofs.ToldHands.{none_held}
 use Rattle.plan_words.proofs.shared.Shared.put.Goals as goal
 use Rattle.plan_words.proofs.shared.Shared.put.Goals.{else-found-eq0, then-found-eq0}
 use Rattle.plan_words.specs.States.{GoesOn}
@@ -15,6 +16,9 @@ use Rattle.step_core.specs.ViewTrees.{LeadsTo}
 use Rattle.step_core.specs.WordNames.Word.{ChildOf}
 use Rattle.step_core.specs.WordPlaces.{place_of}
 use Rattle.step_core.specs.declared.views.Stage.TheVariants.{Linked, Treed}
+
+pub unreachable-requires : goal.unreachable-requires
+unreachable-requires c = none_held _ _ _ c.pass.view_is c.pass.invariant.1.hand_is c.in_default.is c.requires.hand
 
 pub child-place-requires : goal.child-place-requires
 child-place-requires c =

@@ -3,6 +3,7 @@ use Rattle.std.specs.Prelude.{IfSome}
 use Rattle.plan_words.proofs.HandSteps.{at_hand}
 use Rattle.plan_words.proofs.KeptPairs.{fits_word, if_hand, keeps_hand}
 use Rattle.plan_words.proofs.Owning.{goes_on_told, may_first_here, same_run, same_table, with_view_told}
+use Rattle.plan_words.proofs.ToldHands.{none_held}
 use Rattle.plan_words.proofs.shared.Shared.store_first.Goals as goal
 use Rattle.plan_words.specs.Plays.{Tells}
 use Rattle.step_core.proofs.PackedWords.{cost_in-tree_word, parent_in-tree_word}
@@ -13,6 +14,14 @@ use Rattle.step_core.specs.WordNames.Word.{FirstOf}
 use Rattle.step_core.specs.WordPlaces.{place_of}
 use Rattle.step_core.specs.Words.{cost_in, parent_in}
 use Rattle.step_core.specs.declared.views.Stage.TheVariants.{Pointed}
+
+pub unreachable-requires : goal.unreachable-requires
+unreachable-requires c = none_held _ _ _ c.pass.view_is c.pass.invariant.1.hand_is c.in_default.is c.requires.hand
+
+pub overflow_cast-hand : goal.overflow_cast-hand
+overflow_cast-hand c =
+    let lawful = c.pass.invariant.1.lawful in
+    omega (arith, lawful.mark c.in-Some.hand (sym c.pass.invariant.1.hand_is ∙ c.in-Some.is), lawful.run.marks)
 
 pub pack_tree-requires-clause-parent : goal.pack_tree-requires-clause-parent
 pack_tree-requires-clause-parent c =

@@ -3,6 +3,7 @@ use Rattle.std.specs.Prelude.{IfSome}
 use Rattle.plan_words.proofs.HandSteps.{at_hand}
 use Rattle.plan_words.proofs.KeptPairs.{keeps_hand}
 use Rattle.plan_words.proofs.Owning.{goes_on_told, may_point_here, same_run, same_table}
+use Rattle.plan_words.proofs.ToldHands.{none_held}
 use Rattle.plan_words.proofs.shared.Shared.store_point.Goals as goal
 use Rattle.plan_words.specs.Plays.{Tells}
 use Rattle.step_core.proofs.LawfulSights.{IsBounded-steered}
@@ -13,6 +14,14 @@ use Rattle.step_core.specs.WordNames.Word.{PointOf}
 use Rattle.step_core.specs.WordPlaces.{place_of}
 use Rattle.step_core.specs.Words.{point_word}
 use Rattle.step_core.specs.declared.views.Stage.TheVariants.{Claimed}
+
+pub unreachable-requires : goal.unreachable-requires
+unreachable-requires g c = none_held _ _ _ c.pass.view_is c.pass.invariant.1.hand_is c.in_default.is c.requires.hand
+
+pub overflow_cast-hand : goal.overflow_cast-hand
+overflow_cast-hand g c =
+    let lawful = c.pass.invariant.1.lawful in
+    omega (arith, lawful.mark c.in-Some.hand (sym c.pass.invariant.1.hand_is ∙ c.in-Some.is), lawful.run.marks)
 
 pub pack_point-requires : goal.pack_point-requires
 pack_point-requires g c =

@@ -3,6 +3,7 @@ use Rattle.std.specs.Prelude.{IfSome}
 use Rattle.plan_words.proofs.HandSteps.{at_hand}
 use Rattle.plan_words.proofs.KeptPairs.{keeps_hand}
 use Rattle.plan_words.proofs.Owning.{may_tree_here, same_run, same_table}
+use Rattle.plan_words.proofs.ToldHands.{none_held}
 use Rattle.plan_words.proofs.shared.Shared.store_tree.Goals as goal
 use Rattle.step_core.specs.PlacesOfWords.{sizes_in}
 use Rattle.step_core.specs.Stages.{has_first}
@@ -10,6 +11,14 @@ use Rattle.step_core.specs.ViewSteps.{treed}
 use Rattle.step_core.specs.WordNames.Word.{TreeOf}
 use Rattle.step_core.specs.WordPlaces.{place_of}
 use Rattle.step_core.specs.declared.views.Stage.TheVariants.{Half}
+
+pub unreachable-requires : goal.unreachable-requires
+unreachable-requires c = none_held _ _ _ c.pass.view_is c.pass.invariant.1.hand_is c.in_default.is c.requires.hand
+
+pub overflow_cast-hand : goal.overflow_cast-hand
+overflow_cast-hand c =
+    let lawful = c.pass.invariant.1.lawful in
+    omega (arith, lawful.mark c.in-Some.hand (sym c.pass.invariant.1.hand_is ∙ c.in-Some.is), lawful.run.marks)
 
 pub pack_tree-requires-clause-parent : goal.pack_tree-requires-clause-parent
 pack_tree-requires-clause-parent c =

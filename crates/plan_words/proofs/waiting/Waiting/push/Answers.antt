@@ -1,8 +1,8 @@
-use Rattle.std.proofs.Common.{◌≡◌, ◌⊎◌, ◌<◌, false, true, length, sym, ap, ◌∙◌, subst, arith}
+use Rattle.std.proofs.Common.{◌≡◌, ◌⊎◌, ◌<◌, false, true, length, inl, sym, ap, ◌∙◌, subst, arith}
 use Rattle.std.specs.Prelude.{slice_set}
 use Rattle.std.proofs.lemmas.List.{get_or_default, length-set}
 use Rattle.plan_words.specs.Waiting.{AreMarked, HasMarks, IsOn}
-use Rattle.plan_words.proofs.MarkedNodes.{AreMarked-push, IsOn-cases, room-push}
+use Rattle.plan_words.proofs.MarkedNodes.{AreMarked-push, IsOn-before, IsOn-cases, IsOn-end, room-push}
 use Rattle.plan_words.proofs.waiting.Waiting.push.Goals as goal
 
 pub push_reserved-requires : goal.push_reserved-requires
@@ -33,3 +33,26 @@ pub returns-then-not-index-clause-only : goal.returns-then-not-index-clause-only
 returns-then-not-index-clause-only c n on =
     subst (λ w. IsOn w.nodes n ⊎ (n ≡ c.args.node)) c.self.view_is
     (IsOn-cases c.self.inside.nodes.items c.args.node n (subst (λ l. IsOn l n) c.push_reserved.ensures.items on))
+
+pub returns-then-not-index-clause-here : goal.returns-then-not-index-clause-here
+returns-then-not-index-clause-here c = subst (λ l. IsOn l c.args.node) (sym c.push_reserved.ensures.items) (IsOn-end c.self.inside.nodes.items c.args.node)
+
+pub returns-then-not-index-clause-keeps : goal.returns-then-not-index-clause-keeps
+returns-then-not-index-clause-keeps c n on =
+    subst (λ l. IsOn l n) (sym c.push_reserved.ensures.items)
+    (IsOn-before c.self.inside.nodes.items _ n (subst (λ w. IsOn w.nodes n) (sym c.self.view_is) on))
+
+pub returns-else-not-index-clause-here : goal.returns-else-not-index-clause-here
+returns-else-not-index-clause-here c =
+    let marked = c.self.inside.marked.items in
+    let waits = ap (λ w. w.waits) c.self.view_is ∙ c.requires.waits in
+    let are = subst (λ b. HasMarks b c.self.inside.nodes.items marked) waits c.self.invariant.marks in
+    let low : c.args.node < length marked = subst (λ w. c.args.node < w.size) (sym c.self.view_is) c.requires.low in
+    subst (λ w. IsOn w.nodes c.args.node) c.self.view_is
+    (are.only c.args.node (sym (c.index.ensures ∙ get_or_default marked c.args.node _ false low) ∙ c.if-not-index.false))
+
+pub returns-else-not-index-clause-keeps : goal.returns-else-not-index-clause-keeps
+returns-else-not-index-clause-keeps c n on = on
+
+pub returns-else-not-index-clause-only : goal.returns-else-not-index-clause-only
+returns-else-not-index-clause-only c n on = inl on

@@ -1,0 +1,20 @@
+use Rattle.std.proofs.Common.{◌∙◌, ◌<◌, ap, length, subst, sym}
+use Rattle.plan_model.specs.Turns.{turns_of}
+use Rattle.plan_words.proofs.shared.Shared.deal.Goals as goal
+use Rattle.plan_words.specs.Dealt.{IsPassOf}
+use Rattle.step_core.specs.GrownWords.{record_at}
+use Rattle.step_core.specs.Views.{sees}
+
+pub open-requires-clause-turn : goal.open-requires-clause-turn
+open-requires-clause-turn c = c.requires.turns 0 c.requires.some
+
+pub hand_out-requires-clause-turns : goal.hand_out-requires-clause-turns
+hand_out-requires-clause-turns c w low =
+    let opened = c.in_ok-shared.ensures in
+    c.requires.turns w (subst (λ n. w < n) opened.workers low)
+    ∙ sym (ap (λ p. turns_of (record_at (sees p.view)) (length c.args.opening.task.marks) w) opened.first)
+    ∙ sym (ap (λ t. turns_of (record_at (sees c.in_ok-shared.first.view)) (length t.marks) w) opened.task)
+
+pub returns-clause-passes : goal.returns-clause-passes
+returns-clause-passes c w pass e =
+    subst (λ first. IsPassOf c.in_ok-shared.shared first w pass) c.in_ok-shared.ensures.first (c.in_ok-passes.ensures.passes w pass e)
