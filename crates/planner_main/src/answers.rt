@@ -15,6 +15,7 @@ ghost use Rattle.scene_text.specs.Fetching.{ReadsWithin};
 ghost use Rattle.planner_main.specs.Commands.{command_of, reads_scene, IsNumbered};
 ghost use Rattle.planner_main.specs.Conclusions.{Answers, IsCaused, HasScene, ReportsGrown, WritesGenerated, TriesGenerated, status_of_report};
 ghost use Rattle.planner_main.specs.declared.generated_scenes.TheConstants.{MOST_GENERATED};
+ghost use Rattle.planner_main.specs.declared.statuses.TheConstants.{DONE};
 ghost use Rattle.step_core.specs.GrownRuns.{state_of_grown};
 
 use crate::commands::{Command, command_of};
@@ -94,7 +95,7 @@ fn plain<S: Source>(alloc: Global, full: bool, source: &mut S) -> Result<Answer,
 {
     let scene = scene_for(alloc, Command::Plain { full }, source)?;
     let hall = hall_for(alloc, &scene)?;
-    let grown = textbook_run(alloc, scene, &hall)?;
+    let grown = textbook_run(alloc, scene, hall)?;
     Ok(report_of(alloc, full, grown)?)
 }
 
@@ -115,6 +116,7 @@ fn plan<R: Threads + Sync, S: Source, G: Gate>(
     let scene = scene_for(alloc, Command::Plan { workers, full }, source)?;
     let hall = hall_for(alloc, &scene)?;
     let grown = run_by_workers(rt, alloc, workers, scene, &hall, gate)?;
+    drop(hall);
     Ok(report_of(alloc, full, grown)?)
 }
 
@@ -124,13 +126,8 @@ fn show<S: Source>(alloc: Global, source: &mut S) -> Result<Answer, Refusal>
     ensures { Answers (Some Command.Show) (S.state source.old) (S.state source.new) result }
 {
     let scene = scene_for(alloc, Command::Show, source)?;
-    Ok(Answer {
-        done: Done {
-            status: DONE,
-            run: None,
-        },
-        text: write_scene(alloc, &scene)?,
-    })
+    let text = write_scene(alloc, &scene)?;
+    Ok(answer_without_run(text))
 }
 
 /// The scene that a command asks for, read from the source.
@@ -161,8 +158,8 @@ fn hall_for(alloc: Global, scene: &Scene) -> Result<Boxes, Refusal>
 }
 
 /// The textbook run of a scene, over all its marks.
-fn textbook_run(alloc: Global, scene: Scene, hall: &Boxes) -> Result<Grown, Memory>
-    requires hall { hall.now ≡ space_of scene }
+fn textbook_run(alloc: Global, scene: Scene, hall: Boxes) -> Result<Grown, Memory>
+    requires hall { hall ≡ space_of scene }
     requires start { ClearAt (space_of scene) scene.start }
     ensures scene { IfOk result (λ grown. grown.task.scene ≡ scene) }
     ensures whole { IfOk result (λ grown. grown.limit ≡ length (mark_points scene)) }
@@ -171,7 +168,7 @@ fn textbook_run(alloc: Global, scene: Scene, hall: &Boxes) -> Result<Grown, Memo
 {
     // the start is clear, so there is room to draw marks in
     let marks = marks(alloc, &scene)?;
-    textbook(alloc, Task { scene, marks }, hall)
+    textbook(alloc, Task { scene, marks }, &hall)
 }
 
 /// A run of a scene by several workers, over all its marks, settled.
@@ -240,19 +237,29 @@ fn answer_of(grown: Grown, best: Option<u32>, text: Vec<u8>) -> Answer
     }
 }
 
+/// The answer of a command that makes a text and no run.
+fn answer_without_run(text: Vec<u8>) -> Answer
+    ensures status { result.done.status ≡ DONE }
+    ensures run { result.done.run ≡ None }
+    ensures text { result.text ≡ text }
+{
+    Answer {
+        done: Done {
+            status: DONE,
+            run: None,
+        },
+        text,
+    }
+}
+
 /// Writes the generated scene of a number.
 fn generate(alloc: Global, number: u32) -> Result<Answer, Memory>
     requires { number ≤ MOST_GENERATED }
     ensures { IfOk result (λ answer. WritesGenerated number answer.done answer.text.items) }
 {
     let scene = gen_scene(alloc, number)?;
-    Ok(Answer {
-        done: Done {
-            status: DONE,
-            run: None,
-        },
-        text: write_scene(alloc, &scene)?,
-    })
+    let text = write_scene(alloc, &scene)?;
+    Ok(answer_without_run(text))
 }
 
 /// The collision checker of a scene.
@@ -269,6 +276,6 @@ fn trial(alloc: Global, number: u32) -> Result<Answer, Memory>
 {
     let scene = gen_scene(alloc, number)?;
     let hall = boxes_of(alloc, &scene)?;
-    let grown = textbook_run(alloc, scene, &hall)?;
+    let grown = textbook_run(alloc, scene, hall)?;
     Ok(summary_of(alloc, grown)?)
 }

@@ -75,10 +75,10 @@ mod tests {
         args: io::Result<Args>,
         sink: &mut MemSink,
     ) -> ExitCode {
-        match SureSource::new(alloc, scene.as_bytes()) {
-            Ok(mut source) => exit_code(rt, alloc, args, &mut source, sink),
-            Err(_) => panic!(rt; "no memory"),
-        }
+        let mut source = sure(rt, SureSource::new(alloc, scene.as_bytes()));
+        let code = exit_code(rt, alloc, args, &mut source, sink);
+        drop(source);
+        code
     }
 
     // Compares that code, and the text that is written.
@@ -94,6 +94,7 @@ mod tests {
         let ended = code_on(rt, alloc, scene, args, &mut sink);
         expect_text(rt, &[], text_in(&sink), text, "what is written");
         expect_that(rt, ended == ExitCode::from(code), text);
+        drop(sink);
     }
 
     static CODES: [(&str, &[&str], u8, &str); 7] = [
@@ -129,7 +130,7 @@ mod tests {
     #[test]
     fn ends_by_all_words_after_the_name(rt: HostRuntime) {
         for (scene, words, code, text) in &CODES {
-            let args = sure(&rt, given_words(rt.alloc(), words)).into_iter();
+            let args = given_words(&rt, rt.alloc(), words).into_iter();
             expect(&rt, rt.alloc(), scene, Ok(args), *code, text);
         }
     }

@@ -51,6 +51,23 @@ fn read_natural(words: &[u8], key: Key) -> Option<(u32, &[u8])>
     Some((number as u32, rest))
 }
 
+/// The point that the first two of the numbers give, if they may stand after the key, and the words after them.
+fn read_place(words: &[u8], key: Key) -> Option<(Point, &[u8])>
+    requires numbers { IsTrue (list_all is_number (words_of words.now)) }
+    requires two { 1 < length (words_of words.now) }
+    requires natural { pos 0 ≤ℤ least_of key }
+    requires narrow { most_of key ≤ℤ pos u32.MAX }
+    ensures value { IfSome result (λ found. map value_of (words_of words.now)
+        ≡ pos found.0.x ∷ pos found.0.y ∷ map value_of (words_of found.1.now)) }
+    ensures within { IfSome result (λ found. are_between (least_of key) (most_of key) (point_numbers found.0) ≡ true) }
+    ensures rest { IfSome result (λ found. IsTrue (list_all is_number (words_of found.1.now))) }
+    ensures outside { IfNone result (are_between (least_of key) (most_of key) (map value_of (words_of words.now)) ≡ false) }
+{
+    let (x, rest) = read_natural(words, key)?;
+    let (y, rest) = read_natural(rest, key)?;
+    Some((Point { x, y }, rest))
+}
+
 /// The point that two numbers give, in lattice steps.
 ///
 /// The error is `Range` if one of them may not stand after the key.
@@ -63,9 +80,8 @@ pub(crate) fn read_point(words: &[u8], key: Key) -> Result<Point, Kind>
     ensures inside { is_ok result ≡ are_between (least_of key) (most_of key) (map value_of (words_of words.now)) }
     ensures outside { IfErr result (λ kind. kind ≡ kinds.Range) }
 {
-    let (x, rest) = read_natural(words, key).ok_or(Kind::Range)?;
-    let (y, _) = read_natural(rest, key).ok_or(Kind::Range)?;
-    Ok(Point { x, y })
+    let (point, _) = read_place(words, key).ok_or(Kind::Range)?;
+    Ok(point)
 }
 
 /// The goal that four numbers give, its lower left and its upper right corner.
@@ -78,17 +94,12 @@ pub(crate) fn read_goal(words: &[u8]) -> Result<Goal, Kind>
     ensures inside { is_ok result ≡ is_in_range keys.Goal (map value_of (words_of words.now)) }
     ensures outside { IfErr result (λ kind. kind ≡ kinds.Range) }
 {
-    let (left, rest) = read_natural(words, Key::Goal).ok_or(Kind::Range)?;
-    let (bottom, rest) = read_natural(rest, Key::Goal).ok_or(Kind::Range)?;
-    let (right, rest) = read_natural(rest, Key::Goal).ok_or(Kind::Range)?;
-    let (top, _) = read_natural(rest, Key::Goal).ok_or(Kind::Range)?;
-    if right < left || top < bottom {
+    let (low, rest) = read_place(words, Key::Goal).ok_or(Kind::Range)?;
+    let (high, _) = read_place(rest, Key::Goal).ok_or(Kind::Range)?;
+    if high.x < low.x || high.y < low.y {
         return Err(Kind::Range);
     }
-    Ok(Goal {
-        low: Point { x: left, y: bottom },
-        high: Point { x: right, y: top },
-    })
+    Ok(Goal { low, high })
 }
 
 /// The number that stands alone.

@@ -12,7 +12,9 @@ fn written(alloc: Global, number: u32) -> Result<Vec<u8>, Memory>
     requires { number ≤ MOST_GENERATED }
 {
     let scene = gen_scene(alloc, number)?;
-    write_scene(alloc, &scene)
+    let text = write_scene(alloc, &scene);
+    drop(scene);
+    text
 }
 
 // How many lines a text has, each of which ends with a line feed.
@@ -34,6 +36,7 @@ fn expect_written<R: Abort>(rt: &R, alloc: Global, number: u32, begin: &[u8], en
     expect_that(rt, text.starts_with(begin), "the first lines");
     expect_that(rt, text.ends_with(end), "the last line");
     expect_that(rt, line_count(&text) == 10 + 64, "the lines");
+    drop(text);
 }
 
 #[test]
@@ -60,6 +63,7 @@ fn expect_obstacle<R: Abort>(
 {
     let got = sure(rt, obstacle(alloc, number, cell));
     expect_that(rt, got.as_slice() == corners, shows);
+    drop(got);
 }
 
 static LOWER_LEFT: [Vertex; 3] = [

@@ -2,7 +2,7 @@
 
 use super::*;
 use crate::test_calls::{
-    copied, expect_number, expect_text, expect_that, given_words, sure, text_in,
+    copied, expect_number, expect_text, expect_that, given_words, push_text, sure, text_in,
 };
 use calls::*;
 use plan_model::{MemSink, MemSource, Memory, Outcome};
@@ -41,6 +41,7 @@ fn expect_by_pieces<R: Threads + Sync + Abort>(
 ) {
     let called = call(rt, alloc, words, case.scene, most, 0);
     expect_answer(rt, words, &called, case);
+    drop(called);
 }
 
 // The same in pieces of several lengths, and at once.
@@ -201,20 +202,27 @@ fn plans_over_drawn_marks(rt: HostRuntime) {
     expect_each(&rt, rt.alloc(), &["plain"], &DRAWN);
 }
 
+// Adds a line to a text: this word, the number, and 0.
+fn push_numbered(text: &mut String, word: &str, number: u32) -> Result<(), Memory> {
+    write!(text, "{word}{number} 0\n")?;
+    Ok(())
+}
+
 // Lines, then one for each number up to the last: this word, the number, and 0; and then lines.
-fn numbered(
+fn numbered<R: Abort>(
+    rt: &R,
     alloc: Global,
     head: &str,
     word: &str,
     numbers: (u32, u32),
     tail: &str,
-) -> Result<String, Memory> {
-    let mut text = copied(alloc, head)?;
+) -> String {
+    let mut text = sure(rt, copied(alloc, head));
     for number in numbers.0..=numbers.1 {
-        write!(text, "{word}{number} 0\n")?;
+        sure(rt, push_numbered(&mut text, word, number));
     }
-    text.push_str(tail)?;
-    Ok(text)
+    sure(rt, push_text(&mut text, tail));
+    text
 }
 
 // A corridor with a mark at each lattice step, so that its path has a point at each.
@@ -247,7 +255,7 @@ static CORRIDORS: [Corridor; 2] = [
 // The scene of a corridor, in rising order of the marks.
 fn corridor_scene<R: Abort>(rt: &R, alloc: Global, corridor: &Corridor) -> String {
     let marks = (1, corridor.length);
-    sure(rt, numbered(alloc, corridor.scene, "mark ", marks, ""))
+    numbered(rt, alloc, corridor.scene, "mark ", marks, "")
 }
 
 // Compares the report of a corridor.
@@ -259,10 +267,8 @@ fn expect_corridor<R: Threads + Sync + Abort>(
 ) {
     let length = corridor.length;
     let scene = corridor_scene(rt, alloc, corridor);
-    let report = sure(
-        rt,
-        numbered(alloc, corridor.path, "", (0, length), corridor.counts),
-    );
+    let points = (0, length);
+    let report = numbered(rt, alloc, corridor.path, "", points, corridor.counts);
     let case = Case {
         shows: "a corridor",
         scene: &scene,
@@ -271,6 +277,8 @@ fn expect_corridor<R: Threads + Sync + Abort>(
         run: Some((corridor.nodes, length)),
     };
     expect_by_pieces(rt, alloc, words, 1 << 16, &case);
+    drop(scene);
+    drop(report);
 }
 
 #[test]
@@ -558,6 +566,7 @@ fn expect_words_refused<R: Threads + Sync + Abort>(rt: &R, alloc: Global, words:
     expect(rt, alloc, words, &NO_COMMAND);
     let called = call_unread(rt, alloc, words);
     expect_answer(rt, words, &called, &NO_COMMAND);
+    drop(called);
 }
 
 // The same of each form of words.
@@ -616,6 +625,7 @@ fn expect_generated<R: Threads + Sync + Abort>(
     let called = call_unread(rt, alloc, &words);
     expect_number(rt, called.status(), 0, "a generated scene");
     expect_ends(rt, called.text(), begin, end);
+    drop(called);
 }
 
 #[test]
@@ -637,8 +647,10 @@ fn expect_planned<R: Threads + Sync + Abort>(
 ) {
     let scene = call_unread(rt, alloc, &["gen", number]);
     let called = call(rt, alloc, &["plain"], scene.text(), 1 << 16, 0);
+    drop(scene);
     expect_number(rt, called.status(), 0, "a path");
     expect_ends(rt, called.text(), begin, end);
+    drop(called);
 }
 
 // A trial is the plan of the generated scene without the lines of the points. It was worked out apart from the planner.
@@ -649,6 +661,7 @@ fn tries_a_generated_scene(rt: HostRuntime) {
     expect_planned(&rt, rt.alloc(), "3", path, counts);
     let called = call_unread(&rt, rt.alloc(), &["trial", "3"]);
     expect_answer(&rt, &["trial", "3"], &called, &TRIED);
+    drop(called);
 }
 
 static TRIED: Case = Case {

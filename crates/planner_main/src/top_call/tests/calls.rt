@@ -133,8 +133,12 @@ fn call_over<R: Threads + Sync + Abort, G: Gate>(
 ) -> Ended
     requires { source.old.ended ≡ false }
 {
-    let given = sure(rt, given_words(alloc, words));
-    ending_of(&run(rt, alloc, &given, source, sink, gate))
+    let given = given_words(rt, alloc, words);
+    let done = run(rt, alloc, &given, source, sink, gate);
+    drop(given);
+    let ended = ending_of(&done);
+    drop(done);
+    ended
 }
 
 // What a call has done over this sink, and over a source that gives this text in pieces of at most so many bytes (of one byte
@@ -149,17 +153,15 @@ pub fn call_into<R: Threads + Sync + Abort, G: Gate>(
     sink: MemSink,
     gate: &G,
 ) -> Called {
-    match MemSource::new(alloc, text.as_bytes(), most.max(1), &[fails]) {
-        Ok(mut source) => {
-            let mut sink = sink;
-            let ended = call_over(rt, alloc, words, &mut source, &mut sink, gate);
-            Called {
-                ended,
-                read_faults: source.faults(),
-                sink,
-            }
-        }
-        Err(_) => panic!(rt; "no memory"),
+    let source = MemSource::new(alloc, text.as_bytes(), most.max(1), &[fails]);
+    let (mut source, mut sink) = (sure(rt, source), sink);
+    let ended = call_over(rt, alloc, words, &mut source, &mut sink, gate);
+    let read_faults = source.faults();
+    drop(source);
+    Called {
+        ended,
+        read_faults,
+        sink,
     }
 }
 

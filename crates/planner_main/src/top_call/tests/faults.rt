@@ -14,6 +14,7 @@ fn expect_read_fault<R: Threads + Sync + Abort>(
     let called = call(rt, alloc, words, case.scene, most, fails);
     expect_answer(rt, words, &called, case);
     expect_number(rt, called.read_faults, 1, case.shows);
+    drop(called);
 }
 
 // Compares the refusals of a text one of whose reads fails, in pieces of at most so many bytes. Each such read is told by
@@ -83,16 +84,18 @@ fn expect_late_faults<R: Threads + Sync + Abort>(
     let called = call(rt, alloc, words, text, 100, 172);
     expect_number(rt, called.read_faults, 0, "no read fails");
     expect_number(rt, called.status(), 0, "no read fails");
+    drop(called);
 }
 
 #[test]
 fn refuses_a_source_that_fails_late(rt: HostRuntime) {
     let scene = "prrt 1\nroom 1500 10\nstart 0 0\ngoal 1500 0 1500 0\nstep 4\n";
-    let text = sure(&rt, numbered(rt.alloc(), scene, "mark ", (1, 1500), ""));
+    let text = numbered(&rt, rt.alloc(), scene, "mark ", (1, 1500), "");
     expect_that(&rt, text.len() == 16_949, "the length of the text");
     expect_late_faults(&rt, rt.alloc(), &["plain"], &text);
     expect_late_faults(&rt, rt.alloc(), &["plan", "1"], &text);
     expect_late_faults(&rt, rt.alloc(), &["show"], &text);
+    drop(text);
 }
 
 // What is taken by a sink that fails at one of its writes, and how many nodes and marks the run has that is handed out even
@@ -118,6 +121,7 @@ fn expect_cut<R: Threads + Sync + Abort>(rt: &R, alloc: Global, room: usize, cut
     };
     expect_answer(rt, cut.words, &called, &case);
     expect_number(rt, called.sink.faults(), 1, "a write fails");
+    drop(called);
 }
 
 static CUTS: [Cut; 10] = [

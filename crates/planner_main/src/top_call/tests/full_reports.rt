@@ -136,4 +136,5 @@ fn writes_as_many_marks_as_there_may_be(rt: HostRuntime) {
     expect_ends(&rt, called.text(), begin, end);
     expect_number(&rt, line_count(called.text()), 262_151, "the lines");
     expect_number(&rt, called.status(), 0, "the status");
+    drop(called);
 }

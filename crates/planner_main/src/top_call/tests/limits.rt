@@ -4,19 +4,20 @@ use super::plans::{expect_whole, lines_with};
 use super::*;
 
 // These lines, then one so many times, and then these lines.
-fn repeated(
+fn repeated<R: Abort>(
+    rt: &R,
     alloc: Global,
     head: &str,
     line: &str,
     times: u32,
     tail: &str,
-) -> Result<String, Memory> {
-    let mut text = copied(alloc, head)?;
+) -> String {
+    let mut text = sure(rt, copied(alloc, head));
     for _ in 0..times {
-        text.push_str(line)?;
+        sure(rt, push_text(&mut text, line));
     }
-    text.push_str(tail)?;
-    Ok(text)
+    sure(rt, push_text(&mut text, tail));
+    text
 }
 
 // A long scene, which has a line so many times between others and is read in pieces of at most so many bytes; and what is to
@@ -36,11 +37,8 @@ struct Long<'a> {
 
 // Compares the answer to such a scene.
 fn expect_long<R: Threads + Sync + Abort>(rt: &R, alloc: Global, long: &Long) {
-    let scene = sure(
-        rt,
-        repeated(alloc, long.head, long.line, long.times, long.tail),
-    );
-    let text = sure(rt, repeated(alloc, long.text, long.line, long.shown, ""));
+    let scene = repeated(rt, alloc, long.head, long.line, long.times, long.tail);
+    let text = repeated(rt, alloc, long.text, long.line, long.shown, "");
     let case = Case {
         shows: "a long scene",
         scene: &scene,
@@ -49,6 +47,8 @@ fn expect_long<R: Threads + Sync + Abort>(rt: &R, alloc: Global, long: &Long) {
         run: long.run,
     };
     expect_by_pieces(rt, alloc, long.words, long.most, &case);
+    drop(scene);
+    drop(text);
 }
 
 // The same of each scene.
@@ -197,6 +197,7 @@ fn workers_handle_as_many_marks_as_there_may_be(rt: HostRuntime) {
     expect_that(&rt, called.status() <= 1, "a path or none");
     expect_whole(&rt, rt.alloc(), &called, 262_143, false);
     expect_that(&rt, called.text().ends_with(" blocked 0\n"), "none blocked");
+    drop(called);
 }
 
 // Compares the lines of a full report of a run over so many marks: each node has one, and each mark.
@@ -215,6 +216,7 @@ fn as_many_workers_as_there_may_be_report_as_many_marks(rt: HostRuntime) {
     let called = call_into(&rt, rt.alloc(), &words, scene, 1 << 16, 0, sink, &NoGate);
     expect_whole(&rt, rt.alloc(), &called, 262_143, true);
     expect_lines(&rt, &called, 262_143);
+    drop(called);
 }
 
 // 64 bytes of a comment: 262,144 times that are as many bytes as a text may have.

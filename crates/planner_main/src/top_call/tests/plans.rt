@@ -133,9 +133,7 @@ fn reports_each_node_and_each_mark_of_one_worker(rt: HostRuntime) {
 fn counts_written(alloc: Global, run: &Run) -> Result<String, Memory> {
     let nodes = run.nodes;
     let [placed, same, blocked] = run.outcomes;
-    let mut counts = String::new(alloc);
-    write!(
-        counts,
+    let counts = format!(in alloc;
         "\nnodes {nodes} placed {placed} same {same} blocked {blocked}\n"
     )?;
     Ok(counts)
@@ -162,6 +160,7 @@ pub fn expect_whole<R: Abort>(rt: &R, alloc: Global, called: &Called, marks: u64
         called.text().ends_with(counts.as_str())
     };
     expect_that(rt, told, &counts);
+    drop(counts);
 }
 
 // How many lines of a report begin with this.
@@ -184,14 +183,17 @@ fn plans_hundreds_of_marks_by_three_workers(rt: HostRuntime) {
     let marks = lines_with(called.text(), "mark ");
     expect_number(&rt, marks, 400, "lines of marks");
     expect_whole(&rt, rt.alloc(), &called, 400, true);
+    drop(called);
 }
 
 #[test]
 fn plans_a_generated_scene_by_four_workers(rt: HostRuntime) {
     let scene = call_unread(&rt, rt.alloc(), &["gen", "9"]);
     let called = call(&rt, rt.alloc(), &["plan", "4"], scene.text(), 1000, 0);
+    drop(scene);
     expect_that(&rt, called.status() <= 1, "a path or none");
     expect_whole(&rt, rt.alloc(), &called, 20_000, false);
+    drop(called);
 }
 
 // The marks of a row, in rising order. Handled in this order their nodes are one branch of the search tree; by four workers
@@ -200,8 +202,10 @@ fn plans_a_generated_scene_by_four_workers(rt: HostRuntime) {
 fn four_workers_handle_each_mark_of_one_branch(rt: HostRuntime) {
     let scene = corridor_scene(&rt, rt.alloc(), &CORRIDORS[0]);
     let called = call(&rt, rt.alloc(), &["plan", "4"], &scene, 1000, 0);
+    drop(scene);
     expect_that(&rt, called.status() <= 1, "a path or none");
     expect_whole(&rt, rt.alloc(), &called, 1000, false);
+    drop(called);
 }
 
 // Compares what two forms of words write for a scene.
@@ -215,15 +219,22 @@ fn expect_same_text<R: Threads + Sync + Abort>(
     let want = call(rt, alloc, words, scene, 1 << 16, 0);
     let called = call(rt, alloc, others, scene, 1 << 16, 0);
     expect_text(rt, others, called.text(), want.text(), "the same text");
+    drop(want);
+    drop(called);
 }
+
+static SAME: [(&[&str], &[&str]); 2] = [
+    (&["plain"], &["plan", "1"]),
+    (&["plain", "full"], &["plan", "1", "full"]),
+];
 
 #[test]
 fn one_worker_plans_a_generated_scene_as_plain_does(rt: HostRuntime) {
     let scene = call_unread(&rt, rt.alloc(), &["gen", "3"]);
-    let scene = scene.text();
-    expect_same_text(&rt, rt.alloc(), &["plain"], &["plan", "1"], scene);
-    let (plain, plan) = (["plain", "full"], ["plan", "1", "full"]);
-    expect_same_text(&rt, rt.alloc(), &plain, &plan, scene);
+    for (plain, plan) in &SAME {
+        expect_same_text(&rt, rt.alloc(), plain, plan, scene.text());
+    }
+    drop(scene);
 }
 
 // Compares whether each of these lines stands in a text.
@@ -233,15 +244,23 @@ fn expect_each_line<R: Abort>(rt: &R, text: &str, lines: &str) {
     }
 }
 
+// Compares the status and the two lines of a trial with those of a report.
+fn expect_tried<R: Abort>(rt: &R, trial: &Called, report: &Called) {
+    expect_number(rt, trial.status(), report.status(), "a path or none");
+    expect_number(rt, lines_with(trial.text(), ""), 2, "lines");
+    expect_each_line(rt, report.text(), trial.text());
+}
+
 // Generated scenes have 20,000 marks at most. The two lines of a trial are those of the report, without its points.
 #[test]
 fn tries_a_generated_scene_of_the_most_marks(rt: HostRuntime) {
     let scene = call_unread(&rt, rt.alloc(), &["gen", "9"]);
     let report = call(&rt, rt.alloc(), &["plan", "1"], scene.text(), 1 << 16, 0);
+    drop(scene);
     let trial = call_unread(&rt, rt.alloc(), &["trial", "9"]);
-    expect_number(&rt, trial.status(), report.status(), "a path or none");
-    expect_number(&rt, lines_with(trial.text(), ""), 2, "lines");
-    expect_each_line(&rt, report.text(), trial.text());
+    expect_tried(&rt, &trial, &report);
+    drop(trial);
+    drop(report);
 }
 
 static NO_PLANS: [&[&str]; 24] = [
@@ -365,6 +384,12 @@ fn expect_line<R: Abort>(rt: &R, text: &str, begin: &str) {
 
 const BY_TWO: &[&str] = &["plan", "2", "full"];
 
+static LINES_BY_TWO: [&str; 3] = [
+    "\nnode 2 at 22 44 parent 0 cost 12594\n",
+    "\nmark 0 worker 0 turn 0 nearest 2 placed ",
+    "\nmark 1 worker 1 turn 0 nearest 0 placed class 1 first 0 12594\n",
+];
+
 // Each of the two workers takes the first mark of its own strip. Worker 1 places node 2 while worker 0 waits with the first mark in
 // hand; that is the nearest node then.
 #[test]
@@ -372,20 +397,10 @@ fn two_workers_grow_one_tree_at_once(rt: HostRuntime) {
     let gate = OtherFirst::new();
     let called = call_with_gate(&rt, rt.alloc(), BY_TWO, THREE_MARKS, 1000, 0, &gate);
     expect_that(&rt, gate.in_time.load(Ordering::SeqCst), "in time");
-    expect_line(
-        &rt,
-        called.text(),
-        "\nnode 2 at 22 44 parent 0 cost 12594\n",
-    );
-    expect_line(
-        &rt,
-        called.text(),
-        "\nmark 0 worker 0 turn 0 nearest 2 placed ",
-    );
-    expect_line(
-        &rt,
-        called.text(),
-        "\nmark 1 worker 1 turn 0 nearest 0 placed class 1 first 0 12594\n",
-    );
+    drop(gate);
+    for begin in &LINES_BY_TWO {
+        expect_line(&rt, called.text(), begin);
+    }
     expect_whole(&rt, rt.alloc(), &called, 3, true);
+    drop(called);
 }

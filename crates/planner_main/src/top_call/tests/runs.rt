@@ -35,6 +35,7 @@ static RUNS: [(&[&str], &str, u8, Option<(u32, u32)>); 14] = [
 fn expect_end<R: Threads + Sync + Abort>(rt: &R, alloc: Global, words: &[&str], case: &Case) {
     let called = call(rt, alloc, words, case.scene, 1 << 24, 0);
     expect_ended(rt, &called, case);
+    drop(called);
 }
 
 #[test]
@@ -57,4 +58,5 @@ fn hands_out_the_run_of_a_trial(rt: HostRuntime) {
     let called = call(&rt, rt.alloc(), &words, "", 1 << 24, 0);
     expect_that(&rt, called.status() <= 1, "a path or none");
     expect_whole(&rt, rt.alloc(), &called, 2000, false);
+    drop(called);
 }
