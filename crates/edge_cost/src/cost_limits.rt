@@ -42,33 +42,34 @@ mod tests {
     use super::*;
     use crate::bounded;
 
+    /// A node's cost-to-come, an edge from it, a kept cost, and whether the way through the node costs less.
+    type Case = (u64, (u16, u16), (u16, u16), u64, bool);
+
+    static CASES: [Case; 17] = [
+        (0, (5, 5), (5, 5), 0, false),
+        (0, (5, 5), (5, 5), 1, true),
+        (700, (5, 5), (5, 5), 700, false),
+        (700, (5, 5), (5, 5), 701, true),
+        (0, (0, 0), (30, 40), 0, false),
+        (0, (0, 0), (30, 40), 12_800, false),
+        (0, (0, 0), (30, 40), 12_801, true),
+        (200, (0, 0), (30, 40), 12_999, false),
+        (200, (0, 0), (30, 40), 13_000, false),
+        (200, (0, 0), (30, 40), 13_001, true),
+        (13_000, (0, 0), (30, 40), 12_801, false),
+        (0, (1, 1), (0, 0), 363, false),
+        (0, (1, 1), (0, 0), 364, true),
+        (0, (0, 0), (65_535, 65_535), 23_726_205, false),
+        (0, (0, 0), (65_535, 65_535), 23_726_206, true),
+        (0, (0, 0), (65_535, 65_535), u64::MAX, true),
+        (u64::MAX, (0, 0), (65_535, 65_535), u64::MAX, false),
+    ];
+
     #[test]
     fn compares_costs_through_a_node_with_kept_costs(rt: HostRuntime) {
-        for (cost_to_come, from, to, kept_cost, want) in [
-            (0, (5, 5), (5, 5), 0, false),
-            (0, (5, 5), (5, 5), 1, true),
-            (700, (5, 5), (5, 5), 700, false),
-            (700, (5, 5), (5, 5), 701, true),
-            (0, (0, 0), (30, 40), 0, false),
-            (0, (0, 0), (30, 40), 12_800, false),
-            (0, (0, 0), (30, 40), 12_801, true),
-            (200, (0, 0), (30, 40), 12_999, false),
-            (200, (0, 0), (30, 40), 13_000, false),
-            (200, (0, 0), (30, 40), 13_001, true),
-            (13_000, (0, 0), (30, 40), 12_801, false),
-            (0, (1, 1), (0, 0), 363, false),
-            (0, (1, 1), (0, 0), 364, true),
-            (0, (0, 0), (65_535, 65_535), 23_726_205, false),
-            (0, (0, 0), (65_535, 65_535), 23_726_206, true),
-            (0, (0, 0), (65_535, 65_535), u64::MAX, true),
-            (u64::MAX, (0, 0), (65_535, 65_535), u64::MAX, false),
-        ] {
+        for &(cost_to_come, from, to, kept_cost, want) in &CASES {
             let less = costs_less_through(cost_to_come, bounded(from), bounded(to), kept_cost);
-            assert_eq!(rt;
-                less,
-                want,
-                "{cost_to_come} and from {from:?} to {to:?} below {kept_cost}"
-            );
+            assert_eq!(rt; less, want, "below {kept_cost}");
         }
     }
 }

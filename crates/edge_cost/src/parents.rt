@@ -73,23 +73,26 @@ mod tests {
         assert_eq!(rt; fifth().cost, 13_000);
     }
 
+    /// Another node, its cost-to-come and where it stands, and whether it is the better parent.
+    static RIVALS: [(u32, u64, (u16, u16), bool); 10] = [
+        (4, 200, (0, 0), true),
+        (6, 200, (0, 0), false),
+        (4, 201, (0, 0), false),
+        (6, 199, (0, 0), true),
+        (4, 13_000, (30, 40), true),
+        (6, 13_000, (30, 40), false),
+        (6, 0, (30, 41), true),
+        (4, 14_000, (30, 40), false),
+        (4, 12_637, (29, 39), true),
+        (4, 12_638, (29, 39), false),
+    ];
+
     #[test]
     fn the_lesser_cost_wins_and_of_equal_costs_the_lesser_number(rt: HostRuntime) {
         let best = fifth();
-        for (node, cost_to_come, from, want) in [
-            (4, 200, (0, 0), true),
-            (6, 200, (0, 0), false),
-            (4, 201, (0, 0), false),
-            (6, 199, (0, 0), true),
-            (4, 13_000, (30, 40), true),
-            (6, 13_000, (30, 40), false),
-            (6, 0, (30, 41), true),
-            (4, 14_000, (30, 40), false),
-            (4, 12_637, (29, 39), true),
-            (4, 12_638, (29, 39), false),
-        ] {
+        for &(node, cost_to_come, from, want) in &RIVALS {
             let beaten = best.is_beaten_by(node, cost_to_come, bounded(from), bounded((30, 40)));
-            assert_eq!(rt; beaten, want, "node {node} at {from:?}");
+            assert_eq!(rt; beaten, want, "node {node} at the cost {cost_to_come}");
         }
     }
 }

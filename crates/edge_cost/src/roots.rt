@@ -68,36 +68,30 @@ fn stepped_down(n: u64, reaching: u64) -> u64
 mod tests {
     use super::*;
 
+    /// Roots of squares; 379_624_701 is the greatest cost of an edge.
+    static ROOTS: [u64; 12] = [
+        2,
+        3,
+        4,
+        255,
+        256,
+        65_535,
+        65_536,
+        33_554_431,
+        94_906_266,
+        379_624_701,
+        2_147_483_648,
+        MOST_ROOT,
+    ];
+
     #[test]
     fn rounds_up_beside_squares(rt: HostRuntime) {
-        // 379_624_701 is the greatest cost of an edge
-        for root in [
-            2,
-            3,
-            4,
-            255,
-            256,
-            65_535,
-            65_536,
-            33_554_431,
-            94_906_266,
-            379_624_701,
-            2_147_483_648,
-            MOST_ROOT,
-        ] {
+        for &root in &ROOTS {
             assert!(rt; 2 <= root && root <= MOST_ROOT);
             let square = root * root;
-            assert_eq!(rt;
-                root_ceiling(square - 1),
-                root,
-                "one below the square of {root}"
-            );
-            assert_eq!(rt; root_ceiling(square), root, "the square of {root}");
-            assert_eq!(rt;
-                root_ceiling(square + 1),
-                root + 1,
-                "one above the square of {root}"
-            );
+            assert_eq!(rt; root_ceiling(square - 1), root);
+            assert_eq!(rt; root_ceiling(square), root);
+            assert_eq!(rt; root_ceiling(square + 1), root + 1);
         }
     }
 

@@ -84,11 +84,7 @@ mod tests {
             ((0, 0), (70, 70), (35, 35)),
             ((100, 100), (0, 0), (65, 65)),
         ] {
-            assert_eq!(rt;
-                steer(bounded(a), bounded(b), 50),
-                bounded(want),
-                "from {a:?} towards {b:?}"
-            );
+            assert_eq!(rt; steer(bounded(a), bounded(b), 50), bounded(want));
         }
     }
 }

@@ -1,6 +1,7 @@
 //! What the tests do with a pass: it places the points of marks below the nearest nodes, in scenes whose radius is 0.
+//! Trees and passes end by calls of `drop`: the proof of a call is shared, and that of the end of a scope is each function's own.
 
-ghost use Rattle.std.specs.Prelude.{◌≡◌, ◌+◌, ◌<◌, ◌≤◌, All, IfNone, IfOk, IfSome, IsTrue, length};
+ghost use Rattle.std.specs.Prelude.{◌≡◌, ◌+◌, ◌<◌, ◌≤◌, All, IfNone, IfOk, IfSome, IsTrue, Ok, Some, length};
 ghost use Rattle.kd_shared_tests.specs.HeldMarks.{HangsBelow, HoldsMark, HoldsPlaced, IsClassBetween, SeesHandPoint, SteersFrom};
 ghost use Rattle.plan_model.specs.Clearance.{ClearAt};
 ghost use Rattle.plan_model.specs.ConfigurationSpace.{space_of};
@@ -16,9 +17,29 @@ use kd_shared::{Placing, nearest, place};
 use plan_model::{Goal, Memory, Outcome, Point, Record, SmallScene, Task};
 use plan_words::{Pass, Shared};
 use std::alloc::Global;
-use std::test::Fail;
+use std::process::Abort;
 use step_core::Grown;
 use swept_check::{Clearing, Hall};
+
+/// What was made, for which memory lasts. A test ends here if none is left, so that no value is dropped on the way.
+pub(crate) fn sure<R: Abort, T>(rt: &R, made: Result<T, Memory>) -> T
+    ensures { made ≡ Ok result }
+{
+    match made {
+        Ok(value) => value,
+        Err(error) => panic!(rt; "{error}"),
+    }
+}
+
+/// What was found, for which there is something.
+pub(crate) fn some<R: Abort, T>(rt: &R, found: Option<T>) -> T
+    ensures { found ≡ Some result }
+{
+    match found {
+        Some(value) => value,
+        None => panic!(rt; "there is none"),
+    }
+}
 
 /// These marks in the greatest room.
 pub(crate) fn marks_round(
@@ -241,18 +262,42 @@ fn place_all(shared: &Shared, hall: &Hall, pass: &mut Pass, limit: u32) -> Optio
     Some(())
 }
 
+/// The shared tree of a task, and a pass that has it to itself.
+fn shared_by_one<R: Abort>(rt: &R, alloc: Global, task: Task) -> (Shared, Pass)
+    requires { ClearAt (space_of task.scene) task.scene.start }
+    ensures opening { result.0.opening ≡ 0 }
+    ensures task { result.0.task ≡ task }
+    ensures pass { MayClaim result.0 result.1 }
+{
+    let grown = sure(rt, Grown::new(alloc, task));
+    let (shared, mut passes) = sure(rt, Shared::start(alloc, grown, 1));
+    let pass = some(rt, last_pass(&shared, &mut passes));
+    drop(passes);
+    (shared, pass)
+}
+
 /// A tree with nodes at these points round the start, each linked by the pass.
-pub(crate) fn tree_of(alloc: Global, start: Point, points: &[Point]) -> Result<(Shared, Pass), Fail>
+pub(crate) fn tree_of<R: Abort>(
+    rt: &R,
+    alloc: Global,
+    start: Point,
+    points: &[Point],
+) -> (Shared, Pass)
     requires start { IsInRoom (record { x = 65535; y = 65535 }) start }
     requires plan { IsTrue (is_plan (Listed points.now)) }
-    ensures { IfOk result (λ grown. MayClaim grown.0 grown.1) }
+    ensures { MayClaim result.0 result.1 }
 {
-    let task = marks_round(alloc, start, 1, points)?;
-    let grown = Grown::new(alloc, task)?;
-    let (shared, mut passes) = Shared::start(alloc, grown, 1)?;
-    let hall = Hall::new(alloc, &shared.task().scene)?;
-    let mut pass = last_pass(&shared, &mut passes).ok_or(Memory)?;
+    let task = sure(rt, marks_round(alloc, start, 1, points));
+    let hall = sure(rt, Hall::new(alloc, &task.scene));
+    let (shared, mut pass) = shared_by_one(rt, alloc, task);
     let limit = points.len() as u32;
-    place_all(&shared, &hall, &mut pass, limit).ok_or(Memory)?;
-    Ok((shared, pass))
+    some(rt, place_all(&shared, &hall, &mut pass, limit));
+    drop(hall);
+    (shared, pass)
+}
+
+/// Ends a tree and its pass.
+pub(crate) fn end_tree(shared: Shared, pass: Pass) {
+    drop(shared);
+    drop(pass);
 }

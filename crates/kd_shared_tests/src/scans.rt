@@ -8,7 +8,6 @@ ghost use Rattle.plan_model.specs.Limits.{is_plan};
 ghost use Rattle.plan_model.specs.declared.scenes.Marks.TheVariants.{Listed};
 
 use plan_model::Point;
-use std::alloc::{AllocError, Global};
 
 /// The point with this number.
 fn point_of(start: Point, points: &[Point], number: usize) -> Point
@@ -53,26 +52,21 @@ pub(crate) fn scan_nearest(start: Point, points: &[Point], p: Point) -> u32
     best as u32
 }
 
-/// The numbers within a radius of a point, each point once.
-pub(crate) fn scan_near(
-    alloc: Global,
-    start: Point,
-    points: &[Point],
-    p: Point,
-    r: u32,
-) -> Result<Vec<u32>, AllocError>
+/// Whether a list has the numbers within a radius of a point, each point once.
+pub(crate) fn is_scan_near(list: &[u32], start: Point, points: &[Point], p: Point, r: u32) -> bool
     requires start { IsInRoom (record { x = 65535; y = 65535 }) start }
     requires plan { IsTrue (is_plan (Listed points.now)) }
     requires bounded { IsBounded p }
 {
     let most = u64::from(r) * u64::from(r);
-    let mut found = Vec::new(alloc);
+    let mut listed = list.iter();
     'numbers: for number in 0..points.len() + 1 {
         let here = point_of(start, points, number);
         let is_near = here.squared_distance(p) <= most;
-        if is_near && scan_find(start, points, here) == Some(number as u32) {
-            found.push(number as u32)?;
+        let belongs = is_near && scan_find(start, points, here) == Some(number as u32);
+        if belongs && listed.next() != Some(&(number as u32)) {
+            return false;
         }
     }
-    Ok(found)
+    listed.next().is_none()
 }

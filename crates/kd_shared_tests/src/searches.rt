@@ -8,25 +8,76 @@ ghost use Rattle.plan_model.specs.declared.limits.TheConstants.{MOST_COORDINATE}
 ghost use Rattle.plan_model.specs.declared.scenes.Marks.TheVariants.{Listed};
 ghost use Rattle.plan_words.specs.States.{BelongsTo};
 
-use crate::growing::tree_of;
-use crate::scans::{scan_find, scan_near, scan_nearest};
+use crate::growing::{end_tree, tree_of};
+use crate::scans::{is_scan_near, scan_find, scan_nearest};
 use kd_shared::{around, find, near, nearest};
 use plan_model::Point;
 use plan_words::{Pass, Shared};
-use std::alloc::{AllocError, Global};
+use std::alloc::Global;
 use std::process::Abort;
-use std::test::Fail;
+
+/// Asserts which node is nearest to a point.
+pub(crate) fn expect_nearest<R: Abort>(
+    rt: &R,
+    shared: &Shared,
+    pass: &mut Pass,
+    p: Point,
+    want: u32,
+)
+    requires belongs { BelongsTo pass.old shared.now }
+    requires bounded { IsBounded p }
+    ensures { BelongsTo pass.new shared.now }
+{
+    let closest = nearest(shared, pass, p);
+    assert!(rt; closest == want, "node {closest}");
+}
+
+/// Asserts which nodes are within a radius of a point.
+pub(crate) fn expect_near<R: Abort>(
+    rt: &R,
+    shared: &Shared,
+    pass: &mut Pass,
+    p: Point,
+    r: u32,
+    want: &[u32],
+)
+    requires belongs { BelongsTo pass.old shared.now }
+    requires bounded { IsBounded p }
+    ensures { BelongsTo pass.new shared.now }
+{
+    near(shared, pass, p, r);
+    let close = pass.near_list();
+    assert!(rt; close == want, "nodes {close:?}");
+}
+
+/// Whether the searches for the node at this point, and for the nearest one, answer as scans do.
+fn node_answers_as_scans(
+    shared: &Shared,
+    pass: &mut Pass,
+    start: Point,
+    points: &[Point],
+    p: Point,
+) -> bool
+    requires belongs { BelongsTo pass.old shared.now }
+    requires start { IsInRoom (record { x = 65535; y = 65535 }) start }
+    requires plan { IsTrue (is_plan (Listed points.now)) }
+    requires bounded { IsBounded p }
+    ensures { BelongsTo pass.new shared.now }
+{
+    let found = find(shared, pass, p);
+    let closest = nearest(shared, pass, p);
+    found == scan_find(start, points, p) && closest == scan_nearest(start, points, p)
+}
 
 /// Whether each search for this point answers as a scan does. Near is asked with one radius, around with a greater one.
 fn answers_as_scans(
-    alloc: Global,
     shared: &Shared,
     pass: &mut Pass,
     start: Point,
     points: &[Point],
     p: Point,
     r: u32,
-) -> Result<bool, AllocError>
+) -> bool
     requires belongs { BelongsTo pass.old shared.now }
     requires start { IsInRoom (record { x = 65535; y = 65535 }) start }
     requires plan { IsTrue (is_plan (Listed points.now)) }
@@ -36,14 +87,9 @@ fn answers_as_scans(
 {
     near(shared, pass, p, r);
     around(shared, pass, p, r + 1);
-    let close = scan_near(alloc, start, points, p, r)?;
-    let wider = scan_near(alloc, start, points, p, r + 1)?;
-    Ok(
-        find(shared, pass, p) == scan_find(start, points, p)
-            && nearest(shared, pass, p) == scan_nearest(start, points, p)
-            && pass.near_list() == close.as_slice()
-            && pass.around_list() == wider.as_slice(),
-    )
+    node_answers_as_scans(shared, pass, start, points, p)
+        && is_scan_near(pass.near_list(), start, points, p, r)
+        && is_scan_near(pass.around_list(), start, points, p, r + 1)
 }
 
 /// The square of this side above and to the right of the point with both coordinates `low`.
@@ -55,14 +101,13 @@ struct Window {
 
 /// Whether they do so for each point of the window.
 fn all_answer_as_scans(
-    alloc: Global,
     shared: &Shared,
     pass: &mut Pass,
     start: Point,
     points: &[Point],
     window: Window,
     r: u32,
-) -> Result<bool, AllocError>
+) -> bool
     requires belongs { BelongsTo pass.old shared.now }
     requires start { IsInRoom (record { x = 65535; y = 65535 }) start }
     requires plan { IsTrue (is_plan (Listed points.now)) }
@@ -76,28 +121,30 @@ fn all_answer_as_scans(
             x: window.low + place % window.side,
             y: window.low + place / window.side,
         };
-        all &= answers_as_scans(alloc, shared, pass, start, points, p, r)?;
+        all &= answers_as_scans(shared, pass, start, points, p, r);
     }
-    Ok(all)
+    all
 }
 
-/// Whether they do so in a tree of these points, for each point of the window.
-fn tree_answers_as_scans(
+/// Asserts that they do so in a tree of these points, for each point of the window.
+fn expect_scans<R: Abort>(
+    rt: &R,
     alloc: Global,
     start: Point,
     points: &[Point],
     window: Window,
     r: u32,
-) -> Result<bool, Fail>
+)
     requires start { IsInRoom (record { x = 65535; y = 65535 }) start }
     requires plan { IsTrue (is_plan (Listed points.now)) }
     requires bounded { window.low + window.side ≤ MOST_COORDINATE + 1 }
     requires side { window.side ≤ 16 }
     requires radius { r + 1 < 2 ^ 32 }
 {
-    let (shared, mut pass) = tree_of(alloc, start, points)?;
-    let all = all_answer_as_scans(alloc, &shared, &mut pass, start, points, window, r)?;
-    Ok(all)
+    let (shared, mut pass) = tree_of(rt, alloc, start, points);
+    let all = all_answer_as_scans(&shared, &mut pass, start, points, window, r);
+    assert!(rt; all, "with radius {r}");
+    end_tree(shared, pass);
 }
 
 fn at(x: u32, y: u32) -> Point
@@ -127,19 +174,11 @@ fn square() -> [Point; 12]
 }
 
 #[test]
-fn equal_columns_and_rows_are_found(rt: HostRuntime) -> Result<(), Fail> {
+fn equal_columns_and_rows_are_found(rt: HostRuntime) {
+    let window = Window { low: 0, side: 12 };
     'radii: for r in 0..5 {
-        assert!(rt;
-            tree_answers_as_scans(
-                rt.alloc(),
-                at(5, 5),
-                &square(),
-                Window { low: 0, side: 12 },
-                r
-            )?
-        );
+        expect_scans(&rt, rt.alloc(), at(5, 5), &square(), window, r);
     }
-    Ok(())
 }
 
 /// Nodes as far to the left of the line through the start as to the right, and above as below; the lesser numbers on the far side.
@@ -150,19 +189,12 @@ fn across() -> [Point; 6]
 }
 
 #[test]
-fn of_equally_near_nodes_across_a_line_the_first_is_nearest(rt: HostRuntime) -> Result<(), Fail> {
-    assert!(rt;
-        tree_answers_as_scans(
-            rt.alloc(),
-            at(6, 6),
-            &across(),
-            Window { low: 0, side: 13 },
-            2
-        )?
-    );
-    let (shared, mut pass) = tree_of(rt.alloc(), at(6, 1), &across())?;
-    assert_eq!(rt; nearest(&shared, &mut pass, at(6, 6)), 1);
-    Ok(())
+fn of_equally_near_nodes_across_a_line_the_first_is_nearest(rt: HostRuntime) {
+    let window = Window { low: 0, side: 13 };
+    expect_scans(&rt, rt.alloc(), at(6, 6), &across(), window, 2);
+    let (shared, mut pass) = tree_of(&rt, rt.alloc(), at(6, 1), &across());
+    expect_nearest(&rt, &shared, &mut pass, at(6, 6), 1);
+    end_tree(shared, pass);
 }
 
 /// A tree of one branch.
@@ -183,17 +215,9 @@ fn stairs() -> [Point; 9]
 }
 
 #[test]
-fn one_branch_is_searched(rt: HostRuntime) -> Result<(), Fail> {
-    assert!(rt;
-        tree_answers_as_scans(
-            rt.alloc(),
-            at(0, 0),
-            &stairs(),
-            Window { low: 0, side: 11 },
-            4
-        )?
-    );
-    Ok(())
+fn one_branch_is_searched(rt: HostRuntime) {
+    let window = Window { low: 0, side: 11 };
+    expect_scans(&rt, rt.alloc(), at(0, 0), &stairs(), window, 4);
 }
 
 /// Nodes at the greatest coordinates of a room, and a step away.
@@ -209,40 +233,38 @@ fn corner() -> [Point; 4]
 }
 
 #[test]
-fn the_greatest_coordinates_and_radii_are_searched(rt: HostRuntime) -> Result<(), Fail> {
+fn the_greatest_coordinates_and_radii_are_searched(rt: HostRuntime) {
     let start = at(65535, 65535);
-    assert!(rt;
-        tree_answers_as_scans(
-            rt.alloc(),
-            start,
-            &corner(),
-            Window {
-                low: 65530,
-                side: 9
-            },
-            4096
-        )?
+    let room = Window {
+        low: 65530,
+        side: 9,
+    };
+    let bound = Window {
+        low: 1048573,
+        side: 3,
+    };
+    expect_scans(&rt, rt.alloc(), start, &corner(), room, 4096);
+    expect_scans(&rt, rt.alloc(), start, &corner(), bound, 1390158);
+    let (shared, mut pass) = tree_of(&rt, rt.alloc(), start, &corner());
+    expect_near(
+        &rt,
+        &shared,
+        &mut pass,
+        at(0, 0),
+        u32::MAX,
+        &[0, 1, 2, 3, 4],
     );
-    assert!(rt;
-        tree_answers_as_scans(
-            rt.alloc(),
-            start,
-            &corner(),
-            Window {
-                low: 1048573,
-                side: 3
-            },
-            1390158
-        )?
-    );
-    let (shared, mut pass) = tree_of(rt.alloc(), start, &corner())?;
-    near(&shared, &mut pass, at(0, 0), u32::MAX);
-    assert_eq!(rt; pass.near_list(), [0, 1, 2, 3, 4].as_slice());
-    Ok(())
+    end_tree(shared, pass);
 }
 
 #[test]
-fn the_start_alone_is_found(rt: HostRuntime) -> Result<(), Fail> {
-    assert!(rt; tree_answers_as_scans(rt.alloc(), at(2, 2), &[], Window { low: 0, side: 5 }, 0)?);
-    Ok(())
+fn the_start_alone_is_found(rt: HostRuntime) {
+    expect_scans(
+        &rt,
+        rt.alloc(),
+        at(2, 2),
+        &[],
+        Window { low: 0, side: 5 },
+        0,
+    );
 }

@@ -1,18 +1,18 @@
 //! Passes that place the same points, each in a thread of its own.
 
 ghost use Rattle.std.specs.Prelude.{◌≡◌, ◌*◌, All, IfOk, IsTrue, length};
+ghost use Rattle.plan_model.specs.Clearance.{ClearAt};
 ghost use Rattle.plan_model.specs.ConfigurationSpace.{space_of};
 ghost use Rattle.plan_model.specs.Limits.{is_plan};
 ghost use Rattle.plan_model.specs.declared.scenes.Marks.TheVariants.{Listed};
 ghost use Rattle.plan_words.specs.States.{MayClaim};
 
-use crate::growing::{last_pass, marks_round, place_next};
+use crate::growing::{last_pass, marks_round, place_next, sure};
 use kd_shared::Placing;
-use plan_model::Point;
+use plan_model::{Memory, Point, Task};
 use plan_words::{Pass, Shared};
-use std::alloc::{AllocError, Global};
+use std::alloc::Global;
 use std::process::Abort;
-use std::test::Fail;
 use std::thread;
 use std::thread::Threads;
 use step_core::Grown;
@@ -33,7 +33,7 @@ struct Worker {
 }
 
 /// The points, each so often in a row. As many strips take turns, so each worker has all the points in its own strip.
-fn repeated_points(alloc: Global) -> Result<Vec<Point>, AllocError>
+fn repeated_points(alloc: Global) -> Result<Vec<Point>, Memory>
     ensures plan { IfOk result (λ points. IsTrue (is_plan (Listed points.items))) }
     ensures count { IfOk result (λ points. length points.items ≡ POINTS * WORKERS) }
 {
@@ -87,11 +87,7 @@ fn work_all<R: Threads + Sync>(rt: &R, shared: &Shared, hall: &Hall, workers: &m
 }
 
 /// A worker for each pass.
-fn workers_of(
-    alloc: Global,
-    shared: &Shared,
-    passes: &mut Vec<Pass>,
-) -> Result<Vec<Worker>, AllocError>
+fn workers_of(alloc: Global, shared: &Shared, passes: &mut Vec<Pass>) -> Result<Vec<Worker>, Memory>
     requires { All (MayClaim shared.now) passes.old.items }
     ensures { IfOk result (λ workers. All (λ worker. MayClaim shared.now worker.pass) workers.items) }
 {
@@ -109,22 +105,62 @@ fn workers_of(
     Ok(workers)
 }
 
-#[test]
-fn each_point_stands_once(rt: HostRuntime) -> Result<(), Fail> {
-    let marks = repeated_points(rt.alloc())?;
-    let task = marks_round(rt.alloc(), START, WORKERS, marks.as_slice())?;
-    let grown = Grown::new(rt.alloc(), task)?;
-    let (shared, mut passes) = Shared::start(rt.alloc(), grown, WORKERS)?;
-    let hall = Hall::new(rt.alloc(), &shared.task().scene)?;
-    let mut workers = workers_of(rt.alloc(), &shared, &mut passes)?;
-    work_all(&rt, &shared, &hall, workers.as_mut_slice());
-    assert_eq!(rt; workers.len(), WORKERS as usize);
+/// The task of these points, with a strip for each worker.
+fn repeated_task<R: Abort>(rt: &R, alloc: Global) -> Task
+    ensures clear { ClearAt (space_of result.scene) result.scene.start }
+    ensures marks { length result.marks ≡ POINTS * WORKERS }
+{
+    let points = sure(rt, repeated_points(alloc));
+    let task = sure(rt, marks_round(alloc, START, WORKERS, points.as_slice()));
+    drop(points);
+    task
+}
+
+/// The shared tree of a task, and its workers.
+fn shared_by_workers<R: Abort>(rt: &R, alloc: Global, task: Task) -> (Shared, Vec<Worker>)
+    requires { ClearAt (space_of task.scene) task.scene.start }
+    ensures opening { result.0.opening ≡ 0 }
+    ensures task { result.0.task ≡ task }
+    ensures workers { All (λ worker. MayClaim result.0 worker.pass) result.1.items }
+{
+    let grown = sure(rt, Grown::new(alloc, task));
+    let (shared, mut passes) = sure(rt, Shared::start(alloc, grown, WORKERS));
+    let workers = sure(rt, workers_of(alloc, &shared, &mut passes));
+    drop(passes);
+    (shared, workers)
+}
+
+/// The workers after each has placed all points in a thread of its own.
+fn workers_done<R: Threads + Sync + Abort>(rt: &R, alloc: Global) -> Vec<Worker> {
+    let task = repeated_task(rt, alloc);
+    let hall = sure(rt, Hall::new(alloc, &task.scene));
+    let (shared, mut workers) = shared_by_workers(rt, alloc, task);
+    work_all(rt, &shared, &hall, workers.as_mut_slice());
+    drop(hall);
+    drop(shared);
+    workers
+}
+
+/// Asserts that a worker came to each point, and at each to the same node as another.
+fn expect_nodes<R: Abort>(rt: &R, worker: &Worker, nodes: &[u32]) {
+    assert!(rt; worker.nodes.len() == POINTS as usize);
+    assert!(rt; worker.nodes.as_slice() == nodes);
+}
+
+/// Asserts that the workers came to the same nodes, and placed each once.
+fn expect_alike<R: Abort>(rt: &R, workers: &[Worker]) {
+    assert!(rt; workers.len() == WORKERS as usize);
     let mut placed = 0u32;
-    for worker in workers.iter() {
-        assert_eq!(rt; worker.nodes.len(), POINTS as usize);
-        assert!(rt; worker.nodes == workers[0].nodes);
+    for worker in workers {
+        expect_nodes(rt, worker, workers[0].nodes.as_slice());
         placed = placed.wrapping_add(worker.placed);
     }
-    assert_eq!(rt; placed, POINTS);
-    Ok(())
+    assert!(rt; placed == POINTS, "{placed} nodes");
+}
+
+#[test]
+fn each_point_stands_once(rt: HostRuntime) {
+    let workers = workers_done(&rt, rt.alloc());
+    expect_alike(&rt, workers.as_slice());
+    drop(workers);
 }

@@ -9,7 +9,7 @@ ghost use Rattle.convex_sets.specs.declared.boxes.BoundingBox.{BoundingBox};
 ghost use Rattle.plan_model.specs.Limits.{are_obstacles};
 ghost use Rattle.obstacle_boxes.specs.NearZones.{AreZoneBoxes, boxes_meet, near_count, segment_box};
 
-use crate::scenes::checkers;
+use crate::scenes::{boxes_of, polygon, scene, sure};
 use convex_sets::BoundingBox;
 use obstacle_boxes::Boxes;
 use plan_model::{Memory, Point, Polys, Sequence, Vertex};
@@ -17,7 +17,6 @@ use std::alloc::Global;
 use std::marker::Brand;
 use std::process::Abort;
 use std::sync::ledger::{Blank, Ledger};
-use std::test::Fail;
 use swept_check::{Clearing, Steps};
 
 /// Whether a box meets that of the segment from `a` to `b`.
@@ -78,7 +77,8 @@ fn answer<L: Ledger>(
     rt: &impl Abort,
     boxes: &Boxes,
     all: &[BoundingBox],
-    ends: [(u32, u32); 2],
+    from: (u32, u32),
+    to: (u32, u32),
     blank: Blank,
 ) -> (bool, usize)
     requires all { AreZoneBoxes boxes.now all.now }
@@ -87,53 +87,75 @@ fn answer<L: Ledger>(
     requires some { 0 < blank.parts }
 {
     let a = Point {
-        x: ends[0].0,
-        y: ends[0].1,
+        x: from.0,
+        y: from.1,
     };
-    let b = Point {
-        x: ends[1].0,
-        y: ends[1].1,
-    };
+    let b = Point { x: to.0, y: to.1 };
     let mut steps = Steps::<L>::new(blank);
     let answer = counted(boxes, all, a, b, &mut steps);
-    assert_eq!(rt; boxes.clear(a, b), answer.0);
+    assert!(rt; boxes.clear(a, b) == answer.0);
     answer
 }
 
+static SQUARE: [Vertex; 4] = [
+    Vertex { x: 40, y: 0 },
+    Vertex { x: 60, y: 0 },
+    Vertex { x: 60, y: 60 },
+    Vertex { x: 40, y: 60 },
+];
+
+static TRIANGLE: [Vertex; 3] = [
+    Vertex { x: 10, y: 10 },
+    Vertex { x: 20, y: 10 },
+    Vertex { x: 10, y: 20 },
+];
+
 /// A square, and a small triangle beside it.
-fn two(alloc: Global) -> Result<Polys, Memory>
-    ensures { IfOk result (λ polys. IsTrue (are_obstacles polys)) }
+fn two<R: Abort>(rt: &R, alloc: Global) -> Polys
+    ensures { IsTrue (are_obstacles result) }
 {
-    let square = [
-        Vertex { x: 40, y: 0 },
-        Vertex { x: 60, y: 0 },
-        Vertex { x: 60, y: 60 },
-        Vertex { x: 40, y: 60 },
-    ];
-    let triangle = [
-        Vertex { x: 10, y: 10 },
-        Vertex { x: 20, y: 10 },
-        Vertex { x: 10, y: 20 },
-    ];
-    let mut obstacles = Vec::new(alloc);
-    obstacles.push(Sequence::from_vec(Vec::from_slice(alloc, &square)?))?;
-    obstacles.push(Sequence::from_vec(Vec::from_slice(alloc, &triangle)?))?;
-    Ok(Sequence::from_vec(obstacles))
+    let square = polygon(rt, alloc, &SQUARE);
+    let triangle = polygon(rt, alloc, &TRIANGLE);
+    Sequence::from_vec(sure(rt, vec![in alloc; square, triangle]))
+}
+
+/// The ends of a segment, whether it is clear, and how many boxes meet its own.
+type Case = ((u32, u32), (u32, u32), bool, usize);
+
+static CASES: [Case; 4] = [
+    ((30, 61), (70, 61), true, 0),
+    ((30, 5), (9, 26), true, 1),
+    ((30, 0), (70, 61), false, 1),
+    // an end outside of the room: no step, whichever boxes are near
+    ((0, 0), (101, 0), false, 1),
+];
+
+/// Asserts the answer to the segment of a case.
+fn expect(rt: &impl Abort, boxes: &Boxes, all: &[BoundingBox], case: &Case)
+    requires { AreZoneBoxes boxes.now all.now }
+{
+    let (is_clear, near) = answer::<Brand>(rt, boxes, all, case.0, case.1, Blank::new(1));
+    assert!(rt; is_clear == case.2);
+    assert!(rt; near == case.3);
+}
+
+/// The same of each case.
+fn expect_each(rt: &impl Abort, boxes: &Boxes, all: &[BoundingBox])
+    requires { AreZoneBoxes boxes.now all.now }
+{
+    for case in &CASES {
+        expect(rt, boxes, all, case);
+    }
 }
 
 #[test]
-fn zones_whose_boxes_are_apart_are_not_tested(rt: HostRuntime) -> Result<(), Fail> {
-    let (_, boxes) = checkers(rt.alloc(), two(rt.alloc())?)?;
-    let all = zone_boxes(rt.alloc(), &boxes)?;
-    for (ends, want) in [
-        ([(30, 61), (70, 61)], (true, 0)),
-        ([(30, 5), (9, 26)], (true, 1)),
-        ([(30, 0), (70, 61)], (false, 1)),
-        // an end outside of the room: no step, whichever boxes are near
-        ([(0, 0), (101, 0)], (false, 1)),
-    ] {
-        let near = answer::<Brand>(&rt, &boxes, all.as_slice(), ends, Blank::new(1));
-        assert_eq!(rt; near, want);
-    }
-    Ok(())
+fn zones_whose_boxes_are_apart_are_not_tested(rt: HostRuntime) {
+    let obstacles = two(&rt, rt.alloc());
+    let scene = scene(&rt, rt.alloc(), obstacles);
+    let boxes = boxes_of(&rt, rt.alloc(), &scene);
+    drop(scene);
+    let all = sure(&rt, zone_boxes(rt.alloc(), &boxes));
+    expect_each(&rt, &boxes, all.as_slice());
+    drop(all);
+    drop(boxes);
 }

@@ -1,26 +1,48 @@
 //! Collision checkers of a point body among triangles and squares, in a room of 100 by 100.
 
-ghost use Rattle.std.specs.Prelude.{◌≡◌, IfOk, IsTrue};
+ghost use Rattle.std.specs.Prelude.{◌≡◌, IsTrue, Ok};
 ghost use Rattle.plan_model.specs.Limits.{are_obstacles};
 
 use obstacle_boxes::Boxes;
-use plan_model::{Goal, Marks, Memory, Point, Polys, Scene, Sequence, SmallScene, Vertex};
+use plan_model::{Goal, Marks, Point, Poly, Polys, Scene, Sequence, SmallScene, Vertex};
 use std::alloc::Global;
+use std::fmt;
+use std::process::Abort;
 use swept_check::Hall;
 
-/// The obstacles with these corners.
-pub(crate) fn obstacles(alloc: Global, corners: &[[Vertex; 4]]) -> Result<Polys, Memory>
-    ensures { IfOk result (λ polys. polys ≡ corners.now) }
+/// What was made, for which there is memory.
+pub(crate) fn sure<R: Abort, T, E: fmt::Display>(rt: &R, made: Result<T, E>) -> T
+    ensures { made ≡ Ok result }
 {
-    let mut polys = Vec::new(alloc);
-    for polygon in corners {
-        polys.push(Sequence::from_vec(Vec::from_slice(alloc, polygon)?))?;
+    match made {
+        Ok(value) => value,
+        Err(error) => panic!(rt; "{error}"),
     }
-    Ok(Sequence::from_vec(polys))
 }
 
+/// The polygon of these corners.
+pub(crate) fn polygon<R: Abort>(rt: &R, alloc: Global, corners: &[Vertex]) -> Poly
+    ensures { result ≡ corners.now }
+{
+    Sequence::from_vec(sure(rt, Vec::from_slice(alloc, corners)))
+}
+
+/// The obstacles with these corners.
+pub(crate) fn obstacles<R: Abort>(rt: &R, alloc: Global, corners: &[[Vertex; 4]]) -> Polys
+    ensures { result ≡ corners.now }
+{
+    let mut polys = Vec::new(alloc);
+    for four in corners {
+        let next = polygon(rt, alloc, four);
+        sure(rt, polys.push(next));
+    }
+    Sequence::from_vec(polys)
+}
+
+static POINT: [Vertex; 1] = [Vertex { x: 0, y: 0 }];
+
 /// The scene of these obstacles.
-fn scene(alloc: Global, obstacles: Polys) -> Result<Scene, Memory>
+pub(crate) fn scene<R: Abort>(rt: &R, alloc: Global, obstacles: Polys) -> Scene
     requires { IsTrue (are_obstacles obstacles) }
 {
     let small = SmallScene {
@@ -35,16 +57,12 @@ fn scene(alloc: Global, obstacles: Polys) -> Result<Scene, Memory>
         seed: 0,
         strips: 1,
     };
-    let body = Sequence::from_vec(vec![in alloc; Vertex { x: 0, y: 0 }]?);
-    Ok(small.scene(body, obstacles, Marks::Drawn(0)))
+    let body = polygon(rt, alloc, &POINT);
+    small.scene(body, obstacles, Marks::Drawn(0))
 }
 
-/// The hall, and the boxes made of another hall like it.
-pub(crate) fn checkers(alloc: Global, obstacles: Polys) -> Result<(Hall, Boxes), Memory>
-    requires { IsTrue (are_obstacles obstacles) }
-{
-    let scene = scene(alloc, obstacles)?;
-    let hall = Hall::new(alloc, &scene)?;
-    let boxes = Boxes::new(alloc, Hall::new(alloc, &scene)?)?;
-    Ok((hall, boxes))
+/// The boxes over the zones of a scene.
+pub(crate) fn boxes_of<R: Abort>(rt: &R, alloc: Global, scene: &Scene) -> Boxes {
+    let hall = sure(rt, Hall::new(alloc, scene));
+    sure(rt, Boxes::new(alloc, hall))
 }

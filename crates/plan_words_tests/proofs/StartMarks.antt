@@ -1,10 +1,9 @@
 -- A mark that lies on the start ends there: no node is nearer, and the start is where the step to it leads.
-use Rattle.std.proofs.Common.{◌≡◌, ℕ, ◌*◌, ◌≤◌, Some, refl, sym, ap, ◌∙◌, subst, arith}
+use Rattle.std.proofs.Common.{◌≡◌, ℕ, ◌*◌, Some, sym, ap, ◌∙◌, subst, arith}
 use Rattle.std.specs.Int.{abs_diff}
 use Rattle.std.specs.Prelude.{IfSome}
 use Rattle.plan_model.specs.ClosedLaw.{mark_at}
 use Rattle.plan_model.specs.Geometry.{squared_distance}
-use Rattle.plan_model.specs.LeastPairs.{IsNotAbove}
 use Rattle.plan_model.specs.Nearness.{distance_to}
 use Rattle.plan_model.specs.PointsByNumber.{IsPresent, point_of}
 use Rattle.plan_model.specs.Steering.{steered}

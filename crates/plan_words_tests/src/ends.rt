@@ -1,16 +1,16 @@
 //! A shared tree that becomes a closed run again.
 
-ghost use Rattle.std.specs.Prelude.{◌≡◌, ◌+◌, All, IfOk, IfSome, length};
+ghost use Rattle.std.specs.Prelude.{◌≡◌, ◌+◌, All, IfSome, length};
 ghost use Rattle.plan_words.specs.States.{MayClaim};
 ghost use Rattle.plan_words_tests.specs.Sharers.{HasShare};
 ghost use Rattle.step_core.specs.Views.{share};
 
-use crate::passes::{START, marks_in_strips, take_turn};
-use plan_model::{Memory, Outcome};
+use crate::passes::{take_turn, task_on_start};
+use crate::values::{some, sure};
+use plan_model::Outcome;
 use plan_words::{Pass, Shared};
 use std::alloc::Global;
 use std::process::Abort;
-use std::test::Fail;
 use step_core::Grown;
 
 /// The last pass of the list.
@@ -22,31 +22,30 @@ fn last_sharer(shared: &Shared, passes: &mut Vec<Pass>) -> Option<Pass>
     passes.pop()
 }
 
-/// The last two passes of a list.
-fn last_sharers(shared: &Shared, passes: Vec<Pass>) -> Option<(Pass, Pass)>
-    requires { All (HasShare shared.now 1) passes.items }
-    ensures first { IfSome result (λ two. HasShare shared.now 1 two.0) }
-    ensures second { IfSome result (λ two. HasShare shared.now 1 two.1) }
+/// The tree of five marks that lie on the start, and its two passes.
+fn shared_by_two<R: Abort>(rt: &R, alloc: Global) -> (Shared, Vec<Pass>)
+    ensures opening { result.0.opening ≡ 0 }
+    ensures workers { result.0.workers ≡ 2 }
+    ensures marks { length result.0.task.marks ≡ 5 }
+    ensures passes { All (HasShare result.0 1) result.1.items }
 {
-    let mut passes = passes;
-    let second = last_sharer(shared, &mut passes)?;
-    let first = last_sharer(shared, &mut passes)?;
-    Some((first, second))
+    let task = task_on_start(rt, alloc, 5);
+    let grown = sure(rt, Grown::new(alloc, task));
+    sure(rt, Shared::start(alloc, grown, 2))
 }
 
 /// Two passes over five marks that lie on the start.
-fn two_sharers(alloc: Global) -> Result<(Shared, Pass, Pass), Fail>
-    ensures opening { IfOk result (λ two. two.0.opening ≡ 0) }
-    ensures workers { IfOk result (λ two. two.0.workers ≡ 2) }
-    ensures marks { IfOk result (λ two. length two.0.task.marks ≡ 5) }
-    ensures first { IfOk result (λ two. HasShare two.0 1 two.1) }
-    ensures second { IfOk result (λ two. HasShare two.0 1 two.2) }
+fn two_sharers<R: Abort>(rt: &R, alloc: Global) -> (Shared, Pass, Pass)
+    ensures opening { result.0.opening ≡ 0 }
+    ensures workers { result.0.workers ≡ 2 }
+    ensures marks { length result.0.task.marks ≡ 5 }
+    ensures first { HasShare result.0 1 result.1 }
+    ensures second { HasShare result.0 1 result.2 }
 {
-    let task = marks_in_strips(alloc, &[START; 5])?;
-    let grown = Grown::new(alloc, task)?;
-    let (shared, passes) = Shared::start(alloc, grown, 2)?;
-    let (first, second) = last_sharers(&shared, passes).ok_or(Memory)?;
-    Ok((shared, first, second))
+    let (shared, mut passes) = shared_by_two(rt, alloc);
+    let second = some(rt, last_sharer(&shared, &mut passes));
+    let first = some(rt, last_sharer(&shared, &mut passes));
+    (shared, first, second)
 }
 
 /// A pass takes its turns until no mark is left.
@@ -92,22 +91,27 @@ fn expect_record<R: Abort>(rt: &R, grown: &Grown, mark: u32, worker: u32, turn: 
         panic!(rt; "the mark was not handled");
     }
     let entry = grown.record_of(mark);
-    assert_eq!(rt; (entry.worker, entry.turn), (worker, turn));
-    assert_eq!(rt; (entry.nearest, entry.outcome), (0, Outcome::Same(0)));
+    let found = (entry.worker, entry.turn, entry.nearest, entry.outcome);
+    assert_eq!(rt; found, (worker, turn, 0, Outcome::Same(0)));
+}
+
+/// Compares the records of five marks, of which the second and the last were taken by the second pass.
+fn expect_records<R: Abort>(rt: &R, grown: &Grown) {
+    expect_record(rt, grown, 0, 0, 0);
+    expect_record(rt, grown, 1, 1, 0);
+    expect_record(rt, grown, 2, 0, 1);
+    expect_record(rt, grown, 3, 0, 2);
+    expect_record(rt, grown, 4, 1, 1);
 }
 
 #[test]
-fn two_passes_end_as_one_run(rt: HostRuntime) -> Result<(), Fail> {
-    let (shared, mut first, mut second) = two_sharers(rt.alloc())?;
+fn two_passes_end_as_one_run(rt: HostRuntime) {
+    let (shared, mut first, mut second) = two_sharers(&rt, rt.alloc());
     take_turns(&rt, &shared, &mut second, 2);
     take_turns(&rt, &shared, &mut first, 3);
     take_both(&shared, &mut first, second);
     let grown = end_of(&rt, shared, first);
     assert_eq!(rt; (grown.limit(), grown.count()), (5, 1));
-    expect_record(&rt, &grown, 0, 0, 0);
-    expect_record(&rt, &grown, 1, 1, 0);
-    expect_record(&rt, &grown, 2, 0, 1);
-    expect_record(&rt, &grown, 3, 0, 2);
-    expect_record(&rt, &grown, 4, 1, 1);
-    Ok(())
+    expect_records(&rt, &grown);
+    drop(grown);
 }

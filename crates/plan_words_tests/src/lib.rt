@@ -11,3 +11,5 @@ mod passes;
 mod threads;
 #[cfg(test)]
 mod turns;
+#[cfg(test)]
+mod values;

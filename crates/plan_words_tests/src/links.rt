@@ -1,19 +1,21 @@
 //! Two passes whose points lead to one place of the kd-tree.
 
-ghost use Rattle.std.specs.Prelude.{◌≡◌, IfErr, IfOk, IfSome, Some, length, true};
+ghost use Rattle.std.specs.Prelude.{◌≡◌, All, IfErr, IfOk, IfSome, Some, length, true};
+ghost use Rattle.plan_model.specs.Clearance.{ClearAt};
 ghost use Rattle.plan_model.specs.ConfigurationSpace.{space_of};
 ghost use Rattle.plan_words.specs.States.{MayClaim};
 ghost use Rattle.plan_words_tests.specs.HeldMarks.{HangsFromStart, HoldsMark};
+ghost use Rattle.step_core.specs.ViewTrees.{SeesPoint};
 ghost use Rattle.step_core.specs.Views.{tree_seen};
 ghost use Rattle.step_core.specs.declared.views.Stage.TheVariants.{Claimed, Counted, Pointed, Treed};
 
-use crate::passes::{START, last_two};
+use crate::passes::{START, last_pass};
+use crate::values::{some, sure};
 use edge_cost::{cost, steer};
-use plan_model::{Goal, Memory, Outcome, Point, Record, SmallScene};
+use plan_model::{Goal, Memory, Outcome, Point, Record, SmallScene, Task};
 use plan_words::{Pass, Shared};
 use std::alloc::Global;
 use std::process::Abort;
-use std::test::Fail;
 use step_core::Grown;
 use swept_check::{Clearing, Hall};
 
@@ -24,15 +26,12 @@ const FAR: Point = Point { x: 40, y: 79 };
 /// A step from the start towards `FAR`.
 const PARTWAY: Point = Point { x: 22, y: 44 };
 
-/// Two passes over three marks, of which the first two lie to the right of the start, and the collision checker of their room.
-fn two_passes(alloc: Global) -> Result<(Shared, Hall, Pass, Pass), Fail>
-    ensures opening { IfOk result (λ two. two.0.opening ≡ 0) }
-    ensures marks { IfOk result (λ two. length two.0.task.marks ≡ 3) }
-    ensures hall { IfOk result (λ two. two.1 ≡ space_of two.0.task.scene) }
-    ensures first { IfOk result (λ two. MayClaim two.0 two.2) }
-    ensures second { IfOk result (λ two. MayClaim two.0 two.3) }
+/// Three marks, of which the first two lie to the right of the start.
+fn three_marks(alloc: Global) -> Result<Task, Memory>
+    ensures clear { IfOk result (λ task. ClearAt (space_of task.scene) task.scene.start) }
+    ensures marks { IfOk result (λ task. length task.marks ≡ 3) }
 {
-    let task = SmallScene {
+    SmallScene {
         room: Point { x: 100, y: 100 },
         start: START,
         goal: Goal {
@@ -44,12 +43,31 @@ fn two_passes(alloc: Global) -> Result<(Shared, Hall, Pass, Pass), Fail>
         seed: 0,
         strips: 1,
     }
-    .task(alloc, &[ABOVE, FAR, Point { x: 40, y: 30 }])?;
-    let hall = Hall::new(alloc, &task.scene)?;
-    let grown = Grown::new(alloc, task)?;
-    let (shared, passes) = Shared::start(alloc, grown, 2)?;
-    let (first, second) = last_two(&shared, passes).ok_or(Memory)?;
-    Ok((shared, hall, first, second))
+    .task(alloc, &[ABOVE, FAR, Point { x: 40, y: 30 }])
+}
+
+/// The tree of three marks, and its two passes.
+fn shared_by_two<R: Abort>(rt: &R, alloc: Global) -> (Shared, Vec<Pass>)
+    ensures opening { result.0.opening ≡ 0 }
+    ensures marks { length result.0.task.marks ≡ 3 }
+    ensures passes { All (MayClaim result.0) result.1.items }
+{
+    let task = sure(rt, three_marks(alloc));
+    let grown = sure(rt, Grown::new(alloc, task));
+    sure(rt, Shared::start(alloc, grown, 2))
+}
+
+/// The tree of three marks, and its first and its second pass.
+fn two_passes<R: Abort>(rt: &R, alloc: Global) -> (Shared, Pass, Pass)
+    ensures opening { result.0.opening ≡ 0 }
+    ensures marks { length result.0.task.marks ≡ 3 }
+    ensures first { MayClaim result.0 result.1 }
+    ensures second { MayClaim result.0 result.2 }
+{
+    let (shared, mut passes) = shared_by_two(rt, alloc);
+    let second = some(rt, last_pass(&shared, &mut passes));
+    let first = some(rt, last_pass(&shared, &mut passes));
+    (shared, first, second)
 }
 
 /// Claims a mark.
@@ -167,7 +185,31 @@ fn link_at_start<R: Abort>(
     shared.link(pass, 0, true)
 }
 
-/// Meets the node to the right of the start, looks to its left, and links the node in hand there.
+/// Meets the node to the right of the start, and finds no node to its left. Returns where it stands.
+fn meet_above<R: Abort>(
+    rt: &R,
+    shared: &Shared,
+    pass: &mut Pass,
+    mark: u32,
+    cost: u64,
+    met: u32,
+) -> Point
+    requires holds { HoldsMark shared.now mark Treed pass.old }
+    requires hangs { HangsFromStart cost pass.old.view }
+    requires met { (tree_seen pass.old.view).child 0 true ≡ Some met }
+    ensures holds { HoldsMark shared.now mark Treed pass.new }
+    ensures hangs { HangsFromStart cost pass.new.view }
+    ensures met { (tree_seen pass.new.view).child 0 true ≡ Some met }
+    ensures stands { SeesPoint pass.new.view met result }
+{
+    let above = shared.point(pass, met);
+    assert_eq!(rt; above, ABOVE);
+    let child = shared.child(pass, met, false);
+    assert_eq!(rt; child, None);
+    above
+}
+
+/// Meets the node to the right of the start, and links the node in hand to its left.
 fn link_below<R: Abort>(
     rt: &R,
     shared: &Shared,
@@ -182,10 +224,7 @@ fn link_below<R: Abort>(
     ensures hangs { HangsFromStart cost pass.new.view }
     ensures linked { IfOk result (λ _. HoldsMark shared.now mark Counted pass.new) }
 {
-    let above = shared.point(pass, met);
-    assert_eq!(rt; above, ABOVE);
-    let child = shared.child(pass, met, false);
-    assert_eq!(rt; child, None);
+    let above = meet_above(rt, shared, pass, mark, cost, met);
     let start = shared.point(pass, 0);
     let p = pass.hand_point();
     if p.x < start.x {
@@ -316,25 +355,28 @@ fn finish_both<R: Abort>(rt: &R, shared: &Shared, first: &mut Pass, second: &mut
 /// Two passes whose points lead to one place link their nodes there, one below the other, and record them.
 fn link_at_one_place<R: Abort>(
     rt: &R,
+    alloc: Global,
     shared: &Shared,
-    hall: &Hall,
     first: &mut Pass,
     second: &mut Pass,
 )
     requires opening { shared.now.opening ≡ 0 }
     requires marks { length shared.now.task.marks ≡ 3 }
-    requires hall { hall.now ≡ space_of shared.now.task.scene }
     requires first { MayClaim shared.now first.old }
     requires second { MayClaim shared.now second.old }
 {
-    hang_both(rt, shared, hall, first, second);
+    let hall = sure(rt, Hall::new(alloc, &shared.task().scene));
+    hang_both(rt, shared, &hall, first, second);
     link_both(rt, shared, first, second);
     finish_both(rt, shared, first, second);
+    drop(hall);
 }
 
 #[test]
-fn two_passes_link_at_one_place(rt: HostRuntime) -> Result<(), Fail> {
-    let (shared, hall, mut first, mut second) = two_passes(rt.alloc())?;
-    link_at_one_place(&rt, &shared, &hall, &mut first, &mut second);
-    Ok(())
+fn two_passes_link_at_one_place(rt: HostRuntime) {
+    let (shared, mut first, mut second) = two_passes(&rt, rt.alloc());
+    link_at_one_place(&rt, rt.alloc(), &shared, &mut first, &mut second);
+    drop(shared);
+    drop(first);
+    drop(second);
 }

@@ -5,6 +5,7 @@ ghost use Rattle.plan_model.specs.Clearance.{ClearAt};
 ghost use Rattle.plan_model.specs.ClosedLaw.{mark_at};
 ghost use Rattle.plan_model.specs.ConfigurationSpace.{space_of};
 ghost use Rattle.plan_model.specs.Limits.{is_plan};
+ghost use Rattle.plan_model.specs.declared.limits.TheConstants.{MOST_MARKS};
 ghost use Rattle.plan_model.specs.declared.scenes.Marks.TheVariants.{Listed};
 ghost use Rattle.plan_words.specs.States.{MayClaim};
 ghost use Rattle.plan_words_tests.specs.HeldMarks.{HoldsMark};
@@ -12,17 +13,17 @@ ghost use Rattle.step_core.specs.ViewTrees.{SeesPoint};
 ghost use Rattle.step_core.specs.Views.{share};
 ghost use Rattle.step_core.specs.declared.views.Stage.TheVariants.{Claimed};
 
-use plan_model::{Goal, Memory, Outcome, Point, Record, SmallScene, Task};
+use crate::values::{some, sure};
+use plan_model::{Goal, MOST_MARKS, Memory, Outcome, Point, Record, SmallScene, Task};
 use plan_words::{Pass, Shared};
 use std::alloc::Global;
 use std::process::Abort;
-use std::test::Fail;
 use step_core::Grown;
 
 pub(crate) const START: Point = Point { x: 0, y: 0 };
 
 /// These marks in a small room, in three strips.
-pub(crate) fn marks_in_strips(alloc: Global, marks: &[Point]) -> Result<Task, Memory>
+fn marks_in_strips(alloc: Global, marks: &[Point]) -> Result<Task, Memory>
     requires { IsTrue (is_plan (Listed marks.now)) }
     ensures clear { IfOk result (λ task. ClearAt (space_of task.scene) task.scene.start) }
     ensures marks { IfOk result (λ task. task.marks ≡ marks.now) }
@@ -43,6 +44,26 @@ pub(crate) fn marks_in_strips(alloc: Global, marks: &[Point]) -> Result<Task, Me
     .task(alloc, marks)
 }
 
+/// This many marks on the start.
+fn marks_on_start(alloc: Global, count: u32) -> Result<Vec<Point>, Memory>
+    requires { count ≤ MOST_MARKS }
+    ensures plan { IfOk result (λ marks. IsTrue (is_plan (Listed marks.items))) }
+    ensures count { IfOk result (λ marks. length marks.items ≡ count) }
+{
+    Ok(vec![in alloc; START; count as usize]?)
+}
+
+/// The task of this many marks on the start.
+pub(crate) fn task_on_start<R: Abort>(rt: &R, alloc: Global, count: u32) -> Task
+    requires { count ≤ MOST_MARKS }
+    ensures clear { ClearAt (space_of result.scene) result.scene.start }
+    ensures marks { length result.marks ≡ count }
+    ensures strips { result.scene.strips ≡ 3 }
+{
+    let marks = sure(rt, marks_on_start(alloc, count));
+    sure(rt, marks_in_strips(alloc, &marks))
+}
+
 /// The last pass of the list.
 pub(crate) fn last_pass(shared: &Shared, passes: &mut Vec<Pass>) -> Option<Pass>
     requires { All (MayClaim shared.now) passes.old.items }
@@ -52,60 +73,46 @@ pub(crate) fn last_pass(shared: &Shared, passes: &mut Vec<Pass>) -> Option<Pass>
     passes.pop()
 }
 
-/// The last two passes of a list.
-pub(crate) fn last_two(shared: &Shared, passes: Vec<Pass>) -> Option<(Pass, Pass)>
-    requires { All (MayClaim shared.now) passes.items }
-    ensures first { IfSome result (λ two. MayClaim shared.now two.0) }
-    ensures second { IfSome result (λ two. MayClaim shared.now two.1) }
-{
-    let mut passes = passes;
-    let second = last_pass(shared, &mut passes)?;
-    let first = last_pass(shared, &mut passes)?;
-    Some((first, second))
-}
-
-/// The last three passes of a list.
-fn last_three(shared: &Shared, passes: Vec<Pass>) -> Option<(Pass, Pass, Pass)>
-    requires { All (MayClaim shared.now) passes.items }
-    ensures first { IfSome result (λ three. MayClaim shared.now three.0) }
-    ensures second { IfSome result (λ three. MayClaim shared.now three.1) }
-    ensures third { IfSome result (λ three. MayClaim shared.now three.2) }
-{
-    let mut passes = passes;
-    let third = last_pass(shared, &mut passes)?;
-    let (first, second) = last_two(shared, passes)?;
-    Some((first, second, third))
-}
-
 /// A shared tree, and its first, its second and its third pass.
 pub(crate) type Three = (Shared, Pass, Pass, Pass);
 
 /// Three passes that go on from a run.
-fn passes_from(alloc: Global, grown: Grown) -> Result<Three, Fail>
-    ensures opening { IfOk result (λ three. three.0.opening ≡ grown.limit) }
-    ensures task { IfOk result (λ three. three.0.task ≡ grown.task) }
-    ensures first { IfOk result (λ three. MayClaim three.0 three.1) }
-    ensures second { IfOk result (λ three. MayClaim three.0 three.2) }
-    ensures third { IfOk result (λ three. MayClaim three.0 three.3) }
+fn passes_from<R: Abort>(rt: &R, alloc: Global, grown: Grown) -> Three
+    ensures opening { result.0.opening ≡ grown.limit }
+    ensures task { result.0.task ≡ grown.task }
+    ensures first { MayClaim result.0 result.1 }
+    ensures second { MayClaim result.0 result.2 }
+    ensures third { MayClaim result.0 result.3 }
 {
-    let (shared, passes) = Shared::start(alloc, grown, 3)?;
-    let (first, second, third) = last_three(&shared, passes).ok_or(Memory)?;
-    Ok((shared, first, second, third))
+    let (shared, mut passes) = sure(rt, Shared::start(alloc, grown, 3));
+    let third = some(rt, last_pass(&shared, &mut passes));
+    let second = some(rt, last_pass(&shared, &mut passes));
+    let first = some(rt, last_pass(&shared, &mut passes));
+    (shared, first, second, third)
 }
 
-/// Three passes that may claim these marks.
-pub(crate) fn three_passes(alloc: Global, marks: &[Point]) -> Result<Three, Fail>
-    requires { IsTrue (is_plan (Listed marks.now)) }
-    ensures opening { IfOk result (λ three. three.0.opening ≡ 0) }
-    ensures marks { IfOk result (λ three. three.0.task.marks ≡ marks.now) }
-    ensures strips { IfOk result (λ three. three.0.task.scene.strips ≡ 3) }
-    ensures first { IfOk result (λ three. MayClaim three.0 three.1) }
-    ensures second { IfOk result (λ three. MayClaim three.0 three.2) }
-    ensures third { IfOk result (λ three. MayClaim three.0 three.3) }
+/// Three passes that may claim this many marks on the start.
+pub(crate) fn three_passes<R: Abort>(rt: &R, alloc: Global, count: u32) -> Three
+    requires { count ≤ MOST_MARKS }
+    ensures opening { result.0.opening ≡ 0 }
+    ensures marks { length result.0.task.marks ≡ count }
+    ensures strips { result.0.task.scene.strips ≡ 3 }
+    ensures first { MayClaim result.0 result.1 }
+    ensures second { MayClaim result.0 result.2 }
+    ensures third { MayClaim result.0 result.3 }
 {
-    let task = marks_in_strips(alloc, marks)?;
-    let grown = Grown::new(alloc, task)?;
-    passes_from(alloc, grown)
+    let task = task_on_start(rt, alloc, count);
+    let grown = sure(rt, Grown::new(alloc, task));
+    passes_from(rt, alloc, grown)
+}
+
+/// Lets go of three passes and their tree, by calls: drops that stand at a function's end take long to prove.
+pub(crate) fn let_go(three: Three) {
+    let (shared, first, second, third) = three;
+    drop(shared);
+    drop(first);
+    drop(second);
+    drop(third);
 }
 
 /// Sees that the mark in hand lies on the start.

@@ -3,12 +3,12 @@
 ghost use Rattle.std.specs.Prelude.{◌≤◌, All, length};
 ghost use Rattle.plan_words.specs.States.{MayClaim};
 
-use crate::passes::{START, take_turn, three_passes};
+use crate::passes::{take_turn, three_passes};
+use crate::values::sure;
 use plan_model::Memory;
 use plan_words::{Pass, Shared};
 use std::alloc::Global;
 use std::process::Abort;
-use std::test::Fail;
 use std::thread;
 use std::thread::Threads;
 
@@ -75,7 +75,7 @@ fn claimed_by<R: Threads + Sync + Abort>(
     second: Pass,
     third: Pass,
     limit: u32,
-) -> Result<Vec<u32>, Memory>
+) -> Vec<u32>
     requires first { MayClaim shared.now first }
     requires second { MayClaim shared.now second }
     requires third { MayClaim shared.now third }
@@ -87,14 +87,14 @@ fn claimed_by<R: Threads + Sync + Abort>(
     let third = worker_of(alloc, shared, third);
     let mut workers = [first, second, third];
     work_all(rt, shared, &mut workers, limit);
-    marks_of(alloc, &workers)
+    sure(rt, marks_of(alloc, &workers))
 }
 
 #[test]
-fn threads_claim_each_mark_once(rt: HostRuntime) -> Result<(), Fail> {
-    let points = [START; 3000];
-    let (shared, first, second, third) = three_passes(rt.alloc(), &points)?;
-    let marks = claimed_by(&rt, rt.alloc(), &shared, first, second, third, 3000)?;
+fn threads_claim_each_mark_once(rt: HostRuntime) {
+    let (shared, first, second, third) = three_passes(&rt, rt.alloc(), 3000);
+    let marks = claimed_by(&rt, rt.alloc(), &shared, first, second, third, 3000);
     assert!(rt; marks.iter().copied().eq(0..3000));
-    Ok(())
+    drop(shared);
+    drop(marks);
 }

@@ -4,7 +4,7 @@ use Rattle.plan_model.specs.declared.records.Record.{Record}
 use Rattle.plan_words.specs.States.{PassState, SharedState}
 use Rattle.plan_work.specs.Extensions.{HandlesMark}
 use Rattle.plan_work.proofs.WorkedMarks.{share-turned}
-use Rattle.plan_work_tests.specs.Sharers.{HasShare}
+use Rattle.plan_work_tests.specs.Sharers.{HasClaimed, HasShare}
 use Rattle.step_core.specs.WordNames.{Word}
 use Rattle.tree_rewire.specs.SeenCosts.{PassSees}
 
@@ -20,10 +20,10 @@ HasShare-sees which shared before after n sees has = record {
   share_is = ap (λ crew. length crew) sees.sees_anew.kept.crew ∙ has.share_is;
 }
 
--- and so does a mark that is claimed and handled
-pub HasShare-handled : (shared : SharedState) (before claimed after : PassState) (n k : ℕ) (entry : Record) → claimed.view.crew ≡ before.view.crew
-    → HandlesMark shared claimed after k entry → HasShare shared n before → HasShare shared n after
-HasShare-handled shared before claimed after n k entry same handles has = record {
+-- a claimed mark that is handled leaves it too
+pub HasClaimed-handled : (shared : SharedState) (claimed after : PassState) (n k : ℕ) (entry : Record) → HandlesMark shared claimed after k entry
+    → HasClaimed shared n k claimed → HasShare shared n after
+HasClaimed-handled shared claimed after n k entry handles has = record {
   may_claim = handles.may_claim;
-  share_is = ap (λ crew. length crew) handles.crew ∙ share-turned claimed.view.crew ∙ ap (λ crew. length crew) same ∙ has.share_is;
+  share_is = ap (λ crew. length crew) handles.crew ∙ share-turned claimed.view.crew ∙ has.share_is;
 }

@@ -1,15 +1,17 @@
 //! Marks that two passes of one thread handle in turn.
 
-ghost use Rattle.std.specs.Prelude.{◌≡◌, IfOk, IsTrue};
+ghost use Rattle.std.specs.Prelude.{◌≡◌, ◌∷◌, [], IfOk, IsTrue, length};
 ghost use Rattle.plan_model.specs.Clearance.{ClearAt};
 ghost use Rattle.plan_model.specs.ConfigurationSpace.{space_of};
-ghost use Rattle.plan_model.specs.Limits.{is_plan};
+ghost use Rattle.plan_model.specs.Limits.{are_obstacles, is_plan};
 ghost use Rattle.plan_model.specs.declared.scenes.Marks.TheVariants.{Listed};
 ghost use Rattle.plan_work_tests.specs.Sharers.{HasShare};
 
 use crate::test_runs::{Ending, TO_REWIRE, small_task, sure};
 use crate::two_passes::{assert_ending, assert_extended, assert_found, two_passes};
-use plan_model::{Goal, Marks, Memory, Outcome, Point, Sequence, SmallScene, Task, Vertex};
+use plan_model::{
+    Goal, Marks, Memory, Outcome, Point, Poly, Polys, Scene, Sequence, SmallScene, Task, Vertex,
+};
 use plan_words::{Pass, Shared};
 use std::alloc::Global;
 use std::process::Abort;
@@ -33,22 +35,78 @@ static REWIRED: Ending = Ending {
     ],
 };
 
+/// Asserts that two passes handle three marks in turn, and what the first sees between.
+fn assert_rewired<R: Abort>(
+    rt: &R,
+    shared: &Shared,
+    hall: &Hall,
+    first: &mut Pass,
+    second: &mut Pass,
+)
+    requires first { HasShare shared.now 1 first.old }
+    requires second { HasShare shared.now 1 second.old }
+    requires hall { hall.now ≡ space_of shared.now.task.scene }
+    requires opening { shared.now.opening ≡ 0 }
+    requires marks { length shared.now.task.marks ≡ 3 }
+    ensures first { HasShare shared.now 1 first.new }
+    ensures second { HasShare shared.now 1 second.new }
+{
+    assert_extended(rt, shared, hall, first, 0, &REWIRED);
+    assert_found(rt, shared, first, ABOVE, (1, (0, 12_800)));
+    assert_extended(rt, shared, hall, second, 1, &REWIRED);
+    assert_extended(rt, shared, hall, first, 2, &REWIRED);
+}
+
 #[test]
 fn two_passes_grow_one_tree(rt: HostRuntime) {
     let task = small_task(&rt, rt.alloc(), &TO_REWIRE);
     let (shared, hall, mut first, mut second) = two_passes(&rt, rt.alloc(), task);
-    assert_extended(&rt, &shared, &hall, &mut first, 0, &REWIRED);
-    assert_found(&rt, &shared, &mut first, ABOVE, (1, (0, 12_800)));
-    assert_extended(&rt, &shared, &hall, &mut second, 1, &REWIRED);
-    assert_extended(&rt, &shared, &hall, &mut first, 2, &REWIRED);
+    assert_rewired(&rt, &shared, &hall, &mut first, &mut second);
+    drop(hall);
     assert_ending(&rt, shared, first, second, &REWIRED);
 }
 
-/// The task of these marks for a point body in a room of 100 by 100, with a wall that stands to the right of the start.
-fn walled_task(alloc: Global, marks: &[Point]) -> Result<Task, Memory>
-    requires { IsTrue (is_plan (Listed marks.now)) }
-    ensures { IfOk result (λ task. task.marks ≡ marks.now) }
+/// The list of these values.
+fn list_of<T: Copy>(alloc: Global, items: &[T]) -> Result<Sequence<T>, Memory>
+    ensures { IfOk result (λ list. list ≡ items.now) }
 {
+    Ok(Sequence::from_vec(Vec::from_slice(alloc, items)?))
+}
+
+/// The list of this obstacle alone.
+fn only(alloc: Global, obstacle: Poly) -> Result<Polys, Memory>
+    ensures { IfOk result (λ obstacles. obstacles ≡ obstacle ∷ []) }
+{
+    Ok(Sequence::from_vec(vec![in alloc; obstacle]?))
+}
+
+/// A body that is a point.
+static BODY: [Vertex; 1] = [Vertex { x: 0, y: 0 }];
+
+/// A wall that stands to the right of the start.
+static WALL: [Vertex; 4] = [
+    Vertex { x: 20, y: 0 },
+    Vertex { x: 30, y: 0 },
+    Vertex { x: 30, y: 60 },
+    Vertex { x: 20, y: 60 },
+];
+
+/// The wall, which is the only obstacle.
+fn wall<R: Abort>(rt: &R, alloc: Global) -> Polys
+    ensures { IsTrue (are_obstacles result) }
+{
+    let obstacle = sure(rt, list_of(alloc, &WALL));
+    sure(rt, only(alloc, obstacle))
+}
+
+/// The scene of these marks for a point body in a room of 100 by 100, with the wall.
+fn walled_scene<R: Abort>(rt: &R, alloc: Global, marks: &[Point]) -> Scene
+    requires { IsTrue (is_plan (Listed marks.now)) }
+    ensures { result.plan ≡ Listed marks.now }
+{
+    let body = sure(rt, list_of(alloc, &BODY));
+    let obstacles = wall(rt, alloc);
+    let plan = Marks::Listed(sure(rt, list_of(alloc, marks)));
     let small = SmallScene {
         room: Point { x: 100, y: 100 },
         start: Point { x: 0, y: 0 },
@@ -61,19 +119,26 @@ fn walled_task(alloc: Global, marks: &[Point]) -> Result<Task, Memory>
         seed: 0,
         strips: 1,
     };
-    let corners = vec![in alloc;
-        Vertex { x: 20, y: 0 },
-        Vertex { x: 30, y: 0 },
-        Vertex { x: 30, y: 60 },
-        Vertex { x: 20, y: 60 },
-    ]?;
-    let body = Sequence::from_vec(vec![in alloc; Vertex { x: 0, y: 0 }]?);
-    let obstacles = Sequence::from_vec(vec![in alloc; Sequence::from_vec(corners)]?);
-    let plan = Marks::Listed(Sequence::from_vec(Vec::from_slice(alloc, marks)?));
-    Ok(Task {
-        scene: small.scene(body, obstacles, plan),
-        marks: Sequence::from_vec(Vec::from_slice(alloc, marks)?),
-    })
+    small.scene(body, obstacles, plan)
+}
+
+/// The task of these marks in that scene.
+fn walled_task<R: Abort>(rt: &R, alloc: Global, marks: &[Point]) -> Task
+    requires { IsTrue (is_plan (Listed marks.now)) }
+    ensures { result.marks ≡ marks.now }
+{
+    let scene = walled_scene(rt, alloc, marks);
+    let marks = sure(rt, list_of(alloc, marks));
+    Task { scene, marks }
+}
+
+/// Asserts that the start of a scene is clear.
+fn assert_start_clear<R: Abort>(rt: &R, alloc: Global, scene: &Scene)
+    ensures { ClearAt (space_of scene.now) scene.now.start }
+{
+    let hall = sure(rt, Hall::new(alloc, scene));
+    assert!(rt; hall.clear_at(scene.start));
+    drop(hall);
 }
 
 /// The task of these marks in the room with the wall, where its start is clear.
@@ -82,9 +147,8 @@ fn task_by_wall<R: Abort>(rt: &R, alloc: Global, marks: &[Point]) -> Task
     ensures clear { ClearAt (space_of result.scene) result.scene.start }
     ensures marks { result.marks ≡ marks.now }
 {
-    let task = sure(rt, walled_task(alloc, marks));
-    let hall = sure(rt, Hall::new(alloc, &task.scene));
-    assert!(rt; hall.clear_at(task.scene.start));
+    let task = walled_task(rt, alloc, marks);
+    assert_start_clear(rt, alloc, &task.scene);
     task
 }
 
@@ -109,15 +173,35 @@ static BLOCKED: Ending = Ending {
 
 static ON_ANOTHER_AND_BEHIND: [Point; 3] = [ABOVE, ABOVE, Point { x: 40, y: 10 }];
 
+/// Asserts that two passes handle three marks in turn, and count two nodes after each.
+fn assert_blocked<R: Abort>(
+    rt: &R,
+    shared: &Shared,
+    hall: &Hall,
+    first: &mut Pass,
+    second: &mut Pass,
+)
+    requires first { HasShare shared.now 1 first.old }
+    requires second { HasShare shared.now 1 second.old }
+    requires hall { hall.now ≡ space_of shared.now.task.scene }
+    requires opening { shared.now.opening ≡ 0 }
+    requires marks { length shared.now.task.marks ≡ 3 }
+    ensures first { HasShare shared.now 1 first.new }
+    ensures second { HasShare shared.now 1 second.new }
+{
+    assert_extended(rt, shared, hall, first, 0, &BLOCKED);
+    assert_number(rt, shared, first, 2);
+    assert_extended(rt, shared, hall, second, 1, &BLOCKED);
+    assert_number(rt, shared, second, 2);
+    assert_extended(rt, shared, hall, first, 2, &BLOCKED);
+    assert_number(rt, shared, first, 2);
+}
+
 #[test]
 fn no_node_is_placed_on_another_or_behind_a_wall(rt: HostRuntime) {
     let task = task_by_wall(&rt, rt.alloc(), &ON_ANOTHER_AND_BEHIND);
     let (shared, hall, mut first, mut second) = two_passes(&rt, rt.alloc(), task);
-    assert_extended(&rt, &shared, &hall, &mut first, 0, &BLOCKED);
-    assert_number(&rt, &shared, &mut first, 2);
-    assert_extended(&rt, &shared, &hall, &mut second, 1, &BLOCKED);
-    assert_number(&rt, &shared, &mut second, 2);
-    assert_extended(&rt, &shared, &hall, &mut first, 2, &BLOCKED);
-    assert_number(&rt, &shared, &mut first, 2);
+    assert_blocked(&rt, &shared, &hall, &mut first, &mut second);
+    drop(hall);
     assert_ending(&rt, shared, first, second, &BLOCKED);
 }

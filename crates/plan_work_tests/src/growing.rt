@@ -4,7 +4,7 @@ ghost use Rattle.std.specs.Prelude.{◌≡◌, ◌≤◌, length};
 ghost use Rattle.plan_model.specs.declared.limits.TheConstants.{MOST_WORKERS};
 
 use crate::test_runs::{Entry, TO_REWIRE, assert_node, assert_records, small_task, sure};
-use plan_model::{MOST_WORKERS, Outcome};
+use plan_model::{MOST_WORKERS, Outcome, Record};
 use plan_work::{Gate, NoGate, grow};
 use std::alloc::Global;
 use std::process::Abort;
@@ -80,10 +80,15 @@ fn adds_up(grown: &Grown) -> bool {
     u64::from(placed) + others == u64::from(grown.limit()) && u64::from(grown.count()) == nodes
 }
 
+/// Asserts something of a run by so many workers up to a limit.
+fn assert_of_run<R: Abort>(rt: &R, holds: bool, workers: u32, limit: u32) {
+    assert!(rt; holds, "by {workers} to {limit}");
+}
+
 /// Asserts that a run adds up, and counts the turns of each worker. It was grown by so many workers up to this limit.
 fn assert_whole<R: Abort>(rt: &R, grown: &Grown, workers: u32, limit: u32) {
-    assert!(rt; adds_up(grown), "by {workers} to {limit}");
-    assert!(rt; has_turns(grown), "by {workers} to {limit}");
+    assert_of_run(rt, adds_up(grown), workers, limit);
+    assert_of_run(rt, has_turns(grown), workers, limit);
 }
 
 static IN_TURN: [Entry; 3] = [
@@ -103,8 +108,8 @@ fn one_worker_handles_the_marks_in_turn(rt: HostRuntime) {
 fn assert_nodes_within<R: Abort>(rt: &R, grown: &Grown, workers: u32, limit: u32, nodes: u32)
     requires { limit ≤ 3 }
 {
-    assert!(rt; grown.count() == nodes, "by {workers} to {limit}");
-    assert!(rt; grown.point(limit + 1).is_none(), "by {workers} to {limit}");
+    assert_of_run(rt, grown.count() == nodes, workers, limit);
+    assert_of_run(rt, grown.point(limit + 1).is_none(), workers, limit);
 }
 
 /// Asserts that the run by so many workers up to a limit adds up, has so many nodes and none past the limit, and counts the
@@ -152,15 +157,31 @@ fn grown_on<R: Threads + Sync + Abort>(rt: &R, alloc: Global, begun: Grown) -> G
     sure(rt, grow(rt, alloc, begun, &hall, 3, 3, &NoGate))
 }
 
+/// Asserts that one mark of three is handled. Returns its record.
+fn assert_begun<R: Abort>(rt: &R, begun: &Grown) -> Record
+    ensures limit { begun.now.limit ≡ 1 }
+    ensures marks { length begun.now.task.marks ≡ 3 }
+{
+    assert!(rt; begun.limit() == 1 && begun.task().marks.len() == 3);
+    begun.record_of(0)
+}
+
+/// Asserts the run of three marks by three workers that has gone on from this record of the first.
+fn assert_grown_on<R: Abort>(rt: &R, grown: &Grown, first: Record)
+    requires { grown.now.limit ≡ 3 }
+{
+    assert!(rt; grown.record_of(0) == first);
+    assert_whole(rt, grown, 3, 3);
+    assert!(rt; grown.count() == 4);
+}
+
 #[test]
 fn a_run_is_grown_on(rt: HostRuntime) {
     let begun = small_run(&rt, rt.alloc(), 2, 1, &NoGate);
-    let first = begun.record_of(0);
-    assert!(&rt; begun.limit() == 1 && begun.task().marks.len() == 3);
+    let first = assert_begun(&rt, &begun);
     let grown = grown_on(&rt, rt.alloc(), begun);
-    assert!(&rt; grown.record_of(0) == first);
-    assert_whole(&rt, &grown, 3, 3);
-    assert!(&rt; grown.count() == 4);
+    assert_grown_on(&rt, &grown, first);
+    drop(grown);
 }
 
 // ---- gates
@@ -224,16 +245,15 @@ impl Gate for Counts {
     }
 }
 
+/// Asserts that a gate was told so often of a worker.
+fn assert_times<R: Abort>(rt: &R, told: u32, worker: u32, turns: u32) {
+    assert!(rt; told == turns, "worker {worker}");
+}
+
 /// Asserts that a gate was told of so many turns of a worker, before each and after it.
 fn assert_told<R: Abort>(rt: &R, count: &Count, worker: u32, turns: u32) {
-    assert!(rt;
-        count.after.load(Ordering::SeqCst) == turns,
-        "worker {worker}"
-    );
-    assert!(rt;
-        count.before.load(Ordering::SeqCst) == turns,
-        "worker {worker}"
-    );
+    assert_times(rt, count.after.load(Ordering::SeqCst), worker, turns);
+    assert_times(rt, count.before.load(Ordering::SeqCst), worker, turns);
 }
 
 /// Asserts that a gate was told in order of the turns of each of three workers, in a run up to this limit.

@@ -61,24 +61,48 @@ fn last_pass(shared: &Shared, passes: &mut Vec<Pass>) -> Option<Pass>
     passes.pop()
 }
 
-/// A shared tree, the collision checker of its room, and its first, its second and its third pass.
-type Three = (Shared, Hall, Pass, Pass, Pass);
+/// The last three passes of a list, of which the last comes first.
+fn last_three<R: Abort>(rt: &R, shared: &Shared, passes: Vec<Pass>) -> (Pass, Pass, Pass)
+    requires { All (MayClaim shared.now) passes.items }
+    ensures last { MayClaim shared.now result.0 }
+    ensures middle { MayClaim shared.now result.1 }
+    ensures first { MayClaim shared.now result.2 }
+{
+    let mut passes = passes;
+    let third = some(rt, last_pass(shared, &mut passes));
+    let second = some(rt, last_pass(shared, &mut passes));
+    let first = some(rt, last_pass(shared, &mut passes));
+    (third, second, first)
+}
 
-/// Three passes that go on from the run of four marks.
-fn passes_after_four<R: Threads + Sync + Abort>(rt: &R, alloc: Global) -> Three
-    ensures opening { result.0.opening ≡ 4 }
-    ensures marks { length result.0.task.marks ≡ 7 }
-    ensures hall { result.1 ≡ space_of result.0.task.scene }
-    ensures first { MayClaim result.0 result.2 }
-    ensures second { MayClaim result.0 result.3 }
-    ensures third { MayClaim result.0 result.4 }
+/// A shared tree, the collision checker of its room, and its first and its second pass.
+#[derive(Drop)]
+struct Opened {
+    shared: Shared,
+    hall: Hall,
+    first: Pass,
+    second: Pass,
+}
+
+/// Passes that go on from the run of four marks, and the third of them.
+fn opened_after_four<R: Threads + Sync + Abort>(rt: &R, alloc: Global) -> (Opened, Pass)
+    ensures opening { result.0.shared.opening ≡ 4 }
+    ensures marks { length result.0.shared.task.marks ≡ 7 }
+    ensures hall { result.0.hall ≡ space_of result.0.shared.task.scene }
+    ensures first { MayClaim result.0.shared result.0.first }
+    ensures second { MayClaim result.0.shared result.0.second }
+    ensures third { MayClaim result.0.shared result.1 }
 {
     let (grown, hall) = run_of_four(rt, alloc);
-    let (shared, mut passes) = sure(rt, Shared::start(alloc, grown, 3));
-    let third = some(rt, last_pass(&shared, &mut passes));
-    let second = some(rt, last_pass(&shared, &mut passes));
-    let first = some(rt, last_pass(&shared, &mut passes));
-    (shared, hall, first, second, third)
+    let (shared, passes) = sure(rt, Shared::start(alloc, grown, 3));
+    let (third, second, first) = last_three(rt, &shared, passes);
+    let opened = Opened {
+        shared,
+        hall,
+        first,
+        second,
+    };
+    (opened, third)
 }
 
 /// Asserts which mark a pass claims below a limit, if any, and handles it.
@@ -161,32 +185,39 @@ fn assert_last_turn<R: Abort>(rt: &R, shared: &Shared, hall: &Hall, second: &mut
     assert_turn(rt, shared, hall, second, 7, None);
 }
 
-/// Asserts the turns of three passes, and lets them go.
+/// Asserts the turns of three passes, of which the first takes over the third.
 fn assert_turns<R: Abort>(
     rt: &R,
     shared: &Shared,
     hall: &Hall,
-    first: Pass,
-    second: Pass,
+    first: &mut Pass,
+    second: &mut Pass,
     third: Pass,
 )
-    requires first { MayClaim shared.now first }
-    requires second { MayClaim shared.now second }
+    requires first { MayClaim shared.now first.old }
+    requires second { MayClaim shared.now second.old }
     requires third { MayClaim shared.now third }
     requires hall { hall.now ≡ space_of shared.now.task.scene }
     requires opening { shared.now.opening ≡ 4 }
     requires marks { length shared.now.task.marks ≡ 7 }
 {
-    let (mut first, mut second) = (first, second);
-    assert_first_turn(rt, shared, hall, &mut first);
-    assert_next_turn(rt, shared, hall, &mut first, third);
-    assert_last_turn(rt, shared, hall, &mut second);
-    assert_worker(rt, shared, &first, 0, 6);
-    assert_worker(rt, shared, &second, 1, 1);
+    assert_first_turn(rt, shared, hall, first);
+    assert_next_turn(rt, shared, hall, first, third);
+    assert_last_turn(rt, shared, hall, second);
+    assert_worker(rt, shared, first, 0, 6);
+    assert_worker(rt, shared, second, 1, 1);
 }
 
 #[test]
 fn turns_and_claims_go_on_from_the_opening_run(rt: HostRuntime) {
-    let (shared, hall, first, second, third) = passes_after_four(&rt, rt.alloc());
-    assert_turns(&rt, &shared, &hall, first, second, third);
+    let (mut opened, third) = opened_after_four(&rt, rt.alloc());
+    assert_turns(
+        &rt,
+        &opened.shared,
+        &opened.hall,
+        &mut opened.first,
+        &mut opened.second,
+        third,
+    );
+    drop(opened);
 }

@@ -6,7 +6,7 @@ ghost use Rattle.plan_model.specs.ConfigurationSpace.{space_of};
 ghost use Rattle.plan_work_tests.specs.Sharers.{HasClaimed, HasShare, IsOfThree};
 
 use crate::test_runs::{Entry, TO_REWIRE, assert_records, sure};
-use crate::two_passes::{joined_run, two_passes};
+use crate::two_passes::{assert_claimed, joined_run, two_passes};
 use plan_model::{Goal, Outcome, Point, SmallScene, Task};
 use plan_words::{Pass, Shared};
 use plan_work::{Gate, NoGate, extend, grow, work};
@@ -120,28 +120,16 @@ fn assert_met<R: Abort>(rt: &R, meeting: &Meeting, grown: &Grown) {
 
 #[test]
 fn a_node_is_placed_while_a_segment_is_tested(rt: HostRuntime) {
-    let fresh = sure(
-        &rt,
-        Grown::new(rt.alloc(), task_in_two_strips(&rt, rt.alloc())),
-    );
-    let meeting = Meeting::in_hall(sure(&rt, Hall::new(rt.alloc(), &fresh.task().scene)));
+    let task = task_in_two_strips(&rt, rt.alloc());
+    let meeting = Meeting::in_hall(sure(&rt, Hall::new(rt.alloc(), &task.scene)));
+    let fresh = sure(&rt, Grown::new(rt.alloc(), task));
     let grown = sure(&rt, grow(&rt, rt.alloc(), fresh, &meeting, 2, 3, &meeting));
     assert_met(&rt, &meeting, &grown);
+    drop(grown);
+    drop(meeting);
 }
 
 // ---- the same by two callers, who begin with a mark in hand
-
-/// Asserts that a pass claims this mark.
-fn assert_claimed<R: Abort>(rt: &R, shared: &Shared, pass: &mut Pass, mark: u32)
-    requires shared { IsOfThree shared.now }
-    requires pass { HasShare shared.now 1 pass.old }
-    ensures { HasClaimed shared.now 1 mark pass.new }
-{
-    let Some(claimed) = shared.claim(pass, 3) else {
-        panic!(rt; "no mark is left")
-    };
-    assert!(rt; claimed == mark);
-}
 
 /// Handles mark 0, in the test of whose segment it waits for the other caller, and then what marks are left.
 fn test_long(shared: &Shared, pass: Pass, meeting: &Meeting) -> Pass
@@ -213,5 +201,8 @@ fn a_caller_is_answered_while_another_tests_its_segment(rt: HostRuntime) {
     assert_claimed(&rt, &shared, &mut first, 0);
     assert_claimed(&rt, &shared, &mut second, 1);
     let (first, second) = call_both(&rt, &shared, first, second, &meeting);
-    assert_called(&rt, &meeting, &joined_run(&rt, shared, first, second));
+    let run = joined_run(&rt, shared, first, second);
+    assert_called(&rt, &meeting, &run);
+    drop(run);
+    drop(meeting);
 }

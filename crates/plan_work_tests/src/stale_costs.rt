@@ -150,32 +150,44 @@ fn assert_three<R: Abort>(rt: &R, shared: &Shared, hall: &Hall, pass: &mut Pass)
     assert_extended(rt, shared, hall, pass, 2, &NEARER);
 }
 
-#[test]
-fn a_stale_cost_is_not_exchanged(rt: HostRuntime) {
-    let task = task_to(&rt, rt.alloc(), ACROSS, 0, &MARKS);
-    let (shared, hall, mut first, mut second) = two_passes(&rt, rt.alloc(), task);
-    assert_three(&rt, &shared, &hall, &mut first);
+/// Asserts that the first pass lowers a node, and that the second, by what it saw of that before, does not.
+fn assert_stale<R: Abort>(rt: &R, shared: &Shared, hall: &Hall, first: &mut Pass, second: &mut Pass)
+    requires first { HasShare shared.now 1 first.old }
+    requires second { HasShare shared.now 1 second.old }
+    requires hall { hall.now ≡ space_of shared.now.task.scene }
+    ensures first { HasShare shared.now 1 first.new }
+    ensures second { HasShare shared.now 1 second.new }
+{
     let kept = (ACROSS, (2, (1, 15_360)));
-    let (start, across) = load_two(&rt, &shared, &mut first, (START, (0, (0, 0))), kept);
-    let (stale, right) = load_two(&rt, &shared, &mut second, kept, (RIGHT, (3, (0, 2_560))));
+    let (start, across) = load_two(rt, shared, first, (START, (0, (0, 0))), kept);
+    let (stale, right) = load_two(rt, shared, second, kept, (RIGHT, (3, (0, 2_560))));
     assert_lowered(
-        &rt,
-        &shared,
-        &hall,
-        &mut first,
+        rt,
+        shared,
+        hall,
+        first,
         (across, ACROSS),
         (start, START),
         (10_862, Ok(())),
     );
     assert_lowered(
-        &rt,
-        &shared,
-        &hall,
-        &mut second,
+        rt,
+        shared,
+        hall,
+        second,
         (stale, ACROSS),
         (right, RIGHT),
         (11_791, Err((0, 10_862))),
     );
+}
+
+#[test]
+fn a_stale_cost_is_not_exchanged(rt: HostRuntime) {
+    let task = task_to(&rt, rt.alloc(), ACROSS, 0, &MARKS);
+    let (shared, hall, mut first, mut second) = two_passes(&rt, rt.alloc(), task);
+    assert_three(&rt, &shared, &hall, &mut first);
+    assert_stale(&rt, &shared, &hall, &mut first, &mut second);
     load_node(&rt, &shared, &mut second, ACROSS, (2, (0, 10_862)));
+    drop(hall);
     assert_ending(&rt, shared, first, second, &NEARER);
 }

@@ -1,5 +1,6 @@
 //! What the tests share: values that memory lasts for, the task of some marks in a small room, and the nodes and the records of
-//! a run as plain numbers.
+//! a run as plain numbers. What holds much, as a tree or a collision checker, is let go by `drop`: at the end of a test all that it
+//! holds would be let go in the test's own proof.
 
 ghost use Rattle.std.specs.Prelude.{◌≡◌, ◌≤◌, IsTrue, Ok, Some};
 ghost use Rattle.plan_model.specs.Clearance.{ClearAt};

@@ -6,7 +6,7 @@ ghost use Rattle.plan_model.specs.ConfigurationSpace.{space_of};
 ghost use Rattle.plan_words.specs.Claims.{AllFull};
 ghost use Rattle.plan_words.specs.States.{BelongsTo};
 ghost use Rattle.step_core.specs.LaterViews.{IsLawfulView};
-ghost use Rattle.plan_work_tests.specs.Sharers.{HasShare};
+ghost use Rattle.plan_work_tests.specs.Sharers.{HasClaimed, HasShare, IsOfThree};
 
 use crate::test_runs::{Ending, assert_entry, assert_run, some, sure};
 use kd_shared::find;
@@ -59,6 +59,18 @@ pub(crate) fn two_passes<R: Abort>(rt: &R, alloc: Global, task: Task) -> Two
     (shared, hall, first, second)
 }
 
+/// Asserts that a pass claims this mark of three.
+pub(crate) fn assert_claimed<R: Abort>(rt: &R, shared: &Shared, pass: &mut Pass, mark: u32)
+    requires shared { IsOfThree shared.now }
+    requires pass { HasShare shared.now 1 pass.old }
+    ensures { HasClaimed shared.now 1 mark pass.new }
+{
+    let Some(claimed) = shared.claim(pass, 3) else {
+        panic!(rt; "no mark is left")
+    };
+    assert!(rt; claimed == mark);
+}
+
 /// Asserts that a pass claims this mark of three, and that its record is the one that is wanted.
 pub(crate) fn assert_extended<R: Abort>(
     rt: &R,
@@ -75,11 +87,8 @@ pub(crate) fn assert_extended<R: Abort>(
     requires marks { length shared.now.task.marks ≡ 3 }
     ensures { HasShare shared.now 1 pass.new }
 {
-    let Some(claimed) = shared.claim(pass, 3) else {
-        panic!(rt; "no mark is left")
-    };
-    assert_eq!(rt; claimed, mark);
-    let record = extend(shared, pass, hall, claimed);
+    assert_claimed(rt, shared, pass, mark);
+    let record = extend(shared, pass, hall, mark);
     assert_entry(rt, record, mark, &want.records[mark as usize]);
 }
 

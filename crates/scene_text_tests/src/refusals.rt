@@ -1,32 +1,50 @@
 //! How faults and refusals of scene texts are shown.
 
+use crate::test_scenes::sure;
 use plan_model::Kind;
 use scene_text::{SceneFault, SceneRefusal};
-use std::alloc::{AllocError, Global};
+use std::alloc::Global;
 use std::fmt;
 use std::process::Abort;
-use std::test::Fail;
 
 // Asserts how a fault or a refusal is shown.
-fn assert_shown<T: fmt::Display>(
-    rt: &impl Abort,
+pub(crate) fn assert_shown<R: Abort, T: fmt::Display>(
+    rt: &R,
     alloc: Global,
     value: &T,
     want: &str,
-) -> Result<(), AllocError> {
-    assert_eq!(rt; value.to_string(alloc)?.as_str(), want);
-    Ok(())
+) {
+    let shown = sure(rt, value.to_string(alloc));
+    assert!(rt; shown.as_str() == want);
+    drop(shown);
+}
+
+static FAULTS: [(SceneFault, &str); 2] = [
+    (
+        SceneFault {
+            line: 5,
+            kind: Kind::Repeat,
+        },
+        "line 5 kind 6 Repeat",
+    ),
+    (
+        SceneFault {
+            line: 16_777_217,
+            kind: Kind::Unbuilt,
+        },
+        "line 16777217 kind 10 Unbuilt",
+    ),
+];
+
+// Asserts how a fault is shown, and the refusal for it.
+fn assert_fault_shown<R: Abort>(rt: &R, alloc: Global, fault: SceneFault, want: &str) {
+    assert_shown(rt, alloc, &fault, want);
+    assert_shown(rt, alloc, &SceneRefusal::Fault(fault), want);
 }
 
 #[test]
-fn shows_faults_as_lines(rt: HostRuntime) -> Result<(), Fail> {
-    for (line, kind, want) in [
-        (5, Kind::Repeat, "line 5 kind 6 Repeat"),
-        (16_777_217, Kind::Unbuilt, "line 16777217 kind 10 Unbuilt"),
-    ] {
-        let fault = SceneFault { line, kind };
-        assert_shown(&rt, rt.alloc(), &fault, want)?;
-        assert_shown(&rt, rt.alloc(), &SceneRefusal::Fault(fault), want)?;
+fn shows_faults_as_lines(rt: HostRuntime) {
+    for case in &FAULTS {
+        assert_fault_shown(&rt, rt.alloc(), case.0, case.1);
     }
-    Ok(())
 }

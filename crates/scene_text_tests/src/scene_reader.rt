@@ -1,11 +1,10 @@
 //! Scenes that are read, and texts that are refused.
 
-use crate::test_scenes::{POLYGONS, read, scene_of};
+use crate::test_scenes::{POLYGONS, read, scene_of, sure};
 use plan_model::{Goal, Kind, Marks, Point, Scene, Vertex};
 use scene_text::{SceneFault, SceneRefusal};
-use std::alloc::{AllocError, Global};
+use std::alloc::Global;
 use std::process::Abort;
-use std::test::Fail;
 
 const SMALL: &str =
     "# a room\nprrt 1\n\nroom 10 12\nstart 5 6\ngoal 7 8 9 10\nmark 1 2\nstep 4\nmark 3 0";
@@ -14,17 +13,19 @@ const GREATEST: &str =
     "prrt 1\nseed 18446744073709551615\ngamma 16777215\nroom 9 9\nstart 1 1\ngoal 2 2 2 2\nstep 4096\nstrips 64\n";
 
 // Asserts the room, the start and the goal of a scene.
-fn assert_places(rt: &impl Abort, scene: &Scene, want: (Point, Point, Goal)) {
-    assert_eq!(rt; (scene.room, scene.start, scene.goal), want);
+fn assert_places<R: Abort>(rt: &R, scene: &Scene, room: Point, start: Point, goal: Goal) {
+    assert!(rt; (scene.room == room) & (scene.start == start) & (scene.goal == goal));
 }
 
 // Asserts that a scene lists these marks.
-fn assert_listed(rt: &impl Abort, scene: &Scene, want: &[Point]) {
-    let Marks::Listed(marks) = &scene.plan else {
-        panic!(rt; "no listed marks");
-    };
-    assert_eq!(rt; marks.as_slice(), want);
+fn assert_listed<R: Abort>(rt: &R, scene: &Scene, want: &[Point]) {
+    match &scene.plan {
+        Marks::Listed(marks) => assert!(rt; marks.as_slice() == want),
+        Marks::Drawn(_) => panic!(rt; "no listed marks"),
+    }
 }
+
+static SMALL_MARKS: [Point; 2] = [Point { x: 1, y: 2 }, Point { x: 3, y: 0 }];
 
 #[test]
 fn reads_the_fields(rt: HostRuntime) {
@@ -33,188 +34,259 @@ fn reads_the_fields(rt: HostRuntime) {
         low: Point { x: 7, y: 8 },
         high: Point { x: 9, y: 10 },
     };
-    let want = (Point { x: 10, y: 12 }, Point { x: 5, y: 6 }, goal);
-    assert_places(&rt, &scene, want);
-    assert_listed(&rt, &scene, &[Point { x: 1, y: 2 }, Point { x: 3, y: 0 }]);
+    assert_places(
+        &rt,
+        &scene,
+        Point { x: 10, y: 12 },
+        Point { x: 5, y: 6 },
+        goal,
+    );
+    assert_listed(&rt, &scene, &SMALL_MARKS);
+    drop(scene);
 }
 
-// Asserts the step, gamma, the seed and the strips of a scene.
-fn assert_numbers(rt: &impl Abort, scene: &Scene, want: (u32, u32, u64, u32)) {
-    assert_eq!(rt; (scene.step, scene.gamma, scene.seed, scene.strips), want);
+// Asserts the step, gamma, the seed and the strips of the scene of a text.
+fn assert_numbers<R: Abort>(
+    rt: &R,
+    alloc: Global,
+    text: &str,
+    step: u32,
+    gamma: u32,
+    seed: u64,
+    strips: u32,
+) {
+    let scene = scene_of(rt, alloc, text);
+    let is_same = (scene.step == step)
+        & (scene.gamma == gamma)
+        & (scene.seed == seed)
+        & (scene.strips == strips);
+    drop(scene);
+    assert!(rt; is_same);
 }
 
 #[test]
 fn reads_the_numbers(rt: HostRuntime) {
-    for (text, want) in [
-        (SMALL, (4, 0, 0, 1)),
-        (GREATEST, (4_096, 16_777_215, u64::MAX, 64)),
-    ] {
-        assert_numbers(&rt, &scene_of(&rt, rt.alloc(), text), want);
-    }
+    assert_numbers(&rt, rt.alloc(), SMALL, 4, 0, 0, 1);
+    assert_numbers(&rt, rt.alloc(), GREATEST, 4_096, 16_777_215, u64::MAX, 64);
 }
 
-// Asserts that a scene draws so many marks.
-fn assert_drawn(rt: &impl Abort, scene: &Scene, want: u32) {
-    let Marks::Drawn(count) = scene.plan else {
-        panic!(rt; "no drawn marks");
+const NO_DRAWN_MARKS: &str = "prrt 1\nmarks 0\nroom 9 9\nstart 1 1\ngoal 2 2 2 2\nstep 4\n";
+
+const MOST_DRAWN_MARKS: &str = "prrt 1\nroom 9 9\nstart 1 1\ngoal 2 2 2 2\nstep 4\nmarks 262143\n";
+
+// Asserts that the scene of a text draws so many marks.
+fn assert_drawn<R: Abort>(rt: &R, alloc: Global, text: &str, want: u32) {
+    let scene = scene_of(rt, alloc, text);
+    let is_same = match scene.plan {
+        Marks::Drawn(count) => count == want,
+        Marks::Listed(_) => false,
     };
-    assert_eq!(rt; count, want);
+    drop(scene);
+    assert!(rt; is_same);
 }
 
 #[test]
 fn reads_drawn_marks(rt: HostRuntime) {
-    for (text, want) in [
-        (
-            "prrt 1\nmarks 0\nroom 9 9\nstart 1 1\ngoal 2 2 2 2\nstep 4\n",
-            0,
-        ),
-        (
-            "prrt 1\nroom 9 9\nstart 1 1\ngoal 2 2 2 2\nstep 4\nmarks 262143\n",
-            262_143,
-        ),
-    ] {
-        assert_drawn(&rt, &scene_of(&rt, rt.alloc(), text), want);
-    }
+    assert_drawn(&rt, rt.alloc(), NO_DRAWN_MARKS, 0);
+    assert_drawn(&rt, rt.alloc(), MOST_DRAWN_MARKS, 262_143);
 }
 
 // Asserts that a text is refused at this line, for a fault of this kind.
-fn assert_refused(rt: &impl Abort, alloc: Global, text: &str, line: u32, kind: Kind) {
+fn assert_refused<R: Abort>(rt: &R, alloc: Global, text: &str, line: u32, kind: Kind) {
     let fault = SceneFault { line, kind };
     match read(rt, alloc, text) {
-        Err(refusal) => assert_eq!(rt; refusal, SceneRefusal::Fault(fault)),
+        Err(refusal) => assert!(rt; refusal == SceneRefusal::Fault(fault)),
         Ok(_) => panic!(rt; "read"),
     }
 }
 
-#[test]
-fn refuses_the_first_fault(rt: HostRuntime) {
-    for (text, line, kind) in [
-        ("prrt 1\nroom 10 10\nstart 5 5\nstep 4\n", 5, Kind::Missing),
-        ("prrt 1\nroom 10 10\nstep 4\nstep 4\n", 4, Kind::Repeat),
-        ("", 1, Kind::Version),
-        ("prrt 1\nroom 10 10\nstar\n", 3, Kind::Key),
-        ("prrt 1\nstep 04\n", 2, Kind::Number),
-        ("prrt 1\nstep 99999999999999999999999\n", 2, Kind::Range),
-        ("prrt 1\nstart -1 0\n", 2, Kind::Range),
-        ("prrt 1\nseed 18446744073709551616\n", 2, Kind::Range),
-        ("prrt 1\nseed 1\nseed 1\n", 3, Kind::Repeat),
-        ("prrt 1\nstrips 0\n", 2, Kind::Range),
-        ("prrt 1\nstrips 65\n", 2, Kind::Range),
-        ("prrt 1\ngamma 16777216\n", 2, Kind::Range),
-        ("prrt 1\ngamma -1\n", 2, Kind::Range),
-        ("prrt 1\ngamma 1 1\n", 2, Kind::Words),
-        ("prrt 1\ngamma 0\ngamma 0\n", 3, Kind::Repeat),
-        ("prrt 1\nmarks 262144\n", 2, Kind::Range),
-        ("prrt 1\nmarks -1\n", 2, Kind::Range),
-        ("prrt 1\nmarks\n", 2, Kind::Words),
-        ("prrt 1\nmarks 5\nmarks 5\n", 3, Kind::Repeat),
-        ("prrt 1\nmarks 5\nmark 1 1\n", 3, Kind::Repeat),
-        ("prrt 1\nmark 1 1\nmarks 5\n", 3, Kind::Repeat),
-    ] {
-        assert_refused(&rt, rt.alloc(), text, line, kind);
+// Asserts that each text is refused at its line, for a fault of its kind.
+fn assert_each_refused<R: Abort>(rt: &R, alloc: Global, cases: &[(&str, u32, Kind)]) {
+    for case in cases {
+        assert_refused(rt, alloc, case.0, case.1, case.2);
     }
 }
+
+static FIRST_FAULTS: [(&str, u32, Kind); 21] = [
+    ("prrt 1\nroom 10 10\nstart 5 5\nstep 4\n", 5, Kind::Missing),
+    ("prrt 1\nroom 10 10\nstep 4\nstep 4\n", 4, Kind::Repeat),
+    ("", 1, Kind::Version),
+    ("prrt 1\nroom 10 10\nstar\n", 3, Kind::Key),
+    ("prrt 1\nstep 04\n", 2, Kind::Number),
+    ("prrt 1\nstep 99999999999999999999999\n", 2, Kind::Range),
+    ("prrt 1\nstart -1 0\n", 2, Kind::Range),
+    ("prrt 1\nseed 18446744073709551616\n", 2, Kind::Range),
+    ("prrt 1\nseed 1\nseed 1\n", 3, Kind::Repeat),
+    ("prrt 1\nstrips 0\n", 2, Kind::Range),
+    ("prrt 1\nstrips 65\n", 2, Kind::Range),
+    ("prrt 1\ngamma 16777216\n", 2, Kind::Range),
+    ("prrt 1\ngamma -1\n", 2, Kind::Range),
+    ("prrt 1\ngamma 1 1\n", 2, Kind::Words),
+    ("prrt 1\ngamma 0\ngamma 0\n", 3, Kind::Repeat),
+    ("prrt 1\nmarks 262144\n", 2, Kind::Range),
+    ("prrt 1\nmarks -1\n", 2, Kind::Range),
+    ("prrt 1\nmarks\n", 2, Kind::Words),
+    ("prrt 1\nmarks 5\nmarks 5\n", 3, Kind::Repeat),
+    ("prrt 1\nmarks 5\nmark 1 1\n", 3, Kind::Repeat),
+    ("prrt 1\nmark 1 1\nmarks 5\n", 3, Kind::Repeat),
+];
+
+#[test]
+fn refuses_the_first_fault(rt: HostRuntime) {
+    assert_each_refused(&rt, rt.alloc(), &FIRST_FAULTS);
+}
+
+static POLYGONS_REFUSED: [(&str, u32, Kind); 17] = [
+    // three corners in a line, and so also at the last corner
+    ("prrt 1\nobstacle 0 0 5 0 9 0 9 9\n", 2, Kind::Corners),
+    ("prrt 1\nbody 0 0 9 0 9 9 0 9 0 5\n", 2, Kind::Corners),
+    // a corner twice
+    ("prrt 1\nobstacle 0 0 9 0 9 9 9 9\n", 2, Kind::Corners),
+    ("prrt 1\nbody 0 0 0 0 0 0\n", 2, Kind::Corners),
+    // clockwise
+    ("prrt 1\nobstacle 0 0 0 9 9 9\n", 2, Kind::Corners),
+    ("prrt 1\nbody 0 0 0 9 9 9\n", 2, Kind::Corners),
+    // a dent
+    ("prrt 1\nobstacle 0 0 9 0 3 3 0 9\n", 2, Kind::Corners),
+    // twice round, with left turns only
+    ("prrt 1\nobstacle 8 0 5 9 2 0 10 6 0 6\n", 2, Kind::Corners),
+    // two corners, and half a corner
+    ("prrt 1\nbody 0 0 1 0\n", 2, Kind::Words),
+    ("prrt 1\nobstacle 0 0 9 0\n", 2, Kind::Words),
+    ("prrt 1\nobstacle 0 0 9 0 9 9 0\n", 2, Kind::Words),
+    ("prrt 1\nobstacle 0 0 9 0 9 x\n", 2, Kind::Number),
+    // out of the range, by one
+    ("prrt 1\nbody 0 -4097\n", 2, Kind::Range),
+    ("prrt 1\nobstacle 0 0 131072 0 9 9\n", 2, Kind::Range),
+    ("prrt 1\nobstacle -2147483648 0 9 0 9 9\n", 2, Kind::Range),
+    (
+        "prrt 1\nobstacle 0 0 99999999999999999999 0 9 9\n",
+        2,
+        Kind::Range,
+    ),
+    (
+        "prrt 1\nobstacle 0 0 -99999999999999999999 0 9 9\n",
+        2,
+        Kind::Range,
+    ),
+];
 
 #[test]
 fn refuses_polygons(rt: HostRuntime) {
-    for (text, kind) in [
-        // three corners in a line, and so also at the last corner
-        ("prrt 1\nobstacle 0 0 5 0 9 0 9 9\n", Kind::Corners),
-        ("prrt 1\nbody 0 0 9 0 9 9 0 9 0 5\n", Kind::Corners),
-        // a corner twice
-        ("prrt 1\nobstacle 0 0 9 0 9 9 9 9\n", Kind::Corners),
-        ("prrt 1\nbody 0 0 0 0 0 0\n", Kind::Corners),
-        // clockwise
-        ("prrt 1\nobstacle 0 0 0 9 9 9\n", Kind::Corners),
-        ("prrt 1\nbody 0 0 0 9 9 9\n", Kind::Corners),
-        // a dent
-        ("prrt 1\nobstacle 0 0 9 0 3 3 0 9\n", Kind::Corners),
-        // twice round, with left turns only
-        ("prrt 1\nobstacle 8 0 5 9 2 0 10 6 0 6\n", Kind::Corners),
-        // two corners, and half a corner
-        ("prrt 1\nbody 0 0 1 0\n", Kind::Words),
-        ("prrt 1\nobstacle 0 0 9 0\n", Kind::Words),
-        ("prrt 1\nobstacle 0 0 9 0 9 9 0\n", Kind::Words),
-        ("prrt 1\nobstacle 0 0 9 0 9 x\n", Kind::Number),
-        // out of the range, by one
-        ("prrt 1\nbody 0 -4097\n", Kind::Range),
-        ("prrt 1\nobstacle 0 0 131072 0 9 9\n", Kind::Range),
-        ("prrt 1\nobstacle -2147483648 0 9 0 9 9\n", Kind::Range),
-        (
-            "prrt 1\nobstacle 0 0 99999999999999999999 0 9 9\n",
-            Kind::Range,
-        ),
-        (
-            "prrt 1\nobstacle 0 0 -99999999999999999999 0 9 9\n",
-            Kind::Range,
-        ),
-    ] {
-        assert_refused(&rt, rt.alloc(), text, 2, kind);
-    }
+    assert_each_refused(&rt, rt.alloc(), &POLYGONS_REFUSED);
 }
 
 // A text, and then a piece of text so many times.
-fn repeated(alloc: Global, before: &str, piece: &str, count: usize) -> Result<String, AllocError> {
-    let pieces = piece.repeat(alloc, count)?;
-    [before, pieces.as_str()].concat(alloc)
+fn repeated<R: Abort>(rt: &R, alloc: Global, before: &str, piece: &str, count: usize) -> String {
+    let pieces = sure(rt, piece.repeat(alloc, count));
+    let text = sure(rt, [before, pieces.as_str()].concat(alloc));
+    drop(pieces);
+    text
 }
 
 const TRIANGLE: &str = "obstacle 0 0 9 0 0 9\n";
 
-// Asserts that a text with a piece so many times is refused at this line, for a fault of this kind.
-fn assert_repeats_refused(
-    rt: &impl Abort,
-    alloc: Global,
-    before: &str,
-    piece: &str,
+// A text with a piece so many times, which is refused at this line, for a fault of this kind.
+struct Repeats {
+    before: &'static str,
+    piece: &'static str,
     count: usize,
     line: u32,
     kind: Kind,
-) -> Result<(), AllocError> {
-    let text = repeated(alloc, before, piece, count)?;
-    assert_refused(rt, alloc, text.as_str(), line, kind);
-    Ok(())
+}
+
+static TOO_MANY: [Repeats; 7] = [
+    Repeats {
+        before: "prrt 1\nbody",
+        piece: " 0 0",
+        count: 16,
+        line: 2,
+        kind: Kind::Corners,
+    },
+    Repeats {
+        before: "prrt 1\nbody",
+        piece: " 0 0",
+        count: 17,
+        line: 2,
+        kind: Kind::Many,
+    },
+    Repeats {
+        before: "prrt 1\nobstacle",
+        piece: " 0 0",
+        count: 64,
+        line: 2,
+        kind: Kind::Corners,
+    },
+    Repeats {
+        before: "prrt 1\nobstacle",
+        piece: " 0 0",
+        count: 65,
+        line: 2,
+        kind: Kind::Many,
+    },
+    Repeats {
+        before: "prrt 1\n",
+        piece: TRIANGLE,
+        count: 1_024,
+        line: 1_026,
+        kind: Kind::Missing,
+    },
+    Repeats {
+        before: "prrt 1\n",
+        piece: TRIANGLE,
+        count: 1_025,
+        line: 1_026,
+        kind: Kind::Many,
+    },
+    Repeats {
+        before: "prrt 1\n",
+        piece: "body 0 0\n",
+        count: 2,
+        line: 3,
+        kind: Kind::Repeat,
+    },
+];
+
+// Asserts that a text with a piece so many times is refused.
+fn assert_repeats_refused<R: Abort>(rt: &R, alloc: Global, case: &Repeats) {
+    let text = repeated(rt, alloc, case.before, case.piece, case.count);
+    assert_refused(rt, alloc, text.as_str(), case.line, case.kind);
+    drop(text);
 }
 
 #[test]
-fn refuses_too_many_corners_and_obstacles(rt: HostRuntime) -> Result<(), Fail> {
-    for (before, piece, count, line, kind) in [
-        ("prrt 1\nbody", " 0 0", 16, 2, Kind::Corners),
-        ("prrt 1\nbody", " 0 0", 17, 2, Kind::Many),
-        ("prrt 1\nobstacle", " 0 0", 64, 2, Kind::Corners),
-        ("prrt 1\nobstacle", " 0 0", 65, 2, Kind::Many),
-        ("prrt 1\n", TRIANGLE, 1_024, 1_026, Kind::Missing),
-        ("prrt 1\n", TRIANGLE, 1_025, 1_026, Kind::Many),
-        ("prrt 1\n", "body 0 0\n", 2, 3, Kind::Repeat),
-    ] {
-        assert_repeats_refused(&rt, rt.alloc(), before, piece, count, line, kind)?;
+fn refuses_too_many_corners_and_obstacles(rt: HostRuntime) {
+    for case in &TOO_MANY {
+        assert_repeats_refused(&rt, rt.alloc(), case);
     }
-    Ok(())
 }
 
-// Asserts the body of a scene, and how many obstacles it has.
-fn assert_polygons(rt: &impl Abort, scene: &Scene, body: &[Vertex], obstacles: usize) {
-    assert_eq!(rt; scene.body.as_slice(), body);
-    assert_eq!(rt; scene.obstacles.len(), obstacles);
+// Asserts the body of the scene of a text, and how many obstacles it has.
+fn assert_polygons<R: Abort>(rt: &R, alloc: Global, text: &str, body: &[Vertex], obstacles: usize) {
+    let scene = scene_of(rt, alloc, text);
+    let is_same = (scene.body.as_slice() == body) & (scene.obstacles.len() == obstacles);
+    drop(scene);
+    assert!(rt; is_same);
 }
+
+static BODY: [Vertex; 4] = [
+    Vertex { x: -1, y: -2 },
+    Vertex { x: 3, y: -2 },
+    Vertex { x: 3, y: 4 },
+    Vertex { x: -1, y: 4 },
+];
 
 #[test]
 fn reads_polygons(rt: HostRuntime) {
-    let body = [
-        Vertex { x: -1, y: -2 },
-        Vertex { x: 3, y: -2 },
-        Vertex { x: 3, y: 4 },
-        Vertex { x: -1, y: 4 },
-    ];
-    let scene = scene_of(&rt, rt.alloc(), POLYGONS);
-    assert_polygons(&rt, &scene, body.as_slice(), 2);
+    assert_polygons(&rt, rt.alloc(), POLYGONS, &BODY, 2);
 }
 
+static POINT: [Vertex; 1] = [Vertex { x: 0, y: 0 }];
+
 #[test]
-fn reads_as_many_obstacles_as_there_may_be(rt: HostRuntime) -> Result<(), Fail> {
+fn reads_as_many_obstacles_as_there_may_be(rt: HostRuntime) {
     let before = "prrt 1\nroom 9 9\nstart 0 0\ngoal 1 1 2 2\nstep 4\n";
-    let text = repeated(rt.alloc(), before, TRIANGLE, 1_024)?;
-    let scene = scene_of(&rt, rt.alloc(), text.as_str());
-    assert_polygons(&rt, &scene, &[Vertex { x: 0, y: 0 }], 1_024);
-    Ok(())
+    let text = repeated(&rt, rt.alloc(), before, TRIANGLE, 1_024);
+    assert_polygons(&rt, rt.alloc(), text.as_str(), &POINT, 1_024);
+    drop(text);
 }

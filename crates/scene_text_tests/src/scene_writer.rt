@@ -3,7 +3,7 @@
 ghost use Rattle.std.specs.Prelude.{◌≡◌, IfOk, IsTrue};
 ghost use Rattle.plan_model.specs.Limits.{is_obstacle, are_obstacles};
 
-use crate::test_scenes::{POLYGONS, scene_of};
+use crate::test_scenes::{POLYGONS, scene_of, sure};
 use plan_model::{MOST_OBSTACLES, Poly, Polys, Scene, Vertex};
 use scene_text::{read_scene, write_scene};
 use std::alloc::{AllocError, Global};
@@ -19,14 +19,16 @@ const POLYGONS_WRITTEN: &str =
     "prrt 1\nroom 9 9\nbody -1 -2 3 -2 3 4 -1 4\nobstacle 4 4 6 4 5 7\nobstacle -9 2 3 2 3 3\nstart 0 0\ngoal 1 1 2 2\nstep 4\ngamma 0\nseed 0\nstrips 1\n";
 
 // A triangle as wide as an obstacle may be.
+static WIDE: [Vertex; 3] = [
+    Vertex { x: -131_072, y: 0 },
+    Vertex { x: 131_071, y: 0 },
+    Vertex { x: 0, y: 131_071 },
+];
+
 fn triangle(alloc: Global) -> Result<Poly, AllocError>
     ensures { IfOk result (λ corners. IsTrue (is_obstacle corners)) }
 {
-    let corners = vec![in alloc;
-        Vertex { x: -131_072, y: 0 },
-        Vertex { x: 131_071, y: 0 },
-        Vertex { x: 0, y: 131_071 },
-    ]?;
+    let corners = Vec::from_slice(alloc, &WIDE)?;
     Ok(Poly::from_vec(corners))
 }
 
@@ -40,53 +42,55 @@ fn most_obstacles(alloc: Global) -> Result<Polys, AllocError>
     Ok(Polys::from_vec(obstacles))
 }
 
-// The canonical text of a scene.
-fn written(rt: &impl Abort, alloc: Global, scene: &Scene) -> Vec<u8> {
-    match write_scene(alloc, scene) {
-        Ok(text) => text,
-        Err(error) => panic!(rt; "{error}"),
-    }
+// Asserts the canonical text of a scene.
+fn assert_written<R: Abort>(rt: &R, alloc: Global, scene: &Scene, want: &str) {
+    let text = sure(rt, write_scene(alloc, scene));
+    assert!(rt; text.as_slice() == want.as_bytes());
+    drop(text);
 }
 
-// Asserts the canonical text of a scene.
-fn assert_written(rt: &impl Abort, alloc: Global, scene: &Scene, want: &str) {
-    let text = written(rt, alloc, scene);
-    assert_eq!(rt; text.as_slice(), want.as_bytes());
+// Asserts the canonical text of the scene of a text.
+fn assert_rewritten<R: Abort>(rt: &R, alloc: Global, text: &str, want: &str) {
+    let scene = scene_of(rt, alloc, text);
+    assert_written(rt, alloc, &scene, want);
+    drop(scene);
 }
 
 #[test]
 fn writes_every_line(rt: HostRuntime) {
-    for (text, want) in [(SMALL, SMALL_WRITTEN), (POLYGONS, POLYGONS_WRITTEN)] {
-        let scene = scene_of(&rt, rt.alloc(), text);
-        assert_written(&rt, rt.alloc(), &scene, want);
-    }
+    assert_rewritten(&rt, rt.alloc(), SMALL, SMALL_WRITTEN);
+    assert_rewritten(&rt, rt.alloc(), POLYGONS, POLYGONS_WRITTEN);
 }
 
 // The canonical text with as many of these triangles as there may be.
-fn most_obstacles_written(alloc: Global) -> Result<String, AllocError> {
-    let obstacles = "obstacle -131072 0 131071 0 0 131071\n".repeat(alloc, 1_024)?;
-    [
+fn most_obstacles_written<R: Abort>(rt: &R, alloc: Global) -> String {
+    let line = "obstacle -131072 0 131071 0 0 131071\n";
+    let obstacles = sure(rt, line.repeat(alloc, 1_024));
+    let lines = [
         "prrt 1\nroom 9 9\nbody 0 0\n",
         obstacles.as_str(),
         "start 0 0\ngoal 1 1 2 2\nstep 4\ngamma 0\nseed 0\nstrips 1\n",
-    ]
-    .concat(alloc)
+    ];
+    let text = sure(rt, lines.concat(alloc));
+    drop(obstacles);
+    text
 }
 
 // The small scene with as many obstacles as there may be.
-fn scene_with_most_obstacles(rt: &impl Abort, alloc: Global) -> Result<Scene, AllocError> {
-    let obstacles = most_obstacles(alloc)?;
+fn scene_with_most_obstacles<R: Abort>(rt: &R, alloc: Global) -> Scene {
+    let obstacles = sure(rt, most_obstacles(alloc));
     let mut scene = scene_of(rt, alloc, SMALL);
     scene.obstacles = obstacles;
-    Ok(scene)
+    scene
 }
 
 #[test]
-fn writes_as_many_obstacles_as_there_may_be(rt: HostRuntime) -> Result<(), Fail> {
-    let want = most_obstacles_written(rt.alloc())?;
-    let scene = scene_with_most_obstacles(&rt, rt.alloc())?;
+fn writes_as_many_obstacles_as_there_may_be(rt: HostRuntime) {
+    let want = most_obstacles_written(&rt, rt.alloc());
+    let scene = scene_with_most_obstacles(&rt, rt.alloc());
     assert_written(&rt, rt.alloc(), &scene, want.as_str());
-    Ok(())
+    drop(scene);
+    drop(want);
 }
 
 // Texts that are canonical already, with a line for each field: drawn marks, and listed ones.
@@ -105,26 +109,24 @@ fn read_again(alloc: Global, scene: &Scene) -> Result<Scene, Fail>
 {
     let text = write_scene(alloc, scene)?;
     let again = read_scene(alloc, &text)?;
+    drop(text);
     Ok(again)
 }
 
-// Asserts that a scene is read again from what is written for it, and is then written as this text.
-fn assert_read_again(
-    rt: &impl Abort,
-    alloc: Global,
-    scene: &Scene,
-    want: &str,
-) -> Result<(), Fail> {
-    let again = read_again(alloc, scene)?;
-    assert_written(rt, alloc, &again, want);
-    Ok(())
+// Asserts that the scene of a canonical text is read again from what is written for it, and is then written as this text.
+fn assert_read_again<R: Abort>(rt: &R, alloc: Global, canonical: &str) {
+    let scene = scene_of(rt, alloc, canonical);
+    let again = match read_again(alloc, &scene) {
+        Ok(again) => again,
+        Err(_) => panic!(rt; "not read again"),
+    };
+    assert_written(rt, alloc, &again, canonical);
+    drop(again);
+    drop(scene);
 }
 
 #[test]
-fn what_is_written_is_read_again(rt: HostRuntime) -> Result<(), Fail> {
-    for canonical in [DRAWN, LISTED] {
-        let scene = scene_of(&rt, rt.alloc(), canonical);
-        assert_read_again(&rt, rt.alloc(), &scene, canonical)?;
-    }
-    Ok(())
+fn what_is_written_is_read_again(rt: HostRuntime) {
+    assert_read_again(&rt, rt.alloc(), DRAWN);
+    assert_read_again(&rt, rt.alloc(), LISTED);
 }

@@ -1,9 +1,22 @@
-//! Texts and their scenes, for the tests of the reader and the writer.
+//! Values that memory lasts for, and texts with their scenes, for the tests of the reader and the writer.
+
+ghost use Rattle.std.specs.Prelude.{◌≡◌, Ok};
 
 use plan_model::{MOST_TEXT_BYTES, Scene};
 use scene_text::{SceneRefusal, read_scene};
 use std::alloc::Global;
+use std::fmt;
 use std::process::Abort;
+
+/// What was made, for which there is memory.
+pub(crate) fn sure<R: Abort, T, E: fmt::Display + Copy>(rt: &R, made: Result<T, E>) -> T
+    ensures { made ≡ Ok result }
+{
+    match made {
+        Ok(value) => value,
+        Err(error) => panic!(rt; "{error}"),
+    }
+}
 
 /// A text with a body and obstacles, in no order.
 pub(crate) const POLYGONS: &str =
@@ -17,8 +30,5 @@ pub(crate) fn read(rt: &impl Abort, alloc: Global, text: &str) -> Result<Scene, 
 
 /// The scene of a text that is not refused.
 pub(crate) fn scene_of(rt: &impl Abort, alloc: Global, text: &str) -> Scene {
-    match read(rt, alloc, text) {
-        Ok(scene) => scene,
-        Err(refusal) => panic!(rt; "{refusal}"),
-    }
+    sure(rt, read(rt, alloc, text))
 }

@@ -1,45 +1,27 @@
 //! The lines of single marks.
 
-ghost use Rattle.std.specs.Prelude.{IsTrue};
-ghost use Rattle.plan_model.specs.Outcomes.{is_zero_unless_placed};
-
-use plan_model::{Outcome, Record};
+use crate::test_runs::sure;
+use plan_model::{Memory, Outcome, Record};
 use settle_report::push_mark_line;
-use std::alloc::{AllocError, Global};
+use std::alloc::Global;
 use std::process::Abort;
-use std::test::Fail;
 
-/// A record with this outcome, which is not that the mark was placed.
-fn unplaced(outcome: Outcome) -> Record
-    requires { IsTrue (is_zero_unless_placed outcome 0 0 0) }
-{
-    Record {
-        worker: 2,
-        turn: 3,
-        nearest: 4,
-        outcome,
-        first_parent: 0,
-        first_cost: 0,
-        class: 0,
-    }
+/// The line of a mark.
+fn line_of(alloc: Global, mark: u32, entry: Record) -> Result<String, Memory> {
+    let mut text = String::new(alloc);
+    push_mark_line(&mut text, mark, entry)?;
+    Ok(text)
 }
 
 /// Asserts the line of a mark.
-fn assert_line(
-    rt: &impl Abort,
-    alloc: Global,
-    mark: u32,
-    entry: Record,
-    want: &str,
-) -> Result<(), AllocError> {
-    let mut text = String::new(alloc);
-    push_mark_line(&mut text, mark, entry)?;
-    assert_eq!(rt; text.as_str(), want);
-    Ok(())
+fn assert_line<R: Abort>(rt: &R, alloc: Global, mark: u32, entry: Record, want: &str) {
+    let line = sure(rt, line_of(alloc, mark, entry));
+    assert!(rt; line.as_str() == want, "in place of {want}");
+    drop(line);
 }
 
 #[test]
-fn writes_a_line_for_each_outcome(rt: HostRuntime) -> Result<(), Fail> {
+fn writes_the_line_of_a_placed_mark(rt: HostRuntime) {
     let placed = Record {
         worker: 1,
         turn: 0,
@@ -49,24 +31,16 @@ fn writes_a_line_for_each_outcome(rt: HostRuntime) -> Result<(), Fail> {
         first_cost: 12_800,
         class: 6,
     };
-    for (mark, entry, want) in [
-        (
-            8,
-            placed,
-            "mark 8 worker 1 turn 0 nearest 4 placed class 6 first 5 12800\n",
-        ),
-        (
-            7,
-            unplaced(Outcome::Same(9)),
-            "mark 7 worker 2 turn 3 nearest 4 same 9\n",
-        ),
-        (
-            7,
-            unplaced(Outcome::Blocked),
-            "mark 7 worker 2 turn 3 nearest 4 blocked\n",
-        ),
-    ] {
-        assert_line(&rt, rt.alloc(), mark, entry, want)?;
-    }
-    Ok(())
+    let want = "mark 8 worker 1 turn 0 nearest 4 placed class 6 first 5 12800\n";
+    assert_line(&rt, rt.alloc(), 8, placed, want);
+}
+
+#[test]
+fn writes_a_line_for_each_other_outcome(rt: HostRuntime) {
+    let same = Record::unplaced(2, 3, 4, Outcome::Same(9));
+    let blocked = Record::unplaced(2, 3, 4, Outcome::Blocked);
+    let want = "mark 7 worker 2 turn 3 nearest 4 same 9\n";
+    assert_line(&rt, rt.alloc(), 7, same, want);
+    let want = "mark 7 worker 2 turn 3 nearest 4 blocked\n";
+    assert_line(&rt, rt.alloc(), 7, blocked, want);
 }

@@ -3,12 +3,11 @@
 ghost use Rattle.std.specs.Prelude.{◌≤◌};
 ghost use Rattle.plan_model.specs.Limits.{IsGoal};
 
-use crate::test_runs::{start_alone, unsettled_run};
+use crate::test_runs::{settle_run, start_alone, sure, unsettled_run};
 use plan_model::{Goal, Point};
-use settle_report::{report, settle, summary};
+use settle_report::{report, summary};
 use std::alloc::Global;
 use std::process::Abort;
-use std::test::Fail;
 use step_core::Grown;
 
 /// The goal that is this point alone.
@@ -24,28 +23,31 @@ fn goal_at(x: u32, y: u32) -> Goal
     }
 }
 
-/// Asserts that this is the text of a report.
-fn assert_text(rt: &impl Abort, report: Vec<u8>, want: &str) -> Result<(), Fail> {
-    let text = String::from_utf8(report)?;
-    assert_eq!(rt; text.as_str(), want);
-    Ok(())
+/// Asserts that these are the bytes of a report's text. The report ends here.
+fn assert_text<R: Abort>(rt: &R, report: Vec<u8>, want: &str) {
+    assert!(rt; report.as_slice() == want.as_bytes(), "in place of {want}");
+    drop(report);
 }
 
-/// Settles a run, and asserts its full report, its short one, and its summary.
-fn assert_reports(
-    rt: &impl Abort,
+/// Settles a run, and asserts its full report, its short one, and its summary. The run ends here.
+fn assert_reports<R: Abort>(
+    rt: &R,
     alloc: Global,
-    grown: &mut Grown,
-    [full, short, brief]: [&str; 3],
-) -> Result<(), Fail> {
-    settle(alloc, grown)?;
-    assert_text(rt, report(alloc, grown, true)?, full)?;
-    assert_text(rt, report(alloc, grown, false)?, short)?;
-    assert_text(rt, summary(alloc, grown)?, brief)
+    grown: Grown,
+    full: &str,
+    short: &str,
+    brief: &str,
+) {
+    let mut grown = grown;
+    settle_run(rt, alloc, &mut grown);
+    assert_text(rt, sure(rt, report(alloc, &grown, true)), full);
+    assert_text(rt, sure(rt, report(alloc, &grown, false)), short);
+    assert_text(rt, sure(rt, summary(alloc, &grown)), brief);
+    drop(grown);
 }
 
 #[test]
-fn reports_the_path_and_each_node_and_mark(rt: HostRuntime) -> Result<(), Fail> {
+fn reports_the_path_and_each_node_and_mark(rt: HostRuntime) {
     let full = "path 3 cost 25344\n0 0\n40 30\n40 79\nnodes 4 placed 3 same 0 blocked 0\n\
                 node 0 at 0 0 parent 0 cost 0\nnode 1 at 0 50 parent 0 cost 12800\n\
                 node 2 at 40 79 parent 3 cost 25344\nnode 3 at 40 30 parent 0 cost 12800\n\
@@ -54,25 +56,25 @@ fn reports_the_path_and_each_node_and_mark(rt: HostRuntime) -> Result<(), Fail> 
                 mark 2 worker 0 turn 2 nearest 1 placed class 2 first 1 24249\n";
     let short = "path 3 cost 25344\n0 0\n40 30\n40 79\nnodes 4 placed 3 same 0 blocked 0\n";
     let brief = "path 3 cost 25344\nnodes 4 placed 3 same 0 blocked 0\n";
-    let mut grown = unsettled_run(rt.alloc(), goal_at(40, 79))?;
-    assert_reports(&rt, rt.alloc(), &mut grown, [full, short, brief])
+    let grown = unsettled_run(&rt, rt.alloc(), goal_at(40, 79));
+    assert_reports(&rt, rt.alloc(), grown, full, short, brief);
 }
 
 #[test]
-fn reports_the_start_alone_as_a_path(rt: HostRuntime) -> Result<(), Fail> {
+fn reports_the_start_alone_as_a_path(rt: HostRuntime) {
     let full = "path 1 cost 0\n0 0\nnodes 1 placed 0 same 0 blocked 0\n\
                 node 0 at 0 0 parent 0 cost 0\n";
     let short = "path 1 cost 0\n0 0\nnodes 1 placed 0 same 0 blocked 0\n";
     let brief = "path 1 cost 0\nnodes 1 placed 0 same 0 blocked 0\n";
-    let mut grown = start_alone(rt.alloc(), goal_at(0, 0))?;
-    assert_reports(&rt, rt.alloc(), &mut grown, [full, short, brief])
+    let grown = start_alone(&rt, rt.alloc(), goal_at(0, 0));
+    assert_reports(&rt, rt.alloc(), grown, full, short, brief);
 }
 
 #[test]
-fn reports_no_path_from_a_start_beside_the_goal(rt: HostRuntime) -> Result<(), Fail> {
+fn reports_no_path_from_a_start_beside_the_goal(rt: HostRuntime) {
     let full = "no path\nnodes 1 placed 0 same 0 blocked 0\n\
                 node 0 at 0 0 parent 0 cost 0\n";
     let short = "no path\nnodes 1 placed 0 same 0 blocked 0\n";
-    let mut grown = start_alone(rt.alloc(), goal_at(0, 1))?;
-    assert_reports(&rt, rt.alloc(), &mut grown, [full, short, short])
+    let grown = start_alone(&rt, rt.alloc(), goal_at(0, 1));
+    assert_reports(&rt, rt.alloc(), grown, full, short, short);
 }

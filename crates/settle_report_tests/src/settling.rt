@@ -1,10 +1,8 @@
 //! Parents and kept costs before a run is settled, and then.
 
-use crate::test_runs::{start_alone, unsettled_run};
+use crate::test_runs::{settle_run, start_alone, unsettled_run};
 use plan_model::{Goal, Point};
-use settle_report::settle;
 use std::process::Abort;
-use std::test::Fail;
 use step_core::Grown;
 
 const GOAL: Goal = Goal {
@@ -18,15 +16,20 @@ fn kept(grown: &Grown, node: u32) -> Option<(u32, u64)> {
     Some((grown.parent(node), grown.cost(node)))
 }
 
+/// Asserts the parent and the kept cost of a node; `None` if it is absent.
+fn assert_kept_at<R: Abort>(rt: &R, grown: &Grown, node: u32, want: &Option<(u32, u64)>) {
+    assert!(rt; kept(grown, node) == *want, "node {node}");
+}
+
 /// Asserts the parents and the kept costs of a run's nodes, by number.
-fn assert_kept(rt: &impl Abort, grown: &Grown, wants: &[Option<(u32, u64)>]) {
+fn assert_kept<R: Abort>(rt: &R, grown: &Grown, wants: &[Option<(u32, u64)>]) {
     for (node, want) in (0..).zip(wants) {
-        assert_eq!(rt; kept(grown, node), *want, "node {node}");
+        assert_kept_at(rt, grown, node, want);
     }
 }
 
 /// What the run of three marks keeps before it is settled, and then.
-const UNSETTLED: [Option<(u32, u64)>; 5] = [
+static UNSETTLED: [Option<(u32, u64)>; 5] = [
     Some((0, 0)),
     Some((0, 12_800)),
     Some((3, 25_449)),
@@ -34,7 +37,7 @@ const UNSETTLED: [Option<(u32, u64)>; 5] = [
     None,
 ];
 
-const SETTLED: [Option<(u32, u64)>; 5] = [
+static SETTLED: [Option<(u32, u64)>; 5] = [
     Some((0, 0)),
     Some((0, 12_800)),
     Some((3, 25_344)),
@@ -42,31 +45,33 @@ const SETTLED: [Option<(u32, u64)>; 5] = [
     None,
 ];
 
+/// Asserts what the run of three marks is once it is settled. The run ends here.
+fn assert_settled<R: Abort>(rt: &R, grown: Grown) {
+    assert_kept(rt, &grown, &SETTLED);
+    assert!(rt; grown.limit() == 3 && grown.count() == 4);
+    drop(grown);
+}
+
 #[test]
-fn lowers_each_node_after_its_parent(rt: HostRuntime) -> Result<(), Fail> {
-    let mut grown = unsettled_run(rt.alloc(), GOAL)?;
+fn lowers_each_node_after_its_parent(rt: HostRuntime) {
+    let mut grown = unsettled_run(&rt, rt.alloc(), GOAL);
     assert_kept(&rt, &grown, &UNSETTLED);
-    settle(rt.alloc(), &mut grown)?;
-    assert_kept(&rt, &grown, &SETTLED);
-    assert_eq!(rt; (grown.limit(), grown.count()), (3, 4));
-    Ok(())
+    settle_run(&rt, rt.alloc(), &mut grown);
+    assert_settled(&rt, grown);
 }
 
 #[test]
-fn changes_nothing_the_second_time(rt: HostRuntime) -> Result<(), Fail> {
-    let mut grown = unsettled_run(rt.alloc(), GOAL)?;
-    for _pass in 0..2 {
-        settle(rt.alloc(), &mut grown)?;
-    }
-    assert_kept(&rt, &grown, &SETTLED);
-    assert_eq!(rt; (grown.limit(), grown.count()), (3, 4));
-    Ok(())
+fn changes_nothing_the_second_time(rt: HostRuntime) {
+    let mut grown = unsettled_run(&rt, rt.alloc(), GOAL);
+    settle_run(&rt, rt.alloc(), &mut grown);
+    settle_run(&rt, rt.alloc(), &mut grown);
+    assert_settled(&rt, grown);
 }
 
 #[test]
-fn leaves_the_start_alone(rt: HostRuntime) -> Result<(), Fail> {
-    let mut grown = start_alone(rt.alloc(), GOAL)?;
-    settle(rt.alloc(), &mut grown)?;
+fn leaves_the_start_alone(rt: HostRuntime) {
+    let mut grown = start_alone(&rt, rt.alloc(), GOAL);
+    settle_run(&rt, rt.alloc(), &mut grown);
     assert_kept(&rt, &grown, &[Some((0, 0)), None]);
-    Ok(())
+    drop(grown);
 }

@@ -1,64 +1,53 @@
 //! A run for tests, in which two nodes are kept at more than their costs-to-come.
+//! Runs and lists end by calls of `drop`: the proof of a call is shared, and that of the end of a scope is each function's own.
 
-ghost use Rattle.std.specs.Prelude.{◌≡◌, IfOk, IsTrue, Some};
+ghost use Rattle.std.specs.Prelude.{◌≡◌, ◌∷◌, [], IfOk, IsTrue, Ok, Some, length};
 ghost use Rattle.plan_model.specs.Clearance.{ClearAt};
+ghost use Rattle.plan_model.specs.ClosedLaw.{IsClosed};
 ghost use Rattle.plan_model.specs.ConfigurationSpace.{space_of};
 ghost use Rattle.plan_model.specs.EmptyRooms.{empty_room};
 ghost use Rattle.plan_model.specs.Limits.{IsGoal, is_plan};
 ghost use Rattle.plan_model.specs.Textbook.{placed_record, setup_of};
+ghost use Rattle.plan_model.specs.TreeStates.{IsSettled};
 ghost use Rattle.plan_model.specs.Vectors.Shapes.{at};
 ghost use Rattle.plan_model.specs.declared.scenes.Marks.TheVariants.{Listed};
+ghost use Rattle.step_core.specs.GrownRuns.{state_of_grown};
+ghost use Rattle.step_core.specs.PackedRuns.{state_of_lists};
 
-use plan_model::{Goal, Knot, Memory, Outcome, Point, Record, Sequence, SmallScene, Task};
+use plan_model::{
+    Goal, Knot, Knots, Memory, Outcome, Point, Record, Records, Sequence, SmallScene, Task,
+};
+use settle_report::settle;
 use std::alloc::Global;
+use std::process::Abort;
 use step_core::Grown;
 
-/// A run of three marks. Nodes 1 at (0, 50) and 3 at (40, 30) have the start as their parent, at (0, 0), and node 2 at
-/// (40, 79) has node 3.
-///
-/// Node 3 is kept at 12,900 and node 2 at 25,449, but the start is 12,800 from node 3, and that is 12,544 from node 2.
-pub(crate) fn unsettled_run(alloc: Global, goal: Goal) -> Result<Grown, Memory>
-    requires { IsGoal goal }
+/// What was made, for which memory lasts. A test ends here if none is left, so that no value is dropped on the way.
+pub(crate) fn sure<R: Abort, T>(rt: &R, made: Result<T, Memory>) -> T
+    ensures { made ≡ Ok result }
 {
-    let marks = [
-        Point { x: 0, y: 50 },
-        Point { x: 40, y: 79 },
-        Point { x: 40, y: 30 },
-    ];
-    let knots = [
-        node(0, 0, 0, 0),
-        node(0, 50, 0, 12_800),
-        node(40, 79, 3, 25_449),
-        node(40, 30, 0, 12_900),
-    ];
-    let records = [
-        placed(0, 0, 0, 12_800, 1),
-        placed(1, 1, 1, 25_449, 2),
-        placed(2, 1, 1, 24_249, 2),
-    ];
-    let task = task_of(alloc, goal, &marks)?;
-    let knots = Sequence::from_vec(Vec::from_slice(alloc, &knots)?);
-    let records = Sequence::from_vec(Vec::from_slice(alloc, &records)?);
-    Grown::pack(alloc, task, &knots, &records)
+    match made {
+        Ok(value) => value,
+        Err(error) => panic!(rt; "{error}"),
+    }
 }
 
-/// The run of the same task that has handled no mark.
-pub(crate) fn start_alone(alloc: Global, goal: Goal) -> Result<Grown, Memory>
-    requires { IsGoal goal }
+/// Settles a run.
+pub(crate) fn settle_run<R: Abort>(rt: &R, alloc: Global, grown: &mut Grown)
+    ensures { IsSettled (state_of_grown grown.new) }
 {
-    let task = task_of(alloc, goal, &[Point { x: 0, y: 50 }])?;
-    Grown::new(alloc, task)
+    sure(rt, settle(alloc, grown));
 }
 
 /// The task of these marks for a point body in an empty room, from (0, 0) by steps of 50; nothing is rewired.
-fn task_of(alloc: Global, goal: Goal, marks: &[Point]) -> Result<Task, Memory>
+fn task_of<R: Abort>(rt: &R, alloc: Global, goal: Goal, marks: &[Point]) -> Task
     requires goal { IsGoal goal }
     requires marks { IsTrue (is_plan (Listed marks.now)) }
-    ensures setup { IfOk result (λ task. setup_of task.scene ≡ record { space = empty_room (at 100 100); start = at 0 0; step = 50; gamma = 0 }) }
-    ensures marks { IfOk result (λ task. task.marks ≡ marks.now) }
-    ensures clear { IfOk result (λ task. ClearAt (space_of task.scene) task.scene.start) }
+    ensures setup { setup_of result.scene ≡ record { space = empty_room (at 100 100); start = at 0 0; step = 50; gamma = 0 } }
+    ensures marks { result.marks ≡ marks.now }
+    ensures clear { ClearAt (space_of result.scene) result.scene.start }
 {
-    SmallScene {
+    let small = SmallScene {
         room: Point { x: 100, y: 100 },
         start: Point { x: 0, y: 0 },
         goal,
@@ -66,8 +55,40 @@ fn task_of(alloc: Global, goal: Goal, marks: &[Point]) -> Result<Task, Memory>
         gamma: 0,
         seed: 0,
         strips: 3,
-    }
-    .task(alloc, marks)
+    };
+    sure(rt, small.task(alloc, marks))
+}
+
+/// A list of these nodes.
+fn knots_of(alloc: Global, knots: &[Option<Knot>]) -> Result<Knots, Memory>
+    ensures { IfOk result (λ list. list ≡ knots.now) }
+{
+    Ok(Sequence::from_vec(Vec::from_slice(alloc, knots)?))
+}
+
+/// A list of these records.
+fn records_of(alloc: Global, records: &[Record]) -> Result<Records, Memory>
+    ensures { IfOk result (λ list. list ≡ records.now) }
+{
+    Ok(Sequence::from_vec(Vec::from_slice(alloc, records)?))
+}
+
+/// The run of a task with these nodes and these records.
+fn packed<R: Abort>(
+    rt: &R,
+    alloc: Global,
+    task: Task,
+    knots: &[Option<Knot>],
+    records: &[Record],
+) -> Grown
+    requires { IsClosed (setup_of task.scene) task.marks (length records.now) (state_of_lists knots.now records.now) }
+{
+    let knots = sure(rt, knots_of(alloc, knots));
+    let records = sure(rt, records_of(alloc, records));
+    let grown = sure(rt, Grown::pack(alloc, task, &knots, &records));
+    drop(knots);
+    drop(records);
+    grown
 }
 
 /// A node with its kept cost.
@@ -94,4 +115,55 @@ fn placed(turn: u32, nearest: u32, first_parent: u32, first_cost: u64, class: u3
         first_cost,
         class,
     }
+}
+
+/// The nodes of the run of three marks.
+fn unsettled_knots() -> [Option<Knot>; 4]
+    ensures { result
+        ≡ Some (record { point = at 0 0; parent = 0; cost = 0 })
+        ∷ Some (record { point = at 0 50; parent = 0; cost = 12800 })
+        ∷ Some (record { point = at 40 79; parent = 3; cost = 25449 })
+        ∷ Some (record { point = at 40 30; parent = 0; cost = 12900 }) ∷ [] }
+{
+    [
+        node(0, 0, 0, 0),
+        node(0, 50, 0, 12_800),
+        node(40, 79, 3, 25_449),
+        node(40, 30, 0, 12_900),
+    ]
+}
+
+/// Its records.
+fn unsettled_records() -> [Record; 3]
+    ensures { result ≡ placed_record 0 0 0 12800 1 ∷ placed_record 1 1 1 25449 2 ∷ placed_record 2 1 1 24249 2 ∷ [] }
+{
+    [
+        placed(0, 0, 0, 12_800, 1),
+        placed(1, 1, 1, 25_449, 2),
+        placed(2, 1, 1, 24_249, 2),
+    ]
+}
+
+/// A run of three marks. Nodes 1 at (0, 50) and 3 at (40, 30) have the start as their parent, at (0, 0), and node 2 at
+/// (40, 79) has node 3.
+///
+/// Node 3 is kept at 12,900 and node 2 at 25,449, but the start is 12,800 from node 3, and that is 12,544 from node 2.
+pub(crate) fn unsettled_run<R: Abort>(rt: &R, alloc: Global, goal: Goal) -> Grown
+    requires { IsGoal goal }
+{
+    let marks = [
+        Point { x: 0, y: 50 },
+        Point { x: 40, y: 79 },
+        Point { x: 40, y: 30 },
+    ];
+    let task = task_of(rt, alloc, goal, &marks);
+    packed(rt, alloc, task, &unsettled_knots(), &unsettled_records())
+}
+
+/// A run of one mark in the same room that has handled none.
+pub(crate) fn start_alone<R: Abort>(rt: &R, alloc: Global, goal: Goal) -> Grown
+    requires { IsGoal goal }
+{
+    let task = task_of(rt, alloc, goal, &[Point { x: 0, y: 50 }]);
+    sure(rt, Grown::new(alloc, task))
 }

@@ -18,15 +18,16 @@ const ENTRY: Record = Record {
 };
 
 /// Asserts the word of a record.
-fn assert_packed(rt: &impl Abort, entry: Record, word: u64)
+fn assert_packed<R: Abort>(rt: &R, entry: Record, want: u64)
     requires { FitsWord entry }
 {
-    assert_eq!(rt; pack_mark(&entry), word);
+    let word = pack_mark(&entry);
+    assert!(rt; word == want, "word {word}");
 }
 
 /// Asserts the record that is read from a word and the first word of its node.
-fn assert_read(rt: &impl Abort, word: u64, first: u64, want: Option<Record>) {
-    assert_eq!(rt; read_mark(word, first), want);
+fn assert_read<R: Abort>(rt: &R, word: u64, first: u64, want: Option<Record>) {
+    assert!(rt; read_mark(word, first) == want, "word {word}");
 }
 
 #[test]

@@ -4,11 +4,12 @@ ghost use Rattle.std.specs.Prelude.{◌≡◌, ◌↔◌, ◌<◌, IsTrue};
 ghost use Rattle.plan_model.specs.Bounds.{IsBounded};
 ghost use Rattle.swept_check.specs.Crossings.{Crosses};
 
+use crate::memory::sure;
 use convex_sets::Zone;
-use plan_model::{Point, Sequence, Vertex};
+use plan_model::{Memory, Point, Sequence, Vertex};
+use std::alloc::Global;
 use std::marker::Brand;
 use std::sync::ledger::{Blank, Ledger};
-use std::test::Fail;
 use swept_check::{Steps, crosses};
 
 /// Whether the segment crosses the zone, from either end.
@@ -26,19 +27,30 @@ fn is_crossed<L: Ledger>(zone: &Zone, a: Point, b: Point, blank: Blank) -> bool
     there && back
 }
 
+static POINT: [Vertex; 1] = [Vertex { x: 0, y: 0 }];
+
+static SQUARE: [Vertex; 4] = [
+    Vertex { x: 8, y: 8 },
+    Vertex { x: 12, y: 8 },
+    Vertex { x: 12, y: 12 },
+    Vertex { x: 8, y: 12 },
+];
+
+/// The zone of a point body and a square.
+fn zone_of_square(alloc: Global) -> Result<Zone, Memory> {
+    let body = Sequence::from_vec(Vec::from_slice(alloc, &POINT)?);
+    let obstacle = Sequence::from_vec(Vec::from_slice(alloc, &SQUARE)?);
+    let zone = Zone::sum(alloc, &body, &obstacle);
+    drop(body);
+    drop(obstacle);
+    zone
+}
+
 #[test]
-fn a_point_body_crosses_the_edge_of_a_square(rt: HostRuntime) -> Result<(), Fail> {
-    let body = Sequence::from_vec(vec![in rt.alloc(); Vertex { x: 0, y: 0 }]?);
-    let square = [
-        Vertex { x: 8, y: 8 },
-        Vertex { x: 12, y: 8 },
-        Vertex { x: 12, y: 12 },
-        Vertex { x: 8, y: 12 },
-    ];
-    let obstacle = Sequence::from_vec(Vec::from_slice(rt.alloc(), &square)?);
-    let zone = Zone::sum(rt.alloc(), &body, &obstacle)?;
+fn a_point_body_crosses_the_edge_of_a_square(rt: HostRuntime) {
+    let zone = sure(&rt, zone_of_square(rt.alloc()));
     let a = Point { x: 6, y: 10 };
     assert!(rt; is_crossed::<Brand>(&zone, a, Point { x: 10, y: 14 }, Blank::new(1)));
     assert!(rt; !is_crossed::<Brand>(&zone, a, Point { x: 9, y: 15 }, Blank::new(1)));
-    Ok(())
+    drop(zone);
 }

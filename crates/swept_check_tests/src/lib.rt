@@ -3,4 +3,7 @@
 
 #[cfg(test)]
 mod exact_tests;
+#[cfg(test)]
 mod hall;
+#[cfg(test)]
+mod memory;

@@ -1,36 +1,34 @@
 //! A mark whose node becomes the parent of a near one.
 
-ghost use Rattle.std.specs.Prelude.{◌≡◌, ◌≤◌, IfOk, IfSome, length};
+ghost use Rattle.std.specs.Prelude.{◌≡◌, ◌≤◌, IfSome, length};
 ghost use Rattle.plan_model.specs.ConfigurationSpace.{space_of};
 ghost use Rattle.plan_words.specs.States.{MayClaim};
 ghost use Rattle.step_core.specs.declared.views.Stage.TheVariants.{Claimed, Pointed, Treed};
 ghost use Rattle.tree_rewire_tests.specs.HeldMarks.{HasNearInReach, HoldsMark, IfPlaced, IsAtWork, MayRewire};
 
 use crate::lowering::expect_pair;
-use crate::runs::{FAR, last_pass, marks_in_square, passes_after};
+use crate::runs::{Begun, FAR, begun_after, marks_in_square};
 use edge_cost::{Radii, steer};
 use kd_shared::{Placing, near, nearest, place};
-use plan_model::{Memory, Point};
+use plan_model::Point;
 use plan_words::{Pass, Shared};
 use std::alloc::Global;
 use std::process::Abort;
-use std::test::Fail;
 use std::thread::Threads;
 use swept_check::{Clearing, Hall};
 use tree_rewire::{choose, rewire};
 
+static MARKS: [Point; 3] = [Point { x: 0, y: 50 }, FAR, Point { x: 40, y: 30 }];
+
 /// A pass that goes on from two placed marks to the third.
-fn pass_after_two<R: Threads + Sync>(rt: &R, alloc: Global) -> Result<(Shared, Hall, Pass), Fail>
-    ensures opening { IfOk result (λ begun. begun.0.opening ≡ 2) }
-    ensures marks { IfOk result (λ begun. length begun.0.task.marks ≡ 3) }
-    ensures hall { IfOk result (λ begun. begun.1 ≡ space_of begun.0.task.scene) }
-    ensures may_claim { IfOk result (λ begun. MayClaim begun.0 begun.2) }
+fn begun_after_two<R: Threads + Sync + Abort>(rt: &R, alloc: Global) -> Begun
+    ensures opening { result.shared.opening ≡ 2 }
+    ensures marks { length result.shared.task.marks ≡ 3 }
+    ensures hall { result.hall ≡ space_of result.shared.task.scene }
+    ensures may_claim { MayClaim result.shared result.pass }
 {
-    let marks = [Point { x: 0, y: 50 }, FAR, Point { x: 40, y: 30 }];
-    let task = marks_in_square(alloc, 100, 50, 1000, &marks)?;
-    let (shared, hall, mut passes) = passes_after(rt, alloc, task, 2, 1)?;
-    let pass = last_pass(&shared, &mut passes).ok_or(Memory)?;
-    Ok((shared, hall, pass))
+    let task = marks_in_square(rt, alloc, 100, 50, 1000, &MARKS);
+    begun_after(rt, alloc, task, 2)
 }
 
 /// Claims the third mark.
@@ -173,12 +171,22 @@ fn rewire_third<R: Abort>(
     rewire(shared, pass, hall, mark);
 }
 
+/// Handles the third mark, below whose node that of the second then hangs.
+fn expect_rewired<R: Abort>(rt: &R, shared: &Shared, hall: &Hall, pass: &mut Pass)
+    requires may_claim { MayClaim shared.now pass.old }
+    requires opening { shared.now.opening ≡ 2 }
+    requires marks { length shared.now.task.marks ≡ 3 }
+    requires hall { hall.now ≡ space_of shared.now.task.scene }
+{
+    let (mark, closest) = begin_third(rt, shared, pass);
+    hang_third(rt, shared, hall, pass, mark, closest);
+    rewire_third(rt, shared, hall, pass, mark, closest);
+    expect_pair(rt, shared, pass, FAR, (3, 25_344));
+}
+
 #[test]
-fn a_near_node_is_rewired_below_a_new_one(rt: HostRuntime) -> Result<(), Fail> {
-    let (shared, hall, mut pass) = pass_after_two(&rt, rt.alloc())?;
-    let (mark, closest) = begin_third(&rt, &shared, &mut pass);
-    hang_third(&rt, &shared, &hall, &mut pass, mark, closest);
-    rewire_third(&rt, &shared, &hall, &mut pass, mark, closest);
-    expect_pair(&rt, &shared, &mut pass, FAR, (3, 25_344));
-    Ok(())
+fn a_near_node_is_rewired_below_a_new_one(rt: HostRuntime) {
+    let mut begun = begun_after_two(&rt, rt.alloc());
+    expect_rewired(&rt, &begun.shared, &begun.hall, &mut begun.pass);
+    drop(begun);
 }

@@ -1,6 +1,6 @@
 //! Passes that go on from a run, and looks at what they see.
 
-ghost use Rattle.std.specs.Prelude.{◌≡◌, ◌≤◌, All, IfOk, IfSome, IsTrue, length};
+ghost use Rattle.std.specs.Prelude.{◌≡◌, ◌≤◌, All, IfSome, IsTrue, Ok, Some, length};
 ghost use Rattle.plan_model.specs.Clearance.{ClearAt};
 ghost use Rattle.plan_model.specs.ConfigurationSpace.{space_of};
 ghost use Rattle.plan_model.specs.Limits.{is_plan};
@@ -12,7 +12,7 @@ use plan_model::{Goal, Memory, Point, SmallScene, Task};
 use plan_words::{Pass, Shared};
 use plan_work::{NoGate, grow};
 use std::alloc::Global;
-use std::test::Fail;
+use std::process::Abort;
 use std::thread::Threads;
 use step_core::Grown;
 use swept_check::Hall;
@@ -22,24 +22,45 @@ pub(crate) const START: Point = Point { x: 0, y: 0 };
 /// A node at the end of its way, which is the goal of all scenes.
 pub(crate) const FAR: Point = Point { x: 40, y: 79 };
 
+/// What was made, for which memory lasts. A test ends here if none is left, so that no value is dropped on the way.
+pub(crate) fn sure<R: Abort, T>(rt: &R, made: Result<T, Memory>) -> T
+    ensures { made ≡ Ok result }
+{
+    match made {
+        Ok(value) => value,
+        Err(error) => panic!(rt; "{error}"),
+    }
+}
+
+/// What was found, for which there is something.
+pub(crate) fn some<R: Abort, T>(rt: &R, found: Option<T>) -> T
+    ensures { found ≡ Some result }
+{
+    match found {
+        Some(value) => value,
+        None => panic!(rt; "there is none"),
+    }
+}
+
 /// These marks in a square room, from its corner, in one strip.
-pub(crate) fn marks_in_square(
+pub(crate) fn marks_in_square<R: Abort>(
+    rt: &R,
     alloc: Global,
     side: u32,
     step: u32,
     gamma: u32,
     marks: &[Point],
-) -> Result<Task, Memory>
+) -> Task
     requires side { 100 ≤ side }
     requires small { side ≤ 300 }
     requires step { 50 ≤ step }
     requires short { step ≤ 150 }
     requires gamma { gamma ≤ 1000 }
     requires plan { IsTrue (is_plan (Listed marks.now)) }
-    ensures marks { IfOk result (λ task. task.marks ≡ marks.now) }
-    ensures clear { IfOk result (λ task. ClearAt (space_of task.scene) task.scene.start) }
+    ensures marks { result.marks ≡ marks.now }
+    ensures clear { ClearAt (space_of result.scene) result.scene.start }
 {
-    SmallScene {
+    let small = SmallScene {
         room: Point { x: side, y: side },
         start: START,
         goal: Goal {
@@ -50,35 +71,44 @@ pub(crate) fn marks_in_square(
         gamma,
         seed: 0,
         strips: 1,
-    }
-    .task(alloc, marks)
+    };
+    sure(rt, small.task(alloc, marks))
 }
 
-/// A shared tree, the collision checker of its room, and its passes.
-pub(crate) type Begun = (Shared, Hall, Vec<Pass>);
+/// The run of one worker, which has handled the marks below a limit, and the collision checker of its room.
+fn run_to<R: Threads + Sync + Abort>(rt: &R, alloc: Global, task: Task, limit: u32) -> (Grown, Hall)
+    requires clear { ClearAt (space_of task.scene) task.scene.start }
+    requires limit { limit ≤ length task.marks }
+    ensures limit { result.0.limit ≡ limit }
+    ensures task { result.0.task ≡ task }
+    ensures hall { result.1 ≡ space_of task.scene }
+{
+    let hall = sure(rt, Hall::new(alloc, &task.scene));
+    let fresh = sure(rt, Grown::new(alloc, task));
+    let grown = sure(rt, grow(rt, alloc, fresh, &hall, 1, limit, &NoGate));
+    (grown, hall)
+}
 
-/// So many passes that go on from a run of one worker, which has handled the marks below a limit.
-pub(crate) fn passes_after<R: Threads + Sync>(
+/// A shared tree that goes on from such a run, the collision checker of its room, and so many passes.
+pub(crate) fn passes_after<R: Threads + Sync + Abort>(
     rt: &R,
     alloc: Global,
     task: Task,
     limit: u32,
     workers: u32,
-) -> Result<Begun, Fail>
+) -> (Shared, Hall, Vec<Pass>)
     requires clear { ClearAt (space_of task.scene) task.scene.start }
     requires limit { limit ≤ length task.marks }
     requires some { 1 ≤ workers }
     requires few { workers ≤ MOST_WORKERS }
-    ensures opening { IfOk result (λ begun. begun.0.opening ≡ limit) }
-    ensures task { IfOk result (λ begun. begun.0.task ≡ task) }
-    ensures hall { IfOk result (λ begun. begun.1 ≡ space_of begun.0.task.scene) }
-    ensures may_claim { IfOk result (λ begun. All (MayClaim begun.0) begun.2.items) }
+    ensures opening { result.0.opening ≡ limit }
+    ensures task { result.0.task ≡ task }
+    ensures hall { result.1 ≡ space_of result.0.task.scene }
+    ensures may_claim { All (MayClaim result.0) result.2.items }
 {
-    let hall = Hall::new(alloc, &task.scene)?;
-    let fresh = Grown::new(alloc, task)?;
-    let grown = grow(rt, alloc, fresh, &hall, 1, limit, &NoGate)?;
-    let (shared, passes) = Shared::start(alloc, grown, workers)?;
-    Ok((shared, hall, passes))
+    let (grown, hall) = run_to(rt, alloc, task, limit);
+    let (shared, passes) = sure(rt, Shared::start(alloc, grown, workers));
+    (shared, hall, passes)
 }
 
 /// The last pass of the list.
@@ -88,4 +118,41 @@ pub(crate) fn last_pass(shared: &Shared, passes: &mut Vec<Pass>) -> Option<Pass>
     ensures last { IfSome result (MayClaim shared.now) }
 {
     passes.pop()
+}
+
+/// The last pass of a list that is let go.
+fn only_pass<R: Abort>(rt: &R, shared: &Shared, passes: Vec<Pass>) -> Pass
+    requires { All (MayClaim shared.now) passes.items }
+    ensures { MayClaim shared.now result }
+{
+    let mut passes = passes;
+    some(rt, last_pass(shared, &mut passes))
+}
+
+/// A shared tree that has begun, the collision checker of its room, and its only pass. Tests let it go by `drop`, so that what its
+/// fields let go is no part of their own proofs.
+#[derive(Drop)]
+pub(crate) struct Begun {
+    pub(crate) shared: Shared,
+    pub(crate) hall: Hall,
+    pub(crate) pass: Pass,
+}
+
+/// One pass that goes on from such a run.
+pub(crate) fn begun_after<R: Threads + Sync + Abort>(
+    rt: &R,
+    alloc: Global,
+    task: Task,
+    limit: u32,
+) -> Begun
+    requires clear { ClearAt (space_of task.scene) task.scene.start }
+    requires limit { limit ≤ length task.marks }
+    ensures opening { result.shared.opening ≡ limit }
+    ensures task { result.shared.task ≡ task }
+    ensures hall { result.hall ≡ space_of result.shared.task.scene }
+    ensures may_claim { MayClaim result.shared result.pass }
+{
+    let (shared, hall, passes) = passes_after(rt, alloc, task, limit, 1);
+    let pass = only_pass(rt, &shared, passes);
+    Begun { shared, hall, pass }
 }

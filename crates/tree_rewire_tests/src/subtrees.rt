@@ -1,29 +1,20 @@
 //! A node that is lowered, and what hangs below it.
 
-ghost use Rattle.std.specs.Prelude.{◌≡◌, IfOk, IsTrue};
+ghost use Rattle.std.specs.Prelude.{◌≡◌};
 ghost use Rattle.plan_model.specs.ConfigurationSpace.{space_of};
-ghost use Rattle.plan_model.specs.Limits.{is_plan};
-ghost use Rattle.plan_model.specs.declared.scenes.Marks.TheVariants.{Listed};
 ghost use Rattle.tree_rewire_tests.specs.HeldMarks.{IsAtWork};
 
 use crate::lowering::{expect_pairs, lower_and_spread};
-use crate::runs::{START, last_pass, marks_in_square, passes_after};
-use plan_model::{Memory, Point};
+use crate::runs::{Begun, START, begun_after, marks_in_square};
+use plan_model::Point;
 use plan_words::{Pass, Shared};
 use std::alloc::Global;
 use std::process::Abort;
-use std::test::Fail;
 use std::thread::Threads;
 use swept_check::Hall;
 
 /// A node that comes round to near the start.
 const CLOSE: Point = Point { x: 0, y: 40 };
-
-fn at(x: u32, y: u32) -> Point
-    ensures { result ≡ record { x = x; y = y } }
-{
-    Point { x, y }
-}
 
 /// Nodes in a chain that goes round and comes back, and four below it.
 ///
@@ -36,32 +27,26 @@ fn at(x: u32, y: u32) -> Point
 ///       0   0   1   2
 ///           0  20  40
 /// ```
-fn round() -> [Point; 10]
-    ensures { IsTrue (is_plan (Listed result)) }
-{
-    [
-        at(20, 0),
-        at(40, 0),
-        at(40, 20),
-        at(40, 40),
-        at(20, 40),
-        CLOSE,
-        at(0, 60),
-        at(0, 80),
-        at(20, 80),
-        at(0, 100),
-    ]
-}
+static ROUND: [Point; 10] = [
+    Point { x: 20, y: 0 },
+    Point { x: 40, y: 0 },
+    Point { x: 40, y: 20 },
+    Point { x: 40, y: 40 },
+    Point { x: 20, y: 40 },
+    CLOSE,
+    Point { x: 0, y: 60 },
+    Point { x: 0, y: 80 },
+    Point { x: 20, y: 80 },
+    Point { x: 0, y: 100 },
+];
 
 /// A pass over a tree of these nodes, each of which hangs below the one that was nearest.
-fn pass_round<R: Threads + Sync>(rt: &R, alloc: Global) -> Result<(Shared, Hall, Pass), Fail>
-    ensures hall { IfOk result (λ begun. begun.1 ≡ space_of begun.0.task.scene) }
-    ensures works { IfOk result (λ begun. IsAtWork begun.0 begun.2) }
+fn begun_round<R: Threads + Sync + Abort>(rt: &R, alloc: Global) -> Begun
+    ensures hall { result.hall ≡ space_of result.shared.task.scene }
+    ensures works { IsAtWork result.shared result.pass }
 {
-    let task = marks_in_square(alloc, 100, 50, 0, &round())?;
-    let (shared, hall, mut passes) = passes_after(rt, alloc, task, 10, 1)?;
-    let pass = last_pass(&shared, &mut passes).ok_or(Memory)?;
-    Ok((shared, hall, pass))
+    let task = marks_in_square(rt, alloc, 100, 50, 0, &ROUND);
+    begun_after(rt, alloc, task, 10)
 }
 
 /// The lowered node and those below it, before that and after it.
@@ -81,12 +66,20 @@ static LOWERED: [(Point, (u32, u64)); 5] = [
     (Point { x: 0, y: 100 }, (8, 25_600)),
 ];
 
-#[test]
-fn a_lowered_cost_comes_to_the_subtree(rt: HostRuntime) -> Result<(), Fail> {
-    let (shared, hall, mut pass) = pass_round(&rt, rt.alloc())?;
-    expect_pairs(&rt, &shared, &mut pass, &HUNG);
-    let lowered = lower_and_spread(&shared, &hall, &mut pass, CLOSE, START);
+/// Compares the node that comes round and those below it, lowers it below the start, and compares them again.
+fn expect_lowered<R: Abort>(rt: &R, shared: &Shared, hall: &Hall, pass: &mut Pass)
+    requires works { IsAtWork shared.now pass.old }
+    requires hall { hall.now ≡ space_of shared.now.task.scene }
+{
+    expect_pairs(rt, shared, pass, &HUNG);
+    let lowered = lower_and_spread(shared, hall, pass, CLOSE, START);
     assert!(rt; lowered);
-    expect_pairs(&rt, &shared, &mut pass, &LOWERED);
-    Ok(())
+    expect_pairs(rt, shared, pass, &LOWERED);
+}
+
+#[test]
+fn a_lowered_cost_comes_to_the_subtree(rt: HostRuntime) {
+    let mut begun = begun_round(&rt, rt.alloc());
+    expect_lowered(&rt, &begun.shared, &begun.hall, &mut begun.pass);
+    drop(begun);
 }

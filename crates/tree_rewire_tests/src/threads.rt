@@ -6,12 +6,11 @@ ghost use Rattle.plan_model.specs.ConfigurationSpace.{space_of};
 ghost use Rattle.plan_words.specs.States.{MayClaim};
 
 use crate::lowering::{expect_pairs, lower_and_spread};
-use crate::runs::{last_pass, marks_in_square, passes_after};
+use crate::runs::{last_pass, marks_in_square, passes_after, some, sure};
 use plan_model::{Memory, Point};
 use plan_words::{Pass, Shared};
-use std::alloc::{AllocError, Global};
+use std::alloc::Global;
 use std::process::Abort;
-use std::test::Fail;
 use std::thread;
 use std::thread::Threads;
 use swept_check::Hall;
@@ -89,11 +88,7 @@ fn work_all<R: Threads + Sync>(rt: &R, shared: &Shared, hall: &Hall, workers: &m
 }
 
 /// A worker for each pass, the dearest first.
-fn workers_of(
-    alloc: Global,
-    shared: &Shared,
-    passes: &mut Vec<Pass>,
-) -> Result<Vec<Worker>, AllocError>
+fn workers_of(alloc: Global, shared: &Shared, passes: &mut Vec<Pass>) -> Result<Vec<Worker>, Memory>
     requires { All (MayClaim shared.now) passes.old.items }
     ensures rest { All (MayClaim shared.now) passes.new.items }
     ensures may_claim { IfOk result (λ workers. All (λ worker. MayClaim shared.now worker.pass) workers.items) }
@@ -127,28 +122,76 @@ static LOWERED: [(Point, (u32, u64)); 4] = [
     (Point { x: 80, y: 120 }, (32, 47_242)),
 ];
 
+/// A pass that looks, which is the last one, and a worker for each of the others.
+fn looker_and_workers<R: Abort>(
+    rt: &R,
+    alloc: Global,
+    shared: &Shared,
+    passes: Vec<Pass>,
+) -> (Pass, Vec<Worker>)
+    requires { All (MayClaim shared.now) passes.items }
+    ensures looks { MayClaim shared.now result.0 }
+    ensures may_claim { All (λ worker. MayClaim shared.now worker.pass) result.1.items }
+{
+    let mut passes = passes;
+    let looker = some(rt, last_pass(shared, &mut passes));
+    let workers = sure(rt, workers_of(alloc, shared, &mut passes));
+    (looker, workers)
+}
+
 /// A shared tree, the collision checker of its room, a pass that looks, and the workers.
-type Gathered = (Shared, Hall, Pass, Vec<Worker>);
+#[derive(Drop)]
+struct Gathered {
+    shared: Shared,
+    hall: Hall,
+    looker: Pass,
+    workers: Vec<Worker>,
+}
 
 /// The workers, and one pass more, over a tree in which each node hangs below the one that was nearest.
-fn workers_round<R: Threads + Sync>(rt: &R, alloc: Global) -> Result<Gathered, Fail>
-    ensures hall { IfOk result (λ all. all.1 ≡ space_of all.0.task.scene) }
-    ensures looks { IfOk result (λ all. MayClaim all.0 all.2) }
-    ensures may_claim { IfOk result (λ all. All (λ worker. MayClaim all.0 worker.pass) all.3.items) }
+fn workers_round<R: Threads + Sync + Abort>(rt: &R, alloc: Global) -> Gathered
+    ensures hall { result.hall ≡ space_of result.shared.task.scene }
+    ensures looks { MayClaim result.shared result.looker }
+    ensures may_claim { All (λ worker. MayClaim result.shared worker.pass) result.workers.items }
 {
-    let task = marks_in_square(alloc, 300, 150, 0, &ROUND)?;
-    let (shared, hall, mut passes) = passes_after(rt, alloc, task, 34, WORKERS + 1)?;
-    let looker = last_pass(&shared, &mut passes).ok_or(Memory)?;
-    let workers = workers_of(alloc, &shared, &mut passes)?;
-    Ok((shared, hall, looker, workers))
+    let task = marks_in_square(rt, alloc, 300, 150, 0, &ROUND);
+    let (shared, hall, passes) = passes_after(rt, alloc, task, 34, WORKERS + 1);
+    let (looker, workers) = looker_and_workers(rt, alloc, &shared, passes);
+    Gathered {
+        shared,
+        hall,
+        looker,
+        workers,
+    }
+}
+
+/// Compares the node that all lower and those below it, before and after they do so.
+fn expect_lowered<R: Threads + Sync + Abort>(
+    rt: &R,
+    shared: &Shared,
+    hall: &Hall,
+    looker: &mut Pass,
+    workers: &mut [Worker],
+)
+    requires looks { MayClaim shared.now looker.old }
+    requires may_claim { All (λ worker. MayClaim shared.now worker.pass) workers.old }
+    requires hall { hall.now ≡ space_of shared.now.task.scene }
+{
+    expect_pairs(rt, shared, looker, &HUNG);
+    assert_eq!(rt; workers.len(), WORKERS as usize);
+    work_all(rt, shared, hall, workers);
+    expect_pairs(rt, shared, looker, &LOWERED);
 }
 
 #[test]
-fn threads_lower_one_node_from_all_sides(rt: HostRuntime) -> Result<(), Fail> {
-    let (shared, hall, mut looker, mut workers) = workers_round(&rt, rt.alloc())?;
-    expect_pairs(&rt, &shared, &mut looker, &HUNG);
-    assert_eq!(rt; workers.len(), WORKERS as usize);
-    work_all(&rt, &shared, &hall, workers.as_mut_slice());
-    expect_pairs(&rt, &shared, &mut looker, &LOWERED);
-    Ok(())
+fn threads_lower_one_node_from_all_sides(rt: HostRuntime) {
+    let mut all = workers_round(&rt, rt.alloc());
+    expect_lowered(
+        &rt,
+        &all.shared,
+        &all.hall,
+        &mut all.looker,
+        all.workers.as_mut_slice(),
+    );
+    drop(all);
 }

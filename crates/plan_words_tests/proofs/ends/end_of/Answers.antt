@@ -1,4 +1,4 @@
-use Rattle.std.proofs.Common.{length, ap, ◌∙◌, subst, arith}
+use Rattle.std.proofs.Common.{length, ap, subst, arith}
 use Rattle.std.specs.Prelude.{IfNone}
 use Rattle.plan_words.specs.Claims.{AllFull, KeepsHand}
 use Rattle.plan_words_tests.proofs.ends.end_of.Goals as goal

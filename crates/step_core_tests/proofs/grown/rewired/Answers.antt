@@ -1,5 +1,5 @@
 -- The run is the textbook run in which node 2 gets a cheaper way through node 3.
-use Rattle.std.proofs.Common.{◌≡◌, ℕ, zero, suc, Option, Some, None, List, [], ◌∷◌, refl, sym, ◌∙◌, subst}
+use Rattle.std.proofs.Common.{◌≡◌, ℕ, zero, suc, Option, Some, None, List, [], ◌∷◌, refl, sym, subst}
 use Rattle.std.specs.Prelude.{slice_index_or}
 use Rattle.plan_model.specs.declared.trees.Knot.{Knot}
 use Rattle.plan_model.specs.Clearance.{ClearAt}
@@ -41,16 +41,10 @@ closed clear =
     IsClosed-of_textbook open_setup marks_to_rewire (state_of_lists rewired_knots rewired_records) clear
     (record { nodes = rewired_tree; records = rewired_records; run = rewired_run; same = same_run })
 
-pub pack-requires : goal.pack-requires
-pack-requires c =
-    let task = c.in_ok-task.task in
-    let knots : c.from_vec-knots.result ≡ rewired_knots =
-    c.from_vec-knots.ensures ∙ c.in_ok-from_slice.ensures.items
-    ∙ (λ t. c.node.ensures t ∷ c.node-2.ensures t ∷ c.node-3.ensures t ∷ c.node-4.ensures t ∷ []) in
-    let records : c.from_vec-records.result ≡ rewired_records =
-    c.from_vec-records.ensures ∙ c.in_ok-from_slice-2.ensures.items
-    ∙ (λ t. c.placed.ensures t ∷ c.placed-2.ensures t ∷ c.placed-3.ensures t ∷ []) in
-    let clear = subst (λ setup. ClearAt setup.space setup.start) c.in_ok-task.ensures.setup c.in_ok-task.ensures.clear in
-    IsClosed-same_lists (setup_of task.scene) open_setup task.marks marks_to_rewire c.from_vec-knots.result rewired_knots
-    c.from_vec-records.result rewired_records c.in_ok-task.ensures.setup c.in_ok-task.ensures.marks knots records
-    (closed clear)
+pub packed-requires : goal.packed-requires
+packed-requires g c =
+    let task = c.task_of-task.result in
+    let clear = subst (λ setup. ClearAt setup.space setup.start) c.task_of-task.ensures.setup c.task_of-task.ensures.clear in
+    IsClosed-same_lists (setup_of task.scene) open_setup task.marks marks_to_rewire c.rewired_knots.result rewired_knots
+    c.rewired_records.result rewired_records c.task_of-task.ensures.setup c.task_of-task.ensures.marks c.rewired_knots.ensures
+    c.rewired_records.ensures (closed clear)

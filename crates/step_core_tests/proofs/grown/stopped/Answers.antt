@@ -1,5 +1,5 @@
 -- The run is the textbook run of two marks of which none is placed.
-use Rattle.std.proofs.Common.{◌≡◌, ℕ, zero, suc, Option, Some, None, List, [], ◌∷◌, arith, refl, ◌∙◌, subst}
+use Rattle.std.proofs.Common.{◌≡◌, ℕ, zero, suc, Option, Some, None, List, [], ◌∷◌, arith, refl, subst}
 use Rattle.plan_model.specs.declared.geometry.Point.{Point}
 use Rattle.plan_model.specs.declared.records.Record.{Record}
 use Rattle.plan_model.specs.declared.trees.Knot.{Knot}
@@ -104,14 +104,10 @@ closed clear =
     IsClosed-of_textbook low_setup marks (state_of_lists knots entries) clear
     (record { nodes = three; records = entries; run = run; same = same_run })
 
-pub pack-requires : goal.pack-requires
-pack-requires c =
-    let task = c.in_ok-task.task in
-    let same_knots : c.from_vec-knots.result ≡ knots =
-    c.from_vec-knots.ensures ∙ c.in_ok-from_slice.ensures.items ∙ (λ t. c.node.ensures t ∷ None ∷ None ∷ []) in
-    let same_records : c.from_vec-records.result ≡ entries =
-    c.from_vec-records.ensures ∙ c.in_ok-from_slice-2.ensures.items ∙ (λ t. c.same.ensures t ∷ c.blocked.ensures t ∷ []) in
-    let clear = subst (λ setup. ClearAt setup.space setup.start) c.in_ok-task.ensures.setup c.in_ok-task.ensures.clear in
-    IsClosed-same_lists (setup_of task.scene) low_setup task.marks marks c.from_vec-knots.result knots
-    c.from_vec-records.result entries c.in_ok-task.ensures.setup c.in_ok-task.ensures.marks same_knots same_records
+pub packed-requires : goal.packed-requires
+packed-requires g c =
+    let task = c.task_of-task.result in
+    let clear = subst (λ setup. ClearAt setup.space setup.start) c.task_of-task.ensures.setup c.task_of-task.ensures.clear in
+    IsClosed-same_lists (setup_of task.scene) low_setup task.marks marks c.stopped_knots.result knots c.stopped_records.result
+    entries c.task_of-task.ensures.setup c.task_of-task.ensures.marks c.stopped_knots.ensures c.stopped_records.ensures
     (closed clear)
