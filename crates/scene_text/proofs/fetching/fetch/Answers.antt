@@ -1,4 +1,5 @@
-use Rattle.std.proofs.Common.{◌≤◌, ◌-◌, ◌+◌, length, arith, length-take}
+use Rattle.std.proofs.Common.{◌≡◌, ◌≤◌, ◌-◌, ◌+◌, ◌++◌, IsTrue, length, length-append, take, ap, sym, subst, rules, ◌∙◌, arith, length-take}
+use Rattle.std.proofs.KnownBytes.{Consumes-trans}
 use Rattle.plan_model.specs.declared.limits.TheConstants.{MOST_TEXT_BYTES}
 use Rattle.scene_text.proofs.FetchLemmas.{ReadsWithin-fetched, Fetches-too_long, Fetches-memory}
 use Rattle.scene_text.proofs.fetching.fetch.Goals as goal
@@ -31,3 +32,26 @@ returns-in_err-extend_from_slice-clause-came g c =
 
 pub returns-in_err-extend_from_slice-clause-within : goal.returns-in_err-extend_from_slice-clause-within
 returns-in_err-extend_from_slice-clause-within g c = ReadsWithin-fetched _ _ _ (returns-in_err-extend_from_slice-clause-came g c)
+
+pub loop-text-preserved : goal.loop-text-preserved
+loop-text-preserved g c =
+    let kept = c.loop-text.invariant in
+    let text = c.loop-text.text in
+    let read = c.in_ok-count.ensures in
+    record {
+      consumed = rw c.in_ok-extend_from_slice.ensures.items
+          (Consumes-trans _ _ _ text.items (take c.in_ok-count.count c.read.new.into) kept.consumed read.bytes.0);
+      open_yet = search rules;
+      later = omega (arith, kept.later, read.later);
+      counting = read.counting ∙ kept.counting;
+      no_fault = λ alone. read.no_fault (subst (λ b. IsTrue b) (sym kept.counting) alone) ∙ kept.no_fault alone;
+      small = search rules;
+    }
+
+pub loop-text-smaller : goal.loop-text-smaller
+loop-text-smaller g c =
+    let text = c.loop-text.text in
+    let piece = take c.in_ok-count.count c.read.new.into in
+    let grown : length c.extend_from_slice.new.self.items ≡ length (text.items ++ piece) =
+    ap length {y = text.items ++ piece} c.in_ok-extend_from_slice.ensures.items in
+    omega (arith, grown, length-append text.items piece, length-take c.in_ok-count.count c.read.new.into, c.in_ok-count.ensures.bound)
