@@ -27,3 +27,22 @@ returns g c =
     Answers-success (commands.Plain c.args.full) _ _ refl c.in_ok-scene.ensures.within _
     (IsSuccess-plain _ _ c.in_ok-scene.scene _ _ c.args.full c.in_ok-scene.ensures.scene c.in_ok-hall.ensures.start
     (ReportsScene-textbook _ _ c.in_ok-grown.grown _ _ run.scene c.in_ok-report_of.ensures run.run))
+
+pub invariant_of-scene : goal.invariant_of-scene
+invariant_of-scene g c =
+    let scene = c.in_ok-scene.scene in
+    record {
+      version_is_one = scene.version_is_one;
+      room_within = scene.room_within;
+      body_within = scene.body_within;
+      obstacles_within = scene.obstacles_within;
+      start_within = scene.start_within;
+      goal_within = scene.goal_within;
+      step_low = scene.step_low;
+      step_high = scene.step_high;
+      gamma_high = scene.gamma_high;
+      seed_high = scene.seed_high;
+      strips_low = scene.strips_low;
+      strips_high = scene.strips_high;
+      plan_within = scene.plan_within;
+    }

@@ -1,4 +1,4 @@
-use Rattle.std.proofs.Common.{◌+◌, ◌*◌, ◌%◌, arith}
+use Rattle.std.proofs.Common.{◌+◌, ◌*◌, ◌%◌, refl, arith}
 use Rattle.std.proofs.lemmas.Bool.{le-leb}
 use Rattle.std.proofs.lemmas.Nat.{mod_below}
 use Rattle.plan_model.specs.declared.limits.TheConstants.{MOST_MARKS}
@@ -8,6 +8,21 @@ use Rattle.planner_main.proofs.generated_scenes.gen_scene.Goals as goal
 
 pub invariant_of-result-clause-obstacles_within : goal.invariant_of-result-clause-obstacles_within
 invariant_of-result-clause-obstacles_within c = rw c.in_ok-obstacles.ensures (are_obstacles-generated c.args.number)
+
+pub returns-clause-scene : goal.returns-clause-scene
+returns-clause-scene c = record {
+  version = refl;
+  room = refl;
+  body = c.in_ok-square_at.ensures;
+  obstacles = c.in_ok-obstacles.ensures;
+  start = refl;
+  goal = refl;
+  step = refl;
+  gamma = refl;
+  seed = c.from.ensures;
+  strips = refl;
+  plan = refl;
+}
 
 pub returns-clause-start : goal.returns-clause-start
 returns-clause-start c = rw (c.in_ok-square_at.ensures, c.in_ok-obstacles.ensures) (ClearAt-start c.args.number)
