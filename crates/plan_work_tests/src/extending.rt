@@ -158,7 +158,7 @@ fn assert_number<R: Abort>(rt: &R, shared: &Shared, pass: &mut Pass, want: u32)
     ensures { HasShare shared.now 1 pass.new }
 {
     let nodes = shared.number(pass);
-    assert_eq!(rt; nodes, want);
+    assert!(rt; nodes == want);
 }
 
 static BLOCKED: Ending = Ending {

@@ -31,7 +31,9 @@ fn small_run<R: Threads + Sync + Abort, G: Gate>(
 {
     let grown = sure(rt, Grown::new(alloc, small_task(rt, alloc, &TO_REWIRE)));
     let hall = sure(rt, Hall::new(alloc, &grown.task().scene));
-    sure(rt, grow(rt, alloc, grown, &hall, workers, limit, gate))
+    let run = sure(rt, grow(rt, alloc, grown, &hall, workers, limit, gate));
+    drop(hall);
+    run
 }
 
 /// How many marks below this one a worker has handled.
@@ -102,6 +104,7 @@ fn one_worker_handles_the_marks_in_turn(rt: HostRuntime) {
     let grown = small_run(&rt, rt.alloc(), 1, 3, &NoGate);
     assert_records(&rt, &grown, &IN_TURN);
     assert_node(&rt, &grown, 2, &Some((40, 79, 3, 25_344)));
+    drop(grown);
 }
 
 /// Asserts how many nodes a run by so many workers up to a limit has, and that it has none past the limit.
@@ -128,6 +131,7 @@ fn assert_run_by<R: Threads + Sync + Abort>(
     let grown = small_run(rt, alloc, workers, limit, &NoGate);
     assert_whole(rt, &grown, workers, limit);
     assert_nodes_within(rt, &grown, workers, limit, nodes);
+    drop(grown);
 }
 
 #[test]
@@ -154,7 +158,9 @@ fn grown_on<R: Threads + Sync + Abort>(rt: &R, alloc: Global, begun: Grown) -> G
     ensures { result.limit ≡ 3 }
 {
     let hall = sure(rt, Hall::new(alloc, &begun.task().scene));
-    sure(rt, grow(rt, alloc, begun, &hall, 3, 3, &NoGate))
+    let grown = sure(rt, grow(rt, alloc, begun, &hall, 3, 3, &NoGate));
+    drop(hall);
+    grown
 }
 
 /// Asserts that one mark of three is handled. Returns its record.
@@ -261,9 +267,10 @@ fn assert_all_told<R: Abort>(rt: &R, gate: &Counts, grown: &Grown, limit: u32)
     requires { limit ≤ grown.now.limit }
 {
     assert!(rt; gate.in_order.load(Ordering::SeqCst));
-    for (worker, count) in (0..).zip(&gate.workers) {
-        assert_told(rt, count, worker, turns_below(grown, limit, worker));
-    }
+    let [zeroth, first, second] = &gate.workers;
+    assert_told(rt, zeroth, 0, turns_below(grown, limit, 0));
+    assert_told(rt, first, 1, turns_below(grown, limit, 1));
+    assert_told(rt, second, 2, turns_below(grown, limit, 2));
 }
 
 /// Asserts what a gate is told of a run by three workers up to a limit.
@@ -273,6 +280,8 @@ fn assert_gate<R: Threads + Sync + Abort>(rt: &R, alloc: Global, limit: u32)
     let gate = Counts::new();
     let grown = small_run(rt, alloc, 3, limit, &gate);
     assert_all_told(rt, &gate, &grown, limit);
+    drop(grown);
+    drop(gate);
 }
 
 #[test]
@@ -349,4 +358,6 @@ fn a_worker_goes_on_while_another_waits(rt: HostRuntime) {
     assert_handled(&rt, &gate);
     assert_whole(&rt, &grown, 2, 3);
     assert_both_at_work(&rt, &grown);
+    drop(grown);
+    drop(gate);
 }

@@ -72,6 +72,7 @@ fn last_three<R: Abort>(rt: &R, shared: &Shared, passes: Vec<Pass>) -> (Pass, Pa
     let third = some(rt, last_pass(shared, &mut passes));
     let second = some(rt, last_pass(shared, &mut passes));
     let first = some(rt, last_pass(shared, &mut passes));
+    drop(passes);
     (third, second, first)
 }
 

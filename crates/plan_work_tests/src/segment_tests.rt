@@ -6,10 +6,10 @@ ghost use Rattle.plan_model.specs.ConfigurationSpace.{space_of};
 ghost use Rattle.plan_work_tests.specs.Sharers.{HasClaimed, HasShare, IsOfThree};
 
 use crate::test_runs::{Entry, TO_REWIRE, assert_records, sure};
-use crate::two_passes::{assert_claimed, joined_run, two_passes};
+use crate::two_passes::{assert_claimed, extend_claimed, joined_run, two_passes};
 use plan_model::{Goal, Outcome, Point, SmallScene, Task};
 use plan_words::{Pass, Shared};
-use plan_work::{Gate, NoGate, extend, grow, work};
+use plan_work::{Gate, NoGate, grow, work};
 use std::alloc::Global;
 use std::process::Abort;
 use std::sync::atomic::{AtomicBool, Ordering};
@@ -131,6 +131,16 @@ fn a_node_is_placed_while_a_segment_is_tested(rt: HostRuntime) {
 
 // ---- the same by two callers, who begin with a mark in hand
 
+/// Handles what marks are left of three.
+fn work_on(shared: &Shared, pass: &mut Pass, hall: &Hall)
+    requires shared { IsOfThree shared.now }
+    requires pass { HasShare shared.now 1 pass.old }
+    requires hall { hall.now ≡ space_of shared.now.task.scene }
+    ensures { HasShare shared.now 1 pass.new }
+{
+    work(shared, pass, hall, 3, &NoGate);
+}
+
 /// Handles mark 0, in the test of whose segment it waits for the other caller, and then what marks are left.
 fn test_long(shared: &Shared, pass: Pass, meeting: &Meeting) -> Pass
     requires shared { IsOfThree shared.now }
@@ -139,8 +149,8 @@ fn test_long(shared: &Shared, pass: Pass, meeting: &Meeting) -> Pass
     ensures { HasShare shared.now 1 result }
 {
     let mut pass = pass;
-    extend(shared, &mut pass, meeting, 0);
-    work(shared, &mut pass, &meeting.hall, 3, &NoGate);
+    extend_claimed(shared, &mut pass, meeting, 0);
+    work_on(shared, &mut pass, &meeting.hall);
     pass
 }
 
@@ -153,9 +163,9 @@ fn go_on(shared: &Shared, pass: Pass, meeting: &Meeting) -> Pass
 {
     let mut pass = pass;
     meeting.wait_for(&meeting.tested);
-    extend(shared, &mut pass, &meeting.hall, 1);
+    extend_claimed(shared, &mut pass, &meeting.hall, 1);
     meeting.handled.store(true, Ordering::SeqCst);
-    work(shared, &mut pass, &meeting.hall, 3, &NoGate);
+    work_on(shared, &mut pass, &meeting.hall);
     pass
 }
 

@@ -10,13 +10,13 @@ ghost use Rattle.plan_work_tests.specs.Sharers.{HasClaimed, HasShare, IsOfThree}
 
 use crate::test_runs::{Ending, assert_entry, assert_run, some, sure};
 use kd_shared::find;
-use plan_model::{Point, Task};
+use plan_model::{Point, Record, Task};
 use plan_words::{Pass, Shared};
 use plan_work::extend;
 use std::alloc::Global;
 use std::process::Abort;
 use step_core::Grown;
-use swept_check::Hall;
+use swept_check::{Clearing, Hall};
 
 /// A shared tree, the collision checker of its room, and its two passes.
 pub(crate) type Two = (Shared, Hall, Pass, Pass);
@@ -56,6 +56,7 @@ pub(crate) fn two_passes<R: Abort>(rt: &R, alloc: Global, task: Task) -> Two
     let (shared, mut passes) = shared_by_two(rt, alloc, task);
     let second = some(rt, last_sharer(&shared, &mut passes));
     let first = some(rt, last_sharer(&shared, &mut passes));
+    drop(passes);
     (shared, hall, first, second)
 }
 
@@ -69,6 +70,20 @@ pub(crate) fn assert_claimed<R: Abort>(rt: &R, shared: &Shared, pass: &mut Pass,
         panic!(rt; "no mark is left")
     };
     assert!(rt; claimed == mark);
+}
+
+/// Handles the mark that a pass has claimed.
+pub(crate) fn extend_claimed<C: Clearing>(
+    shared: &Shared,
+    pass: &mut Pass,
+    hall: &C,
+    mark: u32,
+) -> Record
+    requires claimed { HasClaimed shared.now 1 mark pass.old }
+    requires hall { C.space hall.now ≡ space_of shared.now.task.scene }
+    ensures { HasShare shared.now 1 pass.new }
+{
+    extend(shared, pass, hall, mark)
 }
 
 /// Asserts that a pass claims this mark of three, and that its record is the one that is wanted.
@@ -88,7 +103,7 @@ pub(crate) fn assert_extended<R: Abort>(
     ensures { HasShare shared.now 1 pass.new }
 {
     assert_claimed(rt, shared, pass, mark);
-    let record = extend(shared, pass, hall, mark);
+    let record = extend_claimed(shared, pass, hall, mark);
     assert_entry(rt, record, mark, &want.records[mark as usize]);
 }
 
@@ -129,9 +144,9 @@ fn assert_none_left<R: Abort>(rt: &R, shared: &Shared, pass: &mut Pass)
     ensures share { HasShare shared.now 1 pass.new }
     ensures full { AllFull pass.new.view 3 }
 {
-    if shared.claim(pass, 3).is_some() {
-        panic!(rt; "a mark is left");
-    }
+    let None = shared.claim(pass, 3) else {
+        panic!(rt; "a mark is left")
+    };
 }
 
 /// One pass takes over the other.
@@ -175,5 +190,7 @@ pub(crate) fn assert_ending<R: Abort>(
     requires opening { shared.opening ≡ 0 }
     requires marks { length shared.task.marks ≡ 3 }
 {
-    assert_run(rt, &joined_run(rt, shared, first, second), want);
+    let run = joined_run(rt, shared, first, second);
+    assert_run(rt, &run, want);
+    drop(run);
 }
