@@ -33,11 +33,7 @@ mod tests {
             (64, 63, 262_143, 4_095),
             (64, 62, 262_143, 4_096),
         ] {
-            assert_eq!(rt;
-                quota(strips, strip, limit),
-                want,
-                "strip {strip} of {strips} below {limit}"
-            );
+            assert!(rt; quota(strips, strip, limit) == want, "strip {strip}");
         }
     }
 }

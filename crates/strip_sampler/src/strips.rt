@@ -37,7 +37,7 @@ mod tests {
 
     #[test]
     fn cuts_columns_into_strips(rt: HostRuntime) {
-        for (first, count, strips, strip, want) in [
+        for (first, count, strips, strip, (from, wide)) in [
             (0, 100, 3, 0, (0, 33)),
             (0, 100, 3, 1, (33, 33)),
             (0, 100, 3, 2, (66, 34)),
@@ -46,11 +46,8 @@ mod tests {
             (0, 65_536, 64, 63, (64_512, 1_024)),
         ] {
             let got = columns_of_strip(Span { first, count }, strips, strip);
-            assert_eq!(rt;
-                (got.first, got.count),
-                want,
-                "strip {strip} of {strips} of {count} columns"
-            );
+            assert!(rt; got.first == from, "strip {strip}");
+            assert!(rt; got.count == wide, "strip {strip}");
         }
     }
 }

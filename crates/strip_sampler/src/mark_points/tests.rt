@@ -1,30 +1,53 @@
 //! Marks that are listed, and marks that are drawn. What is drawn was worked out apart from the planner.
 
-ghost use Rattle.std.specs.Prelude.{◌≡◌, ◌≤◌, IfOk, IsTrue};
+ghost use Rattle.std.specs.Prelude.{◌≡◌, ◌≤◌, IsTrue, Ok};
 ghost use Rattle.plan_model.specs.Limits.{IsBetween, is_body, is_plan};
 ghost use Rattle.plan_model.specs.declared.scenes.Marks.TheVariants.{Drawn};
 ghost use Rattle.plan_model.specs.declared.limits.TheConstants.{LEAST_SIDE, LEAST_STRIPS, MOST_SIDE, MOST_STRIPS};
 
 use super::*;
 use plan_model::{Goal, MOST_MARKS, Point, SmallScene, Vertex};
+use std::alloc::AllocError;
+use std::process::Abort;
+
+/// What was made, for which memory lasts. A test ends here if none is left, so that no value is dropped on the way.
+fn sure<R: Abort, T>(rt: &R, made: Result<T, Memory>) -> T
+    ensures { made ≡ Ok result }
+{
+    match made {
+        Ok(value) => value,
+        Err(error) => panic!(rt; "{error}"),
+    }
+}
+
+/// The copy of a list, for which memory lasts.
+fn copied<R: Abort, T>(rt: &R, made: Result<Vec<T>, AllocError>) -> Vec<T>
+    ensures { made ≡ Ok result }
+{
+    match made {
+        Ok(values) => values,
+        Err(_) => panic!(rt; "no memory"),
+    }
+}
 
 /// A scene without obstacles.
-fn open_scene(
+fn open_scene<R: Abort>(
+    rt: &R,
     alloc: Global,
     room: Point,
     body: &[Vertex],
     seed: u64,
     strips: u32,
     plan: Marks,
-) -> Result<Scene, Memory>
+) -> Scene
     requires room { IsBetween LEAST_SIDE MOST_SIDE room }
     requires body { IsTrue (is_body body.now) }
     requires strips_low { LEAST_STRIPS ≤ strips }
     requires strips_high { strips ≤ MOST_STRIPS }
     requires plan { IsTrue (is_plan plan) }
-    ensures room { IfOk result (λ scene. scene.room ≡ room) }
-    ensures body { IfOk result (λ scene. scene.body ≡ body.now) }
-    ensures plan { IfOk result (λ scene. scene.plan ≡ plan) }
+    ensures room { result.room ≡ room }
+    ensures body { result.body ≡ body.now }
+    ensures plan { result.plan ≡ plan }
 {
     let small = SmallScene {
         room,
@@ -38,18 +61,19 @@ fn open_scene(
         seed,
         strips,
     };
-    let body = Sequence::from_vec(body.to_vec(alloc)?);
-    Ok(small.scene(body, Sequence::from_vec(Vec::new(alloc)), plan))
+    let body = Sequence::from_vec(copied(rt, body.to_vec(alloc)));
+    small.scene(body, Sequence::from_vec(Vec::new(alloc)), plan)
 }
 
 /// So many marks of a point body, drawn in a room whose sides are as long as each other.
-fn drawn_marks(
+fn drawn_marks<R: Abort>(
+    rt: &R,
     alloc: Global,
     side: u32,
     seed: u64,
     strips: u32,
     count: u32,
-) -> Result<Points, Memory>
+) -> Points
     requires side_low { LEAST_SIDE ≤ side }
     requires side_high { side ≤ MOST_SIDE }
     requires strips_low { LEAST_STRIPS ≤ strips }
@@ -58,35 +82,46 @@ fn drawn_marks(
 {
     let room = Point { x: side, y: side };
     let body = [Vertex { x: 0, y: 0 }];
-    let scene = open_scene(alloc, room, &body, seed, strips, Marks::Drawn(count))?;
-    marks(alloc, &scene)
+    let scene = open_scene(rt, alloc, room, &body, seed, strips, Marks::Drawn(count));
+    let drawn = sure(rt, marks(alloc, &scene));
+    drop(scene);
+    drawn
+}
+
+/// Asserts that points are these.
+fn assert_points<R: Abort>(rt: &R, points: Points, want: &[Point]) {
+    assert!(rt; points.as_slice() == want);
+    drop(points);
 }
 
 #[test]
-fn listed_marks_stay(rt: HostRuntime) -> Result<(), Memory> {
+fn listed_marks_stay(rt: HostRuntime) {
     // the second lies outside of the room, and the third is the first again
     let listed = [
         Point { x: 60, y: 80 },
         Point { x: 65_535, y: 0 },
         Point { x: 60, y: 80 },
     ];
-    let plan = Marks::Listed(Sequence::from_vec(listed.to_vec(rt.alloc())?));
+    let points = copied(&rt, listed.to_vec(rt.alloc()));
+    let plan = Marks::Listed(Sequence::from_vec(points));
     let room = Point { x: 99, y: 99 };
-    let scene = open_scene(rt.alloc(), room, &[Vertex { x: 0, y: 0 }], 7, 3, plan)?;
-    let points = marks(rt.alloc(), &scene)?;
-    assert_eq!(rt; points.as_slice(), listed.as_slice());
-    Ok(())
+    let body = [Vertex { x: 0, y: 0 }];
+    let scene = open_scene(&rt, rt.alloc(), room, &body, 7, 3, plan);
+    let points = sure(&rt, marks(rt.alloc(), &scene));
+    assert_points(&rt, points, &listed);
+    drop(scene);
 }
 
 #[test]
-fn no_marks_are_drawn(rt: HostRuntime) -> Result<(), Memory> {
-    assert!(rt; drawn_marks(rt.alloc(), 99, 0, 1, 0)?.is_empty());
-    Ok(())
+fn no_marks_are_drawn(rt: HostRuntime) {
+    let drawn = drawn_marks(&rt, rt.alloc(), 99, 0, 1, 0);
+    assert!(rt; drawn.is_empty());
+    drop(drawn);
 }
 
 #[test]
-fn marks_are_drawn_from_their_strips(rt: HostRuntime) -> Result<(), Memory> {
-    let drawn = drawn_marks(rt.alloc(), 99, 5, 3, 6)?;
+fn marks_are_drawn_from_their_strips(rt: HostRuntime) {
+    let drawn = drawn_marks(&rt, rt.alloc(), 99, 5, 3, 6);
     let want = [
         Point { x: 12, y: 75 },
         Point { x: 57, y: 44 },
@@ -95,73 +130,69 @@ fn marks_are_drawn_from_their_strips(rt: HostRuntime) -> Result<(), Memory> {
         Point { x: 55, y: 75 },
         Point { x: 67, y: 73 },
     ];
-    assert_eq!(rt; drawn.as_slice(), want.as_slice());
-    Ok(())
+    assert_points(&rt, drawn, &want);
 }
 
 #[test]
-fn marks_keep_the_body_from_the_walls(rt: HostRuntime) -> Result<(), Memory> {
+fn marks_keep_the_body_from_the_walls(rt: HostRuntime) {
     let body = [
         Vertex { x: -3, y: 0 },
         Vertex { x: 4, y: -2 },
         Vertex { x: 0, y: 5 },
     ];
     let room = Point { x: 99, y: 99 };
-    let scene = open_scene(rt.alloc(), room, &body, 5, 3, Marks::Drawn(3))?;
-    let drawn = marks(rt.alloc(), &scene)?;
+    let scene = open_scene(&rt, rt.alloc(), room, &body, 5, 3, Marks::Drawn(3));
+    let drawn = sure(&rt, marks(rt.alloc(), &scene));
+    drop(scene);
     let want = [
         Point { x: 14, y: 71 },
         Point { x: 56, y: 43 },
         Point { x: 77, y: 3 },
     ];
-    assert_eq!(rt; drawn.as_slice(), want.as_slice());
-    Ok(())
+    assert_points(&rt, drawn, &want);
 }
 
 #[test]
-fn few_columns_are_one_strip(rt: HostRuntime) -> Result<(), Memory> {
-    let drawn = drawn_marks(rt.alloc(), 2, 5, 64, 3)?;
+fn few_columns_are_one_strip(rt: HostRuntime) {
+    let drawn = drawn_marks(&rt, rt.alloc(), 2, 5, 64, 3);
     let xs = [1, 2, 1];
-    for (mark, x) in drawn.as_slice().iter().zip(xs) {
-        assert_eq!(rt; mark.x, x);
+    for (mark, x) in drawn.as_slice().iter().zip(&xs) {
+        assert!(rt; mark.x == *x);
     }
-    Ok(())
+    drop(drawn);
 }
 
 #[test]
-fn seed_and_mark_are_added(rt: HostRuntime) -> Result<(), Memory> {
+fn seed_and_mark_are_added(rt: HostRuntime) {
     let first = Point { x: 88, y: 43 };
-    let from_0 = drawn_marks(rt.alloc(), 99, 0, 1, 1)?;
-    assert_eq!(rt; from_0.as_slice(), [first].as_slice());
+    let from_0 = drawn_marks(&rt, rt.alloc(), 99, 0, 1, 1);
+    assert_points(&rt, from_0, &[first]);
     // the state of the second mark is 2^64, which is 0 again
-    let from_greatest = drawn_marks(rt.alloc(), 99, u64::MAX, 1, 2)?;
-    assert_eq!(rt; from_greatest.as_slice().get(1), Some(&first));
-    Ok(())
+    let from_greatest = drawn_marks(&rt, rt.alloc(), 99, u64::MAX, 1, 2);
+    assert!(rt; from_greatest.as_slice().get(1) == Some(&first));
+    drop(from_greatest);
 }
 
 #[test]
-fn a_longer_plan_begins_alike(rt: HostRuntime) -> Result<(), Memory> {
-    let short = drawn_marks(rt.alloc(), 99, 7, 3, 5)?;
-    let long = drawn_marks(rt.alloc(), 99, 7, 3, 11)?;
+fn a_longer_plan_begins_alike(rt: HostRuntime) {
+    let short = drawn_marks(&rt, rt.alloc(), 99, 7, 3, 5);
+    let long = drawn_marks(&rt, rt.alloc(), 99, 7, 3, 11);
     assert!(rt; long.as_slice().starts_with(short.as_slice()));
-    assert_eq!(rt; long.len(), 11);
-    Ok(())
+    assert!(rt; long.len() == 11);
+    drop(short);
+    drop(long);
 }
 
 #[test]
-fn the_greatest_plan_is_drawn(rt: HostRuntime) -> Result<(), Memory> {
-    let drawn = drawn_marks(rt.alloc(), 65_535, 2026, 64, MOST_MARKS)?;
-    assert_eq!(rt; drawn.len(), 262_143);
-    assert_eq!(rt;
-        drawn.as_slice().first(),
-        Some(&Point { x: 878, y: 30_908 })
-    );
-    assert_eq!(rt;
-        drawn.as_slice().last(),
-        Some(&Point {
-            x: 63_694,
-            y: 37_741
-        })
-    );
-    Ok(())
+fn the_greatest_plan_is_drawn(rt: HostRuntime) {
+    let drawn = drawn_marks(&rt, rt.alloc(), 65_535, 2026, 64, MOST_MARKS);
+    assert!(rt; drawn.len() == 262_143);
+    let first = Point { x: 878, y: 30_908 };
+    assert!(rt; drawn.as_slice().first() == Some(&first));
+    let last = Point {
+        x: 63_694,
+        y: 37_741,
+    };
+    assert!(rt; drawn.as_slice().last() == Some(&last));
+    drop(drawn);
 }
