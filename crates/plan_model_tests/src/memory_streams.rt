@@ -8,7 +8,7 @@ use std::test::Fail;
 fn assert_piece(rt: &impl Abort, source: &mut SureSource, want: &str) {
     let mut piece = [0; 3];
     let count = source.read(&mut piece).unwrap_or(0);
-    assert_eq!(rt; &piece[..count], want.as_bytes());
+    assert!(rt; &piece[..count] == want.as_bytes());
 }
 
 #[test]
@@ -18,8 +18,9 @@ fn reads_in_pieces(rt: HostRuntime) -> Result<(), Fail> {
     assert_piece(&rt, &mut source, "t 1");
     assert_piece(&rt, &mut source, "\n");
     assert_piece(&rt, &mut source, "");
-    assert_eq!(rt; source.read(&mut []), Ok(0));
-    assert_eq!(rt; source.faults(), 0);
+    assert!(rt; source.read(&mut []) == Ok(0));
+    assert!(rt; source.faults() == 0);
+    drop(source);
     Ok(())
 }
 
@@ -28,10 +29,11 @@ type Reading = (Result<usize, Failed>, &'static str);
 
 /// Asserts one read of a source, after one into nothing, which does not count.
 fn assert_read(rt: &impl Abort, source: &mut MemSource, (want, bytes): Reading) {
-    assert_eq!(rt; source.read(&mut []), Ok(0));
+    assert!(rt; source.read(&mut []) == Ok(0));
     let mut piece = *b"....";
-    assert_eq!(rt; source.read(&mut piece), want, "before {bytes:?}");
-    assert_eq!(rt; piece.as_slice(), bytes.as_bytes());
+    let got = source.read(&mut piece);
+    assert!(rt; got == want, "before {bytes}");
+    assert!(rt; piece.as_slice() == bytes.as_bytes());
 }
 
 /// Asserts the first reads of a source of seven bytes, and how many of them failed.
@@ -39,7 +41,8 @@ fn assert_reads(rt: &impl Abort, mut source: MemSource, readings: &[Reading], fa
     for reading in readings {
         assert_read(rt, &mut source, *reading);
     }
-    assert_eq!(rt; source.faults(), faults);
+    assert!(rt; source.faults() == faults);
+    drop(source);
 }
 
 #[test]
@@ -72,7 +75,8 @@ fn fails_the_first_two_reads(rt: HostRuntime) -> Result<(), Fail> {
 
 /// Asserts one write to a sink.
 fn assert_write(rt: &impl Abort, sink: &mut MemSink, bytes: &str, want: Result<usize, Failed>) {
-    assert_eq!(rt; sink.write(bytes.as_bytes()), want, "of {bytes:?}");
+    let got = sink.write(bytes.as_bytes());
+    assert!(rt; got == want, "of {bytes}");
 }
 
 /// Writes to a sink of seven bytes that fails its second and its fifth call, and what each is to answer.
@@ -92,7 +96,8 @@ fn takes_as_its_numbers_say(rt: HostRuntime) -> Result<(), Fail> {
     for (bytes, want) in &WRITES {
         assert_write(&rt, &mut sink, bytes, *want);
     }
-    assert_eq!(rt; sink.bytes(), b"abcdefg".as_slice());
-    assert_eq!(rt; sink.faults(), 3);
+    assert!(rt; sink.bytes() == b"abcdefg".as_slice());
+    assert!(rt; sink.faults() == 3);
+    drop(sink);
     Ok(())
 }
