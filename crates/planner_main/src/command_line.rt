@@ -97,19 +97,6 @@ mod tests {
         drop(sink);
     }
 
-    // The same for these words, of which the first is the program's name.
-    fn expect_by_words<R: Threads + Sync + Abort>(
-        rt: &R,
-        alloc: Global,
-        scene: &str,
-        words: &[&str],
-        code: u8,
-        text: &str,
-    ) {
-        let given = given_words(rt, alloc, words);
-        expect(rt, alloc, scene, Ok(given.into_iter()), code, text);
-    }
-
     static CODES: [(&str, &[&str], u8, &str); 7] = [
         (
             ONE_MARK,
@@ -143,7 +130,8 @@ mod tests {
     #[test]
     fn ends_by_all_words_after_the_name(rt: HostRuntime) {
         for (scene, words, code, text) in &CODES {
-            expect_by_words(&rt, rt.alloc(), scene, words, *code, text);
+            let args = given_words(&rt, rt.alloc(), words).into_iter();
+            expect(&rt, rt.alloc(), scene, Ok(args), *code, text);
         }
     }
 

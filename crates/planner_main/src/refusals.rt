@@ -186,6 +186,7 @@ mod tests {
         expect_text(rt, &[], refusal.line().as_str(), line, "a line");
         let shown = sure(rt, displayed(alloc, refusal));
         expect_text(rt, &[], &shown, line, "what is displayed");
+        drop(shown);
     }
 
     static LINES: [(Refusal, &str); 7] = [

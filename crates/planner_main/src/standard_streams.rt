@@ -139,6 +139,7 @@ mod tests {
             expect_that(&rt, source.read(&mut [0; 4]) == *want, "a read");
             expect_number(&rt, source.faults(), *faults, "faults");
         }
+        drop(source);
     }
 
     #[test]
@@ -150,12 +151,15 @@ mod tests {
         let fault = fetch(rt.alloc(), &mut source).err();
         expect_that(&rt, fault == Some(FetchFault::Read), "a failed read");
         expect_number(&rt, source.faults(), 1, "faults");
+        drop(source);
     }
 
     // Whether a sink over a list takes these bytes and no others.
     fn takes(alloc: Global, bytes: &[u8]) -> bool {
         let mut sink = StdSink::new(Vec::new(alloc));
-        deliver(&mut sink, bytes).is_ok() && sink.writer.as_slice() == bytes
+        let all = deliver(&mut sink, bytes).is_ok() && sink.writer.as_slice() == bytes;
+        drop(sink);
+        all
     }
 
     #[test]
@@ -185,6 +189,7 @@ mod tests {
         let mut sink = StdSink::new(room.as_mut_slice());
         expect_write(&rt, &mut sink, b"path", Ok(3), 0);
         expect_write(&rt, &mut sink, b"h", Err(Failed), 1);
+        drop(sink);
         expect_that(&rt, room == *b"pat", "what is written");
     }
 }

@@ -134,8 +134,10 @@ fn call_over<R: Threads + Sync + Abort, G: Gate>(
     requires { source.old.ended ≡ false }
 {
     let given = given_words(rt, alloc, words);
-    let ended = ending_of(&run(rt, alloc, &given, source, sink, gate));
+    let done = run(rt, alloc, &given, source, sink, gate);
     drop(given);
+    let ended = ending_of(&done);
+    drop(done);
     ended
 }
 

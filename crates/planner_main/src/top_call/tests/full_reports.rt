@@ -102,13 +102,10 @@ static FULL_REPORTS: [Case; 7] = [
     },
 ];
 
-static FULL: [&[&str]; 2] = [&["plain", "full"], &["plan", "1", "full"]];
-
 #[test]
 fn writes_each_node_and_each_mark(rt: HostRuntime) {
-    for words in &FULL {
-        expect_each(&rt, rt.alloc(), words, &FULL_REPORTS);
-    }
+    expect_each(&rt, rt.alloc(), &["plain", "full"], &FULL_REPORTS);
+    expect_each(&rt, rt.alloc(), &["plan", "1", "full"], &FULL_REPORTS);
 }
 
 // How many lines a text has.

@@ -14,9 +14,7 @@ const IN_GOAL: &str = "prrt 1\nroom 10 10\nstart 5 5\ngoal 0 0 9 9\nstep 4\n";
 const NO_MARK: &str = "prrt 1\nroom 10 10\nstart 5 5\ngoal 0 0 1 1\nstep 4\n";
 
 // Words, the text that is read, the status, and how many nodes and marks the run has, if one is handed out.
-type Reported<'a> = (&'a [&'a str], &'a str, u8, Option<(u32, u32)>);
-
-static RUNS: [Reported; 14] = [
+static RUNS: [(&[&str], &str, u8, Option<(u32, u32)>); 14] = [
     (&["plain"], ON_NODE, 0, Some((2, 2))),
     (&["plain"], PAST_STEP, 1, Some((4, 3))),
     (&["plain"], NO_MARK, 1, Some((1, 0))),
@@ -40,9 +38,9 @@ fn expect_end<R: Threads + Sync + Abort>(rt: &R, alloc: Global, words: &[&str], 
     drop(called);
 }
 
-// The same of each run.
-fn expect_each_end<R: Threads + Sync + Abort>(rt: &R, alloc: Global, runs: &[Reported]) {
-    for (words, scene, status, run) in runs {
+#[test]
+fn hands_out_the_run_that_is_reported(rt: HostRuntime) {
+    for (words, scene, status, run) in &RUNS {
         let case = Case {
             shows: "a run",
             scene,
@@ -50,13 +48,8 @@ fn expect_each_end<R: Threads + Sync + Abort>(rt: &R, alloc: Global, runs: &[Rep
             text: "",
             run: *run,
         };
-        expect_end(rt, alloc, words, &case);
+        expect_end(&rt, rt.alloc(), words, &case);
     }
-}
-
-#[test]
-fn hands_out_the_run_that_is_reported(rt: HostRuntime) {
-    expect_each_end(&rt, rt.alloc(), &RUNS);
 }
 
 #[test]
