@@ -2,7 +2,7 @@
 
 from dataclasses import replace
 
-from world_steps import Steps
+from world_steps import Steps, put
 from world_words import tree_word
 
 
@@ -202,6 +202,47 @@ class WritesNoFirstWord(Steps):
     def write_first(self, i, parent, kept):
         super().write_first(i, parent, kept)
         self.world.words[self.run.first(self.view(i).hand.node)] = 0
+
+
+class AnswersChildrenFromAPrivateList(Steps):
+    """A load of a child tells what the pass had seen there before; the word is not looked at."""
+
+    def load(self, i, place):
+        if self.run.names[place][0] != "child":
+            return super().load(i, place)
+        view = self.view(i)
+        word, steps = view.seen[place], view.steps + 1
+        found_zero = view.found_zero if word else put(view.found_zero, place, steps)
+        self.set_view(i, steps=steps, looked=put(view.looked, place, steps), found_zero=found_zero)
+        return word
+
+
+class HandsOnWhatItFoundEmpty(Steps):
+    """A new view takes over which places were found empty."""
+
+    def found_by_new(self, view):
+        return view.found_zero
+
+
+class NotesNoFill(Steps):
+    """A link notes no steps of the views."""
+
+    def noted(self, i, place, fills):
+        return fills
+
+
+class NotesMoreStepsThanMade(Steps):
+    """A link notes a step more of each view than it has made."""
+
+    def noted(self, i, place, fills):
+        return ((place, tuple(view.steps + 1 for view in self.world.views)), *fills)
+
+
+class LosesFillsByJoins(Steps):
+    """A view that takes over another does not take over its fills."""
+
+    def both_fills(self, fills, other):
+        return fills
 
 
 class TakesAnyStrip(Steps):

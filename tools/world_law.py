@@ -193,6 +193,19 @@ def copies(run, words, views, tree):
             yield "copy"
 
 
+def empties(run, words, views, tree):
+    """No fill notes more steps of a view than it has made; no view has found a filled place empty by a step after those."""
+    noted = {}
+    for place, steps in {fill for view in views for fill in view.fills}:
+        for i, made in enumerate(steps):
+            noted[place, i] = max(noted.get((place, i), 0), made)
+    if any(made and (i >= len(views) or views[i].run is run and made > views[i].steps) for (_, i), made in noted.items()):
+        yield "made"
+    for i, view in enumerate(views):
+        if view.run and any(words[place] and view.found_zero[place] > noted.get((place, i), 0) for place in run.child_places):
+            yield "filled"
+
+
 # ---- links
 
 
@@ -391,7 +404,7 @@ def records(run, words, views, tree):
 
 # ---- the law
 
-PARTS = (of_run, numbers, turns, shares, seen, links, trees, hands, pairs, seen_pairs, records, sights, copies)
+PARTS = (of_run, numbers, turns, shares, seen, links, trees, hands, pairs, seen_pairs, records, sights, copies, empties)
 
 
 def broken_parts(world):

@@ -84,6 +84,58 @@ def other_step_numbers(rng, world):
 
 
 @mutant
+def found_empty_after_its_fill(rng, world):
+    """A view has found a place of a child empty by a step that it made after the place was filled, as the fill notes."""
+    run = world.run
+    late = [
+        (i, place)
+        for i, view in enumerate(world.views)
+        if view.run
+        for place in run.child_places
+        if world.words[place] and view.steps > max((now[i] for _, at, now in fills_of(world) if at == place and i < len(now)), default=0)
+    ]
+    found = pick(rng, late)
+    if found is None:
+        return None
+    i, place = found
+    world.views[i] = replace(world.views[i], found_zero=put(world.views[i].found_zero, place, world.views[i].steps))
+    return ""
+
+
+def fills_of(world):
+    """The fills that views note: whose they are, the place, and the steps of the views by then."""
+    return [(i, place, now) for i, view in enumerate(world.views) for place, now in view.fills]
+
+
+@mutant
+def fill_of_steps_to_come(rng, world):
+    """A fill notes more steps of a view than it has made, or steps of a view that is not there."""
+    found = pick(rng, fills_of(world))
+    if found is None:
+        return None
+    i, place, now = found
+    live = [j for j in range(len(now)) if world.views[j].run]
+    j = pick(rng, live)
+    beyond = j is None or len(now) == len(world.views) and rng.random() < 0.3
+    then = (*now, 1) if beyond else put(now, j, world.views[j].steps + 1)
+    fills = tuple((place, then) if fill == (place, now) else fill for fill in world.views[i].fills)
+    world.views[i] = replace(world.views[i], fills=fills)
+    return "" if j is not None else "no view that is there has fewer steps"
+
+
+@mutant
+def fill_forgotten(rng, world):
+    """No view notes when a place was filled that some view has found empty."""
+    found = {place for view in world.views if view.run for place in world.run.child_places if world.words[place] and view.found_zero[place]}
+    place = pick(rng, sorted(found))
+    if place is None:
+        return None
+    for i, view in enumerate(world.views):
+        world.views[i] = replace(view, fills=tuple(fill for fill in view.fills if fill[0] != place))
+    return ""
+
+
+@mutant
 def spent_view_has_something(rng, world):
     """A view that was taken over has a hand, a share or a limit still."""
     i = pick(rng, (i for i, view in enumerate(world.views) if view == SPENT))

@@ -261,8 +261,13 @@ class Steps:
         self.saw(i, place, 0, hand.node)
         seen = put(self.view(i).seen, run.point(hand.node), point_word(hand.point))
         seen = put(put(seen, run.tree(hand.node), hand.pair), run.first(hand.node), hand.pair)
-        self.set_view(i, seen=seen, hand=replace(hand, stage="linked"))
+        fills = self.noted(i, place, self.view(i).fills)
+        self.set_view(i, seen=seen, hand=replace(hand, stage="linked"), fills=fills)
         return 0
+
+    def noted(self, i, place, fills):
+        """The fills of a view that has just filled a place: it notes the steps that the views have made by then."""
+        return ((place, tuple(view.steps for view in self.world.views)), *fills)
 
     def count(self, i):
         """An addition to the count."""
@@ -306,9 +311,13 @@ class Steps:
         view = self.view(i)
         need(not hand_on or len(view.crew) > 1, "crew")
         given = view.crew[1:2] if hand_on else ()
-        self.world.views.append(replace(view, crew=given, hand=None))
+        self.world.views.append(replace(view, crew=given, hand=None, found_zero=self.found_by_new(view)))
         self.stepped(i, crew=self.kept_crew(view.crew, given))
         return len(self.world.views) - 1
+
+    def found_by_new(self, view):
+        """What a new view has found 0 itself: no word."""
+        return (0,) * len(view.found_zero)
 
     def kept_crew(self, crew, given):
         """The crew without whom it gave away."""
@@ -319,12 +328,17 @@ class Steps:
         view, other = self.view(i), self.view(j)
         need(i != j and other != SPENT and not view.hand and not other.hand, "hand")
         seen = self.merged(view.seen, other.seen)
-        self.stepped(i, crew=self.both_crews(view.crew, other.crew), most=max(view.most, other.most), seen=seen, took=other.seen)
+        crew, fills = self.both_crews(view.crew, other.crew), self.both_fills(view.fills, other.fills)
+        self.stepped(i, crew=crew, most=max(view.most, other.most), seen=seen, took=other.seen, fills=fills)
         self.world.views[j] = SPENT
 
     def merged(self, one, other):
         """The later of what two tables say of each word."""
         return tuple(map(later_word, self.run.kinds, one, other))
+
+    def both_fills(self, fills, other):
+        """The fills of both."""
+        return fills + other
 
     def both_crews(self, crew, other):
         """Two crews, one after the other."""

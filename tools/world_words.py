@@ -164,6 +164,8 @@ class View:
     steps: int
     looked: tuple
     found_zero: tuple
+    # the places of children that it has filled, or took over, each with the steps that the views had made by then
+    fills: tuple = ()
 
 
 # What is left of a view that was taken over.

@@ -1,5 +1,5 @@
 -- What a pass with the share of all workers sees after the node in hand was placed: the tree that it saw before, with that node.
-use Rattle.std.proofs.Common.{◌≡◌, ℕ, suc, ◌^◌, ◌<◌, ◌≤◌, Bool, true, false, length, Option, Some, None, refl, sym, ap, ◌∙◌, subst, inl, inr}
+use Rattle.std.proofs.Common.{◌≡◌, ℕ, suc, ◌^◌, ◌<◌, ◌≤◌, Bool, true, false, List, length, Option, Some, None, refl, sym, ap, ◌∙◌, subst, inl, inr}
 use Rattle.std.specs.Prelude.{IfSome}
 use Rattle.std.proofs.lemmas.Bool.{cases_eq}
 use Rattle.plan_model.specs.declared.geometry.Point.{Point}
@@ -10,7 +10,7 @@ use Rattle.step_core.specs.GrownWords.{child_of_word, has_node, record_at}
 use Rattle.step_core.specs.LaterViews.{IsLater, IsLawfulView}
 use Rattle.step_core.specs.SeenWords.{seen_tree_of_words}
 use Rattle.step_core.specs.Stages.{has_first, has_link}
-use Rattle.step_core.specs.ViewSteps.{counted, linked}
+use Rattle.step_core.specs.ViewSteps.{counted, last_fill, linked}
 use Rattle.step_core.specs.ViewTrees.{LeadsTo, SeesNode, SeesPoint}
 use Rattle.step_core.specs.Views.{run_sizes, sees, tree_seen}
 use Rattle.step_core.specs.WordNames.{ChangesOnly, Word}
@@ -58,8 +58,8 @@ module _ (entry now : View) (all : HasWholeShare entry) (looks : OnlyLooks entry
 
   -- ---- the node in hand is linked
 
-  module _ (after : View) (hand : Hand) (n : ℕ) (side : Bool) (later : IsLater now after) (held : now.hand ≡ Some hand) (treed : hand.stage ≡ Treed)
-      (leads : LeadsTo now hand.point n side) (is : after ≡ counted (linked now hand n side) hand) where
+  module _ (after : View) (hand : Hand) (n : ℕ) (side : Bool) (steps : List ℕ) (later : IsLater now after) (held : now.hand ≡ Some hand)
+      (treed : hand.stage ≡ Treed) (leads : LeadsTo now hand.point n side) (is : after ≡ counted (linked now hand n side steps) hand) where
     lawful : IsLawfulView now
     lawful = looks.looks.goes_on.lawful
 
@@ -122,7 +122,7 @@ module _ (entry now : View) (all : HasWholeShare entry) (looks : OnlyLooks entry
       absent = λ here. unseen (was_lawful.tree.rooted.points (suc hand.mark)
           (subst (λ l. IsPresent l (suc hand.mark)) (linked_points-seen entry was_lawful) here));
       stands = ap (λ l. point_at l (suc hand.mark)) (linked_points-seen after lawful_then)
-          ∙ (IsLinkedAt-counted now after hand n side lawful held treed leads is).point;
+          ∙ (IsLinkedAt-counted now after hand n side steps lawful held treed leads is).point;
       parent = ap parent_in shows.tree ∙ parent_in-tree_word hand.parent hand.cost fits.0;
       cost = ap cost_in shows.tree ∙ cost_in-tree_word hand.parent hand.cost fits.0 fits.1;
       written_cost = ap cost_in shows.first ∙ cost_in-tree_word hand.parent hand.cost fits.0 fits.1;
@@ -161,10 +161,10 @@ IfSome-free Holds entry now p n (Some hand) all looks is stands = λ free. absur
 pub IfSome-sees_linked : (entry : View) (mid after : PassState) (n : ℕ) (side : Bool) (held : Option Hand) → HasWholeShare entry → OnlyLooks entry mid.view
     → GoesOn mid.view after.view → mid.view.hand ≡ held → IfSome held (λ hand. hand.stage ≡ Treed)
     → IfSome held (λ hand. LeadsTo mid.view hand.point n side)
-    → IfSome mid.view.hand (λ hand. after ≡ with_view mid (counted (linked mid.view hand n side) hand))
+    → IfSome mid.view.hand (λ hand. after ≡ with_view mid (counted (linked mid.view hand n side (last_fill after.view)) hand))
     → IfSome held (λ hand. SeesLinked entry after.view hand)
 IfSome-sees_linked entry mid after n side None all looks goes_on kept treed leads is = tt
 IfSome-sees_linked entry mid after n side (Some hand) all looks goes_on kept treed leads is =
-    let made : after ≡ with_view mid (counted (linked mid.view hand n side) hand) =
-    subst (λ o. IfSome o (λ h. after ≡ with_view mid (counted (linked mid.view h n side) h))) kept is in
-    SeesLinked-linked entry mid.view all looks after.view hand n side goes_on.later kept treed leads (ap (λ (p : PassState). p.view) made) goes_on.lawful
+    let made : after ≡ with_view mid (counted (linked mid.view hand n side (last_fill after.view)) hand) =
+    subst (λ o. IfSome o (λ h. after ≡ with_view mid (counted (linked mid.view h n side (last_fill after.view)) h))) kept is in
+    SeesLinked-linked entry mid.view all looks after.view hand n side (last_fill after.view) goes_on.later kept treed leads (ap (λ (p : PassState). p.view) made) goes_on.lawful

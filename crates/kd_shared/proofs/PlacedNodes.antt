@@ -4,7 +4,7 @@ use Rattle.std.specs.Prelude.{IfSome, IsSome}
 use Rattle.plan_model.specs.declared.geometry.Point.{Point}
 use Rattle.plan_words.specs.Nodes.{IsLinkedAt, NamesNode}
 use Rattle.plan_words.specs.States.{BelongsTo, GoesOn, PassState, SharedState, with_view}
-use Rattle.step_core.specs.ViewSteps.{counted, linked}
+use Rattle.step_core.specs.ViewSteps.{counted, last_fill, linked}
 use Rattle.step_core.specs.ViewTrees.{LeadsTo, SeesPoint, sight_in}
 use Rattle.step_core.specs.Views.{sees, tree_seen}
 use Rattle.step_core.specs.WordNames.{ChangesOnly}
@@ -81,15 +81,15 @@ PassPlaces-looks shared before mid after one other = record {
 }
 
 pub PassPlaces-links : (shared : SharedState) (before after : PassState) (n : ℕ) (side : Bool) → BelongsTo before shared → IsSome before.view.hand
-    → IfSome before.view.hand (λ hand. after ≡ with_view before (counted (linked before.view hand n side) hand)) → GoesOn before.view after.view
+    → IfSome before.view.hand (λ hand. after ≡ with_view before (counted (linked before.view hand n side (last_fill after.view)) hand)) → GoesOn before.view after.view
     → ChangesOnly NamesNode (sees before.view) (sees after.view) → PassPlaces shared before after
 PassPlaces-links shared before after n side belongs held view goes_on others = by_hand before.view.hand held view
   where
-    by_hand : (o : Option Hand) → IsSome o → IfSome o (λ hand. after ≡ with_view before (counted (linked before.view hand n side) hand))
+    by_hand : (o : Option Hand) → IsSome o → IfSome o (λ hand. after ≡ with_view before (counted (linked before.view hand n side (last_fill after.view)) hand))
         → PassPlaces shared before after
     by_hand None none is = cc
     by_hand (Some hand) some_hand is =
-        let view_is : after.view ≡ counted (linked before.view hand n side) hand = ap (λ (p : PassState). p.view) is in
+        let view_is : after.view ≡ counted (linked before.view hand n side (last_fill after.view)) hand = ap (λ (p : PassState). p.view) is in
         record {
           belongs = BelongsTo-later shared before after (ap (λ (p : PassState). p.table) is) goes_on.later belongs;
           goes_on = record { goes_on = goes_on; others = others };

@@ -17,8 +17,8 @@ use Rattle.plan_words.specs.States.{GoesOn, HoldsWorld}
 use Rattle.step_core.specs.LaterViews.{IsLater}
 use Rattle.step_core.specs.SeenRecords.{MayRecord}
 use Rattle.step_core.specs.Stages.{MayBeRecorded}
-use Rattle.step_core.specs.ViewSteps.{claimed, counted, finished, finished_at, half, joined, linked, linked_at, loaded, looker, lowered}
-use Rattle.step_core.specs.ViewSteps.{mark_of, pair_in_hand, parted, place_in, pointed, saw_at, stepped as one_step, treed, worker_apart}
+use Rattle.step_core.specs.ViewSteps.{claimed, counted, finished, finished_at, half, joined, last_fill, linked, linked_at, loaded, looker, lowered}
+use Rattle.step_core.specs.ViewSteps.{mark_of, pair_in_hand, parted, place_in, pointed, saw_at, stepped as one_step, steps_then, treed, worker_apart}
 use Rattle.step_core.specs.ViewTrees.{IsSteered, LeadsTo, MayHang, MayLoad, MayLower}
 use Rattle.step_core.specs.Views.{run_sizes, sees, share, spent, words_of_run}
 use Rattle.step_core.specs.WordNames.{Word, Words, WritesWord}
@@ -397,8 +397,8 @@ module _ (run : SharedRun) where
       own_place : place ≡ place_in me.0 (ChildOf n side)
       own_place = at_place ∙ ap (λ r. place_of (run_sizes r) (ChildOf n side)) (sym own)
 
-      leaves : ℕ → Hand → View
-      leaves found h = cond (found == 0) (linked_at me.0 h place) (saw_at me.0 place found found)
+      leaves : ℕ → List ℕ → Hand → View
+      leaves found noted h = cond (found == 0) (linked_at me.0 h place noted) (saw_at me.0 place found found)
 
       pick :
           (b : Bool) → (slice_index s.words place == 0) ≡ b
@@ -411,14 +411,15 @@ module _ (run : SharedRun) where
           let empty : words (ChildOf n side) ≡ 0 = sym (ap (slice_index s.words) at_place ∙ found_is s (ChildOf n side) within) ∙ eqb-true x 0 e in
           let writes : WritesWord (ChildOf n side) (suc hand.mark) words after =
           WritesWord-set (run_sizes run) s.words place (hand.mark + 1) (suc hand.mark) (ChildOf n side) holds.sized within at_place number in
-          let then : View = linked me.0 hand n side in
+          let noted : List ℕ = steps_then s.views id me.0 in
+          let then : View = linked me.0 hand n side noted in
           let world = IsWorld-linked run words after s.views id me.0 holds.world at own hand held stage n side leads empty writes in
-          let later = IsLater-link run words after s.views id me.0 holds.world at own hand held stage n side leads empty in
-          let view_is : then ≡ leaves x hand =
-          ap (λ i. linked_at me.0 hand i) (sym own_place) ∙ ap (λ b. cond b (linked_at me.0 hand place) (saw_at me.0 place x x)) (sym e) in
+          let later = IsLater-link run words after s.views id me.0 holds.world at own hand held stage n side leads empty noted in
+          let view_is : then ≡ leaves x noted hand =
+          ap (λ i. linked_at me.0 hand i noted) (sym own_place) ∙ ap (λ b. cond b (linked_at me.0 hand place noted) (saw_at me.0 place x x)) (sym e) in
           owes slots id place (hand.mark + 1) me s then (Links (step slots place 0 (hand.mark + 1) none) me x) holds world
           record {
-            told = of_hand me then (leaves x) hand held view_is (goes_on words after s.views id me.0 then holds.world at own world later);
+            told = of_hand me then (leaves x noted) hand held view_is (goes_on words after s.views id me.0 then holds.world at own world later);
             whole = finds_as_seen slots id place me (ChildOf n side) within at_place own s holds at may;
           }
       pick false e =
@@ -427,8 +428,8 @@ module _ (run : SharedRun) where
           owes slots id place x me s then (Links (step slots place 0 (hand.mark + 1) none) me x) holds
           (world_kept slots id place me (ChildOf n side) within at_place own s holds at may)
           record {
-            told = of_hand me then (leaves x) hand held
-                (ap (λ b. cond b (linked_at me.0 hand place) (saw_at me.0 place x x)) (sym e))
+            told = of_hand me then (leaves x (last_fill me.0)) hand held
+                (ap (λ b. cond b (linked_at me.0 hand place (last_fill me.0)) (saw_at me.0 place x x)) (sym e))
                 (goes_on_loaded slots id place me (ChildOf n side) within at_place own s holds at may);
             whole = finds_as_seen slots id place me (ChildOf n side) within at_place own s holds at may;
           }

@@ -1,5 +1,5 @@
 -- What a pass keeps and has seen after a step for the mark in its hand.
-use Rattle.std.proofs.Common.{◌≡◌, ◌≢◌, ℕ, zero, suc, ◌<◌, ◌≤◌, ◌^◌, Bool, true, false, length, Option, Some, None, inr, refl, sym, ap, ◌∙◌, subst, arith}
+use Rattle.std.proofs.Common.{◌≡◌, ◌≢◌, ℕ, zero, suc, ◌<◌, ◌≤◌, ◌^◌, Bool, true, false, List, length, Option, Some, None, inr, refl, sym, ap, ◌∙◌, subst, arith}
 use Rattle.std.specs.Prelude.{◌==◌, cond, IfSome, IsSome, is_some}
 use Rattle.std.proofs.lemmas.Bool.{eqb-true, ne_eqb}
 use Rattle.plan_model.specs.Bounds.{IsBounded}
@@ -8,7 +8,7 @@ use Rattle.plan_words.specs.States.{PassState, with_view}
 use Rattle.step_core.specs.GrownWords.{child_of_word}
 use Rattle.step_core.specs.LaterViews.{IsLawfulView}
 use Rattle.step_core.specs.Stages.{has_point}
-use Rattle.step_core.specs.ViewSteps.{counted, linked, linked_at, loaded, place_in, saw_at}
+use Rattle.step_core.specs.ViewSteps.{counted, last_fill, linked, linked_at, loaded, place_in, saw_at}
 use Rattle.step_core.specs.ViewTrees.{LeadsTo, SeesNode}
 use Rattle.step_core.specs.Views.{run_sizes, sees, tree_seen}
 use Rattle.step_core.specs.WordNames.{ChangesOnly, Word}
@@ -45,9 +45,9 @@ some_hand (Some hand) is = (hand, refl)
 
 -- ---- a link that was tried
 
-module _ (view : View) (hand : Hand) (place found : ℕ) (held : view.hand ≡ Some hand) where
+module _ (view : View) (hand : Hand) (place found : ℕ) (steps : List ℕ) (held : view.hand ≡ Some hand) where
   abbrev tried : Bool → View
-  tried b = cond b (linked_at view hand place) (saw_at view place found found)
+  tried b = cond b (linked_at view hand place steps) (saw_at view place found found)
 
   -- what was found is 0, or the number of a node
   pub tried_fits :
@@ -68,23 +68,29 @@ leads_seen view hand n side lawful leads = lawful.tree.rooted.points n (ap is_so
 -- it is counted then
 pub linked_view :
     (old mid new : PassState) (n : ℕ) (side : Bool) (found : ℕ) → found ≡ 0
-    → IfSome old.view.hand (λ hand. mid ≡ with_view old (cond (found == 0) (linked old.view hand n side) (loaded old.view (ChildOf n side) found)))
+    → IfSome old.view.hand (λ hand.
+    mid ≡ with_view old (cond (found == 0) (linked old.view hand n side (last_fill mid.view)) (loaded old.view (ChildOf n side) found)))
     → IfSome mid.view.hand (λ hand. new ≡ with_view mid (counted mid.view hand))
-    → IfSome old.view.hand (λ hand. new ≡ with_view old (counted (linked old.view hand n side) hand))
+    → IfSome old.view.hand (λ hand. new ≡ with_view old (counted (linked old.view hand n side (last_fill new.view)) hand))
 linked_view old mid new n side found none first then = by_hand old.view.hand first
   where
     by_hand :
         (o : Option Hand)
-        → IfSome o (λ hand. mid ≡ with_view old (cond (found == 0) (linked old.view hand n side) (loaded old.view (ChildOf n side) found)))
-        → IfSome o (λ hand. new ≡ with_view old (counted (linked old.view hand n side) hand))
+        → IfSome o (λ hand.
+        mid ≡ with_view old (cond (found == 0) (linked old.view hand n side (last_fill mid.view)) (loaded old.view (ChildOf n side) found)))
+        → IfSome o (λ hand. new ≡ with_view old (counted (linked old.view hand n side (last_fill new.view)) hand))
     by_hand None is = tt
     by_hand (Some hand) is =
-        let made : mid ≡ with_view old (linked old.view hand n side) =
-        is ∙ ap (λ r. with_view old (cond (r == 0) (linked old.view hand n side) (loaded old.view (ChildOf n side) r))) none in
-        subst (λ m. IfSome m.view.hand (λ h. new ≡ with_view m (counted m.view h))) made then
+        let steps : List ℕ = last_fill mid.view in
+        let made : mid ≡ with_view old (linked old.view hand n side steps) =
+        is ∙ ap (λ r. with_view old (cond (r == 0) (linked old.view hand n side steps) (loaded old.view (ChildOf n side) r))) none in
+        let count : new ≡ with_view old (counted (linked old.view hand n side steps) hand) =
+        subst (λ m. IfSome m.view.hand (λ h. new ≡ with_view m (counted m.view h))) made then in
+        let same : last_fill new.view ≡ steps = ap (λ p. last_fill p.view) count in
+        count ∙ ap (λ l. with_view old (counted (linked old.view hand n side l) hand)) (sym same)
 
-module _ (view then : View) (hand : Hand) (n : ℕ) (side : Bool) (lawful : IsLawfulView view) (held : view.hand ≡ Some hand)
-    (stage : hand.stage ≡ Treed) (leads : LeadsTo view hand.point n side) (is : then ≡ counted (linked view hand n side) hand) where
+module _ (view then : View) (hand : Hand) (n : ℕ) (side : Bool) (steps : List ℕ) (lawful : IsLawfulView view) (held : view.hand ≡ Some hand)
+    (stage : hand.stage ≡ Treed) (leads : LeadsTo view hand.point n side) (is : then ≡ counted (linked view hand n side steps) hand) where
   within : n ≤ length view.run.marks
   within = lawful.within n (leads_seen view hand n side lawful leads)
 
@@ -103,7 +109,7 @@ module _ (view then : View) (hand : Hand) (n : ℕ) (side : Bool) (lawful : IsLa
       subst (λ v. IsLinkedAt v n side hand) (sym is) (record {
         child = ap child_of_word shows.child;
         point =
-            point_at-seen (run_sizes view.run) (sees (linked view hand n side)) (suc hand.mark) (omega (arith, low))
+            point_at-seen (run_sizes view.run) (sees (linked view hand n side steps)) (suc hand.mark) (omega (arith, low))
             ∙ ap point_of_word shows.point ∙ point_of_word-packed hand.point bounded;
         pair = shows.tree;
         first = shows.first;
@@ -122,10 +128,11 @@ module _ (view then : View) (hand : Hand) (n : ℕ) (side : Bool) (lawful : IsLa
 
 pub met_view :
     (old mid : PassState) (hand : Hand) (n : ℕ) (side : Bool) (found : ℕ) → found ≢ 0
-    → mid ≡ with_view old (cond (found == 0) (linked old.view hand n side) (loaded old.view (ChildOf n side) found))
+    → mid ≡ with_view old (cond (found == 0) (linked old.view hand n side (last_fill mid.view)) (loaded old.view (ChildOf n side) found))
     → mid.view ≡ loaded old.view (ChildOf n side) found
 met_view old mid hand n side found some_child is =
-    ap (λ p. p.view) is ∙ ap (λ b. cond b (linked old.view hand n side) (loaded old.view (ChildOf n side) found)) (ne_eqb found 0 some_child)
+    ap (λ p. p.view) is
+    ∙ ap (λ b. cond b (linked old.view hand n side (last_fill mid.view)) (loaded old.view (ChildOf n side) found)) (ne_eqb found 0 some_child)
 
 module _
     (view then : View) (n : ℕ) (side : Bool) (c : ℕ) (lawful : IsLawfulView view) (seen : SeesNode view n) (some_child : c ≢ 0)

@@ -151,14 +151,14 @@ HasPairs-claimed view pairs g c limit lawful strip has =
 
 -- a node is linked, and its tree word is seen
 pub HasPairs-linked :
-    (view : View) (hand : Hand) (n : ℕ) (side : Bool) (place : ℕ) (pairs : List ℕ) (x : ℕ) → IsLawfulView view → view.hand ≡ Some hand
+    (view : View) (hand : Hand) (n : ℕ) (side : Bool) (place : ℕ) (steps pairs : List ℕ) (x : ℕ) → IsLawfulView view → view.hand ≡ Some hand
     → n ≤ length view.run.marks → place ≡ place_in view (ChildOf n side) → x ≡ pair_in_hand hand → HasPairs view pairs
-    → HasPairs (linked_at view hand place) (slice_set pairs (hand.mark + 1) x)
-HasPairs-linked view hand n side place pairs x lawful held within at_place is has =
+    → HasPairs (linked_at view hand place steps) (slice_set pairs (hand.mark + 1) x)
+HasPairs-linked view hand n side place steps pairs x lawful held within at_place is has =
     let low = lawful.mark hand held in
     let shows = sees-linked view.run view lawful.of_run hand n side within low in
-    let then : View = linked_at view hand place in
-    let same : then ≡ linked view hand n side = ap (linked_at view hand) at_place in
+    let then : View = linked_at view hand place steps in
+    let same : then ≡ linked view hand n side steps = ap (λ i. linked_at view hand i steps) at_place in
     record {
       for_each = length-set pairs (hand.mark + 1) x ∙ has.for_each;
       seen = λ m here.

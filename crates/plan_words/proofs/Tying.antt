@@ -4,6 +4,7 @@ use Rattle.std.proofs.Common.{[], ◌∷◌, length, Option, Some, None, refl, s
 use Rattle.std.specs.Prelude.{IfSome, IsSome, is_some}
 use mathlib.Core.Option.{some, some-ne-none}
 use lib.ListN.{get_elem?}
+use Rattle.std.proofs.lemmas.List.{length-replicate}
 use Rattle.std.proofs.lemmas.Option.{same_Some}
 use Rattle.plan_model.specs.declared.limits.TheConstants.{MOST_MARKS, MOST_WORKERS}
 use Rattle.plan_model.specs.declared.records.Record.{Record}
@@ -13,7 +14,8 @@ use Rattle.step_core.specs.ViewSteps.{finished_at, looker, one_turn_more, parted
 use Rattle.step_core.specs.PlacesOfWords.{sizes_in}
 use Rattle.step_core.specs.SeenRecords.{MayRecord}
 use Rattle.step_core.specs.ViewTrees.{IsSeenPair}
-use Rattle.step_core.specs.Views.{IsViewOf, run_sizes, spent, words_of_run}
+use Rattle.step_core.specs.Views.{IsViewOf, last_zero, run_sizes, spent, words_of_run}
+use Rattle.step_core.specs.WordNames.{Word}
 use Rattle.step_core.specs.Words.{FitsWord}
 use Rattle.step_core.specs.declared.views.Hand.{Hand}
 use Rattle.step_core.specs.declared.views.Member.{Member}
@@ -22,6 +24,7 @@ use Rattle.step_core.specs.declared.views.View.{View}
 use Rattle.step_core.specs.declared.word_places.WordPlaces.{WordPlaces}
 use Rattle.step_core.proofs.LaterViews.{IsLater-stepped}
 use Rattle.step_core.proofs.SeenTreesOfViews.{SeesTree-apart, SeesTree-looker, SeesTree-parted, SeesTree-stepped}
+use Rattle.step_core.proofs.WorldEmpties.{zero-read}
 use Rattle.step_core.proofs.WorldSplits.{goes_at, stays_at}
 use Rattle.plan_words.proofs.FittingRecords.{last_fits, nearest_fits}
 
@@ -100,18 +103,16 @@ MayClaim-finished shared pass then place word hand belongs lawful held is = reco
 -- a view with the same tables, after no fewer steps
 IsViewOf-later :
     (view then : View) → IsViewOf view.run view → view.steps ≤ then.steps → then.run ≡ view.run → then.seen ≡ view.seen → then.looked ≡ view.looked
-    → then.found_zero ≡ view.found_zero → IsViewOf then.run then
-IsViewOf-later view then of_run order run_is seen looked found_zero = subst (λ r. IsViewOf r then) (sym run_is) (record {
+    → length then.found_zero ≡ length view.found_zero → ((name : Word) → last_zero then name ≤ last_zero view name) → IsViewOf then.run then
+IsViewOf-later view then of_run order run_is seen looked found_zero zero_looks = subst (λ r. IsViewOf r then) (sym run_is) (record {
   run_is = run_is;
   seen = ap (λ l. length l) seen ∙ of_run.seen;
   looked = ap (λ l. length l) looked ∙ of_run.looked;
-  found_zero = ap (λ l. length l) found_zero ∙ of_run.found_zero;
+  found_zero = found_zero ∙ of_run.found_zero;
   looks = λ name.
       let same = ap (λ r. words_of_run r then.looked name) run_is ∙ ap (λ l. words_of_run view.run l name) looked in
       omega (arith, same, of_run.looks name, order);
-  zero_looks = λ name.
-      let same = ap (λ r. words_of_run r then.found_zero name) run_is ∙ ap (λ l. words_of_run view.run l name) found_zero in
-      omega (arith, same, of_run.zero_looks name, order);
+  zero_looks = λ name. omega (arith, zero_looks name, of_run.zero_looks name, order);
 })
 
 -- what is said of seen pairs is said of the run and of what is seen alone
@@ -130,7 +131,7 @@ IsSeenPair-again view then n same pair =
 IsLawfulView-stepped : (view : View) → IsLawfulView view → IsLawfulView (stepped view)
 IsLawfulView-stepped view lawful = record {
   run = lawful.run;
-  of_run = IsViewOf-later view (stepped view) lawful.of_run (omega arith) refl refl refl refl;
+  of_run = IsViewOf-later view (stepped view) lawful.of_run (omega arith) refl refl refl refl (λ name. omega arith);
   most = lawful.most;
   crew = lawful.crew;
   idle = lawful.idle;
@@ -166,7 +167,8 @@ GoesOn-stepped view lawful = record { was_lawful = lawful; later = IsLater-stepp
 IsLawfulView-looker : (view : View) → IsLawfulView view → IsLawfulView (looker view)
 IsLawfulView-looker view lawful = record {
   run = lawful.run;
-  of_run = IsViewOf-later view (looker view) lawful.of_run (omega arith) refl refl refl refl;
+  of_run = IsViewOf-later view (looker view) lawful.of_run (omega arith) refl refl refl (length-replicate (length view.found_zero) 0)
+      (λ name. omega (arith, zero-read (run_sizes view.run) (length view.found_zero) name));
   most = lawful.most;
   crew = omega arith;
   idle = λ none. refl;
@@ -230,7 +232,7 @@ IsTied-parted view member hand tied =
       hand_is = tied.hand_is;
       lawful = record {
         run = lawful.run;
-        of_run = IsViewOf-later view (parted view) lawful.of_run (omega arith) refl refl refl refl;
+        of_run = IsViewOf-later view (parted view) lawful.of_run (omega arith) refl refl refl refl (λ name. omega arith);
         most = lawful.most;
         crew = le_trans (fewer_left view.crew) lawful.crew;
         idle = λ none. lawful.idle (none_left view.crew none);
@@ -265,7 +267,8 @@ IsTied-apart view member lawful second = record {
   hand_is = refl;
   lawful = record {
     run = lawful.run;
-    of_run = IsViewOf-later view (worker_apart view) lawful.of_run (omega arith) refl refl refl refl;
+    of_run = IsViewOf-later view (worker_apart view) lawful.of_run (omega arith) refl refl refl (length-replicate (length view.found_zero) 0)
+        (λ name. omega (arith, zero-read (run_sizes view.run) (length view.found_zero) name));
     most = lawful.most;
     crew = omega (arith, ap (λ l. length l) second, lawful.run.workers.0);
     idle = λ none. refl;

@@ -9,7 +9,7 @@ use Rattle.plan_words.specs.declared.openings.Aim.{Aim}
 use Rattle.plan_words.specs.Parents.{FindsLess}
 use Rattle.plan_words.specs.States.{GoesOn, HasWholeShare}
 use Rattle.step_core.specs.SeenRecords.{own_count}
-use Rattle.step_core.specs.ViewSteps.{claimed, counted, finished_at, half, linked_at, place_in, pointed, saw_at, treed}
+use Rattle.step_core.specs.ViewSteps.{claimed, counted, finished_at, half, last_fill, linked_at, place_in, pointed, saw_at, treed}
 use Rattle.step_core.specs.ViewTrees.{MayLoad, SeesNode}
 use Rattle.step_core.specs.Views.{sees, tree_seen}
 use Rattle.step_core.specs.WordNames.{Word}
@@ -100,9 +100,10 @@ pub record Lowers (step : Step Aim) (before : Me Aim View) (found : ℕ) (after 
   pub fell : found ≢ step.first → FindsLess step.first found
   pub whole : HasWholeShare before.0 → found ≡ step.first
 
--- the node in hand is linked, or a child was found there
+-- The node in hand is linked, or a child was found there. Which steps the view notes by a link no view before tells.
 pub record Links (step : Step Aim) (before : Me Aim View) (found : ℕ) (after : Me Aim View) : Type 0 where
-  pub told : TellsHand before (λ hand. if found == 0 then linked_at before.0 hand step.word else saw_at before.0 step.word found found) after
+  pub told : TellsHand before
+      (λ hand. if found == 0 then linked_at before.0 hand step.word (last_fill after.0) else saw_at before.0 step.word found found) after
   pub whole : FindsAsSeen before.0 step.word found
 
 -- the node in hand is counted

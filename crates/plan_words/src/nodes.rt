@@ -7,7 +7,7 @@ ghost use Rattle.plan_model.specs.Bounds.{IsBounded};
 ghost use Rattle.plan_words.specs.Nodes.{NamesChildOrPoint, IsLinkedAt, NamesNode, LeadsOn};
 ghost use Rattle.plan_words.specs.States.{BelongsTo, GoesOn, HasWholeShare, with_view};
 ghost use Rattle.step_core.specs.GrownWords.{child_of_word};
-ghost use Rattle.step_core.specs.ViewSteps.{counted, linked, loaded, pointed};
+ghost use Rattle.step_core.specs.ViewSteps.{counted, last_fill, linked, loaded, pointed};
 ghost use Rattle.step_core.specs.ViewTrees.{IsSteered, LeadsTo, SeesNode, SeesPoint, sight_in};
 ghost use Rattle.step_core.specs.Views.{sees, tree_seen};
 ghost use Rattle.step_core.specs.WordNames.{ChangesOnly, WritesWord};
@@ -112,7 +112,7 @@ impl Shared {
         requires treed { IfSome pass.old.view.hand (λ hand. hand.stage ≡ Treed) }
         requires leads { IfSome pass.old.view.hand (λ hand. LeadsTo pass.old.view hand.point node right) }
         ensures view { IfOk result (λ _. IfSome pass.old.view.hand (λ hand.
-            pass.new ≡ with_view pass.old (counted (linked pass.old.view hand node right) hand))) }
+            pass.new ≡ with_view pass.old (counted (linked pass.old.view hand node right (last_fill pass.new.view)) hand))) }
         ensures goes_on { GoesOn pass.old.view pass.new.view }
         ensures linked { IfOk result (λ _. IfSome pass.old.view.hand (λ hand. IsLinkedAt pass.new.view node right hand)) }
         ensures view_found { IfErr result (λ c. pass.new ≡ with_view pass.old (loaded pass.old.view (ChildOf node right) c)) }
@@ -142,7 +142,8 @@ impl Shared {
         requires treed { IfSome pass.old.view.hand (λ hand. hand.stage ≡ Treed) }
         requires leads { IfSome pass.old.view.hand (λ hand. LeadsTo pass.old.view hand.point node right) }
         ensures view { IfSome pass.old.view.hand (λ hand. pass.new ≡ with_view pass.old
-            (if result == 0 then linked pass.old.view hand node right else loaded pass.old.view (ChildOf node right) result)) }
+            (if result == 0 then linked pass.old.view hand node right (last_fill pass.new.view)
+            else loaded pass.old.view (ChildOf node right) result)) }
         ensures goes_on { GoesOn pass.old.view pass.new.view }
         ensures whole { HasWholeShare pass.old.view → result ≡ sees pass.old.view (ChildOf node right) }
     {

@@ -25,7 +25,7 @@ use Rattle.plan_words.proofs.KeptPairs.{if_hand}
 use Rattle.step_core.specs.GrownWords.{record_at}
 use Rattle.step_core.specs.LaterViews.{IsLater, IsLawfulView}
 use Rattle.step_core.specs.SeenRecords.{MayBePlaced, MayEnd, MayRecord, is_own_node, own_count, own_first_cost}
-use Rattle.step_core.specs.ViewSteps.{counted, linked, loaded}
+use Rattle.step_core.specs.ViewSteps.{counted, last_fill, linked, loaded}
 use Rattle.step_core.specs.ViewTrees.{SeesPoint}
 use Rattle.step_core.specs.Views.{sees, setup_in, tree_seen}
 use Rattle.step_core.specs.WordNames.Word.{ChildOf, Count, TreeOf}
@@ -87,11 +87,11 @@ module _ (before after : View) (later : IsLater before after) where
 -- and so after a link that was tried
 pub HangsFromStart-linked :
     {A : Type 0} (old new : PassState) (cost n : ℕ) (side : Bool) (result : Result A ℕ) → IsLater old.view new.view → HangsFromStart cost old.view
-    → IfOk result (λ _. IfSome old.view.hand (λ hand. new ≡ with_view old (counted (linked old.view hand n side) hand)))
+    → IfOk result (λ _. IfSome old.view.hand (λ hand. new ≡ with_view old (counted (linked old.view hand n side (last_fill new.view)) hand)))
     → IfErr result (λ c. new ≡ with_view old (loaded old.view (ChildOf n side) c)) → HangsFromStart cost new.view
 HangsFromStart-linked old new cost n side (Ok u) later hung is other =
     HangsFromStart-later old.view new.view later cost hung Counted
-    (ap (λ p. p.view.hand) (at_hand (λ hand. new ≡ with_view old (counted (linked old.view hand n side) hand)) old.view.hand hung.hand hung.held is))
+    (ap (λ p. p.view.hand) (at_hand (λ hand. new ≡ with_view old (counted (linked old.view hand n side (last_fill new.view)) hand)) old.view.hand hung.hand hung.held is))
 HangsFromStart-linked old new cost n side (Err c) later hung is other =
     HangsFromStart-kept old.view new.view later cost hung (ap (λ p. p.view.hand) other)
 

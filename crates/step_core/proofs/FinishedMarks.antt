@@ -38,6 +38,7 @@ use Rattle.step_core.proofs.SeenByViews.{IsViewOf-saw, WritesWord-saw}
 use Rattle.step_core.proofs.SeenTreesOfViews.{SeesTree-finished}
 use Rattle.step_core.proofs.ViewLists.{greatest-set}
 use Rattle.step_core.proofs.WordKinds.{AreBehind-trans}
+use Rattle.step_core.proofs.WorldEmpties.{Empties-kept, last_zero-saw}
 use Rattle.step_core.proofs.WorldHands.{Hands-recorded}
 use Rattle.step_core.proofs.WorldCopies.{Copies-seen}
 use Rattle.step_core.proofs.WorldLinks.{KeepsLinks, Links-recorded}
@@ -159,6 +160,8 @@ module _ (run : SharedRun) (words after : Words) (views : List View) (id : ℕ) 
             (AreBehind-saw (RecordOf k) x (sees view) (sees then) after saw_it writes.here behind) (λ part. omega (arith, part, same_share))
             (RecordOf k) x writes
             keeps_links some_share saw_it.here;
+        empties = Empties-kept run words after views id view then at world.empties refl (omega arith) refl keeps_links.children
+            (λ n side. last_zero-saw run view of_run (RecordOf k) here x x (ChildOf n side) (λ e. cc));
       }
     where
       keeps_links : KeepsLinks (run_sizes run) words after

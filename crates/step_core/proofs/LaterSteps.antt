@@ -1,5 +1,5 @@
 -- A view is a later one after the words of its node are written, after the node is linked, and after it is counted.
-use Rattle.std.proofs.Common.{ℕ, ◌<◌, ◌≤◌, Bool, length, refl, ap, ◌∙◌, inl, inr, arith}
+use Rattle.std.proofs.Common.{ℕ, ◌<◌, ◌≤◌, Bool, List, length, refl, ap, ◌∙◌, inl, inr, arith}
 use Rattle.plan_model.specs.declared.geometry.Point.{Point}
 use Rattle.step_core.specs.LaterViews.{IsLater}
 use Rattle.step_core.specs.ViewSteps.{counted, half, linked, pointed, treed}
@@ -51,9 +51,9 @@ IsLater-counted view hand = record {
 -- if no child was seen where the node is linked, and no other words of it
 pub IsLater-linked :
     (run : SharedRun) (view : View) → IsViewOf run view → (hand : Hand) (n : ℕ) (side : Bool) → n ≤ length run.marks → hand.mark < length run.marks
-    → MayShow n side hand (sees view) → IsLater view (linked view hand n side)
-IsLater-linked run view of_run hand n side within low may =
-    let then : View = linked view hand n side in
+    → MayShow n side hand (sees view) → (noted : List ℕ) → IsLater view (linked view hand n side noted)
+IsLater-linked run view of_run hand n side within low may noted =
+    let then : View = linked view hand n side noted in
     let looks = WritesWord-look_linked run view of_run hand n side within low in
     let zeros = WritesWord-zero_linked run view of_run hand n side within low in
     record {

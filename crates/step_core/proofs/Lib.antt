@@ -49,6 +49,7 @@ pub mod SumsBelow
 pub mod HandsAt
 pub mod WorldLinks
 pub mod WorldCopies
+pub mod WorldEmpties
 pub mod WorldHands
 pub mod WorldSteps
 pub mod WorldTrees
@@ -66,5 +67,7 @@ pub mod ClosedWorlds
 pub mod StartLinks
 pub mod WorldStarts
 pub mod LinkedWays
+pub mod FoundEmpty
+pub mod Histories
 pub mod LaterViews
 pub mod GrownFromWords

@@ -1,5 +1,5 @@
 -- What a view has seen after it has linked its node: the node below the one at whose end it was put, with its point, its parent and its cost.
-use Rattle.std.proofs.Common.{◌≡◌, ◌≢◌, ℕ, suc, ◌+◌, ◌<◌, ◌≤◌, ◌^◌, Bool, length, sym, ap, ◌∙◌, subst, inl, inr, arith}
+use Rattle.std.proofs.Common.{◌≡◌, ◌≢◌, ℕ, suc, ◌+◌, ◌<◌, ◌≤◌, ◌^◌, Bool, List, [], length, sym, ap, ◌∙◌, subst, inl, inr, arith}
 use Rattle.std.specs.Prelude.{◌⊎◌}
 use Rattle.step_core.specs.ViewSteps.{linked, pair_in_hand, saw}
 use Rattle.step_core.specs.Views.{IsViewOf, last_look, last_zero, run_sizes, sees}
@@ -52,8 +52,9 @@ MayShow-behind n side hand seen now behind empty own = record {
 
 module _ (run : SharedRun) (view : View) (of_run : IsViewOf run view) (hand : Hand) (n : ℕ) (side : Bool) (within : n ≤ length run.marks)
     (low : hand.mark < length run.marks) where
+  -- whatever steps it notes, which are not seen
   abbrev then : View
-  then = linked view hand n side
+  then = linked view hand n side []
 
   abbrev node : ℕ
   node = suc hand.mark
@@ -120,8 +121,8 @@ module _ (run : SharedRun) (view : View) (of_run : IsViewOf run view) (hand : Ha
   pub WritesWord-zero_linked : WritesWord (ChildOf n side) (view.steps + 1) (last_zero view) (last_zero then)
   WritesWord-zero_linked = WritesWord-zero run view of_run (ChildOf n side) child_here node
 
-  pub IsViewOf-linked : IsViewOf run then
-  IsViewOf-linked = record {
+  pub IsViewOf-linked : (steps : List ℕ) → IsViewOf run (linked view hand n side steps)
+  IsViewOf-linked steps = record {
     run_is = of_run.run_is;
     seen = (IsViewOf-saw run pair_shown pair_of_run (FirstOf node) first_here 0 (pair_in_hand hand)).seen;
     looked = shown_of_run.looked;

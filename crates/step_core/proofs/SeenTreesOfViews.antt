@@ -1,5 +1,5 @@
 -- A view still sees its tree after a step of its own: from node 0 on, with the nodes that it has placed, and the node in its hand.
-use Rattle.std.proofs.Common.{◌≡◌, ◌≢◌, ℕ, suc, ◌+◌, ◌<◌, ◌≤◌, ◌^◌, Bool, true, length, Some, refl, sym, ap, ◌∙◌, subst, inl, inr, arith}
+use Rattle.std.proofs.Common.{◌≡◌, ◌≢◌, ℕ, suc, ◌+◌, ◌<◌, ◌≤◌, ◌^◌, Bool, true, List, length, Some, refl, sym, ap, ◌∙◌, subst, inl, inr, arith}
 use Rattle.std.specs.Prelude.{is_some}
 use Rattle.std.proofs.lemmas.Option.{same_Some}
 use Rattle.plan_model.specs.Bounds.{IsBounded}
@@ -257,9 +257,9 @@ point_shown_at view m p is bounded within =
 pub SeesTree-linked :
     (run : SharedRun) (view : View) → IsViewOf run view → SeesTree view → (hand : Hand) → view.hand ≡ Some hand → hand.stage ≡ Treed
     → hand.mark < length run.marks → IsBounded hand.point → (n : ℕ) (side : Bool) → n ≤ length run.marks → LeadsTo view hand.point n side
-    → MayShow n side hand (sees view) → SeesTree (linked view hand n side)
-SeesTree-linked run view of_run tree hand held stage low bounded n side within leads may =
-    let then : View = linked view hand n side in
+    → MayShow n side hand (sees view) → (noted : List ℕ) → SeesTree (linked view hand n side noted)
+SeesTree-linked run view of_run tree hand held stage low bounded n side within leads may noted =
+    let then : View = linked view hand n side noted in
     let m : ℕ = suc hand.mark in
     let one : View = child_shown run view of_run hand n side within low in
     let two : View = point_shown run view of_run hand n side within low in

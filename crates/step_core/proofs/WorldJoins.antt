@@ -1,7 +1,7 @@
 -- A join keeps the law of worlds: shares are added, and what either has seen is seen.
 use Rattle.std.proofs.Common.{◌≡◌, ◌≢◌, ℕ, zero, suc, ◌<◌, ◌≤◌, ◌^◌, max, Bool, true, false, List, [], ◌∷◌}
 use Rattle.std.proofs.Common.{◌++◌, length, length-append, set, Some, None, refl, sym, ap, ◌∙◌, subst, inl, inr, arith, zero-le}
-use Rattle.std.specs.Prelude.{◌⊎◌, ◌==◌, ◌&&◌, nat_le, nat_lt, cond, slice_index}
+use Rattle.std.specs.Prelude.{◌⊎◌, ◌==◌, ◌&&◌, nat_le, nat_lt, cond}
 use Rattle.std.proofs.lemmas.Bool.{cases_eq, eqb-true, eqb-false, ne_eqb}
 use Rattle.std.proofs.lemmas.List.Sums.{sum_by-append}
 use mathlib.Core.Option.{some, some-ne-none, some-injective}
@@ -17,7 +17,7 @@ use Rattle.step_core.specs.WordKinds.{AreBehind, HaveWholePairs, MayBecome, Word
 use Rattle.step_core.specs.WordKinds.WordKind.{Rising, Once, Falling}
 use Rattle.step_core.specs.WordNames.{Word, Words}
 use Rattle.step_core.specs.WordNames.Word.{Count, Counter, PointOf, ChildOf, TreeOf, FirstOf, RecordOf}
-use Rattle.step_core.specs.WordPlaces.{Sizes, has_word, place_of, word_at, word_count}
+use Rattle.step_core.specs.WordPlaces.{Sizes, word_at, word_count}
 use Rattle.step_core.specs.Words.{cost_in, tree_of_word}
 use Rattle.step_core.specs.Worlds.{Agree, EachView, HasCopy, IsMember, IsWorld, greatest_limit, hands_at, limit_of, state_in}
 use Rattle.step_core.specs.declared.views.Member.{Member}
@@ -28,6 +28,7 @@ use Rattle.step_core.proofs.LaterWords.{IsWholePair-later, MayBecome-later, MayB
 use Rattle.step_core.proofs.ViewLists.{at-set, at-set_other, each-set, greatest-most, greatest-one, sum-set}
 use Rattle.step_core.proofs.SeenTreesTogether.{SeesTree-joined}
 use Rattle.step_core.proofs.WorldCopies.{same-later}
+use Rattle.step_core.proofs.WorldEmpties.{Empties-joined, zero-read}
 use Rattle.step_core.proofs.WorldHands.{Hands-views, IsWrittenFor}
 use Rattle.step_core.proofs.WorldLinks.{Links-views}
 use Rattle.step_core.proofs.WorldPairs.{HasFirst, HasFirst-none, HasTree, HasTree-none, Pairs-views}
@@ -36,15 +37,6 @@ use Rattle.step_core.proofs.WorldSteps.{live}
 
 -- ---- nothing seen
 
--- no list of words has a word
-none-read : (sizes : Sizes) (name : Word) → word_at sizes [] name ≡ 0
-unfolding word_at
-none-read sizes name = by_test (has_word sizes name)
-  where
-    by_test : (b : Bool) → cond b (slice_index [] (place_of sizes name)) 0 ≡ 0
-    by_test true = refl
-    by_test false = refl
-
 may_begin : (kind : WordKind) (word : ℕ) → MayBecome kind 0 word
 may_begin Rising word = zero-le
 may_begin Once word = inl refl
@@ -52,11 +44,11 @@ may_begin Falling word = inl refl
 
 -- and so it is behind all words
 pub AreBehind-nothing : (sizes : Sizes) (words : Words) → AreBehind (word_at sizes []) words
-AreBehind-nothing sizes words name = subst (λ w. MayBecome (kind_of name) w (words name)) (sym (none-read sizes name)) (may_begin (kind_of name) (words name))
+AreBehind-nothing sizes words name = subst (λ w. MayBecome (kind_of name) w (words name)) (sym (zero-read sizes 0 name)) (may_begin (kind_of name) (words name))
 
 -- a spent view has seen nothing
 sees-spent : (name : Word) → sees spent name ≡ 0
-sees-spent name = none-read (run_sizes no_run) name
+sees-spent name = zero-read (run_sizes no_run) 0 name
 
 AreBehind-spent : (words : Words) → AreBehind (sees spent) words
 AreBehind-spent words = AreBehind-nothing (run_sizes no_run) words
@@ -320,6 +312,7 @@ module _ (run : SharedRun) (words : Words) (views : List View) (id : ℕ) (view 
           (world.sights j other was own_too))
           (λ of. absurd (live_spent of));
       copies = λ name told. copy_after name (world.copies name told);
+      empties = Empties-joined run words views id view j other both world.empties at was apart there live_spent refl (omega arith) refl (λ name. refl);
     }
       where
         -- who saw a word as it is, is still there, or has come into both

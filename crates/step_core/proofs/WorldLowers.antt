@@ -32,6 +32,7 @@ use Rattle.step_core.proofs.SeenByViews.{IsViewOf-saw, WritesWord-saw}
 use Rattle.step_core.proofs.SeenTreesOfViews.{SeesTree-lowered}
 use Rattle.step_core.proofs.WordKinds.{AreBehind-trans}
 use Rattle.step_core.proofs.WorldCopies.{Copies-seen}
+use Rattle.step_core.proofs.WorldEmpties.{Empties-kept, last_zero-saw}
 use Rattle.step_core.proofs.WorldHands.{Hands-step}
 use Rattle.step_core.proofs.WorldLinks.{KeepsLinks, Links-kept}
 use Rattle.step_core.proofs.WorldNodes.{IsWorld-kept, KeepsMarks, grows_kept, numbers_kept}
@@ -169,6 +170,8 @@ module _ (run : SharedRun) (words : Words) (views : List View) (id : ℕ) (view 
         (SeesTree-lowered run view of_run (tree run words views id view world at own) n parent cost here
         ((tree run words views id view world at own).rooted.points n (ap is_some may.seen.stands)) seen_falls)
         (Copies-seen run words after views id view then at own world.copies more now (λ had. had) (TreeOf n) x writes keeps_links part saw_it.here)
+        (Empties-kept run words after views id view then at world.empties refl (omega arith) refl keeps_links.children
+        (λ m side. last_zero-saw run view of_run (TreeOf n) here (sees view (TreeOf n)) x (ChildOf m side) (λ e. cc)))
       where
         whole_after : HaveWholePairs after
         whole_after m =

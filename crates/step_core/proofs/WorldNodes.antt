@@ -1,6 +1,6 @@
 -- The node of the mark in hand: its point, its first word and its tree word are written, it is linked, and it is counted. Each step keeps the
 -- law of worlds.
-use Rattle.std.proofs.Common.{◌≡◌, ◌≢◌, ℕ, zero, suc, ◌+◌, ◌/◌, ◌%◌, ◌<◌, ◌≤◌, ◌^◌, Bool, true, false, List, length, set, Option, Some, None}
+use Rattle.std.proofs.Common.{◌≡◌, ◌≢◌, ℕ, zero, suc, ◌+◌, ◌/◌, ◌%◌, ◌<◌, ◌≤◌, ◌^◌, Bool, true, false, List, ◌∷◌, length, set, Option, Some, None}
 use Rattle.std.proofs.Common.{refl, sym, ap, ◌∙◌, subst, inl, inr, arith}
 use Rattle.std.specs.Prelude.{◌⊎◌, ◌==◌, is_some, nat_lt}
 use Rattle.std.proofs.lemmas.Option.{same_Some}
@@ -18,14 +18,15 @@ use Rattle.step_core.specs.GrownWords.{children_of_words, is_linked}
 use Rattle.step_core.specs.LaterViews.{IsLater}
 use Rattle.step_core.specs.SharedWords.{linked_points}
 use Rattle.step_core.specs.Stages.{has_count, has_first, has_link, has_point, has_tree}
-use Rattle.step_core.specs.ViewSteps.{counted, half, linked, pair_in_hand, pointed, stepped, treed}
+use Rattle.step_core.specs.ViewSteps.{counted, half, linked, pair_in_hand, pointed, stepped, steps_then, treed}
 use Rattle.step_core.specs.ViewTrees.{IsSteered, LeadsTo, MayHang, SeesPoint, SeesTree}
 use Rattle.step_core.specs.Views.{IsViewOf, holds, run_sizes, sees, share, took_over}
 use Rattle.step_core.specs.WordKinds.{AreBehind, HaveWholePairs}
 use Rattle.step_core.specs.WordNames.{Words, WritesWord}
 use Rattle.step_core.specs.WordNames.Word.{ChildOf, Count, Counter, FirstOf, PointOf, RecordOf, TreeOf}
+use Rattle.step_core.specs.WordPlaces.{place_of}
 use Rattle.step_core.specs.Words.{point_of_word, point_word, tree_word}
-use Rattle.step_core.specs.Worlds.{Copies, Hands, IsFirstOf, IsWorld, Links, Numbers, Pairs, Trees, counters, limit_of, state_in}
+use Rattle.step_core.specs.Worlds.{Copies, Empties, Hands, IsFirstOf, IsWorld, Links, Numbers, Pairs, Trees, counters, limit_of, state_in}
 use Rattle.step_core.specs.declared.views.Hand.{Hand}
 use Rattle.step_core.specs.declared.views.SharedRun.{SharedRun}
 use Rattle.step_core.specs.declared.views.Stage.TheVariants.{Claimed, Counted, Half, Linked, Pointed, Treed}
@@ -37,7 +38,7 @@ use Rattle.step_core.proofs.LaterSteps.{IsLater-linked}
 use Rattle.step_core.proofs.LawfulSights.{EndsBelow-leads, IsBounded-steered, is_linked-seen}
 use Rattle.step_core.proofs.LinkedStates.{GrowsInto-behind, few_nodes, unlinked-childless}
 use Rattle.step_core.proofs.LinkedViews.{AreBehind-linked, AreBehind-shown, AreInHand, HaveWholePairs-linked, IsFair-linked, IsViewOf-linked, MayShow}
-use Rattle.step_core.proofs.LinkedViews.{MayShow-behind, sees-linked}
+use Rattle.step_core.proofs.LinkedViews.{MayShow-behind, WritesWord-zero_linked, sees-linked}
 use Rattle.step_core.proofs.Looks.{same_name}
 use Rattle.step_core.proofs.PackedWords.{point_of_word-packed}
 use Rattle.step_core.proofs.SawWords.{AreBehind-write}
@@ -45,6 +46,7 @@ use Rattle.step_core.proofs.SeenTreesOfViews.{SeesTree-counted, SeesTree-half, S
 use Rattle.step_core.proofs.ViewLists.{greatest-set}
 use Rattle.step_core.proofs.WordKinds.{AreBehind-refl, AreBehind-trans}
 use Rattle.step_core.proofs.WorldCopies.{Copies-linked, Copies-untold}
+use Rattle.step_core.proofs.WorldEmpties.{Empties-kept, Empties-linked}
 use Rattle.step_core.proofs.WorldHands.{Hands-pointed, Hands-step, blank-held}
 use Rattle.step_core.proofs.WorldLinks.{KeepsLinks, Links-counted, Links-kept, Links-linked, Links-pointed, is_linked-others, unlinked-held}
 use Rattle.step_core.proofs.WorldPairs.{IsFirstOf-grows, IsFirstOf-stage, Pairs-hand, first-held, tree-held}
@@ -92,8 +94,9 @@ module _ (run : SharedRun) (words after : Words) (views : List View) (id : ℕ) 
   pub IsWorld-kept :
       IsViewOf run then → AreBehind words after → AreBehind (sees then) after → AreBehind (sees view) (sees then) → took_over then ≡ took_over view
       → (share then ≡ 0 → then.hand ≡ None) → (links : Links run after (set views id then)) → Trees run after → Hands after (set views id then)
-      → Pairs run after (set views id then) → SeesTree then → Copies run after (set views id then) → IsWorld run after (set views id then)
-  IsWorld-kept of_run go behind more took idle links trees hands pairs tree_then copies = record {
+      → Pairs run after (set views id then) → SeesTree then → Copies run after (set views id then) → Empties run after (set views id then)
+      → IsWorld run after (set views id then)
+  IsWorld-kept of_run go behind more took idle links trees hands pairs tree_then copies empties = record {
     run_is = world.run_is;
     of_run = of_run-step run views id then world.of_run of_run;
     numbers = numbers_kept;
@@ -112,6 +115,7 @@ module _ (run : SharedRun) (words after : Words) (views : List View) (id : ℕ) 
     records = Records-kept run words after views world.numbers world.links world.trees (grows_kept go links) world.records keeps.records;
     sights = Sights-set run words views id view world at own then (λ of. tree_then);
     copies = copies;
+    empties = empties;
   }
 
 -- ---- the mark in hand
@@ -236,6 +240,8 @@ module _ (run : SharedRun) (words after : Words) (views : List View) (id : ℕ) 
           (Copies-untold run words after views id view then at own world.copies (AreBehind-refl (sees view))
           (AreBehind-trans (sees view) words after behind_now go_pointed) (λ part. part) (PointOf node) (point_word p) writes keeps_links
           (λ told. apart (ap has_link stage) node told refl))
+          (Empties-kept run words after views id view then at world.empties refl (omega arith) refl (λ m right. writes.others (ChildOf m right) (λ e. cc))
+          (λ m right. refl))
 
   -- The first word is written.
   module _ (stage : hand.stage ≡ Pointed) (word : ℕ) (writes : WritesWord (FirstOf node) word words after) where
@@ -289,6 +295,8 @@ module _ (run : SharedRun) (words after : Words) (views : List View) (id : ℕ) 
         (Copies-untold run words after views id view then at own world.copies (AreBehind-refl (sees view))
         (AreBehind-trans (sees view) words after behind_now go) (λ part. part) (FirstOf node) (tree_word parent cost) writes keeps_links
         (λ told. apart (ap has_link stage) node told refl))
+        (Empties-kept run words after views id view then at world.empties refl (omega arith) refl (λ m right. writes.others (ChildOf m right) (λ e. cc))
+        (λ m right. refl))
       where
         first_word : GrowsInto (state_in run words) (state_in run after) → IsFirstOf run after (record hand { stage = Half; parent = parent; cost = cost })
         first_word grows =
@@ -353,6 +361,8 @@ module _ (run : SharedRun) (words after : Words) (views : List View) (id : ℕ) 
         (Copies-untold run words after views id view then at own world.copies (AreBehind-refl (sees view))
         (AreBehind-trans (sees view) words after behind_now go) (λ part. part) (TreeOf node) (pair_in_hand hand) writes keeps_links
         (λ told. apart (ap has_link stage) node told refl))
+        (Empties-kept run words after views id view then at world.empties refl (omega arith) refl (λ m right. writes.others (ChildOf m right) (λ e. cc))
+        (λ m right. refl))
       where
         whole_treed : HaveWholePairs after
         whole_treed n =
@@ -389,7 +399,7 @@ module _ (run : SharedRun) (words after : Words) (views : List View) (id : ℕ) 
     may_show : MayShow n side hand (sees view)
     may_show = MayShow-behind n side hand (sees view) words behind_now empty own_words
 
-    pub IsLater-link : IsLater view (linked view hand n side)
+    pub IsLater-link : (steps : List ℕ) → IsLater view (linked view hand n side steps)
     IsLater-link = IsLater-linked run view (live run words views id view world at own) hand n side n_within low may_show
 
     module _ (writes : WritesWord (ChildOf n side) node words after) where
@@ -403,9 +413,10 @@ module _ (run : SharedRun) (words after : Words) (views : List View) (id : ℕ) 
         first = writes.others (FirstOf node) (λ e. cc) ∙ own_words.first;
       }
 
-      pub IsWorld-linked : IsWorld run after (set views id (linked view hand n side))
+      pub IsWorld-linked : IsWorld run after (set views id (linked view hand n side (steps_then views id view)))
       IsWorld-linked =
-          let then : View = linked view hand n side in
+          let steps : List ℕ = steps_then views id view in
+          let then : View = linked view hand n side steps in
           let next : Hand = record hand { stage = Linked } in
           let of_run = live run words views id view world at own in
           let shows = sees-linked run view of_run hand n side n_within low in
@@ -437,7 +448,7 @@ module _ (run : SharedRun) (words after : Words) (views : List View) (id : ℕ) 
           written none (ap has_link stage) refl (sym (ap has_count stage)) puts in
           let recorded = is_recorded-kept words after keeps.records in
           let grows = grows_kept run words after views id view then world at own keeps go links in
-          IsWorld-kept run words after views id view then world at own keeps (IsViewOf-linked run view of_run hand n side n_within low) go
+          IsWorld-kept run words after views id view then world at own keeps (IsViewOf-linked run view of_run hand n side n_within low steps) go
           behind
           (AreBehind-shown run view of_run hand n side n_within low may_show) refl (some_share then refl) links
           (Trees-linked run words after views (set views id then) world.numbers world.links (numbers_kept run words after views id view then world at own keeps)
@@ -449,11 +460,15 @@ module _ (run : SharedRun) (words after : Words) (views : List View) (id : ℕ) 
           (Pairs-hand run words after views id view then at world.numbers world.links world.pairs grows hand held next refl refl (λ m off. firsts m)
           (λ m off. trees m) recorded (λ far. IsFirstOf-stage run after hand Linked (IsFirstOf-grows run words after hand grows (firsts node) first))
           (λ far not_yet. cc) (λ not_yet. cc) (λ not_yet. cc))
-          (SeesTree-linked run view of_run tree_now hand held stage low bounded n side n_within leads may_show)
+          (SeesTree-linked run view of_run tree_now hand held stage low bounded n side n_within leads may_show steps)
           (Copies-linked run words after views id view then at own world.copies (AreBehind-shown run view of_run hand n side n_within low may_show) behind
           (λ part. part) hand n side writes has_share shows own_after childless
           (is_linked-others (run_sizes run) words after world.links.ways hand.point leads.at hand.mark n leads.depth ends low (not_linked (ap has_link stage))
           written none puts))
+          (Empties-linked run words after views id view then at world.empties refl (omega arith) n side node refl
+          (ap (λ r. record { place = place_of (run_sizes r) (ChildOf n side); steps = steps } ∷ view.fills) own) writes
+          (λ m right apart. (WritesWord-zero_linked run view of_run hand n side n_within low).others (ChildOf m right) apart)
+          (of_run-step run views id then world.of_run (IsViewOf-linked run view of_run hand n side n_within low steps)))
 
   -- The node is counted.
   module _ (stage : hand.stage ≡ Linked) (writes : WritesWord Count (words Count + 1) words after) where
@@ -503,3 +518,5 @@ module _ (run : SharedRun) (words after : Words) (views : List View) (id : ℕ) 
         (SeesTree-counted view tree_now hand held stage)
         (Copies-untold run words after views id view then at own world.copies (AreBehind-refl (sees view))
         (AreBehind-trans (sees view) words after behind_now AreBehind-counted) (λ part. part) Count (words Count + 1) writes keeps_links (λ told. told))
+        (Empties-kept run words after views id view then at world.empties refl (omega arith) refl (λ m right. writes.others (ChildOf m right) (λ e. cc))
+        (λ m right. refl))

@@ -1,31 +1,33 @@
 -- A split keeps the law of worlds: no worker is lost, and the hand stays with the pass that is split.
 use Rattle.std.proofs.Common.{◌≡◌, ℕ, zero, suc, ◌+◌, ◌≤◌, Bool, true, false, List, [], ◌∷◌}
-use Rattle.std.proofs.Common.{◌++◌, length, set, None, refl, sym, ap, ◌∙◌, subst, inl, inr, arith, le_trans}
+use Rattle.std.proofs.Common.{◌++◌, length, map, set, None, refl, sym, ap, ◌∙◌, subst, inl, inr, arith, le_trans}
 use Rattle.std.specs.Prelude.{◌⊎◌, ◌==◌, ◌<◌, cond}
 use Rattle.std.proofs.lemmas.Bool.{eqb-true}
+use Rattle.std.proofs.lemmas.List.{length-replicate}
 use Rattle.std.proofs.lemmas.List.Sums.{sum_by_push}
 use mathlib.Core.Option.{some, some-ne-none}
 use lib.ListN.{get_elem?}
 use Rattle.plan_model.specs.Turns.{once_if}
 use Rattle.plan_model.specs.SeenParents.{AreSeenLawfully}
 use Rattle.step_core.specs.Stages.{has_count, has_first, has_link, has_point, has_tree, holds_at}
-use Rattle.step_core.specs.ViewSteps.{looker, parted, second_alone, stepped, without_second, worker_apart}
+use Rattle.step_core.specs.ViewSteps.{found_none, looker, parted, second_alone, stepped, without_second, worker_apart}
 use Rattle.step_core.specs.ViewTrees.{SeesTree}
-use Rattle.step_core.specs.Views.{IsViewOf, holds, sees, setup_in, share, spent, times, took_over, tree_seen, words_of_run}
+use Rattle.step_core.specs.Views.{IsViewOf, holds, last_zero, run_sizes, sees, setup_in, share, spent, times, took_over, tree_seen, words_of_run}
 use Rattle.step_core.specs.WordKinds.{AreBehind, HaveWholePairs}
-use Rattle.step_core.specs.WordNames.{Words}
-use Rattle.step_core.specs.WordNames.Word.{RecordOf, TreeOf}
+use Rattle.step_core.specs.WordNames.{Word, Words}
+use Rattle.step_core.specs.WordNames.Word.{ChildOf, RecordOf, TreeOf}
 use Rattle.step_core.specs.Words.{tree_of_word}
-use Rattle.step_core.specs.Worlds.{Agree, EachView, IsMember, IsWorld, hands_at, limit_of, state_in}
+use Rattle.step_core.specs.Worlds.{Agree, EachView, IsMember, IsWorld, greatest, hands_at, limit_of, noted_by, noted_in, state_in}
 use Rattle.step_core.specs.declared.views.Member.{Member}
 use Rattle.step_core.specs.declared.views.SharedRun.{SharedRun}
 use Rattle.step_core.specs.declared.views.Stage.{Stage}
 use Rattle.step_core.specs.declared.views.View.{View}
 use Rattle.step_core.proofs.FinishedTurns.{times-cons}
 use Rattle.step_core.proofs.SeenTreesOfViews.{SeesTree-apart, SeesTree-looker, SeesTree-parted, SeesTree-stepped}
-use Rattle.step_core.proofs.ViewLists.{each-push, each-set, greatest-push, greatest-set, sum-set}
+use Rattle.step_core.proofs.ViewLists.{at-set, each-push, each-set, greatest-one, greatest-push, greatest-set, sum-set}
 use Rattle.step_core.proofs.WordKinds.{AreBehind-refl}
 use Rattle.step_core.proofs.WorldCopies.{Copies-push, Copies-step}
+use Rattle.step_core.proofs.WorldEmpties.{Empties-push, Empties-step, zero-read}
 use Rattle.step_core.proofs.WorldHands.{Hands-views, IsWrittenFor}
 use Rattle.step_core.proofs.WorldLinks.{Links-views}
 use Rattle.step_core.proofs.WorldPairs.{HasFirst, HasFirst-none, HasTree, HasTree-none, Pairs-views}
@@ -33,16 +35,18 @@ use Rattle.step_core.proofs.WorldParts.{Agree-sym, agree-set, quotas-kept}
 use Rattle.step_core.proofs.WorldSeenPairs.{AreSeenLawfully-same}
 use Rattle.step_core.proofs.WorldSteps.{live, tree}
 
--- the one view has looked at the same words as the other
+-- The one view has looked at the same words as the other, and has found no word 0 since. It notes the same fills.
 pub record SeesAsMuch (view then : View) : Type 0 where
   pub run : then.run ≡ view.run
   pub seen : then.seen ≡ view.seen
   pub took : then.took ≡ view.took
   pub looked : then.looked ≡ view.looked
-  pub found_zero : then.found_zero ≡ view.found_zero
+  pub found_zero : length then.found_zero ≡ length view.found_zero
+  pub zero_looks : (name : Word) → last_zero then name ≤ last_zero view name
   pub steps : view.steps ≤ then.steps
+  pub fills : then.fills ≡ view.fills
 
--- A view is cut into two: no member is lost, and the hand stays on the left.
+-- A view is cut into two: no member is lost, and the hand stays on the left. The right has found no word 0 itself.
 pub record IsCut (view left right : View) : Type 0 where
   pub crews : (w : ℕ) → times w left.crew + times w right.crew ≡ times w view.crew
   pub on_left : (i : ℕ) (member : Member) → get_elem? left.crew i ≡ some member → (j : ℕ) × (get_elem? view.crew j ≡ some member)
@@ -56,6 +60,7 @@ pub record IsCut (view left right : View) : Type 0 where
   pub tables_right : SeesAsMuch view right
   pub tree_left : SeesTree view → SeesTree left
   pub tree_right : SeesTree view → SeesTree right
+  pub none_right : (name : Word) → last_zero right name ≡ 0
 
 -- ---- what is seen as much
 
@@ -70,13 +75,11 @@ IsViewOf-same run view then same of_run = record {
   run_is = same.run ∙ of_run.run_is;
   seen = ap (λ l. length l) same.seen ∙ of_run.seen;
   looked = ap (λ l. length l) same.looked ∙ of_run.looked;
-  found_zero = ap (λ l. length l) same.found_zero ∙ of_run.found_zero;
+  found_zero = same.found_zero ∙ of_run.found_zero;
   looks = λ name.
       let is = ap (λ r. words_of_run r then.looked name) same.run ∙ ap (λ l. words_of_run view.run l name) same.looked in
       omega (arith, is, of_run.looks name, same.steps);
-  zero_looks = λ name.
-      let is = ap (λ r. words_of_run r then.found_zero name) same.run ∙ ap (λ l. words_of_run view.run l name) same.found_zero in
-      omega (arith, is, of_run.zero_looks name, same.steps);
+  zero_looks = λ name. omega (arith, same.zero_looks name, of_run.zero_looks name, same.steps);
 }
 
 IsMember-same : (run : SharedRun) (words : Words) (view then : View) (member : Member) → SeesAsMuch view then → IsMember run words view member
@@ -215,6 +218,15 @@ module _ (run : SharedRun) (words : Words) (views : List View) (id : ℕ) (view 
             (subst (AreBehind (sees view)) (sym (sees-same view left cut.tables_left)) (AreBehind-refl (sees view)))
             (subst (λ s. AreBehind s words) (sym (sees-same view left cut.tables_left)) (world.seen.behind id view at)) stays
             (λ name told. inl (refl, told)));
+        empties = Empties-push run words rest right
+            (Empties-step run words words views id view left at world.empties cut.tables_left.run cut.tables_left.steps cut.tables_left.fills
+            (λ n side some_child. (some_child, cut.tables_left.zero_looks (ChildOf n side))))
+            (λ place i. omega (
+              arith,
+              ap (λ l. greatest (map (noted_in place i) l)) (cut.tables_right.fills ∙ sym cut.tables_left.fills),
+              greatest-one (noted_by place i) rest id left (at-set views id view left at),
+            ))
+            cut.none_right;
       }
     where
       stays : 0 < share view → 0 < share left
@@ -274,6 +286,23 @@ stays_parted [] e = refl
 stays_parted (first ∷ []) e = e
 stays_parted (first ∷ second ∷ crew) e = absurd (omega (arith, e))
 
+-- a new view has found no word 0
+none_found : (view : View) (name : Word) → words_of_run view.run (found_none view) name ≡ 0
+none_found view name = zero-read (run_sizes view.run) (length view.found_zero) name
+
+-- and has seen as much, whatever its crew
+sees_as_much : (view : View) → SeesAsMuch view (looker view)
+sees_as_much view = record {
+  run = refl;
+  seen = refl;
+  took = refl;
+  looked = refl;
+  found_zero = length-replicate (length view.found_zero) 0;
+  zero_looks = λ name. omega (arith, none_found view name);
+  steps = omega arith;
+  fills = refl;
+}
+
 pub IsCut-parted : (view : View) → IsCut view (parted view) (worker_apart view)
 IsCut-parted view = record {
   crews = λ w. crews_parted w view.crew;
@@ -284,10 +313,22 @@ IsCut-parted view = record {
   hand = refl;
   no_hand = refl;
   limits = (refl, refl);
-  tables_left = record { run = refl; seen = refl; took = refl; looked = refl; found_zero = refl; steps = omega arith };
-  tables_right = record { run = refl; seen = refl; took = refl; looked = refl; found_zero = refl; steps = omega arith };
+  tables_left =
+      record { run = refl; seen = refl; took = refl; looked = refl; found_zero = refl; zero_looks = λ name. omega arith; steps = omega arith; fills = refl };
+  tables_right =
+      (let same = sees_as_much view in record {
+        run = refl;
+        seen = refl;
+        took = refl;
+        looked = refl;
+        found_zero = same.found_zero;
+        zero_looks = same.zero_looks;
+        steps = same.steps;
+        fills = refl;
+      });
   tree_left = SeesTree-parted view;
   tree_right = SeesTree-apart view;
+  none_right = none_found view;
 }
 
 pub IsCut-looker : (view : View) → IsCut view (stepped view) (looker view)
@@ -300,8 +341,10 @@ IsCut-looker view = record {
   hand = refl;
   no_hand = refl;
   limits = (refl, refl);
-  tables_left = record { run = refl; seen = refl; took = refl; looked = refl; found_zero = refl; steps = omega arith };
-  tables_right = record { run = refl; seen = refl; took = refl; looked = refl; found_zero = refl; steps = omega arith };
+  tables_left =
+      record { run = refl; seen = refl; took = refl; looked = refl; found_zero = refl; zero_looks = λ name. omega arith; steps = omega arith; fills = refl };
+  tables_right = sees_as_much view;
   tree_left = SeesTree-stepped view;
   tree_right = SeesTree-looker view;
+  none_right = none_found view;
 }

@@ -1,7 +1,7 @@
 -- A shared run that goes on from a closed run begins with a lawful world: one view, which has the whole share and has seen all words.
 use Rattle.std.proofs.Common.{◌≡◌, ℕ, zero, suc, ◌+◌, ◌<◌, ◌≤◌, Bool, true, false, List, [], ◌∷◌, ◌/◌, ◌^◌}
 use Rattle.std.proofs.Common.{length, map, Option, Some, None, refl, sym, ap, ◌∙◌, subst, inl, inr, arith}
-use Rattle.std.specs.Prelude.{◌⊎◌, ◌==◌, nat_lt, cond, is_some, max, replicate, slice_index}
+use Rattle.std.specs.Prelude.{◌⊎◌, ◌==◌, nat_lt, cond, is_some, max}
 use Rattle.std.specs.List.{count_by, range_with_len}
 use mathlib.Core.Option.{some, some-ne-none, some-injective}
 use lib.ListN.{get_elem?}
@@ -27,11 +27,11 @@ use Rattle.plan_model.proofs.WorkerTurns.{AreTurns-longer}
 use Rattle.step_core.specs.GrownWords.{HoldRun, has_node, record_at, run_words, sizes_of, state_of_words}
 use Rattle.step_core.specs.ViewStarts.{crew_from, member_of, newcomer}
 use Rattle.step_core.specs.ViewTrees.{SeesTree}
-use Rattle.step_core.specs.Views.{IsViewOf, run_of, run_sizes, sees, setup_in, share, spent, times, took_over, tree_seen}
+use Rattle.step_core.specs.Views.{IsViewOf, last_zero, run_of, run_sizes, sees, setup_in, share, spent, times, took_over, tree_seen}
 use Rattle.step_core.specs.WordKinds.{AreBehind, HaveWholePairs}
-use Rattle.step_core.specs.WordNames.{Word, Words}
-use Rattle.step_core.specs.WordNames.Word.{FirstOf, RecordOf}
-use Rattle.step_core.specs.WordPlaces.{Sizes, has_word, place_of, word_at, word_count}
+use Rattle.step_core.specs.WordNames.{Words}
+use Rattle.step_core.specs.WordNames.Word.{ChildOf, FirstOf, RecordOf}
+use Rattle.step_core.specs.WordPlaces.{word_count}
 use Rattle.step_core.specs.Words.{FitsWord, fourth_in, outcome_in, record_in, record_of_word}
 use Rattle.step_core.specs.Worlds.{Agree, EachView, IsMember, IsRecordWord, IsWorld, counted_once, Trees, counters, greatest_limit, is_recorded, state_in}
 use Rattle.step_core.specs.declared.views.Member.{Member}
@@ -45,6 +45,7 @@ use Rattle.step_core.proofs.SeenTreesAtStart.{SeesTree-started}
 use Rattle.step_core.proofs.StartLinks.{FollowWays-held, IsBounded-mark, IsBounded-start, blank-held, count-held, start-held}
 use Rattle.step_core.proofs.SumsBelow.{sum-same}
 use Rattle.step_core.proofs.WordKinds.{AreBehind-refl}
+use Rattle.step_core.proofs.WorldEmpties.{zero-read}
 use Rattle.step_core.proofs.WorldHands.{IsWrittenFor}
 use Rattle.step_core.proofs.WorldLinks.{has_node-recorded}
 use Rattle.step_core.proofs.WorldPairs.{HasFirst, HasTree}
@@ -186,20 +187,6 @@ module _ (task : Task) (limit : ℕ) (words : Words) (held : HoldRun task limit 
 
 -- ---- the first world
 
--- each word of a list of zeros is 0
-zeros : (n i : ℕ) → slice_index (replicate n 0) i ≡ 0
-zeros zero i = refl
-zeros (suc n) zero = refl
-zeros (suc n) (suc i) = zeros n i
-
-zero-read : (sizes : Sizes) (n : ℕ) (name : Word) → word_at sizes (replicate n 0) name ≡ 0
-unfolding word_at
-zero-read sizes n name = by_test (has_word sizes name)
-  where
-    by_test : (t : Bool) → cond t (slice_index (replicate n 0) (place_of sizes name)) 0 ≡ 0
-    by_test true = zeros n (place_of sizes name)
-    by_test false = refl
-
 -- of a single view
 only : (view : View) (has : View → Type 0) → has view → EachView (view ∷ []) has
 only view has own zero u e = subst has (some-injective view u e) own
@@ -284,6 +271,13 @@ IsWorld-started task limit workers items sized held some_worker few =
       records = Records-held task limit workers words held;
       sights = only first (λ u. u.run ≡ run → SeesTree u) (λ of. sees_tree);
       copies = λ name told. record { id = 0; view = first; at = refl; run_is = refl; part = omega (arith, all, some_worker); same = refl };
+      empties = record {
+        made = λ place i. inl refl;
+        filled = λ n side some_child i u e. (
+            let none : last_zero u (ChildOf n side) ≡ 0 =
+            only first (λ v. last_zero v (ChildOf n side) ≡ 0) (zero-read (run_sizes run) (length items) (ChildOf n side)) i u e in
+            omega (arith, none));
+      };
     }
   where
     unplaced : (k : ℕ) → is_recorded (run_words task items) k ≡ false → has_node (run_words task items) (suc k) ≡ false

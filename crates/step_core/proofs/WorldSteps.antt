@@ -36,6 +36,7 @@ use Rattle.step_core.proofs.SeenTreesOfViews.{SeesTree-claimed, SeesTree-loaded}
 use Rattle.step_core.proofs.ViewLists.{at-set, each-set, greatest-one, greatest-set}
 use Rattle.step_core.proofs.WordKinds.{AreBehind-refl, AreBehind-trans}
 use Rattle.step_core.proofs.WorldCopies.{Copies-seen, Copies-step}
+use Rattle.step_core.proofs.WorldEmpties.{Empties-kept, Empties-step, last_zero-saw}
 use Rattle.step_core.proofs.WorldHands.{Hands-step}
 use Rattle.step_core.proofs.WorldLinks.{KeepsLinks, Links-kept}
 use Rattle.step_core.proofs.WorldPairs.{Pairs-same, Pairs-step}
@@ -127,6 +128,13 @@ module _ (run : SharedRun) (words : Words) (views : List View) (id : ℕ) (view 
         sights = Sights-set then (λ of. sees_tree);
         copies = Copies-step run words words views id view then at own world.copies seen
             (AreBehind-saw name x (sees view) (sees then) words writes refl behind) (λ part. part) (λ other told. inl (refl, told));
+        empties = Empties-step run words words views id view then at world.empties refl (omega arith) refl (λ n side some_child. (
+          some_child,
+          omega (
+            arith,
+            last_zero-saw run view live name here x x (ChildOf n side) (λ e none. some_child (ap words e ∙ none)),
+          ),
+        ));
       }
 
   -- a claim: the counter goes up by one, and the mark is in this hand
@@ -226,6 +234,8 @@ module _ (run : SharedRun) (words : Words) (views : List View) (id : ℕ) (view 
           copies = Copies-seen run words after views id view then at own world.copies seen
               (AreBehind-saw (Counter g) (c + 1) (sees view) (sees then) after writes counts.here behind) (λ had. had) (Counter g) (c + 1) counts keeps part
               writes.here;
+          empties = Empties-kept run words after views id view then at world.empties refl (omega arith) refl keeps.children
+              (λ n side. last_zero-saw run view live (Counter g) here c (c + 1) (ChildOf n side) (λ e. cc));
         }
       where
         by_fields : IsViewOf run (saw view (Counter g) c (c + 1)) → IsViewOf run (claimed view g c limit)

@@ -20,3 +20,4 @@ pub mod ViewSteps
 pub mod ViewStarts
 pub mod LaterViews
 pub mod LastViews
+pub mod Histories

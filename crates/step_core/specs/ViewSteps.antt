@@ -1,5 +1,5 @@
 -- What each kind of step makes of the view that makes it, as a function of the view before. The words are those of specs/WordNames.
-use Rattle.std.specs.Prelude.{ℕ, suc, Bool, ◌+◌, ◌*◌, ◌==◌, max, Some, None, List, [], ◌∷◌, ◌++◌, map, slice_index, slice_set, if◌then◌else◌}
+use Rattle.std.specs.Prelude.{ℕ, suc, Bool, ◌+◌, ◌*◌, ◌==◌, max, Some, None, List, [], ◌∷◌, ◌++◌, length, map, replicate, slice_index, slice_set, if◌then◌else◌}
 use Rattle.std.specs.List.{range_with_len}
 use Rattle.plan_model.specs.declared.geometry.Point.{Point}
 use Rattle.step_core.specs.Views.{run_sizes, sees}
@@ -8,6 +8,7 @@ use Rattle.step_core.specs.WordNames.{Word}
 use Rattle.step_core.specs.WordNames.Word.{ChildOf, Counter, FirstOf, PointOf, RecordOf, TreeOf}
 use Rattle.step_core.specs.WordPlaces.{Sizes, place_of, word_count}
 use Rattle.step_core.specs.Words.{point_word, tree_word}
+use Rattle.step_core.specs.declared.views.Fill.{Fill}
 use Rattle.step_core.specs.declared.views.Hand.{Hand}
 use Rattle.step_core.specs.declared.views.Member.{Member}
 use Rattle.step_core.specs.declared.views.SharedRun.{SharedRun}
@@ -96,15 +97,36 @@ with_node run hand seen =
     slice_set (slice_set (slice_set seen (at (PointOf node)) (point_word hand.point)) (at (TreeOf node)) (pair_in_hand hand)) (at (FirstOf node))
     (pair_in_hand hand)
 
+-- how many steps each view has made
+abbrev pub steps_made : List View → List ℕ
+steps_made views = map (λ view. view.steps) views
+
+-- and how many when the view at this index has made one more
+abbrev pub steps_then : List View → ℕ → View → List ℕ
+steps_then views id view = steps_made (slice_set views id (stepped view))
+
 -- The node in hand stands in the child word at this place, which was found empty. It is seen there, with its point, its parent and its cost.
-abbrev pub linked_at : View → Hand → ℕ → View
-linked_at view hand place =
+-- The view notes the steps that the views have made by then.
+abbrev pub linked_at : View → Hand → ℕ → List ℕ → View
+linked_at view hand place steps =
     let shown = saw_at view place 0 (suc hand.mark) in
-    record shown { seen = with_node view.run hand shown.seen; hand = Some (record hand { stage = Linked }) }
+    record shown {
+      seen = with_node view.run hand shown.seen;
+      hand = Some (record hand { stage = Linked });
+      fills = record { place = place; steps = steps } ∷ view.fills;
+    }
 
 -- it stands in the child word of node n on this side
-abbrev pub linked : View → Hand → ℕ → Bool → View
-linked view hand n side = linked_at view hand (place_in view (ChildOf n side))
+abbrev pub linked : View → Hand → ℕ → Bool → List ℕ → View
+linked view hand n side steps = linked_at view hand (place_in view (ChildOf n side)) steps
+
+-- what a view noted by its last fill
+abbrev pub steps_at_last : List Fill → List ℕ
+steps_at_last [] = []
+steps_at_last (fill ∷ fills) = fill.steps
+
+abbrev pub last_fill : View → List ℕ
+last_fill view = steps_at_last view.fills
 
 -- The tree word of node n was the one seen last, and has this parent and this cost now.
 abbrev pub lowered : View → ℕ → ℕ → ℕ → View
@@ -127,16 +149,20 @@ second_alone [] = []
 second_alone (member ∷ []) = []
 second_alone (member ∷ second ∷ crew) = second ∷ []
 
+-- a new pass has found no word 0 itself
+abbrev pub found_none : View → List ℕ
+found_none view = replicate (length view.found_zero) 0
+
 -- The second worker gets a pass of its own, which has seen as much.
 abbrev pub parted : View → View
 parted view = record (stepped view) { crew = without_second view.crew }
 
 abbrev pub worker_apart : View → View
-worker_apart view = record view { crew = second_alone view.crew; hand = None }
+worker_apart view = record view { crew = second_alone view.crew; hand = None; found_zero = found_none view }
 
 -- a pass without a share, which has seen as much
 abbrev pub looker : View → View
-looker view = record view { crew = []; hand = None }
+looker view = record view { crew = []; hand = None; found_zero = found_none view }
 
 -- ---- joins
 
@@ -145,7 +171,7 @@ abbrev pub merged : Sizes → List ℕ → List ℕ → List ℕ
 merged sizes one other =
     map (λ place. later_word (kind_at sizes place) (slice_index one place) (slice_index other place)) (range_with_len 0 (word_count sizes))
 
--- Both shares, the greater limit, and what either has seen. The steps stay its own.
+-- Both shares, the greater limit, what either has seen, and the fills of both. The steps stay its own.
 abbrev pub joined : View → View → View
 joined view other =
     record (stepped view) {
@@ -153,4 +179,5 @@ joined view other =
       most = max view.most other.most;
       seen = merged (run_sizes view.run) view.seen other.seen;
       took = other.seen;
+      fills = view.fills ++ other.fills;
     }

@@ -1,7 +1,7 @@
 -- The law of worlds: what holds of the words of a shared run and of the views of its passes between any two steps, whichever passes make
 -- them and in whichever order. Each part speaks of one thing, and has a lemma of its own on a step of one view.
-use Rattle.std.specs.Prelude.{◌≡◌, ℕ, suc, ◌+◌, ◌<◌, ◌≤◌, ◌==◌, ◌^◌, ◌⊎◌, nat_lt, max, Bool, true, false, is_some}
-use Rattle.std.specs.Prelude.{Some, None, List, [], ◌∷◌, length, map, if◌then◌else◌}
+use Rattle.std.specs.Prelude.{◌≡◌, ◌≢◌, ℕ, suc, ◌+◌, ◌<◌, ◌≤◌, ◌==◌, ◌^◌, ◌⊎◌, nat_lt, max, Bool, true, false, is_some}
+use Rattle.std.specs.Prelude.{Some, None, List, [], ◌∷◌, length, map, slice_index, if◌then◌else◌}
 use Rattle.std.specs.List.{range_with_len, sum_by}
 use lib.ListN.{get_elem?}
 use mathlib.Core.Option.{some}
@@ -21,11 +21,13 @@ use Rattle.step_core.specs.SharedWords.{linked_points, state_of_links}
 use Rattle.step_core.specs.Stages.{has_count, has_first, has_link, has_point, has_tree, holds_at}
 use Rattle.step_core.specs.ViewSteps.{pair_in_hand}
 use Rattle.step_core.specs.ViewTrees.{SeesTree}
-use Rattle.step_core.specs.Views.{IsSharedRun, IsViewOf, holds, run_sizes, sees, setup_in, share, spent, times, took_over, tree_seen}
+use Rattle.step_core.specs.Views.{IsSharedRun, IsViewOf, holds, last_zero, run_sizes, sees, setup_in, share, spent, times, took_over, tree_seen}
 use Rattle.step_core.specs.WordKinds.{AreBehind, HaveWholePairs}
 use Rattle.step_core.specs.WordNames.{Word, Words}
+use Rattle.step_core.specs.WordPlaces.{place_of}
 use Rattle.step_core.specs.Words.{FitsWord, cost_in, point_word, record_word, tree_word}
 use Rattle.step_core.specs.WordNames.Word.{ChildOf, Count, Counter, FirstOf, PointOf, RecordOf, TreeOf}
+use Rattle.step_core.specs.declared.views.Fill.{Fill}
 use Rattle.step_core.specs.declared.views.Hand.{Hand}
 use Rattle.step_core.specs.declared.views.Member.{Member}
 use Rattle.step_core.specs.declared.views.SharedRun.{SharedRun}
@@ -208,6 +210,30 @@ pub record HasCopy (run : SharedRun) (words : Words) (views : List View) (name :
 abbrev pub Copies : SharedRun → Words → List View → Type 0
 Copies run words views = (name : Word) → IsTold run words name → HasCopy run words views name
 
+-- ---- empty places
+
+-- how many steps the view at index i had made by this fill, if that is of the place
+abbrev pub noted_in : ℕ → ℕ → Fill → ℕ
+noted_in place i fill = if fill.place == place then slice_index fill.steps i else 0
+
+-- by the fills that one view notes, and by those of all views; 0 if there is none
+abbrev pub noted_by : ℕ → ℕ → View → ℕ
+noted_by place i view = greatest (map (noted_in place i) view.fills)
+
+abbrev pub noted : List View → ℕ → ℕ → ℕ
+noted views place i = greatest (map (noted_by place i) views)
+
+-- The view at index i has made so many steps. A spent view says nothing of the steps that it had made.
+abbrev pub HasMade : SharedRun → List View → ℕ → ℕ → Type 0
+HasMade run views i steps = (steps ≡ 0) ⊎ ((view : View) × (get_elem? views i ≡ some view) × (view.run ≡ run → steps ≤ view.steps))
+
+-- No fill notes more steps of a view than it has made, and none of a view that is not there. If a place of a child is filled, no view has found
+-- it empty by a later step than those that it had made by then, as the fill notes.
+pub record Empties (run : SharedRun) (words : Words) (views : List View) : Type 0 where
+  pub made : (place i : ℕ) → HasMade run views i (noted views place i)
+  pub filled : (n : ℕ) (side : Bool) → words (ChildOf n side) ≢ 0 → (i : ℕ) (view : View) → get_elem? views i ≡ some view
+      → last_zero view (ChildOf n side) ≤ noted views (place_of (run_sizes run) (ChildOf n side)) i
+
 -- ---- records
 
 -- Each record is borne out by the linked nodes. Its worker is one of the run's, if it was made in this run, or else within the limit.
@@ -235,3 +261,4 @@ pub record IsWorld (run : SharedRun) (words : Words) (views : List View) : Type 
   pub records : Records run words
   pub sights : Sights run views
   pub copies : Copies run words views
+  pub empties : Empties run words views

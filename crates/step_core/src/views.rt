@@ -71,6 +71,14 @@ pub struct Hand {
     pub cost: u64,
 }
 
+/// A place of a child that was filled, and how many steps each pass had made by then.
+pub struct Fill {
+    /// The place of the child word.
+    pub place: u64,
+    /// By the number of the pass how many steps it had made, the one that filled the place included.
+    pub steps: LinkedList<u64>,
+}
+
 /// What a pass knows and has in hand.
 pub struct View {
     /// The run that it belongs to.
@@ -91,4 +99,6 @@ pub struct View {
     pub looked: LinkedList<u64>,
     /// For each word the number of its last step that found it 0.
     pub found_zero: LinkedList<u64>,
+    /// The places that it has filled, or that a pass had which it took over.
+    pub fills: LinkedList<Fill>,
 }

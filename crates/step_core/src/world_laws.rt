@@ -7,12 +7,13 @@ ghost use lib.ListN.{get_elem?};
 ghost use mathlib.Core.Option.{some};
 ghost use Rattle.plan_model.specs.MarkPoints.{is_claimed, quota_of};
 ghost use Rattle.plan_model.specs.PointsByNumber.{IsFree, node_count};
-ghost use Rattle.plan_model.specs.Sights.{IsLaterMoment, KeepsSight};
+ghost use Rattle.plan_model.specs.Sights.{EndsSince, IsLaterMoment, KeepsSight};
 ghost use Rattle.plan_model.specs.declared.geometry.Point.{Point};
 ghost use Rattle.plan_model.specs.declared.limits.TheConstants.{MOST_WORKERS};
 ghost use Rattle.plan_model.specs.declared.records.Record.{Record};
 ghost use Rattle.plan_model.specs.declared.tasks.Task.{Task};
 ghost use Rattle.step_core.specs.GrownWords.{HoldRun, IsLinked, children_of_words, cleared, is_linked, record_at, run_words, sizes_of, state_of_words};
+ghost use Rattle.step_core.specs.Histories.{HasCome, WasFree};
 ghost use Rattle.step_core.specs.LastViews.{StandsAsSeen};
 ghost use Rattle.step_core.specs.LaterViews.{IsLater, IsLawfulView};
 ghost use Rattle.step_core.specs.ViewStarts.{newcomer};
@@ -20,10 +21,10 @@ ghost use Rattle.step_core.specs.SeenRecords.{MayRecord, own_count};
 ghost use Rattle.step_core.specs.SharedWords.{linked_points};
 ghost use Rattle.step_core.specs.Stages.{MayBeRecorded};
 ghost use Rattle.step_core.specs.ViewSteps.{claimed, counted, finished, half, joined, linked, loaded, looker, lowered, mark_of, pair_in_hand, parted};
-ghost use Rattle.step_core.specs.ViewSteps.{pointed, stepped, treed, worker_apart};
+ghost use Rattle.step_core.specs.ViewSteps.{pointed, stepped, steps_then, treed, worker_apart};
 ghost use Rattle.step_core.specs.ViewTrees.{IsOnWayOf, IsSteered, LeadsTo, MayHang, MayLoad, MayLower, SeesNode, sight_in};
-ghost use Rattle.step_core.specs.Views.{holds, run_of, run_sizes, sees, share, spent, tree_seen};
-ghost use Rattle.step_core.specs.WordKinds.{AreBehind};
+ghost use Rattle.step_core.specs.Views.{holds, last_zero, run_of, run_sizes, sees, share, spent, tree_seen};
+ghost use Rattle.step_core.specs.WordKinds.{AreBehind, MayBecome, kind_of};
 ghost use Rattle.step_core.specs.WordNames.{Word, Words, WritesWord};
 ghost use Rattle.step_core.specs.WordNames.Word.{ChildOf, Count, Counter, FirstOf, PointOf, RecordOf, TreeOf};
 ghost use Rattle.step_core.specs.WordPlaces.{word_count};
@@ -118,12 +119,13 @@ pub fn lowers_keep_the_law()
 {}
 
 /// A link keeps the law. It puts the node in hand, whose words are written, into an empty child word, to which the way of the
-/// point leads over what the view has seen. If that word is not 0, the step only loads it.
+/// point leads over what the view has seen. If that word is not 0, the step only loads it. The view notes how many steps each view
+/// has made by then.
 pub fn links_keep_the_law()
     ensures law { (run : SharedRun) (words after : Words) (views : List View) (id : ℕ) (view : View) → IsWorld run words views
         → get_elem? views id ≡ some view → view.run ≡ run → (hand : Hand) → view.hand ≡ Some hand → hand.stage ≡ Treed → (n : ℕ) (side : Bool)
         → LeadsTo view hand.point n side → words (ChildOf n side) ≡ 0 → WritesWord (ChildOf n side) (suc hand.mark) words after
-        → IsWorld run after (slice_set views id (linked view hand n side)) }
+        → IsWorld run after (slice_set views id (linked view hand n side (steps_then views id view))) }
     ensures words { (words after : Words) (n m : ℕ) (side : Bool) → words (ChildOf n side) ≡ 0 → WritesWord (ChildOf n side) m words after
         → AreBehind words after }
     // a link that finds a child takes the way a step deeper, to that child
@@ -141,6 +143,65 @@ pub fn empty_places_have_no_node()
     ensures { (run : SharedRun) (words : Words) (views : List View) (id : ℕ) (view : View) → IsWorld run words views → get_elem? views id ≡ some view
         → view.run ≡ run → (q : Point) (n : ℕ) (side : Bool) → LeadsTo view q n side → words (ChildOf n side) ≡ 0
         → IsFree (linked_points (run_sizes run) words) q }
+{}
+
+/// A place of a child that a step says to have found empty was empty. That holds of a step of any kind which keeps the law, leaves a
+/// later view and notes no fill: a view cannot have found a place empty by it that was filled before. So no node stood then at a point
+/// whose way leads to that place by what the view sees at that moment, or at any later one.
+pub fn what_was_found_empty_was_empty()
+    ensures before { (run : SharedRun) (words after : Words) (views : List View) (id : ℕ) (view then : View) → IsWorld run words views
+        → get_elem? views id ≡ some view → IsWorld run after (slice_set views id then) → IsLater view then → view.run ≡ run → then.fills ≡ view.fills
+        → (n : ℕ) (side : Bool) → view.steps < last_zero then (ChildOf n side) → words (ChildOf n side) ≡ 0 }
+    // and the step left it empty
+    ensures after { (run : SharedRun) (words after : Words) (views : List View) (id : ℕ) (view then : View) → IsWorld run words views
+        → get_elem? views id ≡ some view → IsWorld run after (slice_set views id then) → view.run ≡ run → then.fills ≡ view.fills
+        → (n : ℕ) (side : Bool) → view.steps < last_zero then (ChildOf n side) → after (ChildOf n side) ≡ 0 }
+    // so a load may not tell of a filled place that it was found empty, whatever the view had seen there
+    ensures stale { (run : SharedRun) (words : Words) (views : List View) (id : ℕ) (view : View) → IsWorld run words views → get_elem? views id ≡ some view
+        → view.run ≡ run → (n : ℕ) (side : Bool) → n ≤ length run.marks → words (ChildOf n side) ≢ 0
+        → ¬ IsWorld run words (slice_set views id (loaded view (ChildOf n side) 0)) }
+    // If the way of a point leads, by what a view sees in the same world or a later one, to a place that is empty now, no node stands
+    // there now.
+    ensures no_node { (run : SharedRun) (words later : Words) (views lasts : List View) (id : ℕ) (view : View) → IsWorld run words views
+        → IsWorld run later lasts → AreBehind words later → get_elem? lasts id ≡ some view → view.run ≡ run → (q : Point) (n : ℕ) (side : Bool)
+        → LeadsTo view q n side → words (ChildOf n side) ≡ 0 → IsFree (linked_points (run_sizes run) words) q }
+    // Both together: no node stood at the point by the step that found the place empty.
+    ensures by_then { (run : SharedRun) (words after later : Words) (views lasts : List View) (id : ℕ) (view then last : View) → IsWorld run words views
+        → get_elem? views id ≡ some view → IsWorld run after (slice_set views id then) → view.run ≡ run → then.fills ≡ view.fills
+        → IsWorld run later lasts → AreBehind after later → get_elem? lasts id ≡ some last → last.run ≡ run → (q : Point) (n : ℕ) (side : Bool)
+        → LeadsTo last q n side → view.steps < last_zero then (ChildOf n side) → IsFree (linked_points (run_sizes run) after) q }
+    // What a view has swept since some of its steps has such a place.
+    ensures swept { (view : View) (steps : ℕ) (q : Point) → EndsSince (sight_in view) steps q
+        → (n : ℕ) × (side : Bool) × LeadsTo view q n side × (steps < last_zero view (ChildOf n side)) }
+{}
+
+/// Each point that a call of a pass has swept, and at which the pass sees no node, was free at some moment of this very call. The
+/// call began with the view `first`, and ends with the view `end`.
+pub fn swept_points_were_free()
+    ensures swept { (run : SharedRun) (id : ℕ) (words last : Words) (views lasts : List View) (first end : View) → IsWorld run words views
+        → get_elem? views id ≡ some first → HasCome run id words views last lasts → get_elem? lasts id ≡ some end → end.run ≡ run → (q : Point)
+        → EndsSince (sight_in end) first.steps q → WasFree run words last q }
+    // The world comes further by a link of the view. By its other steps it does as they note no fill, and by those of other views as the
+    // view stays.
+    ensures link { (run : SharedRun) (id : ℕ) (words now after : Words) (views here : List View) (view : View) → IsWorld run words views
+        → HasCome run id words views now here → get_elem? here id ≡ some view → view.run ≡ run → (hand : Hand) → view.hand ≡ Some hand
+        → hand.stage ≡ Treed → (n : ℕ) (side : Bool) → LeadsTo view hand.point n side → now (ChildOf n side) ≡ 0
+        → WritesWord (ChildOf n side) (suc hand.mark) now after
+        → HasCome run id words views after (slice_set here id (linked view hand n side (steps_then here id view))) }
+    ensures other { (run : SharedRun) (id j : ℕ) (words now after : Words) (views here : List View) (view then : View)
+        → HasCome run id words views now here → get_elem? here id ≡ some view → j ≢ id → IsWorld run after (slice_set here j then)
+        → AreBehind now after → HasCome run id words views after (slice_set here j then) }
+{}
+
+/// No word that tells of the run goes back, and so no cost rises. That holds of a step of any kind which keeps the law and leaves a
+/// later view: each such word was seen as it is by some view with a share, and what that has seen may become the word after.
+pub fn no_cost_rises()
+    ensures told { (run : SharedRun) (words after : Words) (views : List View) (id : ℕ) (view then : View) → IsWorld run words views
+        → get_elem? views id ≡ some view → IsWorld run after (slice_set views id then) → IsLater view then → (name : Word) → IsTold run words name
+        → MayBecome (kind_of name) (words name) (after name) }
+    ensures costs { (run : SharedRun) (words after : Words) (views : List View) (id : ℕ) (view then : View) → IsWorld run words views
+        → get_elem? views id ≡ some view → IsWorld run after (slice_set views id then) → IsLater view then → (n : ℕ)
+        → is_linked (run_sizes run) words n ≡ true → cost_in (after (TreeOf n)) ≤ cost_in (words (TreeOf n)) }
 {}
 
 /// Counting the linked node in hand keeps the law.
@@ -275,7 +336,7 @@ pub fn steps_lead_to_later_views()
         → IsLater view (lowered view n parent cost) }
     ensures link { (run : SharedRun) (words : Words) (views : List View) (id : ℕ) (view : View) → IsWorld run words views → get_elem? views id ≡ some view
         → view.run ≡ run → (hand : Hand) → view.hand ≡ Some hand → hand.stage ≡ Treed → (n : ℕ) (side : Bool)
-        → LeadsTo view hand.point n side → words (ChildOf n side) ≡ 0 → IsLater view (linked view hand n side) }
+        → LeadsTo view hand.point n side → words (ChildOf n side) ≡ 0 → (steps : List ℕ) → IsLater view (linked view hand n side steps) }
     ensures count { (view : View) (hand : Hand) → IsLater view (counted view hand) }
     ensures split { (view : View) → IsLater view (stepped view) }
     ensures worker_split { (view : View) → IsLater view (parted view) }

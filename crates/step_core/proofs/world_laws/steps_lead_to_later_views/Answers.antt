@@ -34,8 +34,8 @@ returns-clause-point c = IsLater-pointed
 
 pub returns-clause-link : goal.returns-clause-link
 returns-clause-link c =
-    λ run words views id view world at own hand held stage n side leads empty.
-    IsLater-link run words words views id view world at own hand held stage n side leads empty
+    λ run words views id view world at own hand held stage n side leads empty steps.
+    IsLater-link run words words views id view world at own hand held stage n side leads empty steps
 
 pub returns-clause-count : goal.returns-clause-count
 returns-clause-count c = IsLater-counted

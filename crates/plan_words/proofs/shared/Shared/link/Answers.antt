@@ -6,7 +6,7 @@ use Rattle.plan_words.proofs.HandSteps.{child_met, leads_seen, linked_view, met_
 use Rattle.plan_words.proofs.shared.Shared.link.Goals as goal
 use Rattle.plan_words.specs.Nodes.{IsLinkedAt, LeadsOn}
 use Rattle.plan_words.specs.States.{with_view}
-use Rattle.step_core.specs.ViewSteps.{counted, linked, loaded}
+use Rattle.step_core.specs.ViewSteps.{counted, last_fill, linked, loaded}
 use Rattle.step_core.specs.ViewTrees.{LeadsTo}
 use Rattle.step_core.specs.WordNames.Word.{ChildOf}
 use Rattle.step_core.specs.declared.views.Stage.TheVariants.{Treed}
@@ -21,7 +21,7 @@ returns-then-child-ne0-clause-found c =
     let lawful = c.put-child.ensures.goes_on.was_lawful in
     let made = at_hand
     (λ h. c.put-child.new.pass ≡ with_view pass
-    (cond (found == 0) (linked pass.view h c.args.node c.args.right) (loaded pass.view (ChildOf c.args.node c.args.right) found)))
+    (cond (found == 0) (linked pass.view h c.args.node c.args.right (last_fill c.put-child.new.pass.view)) (loaded pass.view (ChildOf c.args.node c.args.right) found)))
     _ of.0 of.1 c.put-child.ensures.view in
     child_met pass.view _ c.args.node c.args.right found lawful (leads_seen pass.view of.0 c.args.node c.args.right lawful leads) c.if-child-ne0.true
     (met_view pass c.put-child.new.pass of.0 c.args.node c.args.right found c.if-child-ne0.true made)
@@ -35,7 +35,7 @@ returns-then-child-ne0-clause-deeper c =
     let lawful = c.put-child.ensures.goes_on.was_lawful in
     let made = at_hand
     (λ h. c.put-child.new.pass ≡ with_view pass
-    (cond (found == 0) (linked pass.view h c.args.node c.args.right) (loaded pass.view (ChildOf c.args.node c.args.right) found)))
+    (cond (found == 0) (linked pass.view h c.args.node c.args.right (last_fill c.put-child.new.pass.view)) (loaded pass.view (ChildOf c.args.node c.args.right) found)))
     _ of.0 of.1 c.put-child.ensures.view in
     let met = child_met pass.view _ c.args.node c.args.right found lawful (leads_seen pass.view of.0 c.args.node c.args.right lawful leads) c.if-child-ne0.true
     (met_view pass c.put-child.new.pass of.0 c.args.node c.args.right found c.if-child-ne0.true made) in
@@ -51,7 +51,7 @@ returns-then-child-ne0-clause-others c =
     let lawful = c.put-child.ensures.goes_on.was_lawful in
     let made = at_hand
     (λ h. c.put-child.new.pass ≡ with_view pass
-    (cond (found == 0) (linked pass.view h c.args.node c.args.right) (loaded pass.view (ChildOf c.args.node c.args.right) found)))
+    (cond (found == 0) (linked pass.view h c.args.node c.args.right (last_fill c.put-child.new.pass.view)) (loaded pass.view (ChildOf c.args.node c.args.right) found)))
     _ of.0 of.1 c.put-child.ensures.view in
     ChangesOnly-met_node pass.view _ c.args.node c.args.right found lawful (leads_seen pass.view of.0 c.args.node c.args.right lawful leads) c.if-child-ne0.true
     (met_view pass c.put-child.new.pass of.0 c.args.node c.args.right found c.if-child-ne0.true made)
@@ -65,7 +65,7 @@ returns-then-child-ne0-clause-others_found c =
     let lawful = c.put-child.ensures.goes_on.was_lawful in
     let made = at_hand
     (λ h. c.put-child.new.pass ≡ with_view pass
-    (cond (found == 0) (linked pass.view h c.args.node c.args.right) (loaded pass.view (ChildOf c.args.node c.args.right) found)))
+    (cond (found == 0) (linked pass.view h c.args.node c.args.right (last_fill c.put-child.new.pass.view)) (loaded pass.view (ChildOf c.args.node c.args.right) found)))
     _ of.0 of.1 c.put-child.ensures.view in
     ChangesOnly-met pass.view _ c.args.node c.args.right found lawful (leads_seen pass.view of.0 c.args.node c.args.right lawful leads) c.if-child-ne0.true
     (met_view pass c.put-child.new.pass of.0 c.args.node c.args.right found c.if-child-ne0.true made)
@@ -81,9 +81,9 @@ returns-clause-linked c =
     let leads = at_hand (λ h. LeadsTo pass.view h.point c.args.node c.args.right) _ of.0 of.1 c.requires.leads in
     let whole = linked_view pass c.put-child.new.pass c.count.new.pass c.args.node c.args.right c.put-child.result c.if-child-ne0.false
     c.put-child.ensures.view c.count.ensures.view in
-    let made = at_hand (λ h. c.count.new.pass ≡ with_view pass (counted (linked pass.view h c.args.node c.args.right) h)) _ of.0 of.1 whole in
+    let made = at_hand (λ h. c.count.new.pass ≡ with_view pass (counted (linked pass.view h c.args.node c.args.right (last_fill c.count.new.pass.view)) h)) _ of.0 of.1 whole in
     subst (λ o. IfSome o (λ h. IsLinkedAt c.count.new.pass.view c.args.node c.args.right h)) (sym of.1)
-    (IsLinkedAt-counted pass.view c.count.new.pass.view of.0 c.args.node c.args.right c.put-child.ensures.goes_on.was_lawful of.1 stage leads
+    (IsLinkedAt-counted pass.view c.count.new.pass.view of.0 c.args.node c.args.right _ c.put-child.ensures.goes_on.was_lawful of.1 stage leads
     (ap (λ p. p.view) made))
 
 pub returns-clause-on_way : goal.returns-clause-on_way
@@ -94,8 +94,8 @@ returns-clause-on_way c =
     let leads = at_hand (λ h. LeadsTo pass.view h.point c.args.node c.args.right) _ of.0 of.1 c.requires.leads in
     let whole = linked_view pass c.put-child.new.pass c.count.new.pass c.args.node c.args.right c.put-child.result c.if-child-ne0.false
     c.put-child.ensures.view c.count.ensures.view in
-    let made = at_hand (λ h. c.count.new.pass ≡ with_view pass (counted (linked pass.view h c.args.node c.args.right) h)) _ of.0 of.1 whole in
-    let placed = IsLinkedAt-counted pass.view c.count.new.pass.view of.0 c.args.node c.args.right c.put-child.ensures.goes_on.was_lawful of.1 stage leads
+    let made = at_hand (λ h. c.count.new.pass ≡ with_view pass (counted (linked pass.view h c.args.node c.args.right (last_fill c.count.new.pass.view)) h)) _ of.0 of.1 whole in
+    let placed = IsLinkedAt-counted pass.view c.count.new.pass.view of.0 c.args.node c.args.right _ c.put-child.ensures.goes_on.was_lawful of.1 stage leads
     (ap (λ p. p.view) made) in
     let goes_on = GoesOn-trans _ _ _ c.put-child.ensures.goes_on c.count.ensures.goes_on in
     subst (λ o. IfSome o (λ h. LeadsOn pass.view c.count.new.pass.view h.point c.args.node c.args.right (suc h.mark))) (sym of.1)
@@ -109,8 +109,8 @@ returns-clause-others c =
     let leads = at_hand (λ h. LeadsTo pass.view h.point c.args.node c.args.right) _ of.0 of.1 c.requires.leads in
     let whole = linked_view pass c.put-child.new.pass c.count.new.pass c.args.node c.args.right c.put-child.result c.if-child-ne0.false
     c.put-child.ensures.view c.count.ensures.view in
-    let made = at_hand (λ h. c.count.new.pass ≡ with_view pass (counted (linked pass.view h c.args.node c.args.right) h)) _ of.0 of.1 whole in
-    ChangesOnly-linked pass.view c.count.new.pass.view of.0 c.args.node c.args.right c.put-child.ensures.goes_on.was_lawful of.1 stage leads
+    let made = at_hand (λ h. c.count.new.pass ≡ with_view pass (counted (linked pass.view h c.args.node c.args.right (last_fill c.count.new.pass.view)) h)) _ of.0 of.1 whole in
+    ChangesOnly-linked pass.view c.count.new.pass.view of.0 c.args.node c.args.right _ c.put-child.ensures.goes_on.was_lawful of.1 stage leads
     (ap (λ p. p.view) made)
 
 pub returns-then-child-ne0-clause-whole : goal.returns-then-child-ne0-clause-whole

@@ -11,7 +11,7 @@ use Rattle.plan_words.proofs.shared.Shared.put.Goals.{else-found-eq0, then-found
 use Rattle.plan_words.specs.States.{GoesOn}
 use Rattle.plan_words.specs.Plays.{Tells}
 use Rattle.step_core.specs.Stages.{has_first}
-use Rattle.step_core.specs.ViewSteps.{linked_at, saw_at}
+use Rattle.step_core.specs.ViewSteps.{last_fill, linked_at, saw_at}
 use Rattle.step_core.specs.ViewTrees.{LeadsTo}
 use Rattle.step_core.specs.WordNames.Word.{ChildOf}
 use Rattle.step_core.specs.WordPlaces.{place_of}
@@ -60,7 +60,7 @@ overflow_cast-result c =
     let seen = leads_seen view hand c.args.node c.args.right tied.lawful leads in
     let place = place_here c.self.inside.places _ view (ChildOf c.args.node c.args.right) _ c.self.invariant.places_are own c.child-place.ensures in
     let told = c.compare_exchange-found.ensures.2.told hand held in
-    omega (arith, tried_fits view hand _ _ held c.args.node c.args.right tied.lawful seen place told.goes_on.lawful)
+    omega (arith, tried_fits view hand _ _ _ held c.args.node c.args.right tied.lawful seen place told.goes_on.lawful)
 
 pub pack_tree-requires-clause-parent : goal.pack_tree-requires-clause-parent
 pack_tree-requires-clause-parent c =
@@ -90,12 +90,12 @@ set-requires-clause-parent c =
     let seen = leads_seen me.0 hand c.args.node c.args.right tied.lawful leads in
     let place = place_here c.self.inside.places _ me.0 (ChildOf c.args.node c.args.right) _ c.self.invariant.places_are own c.child-place.ensures in
     let none = eq-eqb found 0 c.if-found-eq0.true in
-    let told = subst (λ b. Tells me (cond b (linked_at me.0 hand c.child-place.result) (saw_at me.0 c.child-place.result found found)) after) none
+    let told = subst (λ b. Tells me (cond b (linked_at me.0 hand c.child-place.result (last_fill after.0)) (saw_at me.0 c.child-place.result found found)) after) none
     (c.compare_exchange-found.ensures.2.told hand held) in
     let kept =
-    keeps_view me after (linked_at me.0 hand c.child-place.result) _ _ _ _ _ _ _ c.pass.inside.pairs _ told c.pass.invariant refl tied.member_is
+    keeps_view me after (linked_at me.0 hand c.child-place.result (last_fill after.0)) _ _ _ _ _ _ _ c.pass.inside.pairs _ told c.pass.invariant refl tied.member_is
     (ap Some (c.after_link.ensures ∙ ap (λ b. cond b (record hand { stage = Linked }) hand) none))
-    (HasPairs-linked me.0 hand c.args.node c.args.right _ c.pass.inside.pairs c.pack_tree.result tied.lawful held (tied.lawful.within c.args.node seen)
+    (HasPairs-linked me.0 hand c.args.node c.args.right _ _ c.pass.inside.pairs c.pack_tree.result tied.lawful held (tied.lawful.within c.args.node seen)
     place c.pack_tree.ensures) in
     keeps_parent after _ _ _ _ _ c.pass.inside.pairs (hand.mark + 1) _ kept (omega (arith, c.pass.invariant.3.for_each, tied.lawful.mark hand held))
 
@@ -113,12 +113,12 @@ invariant_of-pass c =
     let seen = leads_seen me.0 hand c.args.node c.args.right tied.lawful leads in
     let place = place_here c.self.inside.places _ me.0 (ChildOf c.args.node c.args.right) _ c.self.invariant.places_are own c.child-place.ensures in
     let none = eq-eqb found 0 c.if-found-eq0.true in
-    let told = subst (λ b. Tells me (cond b (linked_at me.0 hand c.child-place.result) (saw_at me.0 c.child-place.result found found)) after) none
+    let told = subst (λ b. Tells me (cond b (linked_at me.0 hand c.child-place.result (last_fill after.0)) (saw_at me.0 c.child-place.result found found)) after) none
     (c.compare_exchange-found.ensures.2.told hand held) in
     rw c.set.ensures
-    (keeps_view me after (linked_at me.0 hand c.child-place.result) _ _ _ _ _ _ _ c.pass.inside.pairs _ told c.pass.invariant refl tied.member_is
+    (keeps_view me after (linked_at me.0 hand c.child-place.result (last_fill after.0)) _ _ _ _ _ _ _ c.pass.inside.pairs _ told c.pass.invariant refl tied.member_is
     (ap Some (c.after_link.ensures ∙ ap (λ b. cond b (record hand { stage = Linked }) hand) none))
-    (HasPairs-linked me.0 hand c.args.node c.args.right _ c.pass.inside.pairs c.pack_tree.result tied.lawful held (tied.lawful.within c.args.node seen)
+    (HasPairs-linked me.0 hand c.args.node c.args.right _ _ c.pass.inside.pairs c.pack_tree.result tied.lawful held (tied.lawful.within c.args.node seen)
     place c.pack_tree.ensures))
 
 pub invariant_of-pass-else-found-eq0 : goal.invariant_of-pass-else-found-eq0
@@ -135,7 +135,7 @@ invariant_of-pass-else-found-eq0 c =
     let seen = leads_seen me.0 hand c.args.node c.args.right tied.lawful leads in
     let place = place_here c.self.inside.places _ me.0 (ChildOf c.args.node c.args.right) _ c.self.invariant.places_are own c.child-place.ensures in
     let some_child = ne_eqb found 0 c.if-found-eq0.false in
-    let told = subst (λ b. Tells me (cond b (linked_at me.0 hand c.child-place.result) (saw_at me.0 c.child-place.result found found)) after) some_child
+    let told = subst (λ b. Tells me (cond b (linked_at me.0 hand c.child-place.result (last_fill after.0)) (saw_at me.0 c.child-place.result found found)) after) some_child
     (c.compare_exchange-found.ensures.2.told hand held) in
     keeps_view me after (saw_at me.0 c.child-place.result found found) _ _ _ _ _ _ _ c.pass.inside.pairs _ told c.pass.invariant refl tied.member_is
     (ap Some (c.after_link.ensures ∙ ap (λ b. cond b (record hand { stage = Linked }) hand) some_child) ∙ sym held)
@@ -149,7 +149,7 @@ returns-clause-goes_on c =
     let place = c.child-place.result in
     let found = c.compare_exchange-found.result in
     let told = c.compare_exchange-found.ensures.2.told hand (sym c.pass.invariant.1.hand_is ∙ c.in-Some.is) in
-    let on = tells_on _ me c.compare_exchange-found.new.seat.me (cond (found == 0) (linked_at me.0 hand place) (saw_at me.0 place found found))
+    let on = tells_on _ me c.compare_exchange-found.new.seat.me (cond (found == 0) (linked_at me.0 hand place (last_fill c.compare_exchange-found.new.seat.me.0)) (saw_at me.0 place found found))
     (ap (λ p. p.view) c.pass.view_is) told in
     elim c.if-found-eq0.branch [
       | then-found-eq0 w ↦ subst (λ p. GoesOn c.args.pass.now.view p.view) (sym w.pass-is) on

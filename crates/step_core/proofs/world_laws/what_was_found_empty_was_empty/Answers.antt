@@ -1,0 +1,20 @@
+use Rattle.step_core.proofs.FoundEmpty.{IsFree-found, IsFree-since, LeadsTo-ends, empty-after, empty-before, filled-not_found}
+use Rattle.step_core.proofs.world_laws.what_was_found_empty_was_empty.Goals as goal
+
+pub returns-clause-before : goal.returns-clause-before
+returns-clause-before c = empty-before
+
+pub returns-clause-after : goal.returns-clause-after
+returns-clause-after c = empty-after
+
+pub returns-clause-stale : goal.returns-clause-stale
+returns-clause-stale c = filled-not_found
+
+pub returns-clause-no_node : goal.returns-clause-no_node
+returns-clause-no_node c = IsFree-since
+
+pub returns-clause-by_then : goal.returns-clause-by_then
+returns-clause-by_then c = IsFree-found
+
+pub returns-clause-swept : goal.returns-clause-swept
+returns-clause-swept c = LeadsTo-ends
