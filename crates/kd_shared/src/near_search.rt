@@ -1,4 +1,4 @@
-//! The search for all nodes within a radius.
+//! The search for the nodes within a radius.
 
 ghost use Rattle.std.specs.Prelude.{◌≡◌, ◌*◌, ◌+◌, ◌<◌, length};
 ghost use Rattle.kd_shared.specs.Looking.{KeepsLists, OnlyLooks};
@@ -14,9 +14,11 @@ use crate::squares::square;
 use plan_model::{MOST_NODES, Point};
 use plan_words::{Pass, Shared, Spot};
 
-/// Fills the near list of the pass with all nodes within a radius of a point, in rising number; with a radius of 0 with the
-/// node at the point, if one is seen. The radius is in lattice steps, and no coordinate is above `MOST_COORDINATE`. It goes
-/// breadth first, so that the loads of one depth need not wait for one another, and leaves out a side of a node only if its
+/// Fills the near list of the pass with exactly the nodes that it has seen by then with their points and that stand within a radius
+/// of a point, in rising number; with a radius of 0 with the node at the point, if one is seen. Each point within the radius is
+/// swept. The radius is in lattice steps, and no coordinate is above `MOST_COORDINATE`.
+///
+/// It goes breadth first, so that the loads of one depth need not wait for one another, and leaves out a side of a node only if its
 /// line is farther than the radius: O(log n + k log k) on average for k found of n random nodes, O(n log n) at worst.
 pub fn near(shared: &Shared, pass: &mut Pass, p: Point, r: u32)
     requires belongs { BelongsTo pass.old shared.now }

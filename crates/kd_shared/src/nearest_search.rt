@@ -1,4 +1,4 @@
-//! The search for the nearest node.
+//! The search for the nearest node of those that are seen.
 
 ghost use Rattle.std.specs.Prelude.{◌≡◌, ◌⊎◌, length};
 ghost use Rattle.kd_shared.specs.Looking.{KeepsLists, OnlyLooks};
@@ -20,9 +20,12 @@ struct Candidate {
     distance: u64,
 }
 
-/// The node nearest to a point, of equally near ones that of the least number; in a tree of the start alone, node 0. No
-/// coordinate is above `MOST_COORDINATE`. It goes depth first, the near side of each node first, and leaves out a node only if
-/// all points below it are farther than the nearest so far: O(log n) nodes on average for n random nodes, O(n) at worst.
+/// The node nearest to a point of those that the pass has seen with their points, at entry and at return; of equally near ones that
+/// of the least number, and in a tree of the start alone node 0. Each point that is at most as far is swept. No coordinate is above
+/// `MOST_COORDINATE`.
+///
+/// It goes depth first, the near side of each node first, and leaves out a node only if all points below it are farther than the
+/// nearest so far: O(log n) nodes on average for n random nodes, O(n) at worst.
 pub fn nearest(shared: &Shared, pass: &mut Pass, p: Point) -> u32
     requires belongs { BelongsTo pass.old shared.now }
     requires bounded { IsBounded p }

@@ -22,8 +22,8 @@ use std::marker::Brand;
 use step_core::{Hand, Stage, pack_point, pack_tree, point_in};
 
 impl Shared {
-    /// The child of a seen node on its left or its right, or `None` only if there was none at this step. The pass has then
-    /// seen the child.
+    /// The child of a seen node on its left or its right, which the pass has then seen; or `None`, and then its view notes that this
+    /// step found the place empty. That there was no child at this step the law `what_was_found_empty_was_empty` says.
     pub fn child(&self, pass: &mut Pass, node: u32, right: bool) -> Option<u32>
         requires belongs { BelongsTo pass.old self.now }
         requires seen_node { SeesNode pass.old.view node }
