@@ -28,6 +28,7 @@ mod near_search;
 mod nearest_search;
 mod placing;
 mod point_search;
+pub mod search_laws;
 mod sides;
 mod squares;
 mod walks;

@@ -22,6 +22,7 @@
 #![tactic(auto)]
 
 mod children;
+pub mod claim_laws;
 mod claims;
 mod ends;
 mod nodes;

@@ -20,6 +20,7 @@ use Rattle.step_core.specs.SeenRecords.{is_own_node, own_count}
 use Rattle.step_core.specs.ViewSteps.{loaded}
 use Rattle.step_core.specs.ViewTrees.{sight_in}
 use Rattle.step_core.specs.Views.{last_look, sees, tree_seen}
+use Rattle.step_core.specs.WordNames.{Word}
 use Rattle.step_core.specs.WordNames.Word.{Count, RecordOf}
 use Rattle.step_core.specs.declared.views.View.{View}
 use Rattle.step_core.proofs.LawfulSights.{IsLaterMoment-later}
@@ -57,13 +58,16 @@ looks_at_count before after nodes is goes_on =
     let looks = WritesWord-looked before.view.run before.view goes_on.was_lawful.of_run Count tt nodes nodes in
     subst (λ v. before.view.steps < last_look v Count) (sym (ap (λ (p : PassState). p.view) is)) (omega (arith, looks.here))
 
--- if it was loaded since a step, it was so still later on
-pub looked_still : (steps : ℕ) (mid after : View) → GoesOn mid after → steps < last_look mid Count → steps < last_look after Count
-looked_still steps mid after goes_on since =
-    elim (goes_on.later.looked Count) [
+-- what was loaded since a step was so still later on
+pub looked_since : (name : Word) (steps : ℕ) (mid after : View) → GoesOn mid after → steps < last_look mid name → steps < last_look after name
+looked_since name steps mid after goes_on since =
+    elim (goes_on.later.looked name) [
       | inl same ↦ omega (arith, same, since)
-      | inr later ↦ omega (arith, later, since, goes_on.was_lawful.of_run.looks Count)
+      | inr later ↦ omega (arith, later, since, goes_on.was_lawful.of_run.looks name)
     ]
+
+pub looked_still : (steps : ℕ) (mid after : View) → GoesOn mid after → steps < last_look mid Count → steps < last_look after Count
+looked_still = looked_since Count
 
 -- The list that a search found after the count was loaded.
 pub HasFilledNear-found :

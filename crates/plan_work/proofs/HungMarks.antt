@@ -1,6 +1,6 @@
 -- The node in hand gets its parent and its cost.
 use Rattle.std.proofs.Common.{◌≡◌, ℕ, ◌≤◌, [], ◌∷◌, List, refl, sym, ap, ◌∙◌, subst, arith}
-use Rattle.std.specs.Prelude.{All, Contains}
+use Rattle.std.specs.Prelude.{All, Contains, slice_index_or}
 use Rattle.std.proofs.lemmas.List.Elements.{All-contains, Contains-append_left, Contains-append_right, Contains-get_or, Contains-push}
 use Rattle.plan_model.specs.Clearance.{Clear}
 use Rattle.plan_model.specs.ConfigurationSpace.{ConfigurationSpace}
@@ -15,11 +15,12 @@ use Rattle.plan_work.specs.Extensions.{IsHung, IsPointed, KeepsRecords}
 use Rattle.step_core.specs.ViewSteps.{half, treed}
 use Rattle.step_core.specs.ViewTrees.{IsCostBelow, MayHang}
 use Rattle.step_core.specs.Views.{sees, setup_in, tree_seen}
-use Rattle.step_core.specs.WordNames.Word.{Counter, RecordOf}
+use Rattle.step_core.specs.WordNames.Word.{Counter, RecordOf, TreeOf}
 use Rattle.step_core.specs.declared.views.Hand.{Hand}
 use Rattle.step_core.specs.declared.views.Stage.TheVariants.{Half}
 use Rattle.step_core.specs.declared.views.View.{View}
-use Rattle.tree_rewire.specs.SeenCosts.{SeesPair, cost_seen, cost_through}
+use Rattle.tree_rewire.specs.SeenCosts.{IsLoadedSince, SeesPair, cost_seen, cost_through}
+use Rattle.plan_work.proofs.FilledNear.{looked_since}
 
 -- the first of a list, and the others
 Contains-first : (x : ℕ) (xs : List ℕ) → Contains (x ∷ xs) x
@@ -59,12 +60,18 @@ module _ (space : ConfigurationSpace) (view : View) (hand : Hand) (p : Point) (n
 pub IsHung-written :
     (space : ConfigurationSpace) (view : View) (own : Hand) (m : ℕ) (p : Point) (pair : ℕ × ℕ) (near : List ℕ) (then : View) → IsPointed own m p
     → then ≡ treed (half view own pair.0 pair.1) (record own { stage = Half; parent = pair.0; cost = pair.1 }) → space ≡ (setup_in view.run).space
-    → All (SeesPair view) (m ∷ near)
-    → ((i : ℕ) → Contains near i → Clear space (point_of (tree_seen view).points i) p → pair.1 ≤ cost_through view p i) → IsHung then own pair near
-IsHung-written space view own m p pair near then pointed is same pairs chosen =
-    subst (λ v. IsHung v own pair near) (sym is) record {
+    → All (SeesPair view) (m ∷ near) → (steps : ℕ) → All (IsLoadedSince steps view) (m ∷ near) → GoesOn view then
+    → ((i : ℕ) → Contains near i → Clear space (point_of (tree_seen view).points i) p → pair.1 ≤ cost_through view p i)
+    → IsHung steps then own pair near
+IsHung-written space view own m p pair near then pointed is same pairs steps loaded goes_on chosen =
+    subst (λ v. IsHung steps v own pair near) (sym is) record {
       held = refl;
       pairs = λ k d below. All-contains (SeesPair view) (m ∷ near) _ pairs (Contains-rest m near _ (Contains-get_or near k d below));
+      loaded = λ k d below.
+          let n : ℕ = slice_index_or near k d in
+          subst (λ v. IsLoadedSince steps v n) is
+          (looked_since (TreeOf n) steps view then goes_on
+          (All-contains (IsLoadedSince steps view) (m ∷ near) n loaded (Contains-rest m near n (Contains-get_or near k d below))));
       chosen = λ i among clear.
           omega (
             arith,

@@ -1,5 +1,5 @@
 -- A mark whose node was placed: what its neighbours cost, what may be recorded, and what the whole handling leaves.
-use Rattle.std.proofs.Common.{◌≡◌, ℕ, zero, suc, ◌+◌, ◌*◌, ◌≤◌, ◌^◌, true, Some, inl, inr, refl, sym, ap, ◌∙◌, subst, arith}
+use Rattle.std.proofs.Common.{◌≡◌, ◌≢◌, ℕ, zero, suc, ◌+◌, ◌*◌, ◌≤◌, ◌^◌, true, Some, inl, inr, refl, sym, ap, ◌∙◌, subst, arith}
 use Rattle.std.specs.Prelude.{All, Contains, IfSome, IsTrue}
 use Rattle.std.proofs.lemmas.Bool.{leb-true}
 use Rattle.std.proofs.lemmas.List.Elements.{All-contains}
@@ -9,13 +9,13 @@ use Rattle.plan_model.specs.Clearance.{Clear}
 use Rattle.plan_model.specs.ConfigurationSpace.{space_of}
 use Rattle.plan_model.specs.Cost.{cost_of}
 use Rattle.plan_model.specs.Geometry.{squared_distance}
-use Rattle.plan_model.specs.Nearness.{is_within}
+use Rattle.plan_model.specs.Nearness.{distance_to, is_within}
 use Rattle.plan_model.specs.PointsByNumber.{point_at, point_of}
 use Rattle.plan_model.specs.Radius.{class_of, radius_of_class}
 use Rattle.plan_model.specs.declared.geometry.Point.{Point}
 use Rattle.plan_model.specs.declared.records.Record.{Record}
 use Rattle.plan_model.proofs.CostLaws.{cost_of-swap}
-use Rattle.plan_model.proofs.NewNodes.{StandsAt-present, point_of-stands}
+use Rattle.plan_model.proofs.NewNodes.{IsPresent-stands, StandsAt-present, point_of-stands}
 use Rattle.plan_model.proofs.RecordLaws.{class_of-le}
 use Rattle.plan_model.proofs.SegmentLaws.{Clear-back}
 use Rattle.plan_words.specs.States.{GoesOn, PassState, SharedState}
@@ -24,21 +24,24 @@ use Rattle.step_core.specs.SeenRecords.{IsOwnNeighbour, MayRecord, is_own_node, 
 use Rattle.kd_shared.specs.Searches.{SweepsWithin}
 use Rattle.step_core.specs.ViewTrees.{SeesPoint, sight_in}
 use Rattle.step_core.specs.Views.{sees, setup_in, tree_seen}
-use Rattle.step_core.specs.WordNames.Word.{Count, FirstOf, RecordOf}
-use Rattle.step_core.specs.Words.{cost_in}
+use Rattle.step_core.specs.WordNames.{Word}
+use Rattle.step_core.specs.WordNames.Word.{Count, FirstOf, RecordOf, TreeOf}
+use Rattle.step_core.specs.Words.{cost_in, tree_word}
 use Rattle.step_core.specs.declared.views.Hand.{Hand}
 use Rattle.step_core.specs.declared.views.SharedRun.{SharedRun}
 use Rattle.step_core.specs.declared.views.Stage.TheVariants.{Counted}
 use Rattle.step_core.specs.declared.views.View.{View}
-use Rattle.tree_rewire.proofs.SeenCosts.{cost_seen-later, stands_later}
-use Rattle.tree_rewire.specs.SeenCosts.{NamesTreeOrPoint, SeesAnew, SeesPair, cost_seen}
+use Rattle.tree_rewire.proofs.SeenCosts.{SeesPair-later, cost_seen-later, stands_later}
+use Rattle.tree_rewire.proofs.SpreadFalls.{HasSpreadFalls-still}
+use Rattle.tree_rewire.specs.Rewirings.{HasSpreadFalls}
+use Rattle.tree_rewire.specs.SeenCosts.{IsLoadedSince, NamesTreeOrPoint, SeesAnew, SeesPair, cost_seen}
 use Rattle.plan_work.proofs.FilledNear.{looked_still}
 use Rattle.plan_work.proofs.KeptSights.{SweepsWithin-still}
 use Rattle.plan_work.proofs.HeldMarks.{if_held, of_held}
 use Rattle.plan_work.proofs.RecordedMarks.{IsSteeredTo-still, MayRecord-steered, has_node-kept, others_still, own_count-same, own_recorded, present_recorded}
 use Rattle.plan_work.proofs.TriedMarks.{HasFilledNear-still, clear_of-may}
 use Rattle.plan_work.specs.Extensions.{HasFilledNear, HasRecorded, IsFilledSince, IsPlacedAt, IsTried, KeepsRecords}
-use Rattle.plan_work.specs.Extensions.{MayPlace, WasNeighbour, hung_by, own_placed, own_unplaced, radius_in}
+use Rattle.plan_work.specs.Extensions.{IsWithinRadius, MayPlace, WasChosen, WasNeighbour, WasRewired, hung_by, own_placed, own_unplaced, radius_in}
 use Rattle.plan_work.specs.declared.placing.Hanging.{Hanging}
 
 -- The first word of a node stays once it was seen.
@@ -252,7 +255,8 @@ module _
 
   -- ---- after the record
 
-  module _ (done : PassState) (stored : Record) (recorded : HasRecorded shared after done stored) (is : stored ≡ entry) where
+  module _ (spread : HasSpreadFalls (space_of shared.task.scene) (Contains tried.near) (suc k) tried.view after.view) (done : PassState)
+      (stored : Record) (recorded : HasRecorded shared after done stored) (is : stored ≡ entry) where
     end : GoesOn first.view done.view
     end = GoesOn-trans first.view after.view done.view since_first recorded.goes_on
 
@@ -269,31 +273,50 @@ module _
           (ap (λ (x : SharedRun). (setup_in x).space) (recorded.goes_on.later.run ∙ whole.later.run ∙ may.belongs.run)) was.clear;
     }
 
-    pub IsPlacedAt-recorded : IsPlacedAt first.view done.view k stored p
-    IsPlacedAt-recorded = record {
-      stands =
-          subst (λ j. SeesPoint done.view (suc j) p) may.mark
-          (subst (SeesPoint done.view (suc may.hand.mark)) may.pointed.point
-          (stands_later tried.view done.view (GoesOn-trans tried.view after.view done.view seen.goes_on recorded.goes_on) (suc may.hand.mark) may.hand.point
-          is_tried.came.stands));
-      class_is =
-          ap (λ (x : Record). x.class) is ∙ filled.class_is
-          ∙ ap class_of (sym (others_still after.view done.view counted_hand stored held_after
-          (ap (λ (x : PassState). x.view) (recorded.view counted_hand held_after))
-          whole.lawful Count (λ e. cc) ∙ seen.others Count (λ no. no) ∙ is_tried.count));
-      looked = looked_still first.view.steps mid done.view (GoesOn-trans mid after.view done.view later recorded.goes_on) filled.looked;
-      swept =
-          subst (λ x. SweepsWithin (sight_in first.view) (sight_in done.view) p (x * x)) (sym radius_end)
-          (SweepsWithin-still mid done.view (GoesOn-trans mid after.view done.view later recorded.goes_on) first.view p (r * r) filled.swept);
-      chosen = λ i was.
-          let close = close_neighbour i was in
-          omega (
-            arith,
-            chosen_by i was.at close,
-            cost_seen-later first.view mid begun i was.pair,
-            ap (λ (x : Record). x.first_cost) is,
-          );
-      rewired = λ i was.
+    held_after : after.view.hand ≡ Some counted_hand
+    held_after = seen.kept.hand ∙ is_tried.came.counted
+
+    -- every other word is seen as before the record was stored
+    kept : (name : Word) → name ≢ RecordOf counted_hand.mark → sees done.view name ≡ sees after.view name
+    kept name apart =
+        others_still after.view done.view counted_hand stored held_after
+        (ap (λ (x : PassState). x.view) (recorded.view counted_hand held_after)) whole.lawful name apart
+
+    from_tried : GoesOn tried.view done.view
+    from_tried = GoesOn-trans tried.view after.view done.view seen.goes_on recorded.goes_on
+
+    -- the new node stood there as soon as it was linked
+    stood : SeesPoint tried.view (suc k) p
+    stood =
+        subst (λ j. SeesPoint tried.view (suc j) p) may.mark
+        (subst (SeesPoint tried.view (suc may.hand.mark)) may.pointed.point is_tried.came.stands)
+
+    -- each node of the near list is within the radius
+    within_radius : (i : ℕ) → Contains tried.near i → IsWithinRadius tried.view stored p i
+    within_radius i listed =
+        let filled_then = HasFilledNear-still first.view mid tried.view p hanging.class tried.near is_tried.ended is_tried.count filled in
+        subst (λ n. distance_to p (tree_seen tried.view).points i ≤ radius_in tried.view n * radius_in tried.view n)
+        (sym (ap (λ (x : Record). x.class) is)) (filled_then.close i listed)
+
+    WasChosen-recorded : WasChosen first.view mid done.view stored p
+    WasChosen-recorded = record {
+      since = begun;
+      loaded = λ i was.
+          let loaded = All-contains (IsLoadedSince before.view.steps mid) tried.near i is_tried.hung.loaded
+          (among i was.at (close_neighbour i was)) in
+          omega (arith, loaded, since.keeps.goes_on.later.steps);
+      least = λ i was. omega (arith, chosen_by i was.at (close_neighbour i was), ap (λ (x : Record). x.first_cost) is);
+    }
+
+    WasRewired-recorded : WasRewired first.view tried.view done.view k stored p
+    WasRewired-recorded = record {
+      until = from_tried;
+      stood = stood;
+      written =
+          ap (λ j. sees tried.view (TreeOf (suc j))) (sym may.mark) ∙ is_tried.came.pair
+          ∙ ap (λ (x : Record). tree_word x.first_parent x.first_cost) (sym is);
+      pairs = λ i was. SeesPair-later after.view done.view recorded.goes_on i (pair_after i was.at (close_neighbour i was));
+      most = λ i was.
           let close = close_neighbour i was in
           omega (
             arith,
@@ -301,7 +324,28 @@ module _
             cost_seen-later after.view done.view recorded.goes_on i (pair_after i was.at close),
             ap (λ (x : Record). x.first_cost) is,
           );
+      spread =
+          subst (λ s. HasSpreadFalls s (IsWithinRadius tried.view stored p) (suc k) tried.view done.view)
+          (sym (ap (λ (x : SharedRun). (setup_in x).space) (recorded.goes_on.later.run ∙ whole.later.run ∙ may.belongs.run)))
+          (HasSpreadFalls-still (space_of shared.task.scene) (Contains tried.near) (IsWithinRadius tried.view stored p) (suc k) tried.view after.view
+          done.view recorded.goes_on (λ n. kept (TreeOf n) (λ e. cc))
+          (IsPresent-stands (tree_seen after.view).points (suc k) p (stands_later tried.view after.view seen.goes_on (suc k) p stood)) within_radius
+          spread);
     }
-      where
-        held_after : after.view.hand ≡ Some counted_hand
-        held_after = seen.kept.hand ∙ is_tried.came.counted
+
+    pub IsPlacedAt-recorded : IsPlacedAt first.view done.view k stored p
+    IsPlacedAt-recorded = record {
+      stands = stands_later tried.view done.view from_tried (suc k) p stood;
+      class_is =
+          ap (λ (x : Record). x.class) is ∙ filled.class_is
+          ∙ ap class_of (sym (kept Count (λ e. cc) ∙ seen.others Count (λ no. no) ∙ is_tried.count));
+      looked = looked_still first.view.steps mid done.view (GoesOn-trans mid after.view done.view later recorded.goes_on) filled.looked;
+      swept =
+          subst (λ x. SweepsWithin (sight_in first.view) (sight_in done.view) p (x * x)) (sym radius_end)
+          (SweepsWithin-still mid done.view (GoesOn-trans mid after.view done.view later recorded.goes_on) first.view p (r * r) filled.swept);
+      chosen_at = mid;
+      linked_at = tried.view;
+      in_turn = is_tried.ended;
+      chosen = WasChosen-recorded;
+      rewired = WasRewired-recorded;
+    }

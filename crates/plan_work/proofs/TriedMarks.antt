@@ -109,14 +109,14 @@ pub IsTried-placing :
     (shared : SharedState) (before hanging_at after : PassState) (hand : Hand) (placing : Placing) (hanging : Hanging)
     → KeepsRecords shared before hanging_at → GoesOnPlacing hanging_at.view after.view → hanging_at.near ≡ before.near
     → after.near ≡ hanging_at.near → sees hanging_at.view Count ≡ sees before.view Count
-    → IsHung hanging_at.view hand (hanging.parent, hanging.cost) before.near → IsPlacing after.view (hung_by hand hanging) placing
+    → IsHung before.view.steps hanging_at.view hand (hanging.parent, hanging.cost) before.near → IsPlacing after.view (hung_by hand hanging) placing
     → IsTried before after hand placing hanging
 IsTried-placing shared before hanging_at after hand placing hanging keeps goes_on near last count hung came = record {
   mid = hanging_at.view;
   begun = keeps.goes_on;
   near = last ∙ near;
   counted = count;
-  hung = subst (IsHung hanging_at.view hand (hanging.parent, hanging.cost)) (sym (last ∙ near)) hung;
+  hung = subst (IsHung before.view.steps hanging_at.view hand (hanging.parent, hanging.cost)) (sym (last ∙ near)) hung;
   ended = goes_on.goes_on;
   count = goes_on.others Count (λ no. no);
   came = came;

@@ -1,18 +1,21 @@
 -- A worker has handled one mark more.
-use Rattle.std.proofs.Common.{◌≡◌, ℕ, ◌+◌, ◌-◌, ◌<◌, ◌≤◌, List, length, inl, inr, refl, sym, ap, ◌∙◌, subst, arith}
+use Rattle.std.proofs.Common.{◌≡◌, ◌≢◌, ℕ, ◌+◌, ◌-◌, ◌<◌, ◌≤◌, List, length, inl, inr, refl, sym, ap, ◌∙◌, subst, arith}
 use Rattle.std.specs.Prelude.{◌⊎◌, [], ◌∷◌, max}
-use Rattle.std.proofs.lemmas.Bool.{cases_lt}
+use Rattle.std.proofs.lemmas.Bool.{cases_eq, cases_lt}
 use lib.ListN.{get_elem?}
 use Rattle.plan_model.specs.declared.records.Record.{Record}
 use Rattle.plan_words.specs.Claims.{AllLoaded, IsClaimed}
 use Rattle.plan_words.specs.States.{GoesOn, PassState, SharedState, turn_of, worker_of}
 use Rattle.step_core.specs.ViewSteps.{new_hand, one_turn_more}
+use Rattle.step_core.specs.Views.{sees}
+use Rattle.step_core.specs.WordNames.{ChangesOnly, IsCounter}
+use Rattle.step_core.specs.WordNames.Word.{RecordOf}
 use Rattle.step_core.specs.declared.views.Member.{Member}
 use Rattle.step_core.specs.declared.views.View.{View}
-use Rattle.plan_words.proofs.GoingOn.{HasGoneOn}
+use Rattle.plan_words.proofs.GoingOn.{GoesOn-more, GoesOn-trans, HasGoneOn}
 use Rattle.plan_words.proofs.Tying.{HasMember-held}
-use Rattle.plan_work.specs.Extensions.{HandlesMark}
-use Rattle.plan_work.specs.Workers.{HasWorked}
+use Rattle.plan_work.specs.Extensions.{HandlesMark, IsExtended}
+use Rattle.plan_work.specs.Workers.{AllExtended, HasWorked}
 
 -- a turn more changes neither the share nor the worker
 pub share-turned : (crew : List Member) → length (one_turn_more crew) ≡ length crew
@@ -64,3 +67,69 @@ fewer_turns shared now claimed after limit k entry goes_on claims handles =
 pub AllLoaded-earlier : (before now after : View) → HasGoneOn before now → AllLoaded after now.steps → AllLoaded after before.steps
 AllLoaded-earlier before now after (inl same) loaded = subst (λ v. AllLoaded after v.steps) same loaded
 AllLoaded-earlier before now after (inr goes_on) loaded = λ g below. omega (arith, goes_on.later.steps, loaded g below)
+
+-- ---- what was promised of each mark
+
+-- Each mark recorded so far was handled as promised; the last of them perhaps just now.
+pub record WasExtendedSo (before now : View) (k : ℕ) : Type 0 where
+  pub entry : Record
+  pub begun : View
+  pub ended : View
+  pub since : GoesOn before begun
+  pub until : HasGoneOn ended now
+  pub extended : IsExtended begun ended k entry
+  pub kept : sees now (RecordOf k) ≡ sees ended (RecordOf k)
+
+abbrev pub AllExtendedSo : View → View → Type 0
+AllExtendedSo before now = (k : ℕ) → sees before (RecordOf k) ≡ 0 → sees now (RecordOf k) ≢ 0 → WasExtendedSo before now k
+
+pub AllExtendedSo-none : (view : View) → AllExtendedSo view view
+AllExtendedSo-none view k none some = absurd (some none)
+
+-- One more was claimed and handled.
+pub AllExtendedSo-mark :
+    (shared : SharedState) (before now claimed after : PassState) (k : ℕ) (entry : Record) → HasGoneOn before.view now.view
+    → GoesOn now.view claimed.view → ChangesOnly IsCounter (sees now.view) (sees claimed.view) → HandlesMark shared claimed after k entry
+    → IsExtended claimed.view after.view k entry → AllExtendedSo before.view now.view → AllExtendedSo before.view after.view
+AllExtendedSo-mark shared before now claimed after k entry gone_on goes_on counters handles extended so j none some =
+    elim (cases_eq j k) [
+      | inl is ↦ record {
+        entry = entry;
+        begun = claimed.view;
+        ended = after.view;
+        since = GoesOn-more before.view now.view claimed.view gone_on goes_on;
+        until = inl refl;
+        extended = subst (λ i. IsExtended claimed.view after.view i entry) (sym is) extended;
+        kept = refl;
+      }
+      | inr apart ↦ (
+          let kept : sees after.view (RecordOf j) ≡ sees now.view (RecordOf j) = handles.others j apart ∙ counters (RecordOf j) (λ no. no) in
+          let was = so j none (λ e. some (kept ∙ e)) in
+          record {
+            entry = was.entry;
+            begun = was.begun;
+            ended = was.ended;
+            since = was.since;
+            until =
+                inr (GoesOn-more was.ended now.view after.view was.until
+                (GoesOn-trans now.view claimed.view after.view goes_on handles.goes_on));
+            extended = was.extended;
+            kept = kept ∙ was.kept;
+          })
+    ]
+
+-- At last no mark was left.
+pub AllExtended-last : (before now after : View) → GoesOn now after → ChangesOnly IsCounter (sees now) (sees after) → AllExtendedSo before now
+    → AllExtended before after
+AllExtended-last before now after goes_on counters so k none some =
+    let kept : sees after (RecordOf k) ≡ sees now (RecordOf k) = counters (RecordOf k) (λ no. no) in
+    let was = so k none (λ e. some (kept ∙ e)) in
+    record {
+      entry = was.entry;
+      begun = was.begun;
+      ended = was.ended;
+      since = was.since;
+      until = GoesOn-more was.ended now after was.until goes_on;
+      extended = was.extended;
+      kept = kept ∙ was.kept;
+    }

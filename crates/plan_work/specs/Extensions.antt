@@ -28,12 +28,13 @@ use Rattle.step_core.specs.GrownWords.{has_node, record_at}
 use Rattle.step_core.specs.ViewSteps.{finished, one_turn_more}
 use Rattle.step_core.specs.ViewTrees.{SeesPoint, sight_in}
 use Rattle.step_core.specs.Views.{last_look, sees, setup_in, tree_seen}
-use Rattle.step_core.specs.WordNames.Word.{Count, Counter, RecordOf}
-use Rattle.step_core.specs.Words.{record_word}
+use Rattle.step_core.specs.WordNames.Word.{Count, Counter, RecordOf, TreeOf}
+use Rattle.step_core.specs.Words.{record_word, tree_word}
 use Rattle.step_core.specs.declared.views.Hand.{Hand}
 use Rattle.step_core.specs.declared.views.Stage.TheVariants.{Pointed, Treed}
 use Rattle.step_core.specs.declared.views.View.{View}
-use Rattle.tree_rewire.specs.SeenCosts.{IsInReach, SeesPair, cost_seen, cost_through}
+use Rattle.tree_rewire.specs.Rewirings.{HasSpreadFalls}
+use Rattle.tree_rewire.specs.SeenCosts.{IsInReach, IsLoadedSince, SeesPair, cost_seen, cost_through}
 use Rattle.plan_work.specs.declared.placing.Hanging.{Hanging}
 
 -- the radii are those of the scene's step and gamma
@@ -94,10 +95,12 @@ pub record IsPointed (hand : Hand) (m : ℕ) (p : Point) : Type 0 where
   pub nearest : hand.nearest ≡ m
   pub point : hand.point ≡ p
 
--- The node in hand has a parent and a cost. By no near node with a clear edge would it cost less, as they are seen.
-pub record IsHung (after : View) (hand : Hand) (pair : ℕ × ℕ) (near : List ℕ) : Type 0 where
+-- The node in hand has a parent and a cost. By no near node with a clear edge would it cost less, as they are seen, each by a look after so many
+-- steps.
+pub record IsHung (steps : ℕ) (after : View) (hand : Hand) (pair : ℕ × ℕ) (near : List ℕ) : Type 0 where
   pub held : after.hand ≡ Some (record hand { stage = Treed; parent = pair.0; cost = pair.1 })
   pub pairs : All (SeesPair after) near
+  pub loaded : All (IsLoadedSince steps after) near
   pub chosen : (i : ℕ) → Contains near i → Clear (setup_in after.run).space (point_of (tree_seen after).points i) hand.point
       → pair.1 ≤ cost_through after hand.point i
 
@@ -173,30 +176,54 @@ pub record IsTried (before after : PassState) (hand : Hand) (placing : Placing) 
   pub begun : GoesOn before.view mid
   pub near : after.near ≡ before.near
   pub counted : sees mid Count ≡ sees before.view Count
-  pub hung : IsHung mid hand (hanging.parent, hanging.cost) after.near
+  pub hung : IsHung before.view.steps mid hand (hanging.parent, hanging.cost) after.near
   pub ended : GoesOn mid after.view
   pub count : sees after.view Count ≡ sees mid Count
   pub came : IsPlacing after.view (hung_by hand hanging) placing
 
 -- ---- the whole
 
--- Node i was seen with its point and its cost, within the radius of the record's class of p, with a clear edge.
+-- Node i was seen with its point, within the radius of the record's class of p, with a clear edge.
 pub record WasNeighbour (before after : View) (entry : Record) (p : Point) (i : ℕ) : Type 0 where
   pub at : Point
   pub stands : SeesPoint before i at
-  pub pair : SeesPair before i
   pub near : squared_distance at p ≤ radius_in after entry.class * radius_in after entry.class
   pub clear : Clear (setup_in after.run).space at p
 
--- The node of the mark is seen at p. Its class is that of the count seen, which was loaded since, and all points within the radius are swept. No
--- neighbour was a cheaper parent, and none is seen dearer than through it.
+-- At this moment the parent was chosen. The cost of each neighbour was loaded since the call began, and through none of them would the new node
+-- cost less.
+pub record WasChosen (before chosen_at after : View) (entry : Record) (p : Point) : Type 0 where
+  pub since : GoesOn before chosen_at
+  pub loaded : (i : ℕ) → WasNeighbour before after entry p i → IsLoadedSince before.steps chosen_at i
+  pub least : (i : ℕ) (was : WasNeighbour before after entry p i) → entry.first_cost ≤ cost_seen chosen_at i + cost_of was.at p
+
+-- node i is seen within the radius of the record's class of p
+abbrev pub IsWithinRadius : View → Record → Point → ℕ → Type 0
+IsWithinRadius view entry p i = distance_to p (tree_seen view).points i ≤ radius_in view entry.class * radius_in view entry.class
+
+-- By this moment the node of mark k was linked, with its first parent and its first cost. At the end no neighbour is seen dearer than through it.
+-- Each node whose seen cost fell since, or whose parent's did, is within its parent, but for a node within the radius to which the new one is a
+-- shortcut and which hangs elsewhere.
+pub record WasRewired (before linked_at after : View) (k : ℕ) (entry : Record) (p : Point) : Type 0 where
+  pub until : GoesOn linked_at after
+  pub stood : SeesPoint linked_at (suc k) p
+  pub written : sees linked_at (TreeOf (suc k)) ≡ tree_word entry.first_parent entry.first_cost
+  pub pairs : (i : ℕ) → WasNeighbour before after entry p i → SeesPair after i
+  pub most : (i : ℕ) (was : WasNeighbour before after entry p i) → cost_seen after i ≤ entry.first_cost + cost_of was.at p
+  pub spread : HasSpreadFalls (setup_in after.run).space (IsWithinRadius linked_at entry p) (suc k) linked_at after
+
+-- The node of the mark is seen at p. Its class is that of the count seen, which was loaded since, and all points within the radius are swept. Its
+-- parent was chosen by costs that were loaded since, then it was linked, and then the nodes near it were rewired.
 pub record IsPlacedAt (before after : View) (k : ℕ) (entry : Record) (p : Point) : Type 0 where
   pub stands : SeesPoint after (suc k) p
   pub class_is : entry.class ≡ class_of (sees after Count)
   pub looked : before.steps < last_look after Count
   pub swept : SweepsWithin (sight_in before) (sight_in after) p (radius_in after entry.class * radius_in after entry.class)
-  pub chosen : (i : ℕ) (was : WasNeighbour before after entry p i) → entry.first_cost ≤ cost_seen before i + cost_of was.at p
-  pub rewired : (i : ℕ) (was : WasNeighbour before after entry p i) → cost_seen after i ≤ entry.first_cost + cost_of was.at p
+  pub chosen_at : View
+  pub linked_at : View
+  pub in_turn : GoesOn chosen_at linked_at
+  pub chosen : WasChosen before chosen_at after entry p
+  pub rewired : WasRewired before linked_at after k entry p
 
 -- The segment to p is not clear. No node is seen there, and p is swept.
 pub record IsBlockedAt (before after : View) (entry : Record) (p : Point) : Type 0 where

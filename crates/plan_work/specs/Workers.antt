@@ -1,10 +1,14 @@
 -- What a worker leaves.
-use Rattle.std.specs.Prelude.{◌≡◌, ◌+◌, ◌≤◌, ◌⊎◌, ℕ, [], ◌∷◌, All, List}
+use Rattle.std.specs.Prelude.{◌≡◌, ◌≢◌, ◌+◌, ◌≤◌, ◌⊎◌, ℕ, [], ◌∷◌, All, List}
+use Rattle.plan_model.specs.declared.records.Record.{Record}
 use Rattle.plan_words.specs.Claims.{AllFull}
 use Rattle.plan_words.specs.States.{GoesOn, MayClaim, PassState, SharedState, worker_of}
+use Rattle.plan_work.specs.Extensions.{IsExtended}
 use Rattle.plan_work.specs.OneWorker.{HandlesRest}
 use Rattle.step_core.specs.Views.{sees, share}
 use Rattle.step_core.specs.WordKinds.{AreBehind}
+use Rattle.step_core.specs.WordNames.Word.{RecordOf}
+use Rattle.step_core.specs.declared.views.View.{View}
 
 -- What a pass keeps that has worked up to a limit: it may claim, has its share, and works as the same worker. The greatest limit that it
 -- knows of is the one from before, or this one.
@@ -20,6 +24,20 @@ pub record HasDone (shared : SharedState) (limit : ℕ) (before after : PassStat
   pub worked : HasWorked shared before after limit
   pub none_left : AllFull after.view limit
   pub textbook : shared.workers ≡ 1 → HandlesRest before.view after.view limit
+
+-- Between two moments of the call mark k was handled, as `extend` promises, and the record stands that was made of it.
+pub record WasExtended (before after : View) (k : ℕ) : Type 0 where
+  pub entry : Record
+  pub begun : View
+  pub ended : View
+  pub since : GoesOn before begun
+  pub until : GoesOn ended after
+  pub extended : IsExtended begun ended k entry
+  pub kept : sees after (RecordOf k) ≡ sees ended (RecordOf k)
+
+-- so was each mark whose record is seen now and was not before
+abbrev pub AllExtended : View → View → Type 0
+AllExtended before after = (k : ℕ) → sees before (RecordOf k) ≡ 0 → sees after (RecordOf k) ≢ 0 → WasExtended before after k
 
 -- ---- joins
 

@@ -58,8 +58,12 @@ pub(crate) fn extend_by_radii<C: Clearing>(
 /// stands for the scene.
 ///
 /// The outcome is `Same` only with a node that is seen at the steered point, and `Blocked` exactly if none is seen there at
-/// return; then the segment is not clear. It takes at most five searches of the tree, with the walk to the node's place, tests
-/// at most 2 k + 1 segments for k near nodes, and spreads the costs that fell. No memory.
+/// return; then the segment is not clear. Of a node that was placed the parent was chosen by costs that this call loaded, of each
+/// node that was seen with its point, within the radius and with a clear edge. Once it is linked, no such node is seen dearer than
+/// through it, and what fell since is brought to the nodes seen below (`plan_work/specs/Extensions`, `IsPlacedAt`).
+///
+/// It takes at most five searches of the tree, with the walk to the node's place, tests at most 2 k + 1 segments for k near nodes,
+/// and spreads the costs that fell. No memory.
 pub fn extend<C: Clearing>(shared: &Shared, pass: &mut Pass, hall: &C, k: u32) -> Record
     requires belongs { BelongsTo pass.old shared.now }
     requires hand { IsSome pass.old.view.hand }

@@ -13,6 +13,7 @@
 #![tactic(auto)]
 
 mod extending;
+pub mod extension_laws;
 mod gates;
 mod growing;
 mod placing;

@@ -51,7 +51,7 @@ fn choose_and_write<C: Clearing>(
     ensures keeps { KeepsRecords shared.now pass.old pass.new }
     ensures near_list { pass.new.near ≡ pass.old.near }
     ensures count { sees pass.new.view Count ≡ sees pass.old.view Count }
-    ensures hung { IfSome pass.old.view.hand (λ hand. IsHung pass.new.view hand result pass.old.near) }
+    ensures hung { IfSome pass.old.view.hand (λ hand. IsHung pass.old.view.steps pass.new.view hand result pass.old.near) }
     ensures whole { HasWholeShare pass.old.view → SeesAsBefore pass.old.view pass.new.view
         × IsBestHanging (space_of shared.now.task.scene) pass.old.view p nearest pass.old.near result }
 {

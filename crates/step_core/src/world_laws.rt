@@ -8,6 +8,7 @@ ghost use mathlib.Core.Option.{some};
 ghost use Rattle.plan_model.specs.MarkPoints.{is_claimed, quota_of};
 ghost use Rattle.plan_model.specs.PointsByNumber.{IsFree, node_count};
 ghost use Rattle.plan_model.specs.Sights.{EndsSince, IsLaterMoment, KeepsSight};
+ghost use Rattle.plan_model.specs.TreeStates.{TreeState};
 ghost use Rattle.plan_model.specs.declared.geometry.Point.{Point};
 ghost use Rattle.plan_model.specs.declared.limits.TheConstants.{MOST_WORKERS};
 ghost use Rattle.plan_model.specs.declared.records.Record.{Record};
@@ -23,7 +24,7 @@ ghost use Rattle.step_core.specs.Stages.{MayBeRecorded};
 ghost use Rattle.step_core.specs.ViewSteps.{claimed, counted, finished, half, joined, linked, loaded, looker, lowered, mark_of, pair_in_hand, parted};
 ghost use Rattle.step_core.specs.ViewSteps.{pointed, stepped, steps_then, treed, worker_apart};
 ghost use Rattle.step_core.specs.ViewTrees.{IsOnWayOf, IsSteered, LeadsTo, MayHang, MayLoad, MayLower, SeesNode, sight_in};
-ghost use Rattle.step_core.specs.Views.{holds, last_zero, run_of, run_sizes, sees, share, spent, tree_seen};
+ghost use Rattle.step_core.specs.Views.{holds, last_look, last_zero, run_of, run_sizes, sees, share, spent, tree_seen};
 ghost use Rattle.step_core.specs.WordKinds.{AreBehind, MayBecome, kind_of};
 ghost use Rattle.step_core.specs.WordNames.{Word, Words, WritesWord};
 ghost use Rattle.step_core.specs.WordNames.Word.{ChildOf, Count, Counter, FirstOf, PointOf, RecordOf, TreeOf};
@@ -204,6 +205,15 @@ pub fn no_cost_rises()
         → is_linked (run_sizes run) words n ≡ true → cost_in (after (TreeOf n)) ≤ cost_in (words (TreeOf n)) }
 {}
 
+/// A view looks at words, and finds them 0, by steps that it has made. So where a look at a word is later than a moment, the view has
+/// stepped since: what is told of words that were loaded after a moment speaks of loads after it.
+pub fn looks_are_by_steps_made()
+    ensures looked { (run : SharedRun) (words : Words) (views : List View) (id : ℕ) (view : View) → IsWorld run words views
+        → get_elem? views id ≡ some view → view.run ≡ run → (name : Word) (moment : ℕ) → moment < last_look view name → moment < view.steps }
+    ensures found_zero { (run : SharedRun) (words : Words) (views : List View) (id : ℕ) (view : View) → IsWorld run words views
+        → get_elem? views id ≡ some view → view.run ≡ run → (name : Word) (moment : ℕ) → moment < last_zero view name → moment < view.steps }
+{}
+
 /// Counting the linked node in hand keeps the law.
 pub fn counts_keep_the_law()
     ensures law { (run : SharedRun) (words after : Words) (views : List View) (id : ℕ) (view : View) → IsWorld run words views
@@ -315,6 +325,12 @@ pub fn whole_shares_close_runs()
         → IsWorld (run_of task workers opening) words views → get_elem? views id ≡ some view → share view ≡ workers → view.hand ≡ None → (limit : ℕ)
         → view.most ≤ limit → ((g : ℕ) → g < task.scene.strips → quota_of task.scene.strips g limit ≤ sees view (Counter g))
         → (k : ℕ) (entry : Record) → opening ≤ k → record_at (cleared words) k ≡ Some entry → entry.worker < workers }
+{}
+
+/// In the run that the words have come to, each mark that the view has seen claimed is below the view's greatest limit.
+pub fn seen_claims_are_below_the_limit()
+    ensures { (view : View) (state : TreeState) → StandsAsSeen view state → 0 < view.run.strips → (k : ℕ)
+        → is_claimed view.run.strips (counters (sees view)) k ≡ true → k < view.most }
 {}
 
 /// A view after steps of its own is a later one: what was seen may become what is seen, and the numbers of steps go on.

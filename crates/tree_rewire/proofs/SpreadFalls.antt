@@ -42,6 +42,38 @@ HasSpreadFalls-none space near node before after kept c h own =
       | inr fell ↦ absurd (omega (arith, fell, ap cost_in (kept (parent_seen after c) h.parent_pair)))
     ]
 
+-- What was spread is so still while no node is seen with another parent or cost, and if more nodes are taken for near ones.
+pub HasSpreadFalls-still : (space : ConfigurationSpace) (near wider : ℕ → Type 0) (node : ℕ) (before after done : View) → GoesOn after done
+    → ((n : ℕ) → sees done (TreeOf n) ≡ sees after (TreeOf n)) → IsPresent (tree_seen after).points node → ((n : ℕ) → near n → wider n)
+    → HasSpreadFalls space near node before after → HasSpreadFalls space wider node before done
+HasSpreadFalls-still space near wider node before after done goes_on same stands more spread c h own =
+    let parent : ℕ = parent_seen after c in
+    let up : parent_seen done c ≡ parent = ap parent_in (same c) in
+    IsWithinParent-later after done c goes_on (same c) (same parent)
+    (spread c
+    record {
+      pair = h.pair;
+      parent_pair = subst (SeesPair before) up h.parent_pair;
+      fell =
+          elim h.fell [
+            | inl fell ↦ inl (omega (arith, fell, ap cost_in (same c)))
+            | inr fell ↦ inr (subst (CostsLess before after) up (omega (arith, fell, ap cost_in (same (parent_seen done c)))))
+          ];
+    }
+    (λ one shortcut.
+    sym up
+    ∙ own (more c one)
+    record {
+      clear = shortcut.clear;
+      dearer =
+          omega (
+            arith,
+            shortcut.dearer,
+            ap cost_in (same node),
+            ap (λ q. cost_of q (point_of (tree_seen before).points c)) (points_later after done node goes_on stands),
+          );
+    }))
+
 -- ---- one near node
 
 -- a node at p is a shortcut to one at q if that costs more, by the points that were seen of both

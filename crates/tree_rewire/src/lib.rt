@@ -11,6 +11,7 @@
 #![tactic(auto)]
 
 mod choosing;
+pub mod fall_laws;
 mod rewiring;
 mod seen_costs;
 mod spreading;

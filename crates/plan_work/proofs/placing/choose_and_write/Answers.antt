@@ -48,9 +48,10 @@ returns-clause-hung g c =
     let held = c.choose-parent.ensures.seen.kept.hand ∙ own.held in
     let written = of_held mid.view _ own.hand held c.write_tree.ensures.view in
     let run = ap (λ (r : SharedRun). (setup_in r).space) c.choose-parent.ensures.belongs.run in
-    if_held before.view (λ hand. IsHung c.write_tree.new.pass.view hand c.choose-parent.result c.args.pass.now.near) own.hand own.held
+    if_held before.view (λ hand. IsHung before.view.steps c.write_tree.new.pass.view hand c.choose-parent.result c.args.pass.now.near) own.hand own.held
     (IsHung-written space mid.view own.hand c.args.nearest c.args.p c.choose-parent.result c.args.pass.now.near c.write_tree.new.pass.view own.says
-    (ap (λ (p : PassState). p.view) written) (sym run) c.choose-parent.ensures.pairs
+    (ap (λ (p : PassState). p.view) written) (sym run) c.choose-parent.ensures.pairs before.view.steps c.choose-parent.ensures.loaded
+    c.write_tree.ensures.goes_on
     (chosen_near space mid.view own.hand c.args.p c.args.nearest c.choose-parent.result.0 c.choose-parent.result.1 c.args.pass.now.near own.says
     c.choose-parent.ensures.least c.choose-parent.ensures.cost))
 

@@ -102,7 +102,7 @@ returns-in-Placed-clause-ended g c = λ first filled.
     c.choose_and_place-placing.result.1 may since c.choose_and_place-placing.ensures.keeps placed c.rewire.ensures.seen c.rewire.ensures.pairs
     (Rewired-hand c.args.shared.now before after c.rewire.new.pass c.args.k c.args.steering.nearest c.args.steering.point
     c.choose_and_place-placing.result.1 may placed c.rewire.ensures.rewired)
-    c.record_placed.new.pass c.record_placed.result c.record_placed.ensures.recorded c.record_placed.ensures.entry)
+    c.rewire.ensures.spread c.record_placed.new.pass c.record_placed.result c.record_placed.ensures.recorded c.record_placed.ensures.entry)
 
 pub returns-in-Same-clause-handled : goal.returns-in-Same-clause-handled
 returns-in-Same-clause-handled g c =

@@ -4,7 +4,7 @@ use Rattle.plan_words.proofs.GoingOn.{GoesOn-more}
 use Rattle.plan_words.proofs.WholeClaims.{OwnsAllStrips-alone}
 use Rattle.plan_words.specs.States.{turn_of}
 use Rattle.plan_work.proofs.LoneMarks.{HasHandled-all, HasHandled-mark}
-use Rattle.plan_work.proofs.WorkedMarks.{AllLoaded-earlier, HasWorked-mark, fewer_turns}
+use Rattle.plan_work.proofs.WorkedMarks.{AllExtended-last, AllExtendedSo-mark, AllLoaded-earlier, HasWorked-mark, fewer_turns}
 use Rattle.plan_work.proofs.working.work.Goals as goal
 use Rattle.step_core.specs.declared.views.SharedRun.{SharedRun}
 
@@ -25,6 +25,10 @@ marks-preserved g c = record {
       (GoesOn-more c.args.pass.now.view c.claim.new.pass.view c.extend_by_radii.new.pass.view
       (inr (GoesOn-more c.args.pass.now.view c.marks.pass.view c.claim.new.pass.view c.marks.invariant.goes_on c.claim.ensures.goes_on))
       c.extend_by_radii.ensures.handled.goes_on);
+  extended =
+      AllExtendedSo-mark c.args.shared.now c.args.pass.now c.marks.pass c.claim.new.pass c.extend_by_radii.new.pass c.in-Some.k
+      c.extend_by_radii.result c.marks.invariant.goes_on c.claim.ensures.goes_on c.claim.ensures.others c.extend_by_radii.ensures.handled
+      c.extend_by_radii.ensures.extended c.marks.invariant.extended;
   textbook = λ one k low handled.
       let so_far = c.marks.invariant.textbook one k low handled in
       let whole = so_far.2.alone.whole in
@@ -46,6 +50,11 @@ returns-clause-goes_on g c =
 pub returns-clause-loaded : goal.returns-clause-loaded
 returns-clause-loaded g c =
     AllLoaded-earlier c.args.pass.now.view c.marks.pass.view c.claim.new.pass.view c.marks.invariant.goes_on c.claim.ensures.loaded
+
+pub returns-clause-extended : goal.returns-clause-extended
+returns-clause-extended g c =
+    AllExtended-last c.args.pass.now.view c.marks.pass.view c.claim.new.pass.view c.claim.ensures.goes_on c.claim.ensures.others
+    c.marks.invariant.extended
 
 pub returns-clause-textbook : goal.returns-clause-textbook
 returns-clause-textbook g c = λ one k low handled.

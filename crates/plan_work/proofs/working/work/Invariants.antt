@@ -2,6 +2,7 @@ use Rattle.std.specs.Prelude.{◌≡◌, ℕ, ◌-◌, ◌≤◌, length}
 use Rattle.plan_words.specs.States.{turn_of}
 use Rattle.plan_words.proofs.GoingOn.{HasGoneOn}
 use Rattle.plan_work.proofs.working.work.Given as goal
+use Rattle.plan_work.proofs.WorkedMarks.{AllExtendedSo}
 use Rattle.plan_work.specs.OneWorker.{HasHandled}
 use Rattle.plan_work.specs.Workers.{HasWorked}
 
@@ -9,6 +10,7 @@ abbrev pub invariant-marks : goal.invariant-marks
 invariant-marks g l = record {
   worked : HasWorked l.shared l.fn.pass l.pass l.limit;
   goes_on : HasGoneOn l.fn.pass.view l.pass.view;
+  extended : AllExtendedSo l.fn.pass.view l.pass.view;
   textbook : l.shared.workers ≡ 1 → (k : ℕ) → k ≤ l.limit → HasHandled l.fn.pass.view k
       → (m : ℕ) × (m ≤ l.limit) × HasHandled l.pass.view m;
 }

@@ -1,0 +1,17 @@
+use Rattle.std.proofs.Common.{subst}
+use Rattle.plan_work.specs.Extensions.{EndsAsSeen}
+use Rattle.plan_work.proofs.extension_laws.handled_marks_are_steered_to.Goals as goal
+
+pub returns-clause-nearest : goal.returns-clause-nearest
+returns-clause-nearest c = λ before after k entry extended n there. extended.steered.not_above n there
+
+pub returns-clause-same : goal.returns-clause-same
+returns-clause-same c = λ before after k entry extended j is. subst (EndsAsSeen before after k entry extended.point) is extended.outcome
+
+pub returns-clause-blocked : goal.returns-clause-blocked
+returns-clause-blocked c = λ before after k entry extended is.
+    let ended = subst (EndsAsSeen before after k entry extended.point) is extended.outcome in
+    (ended.free, ended.blocked)
+
+pub returns-clause-free : goal.returns-clause-free
+returns-clause-free c = λ before after k entry extended free. extended.free_is_blocked free

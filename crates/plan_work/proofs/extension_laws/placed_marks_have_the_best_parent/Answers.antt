@@ -1,0 +1,35 @@
+use Rattle.std.proofs.Common.{arith, subst}
+use Rattle.plan_work.specs.Extensions.{EndsAsSeen}
+use Rattle.step_core.specs.WordNames.Word.{TreeOf}
+use Rattle.tree_rewire.proofs.SeenCosts.{cost_seen-later}
+use Rattle.plan_words.proofs.GoingOn.{GoesOn-trans}
+use Rattle.plan_work.proofs.FilledNear.{looked_since}
+use Rattle.plan_work.proofs.extension_laws.placed_marks_have_the_best_parent.Goals as goal
+
+pub returns-clause-node : goal.returns-clause-node
+returns-clause-node c = λ before after k entry extended is.
+    let ended = subst (EndsAsSeen before after k entry extended.point) is extended.outcome in
+    (ended.stands, ended.class_is, ended.looked)
+
+pub returns-clause-loaded : goal.returns-clause-loaded
+returns-clause-loaded c = λ before after k entry extended is i q stands near clear.
+    let ended = subst (EndsAsSeen before after k entry extended.point) is extended.outcome in
+    looked_since (TreeOf i) before.steps ended.chosen_at after
+    (GoesOn-trans ended.chosen_at ended.linked_at after ended.in_turn ended.rewired.until)
+    (ended.chosen.loaded i record { at = q; stands = stands; near = near; clear = clear })
+
+pub returns-clause-chosen : goal.returns-clause-chosen
+returns-clause-chosen c = λ before after k entry extended is i q stands pair near clear.
+    let ended = subst (EndsAsSeen before after k entry extended.point) is extended.outcome in
+    omega (
+      arith,
+      ended.chosen.least i record { at = q; stands = stands; near = near; clear = clear },
+      cost_seen-later before ended.chosen_at ended.chosen.since i pair,
+    )
+
+pub returns-clause-rewired : goal.returns-clause-rewired
+returns-clause-rewired c = λ before after k entry extended is i q stands near clear.
+    let ended = subst (EndsAsSeen before after k entry extended.point) is extended.outcome in (
+      ended.rewired.pairs i record { at = q; stands = stands; near = near; clear = clear },
+      ended.rewired.most i record { at = q; stands = stands; near = near; clear = clear },
+    )

@@ -1,0 +1,57 @@
+//! What it means that a mark was handled as `extend` promises. Each law is the contract of a function that does nothing.
+
+ghost use Rattle.std.specs.Prelude.{◌≡◌, ℕ, suc, ◌+◌, ◌*◌, ◌<◌, ◌≤◌};
+ghost use Rattle.plan_model.specs.Clearance.{Clear};
+ghost use Rattle.plan_model.specs.ClosedLaw.{mark_at};
+ghost use Rattle.plan_model.specs.Cost.{cost_of};
+ghost use Rattle.plan_model.specs.Geometry.{squared_distance};
+ghost use Rattle.plan_model.specs.LeastPairs.{IsNotAbove};
+ghost use Rattle.plan_model.specs.Nearness.{distance_to};
+ghost use Rattle.plan_model.specs.PointsByNumber.{IsFree, IsPresent, point_of};
+ghost use Rattle.plan_model.specs.Radius.{class_of};
+ghost use Rattle.plan_model.specs.declared.geometry.Point.{Point};
+ghost use Rattle.plan_model.specs.declared.records.Outcome.TheVariants.{Blocked, Placed, Same};
+ghost use Rattle.plan_model.specs.declared.records.Record.{Record};
+ghost use Rattle.plan_work.specs.Extensions.{IsExtended, radius_in};
+ghost use Rattle.step_core.specs.ViewTrees.{SeesPoint};
+ghost use Rattle.step_core.specs.Views.{last_look, sees, setup_in, tree_seen};
+ghost use Rattle.step_core.specs.WordNames.Word.{Count, TreeOf};
+ghost use Rattle.step_core.specs.declared.views.View.{View};
+ghost use Rattle.tree_rewire.specs.SeenCosts.{SeesPair, cost_seen};
+
+/// No node that the pass had seen with its point is nearer to a mark that was handled than its nearest node. The outcome is `Same`
+/// with a node seen at the steered point, and `Blocked` if none is seen there at return; then the segment is not clear.
+pub fn handled_marks_are_steered_to()
+    ensures nearest { (before after : View) (k : ℕ) (entry : Record) → IsExtended before after k entry → (n : ℕ)
+        → IsPresent (tree_seen before).points n
+        → IsNotAbove (distance_to (mark_at after.run.marks k) (tree_seen after).points) entry.nearest n }
+    ensures same { (before after : View) (k : ℕ) (entry : Record) (extended : IsExtended before after k entry) (j : ℕ) → entry.outcome ≡ Same j
+        → SeesPoint after j extended.point }
+    ensures blocked { (before after : View) (k : ℕ) (entry : Record) (extended : IsExtended before after k entry) → entry.outcome ≡ Blocked
+        → IsFree (tree_seen after).points extended.point
+        × (¬ Clear (setup_in after.run).space (point_of (tree_seen after).points entry.nearest) extended.point) }
+    ensures free { (before after : View) (k : ℕ) (entry : Record) (extended : IsExtended before after k entry)
+        → IsFree (tree_seen after).points extended.point → entry.outcome ≡ Blocked }
+{}
+
+/// A mark that was placed: its node is seen at the steered point, with the class of the count that was loaded in the call. Each node
+/// that the pass had seen with its point, within the radius of that class and with a clear edge, was loaded in the call. It is no
+/// cheaper a parent than the first one, by what it was seen to cost at entry, and it costs no more than through the new node, by
+/// what it is seen to cost at return.
+pub fn placed_marks_have_the_best_parent()
+    ensures node { (before after : View) (k : ℕ) (entry : Record) (extended : IsExtended before after k entry) → entry.outcome ≡ Placed
+        → SeesPoint after (suc k) extended.point × (entry.class ≡ class_of (sees after Count)) × (before.steps < last_look after Count) }
+    ensures loaded { (before after : View) (k : ℕ) (entry : Record) (extended : IsExtended before after k entry) → entry.outcome ≡ Placed
+        → (i : ℕ) (q : Point) → SeesPoint before i q
+        → squared_distance q extended.point ≤ radius_in after entry.class * radius_in after entry.class
+        → Clear (setup_in after.run).space q extended.point → before.steps < last_look after (TreeOf i) }
+    ensures chosen { (before after : View) (k : ℕ) (entry : Record) (extended : IsExtended before after k entry) → entry.outcome ≡ Placed
+        → (i : ℕ) (q : Point) → SeesPoint before i q → SeesPair before i
+        → squared_distance q extended.point ≤ radius_in after entry.class * radius_in after entry.class
+        → Clear (setup_in after.run).space q extended.point → entry.first_cost ≤ cost_seen before i + cost_of q extended.point }
+    ensures rewired { (before after : View) (k : ℕ) (entry : Record) (extended : IsExtended before after k entry) → entry.outcome ≡ Placed
+        → (i : ℕ) (q : Point) → SeesPoint before i q
+        → squared_distance q extended.point ≤ radius_in after entry.class * radius_in after entry.class
+        → Clear (setup_in after.run).space q extended.point
+        → SeesPair after i × (cost_seen after i ≤ entry.first_cost + cost_of q extended.point) }
+{}
