@@ -5,6 +5,8 @@
 #[cfg(test)]
 mod extending;
 #[cfg(test)]
+mod fallen_costs;
+#[cfg(test)]
 mod growing;
 #[cfg(test)]
 mod opening_runs;

@@ -28,7 +28,7 @@ const ACROSS: Point = Point { x: 30, y: 30 };
 const RIGHT: Point = Point { x: 10, y: 0 };
 
 /// The node at a point. It is this one, and its parent and its cost, which are loaded, are these.
-fn load_node<R: Abort>(
+pub(crate) fn load_node<R: Abort>(
     rt: &R,
     shared: &Shared,
     pass: &mut Pass,
