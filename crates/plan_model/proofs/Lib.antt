@@ -45,7 +45,6 @@ pub mod NodeCounts
 pub mod TreeStateLaws
 pub mod OrderLaws
 pub mod LoweredCosts
-pub mod MovedNodes
 pub mod AddedNodes
 pub mod EarlierNodes
 pub mod RecordLaws
@@ -65,7 +64,6 @@ pub mod SameReports
 pub mod TextbookStates
 pub mod NearNodes
 pub mod PlacedMarks
-pub mod MarksHandledWhole
 pub mod TextbookRewiring
 pub mod TextbookMarks
 pub mod TextbookRuns

@@ -10,14 +10,13 @@ use Rattle.plan_model.specs.declared.records.Outcome.{Outcome}
 use Rattle.plan_model.specs.declared.records.Outcome.TheVariants.{Placed, Same, Blocked}
 use Rattle.plan_model.specs.declared.records.Record.{Record}
 use Rattle.plan_model.specs.Clearance.{Clear}
-use Rattle.plan_model.specs.PointsByNumber.{IsPresent, point_of, node_count}
+use Rattle.plan_model.specs.PointsByNumber.{IsFree, IsPresent, StandsAt, point_of, node_count}
 use Rattle.plan_model.specs.Steering.{steered}
 use Rattle.plan_model.specs.TreeStates.{TreeState, GrowsInto}
 use Rattle.plan_model.specs.OrderLaw.{KeepsOrder}
 use Rattle.plan_model.specs.Outcomes.{is_placed}
 use Rattle.plan_model.specs.RecordLaw.{is_earlier, IsEarlier, earlier_count, IsBlockedLawfully, HasLawfulOutcome, IsLawfulRecord}
 use Rattle.plan_model.specs.ClosedLaw.{mark_at, IsClosed}
-use Rattle.plan_model.specs.HandledMarks.{IsBlockedWhole, EndsBy}
 use Rattle.plan_model.specs.Textbook.{Setup, SteersTo}
 use Rattle.plan_model.specs.Turns.{turns_of}
 use Rattle.plan_model.proofs.NodeCounts.{count-le_node_count}
@@ -29,6 +28,17 @@ use Rattle.plan_model.proofs.PlacedNodes.{record-of_present, present-of_record, 
 use Rattle.plan_model.proofs.RecordLaws.{IsNotAbove-grows, IsLawfulRecord-grows}
 use Rattle.plan_model.proofs.NextRecords.{RecordsMark, new_or_recorded, AreRecordedBelow-next}
 use Rattle.plan_model.proofs.WorkerTurns.{turn-below, AreTurns-next}
+
+-- No node stands at p, and the segment to it from the nearest node is not clear.
+pub record IsBlockedAt (setup : Setup) (state : TreeState) (entry : Record) (p : Point) : Type 0 where
+  pub free : IsFree state.points p
+  pub blocked : ¬ Clear setup.space (point_of state.points entry.nearest) p
+
+-- what the outcome says of a mark that is not placed
+abbrev pub EndsUnplaced : Setup → TreeState → Record → Point → Outcome → Type 0
+EndsUnplaced setup state entry p Placed = ⊥
+EndsUnplaced setup state entry p (Same j) = StandsAt state.points j p
+EndsUnplaced setup state entry p Blocked = IsBlockedAt setup state entry p
 
 -- What the end of mark k leaves: the tree has grown in the order law, and the new record is lawful. If it was placed its node is
 -- there, and no other node is new.
@@ -186,7 +196,7 @@ module _ (setup : Setup) (marks : List Point) (k : ℕ) (before : TreeState) (cl
       records_unplaced = record { absent = adds.absent; recorded = adds.recorded; others = adds.records }
 
       -- what is blocked is so lawfully
-      blocked_lawfully : IsBlockedWhole setup before entry p → IsBlockedLawfully setup after entry p
+      blocked_lawfully : IsBlockedAt setup before entry p → IsBlockedLawfully setup after entry p
       blocked_lawfully h = record {
         blocked = λ clear.
             let same = point_of-grows before after grows_unplaced entry.nearest steers.nearest.member in
@@ -196,22 +206,20 @@ module _ (setup : Setup) (marks : List Point) (k : ℕ) (before : TreeState) (cl
             h.free i (StandsAt-before before after grows_unplaced i p here stands);
       }
 
-      outcome_unplaced : (moved : List ℕ) (outcome : Outcome) → is_placed outcome ≡ false → EndsBy setup before entry p moved outcome
-          → HasLawfulOutcome setup after k entry p outcome
-      outcome_unplaced moved Placed unplaced h = cc
-      outcome_unplaced moved (Same j) unplaced h = grows_unplaced.nodes j p h
-      outcome_unplaced moved Blocked unplaced h = blocked_lawfully h
+      outcome_unplaced : (outcome : Outcome) → EndsUnplaced setup before entry p outcome → HasLawfulOutcome setup after k entry p outcome
+      outcome_unplaced Placed h = absurd h
+      outcome_unplaced (Same j) h = grows_unplaced.nodes j p h
+      outcome_unplaced Blocked h = blocked_lawfully h
 
       -- A mark that is not placed ends lawfully if its outcome is what it says.
       pub EndsLawfully-unplaced :
-          (moved : List ℕ) → is_placed entry.outcome ≡ false → EndsBy setup before entry p moved entry.outcome
-          → EndsLawfully setup before after k mark entry
-      EndsLawfully-unplaced moved unplaced h = record {
+          is_placed entry.outcome ≡ false → EndsUnplaced setup before entry p entry.outcome → EndsLawfully setup before after k mark entry
+      EndsLawfully-unplaced unplaced h = record {
         records = records_unplaced;
         order = KeepsOrder-lowered setup before after lowers closed.order;
         grows = grows_unplaced;
         lawful =
-            IsLawfulRecord-outcome records_unplaced grows_unplaced mark p steers (outcome_unplaced moved entry.outcome unplaced h);
+            IsLawfulRecord-outcome records_unplaced grows_unplaced mark p steers (outcome_unplaced entry.outcome h);
         others = λ j apart present. ap is_some (sym (lowers.still.points (suc j))) ∙ present;
         own = (
           (λ present. absurd (node-absent (ap is_some (sym (lowers.still.points (suc k))) ∙ present))),

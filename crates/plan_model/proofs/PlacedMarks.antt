@@ -15,7 +15,6 @@ use Rattle.plan_model.specs.TreeStates.{TreeState, recorded_or, first_cost_of, G
 use Rattle.plan_model.specs.OrderLaw.{IsAllowedEdge, Hangs, KeepsOrder, KeepsFirstCosts}
 use Rattle.plan_model.specs.RecordLaw.{earlier_count, IsNeighbour, first_cost_through, IsChosenLawfully, HangsLawfully, HasLawfulOutcome}
 use Rattle.plan_model.specs.ClosedLaw.{IsClosed}
-use Rattle.plan_model.specs.HandledMarks.{kept_cost_through}
 use Rattle.plan_model.specs.Textbook.{Setup, near_new, IsCandidate, SteersTo}
 use Rattle.plan_model.proofs.NewNodes.{IsPresent-stands}
 use Rattle.plan_model.proofs.OrderLaws.{Hangs-grows}
@@ -25,6 +24,10 @@ use Rattle.plan_model.proofs.RecordLaws.{class_of-le}
 use Rattle.plan_model.proofs.NearNodes.{IsReachable, candidate-reachable, Contains-near, Contains-after}
 use Rattle.plan_model.proofs.NextRecords.{RecordsMark}
 use Rattle.plan_model.proofs.NextMarks.{EndsLawfully, node-absent, early-present, earlier_count-le, IsLawfulRecord-outcome}
+
+-- the cost of reaching p by way of node i, by its kept cost
+abbrev pub kept_cost_through : TreeState → Point → ℕ → ℕ
+kept_cost_through state p i = state.cost i + cost_of (point_of state.points i) p
 
 -- A parent for a new node at p is chosen by kept costs: the candidate with the least pair of cost through it and number.
 pub record ChoosesParent (setup : Setup) (before : TreeState) (mark : Point) (entry : Record) (p : Point) : Type 0 where

@@ -9,23 +9,8 @@ use Rattle.plan_model.specs.Clearance.{ClearAt}
 use Rattle.plan_model.specs.LeastPairs.{IsFirstLeast, first_least}
 use Rattle.plan_model.specs.OrderLaw.{KeepsOrder}
 use Rattle.plan_model.specs.PointsByNumber.{point_at, point_of, IsPresent}
-use Rattle.plan_model.specs.ReportText.{
-  path_line,
-  head_line,
-  point_lines,
-  best_path,
-  path_to,
-  counts_line,
-  node_line,
-  node_line_if_present,
-  node_lines,
-  mark_line_if_recorded,
-  mark_lines,
-  short_report,
-  full_report,
-  report_text,
-  summary,
-}
+use Rattle.plan_model.specs.ReportText.{path_line, head_line, point_lines, best_path, path_to, counts_line, node_line_if_present}
+use Rattle.plan_model.specs.ReportText.{node_lines, mark_line_if_recorded, mark_lines, short_report, report_text, summary}
 use Rattle.plan_model.specs.SameRuns.{IsOfTextbookRun}
 use Rattle.plan_model.specs.Textbook.{Setup}
 use Rattle.plan_model.specs.TreeStates.{TreeState, AreSameRuns, chain_in, sum_in, state_of}

@@ -21,7 +21,6 @@ use Rattle.plan_model.specs.TreeStates.{TreeState, GrowsInto, state_of}
 use Rattle.plan_model.specs.OrderLaw.{KeepsOrder}
 use Rattle.plan_model.specs.Outcomes.{is_placed}
 use Rattle.plan_model.specs.ClosedLaw.{mark_at, IsClosed}
-use Rattle.plan_model.specs.HandledMarks.{EndsBy}
 use Rattle.plan_model.specs.Textbook.{Nodes, Setup, near_new, SteersTo, EndsPlaced, Ends}
 use Rattle.plan_model.proofs.CostLaws.{cost_of-swap}
 use Rattle.plan_model.proofs.SegmentLaws.{Clear-back}
@@ -32,7 +31,7 @@ use Rattle.plan_model.proofs.AddedNodes.{AddsNode, GrowsInto-adds, KeepsOrder-ad
 use Rattle.plan_model.proofs.ClosedLaws.{KeepsFirstCosts-closed}
 use Rattle.plan_model.proofs.NearNodes.{squared_distance-swap, IsReachable, near_new-reachable}
 use Rattle.plan_model.proofs.NextRecords.{new_or_recorded}
-use Rattle.plan_model.proofs.NextMarks.{EndsLawfully, IsClosed-next, EndsLawfully-unplaced}
+use Rattle.plan_model.proofs.NextMarks.{EndsLawfully, EndsUnplaced, IsClosed-next, EndsLawfully-unplaced}
 use Rattle.plan_model.proofs.PlacedMarks.{ChoosesParent, LeavesPlaced, parent-reachable, parent-allowed, EndsLawfully-placed}
 use Rattle.plan_model.proofs.TextbookStates.{RecordsNext, RecordsMark-push, AddsRecord-unplaced, PlacesNode, sum-placed, AddsNode-placed}
 use Rattle.plan_model.proofs.TextbookRewiring.{MayRewire, IsReached, Relaxes, Relaxes-all, AreReached-all}
@@ -103,7 +102,7 @@ module _
   -- A mark that is not placed ends in its turn.
   EndsInTurn-unplaced :
       (mark p : Point) (outcome : Outcome) → SteersTo setup (points_of tree) mark entry.nearest p → after ≡ tree ++ None ∷ []
-      → entry.worker ≡ 0 → entry.turn ≡ k → entry.outcome ≡ outcome → is_placed outcome ≡ false → EndsBy setup before_mark entry p [] outcome
+      → entry.worker ≡ 0 → entry.turn ≡ k → entry.outcome ≡ outcome → is_placed outcome ≡ false → EndsUnplaced setup before_mark entry p outcome
       → EndsInTurn setup k tree records mark entry after
   EndsInTurn-unplaced mark p outcome steers added worker turn e unplaced h = record {
     nodes = omega (arith, ap length added, length-append tree (None ∷ []), so_far.next.nodes);
@@ -111,8 +110,8 @@ module _
     turn = turn;
     lawfully =
         EndsLawfully-unplaced setup marks k before_mark so_far.closed after_mark entry mark p steers
-        (AddsRecord-unplaced tree records k entry so_far.next after added) [] (ap is_placed e ∙ unplaced)
-        (subst (λ o. EndsBy setup before_mark entry p [] o) (sym e) h);
+        (AddsRecord-unplaced tree records k entry so_far.next after added) (ap is_placed e ∙ unplaced)
+        (subst (EndsUnplaced setup before_mark entry p) (sym e) h);
   }
 
   -- ---- placed marks

@@ -45,4 +45,3 @@ pub mod CanonicalText
 pub mod Streams
 pub mod EmptyRooms
 pub mod Vectors
-pub mod HandledMarks

@@ -17,7 +17,6 @@ pub mod Trees
 pub mod Rooms
 pub mod Streams
 pub mod Runs
-pub mod Handled
 pub mod Overlaps
 pub mod Ways
 pub mod SeenTrees

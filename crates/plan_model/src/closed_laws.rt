@@ -5,7 +5,6 @@ ghost use Rattle.plan_model.specs.BestNode.{best_node};
 ghost use Rattle.plan_model.specs.Clearance.{ClearAt};
 ghost use Rattle.plan_model.specs.ClearPaths.{IsClearPath};
 ghost use Rattle.plan_model.specs.ClosedLaw.{IsClosed, mark_at, outcome_count};
-ghost use Rattle.plan_model.specs.HandledMarks.{IsHandledWhole, with_mark};
 ghost use Rattle.plan_model.specs.OrderLaw.{KeepsFirstCosts};
 ghost use Rattle.plan_model.specs.Outcomes.{is_blocked, is_placed, is_same};
 ghost use Rattle.plan_model.specs.PointsByNumber.{AreNumberedTo, IsPresent, node_count};
@@ -57,19 +56,6 @@ pub fn marks_of_closed_runs_add_up()
         → node_count state.points ≡ suc (outcome_count state.record_of limit is_placed) }
     ensures numbers { (setup : Setup) (marks : List Point) (limit : ℕ) (state : TreeState)
         → IsClosed setup marks limit state → AreNumberedTo limit state.points }
-{}
-
-/// If the next mark is handled whole by all that a closed run holds, the run with it is closed, and has grown: its nodes and
-/// records stand, and no cost rose.
-pub fn handled_marks_close_runs()
-    ensures closed { (setup : Setup) (marks : List Point) (k : ℕ) (state : TreeState) (entry : Record) (p : Point) (moved : List ℕ)
-        → IsClosed setup marks k state → k < length marks → suc k < length state.points → entry.worker < MOST_WORKERS
-        → IsHandledWhole setup state k (mark_at marks k) entry p moved
-        → IsClosed setup marks (suc k) (with_mark state k entry p moved) }
-    ensures grows { (setup : Setup) (marks : List Point) (k : ℕ) (state : TreeState) (entry : Record) (p : Point) (moved : List ℕ)
-        → IsClosed setup marks k state → k < length marks → suc k < length state.points → entry.worker < MOST_WORKERS
-        → IsHandledWhole setup state k (mark_at marks k) entry p moved
-        → GrowsInto state (with_mark state k entry p moved) }
 {}
 
 /// Turns of which each is counted once run from 0, with no gap and none twice, and such turns are counted once each.

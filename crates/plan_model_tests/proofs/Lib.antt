@@ -1,6 +1,5 @@
 pub mod ShortLists
 pub mod KeptRun
-pub mod HandledThird
 pub mod OverlappingMarks
 pub mod SeenByOne
 pub mod SeenByTwo

@@ -1,5 +1,5 @@
--- The run of two workers whose first marks overlap is closed, and mark 0 was not handled whole in it.
-use Rattle.std.proofs.Common.{◌≡◌, ℕ, zero, suc, ◌+◌, ◌*◌, ◌<◌, ◌≤◌, Some, None, List, [], ◌∷◌, arith, refl, sym, ap, ◌∙◌, subst}
+-- The run of two workers whose first marks overlap is closed.
+use Rattle.std.proofs.Common.{◌≡◌, ℕ, zero, suc, ◌+◌, ◌*◌, ◌<◌, ◌≤◌, Some, None, arith, refl, sym, ap, ◌∙◌, subst}
 use Rattle.std.specs.Prelude.{◌↔◌, IsSome, ◌/◌, unwrap_or}
 use Rattle.plan_model.specs.declared.geometry.Point.{Point}
 use Rattle.plan_model.specs.declared.records.Outcome.TheVariants.{Placed}
@@ -7,7 +7,6 @@ use Rattle.plan_model.specs.declared.records.Record.{Record}
 use Rattle.plan_model.specs.ClosedLaw.{IsClosed, mark_at}
 use Rattle.plan_model.specs.Cost.{cost_of}
 use Rattle.plan_model.specs.Geometry.{squared_distance}
-use Rattle.plan_model.specs.HandledMarks.{IsHandledWhole}
 use Rattle.plan_model.specs.LeastPairs.{IsNotAbove}
 use Rattle.plan_model.specs.Nearness.{distance_to}
 use Rattle.plan_model.specs.OrderLaw.{HangsBelow, IsAllowedEdge, most_cost_of}
@@ -15,19 +14,14 @@ use Rattle.plan_model.specs.PointsByNumber.{StandsAt, IsPresent, point_of, node_
 use Rattle.plan_model.specs.RecordLaw.{IsEarlier, IsLawfulRecord, IsPlacedLawfully, first_cost_through}
 use Rattle.plan_model.specs.Roots.{root_ceiling}
 use Rattle.plan_model.specs.Steering.{advanced, steered}
-use Rattle.plan_model.specs.TreeStates.{TreeState, GrowsInto}
-use Rattle.plan_model.specs.Vectors.Handled.{placed_by}
-use Rattle.plan_model.specs.Vectors.Overlaps.{early_record, overlapped}
+use Rattle.plan_model.specs.Vectors.Overlaps.{early_record, overlapped, placed_by}
 use Rattle.plan_model.specs.Vectors.Runs.{open_setup, marks_to_rewire}
 use Rattle.plan_model.specs.Vectors.Shapes.{at}
 use Rattle.plan_model.proofs.EmptyRoomClearance.{Clear-empty_room}
 use Rattle.plan_model.proofs.LeastPairLaws.{IsNotAbove-lesser, IsNotAbove-refl}
-use Rattle.plan_model.proofs.NodeCounts.{node_count-le}
 use Rattle.plan_model.proofs.OpenRoomMarks.{cost_2500}
-use Rattle.plan_model.proofs.RecordLaws.{class_of-le}
 use Rattle.plan_model.proofs.RootLaws.{root_ceiling-from_squares}
 use Rattle.plan_model.proofs.SegmentLaws.{Clear-first}
-use Rattle.plan_model.proofs.TreeStateLaws.{IsPresent-grows, point_of-grows, StandsAt-before}
 use Rattle.plan_model.specs.Turns.{RunFromZero}
 use Rattle.plan_model.proofs.PlacedNodes.{ArePlacedMarks-from}
 use Rattle.plan_model.proofs.TurnsFromZero.{AreTurns-counted}
@@ -298,28 +292,3 @@ IsClosed-overlapped = record {
   lawful = lawful;
   placed = ArePlacedMarks-from overlapped placed;
 }
-
--- ---- mark 0 was not handled whole
-
-module _ (before : TreeState) (grows : GrowsInto before overlapped) (moved : List ℕ)
-    (whole : IsHandledWhole open_setup before 0 (at 0 50) early_record (at 0 50) moved) where
-  -- no node stood that is nearer to the mark than the start
-  not_nearer : (i : ℕ) → IsPresent before.points i → distance_to (at 0 50) overlapped.points 0 ≤ distance_to (at 0 50) overlapped.points i
-  not_nearer i h =
-      let nearest = whole.steers.nearest in
-      let least = (nearest.not_above i h).least in
-      let own = ap (λ p. squared_distance p (at 0 50)) (point_of-grows before overlapped grows 0 nearest.member) in
-      let other = ap (λ p. squared_distance p (at 0 50)) (point_of-grows before overlapped grows i h) in
-      omega (arith, least, own, other)
-
-  start_alone : (i : ℕ) → IsPresent before.points i → IsPresent (Some (at 0 0) ∷ []) i
-  start_alone zero h = refl
-  start_alone (suc zero) h = absurd (whole.outcome.free 1 (StandsAt-before before overlapped grows 1 (at 0 50) h refl))
-  start_alone (suc (suc zero)) h = absurd (omega (arith, not_nearer 2 h))
-  start_alone (suc (suc (suc zero))) h = absurd (omega (arith, not_nearer 3 h))
-  start_alone (suc (suc (suc (suc i)))) h = let later = IsPresent-grows before overlapped grows (suc (suc (suc (suc i)))) h in cc
-
-  pub not_handled_whole : ⊥
-  not_handled_whole =
-      let one = node_count-le before.points (Some (at 0 0) ∷ []) start_alone in
-      omega (arith, whole.outcome.of_class, class_of-le (node_count before.points) 1 one)

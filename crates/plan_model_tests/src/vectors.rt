@@ -1,6 +1,5 @@
 //! Worked examples of the definitions, each the contract of a function that does nothing.
 
-ghost use Rattle.plan_model.specs.Vectors.Handled.{HandledMarkVectors};
 ghost use Rattle.plan_model.specs.Vectors.Clearances.{ClearanceVectors};
 ghost use Rattle.plan_model.specs.Vectors.Costs.{CostVectors};
 ghost use Rattle.plan_model.specs.Vectors.Drawn.{DrawnVectors};
@@ -144,12 +143,7 @@ pub fn runs()
     ensures { RunVectors }
 {}
 
-/// The third mark of the first of these runs, handled whole by one of two workers, and a mark that ends on a node.
-pub fn handled_marks()
-    ensures { HandledMarkVectors }
-{}
-
-/// A closed run of two workers, who handled their first marks at the same time: no order of whole marks gives it.
+/// A closed run of two workers, who handled their first marks at the same time: no order of the marks gives it in the textbook.
 pub fn overlapping_marks()
     ensures { OverlapVectors }
 {}

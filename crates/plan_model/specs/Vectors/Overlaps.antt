@@ -1,12 +1,26 @@
 -- Two workers whose first marks overlap: a closed run that no order of whole marks gives.
-use Rattle.std.specs.Prelude.{ℕ, Some, List, [], ◌∷◌, slice_get, slice_index_or}
+use Rattle.std.specs.Prelude.{◌≡◌, ℕ, refl, Some, List, [], ◌∷◌, slice_get, slice_index_or}
 use Rattle.plan_model.specs.declared.records.Record.{Record}
 use Rattle.plan_model.specs.ClosedLaw.{IsClosed}
-use Rattle.plan_model.specs.HandledMarks.{IsHandledWhole}
-use Rattle.plan_model.specs.TreeStates.{TreeState, GrowsInto}
-use Rattle.plan_model.specs.Vectors.Handled.{placed_by}
+use Rattle.plan_model.specs.declared.records.Outcome.TheVariants.{Placed}
+use Rattle.plan_model.specs.TreeStates.{TreeState}
+use Rattle.plan_model.specs.Turns.{turns_of}
 use Rattle.plan_model.specs.Vectors.Runs.{open_setup, marks_to_rewire}
 use Rattle.plan_model.specs.Vectors.Shapes.{at}
+
+-- the record of a mark that this worker placed in this turn
+abbrev pub placed_by : ℕ → ℕ → ℕ → ℕ → ℕ → ℕ → Record
+placed_by worker turn nearest parent cost class =
+    record {
+      worker = worker;
+      turn = turn;
+      nearest = nearest;
+      outcome = Placed;
+      first_parent = parent;
+      first_cost = cost;
+      class = class;
+      unplaced = refl;
+    }
 
 -- Worker 0 chose the start as nearest for mark 0 before worker 1 placed mark 1, and counted two nodes after it.
 abbrev pub early_record : Record
@@ -28,6 +42,8 @@ overlapped =
 
 pub record OverlapVectors : Type 0 where
   pub closed : IsClosed open_setup marks_to_rewire 3 overlapped
-  -- whichever of the nodes stood before, mark 0 was not handled whole: with two nodes the start is not the nearest
-  pub not_whole : (before : TreeState) (moved : List ℕ) → GrowsInto before overlapped
-      → ¬ IsHandledWhole open_setup before 0 (at 0 50) early_record (at 0 50) moved
+  -- each worker counts its own turns
+  pub turns_before : turns_of overlapped.record_of 2 0 ≡ 1
+  pub turns_after : turns_of overlapped.record_of 3 0 ≡ 2
+  pub turns_of_other : turns_of overlapped.record_of 3 1 ≡ 1
+  pub turns_of_none : turns_of overlapped.record_of 3 2 ≡ 0

@@ -1,8 +1,12 @@
-use Rattle.plan_model_tests.proofs.OverlappingMarks.{IsClosed-overlapped, not_handled_whole}
+use Rattle.std.proofs.Common.{refl}
+use Rattle.plan_model_tests.proofs.OverlappingMarks.{IsClosed-overlapped}
 use Rattle.plan_model_tests.proofs.vectors.overlapping_marks.Goals as goal
 
 pub returns : goal.returns
 returns c = record {
   closed = IsClosed-overlapped;
-  not_whole = λ before moved grows whole. not_handled_whole before grows moved whole;
+  turns_before = refl;
+  turns_after = refl;
+  turns_of_other = refl;
+  turns_of_none = refl;
 }
