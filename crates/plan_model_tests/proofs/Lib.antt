@@ -3,3 +3,7 @@ pub mod KeptRun
 pub mod OverlappingMarks
 pub mod SeenByOne
 pub mod SeenByTwo
+pub mod NarrowMarks
+pub mod FallingRun
+pub mod RunInLine
+pub mod UnlawfulOrders

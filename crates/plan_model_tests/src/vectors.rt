@@ -20,6 +20,8 @@ ghost use Rattle.plan_model.specs.Vectors.Texts.{FieldSpellingVector, PolygonSpe
 ghost use Rattle.plan_model.specs.Vectors.Trees.{TreeVectors};
 ghost use Rattle.plan_model.specs.Vectors.Ways.{WayVectors};
 ghost use Rattle.plan_model.specs.Vectors.Words.{LineVectors, NumberVectors};
+ghost use Rattle.plan_model_tests.specs.NarrowRuns.{FallingRadiusVectors, RewiredInTurnVectors};
+ghost use Rattle.plan_model_tests.specs.UnlawfulTrees.{CostBoundVectors, UnlawfulTreeVectors};
 
 /// What edges cost.
 pub fn costs()
@@ -146,4 +148,24 @@ pub fn runs()
 /// A closed run of two workers, who handled their first marks at the same time: no order of the marks gives it in the textbook.
 pub fn overlapping_marks()
     ensures { OverlapVectors }
+{}
+
+/// A run of four marks whose radius is below the step, and falls before the last of them.
+pub fn falling_radii()
+    ensures { FallingRadiusVectors }
+{}
+
+/// A run of four marks in which a near node moves, and the next one then keeps its parent.
+pub fn rewired_in_turn()
+    ensures { RewiredInTurnVectors }
+{}
+
+/// A tree that keeps the order law, and trees each of which breaks one clause of it.
+pub fn unlawful_trees()
+    ensures { UnlawfulTreeVectors }
+{}
+
+/// The bound on the costs of a tree, by the number of its nodes.
+pub fn cost_bounds()
+    ensures { CostBoundVectors }
 {}

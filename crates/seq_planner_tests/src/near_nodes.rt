@@ -76,3 +76,29 @@ fn no_node_is_near_within_radius_0(rt: HostRuntime) -> Result<(), Memory> {
     ];
     assert_run(&rt, rt.alloc(), 0, &marks, &nodes, &records)
 }
+
+// The radius is 40 for the third mark and 34 for the fourth. The start is near node 3, 36.4 away, and node 2, 42.7 away, is not. Both are
+// 36.1 away from node 4, so the start is not its parent, and node 2 is not moved below it.
+#[test]
+fn the_radius_falls_below_the_step(rt: HostRuntime) -> Result<(), Memory> {
+    let marks = [
+        Point { x: 45, y: 5 },
+        Point { x: 50, y: 50 },
+        Point { x: 35, y: 10 },
+        Point { x: 30, y: 20 },
+    ];
+    let nodes = [
+        Some((0, 0, 0, 0)),
+        Some((45, 5, 0, 11_591)),
+        Some((50, 50, 1, 23_182)),
+        Some((35, 10, 0, 9_319)),
+        Some((30, 20, 3, 12_182)),
+    ];
+    let records = [
+        (0, 0, Outcome::Placed, 0, 11_591, 1),
+        (1, 1, Outcome::Placed, 1, 23_182, 2),
+        (2, 1, Outcome::Placed, 0, 9_319, 2),
+        (3, 3, Outcome::Placed, 3, 12_182, 3),
+    ];
+    assert_run(&rt, rt.alloc(), 40, &marks, &nodes, &records)
+}

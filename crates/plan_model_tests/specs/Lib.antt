@@ -1,0 +1,2 @@
+pub mod NarrowRuns
+pub mod UnlawfulTrees
