@@ -79,7 +79,7 @@ def has_seen_way(run, tree, above, node):
 def is_seen_pair(run, tree, n):
     """Whether the parent and the cost that were seen of a node are those of a tree within the limits."""
     parent, kept = tree.pair(n)
-    if kept >= 1 << 38 or parent >= run.nodes or n == 0 and (parent, kept) != (0, 0) or n and parent == n:
+    if kept >= 1 << 42 or parent >= run.nodes or n == 0 and (parent, kept) != (0, 0) or n and parent == n:
         return False
     at, above, first = tree.point(n), tree.point(parent), tree.words[run.first(n)]
     if at is not None and above is not None and not run.is_allowed(above, at):

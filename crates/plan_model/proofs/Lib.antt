@@ -14,6 +14,7 @@ pub mod OpenRoomMarks
 pub mod ThreeMarks
 pub mod RewiredRun
 pub mod RunLaws
+pub mod SceneBounds
 pub mod MarkBounds
 pub mod FreePoints
 pub mod GammaZero

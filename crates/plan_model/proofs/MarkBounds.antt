@@ -1,4 +1,4 @@
--- The marks of a scene are few, and lie within the greatest side of a room.
+-- The marks of a scene are few, and their distances can be taken: no coordinate is above the greatest one of such points.
 use Rattle.std.proofs.Common.{◌≡◌, ℕ, ◌+◌, ◌-◌, ◌*◌, ◌/◌, ◌%◌, ◌^◌, ◌<◌, ◌≤◌, Bool, true, false, length, arith, refl, ap, inl, inr}
 use Rattle.std.specs.Prelude.{IsTrue, All, ◌&&◌, ℤ, pos, negsuc, int_le}
 use Rattle.std.specs.List.{list_all, range_with_len}
@@ -8,31 +8,32 @@ use Rattle.std.proofs.lemmas.List.FromFn.{length-range_with_len}
 use Rattle.std.proofs.lemmas.List.Sums.{AllPass-from_list_all}
 use Rattle.std.proofs.lemmas.List.Elements.{All-map, All-weaker, All-same}
 use Rattle.std.proofs.lemmas.Bool.{and_parts, leb-true, cases_lt, lt-ltb}
-use Rattle.plan_model.specs.declared.geometry.Point.{Point}
 use Rattle.plan_model.specs.declared.geometry.Vertex.{Vertex}
 use Rattle.plan_model.specs.declared.scenes.Scene.{Scene}
 use Rattle.plan_model.specs.declared.scenes.Marks.{Marks}
 use Rattle.plan_model.specs.declared.scenes.Marks.TheVariants.{Drawn, Listed}
 use Rattle.plan_model.specs.declared.spans.Span.{Span}
 use Rattle.plan_model.specs.declared.tasks.Task.{Task}
-use Rattle.plan_model.specs.declared.limits.TheConstants.{LEAST_BODY_COORDINATE, MOST_BODY_COORDINATE, MOST_MARKS, MOST_SIDE}
-use Rattle.plan_model.specs.Limits.{IsBetween, is_corner_between, is_mark, is_plan}
+use Rattle.plan_model.specs.declared.limits.TheConstants.{LEAST_BODY_COORDINATE, MOST_BODY_COORDINATE, MOST_COORDINATE, MOST_MARKS}
+use Rattle.plan_model.specs.Bounds.{IsBounded}
+use Rattle.plan_model.specs.Limits.{is_corner_between, is_mark, is_plan}
 use Rattle.plan_model.specs.MarkPoints.{mark_points, points_of_marks, drawn_mark, strip_of_mark, first_word, second_word, next_state}
 use Rattle.plan_model.specs.MarkPoints.{below_zero, above_zero, reach, span_within, columns, rows, strip, picked}
+use Rattle.plan_model.proofs.SceneBounds.{IsBounded-listed, IsBounded-room}
 use Rattle.plan_model.proofs.SpanLaws.{reach-bounded}
 use Rattle.plan_model.proofs.StripLaws.{strip-some, strip-within}
 use Rattle.plan_model.proofs.DrawnMarks.{word_below, picked-within}
 
--- ---- spans within the greatest side
+-- ---- spans within the greatest coordinate
 
--- the coordinates of the span, and its first one if there is none, are within the greatest side of a room
+-- the coordinates of the span, and its first one if there is none, are within the greatest coordinate
 pub record IsSpanWithin (span : Span) : Type 0 where
-  pub first : span.first ≤ MOST_SIDE
-  pub end : span.first + span.count ≤ MOST_SIDE + 1
+  pub first : span.first ≤ MOST_COORDINATE
+  pub end : span.first + span.count ≤ MOST_COORDINATE + 1
 
 -- so is what a word picks of it
-picked-within_side : (span : Span) (word : ℕ) → IsSpanWithin span → word < 2 ^ 64 → picked span word ≤ MOST_SIDE
-picked-within_side span word h small =
+picked-within_most : (span : Span) (word : ℕ) → IsSpanWithin span → word < 2 ^ 64 → picked span word ≤ MOST_COORDINATE
+picked-within_most span word h small =
     elim (cases_lt 0 span.count) [
       | inl some ↦ (let own = picked-within span word some small in omega (arith, own.high, h.end))
       | inr none ↦ (
@@ -41,8 +42,8 @@ picked-within_side span word h small =
     ]
 
 -- and a strip of it
-strip-within_side : (all : Span) (strips g : ℕ) → g < strips → IsSpanWithin all → IsSpanWithin (strip all strips g)
-strip-within_side all strips g own h =
+strip-within_most : (all : Span) (strips g : ℕ) → g < strips → IsSpanWithin all → IsSpanWithin (strip all strips g)
+strip-within_most all strips g own h =
     elim (cases_lt 0 all.count) [
       | inl some ↦ (
           let part : Span = strip all strips g in
@@ -53,9 +54,9 @@ strip-within_side all strips g own h =
       | inr none ↦ (let few = lt-ltb all.count strips (omega arith) in rw few h)
     ]
 
--- the side of the greatest room, and how far the greatest body reaches back, bound where the body fits
-span_within-side : (side back forth : ℕ) → side ≤ MOST_SIDE → back ≤ below_zero LEAST_BODY_COORDINATE → IsSpanWithin (span_within side back forth)
-span_within-side side back forth low short = record { first = omega arith; end = omega arith }
+-- the side of a room, and how far the greatest body reaches back, bound where the body fits
+span_within-most : (side back forth : ℕ) → side ≤ MOST_COORDINATE → back ≤ below_zero LEAST_BODY_COORDINATE → IsSpanWithin (span_within side back forth)
+span_within-most side back forth low short = record { first = omega arith; end = omega arith }
 
 -- ---- the columns and the rows of a scene
 
@@ -98,47 +99,36 @@ low_x v h = first_true _ _ h
 low_y : (v : Vertex) → is_body_corner v ≡ true → int_le LEAST_BODY_COORDINATE v.y ≡ true
 low_y v h = first_true _ _ (second_true _ _ (second_true _ _ h))
 
--- no column and no row has a number above the greatest side of a room
+-- no column and no row has a number above the greatest coordinate
 pub columns-within : (scene : Scene) → IsSpanWithin (columns scene.room scene.body)
 columns-within scene =
-    span_within-side scene.room.x (reach (λ v. below_zero v.x) scene.body) (reach (λ v. above_zero v.x) scene.body) scene.room_within.right
+    span_within-most scene.room.x (reach (λ v. below_zero v.x) scene.body) (reach (λ v. above_zero v.x) scene.body) (IsBounded-room scene).right
     (short_reach scene (λ v. v.x) low_x)
 
 pub rows-within : (scene : Scene) → IsSpanWithin (rows scene.room scene.body)
 rows-within scene =
-    span_within-side scene.room.y (reach (λ v. below_zero v.y) scene.body) (reach (λ v. above_zero v.y) scene.body) scene.room_within.top
+    span_within-most scene.room.y (reach (λ v. below_zero v.y) scene.body) (reach (λ v. above_zero v.y) scene.body) (IsBounded-room scene).top
     (short_reach scene (λ v. v.y) low_y)
 
 -- ---- marks
 
-drawn_within : (scene : Scene) (k : ℕ) → IsBetween 0 MOST_SIDE (drawn_mark scene k)
+drawn_within : (scene : Scene) (k : ℕ) → IsBounded (drawn_mark scene k)
 drawn_within scene k =
     let state : ℕ = (scene.seed + k) % 2 ^ 64 in
     let g : ℕ = strip_of_mark scene.strips k in
     let own : strip_of_mark scene.strips k < scene.strips = mod_below k scene.strips (omega (arith, scene.strips_low)) in
-    let part = strip-within_side (columns scene.room scene.body) scene.strips g own (columns-within scene) in
+    let part = strip-within_most (columns scene.room scene.body) scene.strips g own (columns-within scene) in
     record {
-      left = omega arith;
-      right = picked-within_side (strip (columns scene.room scene.body) scene.strips g) (first_word state) part (word_below (next_state state));
-      bottom = omega arith;
-      top = picked-within_side (rows scene.room scene.body) (second_word state) (rows-within scene) (word_below (next_state (next_state state)));
+      right = picked-within_most (strip (columns scene.room scene.body) scene.strips g) (first_word state) part (word_below (next_state state));
+      top = picked-within_most (rows scene.room scene.body) (second_word state) (rows-within scene) (word_below (next_state (next_state state)));
     }
 
-listed_within : (p : Point) → is_mark p ≡ true → IsBetween 0 MOST_SIDE p
-listed_within p h =
-    record {
-      left = omega arith;
-      right = leb-true p.x MOST_SIDE (first_true _ _ h);
-      bottom = omega arith;
-      top = leb-true p.y MOST_SIDE (second_true _ _ h);
-    }
-
--- no coordinate of a mark is above the greatest side of a room
-pub All-marks_within : (scene : Scene) (plan : Marks) → IsTrue (is_plan plan) → All (IsBetween 0 MOST_SIDE) (points_of_marks scene plan)
+-- no coordinate of a mark is above the greatest one
+pub All-marks_within : (scene : Scene) (plan : Marks) → IsTrue (is_plan plan) → All IsBounded (points_of_marks scene plan)
 All-marks_within scene (Drawn n) h =
-    All-map (IsBetween 0 MOST_SIDE) (drawn_mark scene) (range_with_len 0 n) (λ k d l. drawn_within scene _)
+    All-map IsBounded (drawn_mark scene) (range_with_len 0 n) (λ k d l. drawn_within scene _)
 All-marks_within scene (Listed points) h =
-    All-weaker (λ p. is_mark p ≡ true) (IsBetween 0 MOST_SIDE) listed_within points (AllPass-from_list_all is_mark points (second_true _ _ h))
+    All-weaker (λ p. is_mark p ≡ true) IsBounded IsBounded-listed points (AllPass-from_list_all is_mark points (second_true _ _ h))
 
 -- there are not too many marks
 pub length-points_of_marks : (scene : Scene) (plan : Marks) → IsTrue (is_plan plan) → length (points_of_marks scene plan) ≤ MOST_MARKS
@@ -150,7 +140,7 @@ length-points_of_marks scene (Listed points) h = leb-true (length points) MOST_M
 pub length-marks : (task : Task) → length task.marks ≤ MOST_MARKS
 length-marks task = omega (arith, ap length task.of_scene, length-points_of_marks task.scene task.scene.plan task.scene.plan_within)
 
-pub All-task_marks_within : (task : Task) → All (IsBetween 0 MOST_SIDE) task.marks
+pub All-task_marks_within : (task : Task) → All IsBounded task.marks
 All-task_marks_within task =
     let scene = task.scene in
-    All-same (IsBetween 0 MOST_SIDE) task.marks (mark_points scene) task.of_scene (All-marks_within scene scene.plan scene.plan_within)
+    All-same IsBounded task.marks (mark_points scene) task.of_scene (All-marks_within scene scene.plan scene.plan_within)

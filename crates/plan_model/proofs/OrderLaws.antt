@@ -3,7 +3,7 @@ use Rattle.std.proofs.Common.{◌≡◌, ℕ, zero, suc, ◌+◌, ◌-◌, ◌*�
 use Rattle.std.specs.Prelude.{◌≢◌}
 use Rattle.std.proofs.lemmas.Nat.{mul-le}
 use Rattle.plan_model.specs.declared.geometry.Point.{Point}
-use Rattle.plan_model.specs.declared.limits.TheConstants.{MOST_NODES, MOST_STEP}
+use Rattle.plan_model.specs.declared.limits.TheConstants.{MOST_NODES, MOST_STEERING_STEP}
 use Rattle.plan_model.specs.Geometry.{squared_distance}
 use Rattle.plan_model.specs.Cost.{cost_of}
 use Rattle.plan_model.specs.PointsByNumber.{StandsAt, IsPresent, point_of, AreDistinct, node_count}
@@ -126,9 +126,9 @@ module _ (setup : Setup) (state : TreeState) (order : KeepsOrder setup state) wh
 
 -- ---- costs of trees within the limits
 
--- with the most nodes and the greatest step the bound is below 2 ^ 38
-pub most_cost_of-within : (setup : Setup) (nodes : ℕ) → setup.step ≤ MOST_STEP → nodes ≤ MOST_NODES → most_cost_of setup nodes < 2 ^ 38
+-- with the most nodes and the greatest step that points are steered by the bound is below 2 ^ 42
+pub most_cost_of-within : (setup : Setup) (nodes : ℕ) → setup.step ≤ MOST_STEERING_STEP → nodes ≤ MOST_NODES → most_cost_of setup nodes < 2 ^ 42
 most_cost_of-within setup nodes step few =
-    let most : 256 * setup.step * (nodes - 1) ≤ 256 * MOST_STEP * (MOST_NODES - 1) =
-    mul-le (256 * setup.step) (nodes - 1) (256 * MOST_STEP) (MOST_NODES - 1) (omega (arith, step)) (omega (arith, few)) in
+    let most : 256 * setup.step * (nodes - 1) ≤ 256 * MOST_STEERING_STEP * (MOST_NODES - 1) =
+    mul-le (256 * setup.step) (nodes - 1) (256 * MOST_STEERING_STEP) (MOST_NODES - 1) (omega (arith, step)) (omega (arith, few)) in
     omega (arith, most)

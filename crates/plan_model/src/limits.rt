@@ -1,4 +1,8 @@
 //! The limits of scene texts, scenes and runs, each said once.
+//!
+//! What a scene may have is one thing (`MOST_SIDE`, `MOST_STEP`, the range of obstacles), and what computing counts on is
+//! another, which is wider (`MOST_COORDINATE`, `MOST_STEERING_STEP`, the range of summands). The lemmas `SceneBounds` lead
+//! from the first to the second.
 
 /// The most bytes of a scene text.
 pub const MOST_TEXT_BYTES: usize = 16_777_216;

@@ -3,7 +3,7 @@
 ghost use Rattle.std.specs.Prelude.{◌≡◌, ◌↔◌, ◌≤◌, IsTrue, List};
 ghost use Rattle.plan_model.specs.MarkPoints.{IsInSpan, above_zero, below_zero, reach, span_within};
 ghost use Rattle.plan_model.specs.SpansOfRooms.{AreSpansOf};
-ghost use Rattle.plan_model.specs.declared.limits.TheConstants.{MOST_SIDE};
+ghost use Rattle.plan_model.specs.declared.limits.TheConstants.{MOST_COORDINATE};
 
 use crate::geometry::{Point, Vertex};
 
@@ -19,7 +19,7 @@ pub struct Span {
 impl Span {
     /// The coordinates at which a body that reaches so far back and forth fits between 0 and a side.
     fn within(side: u32, back: u32, forth: u32) -> Span
-        requires { side ≤ MOST_SIDE }
+        requires { side ≤ MOST_COORDINATE }
         ensures { result ≡ span_within side back forth }
     {
         Span {
@@ -59,10 +59,10 @@ pub struct RoomSpans {
 
 impl RoomSpans {
     /// The columns and rows of a body in a room, by the room's upper right corner and the body's corners. No side of the room
-    /// is above `MOST_SIDE`. O(n) for n corners; no memory.
+    /// is above `MOST_COORDINATE`. O(n) for n corners; no memory.
     pub fn new(room: Point, body: &[Vertex]) -> RoomSpans
-        requires right { room.x ≤ MOST_SIDE }
-        requires top { room.y ≤ MOST_SIDE }
+        requires right { room.x ≤ MOST_COORDINATE }
+        requires top { room.y ≤ MOST_COORDINATE }
         ensures { AreSpansOf room body.now result }
     {
         let reach = Reach::of(body);

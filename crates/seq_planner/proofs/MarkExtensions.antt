@@ -24,13 +24,13 @@ use Rattle.plan_model.proofs.EmptyRoomClearance.{AreInRoom-from_clear}
 use Rattle.plan_model.proofs.SteeredNodes.{IsFree-steered}
 use Rattle.plan_model.proofs.DistinctPoints.{near-present}
 use Rattle.plan_model.proofs.NewNodes.{StandsAt-present}
+use Rattle.plan_model.proofs.SceneBounds.{IsBounded-in_room}
 use Rattle.seq_planner.specs.declared.extensions.Extension.{Extension}
 use Rattle.edge_cost.specs.LeastParents.{IsLeastParent}
 use Rattle.edge_cost.specs.declared.parents.Parent.{Parent}
 use Rattle.seq_planner.specs.declared.search_tree.SearchTree.{SearchTree}
 use Rattle.seq_planner.specs.SearchTrees.{IsExtensionOf, Fits}
 use Rattle.seq_planner.proofs.ScannedLists.{near-rising}
-use Rattle.seq_planner.proofs.SoundTrees.{IsBounded-in_room}
 
 -- The next mark, of number k, steers from its nearest node, which stands at from, to the point.
 pub record Steers (scene : Scene) (tree : SearchTree) (mark : Point) (k nearest : ℕ) (from point : Point) : Type 0 where

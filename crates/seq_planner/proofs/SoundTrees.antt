@@ -8,9 +8,7 @@ use Rattle.std.proofs.lemmas.List.Sums.{count_by-le-length}
 use Rattle.std.proofs.lemmas.Bool.{cases_order}
 use Rattle.plan_model.specs.declared.geometry.Point.{Point}
 use Rattle.plan_model.specs.declared.trees.Twig.{Twig}
-use Rattle.plan_model.specs.declared.scenes.Scene.{Scene}
 use Rattle.plan_model.specs.Bounds.{IsBounded}
-use Rattle.plan_model.specs.EmptyRooms.{IsInRoom}
 use Rattle.plan_model.specs.PointsByNumber.{StandsAt, IsPresent, point_of, node_count}
 use Rattle.plan_model.specs.Trees.{points_of, parent_of, sum_of}
 use Rattle.plan_model.specs.Textbook.{Nodes}
@@ -155,13 +153,7 @@ some_present tree costs placed h = node_count-some (points_of tree) 0 h.falling.
 pub few_present : (tree : Nodes) → node_count (points_of tree) ≤ length tree
 few_present tree = omega (arith, count_by-le-length is_some (points_of tree), length-map tree (option_map (λ node. node.point)))
 
--- distances can be taken in a room of at most the greatest side
-pub IsBounded-in_room : (scene : Scene) (p : Point) → IsInRoom scene.room p → IsBounded p
-IsBounded-in_room scene p h =
-    let within = scene.room_within in
-    record { right = omega (arith, h.horizontal, within.right); top = omega (arith, h.vertical, within.top) }
-
--- and from a present node of a sound tree
+-- distances can be taken from a present node of a sound tree
 pub IsBounded-present :
     (tree : Nodes) (costs : List ℕ) (placed : PlacedPoints) (n : ℕ) (p : Point) → IsSound tree costs placed
     → IsPresent (points_of tree) n → p ≡ point_of (points_of tree) n → IsBounded p

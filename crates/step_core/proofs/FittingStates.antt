@@ -29,6 +29,7 @@ use Rattle.plan_model.proofs.MarkBounds.{length-marks}
 use Rattle.plan_model.proofs.NewNodes.{IsPresent-stands, point_of-stands}
 use Rattle.plan_model.proofs.OrderLaws.{most_cost_of-within}
 use Rattle.plan_model.proofs.RecordLaws.{class_of-le}
+use Rattle.plan_model.proofs.SceneBounds.{IsBounded-in_room, step-steers}
 use Rattle.plan_model.proofs.SegmentLaws.{Clear-last}
 use Rattle.plan_model.proofs.WorkerTurns.{turn-below_limit}
 use Rattle.step_core.specs.Words.{last_field}
@@ -84,7 +85,7 @@ module _
 
   low_cost : (cost : ℕ) → cost ≤ most_cost_of (setup_of task.scene) (node_count state.points) → cost < 2 ^ 44
   low_cost cost h =
-      omega (arith, h, most_cost_of-within (setup_of task.scene) (node_count state.points) (omega (arith, task.scene.step_high)) few_nodes)
+      omega (arith, h, most_cost_of-within (setup_of task.scene) (node_count state.points) (step-steers task.scene) few_nodes)
 
   -- the kept cost of a present node
   pub kept-low : (n : ℕ) → IsPresent state.points n → state.cost n < 2 ^ 44
@@ -111,11 +112,7 @@ module _
   -- the point of a present node
   pub IsBounded-closed : (n : ℕ) → IsPresent state.points n → IsBounded (point_of state.points n)
   IsBounded-closed n h =
-      let room = IsInRoom-from_clear_at (space_of task.scene) (point_of state.points n) (clear_at n h) in
-      record {
-        right = omega (arith, room.horizontal, task.scene.room_within.right);
-        top = omega (arith, room.vertical, task.scene.room_within.top);
-      }
+      IsBounded-in_room task.scene (point_of state.points n) (IsInRoom-from_clear_at (space_of task.scene) (point_of state.points n) (clear_at n h))
 
   -- ---- records
 

@@ -10,12 +10,10 @@ use Rattle.std.proofs.lemmas.List.FromFn.{map-range_with_len_more}
 use Rattle.std.proofs.lemmas.List.Sums.{sum_by_push}
 use Rattle.plan_model.specs.Bounds.{IsBounded}
 use Rattle.plan_model.specs.ClosedLaw.{has_outcome, mark_at}
-use Rattle.plan_model.specs.Limits.{IsBetween}
 use Rattle.plan_model.specs.Outcomes.{is_placed}
 use Rattle.plan_model.specs.Turns.{once_if}
 use Rattle.plan_model.specs.Ways.{FollowWays}
 use Rattle.plan_model.specs.declared.geometry.Point.{Point}
-use Rattle.plan_model.specs.declared.limits.TheConstants.{MOST_SIDE}
 use Rattle.plan_model.specs.declared.records.Record.{Record}
 use Rattle.plan_model.specs.declared.tasks.Task.{Task}
 use Rattle.plan_model.proofs.MarkBounds.{All-task_marks_within}
@@ -38,9 +36,7 @@ use Rattle.step_core.proofs.SumsBelow.{sum-more, sum-same}
 pub IsBounded-mark : (task : Task) (k : ℕ) → IsBounded (mark_at task.marks k)
 IsBounded-mark task k =
     elim (cases_lt k (length task.marks)) [
-      | inl low ↦ (
-          let within = All-get_or (IsBetween 0 MOST_SIDE) task.marks k (record { x = 0; y = 0 }) low (All-task_marks_within task) in
-          record { right = omega (arith, within.right); top = omega (arith, within.top) })
+      | inl low ↦ All-get_or IsBounded task.marks k (record { x = 0; y = 0 }) low (All-task_marks_within task)
       | inr past ↦
           subst IsBounded (sym (get_or_past task.marks k (record { x = 0; y = 0 }) past)) (record { right = omega arith; top = omega arith })
     ]

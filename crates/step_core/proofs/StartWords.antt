@@ -17,6 +17,7 @@ use Rattle.plan_model.specs.Ways.{FollowWays}
 use Rattle.plan_model.proofs.NewNodes.{IsPresent-stands, not_present, point_at-absent as tree-absent}
 use Rattle.plan_model.proofs.NodeCounts.{node_count-same}
 use Rattle.plan_model.proofs.SameTrees.{IsClosed-same_run}
+use Rattle.plan_model.proofs.SceneBounds.{IsBounded-scene_start}
 use Rattle.plan_model.proofs.TextbookStates.{IsClosed-start}
 use Rattle.plan_model.proofs.TreeChanges.{node_at-past}
 use Rattle.plan_model.proofs.WayLinks.{FollowWays-start}
@@ -112,7 +113,7 @@ module _ (sizes : Sizes) (start : Point) (words : Words) (bounded : IsBounded st
 
 -- the start of a task fits its word
 pub IsBounded-start : (task : Task) → IsBounded task.scene.start
-IsBounded-start task = record { right = omega (arith, task.scene.start_within.right); top = omega (arith, task.scene.start_within.top) }
+IsBounded-start task = IsBounded-scene_start task.scene
 
 -- The start alone is a closed run at limit 0 if it is clear.
 pub HoldRun-start :

@@ -22,6 +22,7 @@ use Rattle.plan_model.specs.declared.limits.TheConstants.{MOST_WORKERS}
 use Rattle.plan_model.proofs.ClosedLaws.{KeepsFirstCosts-closed}
 use Rattle.plan_model.proofs.CountsBelow.{count-none, count-single}
 use Rattle.plan_model.proofs.MarkBounds.{length-marks}
+use Rattle.plan_model.proofs.SceneBounds.{step-steers}
 use Rattle.plan_model.proofs.StripMarks.{is_claimed-below, is_claimed-past}
 use Rattle.plan_model.proofs.WorkerTurns.{AreTurns-longer}
 use Rattle.step_core.specs.GrownWords.{HoldRun, has_node, record_at, run_words, sizes_of, state_of_words}
@@ -208,7 +209,7 @@ IsWorld-started task limit workers items sized held some_worker few =
         marks = length-marks task;
         points = IsBounded-mark task;
         start = IsBounded-start task limit words held;
-        step = task.scene.step_high;
+        step = step-steers task.scene;
         workers = (some_worker, few);
         opening = held.closed.within;
       };

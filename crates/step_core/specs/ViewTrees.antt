@@ -96,7 +96,7 @@ pub record MayLower (view : View) (n parent cost : ℕ) : Type 0 where
 -- parent, at no cost; the parent of any other is another node. If node and parent are seen with their points, the edge is allowed: of the
 -- start this says that it is clear. The cost is at most that of the first word, if that is seen.
 pub record IsSeenPair (view : View) (n : ℕ) : Type 0 where
-  pub low : cost_in (sees view (TreeOf n)) < 2 ^ 38
+  pub low : cost_in (sees view (TreeOf n)) < 2 ^ 42
   pub within : parent_in (sees view (TreeOf n)) ≤ length view.run.marks
   pub start : n ≡ 0 → (parent_in (sees view (TreeOf n)) ≡ 0) × (cost_in (sees view (TreeOf n)) ≡ 0)
   pub other : 0 < n → parent_in (sees view (TreeOf n)) ≢ n

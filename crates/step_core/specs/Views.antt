@@ -4,7 +4,7 @@ use Rattle.plan_model.specs.Bounds.{IsBounded}
 use Rattle.plan_model.specs.ClosedLaw.{mark_at}
 use Rattle.plan_model.specs.SeenTrees.{SeenTree}
 use Rattle.plan_model.specs.Textbook.{Setup}
-use Rattle.plan_model.specs.declared.limits.TheConstants.{MOST_MARKS, MOST_STEP, MOST_STRIPS, MOST_WORKERS}
+use Rattle.plan_model.specs.declared.limits.TheConstants.{MOST_MARKS, MOST_STEERING_STEP, MOST_STRIPS, MOST_WORKERS}
 use Rattle.plan_model.specs.declared.tasks.Task.{Task}
 use Rattle.step_core.specs.SeenWords.{SeenWords, seen_tree_of_words}
 use Rattle.step_core.specs.WordNames.{Word, Words}
@@ -51,7 +51,7 @@ pub record IsSharedRun (run : SharedRun) : Type 0 where
   pub marks : length run.marks ≤ MOST_MARKS
   pub points : (k : ℕ) → IsBounded (mark_at run.marks k)
   pub start : IsBounded run.start
-  pub step : run.step ≤ MOST_STEP
+  pub step : run.step ≤ MOST_STEERING_STEP
   pub workers : (0 < run.workers) × (run.workers ≤ MOST_WORKERS)
   pub opening : run.opening ≤ length run.marks
 

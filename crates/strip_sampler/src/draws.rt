@@ -3,7 +3,7 @@
 ghost use Rattle.std.specs.Prelude.{◌≡◌, ◌+◌, ◌%◌, ◌^◌, ◌≤◌};
 ghost use Rattle.plan_model.specs.MarkPoints.{drawn_mark, first_word, picked, second_word};
 ghost use Rattle.plan_model.specs.SpansOfRooms.{AreSpansOf};
-ghost use Rattle.plan_model.specs.declared.limits.TheConstants.{MOST_SIDE};
+ghost use Rattle.plan_model.specs.declared.limits.TheConstants.{MOST_COORDINATE};
 
 use crate::strips::columns_of_strip;
 use plan_model::{Point, RoomSpans, Scene, Span, strip_of_mark};
@@ -39,7 +39,7 @@ pub fn drawn_words(seed: u64, k: u32) -> (u64, u64)
 
 /// The coordinate of a span that the upper half of a word picks: the span's count times that half, as a fraction of 2^32.
 fn picked(span: Span, word: u64) -> u32
-    requires { span.first + span.count ≤ MOST_SIDE + 1 }
+    requires { span.first + span.count ≤ MOST_COORDINATE + 1 }
     ensures { result ≡ picked span word }
 {
     let share = ((word >> 32) * u64::from(span.count)) >> 32;

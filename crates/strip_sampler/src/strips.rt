@@ -2,7 +2,7 @@
 
 ghost use Rattle.std.specs.Prelude.{◌≡◌, ◌+◌, ◌<◌, ◌≤◌};
 ghost use Rattle.plan_model.specs.MarkPoints as marks;
-ghost use Rattle.plan_model.specs.declared.limits.TheConstants.{MOST_SIDE, MOST_STRIPS};
+ghost use Rattle.plan_model.specs.declared.limits.TheConstants.{MOST_COORDINATE, MOST_STRIPS};
 
 use plan_model::Span;
 
@@ -16,9 +16,9 @@ use plan_model::Span;
 pub(crate) fn columns_of_strip(columns: Span, strips: u32, strip: u32) -> Span
     requires strip { strip < strips }
     requires few { strips ≤ MOST_STRIPS }
-    requires end { columns.first + columns.count ≤ MOST_SIDE + 1 }
+    requires end { columns.first + columns.count ≤ MOST_COORDINATE + 1 }
     ensures value { result ≡ marks.strip columns strips strip }
-    ensures end { result.first + result.count ≤ MOST_SIDE + 1 }
+    ensures end { result.first + result.count ≤ MOST_COORDINATE + 1 }
 {
     if columns.count < strips {
         return columns;

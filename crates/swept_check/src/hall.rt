@@ -36,7 +36,7 @@ pub struct Hall {
 
 impl Model for Hall {
     ghost use Rattle.plan_model.specs.ConfigurationSpace.{ConfigurationSpace};
-    ghost use Rattle.plan_model.specs.declared.limits.TheConstants.{MOST_SIDE};
+    ghost use Rattle.plan_model.specs.declared.limits.TheConstants.{MOST_COORDINATE};
     ghost use Rattle.swept_check.specs.Halls.{AreZonesOf};
     ghost use Rattle.plan_model.specs.SpansOfRooms.{AreSpansOf};
     ghost use Rattle.std.specs.Prelude.{◌≤◌};
@@ -48,8 +48,8 @@ impl Model for Hall {
     ghost invariant = { λ h. record {
       zones : AreZonesOf h.body h.obstacles h.zones.items;
       spans : AreSpansOf h.room h.body h.spans;
-      right : h.room.x ≤ MOST_SIDE;
-      top : h.room.y ≤ MOST_SIDE;
+      right : h.room.x ≤ MOST_COORDINATE;
+      top : h.room.y ≤ MOST_COORDINATE;
     } };
 }
 

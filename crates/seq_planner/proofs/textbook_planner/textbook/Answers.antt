@@ -15,7 +15,7 @@ handle-requires-clause-bounded g c κs within =
     let marks : length c.as_slice-marks.result.now ≡ length c.args.task.marks = ap length c.as_slice-marks.ensures in
     let mark : Point = record { x = 0; y = 0 } in
     let here = All-task_marks_within c.args.task c.loop-mark.mark-index mark (omega arith) in
-    rw c.as_slice-marks.ensures (record { right = omega (arith, here.right); top = omega (arith, here.top) })
+    rw c.as_slice-marks.ensures here
 
 pub loop-mark-preserved : goal.loop-mark-preserved
 loop-mark-preserved g c =
