@@ -7,3 +7,7 @@ pub mod NarrowMarks
 pub mod FallingRun
 pub mod RunInLine
 pub mod UnlawfulOrders
+pub mod LawfulThird
+pub mod UnlawfulThird
+pub mod UnplacedMarks
+pub mod OpenedRuns

@@ -29,7 +29,7 @@ allowed y h near = record {
   short = near;
 }
 
-none_distinct : AreDistinct []
+pub none_distinct : AreDistinct []
 none_distinct i j p a b = cc
 
 pub three_distinct : AreDistinct three_points
@@ -41,8 +41,18 @@ three_distinct =
 module _ (cost : ℕ) (low : 12800 ≤ cost) (high : cost ≤ 25600) where
   hangs : (n : ℕ) → IsPresent three_points (suc n)
       → HangsBelow (room_to 50 (at 0 0)) (tree_of three_points start_for_all (0 ∷ cost ∷ 12803 ∷ [])) (suc n)
-  hangs zero h = record { present = refl; other = λ e. absurd (omega (arith, e)); edge = allowed 50 (omega arith) (omega arith); above = omega (arith, low, cost_2500) }
-  hangs (suc zero) h = record { present = refl; other = λ e. absurd (omega (arith, e)); edge = allowed 10 (omega arith) (omega arith); above = omega (arith, cost_100) }
+  hangs zero h = record {
+    present = refl;
+    other = λ e. absurd (omega (arith, e));
+    edge = allowed 50 (omega arith) (omega arith);
+    above = omega (arith, low, cost_2500);
+  }
+  hangs (suc zero) h = record {
+    present = refl;
+    other = λ e. absurd (omega (arith, e));
+    edge = allowed 10 (omega arith) (omega arith);
+    above = omega (arith, cost_100);
+  }
   hangs (suc (suc n)) h = cc
 
   bounded : (n : ℕ) → IsPresent three_points n

@@ -1,2 +1,4 @@
 pub mod NarrowRuns
 pub mod UnlawfulTrees
+pub mod UnlawfulRecords
+pub mod UnclosedRuns

@@ -14,8 +14,9 @@ use Rattle.plan_model.specs.Vectors.Shapes.{at}
 abbrev pub narrow_setup : Setup
 narrow_setup = record { space = empty_room (at 100 100); start = at 0 0; step = 50; gamma = 40 }
 
--- The start is between 36 and 37 away from the third mark and from the fourth, and 42 lie between the third mark and node 2. So the
--- start is near node 3, and node 2 is not. Neither is near node 4: with a radius of 40 the start would be its parent, and it that of node 2.
+-- The start is between 36 and 37 away from node 3 and from node 4. So it is near node 3, and is its parent, as the cheapest way; it is
+-- not near node 4. Node 2, more than 42 away from node 3 and 36 from node 4, is near neither. With a radius of 40 for node 4 too, the
+-- start would be its parent, and it that of node 2.
 abbrev pub falling_marks : List Point
 falling_marks = at 45 5 ∷ at 50 50 ∷ at 35 10 ∷ at 30 20 ∷ []
 

@@ -21,6 +21,8 @@ ghost use Rattle.plan_model.specs.Vectors.Trees.{TreeVectors};
 ghost use Rattle.plan_model.specs.Vectors.Ways.{WayVectors};
 ghost use Rattle.plan_model.specs.Vectors.Words.{LineVectors, NumberVectors};
 ghost use Rattle.plan_model_tests.specs.NarrowRuns.{FallingRadiusVectors, RewiredInTurnVectors};
+ghost use Rattle.plan_model_tests.specs.UnclosedRuns.{UnclosedRunVectors};
+ghost use Rattle.plan_model_tests.specs.UnlawfulRecords.{UnlawfulRecordVectors, UnplacedRecordVectors};
 ghost use Rattle.plan_model_tests.specs.UnlawfulTrees.{CostBoundVectors, UnlawfulTreeVectors};
 
 /// What edges cost.
@@ -168,4 +170,19 @@ pub fn unlawful_trees()
 /// The bound on the costs of a tree, by the number of its nodes.
 pub fn cost_bounds()
     ensures { CostBoundVectors }
+{}
+
+/// Records of a placed mark: some are lawful, and each of the others breaks one clause of the record law.
+pub fn unlawful_records()
+    ensures { UnlawfulRecordVectors }
+{}
+
+/// The same of records of marks without a node.
+pub fn unplaced_records()
+    ensures { UnplacedRecordVectors }
+{}
+
+/// States that are not closed, each for one clause of the closed law: a turn twice or left out, a record too many or too few.
+pub fn unclosed_runs()
+    ensures { UnclosedRunVectors }
 {}

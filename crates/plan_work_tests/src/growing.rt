@@ -3,8 +3,8 @@
 ghost use Rattle.std.specs.Prelude.{◌≡◌, ◌≤◌, length};
 ghost use Rattle.plan_model.specs.declared.limits.TheConstants.{MOST_WORKERS};
 
-use crate::test_runs::{Entry, TO_REWIRE, assert_node, assert_records, small_task, sure};
-use plan_model::{MOST_WORKERS, Outcome, Record};
+use crate::test_runs::{Entry, TO_REWIRE, assert_node, assert_records, small_task, sure, task_to};
+use plan_model::{MOST_WORKERS, Outcome, Point, Record};
 use plan_work::{Gate, NoGate, grow};
 use std::alloc::Global;
 use std::process::Abort;
@@ -104,6 +104,40 @@ fn one_worker_handles_the_marks_in_turn(rt: HostRuntime) {
     let grown = small_run(&rt, rt.alloc(), 1, 3, &NoGate);
     assert_records(&rt, &grown, &IN_TURN);
     assert_node(&rt, &grown, 2, &Some((40, 79, 3, 25_344)));
+    drop(grown);
+}
+
+/// Four marks. The start is less than 37 away from the last two, and so is the node of the second from the last.
+static NARROW: [Point; 4] = [
+    Point { x: 45, y: 5 },
+    Point { x: 50, y: 50 },
+    Point { x: 35, y: 10 },
+    Point { x: 30, y: 20 },
+];
+
+/// The run of these marks by one worker with the gamma 40: the radius is 40 for the third mark, and 34 for the fourth.
+fn narrow_run<R: Threads + Sync + Abort>(rt: &R, alloc: Global) -> Grown {
+    let task = task_to(rt, alloc, Point { x: 30, y: 20 }, 40, &NARROW);
+    let grown = sure(rt, Grown::new(alloc, task));
+    let hall = sure(rt, Hall::new(alloc, &grown.task().scene));
+    let run = sure(rt, grow(rt, alloc, grown, &hall, 1, 4, &NoGate));
+    drop(hall);
+    run
+}
+
+static NARROW_IN_TURN: [Entry; 4] = [
+    (0, 0, 0, Outcome::Placed, 0, 11_591, 1),
+    (0, 1, 1, Outcome::Placed, 1, 23_182, 2),
+    (0, 2, 1, Outcome::Placed, 0, 9_319, 2),
+    (0, 3, 3, Outcome::Placed, 3, 12_182, 3),
+];
+
+// With a radius of 40 for the fourth mark too, the start would be its parent, and it that of node 2.
+#[test]
+fn the_radius_falls_below_the_step(rt: HostRuntime) {
+    let grown = narrow_run(&rt, rt.alloc());
+    assert_records(&rt, &grown, &NARROW_IN_TURN);
+    assert_node(&rt, &grown, 2, &Some((50, 50, 1, 23_182)));
     drop(grown);
 }
 
