@@ -1,3 +1,4 @@
 pub mod CostOrders
 pub mod Delivery
 pub mod MarkWords
+pub mod NodeLines

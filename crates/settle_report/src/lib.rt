@@ -2,9 +2,11 @@
 //!
 //! The cost-to-come of a node is what the edges from the start to it cost together. A run keeps a cost for each node, which
 //! is at least that: if a node gets a cheaper parent, its own kept cost falls at once, but those of its descendants may stay
-//! behind. [`settle`] makes each kept cost the cost-to-come, and the other calls take a run that is settled.
+//! behind. [`settle`] makes each kept cost the cost-to-come, and the calls that speak of costs take a run that is settled.
 //!
-//! [`best`] is the cheapest node in the goal. [`report`] is the text, short or full, and [`deliver`] writes a text to a sink.
+//! [`best`] is the cheapest node in the goal, and [`path_to`] the points from the start to a node. [`report`] is the text,
+//! short or full; [`push_node_line`] and [`push_mark_line`] append one line of it, from the numbers of a node or a mark.
+//! [`deliver`] writes a text to a sink.
 //! Each takes a number of steps that is linear in the run and its text, but for the sort of the nodes by their costs.
 #![tactic(auto)]
 
@@ -19,5 +21,7 @@ mod settling;
 pub use best_node::best;
 pub use delivery::deliver;
 pub use mark_lines::push_mark_line;
+pub use node_lines::push_node_line;
+pub use paths::path_to;
 pub use reports::{report, report_by_best, summary, summary_by_best};
 pub use settling::settle;

@@ -1,12 +1,13 @@
 //! The lines of a full report on the nodes of a settled run.
 
 ghost use Rattle.std.specs.Prelude.{◌≡◌, ◌++◌, OnOk, string_bytes};
-ghost use Rattle.plan_model.specs.PointsByNumber.{IsPresent, StandsAt, point_at};
-ghost use Rattle.plan_model.specs.ReportText.{node_line, node_line_if_present, node_lines};
+ghost use Rattle.plan_model.specs.PointsByNumber.{point_at};
+ghost use Rattle.plan_model.specs.ReportText.{node_line_if_present, node_lines};
 ghost use Rattle.plan_model.specs.TreeStates.{IsSettled};
 ghost use Rattle.step_core.specs.GrownRuns.{state_of_grown};
+ghost use Rattle.settle_report.specs.NodeLines.{knot_line};
 
-use plan_model::Point;
+use plan_model::Knot;
 use std::alloc::AllocError;
 use step_core::Grown;
 
@@ -33,26 +34,37 @@ fn push_line_if_present(text: &mut String, grown: &Grown, node: u32) -> Result<(
         ++ node_line_if_present (state_of_grown grown.now) node (point_at (state_of_grown grown.now).points node)) }
 {
     match grown.point(node) {
-        Some(point) => push_node_line(text, grown, node, point),
+        Some(point) => {
+            let (parent, cost) = (grown.parent(node), grown.cost(node));
+            push_node_line(
+                text,
+                node,
+                Knot {
+                    point,
+                    parent,
+                    cost,
+                },
+            )
+        }
         None => Ok(()),
     }
 }
 
-/// The line of a node that stands at this point.
-fn push_node_line(
-    text: &mut String,
-    grown: &Grown,
-    node: u32,
-    point: Point,
-) -> Result<(), AllocError>
-    requires settled { IsSettled (state_of_grown grown.now) }
-    requires stands { StandsAt (state_of_grown grown.now).points node point }
-    ensures { OnOk result (string_bytes text.new ≡ string_bytes text.old ++ node_line (state_of_grown grown.now) node point) }
+/// Appends the line of one node, as a full report has it: its number, where it stands in lattice steps, the number of its
+/// parent, and its cost in 256ths of a lattice step. The line ends with a line feed. O(1).
+///
+/// The report of a settled run has such a line for each node that is present, with its parent there and its cost-to-come.
+/// The numbers are written whatever they are: they need be those of no run.
+///
+/// # Errors
+///
+/// `AllocError` if out of memory for the text, which may then end with a part of the line.
+pub fn push_node_line(text: &mut String, node: u32, knot: Knot) -> Result<(), AllocError>
+    ensures { OnOk result (string_bytes text.new ≡ string_bytes text.old ++ knot_line node knot) }
 {
-    let (parent, cost) = (grown.parent(node), grown.cost(node));
     write!(
         text,
-        "node {node} at {} {} parent {parent} cost {cost}\n",
-        point.x, point.y
+        "node {node} at {} {} parent {} cost {}\n",
+        knot.point.x, knot.point.y, knot.parent, knot.cost
     )
 }

@@ -10,12 +10,14 @@ use plan_model::{Memory, Point};
 use std::alloc::Global;
 use step_core::Grown;
 
-/// The points of the path from the start to a node. O(d) for a node at depth d.
+/// The points of the path from the start to a node that is present, by the node's parents: the start first, the node last,
+/// one point of the lattice for each node on the way, so d + 1 of them for a node at depth d. That of node 0 is the start
+/// alone. The run need not be settled. O(d).
 ///
 /// # Errors
 ///
 /// `Memory` if out of memory for the points.
-pub(crate) fn path_to(alloc: Global, grown: &Grown, node: u32) -> Result<Vec<Point>, Memory>
+pub fn path_to(alloc: Global, grown: &Grown, node: u32) -> Result<Vec<Point>, Memory>
     requires { IsPresent (state_of_grown grown.now).points node }
     ensures { IfOk result (λ path. path.items ≡ path_to (state_of_grown grown.now) node) }
 {

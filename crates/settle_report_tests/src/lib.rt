@@ -8,6 +8,10 @@ mod delivery;
 #[cfg(test)]
 mod mark_lines;
 #[cfg(test)]
+mod node_lines;
+#[cfg(test)]
+mod paths;
+#[cfg(test)]
 mod reports;
 #[cfg(test)]
 mod settling;
