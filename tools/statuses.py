@@ -1,0 +1,97 @@
+#!/usr/bin/env python3
+"""Runs a built program over inputs that end with each of its statuses, and compares the status and what is written.
+
+Usage: statuses.py PROGRAM. The inputs are scenes of a few lines, words that ask for no command, a word that is no text, a text that is
+too long, a folder to read from, a full device to write to, and too little memory for the text. `main` has no contract, and the gate
+runs the program once, on a scene that ends with 0; here it is seen that the process ends with what its body answers.
+
+It prints a line for each run, and ends with 1 if one was wrong. It needs Linux, for the full device and the limit of memory.
+"""
+
+import os
+import resource
+import subprocess
+import sys
+from dataclasses import dataclass
+
+from scene import MOST_TEXT_BYTES
+
+FOUND = b"prrt 1\nroom 100 100\nstart 0 0\ngoal 30 40 30 40\nstep 100\nmark 30 40\n"
+NO_PATH = b"prrt 1\nroom 10 10\nstart 5 5\ngoal 0 0 1 1\nstep 4\n"
+BLOCKED = b"prrt 1\nroom 10 10\nobstacle 4 4 6 4 6 6 4 6\nstart 5 5\ngoal 0 0 1 1\nstep 4\n"
+LONG = FOUND + b"\n" * (MOST_TEXT_BYTES + 1 - len(FOUND))
+PATH = b"path 2 cost 12800\n0 0\n30 40\nnodes 2 placed 1 same 0 blocked 0\n"
+NONE = b"no path\nnodes 1 placed 0 same 0 blocked 0\n"
+# More than the program takes to begin, and less than it and a text of so many bytes take.
+FEW_BYTES = 16 << 20
+SECONDS = 60
+
+
+@dataclass
+class Case:
+    """Words and a text, and what a run on them is to come to; no text is a folder, which cannot be read."""
+
+    name: str
+    words: list
+    text: bytes | None
+    status: int
+    written: bytes
+    full_device: bool = False
+    few_bytes: int = 0
+
+
+CASES = [
+    Case("path", ["plain"], FOUND, 0, PATH),
+    Case("path by workers", ["plan", "2"], FOUND, 0, PATH),
+    Case("no path", ["plain"], NO_PATH, 1, NONE),
+    Case("no path by workers", ["plan", "2"], NO_PATH, 1, NONE),
+    Case("no words", [], FOUND, 2, b"words refused\n"),
+    Case("other words", ["plain", "short"], FOUND, 2, b"words refused\n"),
+    Case("no worker", ["plan", "0"], FOUND, 2, b"words refused\n"),
+    Case("a word that is no text", [b"\xff"], FOUND, 2, b"words refused\n"),
+    Case("a word too many that is no text", ["plain", b"\xff"], FOUND, 2, b"words refused\n"),
+    Case("no scene", ["plain"], b"prrt 0\n" + FOUND[7:], 3, b"line 1 kind 1 Version\n"),
+    Case("no scene to show", ["show"], b"prrt 0\n" + FOUND[7:], 3, b"line 1 kind 1 Version\n"),
+    Case("a text that is too long", ["plain"], LONG, 3, b"text too long\n"),
+    Case("a start that is not clear", ["plain"], BLOCKED, 4, b"start blocked\n"),
+    Case("the same by workers", ["plan", "2"], BLOCKED, 4, b"start blocked\n"),
+    Case("a folder to read from", ["plain"], None, 5, b"read fault\n"),
+    Case("a full device", ["plain"], FOUND, 6, b"", full_device=True),
+    Case("a full device for a refusal", [], FOUND, 6, b"", full_device=True),
+    Case("too little memory", ["plain"], LONG[:-1], 7, b"no memory\n", few_bytes=FEW_BYTES),
+]
+
+
+def ending(program, case):
+    """The status of a run on the case, and what it has written."""
+
+    def limit():
+        if case.few_bytes:
+            resource.setrlimit(resource.RLIMIT_AS, (case.few_bytes, case.few_bytes))
+
+    folder = os.open("/", os.O_RDONLY) if case.text is None else None
+    given = {"input": case.text} if folder is None else {"stdin": folder}
+    device = os.open("/dev/full", os.O_WRONLY) if case.full_device else None
+    taken = subprocess.PIPE if device is None else device
+    done = subprocess.run([program, *case.words], stdout=taken, preexec_fn=limit, timeout=SECONDS, check=False, **given)
+    for opened in (folder, device):
+        if opened is not None:
+            os.close(opened)
+    return done.returncode, done.stdout or b""
+
+
+def main():
+    if len(sys.argv) != 2:
+        sys.exit(__doc__)
+    wrong = 0
+    for case in CASES:
+        status, written = ending(sys.argv[1], case)
+        right = (status, written) == (case.status, case.written)
+        wrong += not right
+        print(f"{status:3}  {case.name}" + ("" if right else f": wrong, wrote {written[:80]!r} in place of {case.status} with {case.written!r}"))
+    print(f"{wrong} of {len(CASES)} wrong")
+    return 1 if wrong else 0
+
+
+if __name__ == "__main__":
+    sys.exit(main())
