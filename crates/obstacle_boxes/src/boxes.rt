@@ -108,4 +108,8 @@ impl Clearing for Boxes {
         }
         self.tests_by::<Brand>(a, b, Blank::new(1))
     }
+
+    fn room_is_bounded(&self) {
+        self.hall.room_is_bounded();
+    }
 }

@@ -1,7 +1,6 @@
 //! The place of a new node: its parent and its cost, its link in the kd-tree, and the rewiring of the nodes near it.
 
 ghost use Rattle.std.specs.Prelude.{◌≡◌, ◌<◌, suc, All, IfSome, IsSome};
-ghost use Rattle.plan_model.specs.Bounds.{IsBounded};
 ghost use Rattle.plan_model.specs.Clearance.{Clear};
 ghost use Rattle.plan_model.specs.ConfigurationSpace.{space_of};
 ghost use Rattle.plan_words.specs.Claims.{SeesAsBefore};
@@ -44,7 +43,6 @@ fn choose_and_write<C: Clearing>(
     requires hall { C.space hall.now ≡ space_of shared.now.task.scene }
     requires hand { IsSome pass.old.view.hand }
     requires pointed { IfSome pass.old.view.hand (λ hand. IsPointed hand nearest p) }
-    requires bounded { IsBounded p }
     requires nearest { IsInReach pass.old.view p nearest }
     requires clear { Clear (space_of shared.now.task.scene) (point_of (tree_seen pass.old.view).points nearest) p }
     requires near { All (IsInReach pass.old.view p) pass.old.near }

@@ -84,6 +84,10 @@ impl Clearing for Meeting {
         }
         self.hall.clear(a, b)
     }
+
+    fn room_is_bounded(&self) {
+        self.hall.room_is_bounded();
+    }
 }
 
 /// Three marks in two strips, so that each of two workers has one to begin with.

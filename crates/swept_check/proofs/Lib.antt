@@ -7,3 +7,4 @@ pub mod RoomLaws
 pub mod BoxRejects
 pub mod HallLaws
 pub mod SceneSummands
+pub mod BoundedSegments

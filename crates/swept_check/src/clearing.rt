@@ -1,6 +1,7 @@
 //! Collision checkers, as a planner sees them.
 
 ghost use Rattle.std.specs.Prelude.{◌↔◌, IsTrue};
+ghost use Rattle.plan_model.specs.Bounds.{IsBounded};
 ghost use Rattle.plan_model.specs.ConfigurationSpace.{ConfigurationSpace};
 ghost use Rattle.plan_model.specs.Clearance.{Clear};
 
@@ -16,4 +17,9 @@ pub trait Clearing: Sync {
     /// not. It takes no memory.
     fn clear(&self, a: Point, b: Point) -> bool
         ensures { IsTrue result ↔ Clear (space self.now) a b };
+
+    /// No coordinate of its room is above `MOST_COORDINATE`, so both ends of a clear segment are within these bounds, and their
+    /// distance may be taken ([`clear_segments_are_bounded`](crate::laws::clear_segments_are_bounded)). It does nothing.
+    fn room_is_bounded(&self)
+        ensures { IsBounded (space self.now).room };
 }

@@ -12,6 +12,7 @@ mod clipping;
 mod exact_tests;
 mod fractions;
 mod hall;
+pub mod laws;
 mod steps;
 mod zone_crossings;
 

@@ -40,7 +40,6 @@ pub fn choose<C: Clearing>(
 ) -> (u32, u64)
     requires belongs { BelongsTo pass.old shared.now }
     requires hall { C.space hall.now ≡ space_of shared.now.task.scene }
-    requires bounded { IsBounded p }
     requires nearest { IsInReach pass.old.view p nearest }
     requires clear { Clear (space_of shared.now.task.scene) (point_of (tree_seen pass.old.view).points nearest) p }
     requires near { All (IsInReach pass.old.view p) pass.old.near }

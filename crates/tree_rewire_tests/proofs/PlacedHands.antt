@@ -1,20 +1,17 @@
 -- A node in hand that was placed, whose near nodes may be rewired then.
-use Rattle.std.proofs.Common.{◌≡◌, ℕ, suc, ◌<◌, Some, arith, refl, sym, subst}
-use Rattle.std.specs.Prelude.{All, IfSome, IsSome}
+use Rattle.std.proofs.Common.{◌≡◌, ℕ, ◌<◌, Some}
+use Rattle.std.specs.Prelude.{All, IfSome}
 use Rattle.kd_shared.specs.Placings.{IsPlacing}
 use Rattle.kd_shared.specs.declared.placing.Placing.{Placing}
 use Rattle.kd_shared.specs.declared.placing.Placing.TheVariants.{Placed, Same}
 use Rattle.plan_words.specs.States.{BelongsTo, GoesOn, PassState, SharedState}
 use Rattle.plan_words.proofs.HandSteps.{at_hand}
 use Rattle.plan_words.proofs.KeptPairs.{if_hand}
-use Rattle.step_core.specs.ViewSteps.{pair_in_hand}
-use Rattle.step_core.specs.ViewTrees.{SeesPoint}
-use Rattle.step_core.specs.Views.{sees, share}
-use Rattle.step_core.specs.WordNames.Word.{FirstOf}
+use Rattle.step_core.specs.Views.{share}
 use Rattle.step_core.specs.declared.views.Hand.{Hand}
 use Rattle.step_core.specs.declared.views.Stage.TheVariants.{Counted}
-use Rattle.tree_rewire.specs.Rewirings.{HasPlaced}
-use Rattle.tree_rewire.specs.SeenCosts.{IsInReach, SeesPair}
+use Rattle.tree_rewire.specs.SeenCosts.{IsInReach}
+use Rattle.tree_rewire.proofs.PlacedHands.{HasPlaced-placed, IsSome-placed}
 use Rattle.tree_rewire_tests.specs.HeldMarks.{HasNearInReach, IfPlaced, MayRewire}
 use Rattle.tree_rewire_tests.proofs.ReachedNodes.{All-in_reach-later}
 
@@ -29,14 +26,8 @@ MayRewire-placed shared before after k hand Placed belongs part goes_on held mar
     record {
       belongs = belongs;
       part = part;
-      hand = subst IsSome (sym placed.counted) refl;
-      placed = if_hand (λ h. HasPlaced after.view k h) after.view.hand counted placed.counted (record {
-        mark = mark;
-        counted = refl;
-        stands = subst (λ m. SeesPoint after.view (suc m) hand.point) mark placed.stands;
-        first = subst (λ m. sees after.view (FirstOf (suc m)) ≡ pair_in_hand counted) mark placed.first;
-        pair = subst (λ m. SeesPair after.view (suc m)) mark (omega (arith, placed.pair));
-      });
+      hand = IsSome-placed after.view hand placed;
+      placed = HasPlaced-placed after.view k hand placed mark;
       near = if_hand (λ h. All (IsInReach after.view h.point) after.near) after.view.hand counted placed.counted
           (All-in_reach-later before.view after.view hand.point before.near after.near goes_on near all);
     }

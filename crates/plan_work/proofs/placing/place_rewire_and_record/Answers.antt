@@ -17,8 +17,19 @@ use Rattle.step_core.specs.Views.{sees}
 use Rattle.step_core.specs.WordNames.Word.{FirstOf}
 use Rattle.step_core.specs.declared.views.Stage.TheVariants.{Counted}
 use Rattle.tree_rewire.proofs.ChosenParents.{IsInReach-later}
+use Rattle.tree_rewire.proofs.PlacedHands.{HasPlaced-placed}
 use Rattle.tree_rewire.proofs.SeenCosts.{stands_later}
 use Rattle.tree_rewire.specs.SeenCosts.{IsInReach, NamesTreeOrPoint}
+
+pub rewire-requires-clause-placed : goal.rewire-requires-clause-placed
+rewire-requires-clause-placed g c κs within =
+    let before = c.args.pass.now in
+    let after = c.choose_and_place-placing.new.pass in
+    let may = c.requires.may in
+    let tried = of_held before.view (λ hand. IsTried before after hand c.choose_and_place-placing.result.0 c.choose_and_place-placing.result.1) may.hand
+    may.held c.choose_and_place-placing.ensures.tried in
+    let placed = subst (λ placing. IsTried before after may.hand placing c.choose_and_place-placing.result.1) c.in-Placed.is tried in
+    HasPlaced-placed after.view c.args.k _ placed.came may.mark
 
 pub rewire-requires-clause-near : goal.rewire-requires-clause-near
 rewire-requires-clause-near g c κs within =

@@ -9,12 +9,17 @@ use Rattle.plan_model.specs.PointsByNumber.{IsPresent, point_of}
 use Rattle.plan_words.proofs.GoingOn.{GoesOn-trans}
 use Rattle.step_core.specs.Views.{tree_seen}
 use Rattle.step_core.proofs.SeenViews.{IsPresent-later}
+use Rattle.swept_check.proofs.BoundedSegments.{IsBounded-clear_in_scene}
 use Rattle.tree_rewire.specs.SeenCosts.{IsInReach, NamesNothing, NamesTree, cost_through}
 use Rattle.tree_rewire.proofs.ChosenParents.{IsCostBelow-best, IsFirstLeast-after, points_later}
 use Rattle.tree_rewire.proofs.CostSteps.{PassSees-more, PassSees-trans, cost_through-same}
 use Rattle.tree_rewire.proofs.SeenCosts.{IsLoadedSince-later, SeesPair-later}
 use Rattle.tree_rewire.proofs.WholeShares.{SeesAsBefore-none, SeesAsBefore-trans}
 use Rattle.tree_rewire.proofs.choosing.choose.Goals as goal
+
+pub least-best-requires-clause-bounded : goal.least-best-requires-clause-bounded
+least-best-requires-clause-bounded g c κs within =
+    (IsBounded-clear_in_scene c.args.shared.now.task.scene (point_of (tree_seen c.args.pass.now.view).points c.args.nearest) c.args.p c.requires.clear).1
 
 pub least-best-requires-clause-nearest : goal.least-best-requires-clause-nearest
 least-best-requires-clause-nearest g c κs within =

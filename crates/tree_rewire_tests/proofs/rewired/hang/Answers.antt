@@ -2,14 +2,12 @@ use Rattle.std.proofs.Common.{◌≡◌, ℕ, ap, subst, sym, ◌∙◌}
 use Rattle.std.specs.Prelude.{All, IfSome}
 use Rattle.std.proofs.lemmas.List.Elements.{All-head}
 use Rattle.plan_model.specs.declared.geometry.Point.{Point}
-use Rattle.plan_model.specs.Bounds.{IsBounded}
 use Rattle.plan_model.specs.Clearance.{Clear}
 use Rattle.plan_model.specs.ConfigurationSpace.{space_of}
 use Rattle.plan_model.proofs.NewNodes.{point_of-stands}
 use Rattle.plan_words.specs.States.{PassState, SharedState, with_view}
 use Rattle.plan_words.proofs.HandSteps.{at_hand}
 use Rattle.plan_words.proofs.KeptPairs.{if_hand}
-use Rattle.plan_words.proofs.NearestParents.{IsBounded-hand}
 use Rattle.step_core.specs.Stages.{has_point}
 use Rattle.step_core.specs.ViewSteps.{half, treed}
 use Rattle.step_core.specs.ViewTrees.{MayHang}
@@ -37,12 +35,6 @@ reach {pass = pass} {p = p} holds read =
 
 pub point-from-requires-clause-seen_node : goal.point-from-requires-clause-seen_node
 point-from-requires-clause-seen_node c = c.requires.holds.lawful.tree.rooted.points c.args.nearest (reach c.requires.holds c.hand_point-p.ensures).present
-
-pub choose-parent-requires-clause-bounded : goal.choose-parent-requires-clause-bounded
-choose-parent-requires-clause-bounded c κs =
-    let holds = c.requires.holds in
-    subst IsBounded (sym (p_is c.requires.holds c.hand_point-p.ensures))
-    (IsBounded-hand c.args.pass.now.view holds.hand holds.lawful holds.held (ap has_point holds.stage_is))
 
 pub choose-parent-requires-clause-nearest : goal.choose-parent-requires-clause-nearest
 choose-parent-requires-clause-nearest c κs =

@@ -1,0 +1,33 @@
+-- The ends of a clear segment are within bounds, as they lie in the room.
+use Rattle.std.proofs.Common.{arith}
+use Rattle.std.proofs.lemmas.Int.{ints}
+use Rattle.plan_model.specs.declared.geometry.Point.{Point}
+use Rattle.plan_model.specs.declared.scenes.Scene.{Scene}
+use Rattle.plan_model.specs.Bounds.{IsBounded}
+use Rattle.plan_model.specs.Clearance.{Clear}
+use Rattle.plan_model.specs.ConfigurationSpace.{ConfigurationSpace, space_of}
+use Rattle.plan_model.specs.RoomOfConfigurations.{InRoom, at_lattice}
+use Rattle.swept_check.proofs.HallLaws.{first_in_room, last_in_room}
+
+IsBounded-in_room : (space : ConfigurationSpace) (p : Point) → IsBounded space.room → InRoom space (at_lattice p) → IsBounded p
+IsBounded-in_room space p bounded within =
+    let right = bounded.right in
+    let top = bounded.top in
+    let across = within.here.right in
+    let up = within.here.top in
+    record { right = omega (arith, ints); top = omega (arith, ints) }
+
+pub IsBounded-clear : (space : ConfigurationSpace) (a b : Point) → IsBounded space.room → Clear space a b → IsBounded a × IsBounded b
+IsBounded-clear space a b bounded clear = (
+  IsBounded-in_room space a bounded (first_in_room space a b clear),
+  IsBounded-in_room space b bounded (last_in_room space a b clear),
+)
+
+-- the room of a scene is within bounds
+pub IsBounded-room : (scene : Scene) → IsBounded scene.room
+IsBounded-room scene =
+    let within = scene.room_within in
+    record { right = omega (arith, within.right); top = omega (arith, within.top) }
+
+pub IsBounded-clear_in_scene : (scene : Scene) (a b : Point) → Clear (space_of scene) a b → IsBounded a × IsBounded b
+IsBounded-clear_in_scene scene a b clear = IsBounded-clear (space_of scene) a b (IsBounded-room scene) clear

@@ -1,0 +1,28 @@
+-- A node in hand that was placed, whose near nodes may be rewired then.
+use Rattle.std.proofs.Common.{◌≡◌, ℕ, suc, arith, refl, sym, subst}
+use Rattle.std.specs.Prelude.{IfSome, IsSome}
+use Rattle.kd_shared.specs.Placings.{IsPlaced}
+use Rattle.plan_words.proofs.KeptPairs.{if_hand}
+use Rattle.step_core.specs.ViewSteps.{pair_in_hand}
+use Rattle.step_core.specs.ViewTrees.{SeesPoint}
+use Rattle.step_core.specs.Views.{sees}
+use Rattle.step_core.specs.WordNames.Word.{FirstOf}
+use Rattle.step_core.specs.declared.views.Hand.{Hand}
+use Rattle.step_core.specs.declared.views.Stage.TheVariants.{Counted}
+use Rattle.step_core.specs.declared.views.View.{View}
+use Rattle.tree_rewire.specs.Rewirings.{HasPlaced}
+use Rattle.tree_rewire.specs.SeenCosts.{SeesPair}
+
+pub IsSome-placed : (view : View) (hand : Hand) → IsPlaced view hand → IsSome view.hand
+IsSome-placed view hand placed = subst IsSome (sym placed.counted) refl
+
+pub HasPlaced-placed : (view : View) (k : ℕ) (hand : Hand) → IsPlaced view hand → hand.mark ≡ k → IfSome view.hand (λ now. HasPlaced view k now)
+HasPlaced-placed view k hand placed mark =
+    let counted : Hand = record hand { stage = Counted } in
+    if_hand (λ now. HasPlaced view k now) view.hand counted placed.counted (record {
+      mark = mark;
+      counted = refl;
+      stands = subst (λ m. SeesPoint view (suc m) hand.point) mark placed.stands;
+      first = subst (λ m. sees view (FirstOf (suc m)) ≡ pair_in_hand counted) mark placed.first;
+      pair = subst (λ m. SeesPair view (suc m)) mark (omega (arith, placed.pair));
+    })
