@@ -12,7 +12,7 @@ use Rattle.plan_model.specs.PointsByNumber.{IsPresent, node_count}
 use Rattle.plan_model.specs.RecordLaw.{IsEarlier, IsLawfulRecord}
 use Rattle.plan_model.specs.Textbook.{same_record}
 use Rattle.plan_model.specs.Turns.{RunFromZero}
-use Rattle.plan_model.specs.Vectors.Handled.{placed_by}
+use Rattle.plan_model.specs.Vectors.Overlaps.{placed_by}
 use Rattle.plan_model.specs.Vectors.Overlaps.{early_record, overlapped}
 use Rattle.plan_model.specs.Vectors.Runs.{open_setup, marks_to_rewire}
 use Rattle.plan_model.specs.Vectors.Shapes.{at}

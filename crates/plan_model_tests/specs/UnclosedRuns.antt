@@ -4,7 +4,7 @@ use Rattle.plan_model.specs.declared.records.Record.{Record}
 use Rattle.plan_model.specs.ClosedLaw.{IsClosed}
 use Rattle.plan_model.specs.Textbook.{same_record}
 use Rattle.plan_model.specs.TreeStates.{TreeState}
-use Rattle.plan_model.specs.Vectors.Handled.{placed_by}
+use Rattle.plan_model.specs.Vectors.Overlaps.{placed_by}
 use Rattle.plan_model.specs.Vectors.Overlaps.{early_record, overlapped}
 use Rattle.plan_model.specs.Vectors.Runs.{open_setup, marks_to_rewire}
 use Rattle.plan_model.specs.Vectors.Shapes.{at}

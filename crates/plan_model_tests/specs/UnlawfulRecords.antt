@@ -8,7 +8,7 @@ use Rattle.plan_model.specs.EmptyRooms.{empty_room}
 use Rattle.plan_model.specs.RecordLaw.{IsLawfulRecord}
 use Rattle.plan_model.specs.Textbook.{Setup, unplaced_record}
 use Rattle.plan_model.specs.TreeStates.{TreeState}
-use Rattle.plan_model.specs.Vectors.Handled.{placed_by}
+use Rattle.plan_model.specs.Vectors.Overlaps.{placed_by}
 use Rattle.plan_model.specs.Vectors.Shapes.{at}
 
 -- a point body in an empty room that is 100 wide and so high, with this step and gamma
