@@ -76,3 +76,5 @@ pub mod SightLaws
 pub mod TrueSights
 pub mod SightsTogether
 pub mod SeenParentLaws
+pub mod SettledRuns
+pub mod PathLengths

@@ -45,3 +45,5 @@ pub mod CanonicalText
 pub mod Streams
 pub mod EmptyRooms
 pub mod Vectors
+pub mod PathChoices
+pub mod SceneEnds

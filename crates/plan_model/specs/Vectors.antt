@@ -20,3 +20,4 @@ pub mod Runs
 pub mod Overlaps
 pub mod Ways
 pub mod SeenTrees
+pub mod Choices

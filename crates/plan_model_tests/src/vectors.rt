@@ -1,5 +1,6 @@
 //! Worked examples of the definitions, each the contract of a function that does nothing.
 
+ghost use Rattle.plan_model.specs.Vectors.Choices.{ChoiceVectors};
 ghost use Rattle.plan_model.specs.Vectors.Clearances.{ClearanceVectors};
 ghost use Rattle.plan_model.specs.Vectors.Costs.{CostVectors};
 ghost use Rattle.plan_model.specs.Vectors.Drawn.{DrawnVectors};
@@ -185,4 +186,9 @@ pub fn unplaced_records()
 /// States that are not closed, each for one clause of the closed law: a turn twice or left out, a record too many or too few.
 pub fn unclosed_runs()
     ensures { UnclosedRunVectors }
+{}
+
+/// Choices from a path of three points, and what they cost.
+pub fn choices()
+    ensures { ChoiceVectors }
 {}

@@ -1,0 +1,69 @@
+-- Settled runs: what stays while one grows into another, and that a textbook run is settled already.
+use Rattle.std.proofs.Common.{◌≡◌, ℕ, ◌≤◌, List, arith, sym, ap, ◌∙◌, subst}
+use Rattle.std.specs.Prelude.{IsTrue}
+use Rattle.plan_model.specs.declared.geometry.Point.{Point}
+use Rattle.plan_model.specs.declared.scenes.Scene.{Scene}
+use Rattle.plan_model.specs.BestNode.{IsBestNode, IsGoalNode, lies_in_goal}
+use Rattle.plan_model.specs.Clearance.{ClearAt}
+use Rattle.plan_model.specs.PointsByNumber.{IsPresent, point_at}
+use Rattle.plan_model.specs.SameRuns.{IsOfTextbookRun}
+use Rattle.plan_model.specs.Textbook.{Setup}
+use Rattle.plan_model.specs.TreeStates.{AreSameRuns, ChangesCosts, GrowsInto, IsSettled, TreeState, state_of, sum_in}
+use Rattle.plan_model.specs.Trees.{sum_by}
+use Rattle.plan_model.proofs.BestNodeLaws.{IsPresent-goal}
+use Rattle.plan_model.proofs.SameTrees.{AreSameRuns-trans, IsSettled-of_textbook}
+use Rattle.plan_model.proofs.TreeStateLaws.{IsPresent-grows, cost-grows, point_at-grows}
+
+-- no sum rises
+pub sum_in-grows :
+    (before after : TreeState) → GrowsInto before after → IsSettled before → IsSettled after
+    → (n : ℕ) → IsPresent before.points n → sum_in after n ≤ sum_in before n
+sum_in-grows before after grows settled settled_after n here =
+    let falls = cost-grows before after grows n here in
+    let was = settled n here in
+    let is = settled_after n (IsPresent-grows before after grows n here) in
+    let first : sum_in after n ≤ before.cost n = subst (λ c. c ≤ before.cost n) is falls in
+    subst (λ c. sum_in after n ≤ c) was first
+
+-- goal nodes stay
+pub IsGoalNode-grows :
+    (scene : Scene) (before after : TreeState) → GrowsInto before after
+    → (n : ℕ) → IsGoalNode scene before.points n → IsGoalNode scene after.points n
+IsGoalNode-grows scene before after grows n goal =
+    subst (λ o. IsTrue (lies_in_goal scene o)) (sym (point_at-grows before after grows n (IsPresent-goal scene (point_at before.points n) goal))) goal
+
+le-through : (l m n : ℕ) → l ≤ m → m ≤ n → l ≤ n
+le-through l m n f g = omega arith
+
+-- the best sum does not rise
+pub best_sum-grows :
+    (scene : Scene) (before after : TreeState) (m n : ℕ) → GrowsInto before after → IsSettled before → IsSettled after
+    → IsBestNode scene before m → IsBestNode scene after n → sum_in after n ≤ sum_in before m
+best_sum-grows scene before after m n grows settled settled_after best best_after =
+    le-through _ _ _ (best_after.not_above m (IsGoalNode-grows scene before after grows m best.member)).least
+    (sum_in-grows before after grows settled settled_after m (IsPresent-goal scene (point_at before.points m) best.member))
+
+-- The tree of a textbook run stays one when it is settled, since its costs are the sums already.
+pub IsOfTextbookRun-settled :
+    (setup : Setup) (marks : List Point) (before after : TreeState) → ClearAt setup.space setup.start → IsOfTextbookRun setup marks before
+    → ChangesCosts before after → IsSettled after → IsOfTextbookRun setup marks after
+IsOfTextbookRun-settled setup marks before after clear of_run changes settled = record {
+  nodes = of_run.nodes;
+  records = of_run.records;
+  run = of_run.run;
+  same = AreSameRuns-trans (state_of of_run.nodes of_run.records) before after of_run.same same;
+}
+  where
+    sum-same : (n : ℕ) → sum_in after n ≡ sum_in before n
+    sum-same n =
+        ap (λ points. sum_by points after.parent n) changes.points ∙ ap (λ parents. sum_by before.points parents n) (λ t i. changes.parents i t)
+
+    same : AreSameRuns before after
+    same = record {
+      points = λ n. ap (λ points. point_at points n) changes.points;
+      parents = λ n here. changes.parents n;
+      costs = λ n here.
+          settled n (subst (λ points. IsPresent points n) (sym changes.points) here) ∙ sum-same n
+          ∙ sym (IsSettled-of_textbook setup marks before clear of_run n here);
+      records = changes.records;
+    }
