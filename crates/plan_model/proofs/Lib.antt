@@ -78,3 +78,6 @@ pub mod SightsTogether
 pub mod SeenParentLaws
 pub mod SettledRuns
 pub mod PathLengths
+pub mod FirstLines
+pub mod FirstWords
+pub mod DigitNumbers

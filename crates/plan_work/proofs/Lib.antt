@@ -21,3 +21,4 @@ pub mod AloneMarks
 pub mod WholeLists
 pub mod PlacedAlone
 pub mod ExtendedAlone
+pub mod TextbookEnds

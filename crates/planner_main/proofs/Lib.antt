@@ -1,7 +1,6 @@
 pub mod Causes
 pub mod DecidedStatuses
 pub mod Successes
-pub mod OneWorkerRuns
 pub mod GivenAnswers
 pub mod ConcludedCalls
 pub mod GeneratedObstacles

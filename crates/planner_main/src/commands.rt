@@ -5,8 +5,7 @@ ghost use Rattle.planner_main.specs.Commands.{command_of, command_of_word, comma
 ghost use Rattle.planner_main.specs.Commands.{plan_by, number_in, IsNumbered};
 
 use crate::generated_scenes::MOST_GENERATED;
-use plan_model::MOST_WORKERS;
-use scene_text::{is_number, natural};
+use plan_model::{MOST_WORKERS, is_number, natural};
 
 /// What the words of the command line ask for.
 #[derive(Clone, Copy, Debug, PartialEq, Eq)]

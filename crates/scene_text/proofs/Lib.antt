@@ -1,6 +1,3 @@
-pub mod LineLemmas
-pub mod WordLemmas
-pub mod NumberLemmas
 pub mod FetchLemmas
 pub mod MappedErrors
 pub mod PolygonLemmas

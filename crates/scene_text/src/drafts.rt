@@ -16,9 +16,11 @@ use crate::key_words::{
     FORMAT_NAME, FORMAT_VERSION, fits_words, is_supported, key_of, most_corners, most_lines,
     rival_of,
 };
-use crate::line_words::{WordCount, count_words, next_word};
+use crate::line_words::{WordCount, count_words};
 use crate::refusals::LineRefusal;
-use plan_model::{Goal, Key, Kind, Marks, Point, Points, Poly, Polys, Scene, Vertex};
+use plan_model::{
+    Goal, Key, Kind, Marks, Point, Points, Poly, Polys, Scene, Vertex, next_word,
+};
 use std::alloc::{AllocError, Global};
 
 /// What the lines so far give: a field for each key.

@@ -15,11 +15,9 @@ ghost use Rattle.plan_model.specs.declared.text_terms.Kind.TheVariants as kinds;
 ghost use Rattle.scene_text.specs.Refusals.{IsLineRefusal};
 
 use crate::key_words::range_of;
-use crate::line_words::next_word;
-use crate::number_words::integer;
 use crate::refusals::LineRefusal;
 use convex_sets::is_convex;
-use plan_model::{Goal, Key, Kind, Point, Poly, Vertex};
+use plan_model::{Goal, Key, Kind, Point, Poly, Vertex, integer, next_word};
 use std::alloc::Global;
 
 /// The first of the numbers, if it may stand after the key, and the words after it.

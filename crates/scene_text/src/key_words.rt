@@ -4,12 +4,11 @@ ghost use Rattle.std.specs.Prelude.{◌≡◌, pos};
 ghost use Rattle.plan_model.specs.Keys.{key_of, fits_words, least_of, most_corners, most_lines, most_of, rival_of};
 ghost use Rattle.plan_model.specs.SceneGrammar.{supported};
 
-use crate::number_words::Range;
 use plan_model::{
     Key, LEAST_BODY_COORDINATE, LEAST_CORNERS, LEAST_OBSTACLE_COORDINATE, LEAST_SIDE, LEAST_STEP,
     LEAST_STRIPS, MOST_BODY_COORDINATE, MOST_BODY_CORNERS, MOST_GAMMA, MOST_MARKS,
     MOST_OBSTACLE_COORDINATE, MOST_OBSTACLE_CORNERS, MOST_OBSTACLES, MOST_SEED, MOST_SIDE,
-    MOST_STEP, MOST_STRIPS,
+    MOST_STEP, MOST_STRIPS, NumberRange,
 };
 
 /// The word that a scene text begins with.
@@ -115,11 +114,11 @@ pub(crate) fn rival_of(key: Key) -> Option<Key>
 }
 
 /// The numbers that may stand after the key.
-pub(crate) fn range_of(key: Key) -> Range
+pub(crate) fn range_of(key: Key) -> NumberRange
     ensures least { result.least ≡ least_of key }
     ensures most { pos result.most ≡ most_of key }
 {
-    Range {
+    NumberRange {
         least: least_of(key),
         most: most_of(key),
     }

@@ -13,13 +13,11 @@ mod field_words;
 mod key_words;
 pub mod laws;
 mod line_words;
-mod number_words;
 mod refusals;
 mod scene_reader;
 mod scene_writer;
 
 pub use fetching::{FetchFault, fetch};
-pub use number_words::{is_number, natural};
 pub use refusals::{SceneFault, SceneRefusal};
 pub use scene_reader::read_scene;
 pub use scene_writer::write_scene;

@@ -5,9 +5,8 @@ ghost use Rattle.plan_model.specs.SceneGrammar.{Spells, supported};
 ghost use Rattle.scene_text.specs.Refusals.{IsSceneRefusal};
 
 use crate::drafts::Draft;
-use crate::line_words::next_line;
 use crate::refusals::SceneRefusal;
-use plan_model::Scene;
+use plan_model::{Scene, next_line};
 use std::alloc::Global;
 
 /// The scene that a text spells, by the grammar. The text has fewer bytes than the greatest `u32`, so that its lines can be

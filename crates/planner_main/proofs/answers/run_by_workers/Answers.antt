@@ -5,7 +5,8 @@ use Rattle.plan_model.specs.ConfigurationSpace.{space_of}
 use Rattle.plan_model.specs.MarkPoints.{mark_points}
 use Rattle.plan_model.specs.Textbook.{setup_of}
 use Rattle.plan_model.specs.declared.tasks.Task.{Task}
-use Rattle.planner_main.proofs.OneWorkerRuns.{IsOfTextbook-new, IsOfTextbookRun-settled, IsOfTextbookRun-whole}
+use Rattle.plan_model.proofs.SettledRuns.{IsOfTextbookRun-settled}
+use Rattle.plan_work.proofs.TextbookEnds.{IsOfTextbook-new, IsOfTextbookRun-whole}
 use Rattle.planner_main.proofs.answers.run_by_workers.Goals as goal
 use Rattle.step_core.specs.GrownRuns.{state_of_grown}
 

@@ -1,6 +1,6 @@
 use Rattle.std.proofs.Common.{◌≡◌, get_or, rules}
-use Rattle.scene_text.proofs.NumberLemmas.{outside-negative}
-use Rattle.scene_text.proofs.number_words.natural.Goals as goal
+use Rattle.plan_model.proofs.DigitNumbers.{outside-negative}
+use Rattle.plan_model.proofs.number_words.natural.Goals as goal
 
 pub returns-in-45-clause-outside : goal.returns-in-45-clause-outside
 returns-in-45-clause-outside c =

@@ -50,16 +50,17 @@ pub fn natural(word: &[u8], least: u64, most: u64) -> Option<u64>
 }
 
 /// Whole numbers from the least to the greatest.
-#[derive(Clone, Copy)]
-pub(crate) struct Range {
+#[derive(Clone, Copy, Debug)]
+pub struct NumberRange {
     /// The least.
-    pub(crate) least: i32,
+    pub least: i32,
     /// The greatest, which is none below 0.
-    pub(crate) most: u64,
+    pub most: u64,
 }
 
-/// The whole number that a word stands for, if it is in the range.
-pub(crate) fn integer(word: &[u8], range: Range) -> Option<i128>
+/// The whole number that a word stands for, which is a number by [`is_number`]; `None` exactly if it is not in the range. O(n) for n
+/// bytes.
+pub fn integer(word: &[u8], range: NumberRange) -> Option<i128>
     requires { IsTrue (is_number_word word.now) }
     ensures value { IfSome result (λ z. value_of word.now ≡ z) }
     ensures within { IfSome result (λ z. IsTrue (int_le range.least z && int_le z (pos range.most))) }

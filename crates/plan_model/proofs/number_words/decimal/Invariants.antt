@@ -1,7 +1,7 @@
 use Rattle.std.proofs.Common.{◌≡◌, drop}
 use Rattle.plan_model.specs.TextNumbers.{magnitude}
-use Rattle.scene_text.proofs.NumberLemmas.{magnitude_after}
-use Rattle.scene_text.proofs.number_words.decimal.Given as goal
+use Rattle.plan_model.proofs.DigitNumbers.{magnitude_after}
+use Rattle.plan_model.proofs.number_words.decimal.Given as goal
 
 -- the number so far, and then the digits that are left
 abbrev pub invariant-loop-digit : goal.invariant-loop-digit

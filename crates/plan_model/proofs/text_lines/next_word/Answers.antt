@@ -1,7 +1,7 @@
 use Rattle.std.proofs.Common.{rules}
 use Rattle.std.proofs.lemmas.List.{take_rest}
-use Rattle.scene_text.proofs.WordLemmas.{words_of-none, words_of-split}
-use Rattle.scene_text.proofs.line_words.next_word.Goals as goal
+use Rattle.plan_model.proofs.FirstWords.{words_of-none, words_of-split}
+use Rattle.plan_model.proofs.text_lines.next_word.Goals as goal
 
 pub returns-then-is_empty-clause-none : goal.returns-then-is_empty-clause-none
 returns-then-is_empty-clause-none c =

@@ -1,7 +1,7 @@
 use Rattle.std.proofs.Common.{◌<◌, length, rules}
 use Rattle.std.proofs.lemmas.List.{take_rest}
-use Rattle.scene_text.proofs.LineLemmas.{lines_of-split, rest_of_nothing}
-use Rattle.scene_text.proofs.line_words.next_line.Goals as goal
+use Rattle.plan_model.proofs.FirstLines.{lines_of-split, rest_of_nothing}
+use Rattle.plan_model.proofs.text_lines.next_line.Goals as goal
 
 pub returns-in-empty-clause-some : goal.returns-in-empty-clause-some
 returns-in-empty-clause-some c =

@@ -1,7 +1,7 @@
 use Rattle.std.proofs.Common.{◌≤◌, ◌^◌, arith}
 use Rattle.plan_model.specs.TextNumbers.{magnitude}
-use Rattle.scene_text.proofs.NumberLemmas.{magnitude_after-next, IfNone-fact}
-use Rattle.scene_text.proofs.number_words.decimal.Goals as goal
+use Rattle.plan_model.proofs.DigitNumbers.{magnitude_after-next, IfNone-fact}
+use Rattle.plan_model.proofs.number_words.decimal.Goals as goal
 
 pub returns-in_err-number-clause-large : goal.returns-in_err-number-clause-large
 returns-in_err-number-clause-large c =
