@@ -2,7 +2,7 @@
 use Rattle.std.specs.Prelude.{ℕ, ◌≡◌, ◌<◌, ◌&&◌, Bool, pos, int_le, min, max, List, [], length, slice_index_or, count_by}
 use Rattle.plan_model.specs.declared.geometry.Point.{Point}
 use Rattle.plan_model.specs.declared.geometry.Vertex.{Vertex}
-use Rattle.plan_model.specs.ConfigurationSpace.{ConfigurationSpace}
+use Rattle.plan_model.specs.declared.configuration_spaces.ConfigurationSpace.{ConfigurationSpace}
 use Rattle.convex_sets.specs.declared.boxes.BoundingBox.{BoundingBox}
 use Rattle.convex_sets.specs.Boxes.{IsBoundingBox}
 use Rattle.swept_check.specs.Halls.{AreZonesOf}

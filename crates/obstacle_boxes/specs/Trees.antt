@@ -1,7 +1,7 @@
 -- A bounding volume hierarchy as one list of nodes. Read from its end it is in the order of a descent.
 use Rattle.std.specs.Prelude.{◌≡◌, ℕ, ◌<◌, ◌≤◌, Option, Some, None, List, ◌++◌, length, slice_index_or, take, drop, filter_map, IsPermutation}
 use Rattle.plan_model.specs.declared.geometry.Vertex.{Vertex}
-use Rattle.plan_model.specs.ConfigurationSpace.{ConfigurationSpace}
+use Rattle.plan_model.specs.declared.configuration_spaces.ConfigurationSpace.{ConfigurationSpace}
 use Rattle.convex_sets.specs.declared.boxes.BoundingBox.{BoundingBox}
 use Rattle.swept_check.specs.Halls.{AreZonesOf}
 use Rattle.obstacle_boxes.specs.declared.leaves.Leaf.{Leaf}

@@ -30,7 +30,7 @@ pub struct Boxes {
 }
 
 impl Model for Boxes {
-    ghost use Rattle.plan_model.specs.ConfigurationSpace.{ConfigurationSpace};
+    ghost use Rattle.plan_model.specs.declared.configuration_spaces.ConfigurationSpace.{ConfigurationSpace};
     ghost use Rattle.obstacle_boxes.specs.Trees.{IsTreeOver};
 
     ghost Value = { ConfigurationSpace };

@@ -2,10 +2,10 @@
 use Rattle.std.proofs.Common.{◌≡◌, ℕ, suc, ◌<◌, List, Option, Some, None, arith, refl}
 use Rattle.std.specs.Prelude.{Bool, IsTrue, IsSome}
 use Rattle.plan_model.specs.declared.geometry.Point.{Point}
-use Rattle.plan_model.specs.declared.scenes.Scene.{Scene}
+use Rattle.plan_model.specs.declared.geometry.Goal.{Goal}
 use Rattle.plan_model.specs.PointsByNumber.{point_at, AreNumberedTo}
 use Rattle.plan_model.specs.TreeStates.{TreeState, sum_in}
-use Rattle.plan_model.specs.BestNode.{lies_in_goal, IsGoalNode, IsBestNode, best_node}
+use Rattle.plan_model.specs.BestNode.{is_goal_point, IsGoalNode, IsBestNode, best_node}
 use Rattle.plan_model.proofs.LeastPairLaws.{
   IsBelowPassing,
   IsFirstLeast-among,
@@ -16,47 +16,47 @@ use Rattle.plan_model.proofs.LeastPairLaws.{
 }
 
 -- a goal node is present
-pub IsPresent-goal : (scene : Scene) (o : Option Point) → IsTrue (lies_in_goal scene o) → IsSome o
-IsPresent-goal scene None h = cc
-IsPresent-goal scene (Some p) h = refl
+pub IsPresent-goal : (goals : List Goal) (o : Option Point) → IsTrue (is_goal_point goals o) → IsSome o
+IsPresent-goal goals None h = cc
+IsPresent-goal goals (Some p) h = refl
 
 -- a goal node is among the numbers up to the limit, if all nodes are
 IsGoalNode-below :
-    (scene : Scene) (limit : ℕ) (points : List (Option Point)) (n : ℕ) → AreNumberedTo limit points → IsGoalNode scene points n → n < suc limit
-IsGoalNode-below scene limit points n numbered h = omega (arith, numbered n (IsPresent-goal scene (point_at points n) h))
+    (goals : List Goal) (limit : ℕ) (points : List (Option Point)) (n : ℕ) → AreNumberedTo limit points → IsGoalNode goals points n → n < suc limit
+IsGoalNode-below goals limit points n numbered h = omega (arith, numbered n (IsPresent-goal goals (point_at points n) h))
 
 -- node n lies in the goal, as a test
-goal_test : Scene → TreeState → ℕ → Bool
-goal_test scene state n = lies_in_goal scene (point_at state.points n)
+goal_test : List Goal → TreeState → ℕ → Bool
+goal_test goals state n = is_goal_point goals (point_at state.points n)
 
 -- the best node has the least pair among the goal nodes
-pub best_node-some : (scene : Scene) (limit : ℕ) (state : TreeState) (n : ℕ) → AreNumberedTo limit state.points
-    → best_node scene limit state ≡ Some n → IsBestNode scene state n
+pub best_node-some : (goals : List Goal) (limit : ℕ) (state : TreeState) (n : ℕ) → AreNumberedTo limit state.points
+    → best_node goals limit state ≡ Some n → IsBestNode goals state n
 unfolding goal_test
-best_node-some scene limit state n numbered e =
-    IsFirstLeast-among (sum_in state) (IsBelowPassing (goal_test scene state) (suc limit)) (IsGoalNode scene state.points) n
-    (λ i h. h.1) (λ i h. (IsGoalNode-below scene limit state.points i numbered h, h))
-    (first_least-some (sum_in state) (goal_test scene state) (suc limit) n e)
+best_node-some goals limit state n numbered e =
+    IsFirstLeast-among (sum_in state) (IsBelowPassing (goal_test goals state) (suc limit)) (IsGoalNode goals state.points) n
+    (λ i h. h.1) (λ i h. (IsGoalNode-below goals limit state.points i numbered h, h))
+    (first_least-some (sum_in state) (goal_test goals state) (suc limit) n e)
 
 -- there is none only if no node lies in the goal
-pub best_node-none : (scene : Scene) (limit : ℕ) (state : TreeState) → AreNumberedTo limit state.points
-    → best_node scene limit state ≡ None → (n : ℕ) → ¬ IsGoalNode scene state.points n
+pub best_node-none : (goals : List Goal) (limit : ℕ) (state : TreeState) → AreNumberedTo limit state.points
+    → best_node goals limit state ≡ None → (n : ℕ) → ¬ IsGoalNode goals state.points n
 unfolding goal_test
-best_node-none scene limit state numbered e n h =
-    first_least-none (sum_in state) (goal_test scene state) (suc limit) e n (IsGoalNode-below scene limit state.points n numbered h, h)
+best_node-none goals limit state numbered e n h =
+    first_least-none (sum_in state) (goal_test goals state) (suc limit) e n (IsGoalNode-below goals limit state.points n numbered h, h)
 
 -- the goal node with the least pair is the best node
-pub best_node-from_best : (scene : Scene) (limit : ℕ) (state : TreeState) (n : ℕ) → AreNumberedTo limit state.points
-    → IsBestNode scene state n → best_node scene limit state ≡ Some n
+pub best_node-from_best : (goals : List Goal) (limit : ℕ) (state : TreeState) (n : ℕ) → AreNumberedTo limit state.points
+    → IsBestNode goals state n → best_node goals limit state ≡ Some n
 unfolding goal_test
-best_node-from_best scene limit state n numbered h =
-    first_least-from_least (sum_in state) (goal_test scene state) (suc limit) n
-    (IsFirstLeast-among (sum_in state) (IsGoalNode scene state.points) (IsBelowPassing (goal_test scene state) (suc limit)) n
-    (λ i own. (IsGoalNode-below scene limit state.points i numbered own, own)) (λ i own. own.1) h)
+best_node-from_best goals limit state n numbered h =
+    first_least-from_least (sum_in state) (goal_test goals state) (suc limit) n
+    (IsFirstLeast-among (sum_in state) (IsGoalNode goals state.points) (IsBelowPassing (goal_test goals state) (suc limit)) n
+    (λ i own. (IsGoalNode-below goals limit state.points i numbered own, own)) (λ i own. own.1) h)
 
 -- if no node lies in the goal, there is none
 pub best_node-from_none :
-    (scene : Scene) (limit : ℕ) (state : TreeState) → ((n : ℕ) → ¬ IsGoalNode scene state.points n) → best_node scene limit state ≡ None
+    (goals : List Goal) (limit : ℕ) (state : TreeState) → ((n : ℕ) → ¬ IsGoalNode goals state.points n) → best_node goals limit state ≡ None
 unfolding goal_test
-best_node-from_none scene limit state h =
-    first_least-from_none (sum_in state) (goal_test scene state) (suc limit) (λ n own. h n own.1)
+best_node-from_none goals limit state h =
+    first_least-from_none (sum_in state) (goal_test goals state) (suc limit) (λ n own. h n own.1)

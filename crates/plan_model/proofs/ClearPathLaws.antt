@@ -5,11 +5,11 @@ use Rattle.std.proofs.Common.{length-append}
 use Rattle.std.proofs.lemmas.Bool.{cases_lt}
 use Rattle.std.proofs.lemmas.List.{map-append, get_or_append_left, get_or-append_right, reverse-append}
 use Rattle.plan_model.specs.declared.geometry.Point.{Point}
-use Rattle.plan_model.specs.declared.scenes.Scene.{Scene}
+use Rattle.plan_model.specs.declared.geometry.Goal.{Goal}
 use Rattle.plan_model.specs.BestNode.{best_node}
 use Rattle.plan_model.specs.Clearance.{Clear}
 use Rattle.plan_model.specs.ClearPaths.{path_point, IsClearPath}
-use Rattle.plan_model.specs.ConfigurationSpace.{ConfigurationSpace}
+use Rattle.plan_model.specs.declared.configuration_spaces.ConfigurationSpace.{ConfigurationSpace}
 use Rattle.plan_model.specs.OrderLaw.{KeepsOrder}
 use Rattle.plan_model.specs.PointsByNumber.{AreNumberedTo, IsPresent, point_at, point_of}
 use Rattle.plan_model.specs.ReportText.{best_path, path_to}
@@ -90,11 +90,11 @@ module _ (setup : Setup) (state : TreeState) (order : KeepsOrder setup state) wh
   IsClearPath-ordered n h = (LeadsTo-below (state.cost n) n h (omega arith)).is_clear
 
   -- So is the best one.
-  pub IsClearPath-best : (scene : Scene) (limit : ℕ) → AreNumberedTo limit state.points
-      → IsClearPath setup.space (best_path state (best_node scene limit state))
-  IsClearPath-best scene limit numbered = by_best (best_node scene limit state) refl
+  pub IsClearPath-best : (goals : List Goal) (limit : ℕ) → AreNumberedTo limit state.points
+      → IsClearPath setup.space (best_path state (best_node goals limit state))
+  IsClearPath-best goals limit numbered = by_best (best_node goals limit state) refl
     where
-      by_best : (o : Option ℕ) → best_node scene limit state ≡ o → IsClearPath setup.space (best_path state o)
+      by_best : (o : Option ℕ) → best_node goals limit state ≡ o → IsClearPath setup.space (best_path state o)
       by_best None e = record { clear = λ i low. absurd (omega (arith, low)) }
       by_best (Some n) e =
-          IsClearPath-ordered n (IsPresent-goal scene (point_at state.points n) (best_node-some scene limit state n numbered e).member)
+          IsClearPath-ordered n (IsPresent-goal goals (point_at state.points n) (best_node-some goals limit state n numbered e).member)

@@ -6,7 +6,7 @@ use Rattle.plan_model.specs.declared.records.Outcome.{Outcome}
 use Rattle.plan_model.specs.declared.records.Outcome.TheVariants.{Placed, Same, Blocked}
 use Rattle.plan_model.specs.declared.records.Record.{Record}
 use Rattle.plan_model.specs.Clearance.{IsClear}
-use Rattle.plan_model.specs.ConfigurationSpace.{ConfigurationSpace}
+use Rattle.plan_model.specs.declared.configuration_spaces.ConfigurationSpace.{ConfigurationSpace}
 use Rattle.plan_model.specs.PointsByNumber.{StandsAt}
 use Rattle.plan_model.specs.RoomOfConfigurations.{Rational}
 use Rattle.plan_model.specs.TreeStates.{TreeState}

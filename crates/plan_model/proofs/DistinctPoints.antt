@@ -36,7 +36,7 @@ use Rattle.plan_model.specs.declared.trees.Twig.{Twig}
 use Rattle.plan_model.specs.declared.records.Outcome.{Outcome}
 use Rattle.plan_model.specs.declared.records.Outcome.TheVariants.{Placed, Same, Blocked}
 use Rattle.plan_model.specs.declared.records.Record.{Record}
-use Rattle.plan_model.specs.ConfigurationSpace.{ConfigurationSpace}
+use Rattle.plan_model.specs.declared.configuration_spaces.ConfigurationSpace.{ConfigurationSpace}
 use Rattle.plan_model.specs.PointsByNumber.{point_at, StandsAt, IsPresent, point_of, IsFree, AreDistinct}
 use Rattle.plan_model.specs.Nearness.{is_within, near}
 use Rattle.plan_model.specs.Trees.{points_of}

@@ -8,7 +8,7 @@ use Rattle.std.proofs.lemmas.List.Elements.{All-weaker}
 use borrow.Author.Differences.{up, down, sum_is_lem, product_is}
 use Rattle.plan_model.specs.declared.geometry.Vertex.{Vertex}
 use Rattle.plan_model.specs.declared.geometry.Point.{Point}
-use Rattle.plan_model.specs.ConfigurationSpace.{ConfigurationSpace}
+use Rattle.plan_model.specs.declared.configuration_spaces.ConfigurationSpace.{ConfigurationSpace}
 use Rattle.plan_model.specs.RoomOfConfigurations.{Rational, IsSamePoint, scaled, moved_by, IsBetweenWalls, InRoom}
 use Rattle.plan_model.specs.Meeting.{weighted, Meets}
 use Rattle.plan_model.specs.Clearance.{IsClear}

@@ -3,8 +3,8 @@ use Rattle.std.proofs.Common.{◌≡◌, ℕ, suc, List, ◌++◌, true, false, 
 use Rattle.std.specs.Prelude.{IsTrue, is_some, unwrap_or, filter, map, reverse}
 use Rattle.std.specs.List.{range_with_len, flat_map}
 use Rattle.plan_model.specs.declared.geometry.Point.{Point}
-use Rattle.plan_model.specs.declared.scenes.Scene.{Scene}
-use Rattle.plan_model.specs.BestNode.{lies_in_goal, best_node}
+use Rattle.plan_model.specs.declared.geometry.Goal.{Goal}
+use Rattle.plan_model.specs.BestNode.{is_goal_point, best_node}
 use Rattle.plan_model.specs.Clearance.{ClearAt}
 use Rattle.plan_model.specs.LeastPairs.{IsFirstLeast, first_least}
 use Rattle.plan_model.specs.OrderLaw.{KeepsOrder}
@@ -55,30 +55,30 @@ module _ (setup : Setup) (one other : TreeState) (order : KeepsOrder setup one) 
       ap (λ ns. map (point_of other.points) (reverse ns)) (chain_in-same setup one other order same n h)
       ∙ ap (λ (at : ℕ → Point). map at (reverse (chain_in one n))) points-same
 
-  module _ (scene : Scene) (limit : ℕ) where
+  module _ (goals : List Goal) (limit : ℕ) where
     -- a node that lies in the goal is present
-    goal_present : (n : ℕ) → IsTrue (lies_in_goal scene (point_at one.points n)) → IsPresent one.points n
-    goal_present n h = IsPresent-goal scene (point_at one.points n) h
+    goal_present : (n : ℕ) → IsTrue (is_goal_point goals (point_at one.points n)) → IsPresent one.points n
+    goal_present n h = IsPresent-goal goals (point_at one.points n) h
 
     -- the best node is the same
-    pub best_node-same : best_node scene limit other ≡ best_node scene limit one
+    pub best_node-same : best_node goals limit other ≡ best_node goals limit one
     best_node-same =
         ap (λ (test : ℕ → Bool). first_least (sum_in other) (filter test (range_with_len 0 (suc limit))))
-        (λ t n. lies_in_goal scene (same.points n t))
-        ∙ first_least-keys (sum_in one) (sum_in other) (λ n. lies_in_goal scene (point_at one.points n)) (suc limit)
+        (λ t n. is_goal_point goals (same.points n t))
+        ∙ first_least-keys (sum_in one) (sum_in other) (λ n. is_goal_point goals (point_at one.points n)) (suc limit)
         (λ n h. sum_in-same setup one other order same n (goal_present n h))
 
-    best_present : (n : ℕ) → best_node scene limit one ≡ Some n → IsPresent one.points n
+    best_present : (n : ℕ) → best_node goals limit one ≡ Some n → IsPresent one.points n
     best_present n e =
-        goal_present n (first_least-some (sum_in one) (λ i. lies_in_goal scene (point_at one.points i)) (suc limit) n e).member.1
+        goal_present n (first_least-some (sum_in one) (λ i. is_goal_point goals (point_at one.points i)) (suc limit) n e).member.1
 
-    head_line-same : (o : Option ℕ) → best_node scene limit one ≡ o → head_line other o ≡ head_line one o
+    head_line-same : (o : Option ℕ) → best_node goals limit one ≡ o → head_line other o ≡ head_line one o
     head_line-same None e = refl
     head_line-same (Some n) e =
         ap (λ path. path_line path (sum_in other n)) (path_to-same n (best_present n e))
         ∙ ap (path_line (path_to one n)) (sum_in-same setup one other order same n (best_present n e))
 
-    best_path-same : (o : Option ℕ) → best_node scene limit one ≡ o → best_path other o ≡ best_path one o
+    best_path-same : (o : Option ℕ) → best_node goals limit one ≡ o → best_path other o ≡ best_path one o
     best_path-same None e = refl
     best_path-same (Some n) e = path_to-same n (best_present n e)
 
@@ -89,18 +89,18 @@ module _ (setup : Setup) (one other : TreeState) (order : KeepsOrder setup one) 
         records ∙ rw (node_count-same one.points other.points same.points) refl
 
     -- so is the short report
-    pub short_report-same : short_report scene limit other ≡ short_report scene limit one
+    pub short_report-same : short_report goals limit other ≡ short_report goals limit one
     short_report-same =
-        let best : Option ℕ = best_node scene limit one in
+        let best : Option ℕ = best_node goals limit one in
         ap (λ o. (head_line other o ++ point_lines (best_path other o)) ++ counts_line limit other) best_node-same
         ∙ ap (λ head. (head ++ point_lines (best_path other best)) ++ counts_line limit other) (head_line-same best refl)
         ∙ ap (λ path. (head_line one best ++ point_lines path) ++ counts_line limit other) (best_path-same best refl)
         ∙ ap (λ counts. (head_line one best ++ point_lines (best_path one best)) ++ counts) counts_line-same
 
     -- and the summary
-    pub summary-same : summary scene limit other ≡ summary scene limit one
+    pub summary-same : summary goals limit other ≡ summary goals limit one
     summary-same =
-        let best : Option ℕ = best_node scene limit one in
+        let best : Option ℕ = best_node goals limit one in
         ap (λ o. head_line other o ++ counts_line limit other) best_node-same
         ∙ ap (λ head. head ++ counts_line limit other) (head_line-same best refl)
         ∙ ap (λ counts. head_line one best ++ counts) counts_line-same
@@ -122,12 +122,12 @@ module _ (setup : Setup) (one other : TreeState) (order : KeepsOrder setup one) 
     mark_lines-same = λ t. flat_map (λ k. mark_line_if_recorded k (same.records k t)) (range_with_len 0 limit)
 
     -- and the report, short or full
-    pub report_text-same : (full : Bool) → report_text full scene limit other ≡ report_text full scene limit one
+    pub report_text-same : (full : Bool) → report_text full goals limit other ≡ report_text full goals limit one
     report_text-same false = short_report-same
     report_text-same true =
         ap (λ text. (text ++ node_lines limit other) ++ mark_lines limit other) short_report-same
-        ∙ ap (λ nodes. (short_report scene limit one ++ nodes) ++ mark_lines limit other) node_lines-same
-        ∙ ap (λ marks. (short_report scene limit one ++ node_lines limit one) ++ marks) mark_lines-same
+        ∙ ap (λ nodes. (short_report goals limit one ++ nodes) ++ mark_lines limit other) node_lines-same
+        ∙ ap (λ marks. (short_report goals limit one ++ node_lines limit one) ++ marks) mark_lines-same
 
 -- ---- the textbook run
 
@@ -155,14 +155,14 @@ module _
   AreSameRuns-textbook = AreSameRuns-trans one run other (AreSameRuns-sym run one of_one.same) other_same
 
   -- and have the same report
-  pub report_text-textbook : (scene : Scene) (limit : ℕ) (full : Bool) → report_text full scene limit other ≡ report_text full scene limit one
+  pub report_text-textbook : (goals : List Goal) (limit : ℕ) (full : Bool) → report_text full goals limit other ≡ report_text full goals limit one
   unfolding run
-  report_text-textbook scene limit full =
-      report_text-same setup run other order other_same scene limit full
-      ∙ sym (report_text-same setup run one order of_one.same scene limit full)
+  report_text-textbook goals limit full =
+      report_text-same setup run other order other_same goals limit full
+      ∙ sym (report_text-same setup run one order of_one.same goals limit full)
 
   -- and the same summary
-  pub summary-textbook : (scene : Scene) (limit : ℕ) → summary scene limit other ≡ summary scene limit one
+  pub summary-textbook : (goals : List Goal) (limit : ℕ) → summary goals limit other ≡ summary goals limit one
   unfolding run
-  summary-textbook scene limit =
-      summary-same setup run other order other_same scene limit ∙ sym (summary-same setup run one order of_one.same scene limit)
+  summary-textbook goals limit =
+      summary-same setup run other order other_same goals limit ∙ sym (summary-same setup run one order of_one.same goals limit)

@@ -1,7 +1,7 @@
 -- Where the body is clear of the walls and the obstacles: at a point, and at every rational point of a segment.
 use Rattle.std.specs.Prelude.{ℕ, ◌<◌, ◌≤◌, pos, ◌+ℤ◌, ◌-ℤ◌, ◌*ℤ◌, All}
 use Rattle.plan_model.specs.declared.geometry.Point.{Point}
-use Rattle.plan_model.specs.ConfigurationSpace.{ConfigurationSpace}
+use Rattle.plan_model.specs.declared.configuration_spaces.ConfigurationSpace.{ConfigurationSpace}
 use Rattle.plan_model.specs.RoomOfConfigurations.{Rational, at_lattice, InRoom}
 use Rattle.plan_model.specs.Meeting.{Meets}
 

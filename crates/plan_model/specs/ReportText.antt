@@ -2,7 +2,7 @@
 use Rattle.std.specs.Prelude.{ℕ, suc, Bool, true, false, Option, Some, None, List, [], ◌∷◌, ◌++◌, length, map, reverse, flat_map, codes, decimal}
 use Rattle.std.specs.List.{range_with_len, join_with_byte}
 use Rattle.plan_model.specs.declared.geometry.Point.{Point}
-use Rattle.plan_model.specs.declared.scenes.Scene.{Scene}
+use Rattle.plan_model.specs.declared.geometry.Goal.{Goal}
 use Rattle.plan_model.specs.declared.records.Outcome.{Outcome}
 use Rattle.plan_model.specs.declared.records.Outcome.TheVariants.{Placed, Same, Blocked}
 use Rattle.plan_model.specs.declared.records.Record.{Record}
@@ -105,19 +105,19 @@ mark_lines limit state = flat_map (λ k. mark_line_if_recorded k (state.record_o
 -- ---- the reports
 
 -- The short report: the best path, or that there is none, and the counts.
-abbrev pub short_report : Scene → ℕ → TreeState → List ℕ
-short_report scene limit state =
-    (head_line state (best_node scene limit state) ++ point_lines (best_path state (best_node scene limit state))) ++ counts_line limit state
+abbrev pub short_report : List Goal → ℕ → TreeState → List ℕ
+short_report goals limit state =
+    (head_line state (best_node goals limit state) ++ point_lines (best_path state (best_node goals limit state))) ++ counts_line limit state
 
 -- The full report: the short one, and then a line for each node that is present and for each mark.
-abbrev pub full_report : Scene → ℕ → TreeState → List ℕ
-full_report scene limit state = (short_report scene limit state ++ node_lines limit state) ++ mark_lines limit state
+abbrev pub full_report : List Goal → ℕ → TreeState → List ℕ
+full_report goals limit state = (short_report goals limit state ++ node_lines limit state) ++ mark_lines limit state
 
 -- the report, short or full
-abbrev pub report_text : Bool → Scene → ℕ → TreeState → List ℕ
-report_text false scene limit state = short_report scene limit state
-report_text true scene limit state = full_report scene limit state
+abbrev pub report_text : Bool → List Goal → ℕ → TreeState → List ℕ
+report_text false goals limit state = short_report goals limit state
+report_text true goals limit state = full_report goals limit state
 
 -- the short report without the lines of its path's points
-abbrev pub summary : Scene → ℕ → TreeState → List ℕ
-summary scene limit state = head_line state (best_node scene limit state) ++ counts_line limit state
+abbrev pub summary : List Goal → ℕ → TreeState → List ℕ
+summary goals limit state = head_line state (best_node goals limit state) ++ counts_line limit state

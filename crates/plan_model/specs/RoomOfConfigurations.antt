@@ -3,7 +3,7 @@ use Rattle.std.specs.Prelude.{◌≡◌, ℕ, ◌*◌, ◌<◌, ℤ, pos, ◌+�
 use Rattle.std.proofs.Math.Nat.{le_refl, mul-pos}
 use Rattle.plan_model.specs.declared.geometry.Point.{Point}
 use Rattle.plan_model.specs.declared.geometry.Vertex.{Vertex}
-use Rattle.plan_model.specs.ConfigurationSpace.{ConfigurationSpace}
+use Rattle.plan_model.specs.declared.configuration_spaces.ConfigurationSpace.{ConfigurationSpace}
 
 -- the rational point (x / over, y / over)
 pub record Rational : Type 0 where

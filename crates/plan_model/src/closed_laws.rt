@@ -16,7 +16,7 @@ ghost use Rattle.plan_model.specs.Turns.{AreTurns, RunFromZero};
 ghost use Rattle.plan_model.specs.declared.geometry.Point.{Point};
 ghost use Rattle.plan_model.specs.declared.limits.TheConstants.{MOST_WORKERS};
 ghost use Rattle.plan_model.specs.declared.records.Record.{Record};
-ghost use Rattle.plan_model.specs.declared.scenes.Scene.{Scene};
+ghost use Rattle.plan_model.specs.declared.geometry.Goal.{Goal};
 
 /// A textbook run from a clear start is closed at the number of its marks.
 pub fn textbook_run_is_closed()
@@ -80,5 +80,5 @@ pub fn paths_of_closed_runs_are_clear()
         → IsClosed setup marks limit state → (n : ℕ) → IsPresent state.points n → IsClearPath setup.space (path_to state n) }
     ensures best { (setup : Setup) (marks : List Point) (limit : ℕ) (state : TreeState)
         → IsClosed setup marks limit state
-        → (scene : Scene) → IsClearPath setup.space (best_path state (best_node scene limit state)) }
+        → (goals : List Goal) → IsClearPath setup.space (best_path state (best_node goals limit state)) }
 {}

@@ -4,6 +4,7 @@
 #![tactic(auto)]
 
 mod closed_laws;
+mod configuration_spaces;
 mod errors;
 mod geometry;
 mod laws;
@@ -31,6 +32,7 @@ mod tree_laws;
 mod trees;
 mod way_laws;
 
+pub use configuration_spaces::ConfigurationSpace;
 pub use errors::{Failed, Memory};
 pub use geometry::{Goal, Point, Vertex};
 pub use limits::{

@@ -9,17 +9,17 @@ ghost use Rattle.plan_model.specs.SameRuns.{IsOfTextbookRun};
 ghost use Rattle.plan_model.specs.Textbook.{Setup};
 ghost use Rattle.plan_model.specs.TreeStates.{AreSameRuns, TreeState};
 ghost use Rattle.plan_model.specs.declared.geometry.Point.{Point};
-ghost use Rattle.plan_model.specs.declared.scenes.Scene.{Scene};
+ghost use Rattle.plan_model.specs.declared.geometry.Goal.{Goal};
 
 /// Runs that are the same, however they are kept, have the same best node, the same report, short and full, and the same
 /// summary. One of them keeps the order law, as every closed run does.
 pub fn same_runs_have_the_same_report()
     ensures best { (setup : Setup) (one other : TreeState) → KeepsOrder setup one → AreSameRuns one other
-        → (scene : Scene) (limit : ℕ) → best_node scene limit other ≡ best_node scene limit one }
+        → (goals : List Goal) (limit : ℕ) → best_node goals limit other ≡ best_node goals limit one }
     ensures report { (setup : Setup) (one other : TreeState) → KeepsOrder setup one → AreSameRuns one other
-        → (scene : Scene) (limit : ℕ) (full : Bool) → report_text full scene limit other ≡ report_text full scene limit one }
+        → (goals : List Goal) (limit : ℕ) (full : Bool) → report_text full goals limit other ≡ report_text full goals limit one }
     ensures summary { (setup : Setup) (one other : TreeState) → KeepsOrder setup one → AreSameRuns one other
-        → (scene : Scene) (limit : ℕ) → summary scene limit other ≡ summary scene limit one }
+        → (goals : List Goal) (limit : ℕ) → summary goals limit other ≡ summary goals limit one }
 {}
 
 /// Trees of the textbook run over the same marks, from a start that is clear, are the same run, and so have the same report,
@@ -29,8 +29,8 @@ pub fn textbook_runs_have_one_report()
         → IsOfTextbookRun setup marks one → IsOfTextbookRun setup marks other → AreSameRuns one other }
     ensures report { (setup : Setup) (marks : List Point) (one other : TreeState) → ClearAt setup.space setup.start
         → IsOfTextbookRun setup marks one → IsOfTextbookRun setup marks other
-        → (scene : Scene) (limit : ℕ) (full : Bool) → report_text full scene limit other ≡ report_text full scene limit one }
+        → (goals : List Goal) (limit : ℕ) (full : Bool) → report_text full goals limit other ≡ report_text full goals limit one }
     ensures summary { (setup : Setup) (marks : List Point) (one other : TreeState) → ClearAt setup.space setup.start
         → IsOfTextbookRun setup marks one → IsOfTextbookRun setup marks other
-        → (scene : Scene) (limit : ℕ) → summary scene limit other ≡ summary scene limit one }
+        → (goals : List Goal) (limit : ℕ) → summary goals limit other ≡ summary goals limit one }
 {}

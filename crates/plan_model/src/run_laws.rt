@@ -1,7 +1,7 @@
 //! Laws of the textbook run, each the contract of a function that does nothing.
 
 ghost use Rattle.std.specs.Prelude.{◌≡◌, ℕ, List, Option};
-ghost use Rattle.plan_model.specs.ConfigurationSpace.{ConfigurationSpace};
+ghost use Rattle.plan_model.specs.declared.configuration_spaces.ConfigurationSpace.{ConfigurationSpace};
 ghost use Rattle.plan_model.specs.MarkPoints.{mark_points};
 ghost use Rattle.plan_model.specs.Nearness.{IsNearest};
 ghost use Rattle.plan_model.specs.PointsByNumber.{AreDistinct};

@@ -6,6 +6,7 @@ ghost use Rattle.plan_model.specs.declared.limits.TheConstants.{LEAST_SIDE, LEAS
 
 use crate::geometry::{Goal, Point, Vertex};
 use crate::lists::Sequence;
+use std::slice;
 
 /// The corners of a polygon, counterclockwise.
 pub type Poly = Sequence<Vertex>;
@@ -65,4 +66,15 @@ pub struct Scene {
     ghost strips_low: { LEAST_STRIPS ≤ strips },
     ghost strips_high: { strips ≤ MOST_STRIPS },
     ghost plan_within: { IsTrue (is_plan plan) },
+}
+
+impl Scene {
+    ghost use Rattle.plan_model.specs.BestNode.{goals_of};
+
+    /// The closed boxes of configurations of which one is to be reached. O(1).
+    pub fn goals(&self) -> &[Goal]
+        ensures { result.now ≡ goals_of self.now }
+    {
+        slice::from_ref(&self.goal)
+    }
 }

@@ -2,7 +2,7 @@
 
 ghost use Rattle.std.specs.Prelude.{◌≡◌, ◌≤◌, IfOk, IsTrue};
 ghost use Rattle.plan_model.specs.Clearance.{ClearAt};
-ghost use Rattle.plan_model.specs.ConfigurationSpace.{space_of};
+ghost use Rattle.plan_model.specs.ConfigurationSpace.{space_among, space_of};
 ghost use Rattle.plan_model.specs.EmptyRooms.{IsInRoom, empty_room};
 ghost use Rattle.plan_model.specs.Limits.{IsBetween, IsGoal, are_obstacles, is_body, is_plan};
 ghost use Rattle.plan_model.specs.Textbook.{setup_of};
@@ -64,7 +64,7 @@ impl SmallScene {
         requires obstacles { IsTrue (are_obstacles obstacles) }
         requires plan { IsTrue (is_plan plan) }
         ensures setup { setup_of result ≡ record {
-          space = record { room = self.room; body = body; obstacles = obstacles };
+          space = space_among self.room body obstacles;
           start = self.start;
           step = self.step;
           gamma = self.gamma;

@@ -8,7 +8,7 @@ ghost use Rattle.plan_model.specs.PointsByNumber.{AreNumberedTo, IsPresent};
 ghost use Rattle.plan_model.specs.TreeStates.{TreeState};
 ghost use Rattle.plan_model.specs.Trees.{AreTightAlong, FallAlong, chain, chain_by, edge_by, sum_by, sum_of};
 ghost use Rattle.plan_model.specs.declared.geometry.Point.{Point};
-ghost use Rattle.plan_model.specs.declared.scenes.Scene.{Scene};
+ghost use Rattle.plan_model.specs.declared.geometry.Goal.{Goal};
 ghost use Rattle.plan_model.specs.declared.trees.Twig.{Twig};
 
 /// Pairs of key and number are in a total order, in which no two numbers have the same place.
@@ -41,14 +41,14 @@ pub fn first_least_is_least()
 /// If no node has a number past the limit, the best node is the goal node with the least pair of sum and number; there is none
 /// exactly if no node lies in the goal.
 pub fn best_node_is_best()
-    ensures some { (scene : Scene) (limit : ℕ) (state : TreeState) (n : ℕ) → AreNumberedTo limit state.points
-        → best_node scene limit state ≡ Some n → IsBestNode scene state n }
-    ensures from_best { (scene : Scene) (limit : ℕ) (state : TreeState) (n : ℕ) → AreNumberedTo limit state.points
-        → IsBestNode scene state n → best_node scene limit state ≡ Some n }
-    ensures none { (scene : Scene) (limit : ℕ) (state : TreeState) → AreNumberedTo limit state.points
-        → best_node scene limit state ≡ None → (n : ℕ) → ¬ IsGoalNode scene state.points n }
-    ensures from_none { (scene : Scene) (limit : ℕ) (state : TreeState) → ((n : ℕ) → ¬ IsGoalNode scene state.points n)
-        → best_node scene limit state ≡ None }
+    ensures some { (goals : List Goal) (limit : ℕ) (state : TreeState) (n : ℕ) → AreNumberedTo limit state.points
+        → best_node goals limit state ≡ Some n → IsBestNode goals state n }
+    ensures from_best { (goals : List Goal) (limit : ℕ) (state : TreeState) (n : ℕ) → AreNumberedTo limit state.points
+        → IsBestNode goals state n → best_node goals limit state ≡ Some n }
+    ensures none { (goals : List Goal) (limit : ℕ) (state : TreeState) → AreNumberedTo limit state.points
+        → best_node goals limit state ≡ None → (n : ℕ) → ¬ IsGoalNode goals state.points n }
+    ensures from_none { (goals : List Goal) (limit : ℕ) (state : TreeState) → ((n : ℕ) → ¬ IsGoalNode goals state.points n)
+        → best_node goals limit state ≡ None }
 {}
 
 /// With kept costs that fall along parents, the chain of a node is the node and the chain of its parent.

@@ -4,7 +4,7 @@ use Rattle.std.proofs.lemmas.List.{length-set, length-take-le}
 use Rattle.std.proofs.Math.Seq.{take-suc}
 use Rattle.plan_model.specs.Clearance.{Clear, ClearAt}
 use Rattle.plan_model.specs.ClosedLaw.{mark_at}
-use Rattle.plan_model.specs.ConfigurationSpace.{ConfigurationSpace}
+use Rattle.plan_model.specs.declared.configuration_spaces.ConfigurationSpace.{ConfigurationSpace}
 use Rattle.plan_model.specs.OrderLaw.{KeepsOrder}
 use Rattle.plan_model.specs.PointsByNumber.{IsFree, StandsAt, node_count, point_of}
 use Rattle.plan_model.specs.Radius.{class_of}

@@ -4,7 +4,7 @@ use Rattle.std.proofs.lemmas.List.Elements.{All-contains}
 use Rattle.kd_shared.specs.Placings.{GoesOnPlacing, IsPlacing, KeepsShare}
 use Rattle.kd_shared.specs.declared.placing.Placing.{Placing}
 use Rattle.plan_model.specs.Clearance.{Clear}
-use Rattle.plan_model.specs.ConfigurationSpace.{ConfigurationSpace}
+use Rattle.plan_model.specs.declared.configuration_spaces.ConfigurationSpace.{ConfigurationSpace}
 use Rattle.plan_model.specs.ClosedLaw.{mark_at}
 use Rattle.plan_model.specs.Geometry.{squared_distance}
 use Rattle.plan_model.specs.Nearness.{distance_to}

@@ -3,7 +3,7 @@ use Rattle.std.specs.Prelude.{◌≡◌, ◌≢◌, ℕ, suc, ◌∷◌, Some, L
 use Rattle.kd_shared.specs.declared.placing.Placing.{Placing}
 use Rattle.kd_shared.specs.declared.placing.Placing.TheVariants.{Placed, Same}
 use Rattle.plan_model.specs.ClosedLaw.{mark_at}
-use Rattle.plan_model.specs.ConfigurationSpace.{ConfigurationSpace}
+use Rattle.plan_model.specs.declared.configuration_spaces.ConfigurationSpace.{ConfigurationSpace}
 use Rattle.plan_model.specs.LeastPairs.{IsFirstLeast}
 use Rattle.plan_model.specs.OpenNodes.{IsOpenTo}
 use Rattle.plan_model.specs.PointsByNumber.{node_count}

@@ -10,7 +10,8 @@ use Rattle.plan_model.specs.declared.geometry.Point.{Point}
 use Rattle.plan_model.specs.declared.geometry.Vertex.{Vertex}
 use Rattle.plan_model.specs.Meeting.{Meets, weighted}
 use Rattle.plan_model.specs.RoomOfConfigurations.{at_lattice, moved_by, IsBetweenWalls, InRoom}
-use Rattle.plan_model.specs.ConfigurationSpace.{ConfigurationSpace}
+use Rattle.plan_model.specs.declared.configuration_spaces.ConfigurationSpace.{ConfigurationSpace}
+use Rattle.plan_model.specs.ConfigurationSpace.{space_among}
 use Rattle.plan_model.specs.Clearance.{ClearAt}
 use Rattle.planner_main.specs.GeneratedScenes.{lattice_corner, square_at, triangle_at, place_in_cell}
 use Rattle.planner_main.specs.GeneratedScenes.{side_by, obstacle_by, generated_obstacle, generated_obstacles}
@@ -110,7 +111,7 @@ corner_in_room x y f g = record {
 
 -- the configuration space of a generated scene
 abbrev space : ℕ → ConfigurationSpace
-space number = record { room = room; body = body; obstacles = generated_obstacles number }
+space number = space_among room body (generated_obstacles number)
 
 start_in_room : (number : ℕ) → InRoom (space number) (at_lattice start)
 start_in_room number = record {

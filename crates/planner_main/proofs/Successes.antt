@@ -4,7 +4,7 @@ use Rattle.std.specs.Prelude.{is_some}
 use Rattle.plan_model.specs.declared.geometry.Point.{Point}
 use Rattle.plan_model.specs.declared.records.Record.{Record}
 use Rattle.plan_model.specs.declared.scenes.Scene.{Scene}
-use Rattle.plan_model.specs.BestNode.{best_node}
+use Rattle.plan_model.specs.BestNode.{best_node, goals_of}
 use Rattle.plan_model.specs.CanonicalText.{canonical_text}
 use Rattle.plan_model.specs.ConfigurationSpace.{space_of}
 use Rattle.plan_model.specs.Clearance.{ClearAt}
@@ -26,8 +26,8 @@ use Rattle.planner_main.specs.Conclusions.{HasScene, IsSuccess, Report, ReportsG
 pub ReportsGrown-answer :
     (report : Report) (grown : Grown) (done : Done) (text : List ℕ) → grown.limit ≡ length (mark_points grown.task.scene)
     → IsSettled (state_of_grown grown) → done.run ≡ Some grown
-    → done.status ≡ status_of_report (is_some (best_node grown.task.scene grown.limit (state_of_grown grown)))
-    → text ≡ report grown.task.scene grown.limit (state_of_grown grown) → ReportsGrown report grown.task.scene grown done text
+    → done.status ≡ status_of_report (is_some (best_node (goals_of grown.task.scene) grown.limit (state_of_grown grown)))
+    → text ≡ report (goals_of grown.task.scene) grown.limit (state_of_grown grown) → ReportsGrown report grown.task.scene grown done text
 ReportsGrown-answer report grown done text whole settled given status written = record {
   given = given;
   of_scene = refl;

@@ -1,7 +1,7 @@
 -- What was read of a near node says that it is cheaper through a new one.
 use Rattle.std.proofs.Common.{◌≡◌, ℕ, List, get_or, arith, ap, ◌∙◌}
 use Rattle.plan_model.specs.declared.geometry.Point.{Point}
-use Rattle.plan_model.specs.ConfigurationSpace.{ConfigurationSpace}
+use Rattle.plan_model.specs.declared.configuration_spaces.ConfigurationSpace.{ConfigurationSpace}
 use Rattle.plan_model.specs.PointsByNumber.{IsPresent, point_of}
 use Rattle.plan_model.specs.Trees.{points_of}
 use Rattle.plan_model.specs.Textbook.{Nodes, cost_through, IsCheaperThrough}

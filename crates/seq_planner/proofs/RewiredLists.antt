@@ -6,7 +6,7 @@ use Rattle.std.specs.List.Sorted.{IsStrictlyIncreasing}
 use Rattle.std.proofs.lemmas.Bool.{cases_eq, cases_lt}
 use Rattle.std.proofs.lemmas.List.{take_more, get_or-set_other}
 use Rattle.plan_model.specs.declared.trees.Twig.{Twig}
-use Rattle.plan_model.specs.ConfigurationSpace.{ConfigurationSpace}
+use Rattle.plan_model.specs.declared.configuration_spaces.ConfigurationSpace.{ConfigurationSpace}
 use Rattle.plan_model.specs.PointsByNumber.{point_of}
 use Rattle.plan_model.specs.Trees.{points_of}
 use Rattle.plan_model.specs.Textbook.{Nodes, with_parent, RewiresOne, Rewires}

@@ -5,7 +5,7 @@ use Rattle.std.proofs.lemmas.Bool.{cases_eq}
 use Rattle.plan_model.specs.declared.geometry.Point.{Point}
 use Rattle.plan_model.specs.Branches.{IsBranchLowered}
 use Rattle.plan_model.specs.Clearance.{Clear}
-use Rattle.plan_model.specs.ConfigurationSpace.{ConfigurationSpace}
+use Rattle.plan_model.specs.declared.configuration_spaces.ConfigurationSpace.{ConfigurationSpace}
 use Rattle.plan_model.specs.Cost.{cost_of}
 use Rattle.plan_model.specs.PointsByNumber.{IsPresent, point_of, AreDistinct}
 use Rattle.plan_model.specs.Trees.{points_of, parent_of, sum_of}

@@ -1,36 +1,36 @@
 -- The best of the nodes from some number on, one number after another; and that the best node is present.
-use Rattle.std.proofs.Common.{◌≡◌, ℕ, suc, ◌+◌, true, false, filter, Option, Some, None, IfSome, refl, sym}
+use Rattle.std.proofs.Common.{◌≡◌, ℕ, suc, ◌+◌, true, false, List, filter, Option, Some, None, IfSome, refl, sym}
 use Rattle.std.specs.List.{range_with_len}
-use Rattle.plan_model.specs.declared.scenes.Scene.{Scene}
-use Rattle.plan_model.specs.BestNode.{best_node, lies_in_goal}
+use Rattle.plan_model.specs.declared.geometry.Goal.{Goal}
+use Rattle.plan_model.specs.BestNode.{best_node, is_goal_point}
 use Rattle.plan_model.specs.LeastPairs.{first_least, lesser}
 use Rattle.plan_model.specs.PointsByNumber.{IsPresent, point_at}
 use Rattle.plan_model.specs.TreeStates.{TreeState, sum_in}
 use Rattle.plan_model.proofs.BestNodeLaws.{IsPresent-goal}
 use Rattle.plan_model.proofs.LeastPairLaws.{first_least-some}
 
-module _ (scene : Scene) (state : TreeState) where
+module _ (goals : List Goal) (state : TreeState) where
   -- the best of so many nodes from number k on
   abbrev pub best_of : ℕ → ℕ → Option ℕ
-  best_of k count = first_least (sum_in state) (filter (λ n. lies_in_goal scene (point_at state.points n)) (range_with_len k count))
+  best_of k count = first_least (sum_in state) (filter (λ n. is_goal_point goals (point_at state.points n)) (range_with_len k count))
 
   -- a goal node is compared with the best after it
-  pub best_of-goal_node : (k next count rest : ℕ) → next ≡ k + 1 → count ≡ suc rest → lies_in_goal scene (point_at state.points k) ≡ true
+  pub best_of-goal_node : (k next count rest : ℕ) → next ≡ k + 1 → count ≡ suc rest → is_goal_point goals (point_at state.points k) ≡ true
       → best_of k count ≡ Some (lesser (sum_in state) k (best_of next rest))
   best_of-goal_node k next count rest after one_more h = rw (after, one_more, h) refl
 
   -- any other number is passed over
-  pub best_of-other : (k next count rest : ℕ) → next ≡ k + 1 → count ≡ suc rest → lies_in_goal scene (point_at state.points k) ≡ false
+  pub best_of-other : (k next count rest : ℕ) → next ≡ k + 1 → count ≡ suc rest → is_goal_point goals (point_at state.points k) ≡ false
       → best_of k count ≡ best_of next rest
   best_of-other k next count rest after one_more h = rw (after, one_more, h) refl
 
   -- the best of all numbers is the best node
-  pub best_of-all : (limit k count : ℕ) → k ≡ 0 → count ≡ suc limit → best_of k count ≡ best_node scene limit state
+  pub best_of-all : (limit k count : ℕ) → k ≡ 0 → count ≡ suc limit → best_of k count ≡ best_node goals limit state
   best_of-all limit k count first all = rw (first, all) refl
 
   -- the best node is present
-  pub IsPresent-best : (limit : ℕ) (best : Option ℕ) → best ≡ best_node scene limit state → IfSome best (IsPresent state.points)
+  pub IsPresent-best : (limit : ℕ) (best : Option ℕ) → best ≡ best_node goals limit state → IfSome best (IsPresent state.points)
   IsPresent-best limit None is = tt
   IsPresent-best limit (Some n) is =
-      IsPresent-goal scene (point_at state.points n)
-      (first_least-some (sum_in state) (λ i. lies_in_goal scene (point_at state.points i)) (suc limit) n (sym is)).member.1
+      IsPresent-goal goals (point_at state.points n)
+      (first_least-some (sum_in state) (λ i. is_goal_point goals (point_at state.points i)) (suc limit) n (sym is)).member.1

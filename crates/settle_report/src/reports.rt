@@ -1,7 +1,7 @@
-//! The reports of a settled run, as text: its cheapest path into the goal, the counts, and in full its nodes and marks.
+//! The reports of a settled run, as text: its cheapest path into a goal, the counts, and in full its nodes and marks.
 
 ghost use Rattle.std.specs.Prelude.{◌≡◌, ◌++◌, IfOk, IfSome, OnOk, string_bytes};
-ghost use Rattle.plan_model.specs.BestNode.{best_node};
+ghost use Rattle.plan_model.specs.BestNode.{best_node, goals_of};
 ghost use Rattle.plan_model.specs.ClosedLaw.{outcome_count};
 ghost use Rattle.plan_model.specs.Outcomes.{is_blocked, is_placed, is_same};
 ghost use Rattle.plan_model.specs.PointsByNumber.{IsPresent};
@@ -18,7 +18,7 @@ use plan_model::{Memory, Outcome, Point};
 use std::alloc::{AllocError, Global};
 use step_core::Grown;
 
-/// The report of a settled run. The short one is the cheapest path from the start into the goal, or that there is none, and
+/// The report of a settled run. The short one is the cheapest path from the start into a goal, or that there is none, and
 /// how many nodes and marks of each outcome there are; the full one has a line for each node and for each mark besides. Costs
 /// are in 256ths of a lattice step. O(n) for n marks below the limit.
 ///
@@ -27,7 +27,7 @@ use step_core::Grown;
 /// `Memory` if out of memory for the path or the text.
 pub fn report(alloc: Global, grown: &Grown, full: bool) -> Result<Vec<u8>, Memory>
     requires { IsSettled (state_of_grown grown.now) }
-    ensures { IfOk result (λ text. text.items ≡ report_text full grown.now.task.scene grown.now.limit (state_of_grown grown.now)) }
+    ensures { IfOk result (λ text. text.items ≡ report_text full (goals_of grown.now.task.scene) grown.now.limit (state_of_grown grown.now)) }
 {
     report_by_best(alloc, grown, best(grown), full)
 }
@@ -44,8 +44,8 @@ pub fn report_by_best(
     full: bool,
 ) -> Result<Vec<u8>, Memory>
     requires settled { IsSettled (state_of_grown grown.now) }
-    requires best { best ≡ best_node grown.now.task.scene grown.now.limit (state_of_grown grown.now) }
-    ensures { IfOk result (λ text. text.items ≡ report_text full grown.now.task.scene grown.now.limit (state_of_grown grown.now)) }
+    requires best { best ≡ best_node (goals_of grown.now.task.scene) grown.now.limit (state_of_grown grown.now) }
+    ensures { IfOk result (λ text. text.items ≡ report_text full (goals_of grown.now.task.scene) grown.now.limit (state_of_grown grown.now)) }
 {
     let mut text = String::new(alloc);
     let path = best_path(alloc, grown, best)?;
@@ -66,7 +66,7 @@ pub fn report_by_best(
 /// `Memory` if out of memory for the path or the text.
 pub fn summary(alloc: Global, grown: &Grown) -> Result<Vec<u8>, Memory>
     requires { IsSettled (state_of_grown grown.now) }
-    ensures { IfOk result (λ text. text.items ≡ summary grown.now.task.scene grown.now.limit (state_of_grown grown.now)) }
+    ensures { IfOk result (λ text. text.items ≡ summary (goals_of grown.now.task.scene) grown.now.limit (state_of_grown grown.now)) }
 {
     summary_by_best(alloc, grown, best(grown))
 }
@@ -78,8 +78,8 @@ pub fn summary(alloc: Global, grown: &Grown) -> Result<Vec<u8>, Memory>
 /// `Memory` if out of memory for the path or the text.
 pub fn summary_by_best(alloc: Global, grown: &Grown, best: Option<u32>) -> Result<Vec<u8>, Memory>
     requires settled { IsSettled (state_of_grown grown.now) }
-    requires best { best ≡ best_node grown.now.task.scene grown.now.limit (state_of_grown grown.now) }
-    ensures { IfOk result (λ text. text.items ≡ summary grown.now.task.scene grown.now.limit (state_of_grown grown.now)) }
+    requires best { best ≡ best_node (goals_of grown.now.task.scene) grown.now.limit (state_of_grown grown.now) }
+    ensures { IfOk result (λ text. text.items ≡ summary (goals_of grown.now.task.scene) grown.now.limit (state_of_grown grown.now)) }
 {
     let mut text = String::new(alloc);
     push_head_line(&mut text, grown, best, &best_path(alloc, grown, best)?)?;

@@ -2,6 +2,7 @@
 use Rattle.std.specs.Prelude.{◌≡◌, ℕ, ◌<◌, ◌≤◌, ◌==◌, Bool, false, Option, Some, None, List, [], count_by, length}
 use Rattle.plan_model.specs.Bounds.{IsBounded}
 use Rattle.plan_model.specs.ClosedLaw.{mark_at}
+use Rattle.plan_model.specs.ConfigurationSpace.{space_among, space_of}
 use Rattle.plan_model.specs.SeenTrees.{SeenTree}
 use Rattle.plan_model.specs.Textbook.{Setup}
 use Rattle.plan_model.specs.declared.limits.TheConstants.{MOST_MARKS, MOST_STEERING_STEP, MOST_STRIPS, MOST_WORKERS}
@@ -20,9 +21,7 @@ use Rattle.step_core.specs.declared.views.View.{View}
 abbrev pub run_of : Task → ℕ → ℕ → SharedRun
 run_of task workers opening =
     record {
-      room = task.scene.room;
-      body = task.scene.body;
-      obstacles = task.scene.obstacles;
+      space = space_of task.scene;
       start = task.scene.start;
       step = task.scene.step;
       gamma = task.scene.gamma;
@@ -35,7 +34,7 @@ run_of task workers opening =
 -- what the tree depends on besides the marks
 abbrev pub setup_in : SharedRun → Setup
 setup_in run =
-    record { space = record { room = run.room; body = run.body; obstacles = run.obstacles }; start = run.start; step = run.step; gamma = run.gamma }
+    record { space = run.space; start = run.start; step = run.step; gamma = run.gamma }
 
 -- how many strips and marks it has
 abbrev pub run_sizes : SharedRun → Sizes
@@ -112,9 +111,7 @@ pub record IsViewOf (run : SharedRun) (view : View) : Type 0 where
 abbrev pub no_run : SharedRun
 no_run =
     record {
-      room = record { x = 0; y = 0 };
-      body = [];
-      obstacles = [];
+      space = space_among (record { x = 0; y = 0 }) [] [];
       start = record { x = 0; y = 0 };
       step = 0;
       gamma = 0;

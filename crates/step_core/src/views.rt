@@ -1,17 +1,13 @@
 //! What each pass over a shared run knows and has in hand: its view, of which the law of worlds (`specs/Worlds`) speaks. No
 //! program makes a view; a table of words keeps them for the proofs alone.
 
-use plan_model::{Point, Points, Poly, Polys};
+use plan_model::{ConfigurationSpace, Point, Points};
 use std::collections::LinkedList;
 
 /// What a shared run is told once: of the scene what planning asks for, and who plans.
 pub struct SharedRun {
-    /// The upper right corner of the room.
-    pub room: Point,
-    /// The body, by its corners.
-    pub body: Poly,
-    /// The obstacles.
-    pub obstacles: Polys,
+    /// The room, the body and the obstacles.
+    pub space: ConfigurationSpace,
     /// The point of node 0.
     pub start: Point,
     /// The length of the longest edge, in lattice steps.

@@ -7,7 +7,7 @@ ghost use Rattle.plan_model.specs.RoomOfConfigurations.{InRoom, at_lattice};
 use crate::clearing::Clearing;
 use crate::zone_crossings::crosses_none;
 use convex_sets::Zone;
-use plan_model::{Memory, Point, Poly, Polys, RoomSpans, Scene, Sequence};
+use plan_model::{ConfigurationSpace, Memory, Point, RoomSpans, Scene};
 use std::alloc::Global;
 use std::marker::Model;
 
@@ -27,15 +27,13 @@ use std::marker::Model;
 /// ```
 #[derive(Debug, Drop)]
 pub struct Hall {
-    room: Point,
-    body: Poly,
-    obstacles: Polys,
+    space: ConfigurationSpace,
     zones: Vec<Zone>,
     spans: RoomSpans,
 }
 
 impl Model for Hall {
-    ghost use Rattle.plan_model.specs.ConfigurationSpace.{ConfigurationSpace};
+    ghost use Rattle.plan_model.specs.declared.configuration_spaces.ConfigurationSpace.{ConfigurationSpace};
     ghost use Rattle.plan_model.specs.declared.limits.TheConstants.{MOST_COORDINATE};
     ghost use Rattle.swept_check.specs.Halls.{AreZonesOf};
     ghost use Rattle.plan_model.specs.SpansOfRooms.{AreSpansOf};
@@ -43,13 +41,13 @@ impl Model for Hall {
 
     ghost Value = { ConfigurationSpace };
 
-    ghost view = { λ h. record { room = h.room; body = h.body; obstacles = h.obstacles } };
+    ghost view = { λ h. h.space };
 
     ghost invariant = { λ h. record {
-      zones : AreZonesOf h.body h.obstacles h.zones.items;
-      spans : AreSpansOf h.room h.body h.spans;
-      right : h.room.x ≤ MOST_COORDINATE;
-      top : h.room.y ≤ MOST_COORDINATE;
+      zones : AreZonesOf h.space.body h.space.obstacles h.zones.items;
+      spans : AreSpansOf h.space.room h.space.body h.spans;
+      right : h.space.room.x ≤ MOST_COORDINATE;
+      top : h.space.room.y ≤ MOST_COORDINATE;
     } };
 }
 
@@ -68,15 +66,11 @@ impl Hall {
         ensures { IfOk result (λ hall. hall ≡ space_of scene.now) }
     {
         let mut zones = Vec::new(alloc);
-        let mut obstacles = Vec::new(alloc);
         for obstacle in scene.obstacles.as_slice() {
             zones.push(Zone::sum(alloc, &scene.body, obstacle)?)?;
-            obstacles.push(copied(alloc, obstacle)?)?;
         }
         Ok(Hall {
-            room: scene.room,
-            body: copied(alloc, &scene.body)?,
-            obstacles: Sequence::from_vec(obstacles),
+            space: ConfigurationSpace::of(alloc, scene)?,
             zones,
             spans: RoomSpans::new(scene.room, scene.body.as_slice()),
         })
@@ -122,13 +116,6 @@ impl Clearing for Hall {
 
     fn room_is_bounded(&self) {
         // Its invariant is known once a field is read.
-        let _room = self.room;
+        let _room = self.space.room;
     }
-}
-
-/// A copy of a polygon.
-fn copied(alloc: Global, polygon: &Poly) -> Result<Poly, Memory>
-    ensures { IfOk result (λ copy. copy ≡ polygon.now) }
-{
-    Ok(Sequence::from_vec(polygon.as_slice().to_vec(alloc)?))
 }

@@ -4,7 +4,7 @@ use Rattle.std.specs.Prelude.{unwrap_or}
 use Rattle.std.proofs.lemmas.Bool.{cases_eq}
 use Rattle.plan_model.specs.declared.geometry.Point.{Point}
 use Rattle.plan_model.specs.Clearance.{Clear}
-use Rattle.plan_model.specs.ConfigurationSpace.{ConfigurationSpace}
+use Rattle.plan_model.specs.declared.configuration_spaces.ConfigurationSpace.{ConfigurationSpace}
 use Rattle.plan_model.specs.Cost.{cost_of}
 use Rattle.plan_model.specs.PointsByNumber.{IsPresent, point_at, point_of}
 use Rattle.plan_model.specs.Textbook.{IsCheaperThrough, Nodes, RewiresOne, Rewires, with_parent}

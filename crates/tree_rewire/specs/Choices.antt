@@ -3,7 +3,7 @@ use Rattle.std.specs.Prelude.{◌≡◌, ◌⊎◌, ℕ}
 use Rattle.edge_cost.specs.declared.parents.Parent.{Parent}
 use Rattle.plan_model.specs.declared.geometry.Point.{Point}
 use Rattle.plan_model.specs.Clearance.{Clear}
-use Rattle.plan_model.specs.ConfigurationSpace.{ConfigurationSpace}
+use Rattle.plan_model.specs.declared.configuration_spaces.ConfigurationSpace.{ConfigurationSpace}
 use Rattle.plan_model.specs.LeastPairs.{IsNotAbove}
 use Rattle.plan_model.specs.PointsByNumber.{point_of}
 use Rattle.step_core.specs.Views.{tree_seen}

@@ -1,7 +1,7 @@
 //! What it means that lowered costs were spread. Each law is the contract of a function that does nothing.
 
 ghost use Rattle.std.specs.Prelude.{◌≡◌, ℕ, ◌+◌, ◌<◌, ◌≤◌, Contains, List};
-ghost use Rattle.plan_model.specs.ConfigurationSpace.{ConfigurationSpace};
+ghost use Rattle.plan_model.specs.declared.configuration_spaces.ConfigurationSpace.{ConfigurationSpace};
 ghost use Rattle.plan_model.specs.Cost.{cost_of};
 ghost use Rattle.plan_model.specs.PointsByNumber.{point_of};
 ghost use Rattle.step_core.specs.Views.{tree_seen};

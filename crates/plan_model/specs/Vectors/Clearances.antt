@@ -1,7 +1,8 @@
 -- Points and segments of a point body beside a square.
 use Rattle.std.specs.Prelude.{List, [], ◌∷◌}
 use Rattle.plan_model.specs.declared.geometry.Vertex.{Vertex}
-use Rattle.plan_model.specs.ConfigurationSpace.{ConfigurationSpace}
+use Rattle.plan_model.specs.declared.configuration_spaces.ConfigurationSpace.{ConfigurationSpace}
+use Rattle.plan_model.specs.ConfigurationSpace.{space_among}
 use Rattle.plan_model.specs.Clearance.{ClearAt, Clear}
 use Rattle.plan_model.specs.Vectors.Shapes.{at, corner}
 
@@ -9,7 +10,7 @@ abbrev pub square : List Vertex
 square = corner 10 10 ∷ corner 20 10 ∷ corner 20 20 ∷ corner 10 20 ∷ []
 
 abbrev pub beside_square : ConfigurationSpace
-beside_square = record { room = at 30 30; body = corner 0 0 ∷ []; obstacles = square ∷ [] }
+beside_square = space_among (at 30 30) (corner 0 0 ∷ []) (square ∷ [])
 
 pub record ClearanceVectors : Type 0 where
   pub beside : ClearAt beside_square (at 9 11)

@@ -2,7 +2,8 @@
 use Rattle.std.specs.Prelude.{◌≡◌, List, pos, neg_ℤ, [], ◌∷◌}
 use Rattle.std.proofs.Math.Nat.{le_refl}
 use Rattle.plan_model.specs.declared.geometry.Vertex.{Vertex}
-use Rattle.plan_model.specs.ConfigurationSpace.{ConfigurationSpace}
+use Rattle.plan_model.specs.declared.configuration_spaces.ConfigurationSpace.{ConfigurationSpace}
+use Rattle.plan_model.specs.ConfigurationSpace.{space_among}
 use Rattle.plan_model.specs.RoomOfConfigurations.{at_lattice, InRoom, scaled}
 use Rattle.plan_model.specs.Clearance.{on_the_way}
 use Rattle.plan_model.specs.Vectors.Shapes.{at, corner, corner_below, two_is_positive, halves}
@@ -11,7 +12,7 @@ abbrev pub triangle : List Vertex
 triangle = corner 0 0 ∷ corner 4 0 ∷ corner 0 4 ∷ []
 
 abbrev pub ten_by_ten : List Vertex → ConfigurationSpace
-ten_by_ten body = record { room = at 10 10; body = body; obstacles = [] }
+ten_by_ten body = space_among (at 10 10) body []
 
 pub record RoomVectors : Type 0 where
   -- the corners of the body touch two walls

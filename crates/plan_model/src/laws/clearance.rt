@@ -2,7 +2,7 @@
 
 ghost use Rattle.std.specs.Prelude.{ℕ, List, ◌<◌, ◌↔◌};
 ghost use Rattle.plan_model.specs.Clearance.{Clear, ClearAt, IsClear};
-ghost use Rattle.plan_model.specs.ConfigurationSpace.{ConfigurationSpace};
+ghost use Rattle.plan_model.specs.declared.configuration_spaces.ConfigurationSpace.{ConfigurationSpace};
 ghost use Rattle.plan_model.specs.MarkPoints.{BodyFits, IsInSpan, columns, rows};
 ghost use Rattle.plan_model.specs.Meeting.{Meets};
 ghost use Rattle.plan_model.specs.RoomOfConfigurations.{InRoom, IsSamePoint, Rational, at_lattice, scaled};

@@ -4,7 +4,7 @@ use Rattle.std.specs.Prelude.{codes}
 use Rattle.std.specs.Fmt.{digits}
 use Rattle.plan_model.specs.declared.scenes.Scene.{Scene}
 use Rattle.plan_model.specs.TreeStates.{TreeState, state_of}
-use Rattle.plan_model.specs.BestNode.{best_node}
+use Rattle.plan_model.specs.BestNode.{best_node, goals_of}
 use Rattle.plan_model.specs.ReportText.{head_line, best_path, point_lines, counts_line, node_lines, mark_lines}
 use Rattle.plan_model.specs.Vectors.Reports.{box}
 use Rattle.plan_model.specs.Vectors.Runs.{rewired_tree, rewired_records, rewired_text, kept_tree, kept_records, kept_text}
@@ -20,7 +20,7 @@ joined e f = cc
 abbrev pub path_part : TreeState → Option ℕ → List ℕ
 path_part state best = head_line state best ++ point_lines (best_path state best)
 
-rewired_best : (scene : Scene) → scene.goal ≡ box 40 79 40 79 → best_node scene 3 (state_of rewired_tree rewired_records) ≡ Some 2
+rewired_best : (scene : Scene) → scene.goal ≡ box 40 79 40 79 → best_node (goals_of scene) 3 (state_of rewired_tree rewired_records) ≡ Some 2
 rewired_best scene e = rw e refl
 
 rewired_path : path_part (state_of rewired_tree rewired_records) (Some 2) ≡ codes "path 3 cost 25344\n0 0\n40 30\n40 79\n"
@@ -50,7 +50,7 @@ rewired_report : ((path_part (state_of rewired_tree rewired_records) (Some 2) ++
     ++ node_lines 3 (state_of rewired_tree rewired_records)) ++ mark_lines 3 (state_of rewired_tree rewired_records) ≡ rewired_text
 rewired_report = joined (joined (joined rewired_path rewired_counts) rewired_nodes) rewired_marks
 
-kept_best : (scene : Scene) → scene.goal ≡ box 40 80 40 80 → best_node scene 3 (state_of kept_tree kept_records) ≡ Some 2
+kept_best : (scene : Scene) → scene.goal ≡ box 40 80 40 80 → best_node (goals_of scene) 3 (state_of kept_tree kept_records) ≡ Some 2
 kept_best scene e = rw e refl
 
 kept_path : path_part (state_of kept_tree kept_records) (Some 2) ≡ codes "path 3 cost 25600\n0 0\n0 50\n40 80\n"

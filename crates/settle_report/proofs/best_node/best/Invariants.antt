@@ -1,5 +1,6 @@
 use Rattle.std.proofs.Common.{◌≡◌, ◌+◌, ◌-◌}
 use Rattle.std.specs.Prelude.{IfSome}
+use Rattle.plan_model.specs.BestNode.{goals_of}
 use Rattle.plan_model.specs.PointsByNumber.{IsPresent}
 use Rattle.step_core.specs.GrownRuns.{state_of_grown}
 use Rattle.settle_report.proofs.GoalNodes.{best_of}
@@ -8,6 +9,6 @@ use Rattle.settle_report.proofs.best_node.best.Given as goal
 -- the best of the nodes from here on
 abbrev pub invariant-loop-node : goal.invariant-loop-node
 invariant-loop-node l = record {
-  least : l.best ≡ best_of l.grown.task.scene (state_of_grown l.grown) l.node (l.grown.limit + 1 - l.node);
+  least : l.best ≡ best_of (goals_of l.grown.task.scene) (state_of_grown l.grown) l.node (l.grown.limit + 1 - l.node);
   present : IfSome l.best (IsPresent (state_of_grown l.grown).points);
 }

@@ -1,7 +1,8 @@
 use Rattle.std.proofs.Common.{◌≡◌, ℕ, List, ◌∷◌, true, arith, rules, sym, ap, ◌∙◌, subst}
 use Rattle.std.specs.Prelude.{All}
 use Rattle.plan_model.specs.declared.geometry.Point.{Point}
-use Rattle.plan_model.specs.ConfigurationSpace.{ConfigurationSpace, space_of}
+use Rattle.plan_model.specs.declared.configuration_spaces.ConfigurationSpace.{ConfigurationSpace}
+use Rattle.plan_model.specs.ConfigurationSpace.{space_of}
 use Rattle.plan_model.specs.Clearance.{Clear}
 use Rattle.edge_cost.specs.LeastParents.{IsLeastParent}
 use Rattle.plan_model.specs.Nearness.{near}

@@ -1,7 +1,6 @@
 use Rattle.std.proofs.Common.{◌↔◌, arith}
 use Rattle.std.proofs.lemmas.Int.{ints}
 use Rattle.std.specs.Prelude.{IsTrue}
-use Rattle.plan_model.specs.ConfigurationSpace.{ConfigurationSpace}
 use Rattle.plan_model.specs.RoomOfConfigurations.{InRoom, at_lattice}
 use Rattle.swept_check.proofs.RoomLaws.{in_room_of_spans, columns_of_in_room, rows_of_in_room}
 use Rattle.swept_check.proofs.hall.Hall.is_in_room.Goals as goal
@@ -13,7 +12,7 @@ returns c =
     let spans = c.self.invariant.spans in
     let right = c.self.invariant.right in
     let top = c.self.invariant.top in
-    let space : ConfigurationSpace = record { room = h.room; body = h.body; obstacles = h.obstacles } in
+    let space = h.space in
     let room : IsTrue c.contains.result ↔ InRoom space (at_lattice p) = (
       λ t. (let parts = c.contains.ensures.0 t in in_room_of_spans space h.spans p spans parts.0 parts.1),
       λ room. c.contains.ensures.1 (columns_of_in_room space h.spans p spans room, rows_of_in_room space h.spans p spans room),

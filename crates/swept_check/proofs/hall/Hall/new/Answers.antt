@@ -1,5 +1,5 @@
 use Rattle.std.proofs.Common.{◌≡◌, ◌<◌, [], length, get_or, arith, ◌∙◌}
-use Rattle.std.proofs.lemmas.List.{get_or_default, take_more}
+use Rattle.std.proofs.lemmas.List.{get_or_default}
 use Rattle.swept_check.proofs.SceneSummands.{obstacle_within, AreFirstZones-more}
 use Rattle.swept_check.proofs.hall.Hall.new.Goals as goal
 
@@ -23,9 +23,5 @@ loop-obstacle-preserved c =
     let l : i < length scene.obstacles = rw items at within in
     let item : c.obstacle-item.result ≡ get_or c.as_slice-obstacle-items.result.now i [] = c.obstacle-item.is ∙ get_or_default _ i _ [] within in
     let is : c.obstacle-item.result ≡ get_or scene.obstacles i [] = rw items at item in
-    let copy = c.in_ok-push-2.ensures.items in
-    record {
-      zones = AreFirstZones-more scene.body scene.obstacles c.loop-obstacle.zones.items c.push.new.self.items i _ c.loop-obstacle.invariant.zones
-          c.in_ok-push.ensures.items (rw is at c.in_ok-sum.ensures.zone);
-      copies = rw (c.loop-obstacle.invariant.copies, c.in_ok-copied.ensures, is, ← take_more scene.obstacles i [] l) at copy;
-    }
+    AreFirstZones-more scene.body scene.obstacles c.loop-obstacle.zones.items c.push.new.self.items i _ c.loop-obstacle.invariant
+    c.in_ok-push.ensures.items (rw is at c.in_ok-sum.ensures.zone)

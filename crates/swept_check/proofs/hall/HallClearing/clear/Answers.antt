@@ -1,6 +1,5 @@
 use Rattle.std.proofs.Common.{◌↔◌, refl}
 use Rattle.std.specs.Prelude.{IsTrue}
-use Rattle.plan_model.specs.ConfigurationSpace.{ConfigurationSpace}
 use Rattle.plan_model.specs.RoomOfConfigurations.{InRoom, at_lattice}
 use Rattle.swept_check.proofs.HallLaws.{CrossesNone, crosses_none, clear_of, first_in_room, last_in_room}
 use Rattle.swept_check.proofs.hall.HallClearing.clear.Goals as goal
@@ -26,7 +25,7 @@ returns c =
     let h = c.self.inside in
     let a = c.args.a in
     let b = c.args.b in
-    let space : ConfigurationSpace = record { room = h.room; body = h.body; obstacles = h.obstacles } in
+    let space = h.space in
     let first : InRoom space (at_lattice a) = rw (← c.self.view_is) at (c.if-not-is_in_room.ensures.room.0 refl) in
     let last : InRoom space (at_lattice b) = rw (← c.self.view_is) at (c.if-not-is_in_room-2.ensures.room.0 refl) in
     let none : IsTrue c.crosses_none.result ↔ CrossesNone h.zones.items a b = rw c.as_slice.ensures.value at c.crosses_none.ensures in
