@@ -2,8 +2,8 @@
 use Rattle.std.proofs.Common.{◌≡◌, ℕ, ◌≤◌, List, arith, sym, ap, ◌∙◌, subst}
 use Rattle.std.specs.Prelude.{IsTrue}
 use Rattle.plan_model.specs.declared.geometry.Point.{Point}
-use Rattle.plan_model.specs.declared.scenes.Scene.{Scene}
-use Rattle.plan_model.specs.BestNode.{IsBestNode, IsGoalNode, lies_in_goal}
+use Rattle.plan_model.specs.declared.geometry.Goal.{Goal}
+use Rattle.plan_model.specs.BestNode.{IsBestNode, IsGoalNode, is_goal_point}
 use Rattle.plan_model.specs.Clearance.{ClearAt}
 use Rattle.plan_model.specs.PointsByNumber.{IsPresent, point_at}
 use Rattle.plan_model.specs.SameRuns.{IsOfTextbookRun}
@@ -27,21 +27,21 @@ sum_in-grows before after grows settled settled_after n here =
 
 -- goal nodes stay
 pub IsGoalNode-grows :
-    (scene : Scene) (before after : TreeState) → GrowsInto before after
-    → (n : ℕ) → IsGoalNode scene before.points n → IsGoalNode scene after.points n
-IsGoalNode-grows scene before after grows n goal =
-    subst (λ o. IsTrue (lies_in_goal scene o)) (sym (point_at-grows before after grows n (IsPresent-goal scene (point_at before.points n) goal))) goal
+    (goals : List Goal) (before after : TreeState) → GrowsInto before after
+    → (n : ℕ) → IsGoalNode goals before.points n → IsGoalNode goals after.points n
+IsGoalNode-grows goals before after grows n goal =
+    subst (λ o. IsTrue (is_goal_point goals o)) (sym (point_at-grows before after grows n (IsPresent-goal goals (point_at before.points n) goal))) goal
 
 le-through : (l m n : ℕ) → l ≤ m → m ≤ n → l ≤ n
 le-through l m n f g = omega arith
 
 -- the best sum does not rise
 pub best_sum-grows :
-    (scene : Scene) (before after : TreeState) (m n : ℕ) → GrowsInto before after → IsSettled before → IsSettled after
-    → IsBestNode scene before m → IsBestNode scene after n → sum_in after n ≤ sum_in before m
-best_sum-grows scene before after m n grows settled settled_after best best_after =
-    le-through _ _ _ (best_after.not_above m (IsGoalNode-grows scene before after grows m best.member)).least
-    (sum_in-grows before after grows settled settled_after m (IsPresent-goal scene (point_at before.points m) best.member))
+    (goals : List Goal) (before after : TreeState) (m n : ℕ) → GrowsInto before after → IsSettled before → IsSettled after
+    → IsBestNode goals before m → IsBestNode goals after n → sum_in after n ≤ sum_in before m
+best_sum-grows goals before after m n grows settled settled_after best best_after =
+    le-through _ _ _ (best_after.not_above m (IsGoalNode-grows goals before after grows m best.member)).least
+    (sum_in-grows before after grows settled settled_after m (IsPresent-goal goals (point_at before.points m) best.member))
 
 -- The tree of a textbook run stays one when it is settled, since its costs are the sums already.
 pub IsOfTextbookRun-settled :

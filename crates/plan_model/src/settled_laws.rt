@@ -8,17 +8,17 @@ ghost use Rattle.plan_model.specs.SameRuns.{IsOfTextbookRun};
 ghost use Rattle.plan_model.specs.Textbook.{Setup};
 ghost use Rattle.plan_model.specs.TreeStates.{ChangesCosts, GrowsInto, IsSettled, TreeState, sum_in};
 ghost use Rattle.plan_model.specs.declared.geometry.Point.{Point};
-ghost use Rattle.plan_model.specs.declared.scenes.Scene.{Scene};
+ghost use Rattle.plan_model.specs.declared.geometry.Goal.{Goal};
 
 /// If a settled run grows into a settled one, no node's sum rises, goal nodes stay, and the best node of the later run has no greater
 /// sum than that of the earlier.
 pub fn sums_of_settled_runs_fall()
     ensures sums { (before after : TreeState) → GrowsInto before after → IsSettled before → IsSettled after
         → (n : ℕ) → IsPresent before.points n → sum_in after n ≤ sum_in before n }
-    ensures goals { (scene : Scene) (before after : TreeState) → GrowsInto before after
-        → (n : ℕ) → IsGoalNode scene before.points n → IsGoalNode scene after.points n }
-    ensures best { (scene : Scene) (before after : TreeState) (m n : ℕ) → GrowsInto before after → IsSettled before → IsSettled after
-        → IsBestNode scene before m → IsBestNode scene after n → sum_in after n ≤ sum_in before m }
+    ensures goals { (goals : List Goal) (before after : TreeState) → GrowsInto before after
+        → (n : ℕ) → IsGoalNode goals before.points n → IsGoalNode goals after.points n }
+    ensures best { (goals : List Goal) (before after : TreeState) (m n : ℕ) → GrowsInto before after → IsSettled before → IsSettled after
+        → IsBestNode goals before m → IsBestNode goals after n → sum_in after n ≤ sum_in before m }
 {}
 
 /// A tree of a textbook run from a clear start is one still once its costs are settled.

@@ -20,7 +20,7 @@ use Rattle.step_core.specs.GrownRuns.{state_of_grown}
 use Rattle.planner_main.specs.declared.commands.Command.TheVariants as commands
 use Rattle.planner_main.specs.declared.statuses.TheConstants.{DONE}
 use Rattle.planner_main.specs.declared.top_call.Done.{Done}
-use Rattle.planner_main.specs.Conclusions.{HasScene, IsSuccess, Report, ReportsGrown, ReportsScene, status_of_report}
+use Rattle.planner_main.specs.Conclusions.{HandsOutNothing, HasScene, IsSuccess, Report, ReportsGrown, ReportsScene, status_of_report}
 
 -- a settled run over all marks of its scene is reported by its status and such a text; that it is closed, its type says
 pub ReportsGrown-answer :
@@ -91,12 +91,12 @@ module _ (before now : SourceState) (scene : Scene) (done : Done) (text : List �
     };
   }
 
-  pub IsSuccess-shown : HasScene before now scene → done.status ≡ DONE → done.run ≡ None → text ≡ canonical_text scene →
+  pub IsSuccess-shown : HasScene before now scene → done.status ≡ DONE → HandsOutNothing done → text ≡ canonical_text scene →
       IsSuccess (Some commands.Show) before now done text
-  IsSuccess-shown h shown no_run written = record {
+  IsSuccess-shown h shown nothing written = record {
     command = commands.Show;
     known = refl;
     bytes = h.bytes;
     read = h.read;
-    meaning = record { scene = scene; spelled = h.spelled; written = written; shown = shown; no_run = no_run };
+    meaning = record { scene = scene; spelled = h.spelled; written = written; shown = shown; nothing = nothing };
   }

@@ -33,6 +33,10 @@ use Rattle.planner_main.specs.GeneratedScenes.{IsGenerated}
 use Rattle.planner_main.specs.Exchanges.{IsReadWhole, IsUnread, IsReadFault, IsTooLong, NoReadFailed}
 use Rattle.planner_main.specs.Refusals.{status_of, line_of}
 
+-- nothing is handed out beside the status
+abbrev pub HandsOutNothing : Done → Type 0
+HandsOutNothing done = done.run ≡ None
+
 -- the bytes are a text of a permitted length that spells the scene
 pub record IsTextOf (scene : Scene) (bytes : List ℕ) : Type 0 where
   pub short : length bytes ≤ MOST_TEXT_BYTES
@@ -93,7 +97,7 @@ pub record ShowsScene (bytes : List ℕ) (done : Done) (text : List ℕ) : Type 
   pub spelled : IsTextOf scene bytes
   pub written : text ≡ canonical_text scene
   pub shown : done.status ≡ DONE
-  pub no_run : done.run ≡ None
+  pub nothing : HandsOutNothing done
 
 -- the text is the canonical text of the generated scene of a number
 pub record WritesGenerated (number : ℕ) (done : Done) (text : List ℕ) : Type 0 where
@@ -101,7 +105,7 @@ pub record WritesGenerated (number : ℕ) (done : Done) (text : List ℕ) : Type
   pub generated : IsGenerated number scene
   pub written : text ≡ canonical_text scene
   pub status : done.status ≡ DONE
-  pub no_run : done.run ≡ None
+  pub nothing : HandsOutNothing done
 
 -- the text is the summary of the textbook run of the generated scene of a number, whose start is clear
 pub record TriesGenerated (number : ℕ) (done : Done) (text : List ℕ) : Type 0 where
@@ -168,7 +172,7 @@ pub record IsRefusal (asked : Option Command) (before now : SourceState) (done :
   pub refusal : Refusal
   pub cause : IsCaused asked before now refusal
   pub status : done.status ≡ status_of refusal
-  pub no_run : done.run ≡ None
+  pub nothing : HandsOutNothing done
   pub written : text ≡ line_of refusal
 
 -- The answer of the program, before it is written: to the words, from the source before and after it was read, what is done,

@@ -13,7 +13,8 @@ ghost use Rattle.plan_model.specs.Textbook.{setup_of};
 ghost use Rattle.plan_model.specs.TreeStates.{IsSettled};
 ghost use Rattle.scene_text.specs.Fetching.{ReadsWithin};
 ghost use Rattle.planner_main.specs.Commands.{command_of, reads_scene, IsNumbered};
-ghost use Rattle.planner_main.specs.Conclusions.{Answers, IsCaused, HasScene, ReportsGrown, WritesGenerated, TriesGenerated, status_of_report};
+ghost use Rattle.planner_main.specs.Conclusions.{Answers, IsCaused, HandsOutNothing, HasScene, ReportsGrown, WritesGenerated, TriesGenerated};
+ghost use Rattle.planner_main.specs.Conclusions.{status_of_report};
 ghost use Rattle.planner_main.specs.declared.generated_scenes.TheConstants.{MOST_GENERATED};
 ghost use Rattle.planner_main.specs.declared.statuses.TheConstants.{DONE};
 ghost use Rattle.step_core.specs.GrownRuns.{state_of_grown};
@@ -228,26 +229,22 @@ fn answer_of(grown: Grown, best: Option<u32>, text: Vec<u8>) -> Answer
     ensures run { result.done.run ≡ Some grown }
     ensures text { result.text ≡ text }
 {
-    Answer {
-        done: Done {
-            status: if best.is_some() { DONE } else { NO_PATH },
-            run: Some(grown),
-        },
-        text,
-    }
+    let status = if best.is_some() { DONE } else { NO_PATH };
+    let done = Done {
+        run: Some(grown),
+        ..Done::with_status(status)
+    };
+    Answer { done, text }
 }
 
 /// The answer of a command that makes a text and no run.
 fn answer_without_run(text: Vec<u8>) -> Answer
     ensures status { result.done.status ≡ DONE }
-    ensures run { result.done.run ≡ None }
+    ensures nothing { HandsOutNothing result.done }
     ensures text { result.text ≡ text }
 {
     Answer {
-        done: Done {
-            status: DONE,
-            run: None,
-        },
+        done: Done::with_status(DONE),
         text,
     }
 }

@@ -1,12 +1,13 @@
 //! The exit code of the program, from the words of its command line.
 
-ghost use Rattle.std.specs.Prelude.{◌≡◌, ◌⊎◌, false, Option, IfOk, IsErr};
+ghost use Rattle.std.specs.Prelude.{◌≡◌, ◌⊎◌, false, Option, IfOk, IsErr, IsOk};
 ghost use Rattle.std.specs.Process.{exit_status};
 ghost use Rattle.step_core.specs.declared.grown.Grown.{Grown};
-ghost use Rattle.planner_main.specs.CommandLines.{given, words_after_name, IsOutOfMemory};
+ghost use Rattle.planner_main.specs.CommandLines.{given, words_after_name, AreNoText, IsOutOfMemory};
 ghost use Rattle.planner_main.specs.Commands.{command_of};
 ghost use Rattle.planner_main.specs.Endings.{HasConcluded};
 ghost use Rattle.planner_main.specs.Exchanges.{IsUnread, IsUnwritten};
+ghost use Rattle.planner_main.specs.declared.statuses.TheConstants.{WORDS_REFUSED, WRITE_FAULT};
 
 use crate::statuses::NO_MEMORY;
 use crate::top_call::run;
@@ -20,7 +21,8 @@ use std::thread::Threads;
 
 /// Runs the program on the arguments that `env::args` gives, and returns the code that it ends with: the status of `run`.
 ///
-/// Arguments that are no text ask for no command. If the program is out of memory for the words, the code is
+/// Arguments that are no text, which `env::args` tells by an error of another kind than `OutOfMemory`, ask for no command: they
+/// are refused with `WORDS_REFUSED`, or with `WRITE_FAULT` if the sink fails. If the program is out of memory for the words, the code is
 /// `NO_MEMORY`, and nothing is read or written. The source has not given its end.
 pub fn exit_code<R: Threads + Sync, S: Source, K: Sink>(
     rt: &R,
@@ -36,6 +38,8 @@ pub fn exit_code<R: Threads + Sync, S: Source, K: Sink>(
         ⊎ ((run : Option Grown) × HasConcluded (command_of (words_after_name args)) (S.state source.old) (S.state source.new)
         (K.state sink.old) (K.state sink.new) (record { status = exit_status result; run = run })) }
     ensures no_words { IsOutOfMemory args → exit_status result ≡ NO_MEMORY }
+    // arguments that are no text are refused as words, whatever memory there is, unless the sink fails
+    ensures no_text { AreNoText args → (exit_status result ≡ WORDS_REFUSED) ⊎ (exit_status result ≡ WRITE_FAULT) }
 {
     match words_after_name(alloc, args) {
         Ok(words) => ExitCode::from(run(rt, alloc, &words, source, sink, &NoGate).status),
@@ -47,6 +51,7 @@ pub fn exit_code<R: Threads + Sync, S: Source, K: Sink>(
 fn words_after_name(alloc: Global, args: io::Result<Args>) -> Result<Vec<String>, Memory>
     ensures words { IfOk result (λ words. words.items ≡ given args) }
     ensures no_memory { IsOutOfMemory args → IsErr result }
+    ensures no_text { AreNoText args → IsOk result }
 {
     match args {
         Ok(args) => Ok(args.skip(1).collect(alloc)?),

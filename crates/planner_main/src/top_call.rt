@@ -1,6 +1,7 @@
 //! The top call: everything that the program does, over any source and any sink.
 
 ghost use Rattle.std.specs.Prelude.{◌≡◌, ◌≢◌, false, map, string_bytes};
+ghost use Rattle.planner_main.specs.Conclusions.{HandsOutNothing};
 ghost use Rattle.planner_main.specs.Commands.{command_of};
 ghost use Rattle.planner_main.specs.Endings.{HasConcluded};
 ghost use Rattle.planner_main.specs.Exchanges.{IsWrittenWhole, IsCutShort};
@@ -22,6 +23,17 @@ pub struct Done {
     /// The run that was reported: of the scene that was read or generated, over all its marks. `None` if no run was, so for
     /// commands that plan nothing and for refusals.
     pub run: Option<Grown>,
+}
+
+impl Done {
+    /// What is done with this status if nothing is handed out beside it. Every other `Done` is this one with what it hands out
+    /// put in.
+    pub(crate) fn with_status(status: u8) -> Done
+        ensures status { result.status ≡ status }
+        ensures nothing { HandsOutNothing result }
+    {
+        Done { status, run: None }
+    }
 }
 
 /// Does as the words say:
@@ -57,10 +69,7 @@ pub fn run<R: Threads + Sync, S: Source, K: Sink, G: Gate>(
     match answer_to(rt, alloc, words, source, gate) {
         Ok(Answer { done, text }) => conclude(sink, &text, done),
         Err(refusal) => {
-            let done = Done {
-                status: refusal.status(),
-                run: None,
-            };
+            let done = Done::with_status(refusal.status());
             conclude(sink, refusal.line().as_bytes(), done)
         }
     }

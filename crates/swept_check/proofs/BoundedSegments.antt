@@ -5,7 +5,8 @@ use Rattle.plan_model.specs.declared.geometry.Point.{Point}
 use Rattle.plan_model.specs.declared.scenes.Scene.{Scene}
 use Rattle.plan_model.specs.Bounds.{IsBounded}
 use Rattle.plan_model.specs.Clearance.{Clear}
-use Rattle.plan_model.specs.ConfigurationSpace.{ConfigurationSpace, space_of}
+use Rattle.plan_model.specs.ConfigurationSpace.{space_of}
+use Rattle.plan_model.specs.declared.configuration_spaces.ConfigurationSpace.{ConfigurationSpace}
 use Rattle.plan_model.specs.RoomOfConfigurations.{InRoom, at_lattice}
 use Rattle.swept_check.proofs.HallLaws.{first_in_room, last_in_room}
 

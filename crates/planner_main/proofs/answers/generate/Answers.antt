@@ -7,7 +7,7 @@ returns c = record {
   generated = c.in_ok-scene.ensures.scene;
   written = ap (λ text. text.items) c.answer_without_run.ensures.text ∙ c.in_ok-text.ensures.text;
   status = c.answer_without_run.ensures.status;
-  no_run = c.answer_without_run.ensures.run;
+  nothing = c.answer_without_run.ensures.nothing;
 }
 
 pub invariant_of-scene : goal.invariant_of-scene
