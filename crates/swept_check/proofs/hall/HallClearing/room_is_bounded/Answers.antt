@@ -7,5 +7,5 @@ returns c =
     let h = c.self.inside in
     let right = c.self.invariant.right in
     let top = c.self.invariant.top in
-    let within : IsBounded h.room = record { right = omega arith; top = omega arith } in
+    let within : IsBounded h.space.room = record { right = omega arith; top = omega arith } in
     rw (← c.self.view_is) within
