@@ -1,6 +1,6 @@
 //! What it means that a mark was handled as `extend` promises. Each law is the contract of a function that does nothing.
 
-ghost use Rattle.std.specs.Prelude.{◌≡◌, ℕ, suc, ◌+◌, ◌*◌, ◌<◌, ◌≤◌};
+ghost use Rattle.std.specs.Prelude.{◌≡◌, ◌≢◌, ◌⊎◌, ℕ, suc, ◌+◌, ◌*◌, ◌<◌, ◌≤◌};
 ghost use Rattle.plan_model.specs.Clearance.{Clear};
 ghost use Rattle.plan_model.specs.ClosedLaw.{mark_at};
 ghost use Rattle.plan_model.specs.Cost.{cost_of};
@@ -9,15 +9,21 @@ ghost use Rattle.plan_model.specs.LeastPairs.{IsNotAbove};
 ghost use Rattle.plan_model.specs.Nearness.{distance_to};
 ghost use Rattle.plan_model.specs.PointsByNumber.{IsFree, IsPresent, point_of};
 ghost use Rattle.plan_model.specs.Radius.{class_of};
+ghost use Rattle.plan_model.specs.Sights.{IsSwept};
 ghost use Rattle.plan_model.specs.declared.geometry.Point.{Point};
 ghost use Rattle.plan_model.specs.declared.records.Outcome.TheVariants.{Blocked, Placed, Same};
 ghost use Rattle.plan_model.specs.declared.records.Record.{Record};
-ghost use Rattle.plan_work.specs.Extensions.{IsExtended, radius_in};
-ghost use Rattle.step_core.specs.ViewTrees.{SeesPoint};
+ghost use Rattle.plan_words.specs.States.{GoesOn};
+ghost use Rattle.plan_work.specs.Extensions.{IsExtended, IsWithinRadius, radius_in};
+ghost use Rattle.plan_work.specs.Workers.{AllExtended};
+ghost use Rattle.step_core.specs.ViewTrees.{SeesPoint, sight_in};
 ghost use Rattle.step_core.specs.Views.{last_look, sees, setup_in, tree_seen};
-ghost use Rattle.step_core.specs.WordNames.Word.{Count, TreeOf};
+ghost use Rattle.step_core.specs.WordNames.Word.{Count, RecordOf, TreeOf};
+ghost use Rattle.step_core.specs.Words.{tree_word};
 ghost use Rattle.step_core.specs.declared.views.View.{View};
-ghost use Rattle.tree_rewire.specs.SeenCosts.{SeesPair, cost_seen};
+ghost use Rattle.tree_rewire.specs.Rewirings.{IsInFall};
+ghost use Rattle.tree_rewire.specs.SeenCosts.{SeesPair, cost_seen, parent_seen};
+ghost use Rattle.tree_rewire.specs.Spreads.{IsWithinParent};
 
 /// No node that the pass had seen with its point is nearer to a mark that was handled than its nearest node. The outcome is `Same`
 /// with a node seen at the steered point, and `Blocked` if none is seen there at return; then the segment is not clear.
@@ -32,6 +38,12 @@ pub fn handled_marks_are_steered_to()
         × (¬ Clear (setup_in after.run).space (point_of (tree_seen after).points entry.nearest) extended.point) }
     ensures free { (before after : View) (k : ℕ) (entry : Record) (extended : IsExtended before after k entry)
         → IsFree (tree_seen after).points extended.point → entry.outcome ≡ Blocked }
+    // all points at most as far from the mark as the nearest node are swept, and so is the point of a blocked mark
+    ensures swept { (before after : View) (k : ℕ) (entry : Record) → IsExtended before after k entry → (q : Point)
+        → squared_distance q (mark_at after.run.marks k)
+        ≤ distance_to (mark_at after.run.marks k) (tree_seen after).points entry.nearest → IsSwept (sight_in after) before.steps q }
+    ensures blocked_swept { (before after : View) (k : ℕ) (entry : Record) (extended : IsExtended before after k entry)
+        → entry.outcome ≡ Blocked → IsSwept (sight_in after) before.steps extended.point }
 {}
 
 /// A mark that was placed: its node is seen at the steered point, with the class of the count that was loaded in the call. Each node
@@ -54,4 +66,27 @@ pub fn placed_marks_have_the_best_parent()
         → squared_distance q extended.point ≤ radius_in after entry.class * radius_in after entry.class
         → Clear (setup_in after.run).space q extended.point
         → SeesPair after i × (cost_seen after i ≤ entry.first_cost + cost_of q extended.point) }
+    ensures swept { (before after : View) (k : ℕ) (entry : Record) (extended : IsExtended before after k entry) → entry.outcome ≡ Placed
+        → (q : Point) → squared_distance q extended.point ≤ radius_in after entry.class * radius_in after entry.class
+        → IsSwept (sight_in after) before.steps q }
+{}
+
+/// A mark that was placed: there is a moment at which its node was linked, with its first parent and its first cost. Each node
+/// that the pass has seen to fall since, outside the radius, costs no more than through its parent, and neither does a child of it
+/// that was seen by then.
+pub fn placed_marks_bring_falls_down()
+    ensures linked { (before after : View) (k : ℕ) (entry : Record) (extended : IsExtended before after k entry) → entry.outcome ≡ Placed
+        → (mid : View) × GoesOn before mid × GoesOn mid after
+        × (sees mid (TreeOf (suc k)) ≡ tree_word entry.first_parent entry.first_cost) }
+    ensures fallen { (before after : View) (k : ℕ) (entry : Record) (extended : IsExtended before after k entry) → entry.outcome ≡ Placed
+        → (mid : View) × GoesOn before mid × GoesOn mid after × ((n : ℕ) → IsInFall mid after n
+        → (¬ IsWithinRadius mid entry extended.point n) ⊎ (parent_seen after n ≡ suc k) → IsWithinParent after n) }
+{}
+
+/// Each mark of which a worker's pass sees a record now, and saw none before, was handled as `extend` promises, between two moments
+/// of the call; the record's word is the one stored then.
+pub fn worked_marks_were_extended()
+    ensures { (before after : View) → AllExtended before after → (k : ℕ) → sees before (RecordOf k) ≡ 0 → sees after (RecordOf k) ≢ 0
+        → (entry : Record) × (begun : View) × (ended : View) × GoesOn before begun × GoesOn ended after × IsExtended begun ended k entry
+        × (sees after (RecordOf k) ≡ sees ended (RecordOf k)) }
 {}

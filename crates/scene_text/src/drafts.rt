@@ -18,9 +18,7 @@ use crate::key_words::{
 };
 use crate::line_words::{WordCount, count_words};
 use crate::refusals::LineRefusal;
-use plan_model::{
-    Goal, Key, Kind, Marks, Point, Points, Poly, Polys, Scene, Vertex, next_word,
-};
+use plan_model::{Goal, Key, Kind, Marks, Point, Points, Poly, Polys, Scene, Vertex, next_word};
 use std::alloc::{AllocError, Global};
 
 /// What the lines so far give: a field for each key.

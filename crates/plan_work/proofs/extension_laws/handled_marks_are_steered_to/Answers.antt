@@ -15,3 +15,10 @@ returns-clause-blocked c = λ before after k entry extended is.
 
 pub returns-clause-free : goal.returns-clause-free
 returns-clause-free c = λ before after k entry extended free. extended.free_is_blocked free
+
+pub returns-clause-swept : goal.returns-clause-swept
+returns-clause-swept c = λ before after k entry extended q near. extended.steered.swept q near
+
+pub returns-clause-blocked_swept : goal.returns-clause-blocked_swept
+returns-clause-blocked_swept c = λ before after k entry extended is.
+    (subst (EndsAsSeen before after k entry extended.point) is extended.outcome).swept

@@ -33,3 +33,7 @@ returns-clause-rewired c = λ before after k entry extended is i q stands near c
       ended.rewired.pairs i record { at = q; stands = stands; near = near; clear = clear },
       ended.rewired.most i record { at = q; stands = stands; near = near; clear = clear },
     )
+
+pub returns-clause-swept : goal.returns-clause-swept
+returns-clause-swept c = λ before after k entry extended is q near.
+    (subst (EndsAsSeen before after k entry extended.point) is extended.outcome).swept q near

@@ -1,0 +1,25 @@
+use Rattle.std.proofs.Common.{inl, inr, subst}
+use Rattle.plan_words.proofs.GoingOn.{GoesOn-trans}
+use Rattle.plan_work.specs.Extensions.{EndsAsSeen}
+use Rattle.plan_work.proofs.extension_laws.placed_marks_bring_falls_down.Goals as goal
+
+pub returns-clause-linked : goal.returns-clause-linked
+returns-clause-linked c = λ before after k entry extended is.
+    let ended = subst (EndsAsSeen before after k entry extended.point) is extended.outcome in (
+      ended.linked_at,
+      GoesOn-trans before ended.chosen_at ended.linked_at ended.chosen.since ended.in_turn,
+      ended.rewired.until,
+      ended.rewired.written,
+    )
+
+pub returns-clause-fallen : goal.returns-clause-fallen
+returns-clause-fallen c = λ before after k entry extended is.
+    let ended = subst (EndsAsSeen before after k entry extended.point) is extended.outcome in (
+      ended.linked_at,
+      GoesOn-trans before ended.chosen_at ended.linked_at ended.chosen.since ended.in_turn,
+      ended.rewired.until,
+      λ n fall apart. ended.rewired.spread n fall (λ near shortcut. elim apart [
+        | inl far ↦ absurd (far near)
+        | inr own ↦ own
+      ]),
+    )
