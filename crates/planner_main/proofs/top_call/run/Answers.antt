@@ -21,5 +21,5 @@ returns-in-Err g c =
     let ending = c.conclude-in-Err.ensures in
     let written = c.as_bytes.ensures.value ∙ c.deref-in-Err.ensures.0 ∙ c.line.ensures in
     HasConcluded-answer _ _ _ _ c.as_bytes.result.now _ _ _
-    (inr (record { refusal = c.in-Err.refusal; cause = answer.refusal; status = c.done.ensures.status ∙ c.status.ensures; nothing = c.done.ensures.nothing; written = written }))
+    (inr (record { refusal = c.in-Err.refusal; cause = answer.refusal; status = c.with_status-done.ensures.status ∙ c.status.ensures; nothing = c.with_status-done.ensures.nothing; written = written }))
     answer.unread answer.within ending.done ending.cut
