@@ -167,4 +167,5 @@ IfSome-sees_linked entry mid after n side None all looks goes_on kept treed lead
 IfSome-sees_linked entry mid after n side (Some hand) all looks goes_on kept treed leads is =
     let made : after ≡ with_view mid (counted (linked mid.view hand n side (last_fill after.view)) hand) =
     subst (λ o. IfSome o (λ h. after ≡ with_view mid (counted (linked mid.view h n side (last_fill after.view)) h))) kept is in
-    SeesLinked-linked entry mid.view all looks after.view hand n side (last_fill after.view) goes_on.later kept treed leads (ap (λ (p : PassState). p.view) made) goes_on.lawful
+    SeesLinked-linked entry mid.view all looks after.view hand n side (last_fill after.view) goes_on.later kept treed leads
+    (ap (λ (p : PassState). p.view) made) goes_on.lawful

@@ -81,7 +81,8 @@ PassPlaces-looks shared before mid after one other = record {
 }
 
 pub PassPlaces-links : (shared : SharedState) (before after : PassState) (n : ℕ) (side : Bool) → BelongsTo before shared → IsSome before.view.hand
-    → IfSome before.view.hand (λ hand. after ≡ with_view before (counted (linked before.view hand n side (last_fill after.view)) hand)) → GoesOn before.view after.view
+    → IfSome before.view.hand (λ hand. after ≡ with_view before (counted (linked before.view hand n side (last_fill after.view)) hand))
+    → GoesOn before.view after.view
     → ChangesOnly NamesNode (sees before.view) (sees after.view) → PassPlaces shared before after
 PassPlaces-links shared before after n side belongs held view goes_on others = by_hand before.view.hand held view
   where

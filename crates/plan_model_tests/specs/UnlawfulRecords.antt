@@ -55,14 +55,14 @@ pub record UnlawfulRecordVectors : Type 0 where
   pub class_of_all : IsThird 100 50 third (entry_by 2 0 12800 3)
   pub class_too_low : ¬ IsThird 100 50 third (entry_by 2 0 12800 1)
   pub class_too_high : ¬ IsThird 100 50 third (entry_by 2 0 12800 4)
-  -- node 2 stands in row 44
+  -- node 2 stands at height 44
   pub segment_not_clear : ¬ IsThird 43 50 third (entry_by 2 0 12800 2)
   -- the start is exactly as far away as the radius of class 2; that of class 3 is 43
   pub neighbour_is_cheaper : ¬ IsThird 100 50 third (entry_by 2 2 18432 2)
   pub cheaper_past_the_radius : IsThird 100 50 third (entry_by 2 2 18432 3)
   -- node 2, which is another worker's, is no neighbour
   pub cheaper_by_another : IsThird 100 50 third (entry_by 1 1 24249 3)
-  -- with a radius of 49 the start is no neighbour, and node 1, in row 50, is one if the way from it is clear
+  -- with a radius of 49 the start is no neighbour, and node 1, at height 50, is one if the way from it is clear
   pub cheaper_on_clear_way : ¬ IsThird 50 49 (third_with (at 0 50) 12800 18412 12800) (entry_by 2 2 24250 2)
   pub cheaper_not_clear : IsThird 49 49 (third_with (at 0 50) 12800 18412 12800) (entry_by 2 2 24250 2)
   -- node 1 costs as much by way of node 3, and one less
@@ -74,7 +74,7 @@ pub record UnlawfulRecordVectors : Type 0 where
   -- number 4 is absent, so that its point is the origin
   pub first_parent_absent : ¬ IsThird 100 50 third (entry_by 2 4 12800 2)
   pub first_parent_is_itself : ¬ IsThird 100 50 third (entry_by 2 3 12800 2)
-  -- node 1, the first parent, in row 50
+  -- node 1, the first parent, at height 50
   pub on_the_wall : IsThird 50 50 (third_with (at 0 50) 12800 18411 12800) (entry_by 2 1 24249 3)
   pub first_edge_not_clear : ¬ IsThird 49 50 (third_with (at 0 50) 12800 18411 12800) (entry_by 2 1 24249 3)
   -- the square of the length of its edge is 2500, and 2501

@@ -91,7 +91,8 @@ pub HangsFromStart-linked :
     → IfErr result (λ c. new ≡ with_view old (loaded old.view (ChildOf n side) c)) → HangsFromStart cost new.view
 HangsFromStart-linked old new cost n side (Ok u) later hung is other =
     HangsFromStart-later old.view new.view later cost hung Counted
-    (ap (λ p. p.view.hand) (at_hand (λ hand. new ≡ with_view old (counted (linked old.view hand n side (last_fill new.view)) hand)) old.view.hand hung.hand hung.held is))
+    (ap (λ p. p.view.hand) (at_hand (λ hand. new ≡ with_view old (counted (linked old.view hand n side (last_fill new.view)) hand)) old.view.hand
+    hung.hand hung.held is))
 HangsFromStart-linked old new cost n side (Err c) later hung is other =
     HangsFromStart-kept old.view new.view later cost hung (ap (λ p. p.view.hand) other)
 

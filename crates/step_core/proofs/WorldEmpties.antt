@@ -71,7 +71,8 @@ greatest-append f [] other = omega arith
 greatest-append f (x ∷ one) other = omega (arith, greatest-append f one other)
 
 pub noted_by-joined :
-    (place i : ℕ) (view other both : View) → both.fills ≡ view.fills ++ other.fills → noted_by place i both ≡ max (noted_by place i view) (noted_by place i other)
+    (place i : ℕ) (view other both : View) → both.fills ≡ view.fills ++ other.fills → noted_by place i both ≡ max (noted_by place i view)
+    (noted_by place i other)
 noted_by-joined place i view other both fills =
     ap (λ l. greatest (map (noted_in place i) l)) fills ∙ greatest-append (noted_in place i) view.fills other.fills
 
@@ -126,7 +127,8 @@ module _ (run : SharedRun) (before after : Words) (views : List View) (id : ℕ)
       → (before (ChildOf n side) ≢ 0) × (last_zero then (ChildOf n side) ≤ last_zero view (ChildOf n side)))
       → Empties run after later
   Empties-step fills kept = record {
-    made = λ place i. HasMade-less run later i (noted later place i) (noted views place i) (no_more place i) (HasMade-set i (noted views place i) (empties.made place i));
+    made = λ place i. HasMade-less run later i (noted later place i) (noted views place i) (no_more place i)
+        (HasMade-set i (noted views place i) (empties.made place i));
     filled = λ n side some_child i u e.
         let place : ℕ = place_of (run_sizes run) (ChildOf n side) in
         let was = kept n side some_child in
@@ -292,7 +294,8 @@ pub Empties-joined :
     → both.run ≡ view.run → view.steps ≤ both.steps → both.fills ≡ view.fills ++ other.fills → ((name : Word) → last_zero both name ≡ last_zero view name)
     → Empties run words (set (set views id both) j spent)
 Empties-joined run words views id view j other both empties at was apart there live same_run more fills looks = record {
-  made = λ place i. HasMade-less run last i (noted last place i) (noted views place i) (no_more place i) (made_after i (noted views place i) (empties.made place i));
+  made = λ place i. HasMade-less run last i (noted last place i) (noted views place i) (no_more place i)
+      (made_after i (noted views place i) (empties.made place i));
   filled = λ n side some_child i u e.
       let place : ℕ = place_of (run_sizes run) (ChildOf n side) in
       elim (at-after_set middle j i spent u e) [

@@ -21,7 +21,8 @@ returns-then-child-ne0-clause-found c =
     let lawful = c.put-child.ensures.goes_on.was_lawful in
     let made = at_hand
     (λ h. c.put-child.new.pass ≡ with_view pass
-    (cond (found == 0) (linked pass.view h c.args.node c.args.right (last_fill c.put-child.new.pass.view)) (loaded pass.view (ChildOf c.args.node c.args.right) found)))
+    (cond (found == 0) (linked pass.view h c.args.node c.args.right (last_fill c.put-child.new.pass.view))
+    (loaded pass.view (ChildOf c.args.node c.args.right) found)))
     _ of.0 of.1 c.put-child.ensures.view in
     child_met pass.view _ c.args.node c.args.right found lawful (leads_seen pass.view of.0 c.args.node c.args.right lawful leads) c.if-child-ne0.true
     (met_view pass c.put-child.new.pass of.0 c.args.node c.args.right found c.if-child-ne0.true made)
@@ -35,7 +36,8 @@ returns-then-child-ne0-clause-deeper c =
     let lawful = c.put-child.ensures.goes_on.was_lawful in
     let made = at_hand
     (λ h. c.put-child.new.pass ≡ with_view pass
-    (cond (found == 0) (linked pass.view h c.args.node c.args.right (last_fill c.put-child.new.pass.view)) (loaded pass.view (ChildOf c.args.node c.args.right) found)))
+    (cond (found == 0) (linked pass.view h c.args.node c.args.right (last_fill c.put-child.new.pass.view))
+    (loaded pass.view (ChildOf c.args.node c.args.right) found)))
     _ of.0 of.1 c.put-child.ensures.view in
     let met = child_met pass.view _ c.args.node c.args.right found lawful (leads_seen pass.view of.0 c.args.node c.args.right lawful leads) c.if-child-ne0.true
     (met_view pass c.put-child.new.pass of.0 c.args.node c.args.right found c.if-child-ne0.true made) in
@@ -51,7 +53,8 @@ returns-then-child-ne0-clause-others c =
     let lawful = c.put-child.ensures.goes_on.was_lawful in
     let made = at_hand
     (λ h. c.put-child.new.pass ≡ with_view pass
-    (cond (found == 0) (linked pass.view h c.args.node c.args.right (last_fill c.put-child.new.pass.view)) (loaded pass.view (ChildOf c.args.node c.args.right) found)))
+    (cond (found == 0) (linked pass.view h c.args.node c.args.right (last_fill c.put-child.new.pass.view))
+    (loaded pass.view (ChildOf c.args.node c.args.right) found)))
     _ of.0 of.1 c.put-child.ensures.view in
     ChangesOnly-met_node pass.view _ c.args.node c.args.right found lawful (leads_seen pass.view of.0 c.args.node c.args.right lawful leads) c.if-child-ne0.true
     (met_view pass c.put-child.new.pass of.0 c.args.node c.args.right found c.if-child-ne0.true made)
@@ -65,7 +68,8 @@ returns-then-child-ne0-clause-others_found c =
     let lawful = c.put-child.ensures.goes_on.was_lawful in
     let made = at_hand
     (λ h. c.put-child.new.pass ≡ with_view pass
-    (cond (found == 0) (linked pass.view h c.args.node c.args.right (last_fill c.put-child.new.pass.view)) (loaded pass.view (ChildOf c.args.node c.args.right) found)))
+    (cond (found == 0) (linked pass.view h c.args.node c.args.right (last_fill c.put-child.new.pass.view))
+    (loaded pass.view (ChildOf c.args.node c.args.right) found)))
     _ of.0 of.1 c.put-child.ensures.view in
     ChangesOnly-met pass.view _ c.args.node c.args.right found lawful (leads_seen pass.view of.0 c.args.node c.args.right lawful leads) c.if-child-ne0.true
     (met_view pass c.put-child.new.pass of.0 c.args.node c.args.right found c.if-child-ne0.true made)
@@ -81,7 +85,8 @@ returns-clause-linked c =
     let leads = at_hand (λ h. LeadsTo pass.view h.point c.args.node c.args.right) _ of.0 of.1 c.requires.leads in
     let whole = linked_view pass c.put-child.new.pass c.count.new.pass c.args.node c.args.right c.put-child.result c.if-child-ne0.false
     c.put-child.ensures.view c.count.ensures.view in
-    let made = at_hand (λ h. c.count.new.pass ≡ with_view pass (counted (linked pass.view h c.args.node c.args.right (last_fill c.count.new.pass.view)) h)) _ of.0 of.1 whole in
+    let made = at_hand (λ h. c.count.new.pass ≡ with_view pass
+    (counted (linked pass.view h c.args.node c.args.right (last_fill c.count.new.pass.view)) h)) _ of.0 of.1 whole in
     subst (λ o. IfSome o (λ h. IsLinkedAt c.count.new.pass.view c.args.node c.args.right h)) (sym of.1)
     (IsLinkedAt-counted pass.view c.count.new.pass.view of.0 c.args.node c.args.right _ c.put-child.ensures.goes_on.was_lawful of.1 stage leads
     (ap (λ p. p.view) made))
@@ -94,7 +99,8 @@ returns-clause-on_way c =
     let leads = at_hand (λ h. LeadsTo pass.view h.point c.args.node c.args.right) _ of.0 of.1 c.requires.leads in
     let whole = linked_view pass c.put-child.new.pass c.count.new.pass c.args.node c.args.right c.put-child.result c.if-child-ne0.false
     c.put-child.ensures.view c.count.ensures.view in
-    let made = at_hand (λ h. c.count.new.pass ≡ with_view pass (counted (linked pass.view h c.args.node c.args.right (last_fill c.count.new.pass.view)) h)) _ of.0 of.1 whole in
+    let made = at_hand (λ h. c.count.new.pass ≡ with_view pass
+    (counted (linked pass.view h c.args.node c.args.right (last_fill c.count.new.pass.view)) h)) _ of.0 of.1 whole in
     let placed = IsLinkedAt-counted pass.view c.count.new.pass.view of.0 c.args.node c.args.right _ c.put-child.ensures.goes_on.was_lawful of.1 stage leads
     (ap (λ p. p.view) made) in
     let goes_on = GoesOn-trans _ _ _ c.put-child.ensures.goes_on c.count.ensures.goes_on in
@@ -109,7 +115,8 @@ returns-clause-others c =
     let leads = at_hand (λ h. LeadsTo pass.view h.point c.args.node c.args.right) _ of.0 of.1 c.requires.leads in
     let whole = linked_view pass c.put-child.new.pass c.count.new.pass c.args.node c.args.right c.put-child.result c.if-child-ne0.false
     c.put-child.ensures.view c.count.ensures.view in
-    let made = at_hand (λ h. c.count.new.pass ≡ with_view pass (counted (linked pass.view h c.args.node c.args.right (last_fill c.count.new.pass.view)) h)) _ of.0 of.1 whole in
+    let made = at_hand (λ h. c.count.new.pass ≡ with_view pass
+    (counted (linked pass.view h c.args.node c.args.right (last_fill c.count.new.pass.view)) h)) _ of.0 of.1 whole in
     ChangesOnly-linked pass.view c.count.new.pass.view of.0 c.args.node c.args.right _ c.put-child.ensures.goes_on.was_lawful of.1 stage leads
     (ap (λ p. p.view) made)
 

@@ -90,10 +90,12 @@ set-requires-clause-parent c =
     let seen = leads_seen me.0 hand c.args.node c.args.right tied.lawful leads in
     let place = place_here c.self.inside.places _ me.0 (ChildOf c.args.node c.args.right) _ c.self.invariant.places_are own c.child-place.ensures in
     let none = eq-eqb found 0 c.if-found-eq0.true in
-    let told = subst (λ b. Tells me (cond b (linked_at me.0 hand c.child-place.result (last_fill after.0)) (saw_at me.0 c.child-place.result found found)) after) none
+    let told = subst (λ b. Tells me (cond b (linked_at me.0 hand c.child-place.result (last_fill after.0))
+    (saw_at me.0 c.child-place.result found found)) after) none
     (c.compare_exchange-found.ensures.2.told hand held) in
     let kept =
-    keeps_view me after (linked_at me.0 hand c.child-place.result (last_fill after.0)) _ _ _ _ _ _ _ c.pass.inside.pairs _ told c.pass.invariant refl tied.member_is
+    keeps_view me after (linked_at me.0 hand c.child-place.result (last_fill after.0)) _ _ _ _ _ _ _ c.pass.inside.pairs _ told c.pass.invariant refl
+    tied.member_is
     (ap Some (c.after_link.ensures ∙ ap (λ b. cond b (record hand { stage = Linked }) hand) none))
     (HasPairs-linked me.0 hand c.args.node c.args.right _ _ c.pass.inside.pairs c.pack_tree.result tied.lawful held (tied.lawful.within c.args.node seen)
     place c.pack_tree.ensures) in
@@ -113,10 +115,12 @@ invariant_of-pass c =
     let seen = leads_seen me.0 hand c.args.node c.args.right tied.lawful leads in
     let place = place_here c.self.inside.places _ me.0 (ChildOf c.args.node c.args.right) _ c.self.invariant.places_are own c.child-place.ensures in
     let none = eq-eqb found 0 c.if-found-eq0.true in
-    let told = subst (λ b. Tells me (cond b (linked_at me.0 hand c.child-place.result (last_fill after.0)) (saw_at me.0 c.child-place.result found found)) after) none
+    let told = subst (λ b. Tells me (cond b (linked_at me.0 hand c.child-place.result (last_fill after.0))
+    (saw_at me.0 c.child-place.result found found)) after) none
     (c.compare_exchange-found.ensures.2.told hand held) in
     rw c.set.ensures
-    (keeps_view me after (linked_at me.0 hand c.child-place.result (last_fill after.0)) _ _ _ _ _ _ _ c.pass.inside.pairs _ told c.pass.invariant refl tied.member_is
+    (keeps_view me after (linked_at me.0 hand c.child-place.result (last_fill after.0)) _ _ _ _ _ _ _ c.pass.inside.pairs _ told c.pass.invariant
+    refl tied.member_is
     (ap Some (c.after_link.ensures ∙ ap (λ b. cond b (record hand { stage = Linked }) hand) none))
     (HasPairs-linked me.0 hand c.args.node c.args.right _ _ c.pass.inside.pairs c.pack_tree.result tied.lawful held (tied.lawful.within c.args.node seen)
     place c.pack_tree.ensures))
@@ -135,7 +139,8 @@ invariant_of-pass-else-found-eq0 c =
     let seen = leads_seen me.0 hand c.args.node c.args.right tied.lawful leads in
     let place = place_here c.self.inside.places _ me.0 (ChildOf c.args.node c.args.right) _ c.self.invariant.places_are own c.child-place.ensures in
     let some_child = ne_eqb found 0 c.if-found-eq0.false in
-    let told = subst (λ b. Tells me (cond b (linked_at me.0 hand c.child-place.result (last_fill after.0)) (saw_at me.0 c.child-place.result found found)) after) some_child
+    let told = subst (λ b. Tells me (cond b (linked_at me.0 hand c.child-place.result (last_fill after.0))
+    (saw_at me.0 c.child-place.result found found)) after) some_child
     (c.compare_exchange-found.ensures.2.told hand held) in
     keeps_view me after (saw_at me.0 c.child-place.result found found) _ _ _ _ _ _ _ c.pass.inside.pairs _ told c.pass.invariant refl tied.member_is
     (ap Some (c.after_link.ensures ∙ ap (λ b. cond b (record hand { stage = Linked }) hand) some_child) ∙ sym held)
@@ -149,7 +154,8 @@ returns-clause-goes_on c =
     let place = c.child-place.result in
     let found = c.compare_exchange-found.result in
     let told = c.compare_exchange-found.ensures.2.told hand (sym c.pass.invariant.1.hand_is ∙ c.in-Some.is) in
-    let on = tells_on _ me c.compare_exchange-found.new.seat.me (cond (found == 0) (linked_at me.0 hand place (last_fill c.compare_exchange-found.new.seat.me.0)) (saw_at me.0 place found found))
+    let on = tells_on _ me c.compare_exchange-found.new.seat.me
+    (cond (found == 0) (linked_at me.0 hand place (last_fill c.compare_exchange-found.new.seat.me.0)) (saw_at me.0 place found found))
     (ap (λ p. p.view) c.pass.view_is) told in
     elim c.if-found-eq0.branch [
       | then-found-eq0 w ↦ subst (λ p. GoesOn c.args.pass.now.view p.view) (sym w.pass-is) on
