@@ -1,5 +1,5 @@
--- Why a command that reads the text of a scene is refused.
-use Rattle.std.proofs.Common.{◌≡◌, ◌⊎◌, inl, inr, ℕ, ◌<◌, false, Some, IsTrue, length, Vec, refl, sym, subst, arith}
+-- Why a command that reads a text is refused.
+use Rattle.std.proofs.Common.{◌≡◌, ◌⊎◌, inl, inr, ℕ, ◌<◌, false, Some, IsTrue, [], ◌∷◌, length, Vec, refl, sym, subst, arith}
 use Rattle.std.proofs.Common.{Result, Ok, Err, IsErrAnd, IsErrOf, IfErr}
 use Rattle.plan_model.specs.declared.limits.TheConstants.{MOST_TEXT_BYTES}
 use Rattle.plan_model.specs.declared.scenes.Scene.{Scene}
@@ -12,7 +12,8 @@ use Rattle.scene_text.specs.Fetching.{Fetches}
 use Rattle.planner_main.specs.declared.commands.Command.{Command}
 use Rattle.planner_main.specs.declared.refusals.Refusal.{Refusal}
 use Rattle.planner_main.specs.declared.refusals.Refusal.TheVariants as refusals
-use Rattle.planner_main.specs.Commands.{reads_scene, tests_start}
+use Rattle.planner_main.specs.Commands.{input_of, reads_text, tests_start}
+use Rattle.planner_main.specs.Inputs.{Input, one_scene, SpellsInput}
 use Rattle.planner_main.specs.Conclusions.{IsCaused, HasScene}
 use Rattle.planner_main.specs.Exchanges.{ReadFailed, CameShort}
 use Rattle.planner_main.specs.Faults.{refusal_of_fetch}
@@ -37,7 +38,7 @@ module _ {Z : Type 0} where
 
   -- a fault of the fetch is a cause of its refusal
   pub fetch-caused : (command : Command) (before now : SourceState) (result : Result (Vec ℕ Z) FetchFault) (fault : FetchFault) →
-      result ≡ Err fault → IsTrue (reads_scene command) → now.has_ended ≡ false → Fetches before.bytes_left now.bytes_left result →
+      result ≡ Err fault → IsTrue (reads_text command) → now.has_ended ≡ false → Fetches before.bytes_left now.bytes_left result →
       (IsErrOf result fetching.Read → ReadFailed before now) →
       (IsTrue before.counts_failures_alone → IsErrOf result fetching.Read → now.fault_count ≡ counted before.fault_count) →
       (IsTrue before.counts_failures_alone → ¬ IsErrOf result fetching.Read → now.fault_count ≡ before.fault_count) →
@@ -57,11 +58,22 @@ IfErr-only (Ok value) error P only h = absurd only
 IfErr-only (Err e) error P only h = subst P (sym only) h
 
 -- a start that is not clear, and memory that is out after the whole text was read, are causes of their refusals
-pub hall-caused : (command : Command) (before now : SourceState) (scene : Scene) (refusal : Refusal) → IsTrue (tests_start command) →
-    HasScene before now scene → (refusal ≡ refusals.Memory) ⊎ ((refusal ≡ refusals.StartBlocked) × ¬ ClearAt (space_of scene) scene.start) →
+pub hall-caused : (command : Command) (before now : SourceState) (scene : Scene) (refusal : Refusal) → input_of command ≡ one_scene →
+    IsTrue (tests_start command) → HasScene before now scene →
+    (refusal ≡ refusals.Memory) ⊎ ((refusal ≡ refusals.StartBlocked) × ¬ ClearAt (space_of scene) scene.start) →
     IsCaused (Some command) before now refusal
-hall-caused command before now scene refusal tests h (inl memory) =
+hall-caused command before now scene refusal one tests h (inl memory) =
     subst (IsCaused (Some command) before now) (sym memory) (refl, h.read.no_fault)
-hall-caused command before now scene refusal tests h (inr blocked) =
-    subst (IsCaused (Some command) before now) (sym blocked.0)
-    (tests, (h.bytes, h.read, record { scene = scene; spelled = h.spelled; blocked = blocked.1 }))
+hall-caused command before now scene refusal one tests h (inr blocked) =
+    subst (IsCaused (Some command) before now) (sym blocked.0) (
+      tests,
+      (
+        h.bytes,
+        h.read,
+        record {
+          scenes = scene ∷ [];
+          spelled = subst (λ (input : Input). SpellsInput input h.bytes (scene ∷ [])) (sym one) h.spelled;
+          blocked = λ clear. blocked.1 clear.0;
+        },
+      ),
+    )

@@ -9,7 +9,7 @@ use Rattle.planner_main.specs.declared.refusals.Refusal.{Refusal}
 use Rattle.planner_main.specs.declared.refusals.Refusal.TheVariants as refusals
 use Rattle.planner_main.specs.declared.statuses.TheConstants.{WORDS_REFUSED, WRITE_FAULT, NO_MEMORY}
 use Rattle.planner_main.specs.declared.top_call.Done.{Done}
-use Rattle.planner_main.specs.Commands.{reads_scene}
+use Rattle.planner_main.specs.Commands.{reads_text}
 use Rattle.planner_main.specs.Conclusions.{IsAnswer, IsCaused, Asks}
 use Rattle.planner_main.specs.Decisions.{IsDecided}
 use Rattle.planner_main.specs.Endings.{HasConcluded}
@@ -41,7 +41,7 @@ module _ (asked : Option Command) (before now : SourceState) (answered : Done) (
   -- the answer was written, or the sink failed and the status alone became another
   pub HasConcluded-answer :
       (sink_before sink_now : SinkState) (result : Done) → IsAnswer asked before now answered text
-      → ((¬ Asks reads_scene asked) → IsUnread before now) → ReadsWithin before.bytes_left now.bytes_left
+      → ((¬ Asks reads_text asked) → IsUnread before now) → ReadsWithin before.bytes_left now.bytes_left
       → (result.status ≢ WRITE_FAULT → (result ≡ answered) × IsWrittenWhole sink_before sink_now text)
       → (result.status ≡ WRITE_FAULT → (record result { status = answered.status } ≡ answered) × IsCutShort sink_before sink_now text)
       → HasConcluded asked before now sink_before sink_now result

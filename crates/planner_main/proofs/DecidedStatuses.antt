@@ -1,14 +1,12 @@
 -- Which status the bytes of the source decide, from the answer and its cause.
 use Rattle.std.proofs.Common.{◌≡◌, ℕ, ◌≤◌, ◌<◌, ◌⊎◌, inl, inr, Bool, true, false, IsTrue, MatchBool, Option, Some, None, IfSome}
-use Rattle.std.proofs.Common.{List, length, length-append, refl, sym, ap, subst, arith}
+use Rattle.std.proofs.Common.{List, [], ◌∷◌, length, length-append, refl, sym, ap, subst, arith}
 use Rattle.std.proofs.lemmas.Bool.{false≢true}
 use Rattle.std.specs.Io.KnownBytes.{Consumes}
 use Rattle.plan_model.specs.declared.limits.TheConstants.{MOST_TEXT_BYTES}
 use Rattle.plan_model.specs.declared.scenes.Scene.{Scene}
 use Rattle.plan_model.specs.declared.text_terms.Kind.{Kind}
 use Rattle.plan_model.specs.SceneGrammar.{supported}
-use Rattle.plan_model.specs.ConfigurationSpace.{space_of}
-use Rattle.plan_model.specs.Clearance.{ClearAt}
 use Rattle.plan_model.specs.Streams.{SourceState}
 use Rattle.plan_model.proofs.Soundness.{Spells-not_refused}
 use Rattle.plan_model.proofs.SpelledScenes.{ClearAt-spelled}
@@ -19,50 +17,70 @@ use Rattle.planner_main.specs.declared.refusals.Refusal.{Refusal}
 use Rattle.planner_main.specs.declared.refusals.Refusal.TheVariants as refusals
 use Rattle.planner_main.specs.declared.statuses.TheConstants.{NO_PATH, TEXT_REFUSED, START_BLOCKED, NO_MEMORY}
 use Rattle.planner_main.specs.declared.top_call.Done.{Done}
-use Rattle.planner_main.specs.Commands.{reads_scene, tests_start, greatest_success}
-use Rattle.planner_main.specs.Conclusions.{IsTextOf, IsFaultyText, BlocksStart, MayStart, Succeeds, status_of_report, IsCaused, IsSuccess}
+use Rattle.planner_main.specs.Commands.{input_of, reads_text, tests_start, greatest_success}
+use Rattle.planner_main.specs.Conclusions.{BlocksStart, MayStart, Succeeds, status_of_report, IsCaused, IsSuccess}
 use Rattle.planner_main.specs.Decisions.{IsDecidedBy, IsDecided}
+use Rattle.planner_main.specs.Inputs.{Input, nothing, one_scene, AreStartsClear, RefusesInput, SpellsInput}
 use Rattle.planner_main.specs.Exchanges.{ReadFailed, IsReadWhole, IsUnread}
 use Rattle.planner_main.specs.Refusals.{status_of}
 
--- a text that spells a scene is not refused
-not_faulty : (bytes : List ℕ) (scene : Scene) (number : ℕ) (kind : Kind) → IsTextOf scene bytes → IsFaultyText number kind bytes → ⊥
-not_faulty bytes scene number kind t f = Spells-not_refused supported bytes scene number kind t.spelled f.refused
+-- an input that spells scenes is not refused
+not_faulty : (input : Input) (bytes : List ℕ) (scenes : List Scene) (number : ℕ) (kind : Kind) → SpellsInput input bytes scenes →
+    RefusesInput input number kind bytes → ⊥
+not_faulty nothing bytes scenes number kind t f = f
+not_faulty one_scene bytes [] number kind t f = t
+not_faulty one_scene bytes (scene ∷ []) number kind t f = Spells-not_refused supported bytes scene number kind t.spelled f.refused
+not_faulty one_scene bytes (scene ∷ second ∷ scenes) number kind t f = t
 
--- the scenes that a text spells are clear at their starts together
-same_start : (bytes : List ℕ) (a b : Scene) → IsTextOf a bytes → IsTextOf b bytes → ClearAt (space_of a) a.start → ClearAt (space_of b) b.start
-same_start bytes a b s t clear = ClearAt-spelled supported bytes a b s.spelled t.spelled clear
+-- and has a permitted length
+short_input : (input : Input) (bytes : List ℕ) (scenes : List Scene) → SpellsInput input bytes scenes → length bytes ≤ MOST_TEXT_BYTES
+short_input nothing bytes scenes t = omega (arith, ap length t.0)
+short_input one_scene bytes [] t = absurd t
+short_input one_scene bytes (scene ∷ []) t = t.short
+short_input one_scene bytes (scene ∷ second ∷ scenes) t = absurd t
+
+-- the scenes that it spells are clear at their starts together
+same_starts : (input : Input) (bytes : List ℕ) (scenes others : List Scene) → SpellsInput input bytes scenes → SpellsInput input bytes others →
+    AreStartsClear scenes → AreStartsClear others
+same_starts nothing bytes scenes others s t clear = rw t.1 tt
+same_starts one_scene bytes [] others s t clear = absurd s
+same_starts one_scene bytes (a ∷ c ∷ scenes) others s t clear = absurd s
+same_starts one_scene bytes (a ∷ []) [] s t clear = absurd t
+same_starts one_scene bytes (a ∷ []) (b ∷ d ∷ others) s t clear = absurd t
+same_starts one_scene bytes (a ∷ []) (b ∷ []) s t clear = (ClearAt-spelled supported bytes a b s.spelled t.spelled clear.0, tt)
 
 module _ (bytes : List ℕ) (command : Command) (status : ℕ) where
-  -- the bytes spell a scene at whose start the command may start, and it succeeds
-  by_success : (scene : Scene) → IsTextOf scene bytes → MayStart command scene → status ≤ greatest_success command → IsDecidedBy bytes command status
-  by_success scene t may low = record {
-    done = λ other s m. low;
-    blocked = λ other s tests blocked. absurd (blocked (same_start bytes scene other t s (may tests)));
-    refused = λ number kind f. absurd (not_faulty bytes scene number kind t f);
-    long = λ long. absurd (omega (arith, t.short));
+  -- the bytes spell scenes at whose starts the command may start, and it succeeds
+  by_success : (scenes : List Scene) → SpellsInput (input_of command) bytes scenes → MayStart command scenes
+      → status ≤ greatest_success command → IsDecidedBy bytes command status
+  by_success scenes t may low = record {
+    done = λ others s m. low;
+    blocked = λ others s tests blocked. absurd (blocked (same_starts (input_of command) bytes scenes others t s (may tests)));
+    refused = λ number kind f. absurd (not_faulty (input_of command) bytes scenes number kind t f);
+    long = λ long. let short = short_input (input_of command) bytes scenes t in absurd (omega arith);
   }
 
-  by_fault : (number : ℕ) (kind : Kind) → IsFaultyText number kind bytes → status ≡ TEXT_REFUSED → IsDecidedBy bytes command status
+  by_fault : (number : ℕ) (kind : Kind) → RefusesInput (input_of command) number kind bytes → status ≡ TEXT_REFUSED →
+      IsDecidedBy bytes command status
   by_fault number kind f e = record {
-    done = λ scene t may. absurd (not_faulty bytes scene number kind t f);
-    blocked = λ scene t tests blocked. absurd (not_faulty bytes scene number kind t f);
+    done = λ scenes t may. absurd (not_faulty (input_of command) bytes scenes number kind t f);
+    blocked = λ scenes t tests blocked. absurd (not_faulty (input_of command) bytes scenes number kind t f);
     refused = λ other_number other_kind other. e;
     long = λ long. e;
   }
 
-  by_start : BlocksStart bytes → IsTrue (tests_start command) → status ≡ START_BLOCKED → IsDecidedBy bytes command status
+  by_start : BlocksStart command bytes → IsTrue (tests_start command) → status ≡ START_BLOCKED → IsDecidedBy bytes command status
   by_start b tests e = record {
-    done = λ scene t may. absurd (b.blocked (same_start bytes scene b.scene t b.spelled (may tests)));
-    blocked = λ scene t tests' blocked. e;
-    refused = λ number kind f. absurd (not_faulty bytes b.scene number kind b.spelled f);
-    long = λ long. let short = b.spelled.short in absurd (omega arith);
+    done = λ scenes t may. absurd (b.blocked (same_starts (input_of command) bytes scenes b.scenes t b.spelled (may tests)));
+    blocked = λ scenes t tests' blocked. e;
+    refused = λ number kind f. absurd (not_faulty (input_of command) bytes b.scenes number kind b.spelled f);
+    long = λ long. let short = short_input (input_of command) bytes b.scenes b.spelled in absurd (omega arith);
   }
 
   by_length : MOST_TEXT_BYTES < length bytes → status ≡ TEXT_REFUSED → IsDecidedBy bytes command status
   by_length long e = record {
-    done = λ scene t may. let short = t.short in absurd (omega arith);
-    blocked = λ scene t tests blocked. let short = t.short in absurd (omega arith);
+    done = λ scenes t may. let short = short_input (input_of command) bytes scenes t in absurd (omega arith);
+    blocked = λ scenes t tests blocked. let short = short_input (input_of command) bytes scenes t in absurd (omega arith);
     refused = λ number kind f. e;
     long = λ longer. e;
   }
@@ -92,25 +110,25 @@ pub IsSuccess-low : (asked : Option Command) (before now : SourceState) (done : 
 IsSuccess-low asked before now done text s =
     omega (arith, Succeeds-low s.command s.bytes done text s.meaning, greatest_success-low s.command)
 
--- a command that tests the start reads a scene
-tests-reads : (command : Command) → IsTrue (tests_start command) → IsTrue (reads_scene command)
+-- a command that tests the start of a scene reads a text
+tests-reads : (command : Command) → IsTrue (tests_start command) → IsTrue (reads_text command)
 tests-reads (commands.Plain full) tests = refl
 tests-reads (commands.Plan workers full) tests = refl
 tests-reads commands.Show tests = refl
 tests-reads (commands.Gen number) tests = absurd (false≢true tests)
 tests-reads (commands.Trial number) tests = absurd (false≢true tests)
 
--- a command that reads a scene succeeds as its bytes decide
+-- a command that reads a text succeeds as its bytes decide
 by_meaning : (bytes : List ℕ) (command : Command) (done : Done) (text : List ℕ) → Succeeds command bytes done text →
-    IsTrue (reads_scene command) → IsDecidedBy bytes command done.status
+    IsTrue (reads_text command) → IsDecidedBy bytes command done.status
 by_meaning bytes (commands.Plain full) done text r reads =
-    by_success bytes (commands.Plain full) done.status r.scene r.spelled (λ tests. r.start)
+    by_success bytes (commands.Plain full) done.status (r.scene ∷ []) r.spelled (λ tests. (r.start, tt))
     (Succeeds-low (commands.Plain full) bytes done text r)
 by_meaning bytes (commands.Plan workers full) done text r reads =
-    by_success bytes (commands.Plan workers full) done.status r.scene r.spelled (λ tests. r.start)
+    by_success bytes (commands.Plan workers full) done.status (r.scene ∷ []) r.spelled (λ tests. (r.start, tt))
     (Succeeds-low (commands.Plan workers full) bytes done text r)
 by_meaning bytes commands.Show done text s reads =
-    by_success bytes commands.Show done.status s.scene s.spelled (λ tests. absurd (false≢true tests))
+    by_success bytes commands.Show done.status (s.scene ∷ []) s.spelled (λ tests. absurd (false≢true tests))
     (Succeeds-low commands.Show bytes done text s)
 by_meaning bytes (commands.Gen number) done text w reads = absurd (false≢true reads)
 by_meaning bytes (commands.Trial number) done text t reads = absurd (false≢true reads)
@@ -132,14 +150,14 @@ module _ (before now : SourceState) (command : Command) (status : ℕ) where
   by_reading true bytes whole decided low = λ known is. subst (λ (b : List ℕ). IsDecidedBy b command status) (whole.all known is) (decided refl)
   by_reading false bytes unread decided low = low
 
-  of_reader : IsTrue (reads_scene command) → ((known : List ℕ) → before.bytes_left ≡ Some known → IsDecidedBy known command status) →
+  of_reader : IsTrue (reads_text command) → ((known : List ℕ) → before.bytes_left ≡ Some known → IsDecidedBy known command status) →
       IsDecided before.bytes_left command status
   of_reader reads decided =
       subst (λ (b : Bool).
       MatchBool b ((known : List ℕ) → before.bytes_left ≡ Some known → IsDecidedBy known command status) (status ≤ greatest_success command))
       (sym reads) decided
 
-  of_whole : IsTrue (reads_scene command) → (bytes : List ℕ) → IsReadWhole before now bytes → IsDecidedBy bytes command status →
+  of_whole : IsTrue (reads_text command) → (bytes : List ℕ) → IsReadWhole before now bytes → IsDecidedBy bytes command status →
       IsDecided before.bytes_left command status
   of_whole reads bytes whole decided =
       of_reader reads (λ known is. subst (λ (b : List ℕ). IsDecidedBy b command status) (whole.all known is) decided)
@@ -151,7 +169,7 @@ success_decided asked before now done text s =
     let decided = by_meaning s.bytes s.command done text s.meaning in
     let low = Succeeds-low s.command s.bytes done text s.meaning in
     subst (λ (a : Option Command). IfSome a (λ command. IsDecided before.bytes_left command done.status)) (sym s.known)
-    (by_reading before now s.command done.status (reads_scene s.command) s.bytes s.read decided low)
+    (by_reading before now s.command done.status (reads_text s.command) s.bytes s.read decided low)
 
 -- the status of a refusal, if no read failed
 pub refusal_decided : (asked : Option Command) (before now : SourceState) (refusal : Refusal) → IsCaused asked before now refusal →

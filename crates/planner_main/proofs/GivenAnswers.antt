@@ -8,12 +8,12 @@ use Rattle.planner_main.specs.declared.answers.Answer.{Answer}
 use Rattle.planner_main.specs.declared.commands.Command.{Command}
 use Rattle.planner_main.specs.declared.refusals.Refusal.{Refusal}
 use Rattle.planner_main.specs.declared.refusals.Refusal.TheVariants as refusals
-use Rattle.planner_main.specs.Commands.{reads_scene}
+use Rattle.planner_main.specs.Commands.{reads_text}
 use Rattle.planner_main.specs.Conclusions.{Answers, HasScene, IsCaused, IsSuccess, Succeeds}
 use Rattle.planner_main.specs.Exchanges.{IsUnread}
 
--- a command that reads a scene
-module _ (command : Command) (before now : SourceState) (reads : IsTrue (reads_scene command))
+-- a command that reads a text
+module _ (command : Command) (before now : SourceState) (reads : IsTrue (reads_text command))
     (within : ReadsWithin before.bytes_left now.bytes_left) where
   -- succeeds
   pub Answers-success :
@@ -40,7 +40,7 @@ module _ (command : Command) (before now : SourceState) (reads : IsTrue (reads_s
 
 -- a command that reads nothing succeeds
 pub Answers-made :
-    (command : Command) (source : SourceState) (answer : Answer) → reads_scene command ≡ false → source.has_ended ≡ false
+    (command : Command) (source : SourceState) (answer : Answer) → reads_text command ≡ false → source.has_ended ≡ false
     → Succeeds command [] answer.done answer.text.items → Answers (Some command) source source (Ok answer)
 Answers-made command source answer none unended meaning =
     let unread : IsUnread source source = record { kept = Keeps-refl source.bytes_left; no_end = unended; no_fault = refl } in

@@ -1,5 +1,5 @@
 -- What a command succeeds with, from the scene that it has read or made and from the run of it.
-use Rattle.std.proofs.Common.{◌≡◌, ℕ, ◌<◌, Bool, List, length, Some, None, refl, subst}
+use Rattle.std.proofs.Common.{◌≡◌, ℕ, ◌<◌, Bool, List, length, Some, refl, subst}
 use Rattle.std.specs.Prelude.{is_some}
 use Rattle.plan_model.specs.declared.geometry.Point.{Point}
 use Rattle.plan_model.specs.declared.records.Record.{Record}

@@ -7,6 +7,7 @@ use Rattle.planner_main.specs.declared.commands.Command.{Command}
 use Rattle.planner_main.specs.declared.commands.Command.TheVariants as commands
 use Rattle.planner_main.specs.declared.generated_scenes.TheConstants.{MOST_GENERATED}
 use Rattle.planner_main.specs.declared.statuses.TheConstants.{DONE, NO_PATH}
+use Rattle.planner_main.specs.Inputs.{Input, nothing, one_scene, reads_bytes}
 
 -- the command that one word asks for, if it asks for one
 abbrev pub command_of_word : List ℕ → Option Command
@@ -56,15 +57,19 @@ IsNumbered commands.Show = Unit {0}
 IsNumbered (commands.Gen number) = number ≤ MOST_GENERATED
 IsNumbered (commands.Trial number) = number ≤ MOST_GENERATED
 
--- whether a command reads the text of a scene; one that does not reads nothing
-abbrev pub reads_scene : Command → Bool
-reads_scene (commands.Plain full) = true
-reads_scene (commands.Plan workers full) = true
-reads_scene commands.Show = true
-reads_scene (commands.Gen number) = false
-reads_scene (commands.Trial number) = false
+-- what a command reads
+abbrev pub input_of : Command → Input
+input_of (commands.Plain full) = one_scene
+input_of (commands.Plan workers full) = one_scene
+input_of commands.Show = one_scene
+input_of (commands.Gen number) = nothing
+input_of (commands.Trial number) = nothing
 
--- whether a command is refused if the start of its scene is not clear
+-- whether a command reads a text; one that does not reads nothing
+abbrev pub reads_text : Command → Bool
+reads_text command = reads_bytes (input_of command)
+
+-- whether a command is refused if the start of a scene that it reads is not clear
 abbrev pub tests_start : Command → Bool
 tests_start (commands.Plain full) = true
 tests_start (commands.Plan workers full) = true

@@ -1,11 +1,9 @@
 -- What the program may answer: a success with its text, or a refusal with its cause and its line.
-use Rattle.std.specs.Prelude.{◌≡◌, ℕ, ◌≤◌, ◌<◌, ◌⊎◌, Bool, true, false, IsTrue, MatchBool, List, length}
+use Rattle.std.specs.Prelude.{◌≡◌, ℕ, ◌<◌, ◌⊎◌, Bool, true, false, IsTrue, MatchBool, List, length}
 use Rattle.std.specs.Prelude.{Option, Some, None, is_some, IsSome, IsSomeAnd, Result, IfOk, IfErr}
 use Rattle.plan_model.specs.declared.geometry.Goal.{Goal}
-use Rattle.plan_model.specs.declared.limits.TheConstants.{MOST_TEXT_BYTES}
 use Rattle.plan_model.specs.declared.records.Record.{Record}
 use Rattle.plan_model.specs.declared.scenes.Scene.{Scene}
-use Rattle.plan_model.specs.declared.text_terms.Kind.{Kind}
 use Rattle.plan_model.specs.ConfigurationSpace.{space_of}
 use Rattle.plan_model.specs.Clearance.{ClearAt}
 use Rattle.plan_model.specs.MarkPoints.{mark_points}
@@ -17,7 +15,6 @@ use Rattle.plan_model.specs.TreeStates.{TreeState, IsSettled}
 use Rattle.plan_model.specs.BestNode.{best_node, goals_of}
 use Rattle.plan_model.specs.ReportText.{report_text, summary}
 use Rattle.plan_model.specs.CanonicalText.{canonical_text}
-use Rattle.plan_model.specs.SceneGrammar.{Spells, Refused, supported}
 use Rattle.step_core.specs.declared.grown.Grown.{Grown}
 use Rattle.step_core.specs.GrownRuns.{state_of_grown}
 use Rattle.scene_text.specs.Fetching.{ReadsWithin}
@@ -28,7 +25,8 @@ use Rattle.planner_main.specs.declared.refusals.Refusal.{Refusal}
 use Rattle.planner_main.specs.declared.refusals.Refusal.TheVariants as refusals
 use Rattle.planner_main.specs.declared.statuses.TheConstants.{DONE, NO_PATH}
 use Rattle.planner_main.specs.declared.top_call.Done.{Done}
-use Rattle.planner_main.specs.Commands.{reads_scene, tests_start}
+use Rattle.planner_main.specs.Commands.{input_of, reads_text, tests_start}
+use Rattle.planner_main.specs.Inputs.{AreStartsClear, IsTextOf, RefusesInput, SpellsInput}
 use Rattle.planner_main.specs.GeneratedScenes.{IsGenerated}
 use Rattle.planner_main.specs.Exchanges.{IsReadWhole, IsUnread, IsReadFault, IsTooLong, NoReadFailed}
 use Rattle.planner_main.specs.Refusals.{status_of, line_of}
@@ -36,16 +34,6 @@ use Rattle.planner_main.specs.Refusals.{status_of, line_of}
 -- nothing is handed out beside the status
 abbrev pub HandsOutNothing : Done → Type 0
 HandsOutNothing done = done.run ≡ None
-
--- the bytes are a text of a permitted length that spells the scene
-pub record IsTextOf (scene : Scene) (bytes : List ℕ) : Type 0 where
-  pub short : length bytes ≤ MOST_TEXT_BYTES
-  pub spelled : Spells supported bytes scene
-
--- the bytes are a text of a permitted length that the grammar refuses at this line, by this kind of fault
-pub record IsFaultyText (number : ℕ) (kind : Kind) (bytes : List ℕ) : Type 0 where
-  pub short : length bytes ≤ MOST_TEXT_BYTES
-  pub refused : Refused supported bytes number kind
 
 -- the status of a planned run: whether there is a path
 abbrev pub status_of_report : Bool → ℕ
@@ -122,9 +110,9 @@ Succeeds commands.Show bytes done text = ShowsScene bytes done text
 Succeeds (commands.Gen number) bytes done text = WritesGenerated number done text
 Succeeds (commands.Trial number) bytes done text = TriesGenerated number done text
 
--- what a command that succeeds has read: the whole text of the scene, or nothing
+-- what a command that succeeds has read: a whole text, or nothing
 abbrev pub HasRead : Command → SourceState → SourceState → List ℕ → Type 0
-HasRead command before now bytes = MatchBool (reads_scene command) (IsReadWhole before now bytes) (IsUnread before now)
+HasRead command before now bytes = MatchBool (reads_text command) (IsReadWhole before now bytes) (IsUnread before now)
 
 -- the words ask for a command, and it succeeds
 pub record IsSuccess (asked : Option Command) (before now : SourceState) (done : Done) (text : List ℕ) : Type 0 where
@@ -134,11 +122,11 @@ pub record IsSuccess (asked : Option Command) (before now : SourceState) (done :
   pub read : HasRead command before now bytes
   pub meaning : Succeeds command bytes done text
 
--- the bytes spell a scene whose start is not clear
-pub record BlocksStart (bytes : List ℕ) : Type 0 where
-  pub scene : Scene
-  pub spelled : IsTextOf scene bytes
-  pub blocked : ¬ ClearAt (space_of scene) scene.start
+-- the bytes that the command reads spell scenes whose starts are not all clear
+pub record BlocksStart (command : Command) (bytes : List ℕ) : Type 0 where
+  pub scenes : List Scene
+  pub spelled : SpellsInput (input_of command) bytes scenes
+  pub blocked : ¬ AreStartsClear scenes
 
 -- the words ask for a command that stands in a table
 abbrev pub Asks : (Command → Bool) → Option Command → Type 0
@@ -148,18 +136,23 @@ Asks table asked = IsSomeAnd asked (λ command. IsTrue (table command))
 abbrev pub ReadsSuch : SourceState → SourceState → (List ℕ → Type 0) → Type 0
 ReadsSuch before now P = (bytes : List ℕ) × IsReadWhole before now bytes × P bytes
 
+-- the words ask for a command, and the source was read to its end, and what came has a property by the command
+abbrev pub AskedReads : Option Command → SourceState → SourceState → (Command → List ℕ → Type 0) → Type 0
+AskedReads asked before now P = IsSomeAnd asked (λ command. ReadsSuch before now (P command))
+
 -- why each refusal comes; that the program is out of memory is free
 abbrev pub IsCaused : Option Command → SourceState → SourceState → Refusal → Type 0
 IsCaused asked before now refusals.Words = (asked ≡ None) × IsUnread before now
-IsCaused asked before now refusals.TooLong = Asks reads_scene asked × IsTooLong before now
-IsCaused asked before now (refusals.Text number kind) = Asks reads_scene asked × ReadsSuch before now (IsFaultyText number kind)
-IsCaused asked before now refusals.StartBlocked = Asks tests_start asked × ReadsSuch before now BlocksStart
-IsCaused asked before now refusals.ReadFault = Asks reads_scene asked × IsReadFault before now
+IsCaused asked before now refusals.TooLong = Asks reads_text asked × IsTooLong before now
+IsCaused asked before now (refusals.Text number kind) =
+    Asks reads_text asked × AskedReads asked before now (λ command. RefusesInput (input_of command) number kind)
+IsCaused asked before now refusals.StartBlocked = Asks tests_start asked × AskedReads asked before now BlocksStart
+IsCaused asked before now refusals.ReadFault = Asks reads_text asked × IsReadFault before now
 IsCaused asked before now refusals.Memory = IsSome asked × NoReadFailed before now
 
--- the start of the scene is clear, if the command tests it
-abbrev pub MayStart : Command → Scene → Type 0
-MayStart command scene = IsTrue (tests_start command) → ClearAt (space_of scene) scene.start
+-- the start of each scene is clear, if the command tests it
+abbrev pub MayStart : Command → List Scene → Type 0
+MayStart command scenes = IsTrue (tests_start command) → AreStartsClear scenes
 
 -- the source was read to its end, and what came is a text of the scene
 pub record HasScene (before now : SourceState) (scene : Scene) : Type 0 where
@@ -180,10 +173,10 @@ pub record IsRefusal (asked : Option Command) (before now : SourceState) (done :
 abbrev pub IsAnswer : Option Command → SourceState → SourceState → Done → List ℕ → Type 0
 IsAnswer asked before now done text = IsSuccess asked before now done text ⊎ IsRefusal asked before now done text
 
--- What is answered to the words, as the program hands it down. Unless they ask for a command that reads a scene, nothing is read,
+-- What is answered to the words, as the program hands it down. Unless they ask for a command that reads a text, nothing is read,
 -- and never more than one byte past the limit of a text is.
 pub record Answers (asked : Option Command) (before now : SourceState) (result : Result Answer Refusal) : Type 0 where
   pub success : IfOk result (λ answer. IsSuccess asked before now answer.done answer.text.items)
   pub refusal : IfErr result (IsCaused asked before now)
-  pub unread : (¬ Asks reads_scene asked) → IsUnread before now
+  pub unread : (¬ Asks reads_text asked) → IsUnread before now
   pub within : ReadsWithin before.bytes_left now.bytes_left

@@ -3,22 +3,22 @@ use Rattle.std.specs.Prelude.{◌≡◌, ℕ, ◌<◌, ◌≤◌, Option, Some, 
 use Rattle.plan_model.specs.declared.limits.TheConstants.{MOST_TEXT_BYTES}
 use Rattle.plan_model.specs.declared.scenes.Scene.{Scene}
 use Rattle.plan_model.specs.declared.text_terms.Kind.{Kind}
-use Rattle.plan_model.specs.ConfigurationSpace.{space_of}
-use Rattle.plan_model.specs.Clearance.{ClearAt}
 use Rattle.planner_main.specs.declared.commands.Command.{Command}
 use Rattle.planner_main.specs.declared.statuses.TheConstants.{TEXT_REFUSED, START_BLOCKED}
-use Rattle.planner_main.specs.Commands.{reads_scene, tests_start, greatest_success}
-use Rattle.planner_main.specs.Conclusions.{IsTextOf, IsFaultyText, MayStart}
+use Rattle.planner_main.specs.Commands.{input_of, reads_text, tests_start, greatest_success}
+use Rattle.planner_main.specs.Conclusions.{MayStart}
+use Rattle.planner_main.specs.Inputs.{AreStartsClear, RefusesInput, SpellsInput}
 
--- the status of a command that reads the text of a scene, by the bytes of the source
+-- the status of a command that reads a text, by the bytes of the source
 pub record IsDecidedBy (bytes : List ℕ) (command : Command) (status : ℕ) : Type 0 where
-  pub done : (scene : Scene) → IsTextOf scene bytes → MayStart command scene → status ≤ greatest_success command
+  pub done : (scenes : List Scene) → SpellsInput (input_of command) bytes scenes → MayStart command scenes → status ≤ greatest_success command
   pub blocked :
-      (scene : Scene) → IsTextOf scene bytes → IsTrue (tests_start command) → (¬ ClearAt (space_of scene) scene.start) → status ≡ START_BLOCKED
-  pub refused : (number : ℕ) (kind : Kind) → IsFaultyText number kind bytes → status ≡ TEXT_REFUSED
+      (scenes : List Scene) → SpellsInput (input_of command) bytes scenes → IsTrue (tests_start command) → (¬ AreStartsClear scenes)
+      → status ≡ START_BLOCKED
+  pub refused : (number : ℕ) (kind : Kind) → RefusesInput (input_of command) number kind bytes → status ≡ TEXT_REFUSED
   pub long : MOST_TEXT_BYTES < length bytes → status ≡ TEXT_REFUSED
 
 -- The status of a command: by the bytes of the source, if they are known; a command that reads nothing succeeds.
 abbrev pub IsDecided : Option (List ℕ) → Command → ℕ → Type 0
 IsDecided left command status =
-    MatchBool (reads_scene command) ((bytes : List ℕ) → left ≡ Some bytes → IsDecidedBy bytes command status) (status ≤ greatest_success command)
+    MatchBool (reads_text command) ((bytes : List ℕ) → left ≡ Some bytes → IsDecidedBy bytes command status) (status ≤ greatest_success command)

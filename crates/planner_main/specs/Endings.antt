@@ -5,7 +5,7 @@ use Rattle.scene_text.specs.Fetching.{ReadsWithin}
 use Rattle.planner_main.specs.declared.commands.Command.{Command}
 use Rattle.planner_main.specs.declared.statuses.TheConstants.{WORDS_REFUSED, WRITE_FAULT, NO_MEMORY}
 use Rattle.planner_main.specs.declared.top_call.Done.{Done}
-use Rattle.planner_main.specs.Commands.{reads_scene}
+use Rattle.planner_main.specs.Commands.{reads_text}
 use Rattle.planner_main.specs.Conclusions.{IsAnswer, Asks}
 use Rattle.planner_main.specs.Decisions.{IsDecided}
 use Rattle.planner_main.specs.Exchanges.{ReadFailed, WriteFailed, IsUnread, IsWrittenWhole, IsCutShort}
@@ -26,7 +26,7 @@ pub record HasConcluded
       → (result.status ≡ NO_MEMORY) ⊎ IfSome asked (λ command. IsDecided before.bytes_left command result.status)
   -- words that ask for no command are refused
   pub words : asked ≡ None → (result.status ≡ WORDS_REFUSED) ⊎ (result.status ≡ WRITE_FAULT)
-  -- unless the words ask for a command that reads a scene, nothing is read
-  pub unread : (¬ Asks reads_scene asked) → IsUnread before now
+  -- unless the words ask for a command that reads a text, nothing is read
+  pub unread : (¬ Asks reads_text asked) → IsUnread before now
   -- never more than one byte past the limit of a text is read
   pub within : ReadsWithin before.bytes_left now.bytes_left

@@ -5,6 +5,7 @@ pub mod Decisions
 pub mod Endings
 pub mod Faults
 pub mod Commands
+pub mod Inputs
 pub mod CommandLines
 pub mod GeneratedScenes
 pub mod FixedNumbers

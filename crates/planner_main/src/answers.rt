@@ -12,9 +12,10 @@ ghost use Rattle.plan_model.specs.SameRuns.{IsOfTextbookRun};
 ghost use Rattle.plan_model.specs.Textbook.{setup_of};
 ghost use Rattle.plan_model.specs.TreeStates.{IsSettled};
 ghost use Rattle.scene_text.specs.Fetching.{ReadsWithin};
-ghost use Rattle.planner_main.specs.Commands.{command_of, reads_scene, IsNumbered};
+ghost use Rattle.planner_main.specs.Commands.{command_of, input_of, IsNumbered};
 ghost use Rattle.planner_main.specs.Conclusions.{Answers, IsCaused, HandsOutNothing, HasScene, ReportsGrown, WritesGenerated, TriesGenerated};
 ghost use Rattle.planner_main.specs.Conclusions.{status_of_report};
+ghost use Rattle.planner_main.specs.Inputs.{one_scene};
 ghost use Rattle.planner_main.specs.declared.generated_scenes.TheConstants.{MOST_GENERATED};
 ghost use Rattle.planner_main.specs.declared.statuses.TheConstants.{DONE};
 ghost use Rattle.step_core.specs.GrownRuns.{state_of_grown};
@@ -133,7 +134,7 @@ fn show<S: Source>(alloc: Global, source: &mut S) -> Result<Answer, Refusal>
 
 /// The scene that a command asks for, read from the source.
 fn scene_for<S: Source>(alloc: Global, command: Command, source: &mut S) -> Result<Scene, Refusal>
-    requires reads { reads_scene command ≡ true }
+    requires reads { input_of command ≡ one_scene }
     requires unended { (S.state source.old).has_ended ≡ false }
     ensures scene { IfOk result (HasScene (S.state source.old) (S.state source.new)) }
     ensures refusal { IfErr result (IsCaused (Some command) (S.state source.old) (S.state source.new)) }

@@ -9,7 +9,8 @@ pub returns-in_err-hall : goal.returns-in_err-hall
 returns-in_err-hall g c =
     Answers-refusal (commands.Plain c.args.full) _ _ refl c.in_ok-scene.ensures.within c.from_residual-in_err-hall.result _
     c.from_residual-in_err-hall.ensures.1
-    (hall-caused (commands.Plain c.args.full) _ _ c.in_ok-scene.scene c.in_err-hall.field-0.0 refl c.in_ok-scene.ensures.scene c.in_err-hall.ensures.refusal)
+    (hall-caused (commands.Plain c.args.full) _ _ c.in_ok-scene.scene c.in_err-hall.field-0.0 refl refl c.in_ok-scene.ensures.scene
+    c.in_err-hall.ensures.refusal)
 
 pub returns-in_err-grown : goal.returns-in_err-grown
 returns-in_err-grown g c =

@@ -1,5 +1,6 @@
-use Rattle.std.proofs.Common.{refl}
+use Rattle.std.proofs.Common.{refl, ap}
 use Rattle.planner_main.specs.Conclusions.{IsCaused}
+use Rattle.planner_main.specs.Inputs.{reads_bytes}
 use Rattle.planner_main.proofs.Causes.{fetch-caused, IfErr-only}
 use Rattle.planner_main.proofs.answers.scene_for.Goals as goal
 
@@ -9,5 +10,5 @@ returns-in_err-text-clause-refusal g c =
     let now = g.S.Source.state c.fetch.new.source in
     let fetched = c.in_err-text.ensures in
     IfErr-only c.from_residual.result _ (IsCaused _ before now) c.from_residual.ensures.1
-    (fetch-caused c.args.command before now _ c.in_err-text.field-0.0 refl c.requires.reads fetched.no_end fetched.came
+    (fetch-caused c.args.command before now _ c.in_err-text.field-0.0 refl (ap reads_bytes c.requires.reads) fetched.no_end fetched.came
     fetched.read fetched.one_fault fetched.no_fault)

@@ -1,4 +1,4 @@
-use Rattle.std.proofs.Common.{inl, inr, refl, arith, ◌∙◌}
+use Rattle.std.proofs.Common.{inl, inr, arith, ◌∙◌}
 use Rattle.planner_main.proofs.ConcludedCalls.{HasConcluded-answer}
 use Rattle.planner_main.proofs.DecidedStatuses.{IsSuccess-low}
 use Rattle.planner_main.proofs.top_call.run.Goals as goal
@@ -21,5 +21,12 @@ returns-in-Err g c =
     let ending = c.conclude-in-Err.ensures in
     let written = c.as_bytes.ensures.value ∙ c.deref-in-Err.ensures.0 ∙ c.line.ensures in
     HasConcluded-answer _ _ _ _ c.as_bytes.result.now _ _ _
-    (inr (record { refusal = c.in-Err.refusal; cause = answer.refusal; status = c.with_status-done.ensures.status ∙ c.status.ensures; nothing = c.with_status-done.ensures.nothing; written = written }))
+    (inr (record {
+      refusal = c.in-Err.refusal;
+      cause = answer.refusal;
+      status = c.with_status-done.ensures.status
+          ∙ c.status.ensures;
+      nothing = c.with_status-done.ensures.nothing;
+      written = written;
+    }))
     answer.unread answer.within ending.done ending.cut
