@@ -7,6 +7,7 @@ use Rattle.plan_model.specs.declared.geometry.Vertex.{Vertex}
 use Rattle.plan_model.specs.Convexity.{corner_at}
 use Rattle.plan_model.specs.Meeting.{Meets, weighted}
 use Rattle.plan_model.specs.RoomOfConfigurations.{Rational}
+use Rattle.plan_model.proofs.MeetingLaws.{SharesPoint-meets, Meets-shares_point}
 use Rattle.convex_sets.specs.Edges.{cross, from_to}
 use Rattle.convex_sets.proofs.Ring.{var, plus, minus, times, same}
 use Rattle.convex_sets.proofs.Signs.{mul-not_negative, not_negative_factor}
@@ -165,10 +166,11 @@ apart e a b l d x y s t u v p q = multiplied ∙ (rw (← p, ← q) collected)
         (times (minus (var (pos 0)) (var e.y)) (minus (var u) (times (var l) (var b.x))))))) (omega arith)
 
 -- where the body meets the obstacle, the point lies to the left of every line that has the obstacle to its left and the body to its right
-pub meets_left : (e a b : Vertex) (body : List Vertex) (q : Rational) (obstacle : List Vertex) → Meets body q obstacle
+pub meets_left : (e a b : Vertex) (body : List Vertex) (q : Rational) (obstacle : List Vertex) → Meets 0 body q obstacle
     → ((i : ℕ) → i < length obstacle → pos 0 ≤ℤ cross e (from_to a (corner_at obstacle i)))
     → ((i : ℕ) → i < length body → pos 0 ≤ℤ cross (turned_back e) (from_to b (corner_at body i))) → pos 0 ≤ℤ cross e (out_to (difference a b) q)
-meets_left e a b body q obstacle m on_left on_right =
+meets_left e a b body q obstacle meets on_left on_right =
+    let m = SharesPoint-meets body obstacle q meets in
     let first = rw m.obstacle_total at (left_sum e a m.on_obstacle obstacle m.obstacle_corners on_left) in
     let second = rw m.body_total at (left_sum (turned_back e) b m.on_body body m.body_corners on_right) in
     let d = pos q.over in
@@ -202,14 +204,14 @@ pub record IsDifference (body obstacle : List Vertex) (z : Vertex) : Type 0 wher
 
 -- a mean of differences is a difference of means
 pub Meets-mean : (body obstacle : List Vertex) (a b c : Vertex) (q : Rational) → IsMeanOf a b c q → IsDifference body obstacle a
-    → IsDifference body obstacle b → IsDifference body obstacle c → Meets body q obstacle
+    → IsDifference body obstacle b → IsDifference body obstacle c → Meets 0 body q obstacle
 Meets-mean body obstacle a b c q m f g h =
     let u = m.first in
     let v = m.second in
     let w = m.third in
     let above = weights obstacle f.on_obstacle g.on_obstacle h.on_obstacle u v w f.within_obstacle g.within_obstacle h.within_obstacle in
     let below = weights body f.on_body g.on_body h.on_body u v w f.within_body g.within_body h.within_body in
-    record {
+    Meets-shares_point 0 body obstacle q (record {
       total = u + v + w;
       on_obstacle = above.on;
       on_body = below.on;
@@ -226,4 +228,4 @@ Meets-mean body obstacle a b c q m f g h =
           (same_sum (pos q.over) a.y b.y c.y (corner_at obstacle f.on_obstacle).y (corner_at obstacle g.on_obstacle).y
           (corner_at obstacle h.on_obstacle).y (corner_at body f.on_body).y (corner_at body g.on_body).y (corner_at body h.on_body).y (pos u) (pos v)
           (pos w) f.vertical g.vertical h.vertical ∙ m.vertical);
-    }
+    })

@@ -168,7 +168,7 @@ module _ (body obstacle a b z : List Vertex) (first : IsOutlineOf obstacle a) (s
             (corner_at a s.first),
       ))
 
-  inside : (q : Rational) → Meets body q obstacle → IsInside z q
+  inside : (q : Rational) → Meets 0 body q obstacle → IsInside z q
   inside q m = λ i p.
       let e = from_to (corner_at z i) (corner_at z (next_corner (length z) i)) in
       let s = merged.sums i p in
@@ -189,7 +189,7 @@ module _ (body obstacle a b z : List Vertex) (first : IsOutlineOf obstacle a) (s
       rw (back_to_back e c (corner_at body t)) there in
       subst (λ (v : Vertex). pos 0 ≤ℤ cross e (out_to v q)) (sym is) (meets_left e o c body q obstacle m left right)
 
-  meets : (q : Rational) → IsInside z q → Meets body q obstacle
+  meets : (q : Rational) → IsInside z q → Meets 0 body q obstacle
   meets q within =
       let f = fan z q (IsConvex-from_test z merged.convex) within in
       let k = f.0 in
@@ -228,13 +228,13 @@ module _ (body obstacle a b z : List Vertex) (first : IsOutlineOf obstacle a) (s
       let r = merged.lowest i l in
       by_lt_z (corner_at z 0).y (corner_at z i).y (λ lower. inl lower) (λ not_lower. inr (omega (arith, ints), omega (arith, ints)))
 
-  IsZoneOf-merged : AreBoundedCorners z → IsZoneOf body obstacle z
+  IsZoneOf-merged : AreBoundedCorners z → IsZoneOf 0 body obstacle z
   IsZoneOf-merged h = record { exact = λ q. (inside q, meets q); convex = merged.convex; first = lowest h }
 
 pub zone_is : (body obstacle a b z : List Vertex) → IsOutlineOf obstacle a → IsOutlineOf (map reflection body) b → IsMerged a b z
     → list_all (is_corner_between LEAST_BODY_COORDINATE MOST_BODY_COORDINATE) body ≡ true
     → list_all (is_corner_between LEAST_SUMMAND_COORDINATE MOST_SUMMAND_COORDINATE) obstacle ≡ true
-    → IsZoneOf body obstacle z
+    → IsZoneOf 0 body obstacle z
 zone_is body obstacle a b z first second merged p q = IsZoneOf-merged body obstacle a b z first second merged
     (bounded body obstacle a b z first second merged p q)
 

@@ -58,8 +58,9 @@ impl Zone {
     ghost use Rattle.plan_model.specs.HalfPlanes.{IsInside};
     ghost use Rattle.plan_model.specs.RoomOfConfigurations.{at_lattice};
 
-    /// The zone of a body and an obstacle: the Minkowski sum of the obstacle and the reflected body, made of the edges of
-    /// both, sorted by angle. Parallel edges become one, so no corner stands between two others. O(n + m).
+    /// The zone of a body and an obstacle, with clearance 0: the Minkowski sum of the obstacle and the reflected body,
+    /// made of the edges of both, sorted by angle. Parallel edges become one, so no corner stands between two others.
+    /// O(n + m).
     ///
     /// The body is strictly convex, or has one corner; then the zone is the obstacle, moved by minus that corner. Its
     /// coordinates are those that a body may have. The obstacle is strictly convex, with coordinates from
@@ -73,7 +74,7 @@ impl Zone {
         requires body_within { IsTrue (list_all (is_corner_between LEAST_BODY_COORDINATE MOST_BODY_COORDINATE) body.now) }
         requires obstacle { is_strictly_convex obstacle.now ≡ true }
         requires obstacle_within { IsTrue (list_all (is_corner_between LEAST_SUMMAND_COORDINATE MOST_SUMMAND_COORDINATE) obstacle.now) }
-        ensures zone { IfOk result (λ zone. IsZoneOf body.now obstacle.now zone) }
+        ensures zone { IfOk result (λ zone. IsZoneOf 0 body.now obstacle.now zone) }
     {
         let reflected = reflected(alloc, body.as_slice())?;
         let body_outline = outline(alloc, reflected.as_slice())?;

@@ -20,6 +20,7 @@ use Rattle.plan_model.specs.RecordLaw.{is_earlier_record}
 use Rattle.plan_model.specs.Steering.{steered}
 use Rattle.plan_model.specs.Turns.{is_of_worker}
 use Rattle.plan_model.specs.declared.geometry.Point.{Point}
+use Rattle.plan_model.specs.declared.records.Outcome.{Outcome}
 use Rattle.plan_model.specs.declared.records.Outcome.TheVariants.{Placed, Same}
 use Rattle.plan_model.specs.declared.records.Record.{Record}
 use Rattle.plan_model.proofs.ClassLaws.{below_digits}
@@ -32,7 +33,7 @@ use Rattle.plan_words.proofs.KeptPairs.{if_hand}
 use Rattle.plan_words.proofs.Tying.{HasMember-held}
 use Rattle.step_core.specs.GrownWords.{has_node, has_placed, record_at}
 use Rattle.step_core.specs.LaterViews.{IsLawfulView}
-use Rattle.step_core.specs.SeenRecords.{IsOwnNeighbour, MayBePlaced, MayEnd, MayRecord, is_own_node, own_count}
+use Rattle.step_core.specs.SeenRecords.{IsOwnNeighbour, MayBePlaced, MayEnd, MayRecord, MaySteer, is_own_node, own_count}
 use Rattle.step_core.specs.Stages.{has_link}
 use Rattle.step_core.specs.ViewTrees.{SeesPoint}
 use Rattle.step_core.specs.Views.{sees, setup_in, tree_seen}
@@ -126,23 +127,27 @@ module _ (view : View) (nearest : ℕ) (entry : Record) (lawful : IsLawfulView v
       ∙ point_of-stands (tree_seen view).points steers.hand.nearest step.from step.seen in
       step.reached ∙ ap (λ p. steered p (mark_at view.run.marks steers.hand.mark) view.run.step) (sym at)
 
-  MayRecord-steered : MayEnd view steers.hand entry steers.hand.point entry.outcome → IfSome view.hand (λ h. MayRecord view h entry)
-  MayRecord-steered ended =
-      if_hand (λ h. MayRecord view h entry) view.hand steers.hand steers.held (record {
-        present = subst (IsPresent (tree_seen view).points) (sym is) (present_nearest view nearest lawful steers);
-        nearest = λ i own.
-            subst (λ m. IsNotAbove (distance_to (mark_at view.run.marks steers.hand.mark) (tree_seen view).points) m i) (sym is)
-            (steers.not_above i (own_recorded view entry i own));
-        outcome = subst (λ p. MayEnd view steers.hand entry p entry.outcome) reached ended;
-      })
+  -- so the mark may end with what it may be at that point
+  MaySteer-steered : (MayEndAt : Point → Type 0) → MayEndAt steers.hand.point → MaySteer view steers.hand entry MayEndAt
+  MaySteer-steered MayEndAt ended = record {
+    present = subst (IsPresent (tree_seen view).points) (sym is) (present_nearest view nearest lawful steers);
+    nearest = λ i own.
+        subst (λ m. IsNotAbove (distance_to (mark_at view.run.marks steers.hand.mark) (tree_seen view).points) m i) (sym is)
+        (steers.not_above i (own_recorded view entry i own));
+    outcome = subst MayEndAt reached ended;
+  }
+
+  MayRecord-steered : (outcome : Outcome) → entry.outcome ≡ outcome → MayEnd view steers.hand entry outcome → IfSome view.hand (λ h. MayRecord view h entry)
+  MayRecord-steered outcome e may =
+      if_hand (λ h. MayRecord view h entry) view.hand steers.hand steers.held (subst (MayEnd view steers.hand entry) (sym e) may)
 
 pub may_finish-same :
     (view : View) (nearest j : ℕ) (entry : Record) → IsLawfulView view → SteersFrom nearest view → SeesHandPoint view j → entry.nearest ≡ nearest
     → entry.outcome ≡ Same j → IfSome view.hand (λ h. MayRecord view h entry)
 may_finish-same view nearest j entry lawful steers seen is outcome =
     let same : seen.hand ≡ steers.hand = cc (seen.held, steers.held) in
-    MayRecord-steered view nearest entry lawful steers is
-    (subst (MayEnd view steers.hand entry steers.hand.point) (sym outcome) (subst (λ h. SeesPoint view j h.point) same seen.stands))
+    MayRecord-steered view nearest entry lawful steers is (Same j) outcome
+    (MaySteer-steered view nearest entry lawful steers is (SeesPoint view j) (subst (λ h. SeesPoint view j h.point) same seen.stands))
 
 module _ (view : View) (nearest cost : ℕ) (entry : Record) (lawful : IsLawfulView view) (hangs : HangsBelow nearest cost view)
     (linked : has_link hangs.steers.hand.stage ≡ true) (gamma : view.run.gamma ≡ 0) where
@@ -176,4 +181,5 @@ module _ (view : View) (nearest cost : ℕ) (entry : Record) (lawful : IsLawfulV
         chosen = λ i near. absurd (no_neighbour i near);
         rewired = λ i near. absurd (no_neighbour i near);
       } in
-      MayRecord-steered view nearest entry lawful hangs.steers is (subst (MayEnd view hand entry hand.point) (sym outcome) placed)
+      MayRecord-steered view nearest entry lawful hangs.steers is Placed outcome
+      (MaySteer-steered view nearest entry lawful hangs.steers is (λ p. MayBePlaced view hand entry) placed)

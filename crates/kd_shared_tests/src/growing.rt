@@ -51,7 +51,7 @@ pub(crate) fn marks_round(
     requires start { IsInRoom (record { x = 65535; y = 65535 }) start }
     requires some_strips { LEAST_STRIPS ≤ strips }
     requires few_strips { strips ≤ MOST_STRIPS }
-    requires plan { IsTrue (is_plan (Listed marks.now)) }
+    requires plan { IsTrue (is_plan 1 (Listed marks.now)) }
     ensures clear { IfOk result (λ task. ClearAt (space_of task.scene) task.scene.start) }
     ensures marks { IfOk result (λ task. task.marks ≡ marks.now) }
 {
@@ -284,10 +284,11 @@ pub(crate) fn tree_of<R: Abort>(
     points: &[Point],
 ) -> (Shared, Pass)
     requires start { IsInRoom (record { x = 65535; y = 65535 }) start }
-    requires plan { IsTrue (is_plan (Listed points.now)) }
+    requires plan { IsTrue (is_plan 1 (Listed points.now)) }
     ensures { MayClaim result.0 result.1 }
 {
     let task = sure(rt, marks_round(alloc, start, 1, points));
+    assert!(rt; task.scene.clearance == 0);
     let hall = sure(rt, Hall::new(alloc, &task.scene));
     let (shared, mut pass) = shared_by_one(rt, alloc, task);
     let limit = points.len() as u32;

@@ -45,7 +45,7 @@ fn shared_by_two<R: Abort>(rt: &R, alloc: Global, task: Task) -> (Shared, Vec<Pa
 
 /// These marks in a small room, from a corner of it.
 fn small_task<R: Abort>(rt: &R, alloc: Global, marks: &[Point]) -> Task
-    requires { IsTrue (is_plan (Listed marks.now)) }
+    requires { IsTrue (is_plan 1 (Listed marks.now)) }
     ensures clear { ClearAt (space_of result.scene) result.scene.start }
     ensures marks { result.marks ≡ marks.now }
 {
@@ -66,7 +66,7 @@ fn small_task<R: Abort>(rt: &R, alloc: Global, marks: &[Point]) -> Task
 
 /// Two passes over these marks in a small room, and the collision checker of that.
 fn two_passes<R: Abort>(rt: &R, alloc: Global, marks: &[Point]) -> Two
-    requires { IsTrue (is_plan (Listed marks.now)) }
+    requires { IsTrue (is_plan 1 (Listed marks.now)) }
     ensures opening { result.0.opening ≡ 0 }
     ensures marks { result.0.task.marks ≡ marks.now }
     ensures hall { result.1 ≡ space_of result.0.task.scene }
@@ -74,6 +74,7 @@ fn two_passes<R: Abort>(rt: &R, alloc: Global, marks: &[Point]) -> Two
     ensures second { MayClaim result.0 result.3 }
 {
     let task = small_task(rt, alloc, marks);
+    assert!(rt; task.scene.clearance == 0);
     let hall = sure(rt, Hall::new(alloc, &task.scene));
     let (shared, mut passes) = shared_by_two(rt, alloc, task);
     let second = some(rt, last_pass(&shared, &mut passes));

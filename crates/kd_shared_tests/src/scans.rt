@@ -12,7 +12,7 @@ use plan_model::Point;
 /// The point with this number.
 fn point_of(start: Point, points: &[Point], number: usize) -> Point
     requires start { IsInRoom (record { x = 65535; y = 65535 }) start }
-    requires plan { IsTrue (is_plan (Listed points.now)) }
+    requires plan { IsTrue (is_plan 1 (Listed points.now)) }
     requires number { number ≤ length points.now }
     ensures { IsBounded result }
 {
@@ -26,7 +26,7 @@ fn point_of(start: Point, points: &[Point], number: usize) -> Point
 /// The least number at a point.
 pub(crate) fn scan_find(start: Point, points: &[Point], p: Point) -> Option<u32>
     requires start { IsInRoom (record { x = 65535; y = 65535 }) start }
-    requires plan { IsTrue (is_plan (Listed points.now)) }
+    requires plan { IsTrue (is_plan 1 (Listed points.now)) }
 {
     'numbers: for number in 0..points.len() + 1 {
         if point_of(start, points, number) == p {
@@ -39,7 +39,7 @@ pub(crate) fn scan_find(start: Point, points: &[Point], p: Point) -> Option<u32>
 /// The least number of those that are nearest to a point.
 pub(crate) fn scan_nearest(start: Point, points: &[Point], p: Point) -> u32
     requires start { IsInRoom (record { x = 65535; y = 65535 }) start }
-    requires plan { IsTrue (is_plan (Listed points.now)) }
+    requires plan { IsTrue (is_plan 1 (Listed points.now)) }
     requires bounded { IsBounded p }
 {
     let mut best = 0;
@@ -55,7 +55,7 @@ pub(crate) fn scan_nearest(start: Point, points: &[Point], p: Point) -> u32
 /// Whether a list has the numbers within a radius of a point, each point once.
 pub(crate) fn is_scan_near(list: &[u32], start: Point, points: &[Point], p: Point, r: u32) -> bool
     requires start { IsInRoom (record { x = 65535; y = 65535 }) start }
-    requires plan { IsTrue (is_plan (Listed points.now)) }
+    requires plan { IsTrue (is_plan 1 (Listed points.now)) }
     requires bounded { IsBounded p }
 {
     let most = u64::from(r) * u64::from(r);

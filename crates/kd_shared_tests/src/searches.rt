@@ -60,7 +60,7 @@ fn node_answers_as_scans(
 ) -> bool
     requires belongs { BelongsTo pass.old shared.now }
     requires start { IsInRoom (record { x = 65535; y = 65535 }) start }
-    requires plan { IsTrue (is_plan (Listed points.now)) }
+    requires plan { IsTrue (is_plan 1 (Listed points.now)) }
     requires bounded { IsBounded p }
     ensures { BelongsTo pass.new shared.now }
 {
@@ -80,7 +80,7 @@ fn answers_as_scans(
 ) -> bool
     requires belongs { BelongsTo pass.old shared.now }
     requires start { IsInRoom (record { x = 65535; y = 65535 }) start }
-    requires plan { IsTrue (is_plan (Listed points.now)) }
+    requires plan { IsTrue (is_plan 1 (Listed points.now)) }
     requires bounded { IsBounded p }
     requires radius { r + 1 < 2 ^ 32 }
     ensures { BelongsTo pass.new shared.now }
@@ -110,7 +110,7 @@ fn all_answer_as_scans(
 ) -> bool
     requires belongs { BelongsTo pass.old shared.now }
     requires start { IsInRoom (record { x = 65535; y = 65535 }) start }
-    requires plan { IsTrue (is_plan (Listed points.now)) }
+    requires plan { IsTrue (is_plan 1 (Listed points.now)) }
     requires bounded { window.low + window.side ≤ MOST_COORDINATE + 1 }
     requires side { window.side ≤ 16 }
     requires radius { r + 1 < 2 ^ 32 }
@@ -136,7 +136,7 @@ fn expect_scans<R: Abort>(
     r: u32,
 )
     requires start { IsInRoom (record { x = 65535; y = 65535 }) start }
-    requires plan { IsTrue (is_plan (Listed points.now)) }
+    requires plan { IsTrue (is_plan 1 (Listed points.now)) }
     requires bounded { window.low + window.side ≤ MOST_COORDINATE + 1 }
     requires side { window.side ≤ 16 }
     requires radius { r + 1 < 2 ^ 32 }
@@ -155,7 +155,7 @@ fn at(x: u32, y: u32) -> Point
 
 /// Points with equal columns and rows, among them the start's, and some twice.
 fn square() -> [Point; 12]
-    ensures { IsTrue (is_plan (Listed result)) }
+    ensures { IsTrue (is_plan 1 (Listed result)) }
 {
     [
         at(5, 2),
@@ -183,7 +183,7 @@ fn equal_columns_and_rows_are_found(rt: HostRuntime) {
 
 /// Nodes as far to the left of the line through the start as to the right, and above as below; the lesser numbers on the far side.
 fn across() -> [Point; 6]
-    ensures { IsTrue (is_plan (Listed result)) }
+    ensures { IsTrue (is_plan 1 (Listed result)) }
 {
     [at(4, 6), at(8, 6), at(6, 4), at(6, 8), at(3, 9), at(9, 3)]
 }
@@ -199,7 +199,7 @@ fn of_equally_near_nodes_across_a_line_the_first_is_nearest(rt: HostRuntime) {
 
 /// A tree of one branch.
 fn stairs() -> [Point; 9]
-    ensures { IsTrue (is_plan (Listed result)) }
+    ensures { IsTrue (is_plan 1 (Listed result)) }
 {
     [
         at(1, 1),
@@ -222,7 +222,7 @@ fn one_branch_is_searched(rt: HostRuntime) {
 
 /// Nodes at the greatest coordinates of a room, and a step away.
 fn corner() -> [Point; 4]
-    ensures { IsTrue (is_plan (Listed result)) }
+    ensures { IsTrue (is_plan 1 (Listed result)) }
 {
     [
         at(65535, 65534),

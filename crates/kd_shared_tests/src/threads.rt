@@ -34,7 +34,7 @@ struct Worker {
 
 /// The points, each so often in a row. As many strips take turns, so each worker has all the points in its own strip.
 fn repeated_points(alloc: Global) -> Result<Vec<Point>, Memory>
-    ensures plan { IfOk result (λ points. IsTrue (is_plan (Listed points.items))) }
+    ensures plan { IfOk result (λ points. IsTrue (is_plan 1 (Listed points.items))) }
     ensures count { IfOk result (λ points. length points.items ≡ POINTS * WORKERS) }
 {
     let mut marks = Vec::new(alloc);
@@ -133,6 +133,7 @@ fn shared_by_workers<R: Abort>(rt: &R, alloc: Global, task: Task) -> (Shared, Ve
 /// The workers after each has placed all points in a thread of its own.
 fn workers_done<R: Threads + Sync + Abort>(rt: &R, alloc: Global) -> Vec<Worker> {
     let task = repeated_task(rt, alloc);
+    assert!(rt; task.scene.clearance == 0);
     let hall = sure(rt, Hall::new(alloc, &task.scene));
     let (shared, mut workers) = shared_by_workers(rt, alloc, task);
     work_all(rt, &shared, &hall, workers.as_mut_slice());

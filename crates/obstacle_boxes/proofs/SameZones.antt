@@ -1,4 +1,4 @@
--- The zones of a body and an obstacle: what crosses one crosses the other, and they have one box.
+-- The zones of a body and an obstacle with one clearance: what crosses one crosses the other, and they have one box.
 use Rattle.std.proofs.Common.{◌≡◌, ℕ, ◌<◌, Bool, true, false, List, length, refl, arith, eqb}
 use Rattle.std.specs.Prelude.{pos, ◌≤ℤ◌}
 use Rattle.std.proofs.lemmas.Int.{ints}
@@ -19,8 +19,9 @@ use Rattle.convex_sets.proofs.Ring.{var, minus, times, same}
 use Rattle.swept_check.specs.Crossings.{Crosses}
 use Rattle.obstacle_boxes.specs.NearZones.{boxes_meet}
 
-pub Crosses-other : (body obstacle z w : List Vertex) (a b : Point) → IsZoneOf body obstacle z → IsZoneOf body obstacle w → Crosses z a b → Crosses w a b
-Crosses-other body obstacle z w a b h g x =
+pub Crosses-other : (clearance : ℕ) (body obstacle z w : List Vertex) (a b : Point) → IsZoneOf clearance body obstacle z
+    → IsZoneOf clearance body obstacle w → Crosses z a b → Crosses w a b
+Crosses-other clearance body obstacle z w a b h g x =
     let q = on_the_way a b x.s x.d x.positive in
     let one = h.exact q in
     let two = g.exact q in
@@ -66,9 +67,9 @@ pub record ReachesAsFar (p q : BoundingBox) : Type 0 where
   pub right : q.high.x ≤ℤ p.high.x
   pub top : q.high.y ≤ℤ p.high.y
 
-reaches : (body obstacle z w : List Vertex) (p q : BoundingBox) → IsZoneOf body obstacle z → IsZoneOf body obstacle w → IsBoundingBox z p → IsBoundingBox w q
-    → ReachesAsFar p q
-reaches body obstacle z w p q h g bz bw =
+reaches : (clearance : ℕ) (body obstacle z w : List Vertex) (p q : BoundingBox) → IsZoneOf clearance body obstacle z
+    → IsZoneOf clearance body obstacle w → IsBoundingBox z p → IsBoundingBox w q → ReachesAsFar p q
+reaches clearance body obstacle z w p q h g bz bw =
     let within : (m : ℕ) → m < length w → IsInRange p (at_corner (corner_at w m)) = λ m at.
     (let v = corner_at w m in
     let inside = corner-inside w m (IsConvex-from_test w g.convex) at in
@@ -95,11 +96,11 @@ reaches body obstacle z w p q h g bz bw =
     }
 
 -- so both meet the same boxes
-pub meets-other : (body obstacle z w : List Vertex) (p q s : BoundingBox) → IsZoneOf body obstacle z → IsZoneOf body obstacle w → IsBoundingBox z p
-    → IsBoundingBox w q → boxes_meet s p ≡ boxes_meet s q
-meets-other body obstacle z w p q s h g bz bw =
-    let one = reaches body obstacle z w p q h g bz bw in
-    let two = reaches body obstacle w z q p g h bw bz in
+pub meets-other : (clearance : ℕ) (body obstacle z w : List Vertex) (p q s : BoundingBox) → IsZoneOf clearance body obstacle z
+    → IsZoneOf clearance body obstacle w → IsBoundingBox z p → IsBoundingBox w q → boxes_meet s p ≡ boxes_meet s q
+meets-other clearance body obstacle z w p q s h g bz bw =
+    let one = reaches clearance body obstacle z w p q h g bz bw in
+    let two = reaches clearance body obstacle w z q p g h bw bz in
     let l1 = one.left in
     let l2 = two.left in
     let b1 = one.bottom in

@@ -29,7 +29,7 @@ no_leaf = record { bounds = no_box; zone = 0 }
 
 -- the leaves are those of any zones of the space
 pub leaves-among : (space : ConfigurationSpace) (nodes : List Node) (zones : List (List Vertex)) → IsTreeOver space nodes
-    → AreZonesOf space.body space.obstacles zones → All (IsLeafAmong zones) (leaves_in nodes)
+    → AreZonesOf space zones → All (IsLeafAmong zones) (leaves_in nodes)
 leaves-among space nodes zones h g =
     All-permutation (IsLeafAmong zones) h.leaves (leaves_in nodes) h.permutation (All-from_get_or (IsLeafAmong zones) h.leaves no_leaf (λ i l. (
     let leaf = get_or h.leaves i no_leaf in
@@ -46,12 +46,12 @@ leaves-among space nodes zones h g =
       meets = λ a b x. (
           let here : Crosses (get_or zones i []) a b = rw number at x in
           meets-crossed (get_or h.zones i []) a b leaf.bounds (IsConvex-from_test (get_or h.zones i []) one.convex) bounds
-          (Crosses-other space.body (get_or space.obstacles i []) (get_or zones i []) (get_or h.zones i []) a b two one here));
+          (Crosses-other space.clearance space.body (get_or space.obstacles i []) (get_or zones i []) (get_or h.zones i []) a b two one here));
     })))
 
 -- if no leaf's zone is crossed, no zone is
 pub CrossesNone-leaves : (space : ConfigurationSpace) (nodes : List Node) (zones : List (List Vertex)) (a b : Point) → IsTreeOver space nodes
-    → AreZonesOf space.body space.obstacles zones → All (IsMissed zones a b) (leaves_in nodes) → CrossesNone zones a b
+    → AreZonesOf space zones → All (IsMissed zones a b) (leaves_in nodes) → CrossesNone zones a b
 CrossesNone-leaves space nodes zones a b h g missed =
     let all = All-permutation (IsMissed zones a b) (leaves_in nodes) h.leaves (IsPermutation-sym h.leaves (leaves_in nodes) h.permutation) missed in
     All-from_get_or (λ zone. ¬ Crosses zone a b) zones [] (λ i l x. (
@@ -78,8 +78,8 @@ leaves_met-near space nodes boxes a b h g =
         count_by-agree (λ leaf. boxes_meet (segment_box a b) leaf.bounds) (boxes_meet (segment_box a b)) h.leaves boxes (omega arith) (λ i d e l. (
         let at : i < length space.obstacles = omega arith in
         let within : i < length g.zones = omega arith in
-        meets-other space.body (get_or space.obstacles i []) (get_or h.zones i []) (get_or g.zones i []) (get_or h.leaves i d).bounds (get_or boxes i e)
-        (segment_box a b) (h.are_zones.each i at) (g.are_zones.each i at) (h.are_leaves.bounds i d l) (g.each i e within)))
+        meets-other space.clearance space.body (get_or space.obstacles i []) (get_or h.zones i []) (get_or g.zones i []) (get_or h.leaves i d).bounds
+        (get_or boxes i e) (segment_box a b) (h.are_zones.each i at) (g.are_zones.each i at) (h.are_leaves.bounds i d l) (g.each i e within)))
 
 -- an answer that is not false is true
 pub true_unless : (t : Bool) → ¬ (t ≡ false) → IsTrue t

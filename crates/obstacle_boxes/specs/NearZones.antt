@@ -23,7 +23,7 @@ segment_box a b =
 -- the least boxes round the zones of the obstacles, in the obstacles' order
 pub record AreZoneBoxes (space : ConfigurationSpace) (boxes : List BoundingBox) : Type 0 where
   pub zones : List (List Vertex)
-  pub are_zones : AreZonesOf space.body space.obstacles zones
+  pub are_zones : AreZonesOf space zones
   pub count : length boxes ≡ length zones
   pub each : (i : ℕ) (d : BoundingBox) → i < length zones → IsBoundingBox (slice_index_or zones i []) (slice_index_or boxes i d)
 

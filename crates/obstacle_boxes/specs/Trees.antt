@@ -40,7 +40,7 @@ pub record Adds (leaves : List Leaf) (before after : List Node) : Type 0 where
 -- a tree whose leaves are those of a space's zones, in some order
 pub record IsTreeOver (space : ConfigurationSpace) (nodes : List Node) : Type 0 where
   pub zones : List (List Vertex)
-  pub are_zones : AreZonesOf space.body space.obstacles zones
+  pub are_zones : AreZonesOf space zones
   pub leaves : List Leaf
   pub are_leaves : AreLeavesOf zones (length zones) leaves
   pub permutation : IsPermutation leaves (leaves_in nodes)

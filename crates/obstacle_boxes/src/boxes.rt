@@ -91,7 +91,7 @@ impl Boxes {
 
     /// The zones, one for each obstacle, in the scene's order. O(1); no memory.
     pub fn zones(&self) -> &[Zone]
-        ensures { AreZonesOf self.now.body self.now.obstacles result.now }
+        ensures { AreZonesOf self.now result.now }
     {
         self.hall.zones()
     }

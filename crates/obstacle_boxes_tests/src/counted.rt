@@ -112,7 +112,7 @@ static TRIANGLE: [Vertex; 3] = [
 
 /// A square, and a small triangle beside it.
 fn two<R: Abort>(rt: &R, alloc: Global) -> Polys
-    ensures { IsTrue (are_obstacles result) }
+    ensures { IsTrue (are_obstacles 1 result) }
 {
     let square = polygon(rt, alloc, &SQUARE);
     let triangle = polygon(rt, alloc, &TRIANGLE);

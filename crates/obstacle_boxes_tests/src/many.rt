@@ -164,6 +164,7 @@ fn clear_count<R: Abort>(rt: &R, hall: &Hall, boxes: &Boxes) -> u32 {
 fn boxes_answer_as_the_hall(rt: HostRuntime) {
     let twenty = obstacles(&rt, rt.alloc(), &TWENTY);
     let scene = scene(&rt, rt.alloc(), twenty);
+    assert!(rt; scene.clearance == 0);
     let hall = sure(&rt, Hall::new(rt.alloc(), &scene));
     let boxes = boxes_of(&rt, rt.alloc(), &scene);
     drop(scene);

@@ -43,7 +43,7 @@ static POINT: [Vertex; 1] = [Vertex { x: 0, y: 0 }];
 
 /// The scene of these obstacles.
 pub(crate) fn scene<R: Abort>(rt: &R, alloc: Global, obstacles: Polys) -> Scene
-    requires { IsTrue (are_obstacles obstacles) }
+    requires { IsTrue (are_obstacles 1 obstacles) }
 {
     let small = SmallScene {
         room: Point { x: 100, y: 100 },
@@ -58,11 +58,12 @@ pub(crate) fn scene<R: Abort>(rt: &R, alloc: Global, obstacles: Polys) -> Scene
         strips: 1,
     };
     let body = polygon(rt, alloc, &POINT);
-    small.scene(body, obstacles, Marks::Drawn(0))
+    sure(rt, small.scene(alloc, body, obstacles, Marks::Drawn(0)))
 }
 
 /// The boxes over the zones of a scene.
 pub(crate) fn boxes_of<R: Abort>(rt: &R, alloc: Global, scene: &Scene) -> Boxes {
+    assert!(rt; scene.clearance == 0);
     let hall = sure(rt, Hall::new(alloc, scene));
     sure(rt, Boxes::new(alloc, hall))
 }

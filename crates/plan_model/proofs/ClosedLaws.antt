@@ -69,16 +69,16 @@ module _
 
 module _ (setup : Setup) (marks : List Point) (limit : ℕ) (state : TreeState) (closed : IsClosed setup marks limit state) where
   -- what the tree knows of the node of a mark that was placed
-  hangs_of : (k : ℕ) (entry : Record) (p : Point) (outcome : Outcome) → outcome ≡ Placed → HasLawfulOutcome setup state k entry p outcome
-      → HangsLawfully setup state k entry p
-  hangs_of k entry p outcome e h =
-      let own = subst (λ o. HasLawfulOutcome setup state k entry p o) e h in
-      own.by_tree
+  hangs_of : (k : ℕ) (mark : Point) (entry : Record) (outcome : Outcome) → outcome ≡ Placed → HasLawfulOutcome setup state k mark entry outcome
+      → HangsLawfully setup state k entry (steered (point_of state.points entry.nearest) mark setup.step)
+  hangs_of k mark entry outcome e h =
+      let own = subst (λ o. HasLawfulOutcome setup state k mark entry o) e h in
+      own.outcome.by_tree
 
   pub HangsLawfully-closed : (k : ℕ) (entry : Record) → state.record_of k ≡ Some entry → entry.outcome ≡ Placed
       → HangsLawfully setup state k entry (steered (point_of state.points entry.nearest) (mark_at marks k) setup.step)
   HangsLawfully-closed k entry h placed =
-      hangs_of k entry (steered (point_of state.points entry.nearest) (mark_at marks k) setup.step) entry.outcome placed (closed.lawful k entry h).outcome
+      hangs_of k (mark_at marks k) entry entry.outcome placed (closed.lawful k entry h)
 
   -- In a closed run no node costs more than it was placed at.
   pub KeepsFirstCosts-closed : KeepsFirstCosts setup state

@@ -11,7 +11,7 @@ use Rattle.plan_model.specs.PointsByNumber.{StandsAt}
 use Rattle.plan_model.specs.RoomOfConfigurations.{Rational}
 use Rattle.plan_model.specs.TreeStates.{TreeState}
 use Rattle.plan_model.specs.OrderLaw.{KeepsOrder}
-use Rattle.plan_model.specs.RecordLaw.{IsPlacedLawfully, IsBlockedLawfully, HasLawfulOutcome, IsLawfulRecord}
+use Rattle.plan_model.specs.RecordLaw.{IsPlacedLawfully, IsBlockedLawfully, IsSteeredLawfully, HasLawfulOutcome, IsLawfulRecord}
 use Rattle.plan_model.specs.ClosedLaw.{IsClosed}
 use Rattle.plan_model.specs.Textbook.{Setup}
 
@@ -30,14 +30,23 @@ IsPlacedLawfully-prop setup state k entry p = hlevel (props, IsClear-prop)
 IsBlockedLawfully-prop : (setup : Setup) (state : TreeState) (entry : Record) (p : Point) → IsProp (IsBlockedLawfully setup state entry p)
 IsBlockedLawfully-prop setup state entry p = hlevel props
 
+IsSteeredLawfully-prop :
+    (setup : Setup) (state : TreeState) (mark : Point) (entry : Record) (EndsAt : Point → Type 0) → ((p : Point) → IsProp (EndsAt p))
+    → IsProp (IsSteeredLawfully setup state mark entry EndsAt)
+IsSteeredLawfully-prop setup state mark entry EndsAt ends = hlevel (props, ends)
+
 HasLawfulOutcome-prop :
-    (setup : Setup) (state : TreeState) (k : ℕ) (entry : Record) (p : Point) (outcome : Outcome) → IsProp (HasLawfulOutcome setup state k entry p outcome)
-HasLawfulOutcome-prop setup state k entry p Placed = IsPlacedLawfully-prop setup state k entry p
-HasLawfulOutcome-prop setup state k entry p (Same j) = StandsAt-prop state.points j p
-HasLawfulOutcome-prop setup state k entry p Blocked = IsBlockedLawfully-prop setup state entry p
+    (setup : Setup) (state : TreeState) (k : ℕ) (mark : Point) (entry : Record) (outcome : Outcome)
+    → IsProp (HasLawfulOutcome setup state k mark entry outcome)
+HasLawfulOutcome-prop setup state k mark entry Placed =
+    IsSteeredLawfully-prop setup state mark entry (IsPlacedLawfully setup state k entry) (IsPlacedLawfully-prop setup state k entry)
+HasLawfulOutcome-prop setup state k mark entry (Same j) =
+    IsSteeredLawfully-prop setup state mark entry (StandsAt state.points j) (StandsAt-prop state.points j)
+HasLawfulOutcome-prop setup state k mark entry Blocked =
+    IsSteeredLawfully-prop setup state mark entry (IsBlockedLawfully setup state entry) (IsBlockedLawfully-prop setup state entry)
 
 IsLawfulRecord-prop : (setup : Setup) (state : TreeState) (k : ℕ) (mark : Point) (entry : Record) → IsProp (IsLawfulRecord setup state k mark entry)
-IsLawfulRecord-prop setup state k mark entry = hlevel (props, HasLawfulOutcome-prop)
+IsLawfulRecord-prop setup state k mark entry = HasLawfulOutcome-prop setup state k mark entry entry.outcome
 
 -- The closed law has one proof at most.
 pub IsClosed-prop : (setup : Setup) (marks : List Point) (limit : ℕ) (state : TreeState) → IsProp (IsClosed setup marks limit state)

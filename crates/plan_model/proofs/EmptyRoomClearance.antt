@@ -39,7 +39,7 @@ corner_in_box room q h = record {
 IsClear-from_box : (room : Point) (q : Rational) → IsBetweenWalls room q → IsClear (empty_room room) q
 IsClear-from_box room q h =
     let P : Vertex → Type 0 = λ corner. IsBetweenWalls room (moved_by q corner) in
-    let Q : List Vertex → Type 0 = λ obstacle. ¬ Meets (empty_room room).body q obstacle in
+    let Q : List Vertex → Type 0 = λ obstacle. ¬ Meets 0 (empty_room room).body q obstacle in
     record {
       in_room = record { here = h; corners = All-cons P _ [] (corner_in_box room q h) (All-nil P) };
       meets_none = All-nil Q;

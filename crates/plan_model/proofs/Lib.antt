@@ -27,6 +27,7 @@ pub mod SameScenes
 pub mod SpelledScenes
 pub mod StatementNumbers
 pub mod SoundStatements
+pub mod ReadVersions
 pub mod SceneParts
 pub mod GivenScenes
 pub mod CostLaws
@@ -34,6 +35,7 @@ pub mod TriangleLaw
 pub mod StripLaws
 pub mod Differences
 pub mod RationalPoints
+pub mod MeetingLaws
 pub mod SegmentLaws
 pub mod SpanLaws
 pub mod CountsBelow

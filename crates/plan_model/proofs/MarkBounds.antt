@@ -124,14 +124,15 @@ drawn_within scene k =
     }
 
 -- no coordinate of a mark is above the greatest one
-pub All-marks_within : (scene : Scene) (plan : Marks) → IsTrue (is_plan plan) → All IsBounded (points_of_marks scene plan)
+pub All-marks_within : (scene : Scene) (plan : Marks) → IsTrue (is_plan scene.version plan) → All IsBounded (points_of_marks scene plan)
 All-marks_within scene (Drawn n) h =
     All-map IsBounded (drawn_mark scene) (range_with_len 0 n) (λ k d l. drawn_within scene _)
 All-marks_within scene (Listed points) h =
-    All-weaker (λ p. is_mark p ≡ true) IsBounded IsBounded-listed points (AllPass-from_list_all is_mark points (second_true _ _ h))
+    All-weaker (λ p. is_mark scene.version p ≡ true) IsBounded (IsBounded-listed scene.version) points
+    (AllPass-from_list_all (is_mark scene.version) points (second_true _ _ h))
 
 -- there are not too many marks
-pub length-points_of_marks : (scene : Scene) (plan : Marks) → IsTrue (is_plan plan) → length (points_of_marks scene plan) ≤ MOST_MARKS
+pub length-points_of_marks : (scene : Scene) (plan : Marks) → IsTrue (is_plan scene.version plan) → length (points_of_marks scene plan) ≤ MOST_MARKS
 length-points_of_marks scene (Drawn n) h =
     omega (arith, length-map (range_with_len 0 n) (drawn_mark scene), length-range_with_len 0 n, leb-true n MOST_MARKS h)
 length-points_of_marks scene (Listed points) h = leb-true (length points) MOST_MARKS (first_true _ _ h)

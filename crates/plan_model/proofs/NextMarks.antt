@@ -15,7 +15,7 @@ use Rattle.plan_model.specs.Steering.{steered}
 use Rattle.plan_model.specs.TreeStates.{TreeState, GrowsInto}
 use Rattle.plan_model.specs.OrderLaw.{KeepsOrder}
 use Rattle.plan_model.specs.Outcomes.{is_placed}
-use Rattle.plan_model.specs.RecordLaw.{is_earlier, IsEarlier, earlier_count, IsBlockedLawfully, HasLawfulOutcome, IsLawfulRecord}
+use Rattle.plan_model.specs.RecordLaw.{is_earlier, IsEarlier, earlier_count, IsBlockedLawfully, IsSteeredLawfully, HasLawfulOutcome, IsLawfulRecord}
 use Rattle.plan_model.specs.ClosedLaw.{mark_at, IsClosed}
 use Rattle.plan_model.specs.Textbook.{Setup, SteersTo}
 use Rattle.plan_model.specs.Turns.{turns_of}
@@ -166,11 +166,11 @@ module _ (setup : Setup) (marks : List Point) (k : ℕ) (before : TreeState) (cl
             count-le_node_count before.points early (length after.points) early-present,
           )
 
-      -- The record is lawful if its outcome is.
-      pub IsLawfulRecord-outcome :
-          (mark p : Point) → SteersTo setup before.points mark entry.nearest p → HasLawfulOutcome setup after k entry p entry.outcome
-          → IsLawfulRecord setup after k mark entry
-      IsLawfulRecord-outcome mark p steers h =
+      -- A mark is steered lawfully if it was steered to the point at which it ends.
+      pub IsSteeredLawfully-steers :
+          (mark p : Point) (EndsAt : Point → Type 0) → SteersTo setup before.points mark entry.nearest p → EndsAt p
+          → IsSteeredLawfully setup after mark entry EndsAt
+      IsSteeredLawfully-steers mark p EndsAt steers h =
           let m : ℕ = entry.nearest in
           let same = point_of-grows before after grows m steers.nearest.member in
           let point : p ≡ steered (point_of after.points m) mark setup.step =
@@ -180,7 +180,7 @@ module _ (setup : Setup) (marks : List Point) (k : ℕ) (before : TreeState) (cl
             nearest = λ i early.
                 let here = early-present i early in
                 IsNotAbove-grows before after grows mark m i steers.nearest.member here (steers.nearest.not_above i here);
-            outcome = subst (λ q. HasLawfulOutcome setup after k entry q entry.outcome) point h;
+            outcome = subst EndsAt point h;
           }
 
     -- ---- marks that are not placed
@@ -206,10 +206,13 @@ module _ (setup : Setup) (marks : List Point) (k : ℕ) (before : TreeState) (cl
             h.free i (StandsAt-before before after grows_unplaced i p here stands);
       }
 
-      outcome_unplaced : (outcome : Outcome) → EndsUnplaced setup before entry p outcome → HasLawfulOutcome setup after k entry p outcome
+      steered_lawfully : (EndsAt : Point → Type 0) → EndsAt p → IsSteeredLawfully setup after mark entry EndsAt
+      steered_lawfully EndsAt h = IsSteeredLawfully-steers records_unplaced grows_unplaced mark p EndsAt steers h
+
+      outcome_unplaced : (outcome : Outcome) → EndsUnplaced setup before entry p outcome → HasLawfulOutcome setup after k mark entry outcome
       outcome_unplaced Placed h = absurd h
-      outcome_unplaced (Same j) h = grows_unplaced.nodes j p h
-      outcome_unplaced Blocked h = blocked_lawfully h
+      outcome_unplaced (Same j) h = steered_lawfully (StandsAt after.points j) (grows_unplaced.nodes j p h)
+      outcome_unplaced Blocked h = steered_lawfully (IsBlockedLawfully setup after entry) (blocked_lawfully h)
 
       -- A mark that is not placed ends lawfully if its outcome is what it says.
       pub EndsLawfully-unplaced :
@@ -218,8 +221,7 @@ module _ (setup : Setup) (marks : List Point) (k : ℕ) (before : TreeState) (cl
         records = records_unplaced;
         order = KeepsOrder-lowered setup before after lowers closed.order;
         grows = grows_unplaced;
-        lawful =
-            IsLawfulRecord-outcome records_unplaced grows_unplaced mark p steers (outcome_unplaced entry.outcome h);
+        lawful = outcome_unplaced entry.outcome h;
         others = λ j apart present. ap is_some (sym (lowers.still.points (suc j))) ∙ present;
         own = (
           (λ present. absurd (node-absent (ap is_some (sym (lowers.still.points (suc k))) ∙ present))),

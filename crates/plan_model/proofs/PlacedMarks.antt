@@ -2,7 +2,6 @@
 use Rattle.std.proofs.Common.{◌≡◌, ℕ, suc, ◌+◌, ◌≤◌, List, Option, arith, refl, sym, ap, ◌∙◌, subst}
 use Rattle.std.specs.Prelude.{◌≢◌, Contains, IsTrue, is_some}
 use Rattle.plan_model.specs.declared.geometry.Point.{Point}
-use Rattle.plan_model.specs.declared.records.Outcome.{Outcome}
 use Rattle.plan_model.specs.declared.records.Outcome.TheVariants.{Placed}
 use Rattle.plan_model.specs.declared.records.Record.{Record}
 use Rattle.plan_model.specs.Clearance.{Clear}
@@ -13,7 +12,8 @@ use Rattle.plan_model.specs.PointsByNumber.{point_at, StandsAt, IsPresent, point
 use Rattle.plan_model.specs.Radius.{class_of, radius_of, radius_of_class}
 use Rattle.plan_model.specs.TreeStates.{TreeState, recorded_or, first_cost_of, GrowsInto}
 use Rattle.plan_model.specs.OrderLaw.{IsAllowedEdge, Hangs, KeepsOrder, KeepsFirstCosts}
-use Rattle.plan_model.specs.RecordLaw.{earlier_count, IsNeighbour, first_cost_through, IsChosenLawfully, HangsLawfully, HasLawfulOutcome}
+use Rattle.plan_model.specs.RecordLaw.{earlier_count, IsNeighbour, first_cost_through, IsChosenLawfully, HangsLawfully}
+use Rattle.plan_model.specs.RecordLaw.{IsPlacedLawfully, IsSteeredLawfully, HasLawfulOutcome}
 use Rattle.plan_model.specs.ClosedLaw.{IsClosed}
 use Rattle.plan_model.specs.Textbook.{Setup, near_new, IsCandidate, SteersTo}
 use Rattle.plan_model.proofs.NewNodes.{IsPresent-stands}
@@ -23,7 +23,7 @@ use Rattle.plan_model.proofs.ClosedLaws.{KeepsFirstCosts-closed}
 use Rattle.plan_model.proofs.RecordLaws.{class_of-le}
 use Rattle.plan_model.proofs.NearNodes.{IsReachable, candidate-reachable, Contains-near, Contains-after}
 use Rattle.plan_model.proofs.NextRecords.{RecordsMark}
-use Rattle.plan_model.proofs.NextMarks.{EndsLawfully, node-absent, early-present, earlier_count-le, IsLawfulRecord-outcome}
+use Rattle.plan_model.proofs.NextMarks.{EndsLawfully, node-absent, early-present, earlier_count-le, IsSteeredLawfully-steers}
 
 -- the cost of reaching p by way of node i, by its kept cost
 abbrev pub kept_cost_through : TreeState → Point → ℕ → ℕ
@@ -157,9 +157,10 @@ module _
 
     -- ---- the mark
 
-    outcome_lawful : (outcome : Outcome) → outcome ≡ Placed → HasLawfulOutcome setup after k entry p outcome
-    outcome_lawful outcome placed =
-        subst (λ o. HasLawfulOutcome setup after k entry p o) (sym placed) (record { by_worker = chosen_lawfully; by_tree = hangs_lawfully })
+    placed_lawfully : IsSteeredLawfully setup after mark entry (IsPlacedLawfully setup after k entry)
+    placed_lawfully =
+        IsSteeredLawfully-steers setup marks k before closed after entry leaves.records leaves.grows mark p
+        (IsPlacedLawfully setup after k entry) chooses.steers (record { by_worker = chosen_lawfully; by_tree = hangs_lawfully })
 
     -- A placed mark ends lawfully.
     pub EndsLawfully-placed : entry.outcome ≡ Placed → EndsLawfully setup before after k mark entry
@@ -167,9 +168,7 @@ module _
       records = leaves.records;
       order = leaves.order;
       grows = leaves.grows;
-      lawful =
-          IsLawfulRecord-outcome setup marks k before closed after entry leaves.records leaves.grows mark p chooses.steers
-          (outcome_lawful entry.outcome placed);
+      lawful = subst (HasLawfulOutcome setup after k mark entry) (sym placed) placed_lawfully;
       others = λ j apart h. ap is_some (sym (leaves.elsewhere (suc j) (λ e. apart (omega (arith, e))))) ∙ h;
       own = ((λ h. placed), (λ e. IsPresent-stands after.points (suc k) p leaves.stands));
     }

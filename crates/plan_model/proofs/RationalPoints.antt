@@ -10,17 +10,10 @@ use Rattle.plan_model.specs.declared.geometry.Vertex.{Vertex}
 use Rattle.plan_model.specs.declared.geometry.Point.{Point}
 use Rattle.plan_model.specs.declared.configuration_spaces.ConfigurationSpace.{ConfigurationSpace}
 use Rattle.plan_model.specs.RoomOfConfigurations.{Rational, IsSamePoint, scaled, moved_by, IsBetweenWalls, InRoom}
-use Rattle.plan_model.specs.Meeting.{weighted, Meets}
+use Rattle.plan_model.specs.Meeting.{weighted, IsWithin, Meets}
 use Rattle.plan_model.specs.Clearance.{IsClear}
 
 -- ---- numbers
--- equal products with a factor above 0 have equal factors beside it
-mul_cancel : (k m n : ℕ) → 0 < k → k * m ≡ k * n → m ≡ n
-mul_cancel k m n some e =
-    let low : m ≤ n = le_of_mul-le-mul_left (omega arith) some in
-    let high : n ≤ m = le_of_mul-le-mul_left (omega arith) some in
-    omega arith
-
 -- x / m and z / n are one number
 abbrev IsSame : ℤ → ℕ → ℤ → ℕ → Type 0
 IsSame x m z n = x *ℤ pos n ≡ z *ℤ pos m
@@ -86,17 +79,35 @@ InRoom-same space q r h own =
     λ corner. IsBetweenWalls-same space.room (moved_by q corner) (moved_by r corner) (IsSamePoint-moved q r corner h) in
     record { here = IsBetweenWalls-same space.room q r h own.here; corners = All-weaker P Q step space.body own.corners }
 
--- if m parts of a difference are t parts of x, and x / m is z / n, then n parts of it are t parts of z
-crossed : (m n t : ℕ) (w x z : ℤ) → 0 < m → IsSame x m z n → pos m *ℤ w ≡ pos t *ℤ x → pos n *ℤ w ≡ pos t *ℤ z
-crossed m n t w x z some same h =
-    let parts : m * up w + t * down x ≡ m * down w + t * up x = omega (arith, ints) in
+-- if m parts of w are at most t parts of x and t parts of m times c more, and x / m is z / n, then so it is with n and z
+crossed_up : (m n t c : ℕ) (w x z : ℤ) → 0 < m → IsSame x m z n → (pos m *ℤ w) ≤ℤ ((pos t *ℤ x) +ℤ pos (c * m * t))
+    → (pos n *ℤ w) ≤ℤ ((pos t *ℤ z) +ℤ pos (c * n * t))
+crossed_up m n t c w x z some same h =
+    let parts : m * up w + t * down x ≤ m * down w + t * up x + c * m * t = omega (arith, ints) in
     let cross : up x * n + down z * m ≡ down x * n + up z * m = omega (arith, ints) in
-    let whole : m * (n * up w + t * down z) ≡ m * (n * down w + t * up z) = omega (arith, ap (λ a. n * a) parts, ap (λ a. t * a) cross) in
-    let e : n * up w + t * down z ≡ n * down w + t * up z = mul_cancel m _ _ some whole in
+    let whole : m * (n * up w + t * down z) ≤ m * (n * down w + t * up z + c * n * t) =
+    omega (arith, mul-le n _ n _ (omega arith) parts, ap (λ a. t * a) cross) in
+    let e : n * up w + t * down z ≤ n * down w + t * up z + c * n * t = le_of_mul-le-mul_left whole some in
     omega (arith, ints)
 
-pub Meets-same : (body obstacle : List Vertex) (q r : Rational) → IsSamePoint q r → Meets body q obstacle → Meets body r obstacle
-Meets-same body obstacle q r h m =
+-- and with less
+crossed_down : (m n t c : ℕ) (w x z : ℤ) → 0 < m → IsSame x m z n → ((pos t *ℤ x) -ℤ pos (c * m * t)) ≤ℤ (pos m *ℤ w)
+    → ((pos t *ℤ z) -ℤ pos (c * n * t)) ≤ℤ (pos n *ℤ w)
+crossed_down m n t c w x z some same h =
+    let parts : m * down w + t * up x ≤ m * up w + t * down x + c * m * t = omega (arith, ints) in
+    let cross : up x * n + down z * m ≡ down x * n + up z * m = omega (arith, ints) in
+    let whole : m * (n * down w + t * up z) ≤ m * (n * up w + t * down z + c * n * t) =
+    omega (arith, mul-le n _ n _ (omega arith) parts, ap (λ a. t * a) cross) in
+    let e : n * down w + t * up z ≤ n * up w + t * down z + c * n * t = le_of_mul-le-mul_left whole some in
+    omega (arith, ints)
+
+crossed : (m n t c : ℕ) (w x z : ℤ) → 0 < m → IsSame x m z n → IsWithin (c * m * t) (pos m *ℤ w) (pos t *ℤ x) → IsWithin (c * n * t) (pos n *ℤ w) (pos t *ℤ z)
+crossed m n t c w x z some same h =
+    record { lowest = crossed_down m n t c w x z some same h.lowest; highest = crossed_up m n t c w x z some same h.highest }
+
+pub Meets-same : (clearance : ℕ) (body obstacle : List Vertex) (q r : Rational) → IsSamePoint q r → Meets clearance body q obstacle
+    → Meets clearance body r obstacle
+Meets-same clearance body obstacle q r h m =
     let x : ℤ = weighted (λ v. v.x) m.on_obstacle obstacle -ℤ weighted (λ v. v.x) m.on_body body in
     let y : ℤ = weighted (λ v. v.y) m.on_obstacle obstacle -ℤ weighted (λ v. v.y) m.on_body body in
     record {
@@ -108,16 +119,16 @@ Meets-same body obstacle q r h m =
       body_corners = m.body_corners;
       obstacle_total = m.obstacle_total;
       body_total = m.body_total;
-      horizontal = crossed q.over r.over m.total x q.x r.x q.positive h.horizontal m.horizontal;
-      vertical = crossed q.over r.over m.total y q.y r.y q.positive h.vertical m.vertical;
+      horizontal = crossed q.over r.over m.total clearance x q.x r.x q.positive h.horizontal m.horizontal;
+      vertical = crossed q.over r.over m.total clearance y q.y r.y q.positive h.vertical m.vertical;
     }
 
 pub IsClear-same : (space : ConfigurationSpace) (q r : Rational) → IsSamePoint q r → IsClear space q → IsClear space r
 IsClear-same space q r h own =
-    let P : List Vertex → Type 0 = λ obstacle. ¬ Meets space.body q obstacle in
-    let Q : List Vertex → Type 0 = λ obstacle. ¬ Meets space.body r obstacle in
+    let P : List Vertex → Type 0 = λ obstacle. ¬ Meets space.clearance space.body q obstacle in
+    let Q : List Vertex → Type 0 = λ obstacle. ¬ Meets space.clearance space.body r obstacle in
     let step : (obstacle : List Vertex) → P obstacle → Q obstacle =
-    λ obstacle apart m. apart (Meets-same space.body obstacle r q (IsSamePoint-sym q r h) m) in
+    λ obstacle apart m. apart (Meets-same space.clearance space.body obstacle r q (IsSamePoint-sym q r h) m) in
     record {
       in_room = InRoom-same space q r h own.in_room;
       meets_none = All-weaker P Q step space.obstacles own.meets_none;

@@ -11,13 +11,13 @@ use Rattle.plan_model.specs.Cost.{cost_of}
 use Rattle.plan_model.specs.Geometry.{squared_distance}
 use Rattle.plan_model.specs.LeastPairs.{IsNotAbove}
 use Rattle.plan_model.specs.Nearness.{distance_to, is_within}
-use Rattle.plan_model.specs.PointsByNumber.{IsPresent, point_of, node_count}
+use Rattle.plan_model.specs.PointsByNumber.{IsPresent, StandsAt, point_of, node_count}
 use Rattle.plan_model.specs.Radius.{class_of, radius_of_class}
 use Rattle.plan_model.specs.Steering.{steered}
 use Rattle.plan_model.specs.TreeStates.{TreeState, GrowsInto}
 use Rattle.plan_model.specs.OrderLaw.{most_cost_of}
 use Rattle.plan_model.specs.RecordLaw.{IsEarlier, IsNeighbour, first_cost_through, IsChosenLawfully, HangsLawfully, IsBlockedLawfully}
-use Rattle.plan_model.specs.RecordLaw.{HasLawfulOutcome, IsLawfulRecord}
+use Rattle.plan_model.specs.RecordLaw.{IsPlacedLawfully, IsSteeredLawfully, HasLawfulOutcome, IsLawfulRecord}
 use Rattle.plan_model.specs.Textbook.{Setup}
 use Rattle.plan_model.proofs.ClassLaws.{below_digits}
 use Rattle.plan_model.proofs.EarlierNodes.{HaveSameEarlier, earlier_count-same}
@@ -118,28 +118,37 @@ module _ (setup : Setup) (before after : TreeState) (grows : GrowsInto before af
 
   -- ---- the law
 
-  -- what an outcome says stays true
-  outcome_stays :
-      (k : ℕ) (p : Point) (outcome : Outcome) → IsPresent before.points entry.nearest
-      → HasLawfulOutcome setup before k entry p outcome → HasLawfulOutcome setup after k entry p outcome
-  outcome_stays k p Placed nearest h = record {
-    by_worker =
-        IsChosenLawfully-grows p (node_count before.points) (node_count after.points) (node_count-grows before after grows) nearest h.by_worker;
-    by_tree = HangsLawfully-grows k p nearest h.by_tree;
+  -- the nearest node stays so, and steers to the same point
+  pub IsSteeredLawfully-grows :
+      (mark : Point) (EndedAt EndsAt : Point → Type 0) → (IsPresent before.points entry.nearest → (p : Point) → EndedAt p → EndsAt p)
+      → IsSteeredLawfully setup before mark entry EndedAt → IsSteeredLawfully setup after mark entry EndsAt
+  IsSteeredLawfully-grows mark EndedAt EndsAt stays h = record {
+    present = IsPresent-grows before after grows entry.nearest h.present;
+    nearest = λ i early.
+        let was = was_earlier i early in
+        IsNotAbove-grows before after grows mark entry.nearest i h.present (same.present i was) (h.nearest i was);
+    outcome =
+        subst (λ a. EndsAt (steered a mark setup.step)) (sym (same_point entry.nearest h.present))
+        (stays h.present (steered (point_of before.points entry.nearest) mark setup.step) h.outcome);
   }
-  outcome_stays k p (Same j) nearest h = grows.nodes j p h
-  outcome_stays k p Blocked nearest h = IsBlockedLawfully-grows p nearest h
+
+  -- what an outcome says stays true
+  pub HasLawfulOutcome-grows :
+      (k : ℕ) (mark : Point) (outcome : Outcome) → HasLawfulOutcome setup before k mark entry outcome
+      → HasLawfulOutcome setup after k mark entry outcome
+  HasLawfulOutcome-grows k mark Placed h =
+      IsSteeredLawfully-grows mark (IsPlacedLawfully setup before k entry) (IsPlacedLawfully setup after k entry) (λ nearest p placed. record {
+        by_worker =
+            IsChosenLawfully-grows p (node_count before.points) (node_count after.points) (node_count-grows before after grows) nearest
+            placed.by_worker;
+        by_tree = HangsLawfully-grows k p nearest placed.by_tree;
+      }) h
+  HasLawfulOutcome-grows k mark (Same j) h =
+      IsSteeredLawfully-grows mark (StandsAt before.points j) (StandsAt after.points j) (λ nearest p stands. grows.nodes j p stands) h
+  HasLawfulOutcome-grows k mark Blocked h =
+      IsSteeredLawfully-grows mark (IsBlockedLawfully setup before entry) (IsBlockedLawfully setup after entry)
+      (λ nearest p blocked. IsBlockedLawfully-grows p nearest blocked) h
 
   -- A lawful record stays lawful.
   pub IsLawfulRecord-grows : (k : ℕ) (mark : Point) → IsLawfulRecord setup before k mark entry → IsLawfulRecord setup after k mark entry
-  IsLawfulRecord-grows k mark h =
-      let point : Point → Point = λ a. steered a mark setup.step in
-      let here = outcome_stays k (point (point_of before.points entry.nearest)) entry.outcome h.present h.outcome in
-      record {
-        present = IsPresent-grows before after grows entry.nearest h.present;
-        nearest = λ i early.
-            let was = was_earlier i early in
-            IsNotAbove-grows before after grows mark entry.nearest i h.present (same.present i was) (h.nearest i was);
-        outcome =
-            subst (λ a. HasLawfulOutcome setup after k entry (point a) entry.outcome) (sym (same_point entry.nearest h.present)) here;
-      }
+  IsLawfulRecord-grows k mark h = HasLawfulOutcome-grows k mark entry.outcome h

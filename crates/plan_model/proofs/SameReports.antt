@@ -4,7 +4,8 @@ use Rattle.std.specs.Prelude.{IsTrue, is_some, unwrap_or, filter, map, reverse}
 use Rattle.std.specs.List.{range_with_len, flat_map}
 use Rattle.plan_model.specs.declared.geometry.Point.{Point}
 use Rattle.plan_model.specs.declared.geometry.Goal.{Goal}
-use Rattle.plan_model.specs.BestNode.{is_goal_point, best_node}
+use Rattle.plan_model.specs.declared.scenes.Scene.{Scene}
+use Rattle.plan_model.specs.BestNode.{is_goal_point, best_node, goals_of}
 use Rattle.plan_model.specs.Clearance.{ClearAt}
 use Rattle.plan_model.specs.LeastPairs.{IsFirstLeast, first_least}
 use Rattle.plan_model.specs.OrderLaw.{KeepsOrder}
@@ -82,29 +83,8 @@ module _ (setup : Setup) (one other : TreeState) (order : KeepsOrder setup one) 
     best_path-same None e = refl
     best_path-same (Some n) e = path_to-same n (best_present n e)
 
-    counts_line-same : counts_line limit other ≡ counts_line limit one
-    counts_line-same =
-        let records : counts_line limit other ≡ counts_line limit (record other { record_of = one.record_of }) =
-        λ t. counts_line limit (record other { record_of = λ k. same.records k t }) in
-        records ∙ rw (node_count-same one.points other.points same.points) refl
-
-    -- so is the short report
-    pub short_report-same : short_report goals limit other ≡ short_report goals limit one
-    short_report-same =
-        let best : Option ℕ = best_node goals limit one in
-        ap (λ o. (head_line other o ++ point_lines (best_path other o)) ++ counts_line limit other) best_node-same
-        ∙ ap (λ head. (head ++ point_lines (best_path other best)) ++ counts_line limit other) (head_line-same best refl)
-        ∙ ap (λ path. (head_line one best ++ point_lines path) ++ counts_line limit other) (best_path-same best refl)
-        ∙ ap (λ counts. (head_line one best ++ point_lines (best_path one best)) ++ counts) counts_line-same
-
-    -- and the summary
-    pub summary-same : summary goals limit other ≡ summary goals limit one
-    summary-same =
-        let best : Option ℕ = best_node goals limit one in
-        ap (λ o. head_line other o ++ counts_line limit other) best_node-same
-        ∙ ap (λ head. head ++ counts_line limit other) (head_line-same best refl)
-        ∙ ap (λ counts. head_line one best ++ counts) counts_line-same
-
+  -- the lines of nodes and marks are the same
+  module _ (limit : ℕ) where
     node_line-same : (n : ℕ) (o : Option Point) → point_at one.points n ≡ o → node_line_if_present other n o ≡ node_line_if_present one n o
     node_line-same n None e = refl
     node_line-same n (Some p) e =
@@ -121,13 +101,60 @@ module _ (setup : Setup) (one other : TreeState) (order : KeepsOrder setup one) 
     mark_lines-same : mark_lines limit other ≡ mark_lines limit one
     mark_lines-same = λ t. flat_map (λ k. mark_line_if_recorded k (same.records k t)) (range_with_len 0 limit)
 
+  -- ---- the reports of a scene
+
+  module _ (scene : Scene) (limit : ℕ) where
+    abbrev goals : List Goal
+    goals = goals_of scene
+
+    counts_line-same : counts_line scene limit other ≡ counts_line scene limit one
+    counts_line-same =
+        let records : counts_line scene limit other ≡ counts_line scene limit (record other { record_of = one.record_of }) =
+        λ t. counts_line scene limit (record other { record_of = λ k. same.records k t }) in
+        records ∙ rw (node_count-same one.points other.points same.points) refl
+
+    -- the short report is the same
+    pub short_report-same : short_report scene limit other ≡ short_report scene limit one
+    short_report-same =
+        let best : Option ℕ = best_node goals limit one in
+        ap (λ o. (head_line other o ++ point_lines (best_path other o)) ++ counts_line scene limit other) (best_node-same goals limit)
+        ∙ ap (λ head. (head ++ point_lines (best_path other best)) ++ counts_line scene limit other) (head_line-same goals limit best refl)
+        ∙ ap (λ path. (head_line one best ++ point_lines path) ++ counts_line scene limit other) (best_path-same goals limit best refl)
+        ∙ ap (λ counts. (head_line one best ++ point_lines (best_path one best)) ++ counts) counts_line-same
+
+    -- and the summary
+    pub summary-same : summary scene limit other ≡ summary scene limit one
+    summary-same =
+        let best : Option ℕ = best_node goals limit one in
+        ap (λ o. head_line other o ++ counts_line scene limit other) (best_node-same goals limit)
+        ∙ ap (λ head. head ++ counts_line scene limit other) (head_line-same goals limit best refl)
+        ∙ ap (λ counts. head_line one best ++ counts) counts_line-same
+
     -- and the report, short or full
-    pub report_text-same : (full : Bool) → report_text full goals limit other ≡ report_text full goals limit one
+    pub report_text-same : (full : Bool) → report_text full scene limit other ≡ report_text full scene limit one
     report_text-same false = short_report-same
     report_text-same true =
         ap (λ text. (text ++ node_lines limit other) ++ mark_lines limit other) short_report-same
-        ∙ ap (λ nodes. (short_report goals limit one ++ nodes) ++ mark_lines limit other) node_lines-same
-        ∙ ap (λ marks. (short_report goals limit one ++ node_lines limit one) ++ marks) mark_lines-same
+        ∙ ap (λ nodes. (short_report scene limit one ++ nodes) ++ mark_lines limit other) (node_lines-same limit)
+        ∙ ap (λ marks. (short_report scene limit one ++ node_lines limit one) ++ marks) (mark_lines-same limit)
+
+-- ---- scenes with the same goals
+
+module _ (one other : Scene) (limit : ℕ) (state : TreeState) (h : goals_of other ≡ goals_of one) where
+  -- They have the same short report of a tree,
+  pub short_report-same_goals : short_report other limit state ≡ short_report one limit state
+  short_report-same_goals =
+      ap (λ goals. (head_line state (best_node goals limit state) ++ point_lines (best_path state (best_node goals limit state)))
+      ++ counts_line one limit state) h
+
+  -- the same report, short or full,
+  pub report_text-same_goals : (full : Bool) → report_text full other limit state ≡ report_text full one limit state
+  report_text-same_goals false = short_report-same_goals
+  report_text-same_goals true = ap (λ text. (text ++ node_lines limit state) ++ mark_lines limit state) short_report-same_goals
+
+  -- and the same summary.
+  pub summary-same_goals : summary other limit state ≡ summary one limit state
+  summary-same_goals = ap (λ goals. head_line state (best_node goals limit state) ++ counts_line one limit state) h
 
 -- ---- the textbook run
 
@@ -155,14 +182,14 @@ module _
   AreSameRuns-textbook = AreSameRuns-trans one run other (AreSameRuns-sym run one of_one.same) other_same
 
   -- and have the same report
-  pub report_text-textbook : (goals : List Goal) (limit : ℕ) (full : Bool) → report_text full goals limit other ≡ report_text full goals limit one
+  pub report_text-textbook : (scene : Scene) (limit : ℕ) (full : Bool) → report_text full scene limit other ≡ report_text full scene limit one
   unfolding run
-  report_text-textbook goals limit full =
-      report_text-same setup run other order other_same goals limit full
-      ∙ sym (report_text-same setup run one order of_one.same goals limit full)
+  report_text-textbook scene limit full =
+      report_text-same setup run other order other_same scene limit full
+      ∙ sym (report_text-same setup run one order of_one.same scene limit full)
 
   -- and the same summary
-  pub summary-textbook : (goals : List Goal) (limit : ℕ) → summary goals limit other ≡ summary goals limit one
+  pub summary-textbook : (scene : Scene) (limit : ℕ) → summary scene limit other ≡ summary scene limit one
   unfolding run
-  summary-textbook goals limit =
-      summary-same setup run other order other_same goals limit ∙ sym (summary-same setup run one order of_one.same goals limit)
+  summary-textbook scene limit =
+      summary-same setup run other order other_same scene limit ∙ sym (summary-same setup run one order of_one.same scene limit)

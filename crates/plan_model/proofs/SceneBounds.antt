@@ -1,6 +1,6 @@
--- What a scene may have is within what is counted on: distances of its points can be taken, points are steered by its step, and its
--- obstacles go into Minkowski sums.
-use Rattle.std.proofs.Common.{◌≡◌, ◌≤◌, ◌&&◌, true, length, List, [], ◌∷◌, refl, sym, arith}
+-- What a scene of either version may have is within what is counted on: distances of its points can be taken, points are steered by its
+-- step, and its obstacles go into Minkowski sums.
+use Rattle.std.proofs.Common.{◌≡◌, ◌≤◌, ◌&&◌, Bool, ℕ, true, false, eqb, cond, length, List, [], ◌∷◌, refl, subst, sym, arith}
 use Rattle.std.specs.Prelude.{ℤ, ◌≤ℤ◌, int_le, nat_le}
 use Rattle.std.specs.List.{list_all}
 use Rattle.std.proofs.lemmas.Bool.{and_parts, and_from, leb-true}
@@ -8,17 +8,56 @@ use Rattle.std.proofs.lemmas.Int.{ints}
 use Rattle.plan_model.specs.declared.geometry.Point.{Point}
 use Rattle.plan_model.specs.declared.geometry.Vertex.{Vertex}
 use Rattle.plan_model.specs.declared.scenes.Scene.{Scene}
-use Rattle.plan_model.specs.declared.limits.TheConstants.{LEAST_OBSTACLE_COORDINATE, LEAST_SUMMAND_COORDINATE, MOST_OBSTACLE_COORDINATE}
-use Rattle.plan_model.specs.declared.limits.TheConstants.{MOST_OBSTACLE_CORNERS, MOST_SIDE, MOST_STEERING_STEP, MOST_SUMMAND_COORDINATE}
+use Rattle.plan_model.specs.declared.limits.TheConstants.{LEAST_OBSTACLE_COORDINATE, LEAST_OBSTACLE_COORDINATE_OF_VERSION_2, LEAST_SUMMAND_COORDINATE}
+use Rattle.plan_model.specs.declared.limits.TheConstants.{MOST_CLEARANCE, MOST_COORDINATE, MOST_OBSTACLE_COORDINATE, MOST_OBSTACLE_COORDINATE_OF_VERSION_2}
+use Rattle.plan_model.specs.declared.limits.TheConstants.{MOST_OBSTACLE_CORNERS, MOST_SIDE, MOST_SIDE_OF_VERSION_2, MOST_STEERING_STEP, MOST_STEP}
+use Rattle.plan_model.specs.declared.limits.TheConstants.{MOST_STEP_OF_VERSION_2, MOST_SUMMAND_COORDINATE}
 use Rattle.plan_model.specs.Bounds.{IsBounded}
 use Rattle.plan_model.specs.Convexity.{is_strictly_convex}
 use Rattle.plan_model.specs.EmptyRooms.{IsInRoom}
-use Rattle.plan_model.specs.Limits.{is_corner_between, is_mark, is_obstacle}
+use Rattle.plan_model.specs.Limits.{is_corner_between, is_mark, is_obstacle, least_obstacle_coordinate, most_obstacle_coordinate, most_side}
+use Rattle.plan_model.specs.Limits.{most_clearance, most_step}
 
--- ---- points and steps
+-- ---- the limits of either version
+
+side_by : (first : Bool) → cond first MOST_SIDE MOST_SIDE_OF_VERSION_2 ≤ MOST_COORDINATE
+side_by true = omega arith
+side_by false = omega arith
+
+pub most_side-counted : (version : ℕ) → most_side version ≤ MOST_COORDINATE
+most_side-counted version = side_by (eqb version 1)
+
+step_by : (first : Bool) → cond first MOST_STEP MOST_STEP_OF_VERSION_2 ≤ MOST_STEERING_STEP
+step_by true = omega arith
+step_by false = omega arith
+
+pub most_step-counted : (version : ℕ) → most_step version ≤ MOST_STEERING_STEP
+most_step-counted version = step_by (eqb version 1)
+
+least_by : (first : Bool) → LEAST_SUMMAND_COORDINATE ≤ℤ cond first LEAST_OBSTACLE_COORDINATE LEAST_OBSTACLE_COORDINATE_OF_VERSION_2
+least_by true = omega (arith, ints)
+least_by false = omega (arith, ints)
+
+pub least_obstacle-counted : (version : ℕ) → LEAST_SUMMAND_COORDINATE ≤ℤ least_obstacle_coordinate version
+least_obstacle-counted version = least_by (eqb version 1)
+
+most_by : (first : Bool) → cond first MOST_OBSTACLE_COORDINATE MOST_OBSTACLE_COORDINATE_OF_VERSION_2 ≤ℤ MOST_SUMMAND_COORDINATE
+most_by true = omega (arith, ints)
+most_by false = omega (arith, ints)
+
+pub most_obstacle-counted : (version : ℕ) → most_obstacle_coordinate version ≤ℤ MOST_SUMMAND_COORDINATE
+most_obstacle-counted version = most_by (eqb version 1)
+
+clearance_by : (first : Bool) → cond first 0 MOST_CLEARANCE ≤ MOST_CLEARANCE
+clearance_by true = omega arith
+clearance_by false = omega arith
+
+-- ---- points, steps and clearances
 
 pub IsBounded-room : (scene : Scene) → IsBounded scene.room
-IsBounded-room scene = record { right = omega (arith, scene.room_within.right); top = omega (arith, scene.room_within.top) }
+IsBounded-room scene =
+    let most = most_side-counted scene.version in
+    record { right = omega (arith, scene.room_within.right, most); top = omega (arith, scene.room_within.top, most) }
 
 pub IsBounded-in_room : (scene : Scene) (p : Point) → IsInRoom scene.room p → IsBounded p
 IsBounded-in_room scene p h =
@@ -26,16 +65,29 @@ IsBounded-in_room scene p h =
     record { right = omega (arith, h.horizontal, room.right); top = omega (arith, h.vertical, room.top) }
 
 pub IsBounded-scene_start : (scene : Scene) → IsBounded scene.start
-IsBounded-scene_start scene = record { right = omega (arith, scene.start_within.right); top = omega (arith, scene.start_within.top) }
+IsBounded-scene_start scene =
+    let most = most_side-counted scene.version in
+    record { right = omega (arith, scene.start_within.right, most); top = omega (arith, scene.start_within.top, most) }
 
 -- a mark that a scene may list
-pub IsBounded-listed : (p : Point) → is_mark p ≡ true → IsBounded p
-IsBounded-listed p h =
-    let parts = and_parts (nat_le p.x MOST_SIDE) (nat_le p.y MOST_SIDE) h in
-    record { right = omega (arith, leb-true p.x MOST_SIDE parts.0); top = omega (arith, leb-true p.y MOST_SIDE parts.1) }
+pub IsBounded-listed : (version : ℕ) (p : Point) → is_mark version p ≡ true → IsBounded p
+IsBounded-listed version p h =
+    let most = most_side-counted version in
+    let parts = and_parts (nat_le p.x (most_side version)) (nat_le p.y (most_side version)) h in
+    let right = leb-true p.x (most_side version) parts.0 in
+    let top = leb-true p.y (most_side version) parts.1 in
+    record { right = omega (arith, right, most); top = omega (arith, top, most) }
 
 pub step-steers : (scene : Scene) → scene.step ≤ MOST_STEERING_STEP
-step-steers scene = omega (arith, scene.step_high)
+step-steers scene = omega (arith, scene.step_high, most_step-counted scene.version)
+
+pub clearance-counted : (scene : Scene) → scene.clearance ≤ MOST_CLEARANCE
+clearance-counted scene = omega (arith, scene.clearance_high, clearance_by (eqb scene.version 1))
+
+-- a scene of version 1 has no clearance
+pub clearance-first : (scene : Scene) → scene.version ≡ 1 → scene.clearance ≡ 0
+clearance-first scene is =
+    let most : scene.clearance ≤ most_clearance 1 = subst (λ version. scene.clearance ≤ most_clearance version) is scene.clearance_high in omega arith
 
 -- ---- obstacles
 
@@ -65,10 +117,10 @@ widened low high least most (v ∷ corners) f g h =
     (widened_corner low high least most v f g parts.0) (widened low high least most corners f g parts.1)
 
 -- each corner of an obstacle is in the range of a summand's
-pub corners-summands :
-    (corners : List Vertex) → is_obstacle corners ≡ true → list_all (is_corner_between LEAST_SUMMAND_COORDINATE MOST_SUMMAND_COORDINATE) corners ≡ true
-corners-summands corners h =
-    let parts = and_parts (nat_le (length corners) MOST_OBSTACLE_CORNERS && is_strictly_convex corners)
-    (list_all (is_corner_between LEAST_OBSTACLE_COORDINATE MOST_OBSTACLE_COORDINATE) corners) h in
-    widened LEAST_OBSTACLE_COORDINATE MOST_OBSTACLE_COORDINATE LEAST_SUMMAND_COORDINATE MOST_SUMMAND_COORDINATE corners (omega (arith, ints))
-    (omega (arith, ints)) parts.1
+pub corners-summands : (version : ℕ) (corners : List Vertex) → is_obstacle version corners ≡ true
+    → list_all (is_corner_between LEAST_SUMMAND_COORDINATE MOST_SUMMAND_COORDINATE) corners ≡ true
+corners-summands version corners h =
+    let low = least_obstacle_coordinate version in
+    let high = most_obstacle_coordinate version in
+    let parts = and_parts (nat_le (length corners) MOST_OBSTACLE_CORNERS && is_strictly_convex corners) (list_all (is_corner_between low high) corners) h in
+    widened low high LEAST_SUMMAND_COORDINATE MOST_SUMMAND_COORDINATE corners (least_obstacle-counted version) (most_obstacle-counted version) parts.1

@@ -1,5 +1,6 @@
 -- The parts of a scene, from numbers that may stand after its keys.
-use Rattle.std.proofs.Common.{◌≡◌, ℕ, ◌+◌, ◌*◌, ◌≤◌, ◌&&◌, ◌||◌, ◌⊎◌, Bool, true, false, eqb, ltb, leb, ℤ, pos, negsuc, int_le, unsigned_abs, List, []}
+use Rattle.std.proofs.Common.{◌≡◌, ℕ, zero, suc, ◌+◌, ◌*◌, ◌≤◌, ◌&&◌, ◌||◌, ◌⊎◌, not, Bool, true, false, cond, eqb, ltb, leb, ℤ, pos, negsuc, int_le}
+use Rattle.std.proofs.Common.{unsigned_abs, List, []}
 use Rattle.std.proofs.Common.{◌∷◌, length, map, All, refl, inl, inr, arith}
 use Rattle.std.specs.List.{list_all}
 use Rattle.std.proofs.lemmas.Bool.{and_parts, and_from, or_cases, or_left, or_right, leb-true, le-leb, eqb-true, eq-eqb, ltb-false}
@@ -7,11 +8,11 @@ use Rattle.std.proofs.lemmas.List.{length-map}
 use Rattle.std.proofs.lemmas.List.Elements.{All-head, All-tail}
 use Rattle.plan_model.specs.declared.text_terms.Key.TheVariants as keys
 use Rattle.plan_model.specs.Convexity.{is_strictly_convex}
-use Rattle.plan_model.specs.Limits.{IsBetween, IsGoal, is_corner_between, is_body, is_obstacle, is_mark, is_plan}
-use Rattle.plan_model.specs.declared.limits.TheConstants.{LEAST_BODY_COORDINATE, LEAST_OBSTACLE_COORDINATE, LEAST_SIDE, LEAST_STEP}
-use Rattle.plan_model.specs.declared.limits.TheConstants.{MOST_BODY_COORDINATE, MOST_BODY_CORNERS, MOST_GAMMA, MOST_MARKS, MOST_SEED}
-use Rattle.plan_model.specs.declared.limits.TheConstants.{MOST_OBSTACLE_COORDINATE, MOST_OBSTACLE_CORNERS, MOST_SIDE, MOST_STEP, MOST_STRIPS}
-use Rattle.plan_model.specs.LineChecks.{are_between, corners_from, MayStand}
+use Rattle.plan_model.specs.Limits.{IsBetween, by_version, is_corner_between, are_goals, is_body, is_goal, is_obstacle, is_mark, is_plan, may_be_informed}
+use Rattle.plan_model.specs.Limits.{least_obstacle_coordinate, most_clearance, most_goals, most_obstacle_coordinate, most_side, most_step}
+use Rattle.plan_model.specs.declared.limits.TheConstants.{LEAST_BODY_COORDINATE, LEAST_SIDE, LEAST_STEP, MOST_BODY_COORDINATE, MOST_BODY_CORNERS}
+use Rattle.plan_model.specs.declared.limits.TheConstants.{MOST_GAMMA, MOST_MARKS, MOST_OBSTACLE_CORNERS, MOST_SEED, MOST_STRIPS}
+use Rattle.plan_model.specs.LineChecks.{are_between, corners_from, is_ordered, MayStand}
 use Rattle.plan_model.specs.SceneGrammar.{point_from, goal_from, number_or, body_from, plan_from}
 
 -- ---- one number
@@ -40,14 +41,14 @@ single low high default (z ∷ zs) count h =
 
 -- ---- points
 
-pair : (low : ℕ) (zs : List ℤ) → 2 ≤ length zs → are_between (pos low) (pos MOST_SIDE) zs ≡ true → IsBetween low MOST_SIDE (point_from zs)
-pair low [] long h = absurd (omega arith)
-pair low (x ∷ []) long h = absurd (omega arith)
-pair low (x ∷ y ∷ zs) long h =
-    let first = and_parts (int_le (pos low) x && int_le x (pos MOST_SIDE)) (are_between (pos low) (pos MOST_SIDE) (y ∷ zs)) h in
-    let second = and_parts (int_le (pos low) y && int_le y (pos MOST_SIDE)) (are_between (pos low) (pos MOST_SIDE) zs) first.1 in
-    let horizontal = within low MOST_SIDE x first.0 in
-    let vertical = within low MOST_SIDE y second.0 in
+pair : (low high : ℕ) (zs : List ℤ) → 2 ≤ length zs → are_between (pos low) (pos high) zs ≡ true → IsBetween low high (point_from zs)
+pair low high [] long h = absurd (omega arith)
+pair low high (x ∷ []) long h = absurd (omega arith)
+pair low high (x ∷ y ∷ zs) long h =
+    let first = and_parts (int_le (pos low) x && int_le x (pos high)) (are_between (pos low) (pos high) (y ∷ zs)) h in
+    let second = and_parts (int_le (pos low) y && int_le y (pos high)) (are_between (pos low) (pos high) zs) first.1 in
+    let horizontal = within low high x first.0 in
+    let vertical = within low high y second.0 in
     record {
       left = horizontal.above;
       right = horizontal.below;
@@ -55,55 +56,76 @@ pair low (x ∷ y ∷ zs) long h =
       top = vertical.below;
     }
 
-point : (low : ℕ) (zs : List ℤ) → eqb (length zs) 2 ≡ true → are_between (pos low) (pos MOST_SIDE) zs ≡ true → IsBetween low MOST_SIDE (point_from zs)
-point low zs count h = pair low zs (omega (arith, eqb-true (length zs) 2 count)) h
+point : (low high : ℕ) (zs : List ℤ) → eqb (length zs) 2 ≡ true → are_between (pos low) (pos high) zs ≡ true → IsBetween low high (point_from zs)
+point low high zs count h = pair low high zs (omega (arith, eqb-true (length zs) 2 count)) h
 
-pub room-within : (zs : List ℤ) → MayStand keys.Room zs → IsBetween LEAST_SIDE MOST_SIDE (point_from zs)
-room-within zs h = point LEAST_SIDE zs h.count h.ranged
+pub room-within : (version : ℕ) (zs : List ℤ) → MayStand version keys.Room zs → IsBetween LEAST_SIDE (most_side version) (point_from zs)
+room-within version zs h = point LEAST_SIDE (most_side version) zs h.count h.ranged
 
-pub start-within : (zs : List ℤ) → MayStand keys.Start zs → IsBetween 0 MOST_SIDE (point_from zs)
-start-within zs h = point 0 zs h.count h.ranged
+pub start-within : (version : ℕ) (zs : List ℤ) → MayStand version keys.Start zs → IsBetween 0 (most_side version) (point_from zs)
+start-within version zs h = point 0 (most_side version) zs h.count h.ranged
 
-pub mark-within : (zs : List ℤ) → MayStand keys.Mark zs → is_mark (point_from zs) ≡ true
-mark-within zs h =
+pub mark-within : (version : ℕ) (zs : List ℤ) → MayStand version keys.Mark zs → is_mark version (point_from zs) ≡ true
+mark-within version zs h =
     let p = point_from zs in
-    let between = point 0 zs h.count h.ranged in
-    and_from (leb p.x MOST_SIDE) (leb p.y MOST_SIDE) (le-leb p.x MOST_SIDE between.right) (le-leb p.y MOST_SIDE between.top)
+    let most = most_side version in
+    let between = point 0 most zs h.count h.ranged in
+    and_from (leb p.x most) (leb p.y most) (le-leb p.x most between.right) (le-leb p.y most between.top)
 
-pub goal-within : (zs : List ℤ) → MayStand keys.Goal zs → IsGoal (goal_from zs)
-goal-within [] h = let none = h.count in absurd (cc)
-goal-within (a ∷ []) h = let none = h.count in absurd (cc)
-goal-within (a ∷ b ∷ []) h = let none = h.count in absurd (cc)
-goal-within (a ∷ b ∷ c ∷ []) h = let none = h.count in absurd (cc)
-goal-within (a ∷ b ∷ c ∷ d ∷ zs) h =
-    let parts = and_parts (int_le a c && int_le b d) (are_between (pos 0) (pos MOST_SIDE) (a ∷ b ∷ c ∷ d ∷ zs)) h.ranged in
+goal_by : (most : ℕ) (zs : List ℤ) → eqb (length zs) 4 ≡ true → (is_ordered keys.Goal zs && are_between (pos 0) (pos most) zs) ≡ true
+    → ((leb (goal_from zs).high.x most && leb (goal_from zs).high.y most)
+    && (leb (goal_from zs).low.x (goal_from zs).high.x && leb (goal_from zs).low.y (goal_from zs).high.y)) ≡ true
+goal_by most [] count h = absurd (cc)
+goal_by most (a ∷ []) count h = absurd (cc)
+goal_by most (a ∷ b ∷ []) count h = absurd (cc)
+goal_by most (a ∷ b ∷ c ∷ []) count h = absurd (cc)
+goal_by most (a ∷ b ∷ c ∷ d ∷ zs) count h =
+    let parts = and_parts (int_le a c && int_le b d) (are_between (pos 0) (pos most) (a ∷ b ∷ c ∷ d ∷ zs)) h in
     let order = and_parts (int_le a c) (int_le b d) parts.0 in
-    let first = and_parts (int_le (pos 0) a && int_le a (pos MOST_SIDE)) (are_between (pos 0) (pos MOST_SIDE) (b ∷ c ∷ d ∷ zs)) parts.1 in
-    let second = and_parts (int_le (pos 0) b && int_le b (pos MOST_SIDE)) (are_between (pos 0) (pos MOST_SIDE) (c ∷ d ∷ zs)) first.1 in
-    let high = pair 0 (c ∷ d ∷ zs) (omega arith) second.1 in
-    record {
-      right = high.right;
-      top = high.top;
-      horizontal = in_order a c (and_parts (int_le (pos 0) a) (int_le a (pos MOST_SIDE)) first.0).0 order.0;
-      vertical = in_order b d (and_parts (int_le (pos 0) b) (int_le b (pos MOST_SIDE)) second.0).0 order.1;
-    }
+    let first = and_parts (int_le (pos 0) a && int_le a (pos most)) (are_between (pos 0) (pos most) (b ∷ c ∷ d ∷ zs)) parts.1 in
+    let second = and_parts (int_le (pos 0) b && int_le b (pos most)) (are_between (pos 0) (pos most) (c ∷ d ∷ zs)) first.1 in
+    let high = pair 0 most (c ∷ d ∷ zs) (omega arith) second.1 in
+    let horizontal = in_order a c (and_parts (int_le (pos 0) a) (int_le a (pos most)) first.0).0 order.0 in
+    let vertical = in_order b d (and_parts (int_le (pos 0) b) (int_le b (pos most)) second.0).0 order.1 in
+    and_from (leb (unsigned_abs c) most && leb (unsigned_abs d) most) (leb (unsigned_abs a) (unsigned_abs c) && leb (unsigned_abs b) (unsigned_abs d))
+    (and_from (leb (unsigned_abs c) most) (leb (unsigned_abs d) most) (le-leb (unsigned_abs c) most high.right) (le-leb (unsigned_abs d) most high.top))
+    (and_from (leb (unsigned_abs a) (unsigned_abs c)) (leb (unsigned_abs b) (unsigned_abs d)) (le-leb (unsigned_abs a) (unsigned_abs c) horizontal)
+    (le-leb (unsigned_abs b) (unsigned_abs d) vertical))
+
+pub goal-within : (version : ℕ) (zs : List ℤ) → MayStand version keys.Goal zs → is_goal version (goal_from zs) ≡ true
+goal-within version zs h = goal_by (most_side version) zs h.count h.ranged
 
 -- ---- numbers
 
-pub step-within : (zs : List ℤ) → MayStand keys.Step zs → IsWithin LEAST_STEP MOST_STEP (number_or 0 zs)
-step-within zs h = single LEAST_STEP MOST_STEP 0 zs h.count h.ranged
+pub step-within : (version : ℕ) (zs : List ℤ) → MayStand version keys.Step zs → IsWithin LEAST_STEP (most_step version) (number_or 0 zs)
+step-within version zs h = single LEAST_STEP (most_step version) 0 zs h.count h.ranged
 
-pub gamma-within : (zs : List ℤ) → MayStand keys.Gamma zs → number_or 0 zs ≤ MOST_GAMMA
-gamma-within zs h = (single 0 MOST_GAMMA 0 zs h.count h.ranged).below
+pub clearance-within : (version : ℕ) (zs : List ℤ) → MayStand version keys.Clearance zs → number_or 0 zs ≤ most_clearance version
+clearance-within version zs h = (single 0 (most_clearance version) 0 zs h.count h.ranged).below
 
-pub seed-within : (zs : List ℤ) → MayStand keys.Seed zs → number_or 0 zs ≤ MOST_SEED
-seed-within zs h = (single 0 MOST_SEED 0 zs h.count h.ranged).below
+pub gamma-within : (version : ℕ) (zs : List ℤ) → MayStand version keys.Gamma zs → number_or 0 zs ≤ MOST_GAMMA
+gamma-within version zs h = (single 0 MOST_GAMMA 0 zs h.count h.ranged).below
 
-pub strips-within : (zs : List ℤ) → MayStand keys.Strips zs → IsWithin 1 MOST_STRIPS (number_or 1 zs)
-strips-within zs h = single 1 MOST_STRIPS 1 zs h.count h.ranged
+pub seed-within : (version : ℕ) (zs : List ℤ) → MayStand version keys.Seed zs → number_or 0 zs ≤ MOST_SEED
+seed-within version zs h = (single 0 MOST_SEED 0 zs h.count h.ranged).below
 
-pub marks-within : (zs : List ℤ) → MayStand keys.Marks zs → number_or 0 zs ≤ MOST_MARKS
-marks-within zs h = (single 0 MOST_MARKS 0 zs h.count h.ranged).below
+pub strips-within : (version : ℕ) (zs : List ℤ) → MayStand version keys.Strips zs → IsWithin 1 MOST_STRIPS (number_or 1 zs)
+strips-within version zs h = single 1 MOST_STRIPS 1 zs h.count h.ranged
+
+pub informed-within : (version : ℕ) (zs : List ℤ) → MayStand version keys.Informed zs → number_or 0 zs ≤ by_version version 0 1
+informed-within version zs h = (single 0 (by_version version 0 1) 0 zs h.count h.ranged).below
+
+pub marks-within : (version : ℕ) (zs : List ℤ) → MayStand version keys.Marks zs → number_or 0 zs ≤ MOST_MARKS
+marks-within version zs h = (single 0 MOST_MARKS 0 zs h.count h.ranged).below
+
+-- a number that may be above 0 in version 2 alone
+informed_by : (first : Bool) (n : ℕ) → n ≤ cond first 0 1 → (not (eqb n 1) || not first) ≡ true
+informed_by true zero h = refl
+informed_by true (suc n) h = absurd (omega arith)
+informed_by false n h = or_right (not (eqb n 1)) true refl
+
+pub informed-by_number : (version n : ℕ) → n ≤ by_version version 0 1 → may_be_informed version (eqb n 1) ≡ true
+informed-by_number version n h = informed_by (eqb version 1) n h
 
 -- ---- polygons
 
@@ -139,8 +161,8 @@ body-shape n count convex most least few (inr h) =
     or_right (eqb n 1) (leb n MOST_BODY_CORNERS && convex)
     (and_from (leb n MOST_BODY_CORNERS) convex (le-leb n MOST_BODY_CORNERS (omega (arith, ltb-false (2 * MOST_BODY_CORNERS) count few))) h)
 
-pub polygon-of_body : (zs : List ℤ) → MayStand keys.Body zs → is_body (corners_from zs) ≡ true
-polygon-of_body zs h =
+pub polygon-of_body : (version : ℕ) (zs : List ℤ) → MayStand version keys.Body zs → is_body (corners_from zs) ≡ true
+polygon-of_body version zs h =
     let vs = corners_from zs in
     let many = corners zs in
     let ranged = h.ranged in
@@ -149,8 +171,10 @@ polygon-of_body zs h =
     and_from (eqb (length vs) 1 || (leb (length vs) MOST_BODY_CORNERS && is_strictly_convex vs))
     (list_all (is_corner_between LEAST_BODY_COORDINATE MOST_BODY_COORDINATE) vs) shape (corners-within LEAST_BODY_COORDINATE MOST_BODY_COORDINATE zs ranged)
 
-pub polygon-of_obstacle : (zs : List ℤ) → MayStand keys.Obstacle zs → is_obstacle (corners_from zs) ≡ true
-polygon-of_obstacle zs h =
+pub polygon-of_obstacle : (version : ℕ) (zs : List ℤ) → MayStand version keys.Obstacle zs → is_obstacle version (corners_from zs) ≡ true
+polygon-of_obstacle version zs h =
+    let low = least_obstacle_coordinate version in
+    let high = most_obstacle_coordinate version in
     let vs = corners_from zs in
     let many = corners zs in
     let ranged = h.ranged in
@@ -159,32 +183,53 @@ polygon-of_obstacle zs h =
     let shape : (leb (length vs) MOST_OBSTACLE_CORNERS && is_strictly_convex vs)
     ≡ true = and_from (leb (length vs) MOST_OBSTACLE_CORNERS) (is_strictly_convex vs) small h.corners in
     and_from (leb (length vs) MOST_OBSTACLE_CORNERS && is_strictly_convex vs)
-    (list_all (is_corner_between LEAST_OBSTACLE_COORDINATE MOST_OBSTACLE_COORDINATE) vs) shape
-    (corners-within LEAST_OBSTACLE_COORDINATE MOST_OBSTACLE_COORDINATE zs ranged)
+    (list_all (is_corner_between low high) vs) shape (corners-within low high zs ranged)
 
 -- ---- lists of parts
 
-pub obstacles-within : (lists : List (List ℤ)) → All (MayStand keys.Obstacle) lists → list_all is_obstacle (map corners_from lists) ≡ true
-obstacles-within [] h = refl
-obstacles-within (zs ∷ lists) h =
-    and_from (is_obstacle (corners_from zs)) (list_all is_obstacle (map corners_from lists))
-    (polygon-of_obstacle zs (All-head (MayStand keys.Obstacle) zs lists h)) (obstacles-within lists (All-tail (MayStand keys.Obstacle) zs lists h))
+pub obstacles-within : (version : ℕ) (lists : List (List ℤ)) → All (MayStand version keys.Obstacle) lists
+    → list_all (is_obstacle version) (map corners_from lists) ≡ true
+obstacles-within version [] h = refl
+obstacles-within version (zs ∷ lists) h =
+    let P = MayStand version keys.Obstacle in
+    and_from (is_obstacle version (corners_from zs)) (list_all (is_obstacle version) (map corners_from lists))
+    (polygon-of_obstacle version zs (All-head P zs lists h)) (obstacles-within version lists (All-tail P zs lists h))
 
-pub points-within : (lists : List (List ℤ)) → All (MayStand keys.Mark) lists → list_all is_mark (map point_from lists) ≡ true
-points-within [] h = refl
-points-within (zs ∷ lists) h =
-    and_from (is_mark (point_from zs)) (list_all is_mark (map point_from lists)) (mark-within zs (All-head (MayStand keys.Mark) zs lists h))
-    (points-within lists (All-tail (MayStand keys.Mark) zs lists h))
+each_goal-within : (version : ℕ) (lists : List (List ℤ)) → All (MayStand version keys.Goal) lists → list_all (is_goal version) (map goal_from lists) ≡ true
+each_goal-within version [] h = refl
+each_goal-within version (zs ∷ lists) h =
+    let P = MayStand version keys.Goal in
+    and_from (is_goal version (goal_from zs)) (list_all (is_goal version) (map goal_from lists)) (goal-within version zs (All-head P zs lists h))
+    (each_goal-within version lists (All-tail P zs lists h))
 
-pub body-within : (lists : List (List ℤ)) → All (MayStand keys.Body) lists → is_body (body_from lists) ≡ true
-body-within [] h = refl
-body-within (zs ∷ lists) h =
-    polygon-of_body zs (All-head (MayStand keys.Body) zs lists h)
+pub goals-within : (version : ℕ) (lists : List (List ℤ)) → All (MayStand version keys.Goal) lists → 1 ≤ length lists → length lists ≤ most_goals version
+    → are_goals version (map goal_from lists) ≡ true
+goals-within version lists h some few =
+    let count = length (map goal_from lists) in
+    let same : length (map goal_from lists) ≡ length lists = length-map lists goal_from in
+    let one = le-leb 1 count (omega (arith, same, some)) in
+    let most = le-leb count (most_goals version) (omega (arith, same, few)) in
+    and_from (leb 1 count && leb count (most_goals version)) (list_all (is_goal version) (map goal_from lists))
+    (and_from (leb 1 count) (leb count (most_goals version)) one most)
+    (each_goal-within version lists h)
 
-pub plan-within : (drawn listed : List (List ℤ)) → All (MayStand keys.Marks) drawn → All (MayStand keys.Mark) listed → length listed ≤ MOST_MARKS
-    → is_plan (plan_from drawn listed) ≡ true
-plan-within [] listed h g few =
-    and_from (leb (length (map point_from listed)) MOST_MARKS) (list_all is_mark (map point_from listed))
-    (le-leb (length (map point_from listed)) MOST_MARKS (omega (arith, length-map listed point_from))) (points-within listed g)
-plan-within (zs ∷ drawn) listed h g few =
-    le-leb (number_or 0 zs) MOST_MARKS (marks-within zs (All-head (MayStand keys.Marks) zs drawn h))
+pub points-within : (version : ℕ) (lists : List (List ℤ)) → All (MayStand version keys.Mark) lists
+    → list_all (is_mark version) (map point_from lists) ≡ true
+points-within version [] h = refl
+points-within version (zs ∷ lists) h =
+    let P = MayStand version keys.Mark in
+    and_from (is_mark version (point_from zs)) (list_all (is_mark version) (map point_from lists)) (mark-within version zs (All-head P zs lists h))
+    (points-within version lists (All-tail P zs lists h))
+
+pub body-within : (version : ℕ) (lists : List (List ℤ)) → All (MayStand version keys.Body) lists → is_body (body_from lists) ≡ true
+body-within version [] h = refl
+body-within version (zs ∷ lists) h =
+    polygon-of_body version zs (All-head (MayStand version keys.Body) zs lists h)
+
+pub plan-within : (version : ℕ) (drawn listed : List (List ℤ)) → All (MayStand version keys.Marks) drawn → All (MayStand version keys.Mark) listed
+    → length listed ≤ MOST_MARKS → is_plan version (plan_from drawn listed) ≡ true
+plan-within version [] listed h g few =
+    and_from (leb (length (map point_from listed)) MOST_MARKS) (list_all (is_mark version) (map point_from listed))
+    (le-leb (length (map point_from listed)) MOST_MARKS (omega (arith, length-map listed point_from))) (points-within version listed g)
+plan-within version (zs ∷ drawn) listed h g few =
+    le-leb (number_or 0 zs) MOST_MARKS (marks-within version zs (All-head (MayStand version keys.Marks) zs drawn h))

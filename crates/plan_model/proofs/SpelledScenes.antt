@@ -1,14 +1,14 @@
 -- A text spells one scene at most, so two scenes that it spells are clear at the same points.
-use Rattle.std.proofs.Common.{Bool, List, ℕ, subst}
+use Rattle.std.proofs.Common.{List, ℕ, subst}
 use Rattle.plan_model.specs.declared.scenes.Scene.{Scene}
-use Rattle.plan_model.specs.declared.text_terms.Key.{Key}
+use Rattle.plan_model.specs.LineChecks.{Format}
 use Rattle.plan_model.specs.SceneGrammar.{Spells}
 use Rattle.plan_model.specs.ConfigurationSpace.{space_of}
 use Rattle.plan_model.specs.Clearance.{ClearAt}
 use Rattle.plan_model.proofs.SameScenes.{Spells-one_scene}
 
 pub ClearAt-spelled :
-    (built : Key → Bool) (text : List ℕ) (one other : Scene) → Spells built text one → Spells built text other
+    (format : Format) (text : List ℕ) (one other : Scene) → Spells format text one → Spells format text other
     → ClearAt (space_of one) one.start → ClearAt (space_of other) other.start
-ClearAt-spelled built text one other a b clear =
-    subst (λ scene. ClearAt (space_of scene) scene.start) (Spells-one_scene built text one other a b) clear
+ClearAt-spelled format text one other a b clear =
+    subst (λ scene. ClearAt (space_of scene) scene.start) (Spells-one_scene format text one other a b) clear

@@ -1,5 +1,5 @@
 -- The grammar's words at one more statement and at one more line.
-use Rattle.std.proofs.Common.{◌≡◌, ℕ, not, Bool, true, false, cond, Some, List, [], ◌∷◌, ◌++◌, map, filter, refl, sym, ap, ◌∙◌}
+use Rattle.std.proofs.Common.{◌≡◌, ℕ, not, Bool, true, false, cond, Option, Some, None, List, [], ◌∷◌, ◌++◌, map, filter, refl, sym, ap, ◌∙◌}
 use mathlib.Core.Path.{fun_ext}
 use Rattle.std.specs.Prelude.{bytes_eq}
 use Rattle.std.proofs.lemmas.List.{map-append, append-nil}
@@ -8,7 +8,7 @@ use Rattle.std.proofs.lemmas.Slice.Eq.{bytes_eq-Decides}
 use Rattle.plan_model.specs.declared.text_terms.Key.{Key}
 use Rattle.plan_model.specs.declared.text_terms.Key.TheVariants as keys
 use Rattle.plan_model.specs.TextLines.{words_of, is_skipped, statements_of}
-use Rattle.plan_model.specs.Keys.{name_of, every_key, key_among, key_of}
+use Rattle.plan_model.specs.Keys.{name_of, every_key, key_among, is_key, key_within, key_of}
 use Rattle.plan_model.specs.LineChecks.{begins_with, numbers_in, given_by, with_statement}
 
 -- ---- keys
@@ -27,19 +27,33 @@ name-among word [] key e = absurd (cc)
 name-among word (k ∷ ks) key e =
     name-among_by (bytes_eq word (name_of k)) word k key ks refl (name-among word ks key) e
 
-pub name-key_of : (word : List ℕ) (key : Key) → key_of word ≡ Some key → word ≡ name_of key
-name-key_of word key e = name-among word every_key key e
+within_by : (b : Bool) (found key : Key) → cond b (Some found) None ≡ Some key → Some found ≡ Some key
+within_by true found key e = e
+within_by false found key e = absurd (cc)
+
+key_within-some : (version : ℕ) (found : Option Key) (key : Key) → key_within version found ≡ Some key → found ≡ Some key
+key_within-some version None key e = absurd (cc)
+key_within-some version (Some found) key e = within_by (is_key version found) found key e
+
+pub name-key_of : (version : ℕ) (word : List ℕ) (key : Key) → key_of version word ≡ Some key → word ≡ name_of key
+name-key_of version word key e = name-among word every_key key (key_within-some version (key_among word every_key) key e)
 
 -- the name of a key names it
-pub key_of-name : (key : Key) → key_of (name_of key) ≡ Some key
-key_of-name keys.Room = refl
-key_of-name key = refl
+key_among-name : (key : Key) → key_among (name_of key) every_key ≡ Some key
+key_among-name keys.Room = refl
+key_among-name key = refl
+
+-- the name of a key of the version names it
+pub key_of-name : (version : ℕ) (key : Key) → is_key version key ≡ true → key_of version (name_of key) ≡ Some key
+key_of-name version key e = ap (key_within version) (key_among-name key) ∙ ap (λ b. cond b (Some key) None) e
 
 -- a word that names a key begins the statements of that key alone
-pub key-begun : (word : List ℕ) (words : List (List ℕ)) (key other : Key) → key_of word ≡ Some key → begins_with other (word ∷ words) ≡ true → key ≡ other
-key-begun word words key other e same =
+pub key-begun : (version : ℕ) (word : List ℕ) (words : List (List ℕ)) (key other : Key) → key_of version word ≡ Some key
+    → begins_with other (word ∷ words) ≡ true → key ≡ other
+key-begun version word words key other e same =
     let named : word ≡ name_of other = (bytes_eq-Decides word (name_of other)).0 same in
-    let found : Some key ≡ Some other = sym e ∙ ap key_of named ∙ key_of-name other in
+    let among : key_among word every_key ≡ Some key = key_within-some version (key_among word every_key) key e in
+    let found : Some key ≡ Some other = sym among ∙ ap (λ w. key_among w every_key) named ∙ key_among-name other in
     cc
 
 -- ---- the statements with a key

@@ -250,9 +250,9 @@ pub IsTextbookRun-one_records :
 IsTextbookRun-one_records setup marks one other records entries r s =
     (HandlesAll-unique setup 0 (start_alone setup.start) marks records entries one other (AreDistinct-start setup.start) r s).records
 
--- scenes with the same space, start, step and gamma have the same setup
+-- scenes with the same space, start, step, gamma and goals to skip by have the same setup
 pub setup_of-same : (one other : Scene) → HaveSameInputs one other → setup_of one ≡ setup_of other
-setup_of-same one other h = λ i. record { space = h.space i; start = h.start i; step = h.step i; gamma = h.gamma i }
+setup_of-same one other h = λ i. record { space = h.space i; start = h.start i; step = h.step i; gamma = h.gamma i; goals = h.goals i }
 
 -- the run of a scene is that of each scene with the same inputs
 pub IsTextbookRun-same_inputs :

@@ -1,5 +1,5 @@
 -- The best node of a tree: the cheapest of those that lie in a goal.
-use Rattle.std.specs.Prelude.{ℕ, suc, ◌&&◌, nat_le, Bool, false, IsTrue, Option, Some, None, List, [], ◌∷◌, filter}
+use Rattle.std.specs.Prelude.{ℕ, suc, ◌&&◌, nat_le, Bool, false, IsTrue, Option, Some, None, List, filter}
 use Rattle.std.specs.List.{list_any, range_with_len}
 use Rattle.plan_model.specs.declared.geometry.Point.{Point}
 use Rattle.plan_model.specs.declared.geometry.Goal.{Goal}
@@ -24,7 +24,7 @@ is_goal_point goals (Some p) = lies_in_goals goals p
 
 -- the goals of a scene
 abbrev pub goals_of : Scene → List Goal
-goals_of scene = scene.goal ∷ []
+goals_of scene = scene.goals
 
 -- node n is present and lies in a goal
 abbrev pub IsGoalNode : List Goal → List (Option Point) → ℕ → Type 0

@@ -5,10 +5,10 @@ use Rattle.plan_model.specs.declared.configuration_spaces.ConfigurationSpace.{Co
 use Rattle.plan_model.specs.RoomOfConfigurations.{Rational, at_lattice, InRoom}
 use Rattle.plan_model.specs.Meeting.{Meets}
 
--- the body at q lies in the room and meets no obstacle
+-- the body at q lies in the room and meets no obstacle with the space's clearance; walls have none
 pub record IsClear (space : ConfigurationSpace) (q : Rational) : Type 0 where
   pub in_room : InRoom space q
-  pub meets_none : All (λ obstacle. ¬ Meets space.body q obstacle) space.obstacles
+  pub meets_none : All (λ obstacle. ¬ Meets space.clearance space.body q obstacle) space.obstacles
 
 -- clear at a lattice point
 abbrev pub ClearAt : ConfigurationSpace → Point → Type 0

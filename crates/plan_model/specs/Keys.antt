@@ -1,10 +1,12 @@
--- The keys of lines, and the tables of what may stand after each key, and how often.
-use Rattle.std.specs.Prelude.{ℕ, ◌*◌, ◌%◌, ◌==◌, nat_le, ◌&&◌, ◌||◌, Bool, ℤ, pos, Option, Some, None, List, [], ◌∷◌, bytes_eq, codes, if◌then◌else◌}
+-- The versions, the keys of lines, and the tables of what may stand after each key, and how often, by the version.
+use Rattle.std.specs.Prelude.{ℕ, ◌*◌, ◌%◌, ◌==◌, nat_le, ◌&&◌, ◌||◌, not, Bool, true, ℤ, pos, Option, Some, None, List, [], ◌∷◌, bytes_eq, codes}
+use Rattle.std.specs.Prelude.{if◌then◌else◌}
 use Rattle.plan_model.specs.declared.text_terms.Key.{Key}
 use Rattle.plan_model.specs.declared.text_terms.Key.TheVariants as keys
-use Rattle.plan_model.specs.declared.limits.TheConstants.{LEAST_BODY_COORDINATE, LEAST_CORNERS, LEAST_OBSTACLE_COORDINATE, LEAST_SIDE, LEAST_STEP, LEAST_STRIPS}
-use Rattle.plan_model.specs.declared.limits.TheConstants.{MOST_BODY_COORDINATE, MOST_BODY_CORNERS, MOST_GAMMA, MOST_MARKS, MOST_OBSTACLE_COORDINATE}
-use Rattle.plan_model.specs.declared.limits.TheConstants.{MOST_OBSTACLE_CORNERS, MOST_OBSTACLES, MOST_SEED, MOST_SIDE, MOST_STEP, MOST_STRIPS}
+use Rattle.plan_model.specs.declared.limits.TheConstants.{LEAST_BODY_COORDINATE, LEAST_CORNERS, LEAST_SIDE, LEAST_STEP, LEAST_STRIPS}
+use Rattle.plan_model.specs.declared.limits.TheConstants.{MOST_BODY_COORDINATE, MOST_BODY_CORNERS, MOST_GAMMA, MOST_MARKS, MOST_OBSTACLE_CORNERS}
+use Rattle.plan_model.specs.declared.limits.TheConstants.{MOST_OBSTACLES, MOST_SEED, MOST_STRIPS}
+use Rattle.plan_model.specs.Limits.{by_version, least_obstacle_coordinate, most_clearance, most_goals, most_obstacle_coordinate, most_side, most_step}
 
 -- ---- names
 
@@ -12,36 +14,49 @@ use Rattle.plan_model.specs.declared.limits.TheConstants.{MOST_OBSTACLE_CORNERS,
 abbrev pub format_name : List ℕ
 format_name = codes "prrt"
 
--- the second word, the version of the format
-abbrev pub format_version : List ℕ
-format_version = codes "1"
+-- the second word, the number of the version
+abbrev pub version_word : ℕ → List ℕ
+version_word version = by_version version (codes "1") (codes "2")
+
+-- all versions, in the order in which the second word is compared with theirs
+abbrev pub every_version : List ℕ
+every_version = 1 ∷ 2 ∷ []
+
+-- the first of the versions with this word
+abbrev pub version_among : List ℕ → List ℕ → Option ℕ
+version_among word [] = None
+version_among word (version ∷ versions) = if bytes_eq word (version_word version) then Some version else version_among word versions
 
 -- the word that a key is written as
 abbrev pub name_of : Key → List ℕ
 name_of keys.Room = codes "room"
 name_of keys.Body = codes "body"
 name_of keys.Obstacle = codes "obstacle"
+name_of keys.Clearance = codes "clearance"
 name_of keys.Start = codes "start"
 name_of keys.Goal = codes "goal"
 name_of keys.Step = codes "step"
 name_of keys.Gamma = codes "gamma"
 name_of keys.Seed = codes "seed"
 name_of keys.Strips = codes "strips"
+name_of keys.Informed = codes "informed"
 name_of keys.Marks = codes "marks"
 name_of keys.Mark = codes "mark"
 
--- all keys, in the order in which a word is compared with them
+-- all keys of all versions, in the order in which a word is compared with them
 abbrev pub every_key : List Key
 every_key =
     keys.Room
     ∷ keys.Body
     ∷ keys.Obstacle
+    ∷ keys.Clearance
     ∷ keys.Start
     ∷ keys.Goal
     ∷ keys.Step
     ∷ keys.Gamma
     ∷ keys.Seed
     ∷ keys.Strips
+    ∷ keys.Informed
     ∷ keys.Marks
     ∷ keys.Mark
     ∷ []
@@ -51,9 +66,20 @@ abbrev pub key_among : List ℕ → List Key → Option Key
 key_among word [] = None
 key_among word (key ∷ keys) = if bytes_eq word (name_of key) then Some key else key_among word keys
 
--- the key that a word names
-abbrev pub key_of : List ℕ → Option Key
-key_of word = key_among word every_key
+-- the key is one of the version
+abbrev pub is_key : ℕ → Key → Bool
+is_key version keys.Clearance = not (version == 1)
+is_key version keys.Informed = not (version == 1)
+is_key version key = true
+
+-- the key, if there is one of the version
+abbrev pub key_within : ℕ → Option Key → Option Key
+key_within version None = None
+key_within version (Some key) = if is_key version key then Some key else None
+
+-- the key of the version that a word names
+abbrev pub key_of : ℕ → List ℕ → Option Key
+key_of version word = key_within version (key_among word every_key)
 
 -- ---- how many words stand after a key
 
@@ -80,10 +106,11 @@ most_corners key = 2
 -- ---- how often a key stands
 
 -- how many lines with the key may stand
-abbrev pub most_lines : Key → ℕ
-most_lines keys.Obstacle = MOST_OBSTACLES
-most_lines keys.Mark = MOST_MARKS
-most_lines key = 1
+abbrev pub most_lines : ℕ → Key → ℕ
+most_lines version keys.Obstacle = MOST_OBSTACLES
+most_lines version keys.Goal = most_goals version
+most_lines version keys.Mark = MOST_MARKS
+most_lines version key = 1
 
 -- the key that may not stand beside this one
 abbrev pub rival_of : Key → Option Key
@@ -94,21 +121,23 @@ rival_of key = None
 -- ---- the ranges of the numbers after a key
 
 -- the least number that may stand after the key
-abbrev pub least_of : Key → ℤ
-least_of keys.Room = pos LEAST_SIDE
-least_of keys.Body = LEAST_BODY_COORDINATE
-least_of keys.Obstacle = LEAST_OBSTACLE_COORDINATE
-least_of keys.Step = pos LEAST_STEP
-least_of keys.Strips = pos LEAST_STRIPS
-least_of key = pos 0
+abbrev pub least_of : ℕ → Key → ℤ
+least_of version keys.Room = pos LEAST_SIDE
+least_of version keys.Body = LEAST_BODY_COORDINATE
+least_of version keys.Obstacle = least_obstacle_coordinate version
+least_of version keys.Step = pos LEAST_STEP
+least_of version keys.Strips = pos LEAST_STRIPS
+least_of version key = pos 0
 
 -- the greatest number that may stand after the key
-abbrev pub most_of : Key → ℤ
-most_of keys.Body = MOST_BODY_COORDINATE
-most_of keys.Obstacle = MOST_OBSTACLE_COORDINATE
-most_of keys.Step = pos MOST_STEP
-most_of keys.Gamma = pos MOST_GAMMA
-most_of keys.Seed = pos MOST_SEED
-most_of keys.Strips = pos MOST_STRIPS
-most_of keys.Marks = pos MOST_MARKS
-most_of key = pos MOST_SIDE
+abbrev pub most_of : ℕ → Key → ℤ
+most_of version keys.Body = MOST_BODY_COORDINATE
+most_of version keys.Obstacle = most_obstacle_coordinate version
+most_of version keys.Clearance = pos (most_clearance version)
+most_of version keys.Step = pos (most_step version)
+most_of version keys.Gamma = pos MOST_GAMMA
+most_of version keys.Seed = pos MOST_SEED
+most_of version keys.Strips = pos MOST_STRIPS
+most_of version keys.Informed = pos (by_version version 0 1)
+most_of version keys.Marks = pos MOST_MARKS
+most_of version key = pos (most_side version)

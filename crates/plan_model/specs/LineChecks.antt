@@ -1,4 +1,4 @@
--- The checks of a line, over the numbers that the lines before it give.
+-- The checks of a line, over the version and the numbers that the lines before it give.
 use Rattle.std.specs.Prelude.{◌≡◌, ℕ, ◌≤◌, ◌*◌, ◌==◌, nat_lt, nat_le, ◌&&◌, ◌||◌, not, Bool, true, false, ℤ, int_le, Option, Some, None, List, [], ◌∷◌}
 use Rattle.std.specs.Prelude.{◌++◌, length, map, drop, filter, All, bytes_eq, if◌then◌else◌}
 use Rattle.std.specs.List.{list_all}
@@ -10,7 +10,14 @@ use Rattle.plan_model.specs.declared.text_terms.Kind.TheVariants as kinds
 use Rattle.plan_model.specs.Convexity.{is_strictly_convex}
 use Rattle.plan_model.specs.TextLines.{is_skipped}
 use Rattle.plan_model.specs.TextNumbers.{is_number, value_of}
-use Rattle.plan_model.specs.Keys.{format_name, format_version, name_of, key_of, fits_words, most_corners, most_lines, rival_of, least_of, most_of}
+use Rattle.plan_model.specs.Keys.{format_name, every_version, version_among, name_of, key_of, fits_words, most_corners, most_lines, rival_of, least_of, most_of}
+
+-- ---- what is read
+
+-- Which versions are read, and which of their keys are supported.
+pub record Format : Type 0 where
+  pub reads : ℕ → Bool
+  pub built : Key → Bool
 
 -- ---- the numbers that lines give
 
@@ -52,12 +59,12 @@ stands_any given None = false
 stands_any given (Some key) = stands given key
 
 -- a key that may stand once stands already, or one stands that may not stand beside it
-abbrev pub is_repeated : Given → Key → Bool
-is_repeated given key = (most_lines key == 1 && stands given key) || stands_any given (rival_of key)
+abbrev pub is_repeated : ℕ → Given → Key → Bool
+is_repeated version given key = (most_lines version key == 1 && stands given key) || stands_any given (rival_of key)
 
 -- there are more corners than may be, or as many lines with the key as there may be stand already
-abbrev pub is_too_many : Given → Key → ℕ → Bool
-is_too_many given key n = nat_lt (2 * most_corners key) n || nat_le (most_lines key) (length (given key))
+abbrev pub is_too_many : ℕ → Given → Key → ℕ → Bool
+is_too_many version given key n = nat_lt (2 * most_corners key) n || nat_le (most_lines version key) (length (given key))
 
 -- the corners of a goal are in order
 abbrev pub is_ordered : Key → List ℤ → Bool
@@ -69,8 +76,8 @@ abbrev pub are_between : ℤ → ℤ → List ℤ → Bool
 are_between low high zs = list_all (λ z. int_le low z && int_le z high) zs
 
 -- each number may stand after the key, and the corners of a goal are in order
-abbrev pub is_in_range : Key → List ℤ → Bool
-is_in_range key zs = is_ordered key zs && are_between (least_of key) (most_of key) zs
+abbrev pub is_in_range : ℕ → Key → List ℤ → Bool
+is_in_range version key zs = is_ordered key zs && are_between (least_of version key) (most_of version key) zs
 
 -- the corners that a list of coordinates gives
 abbrev pub corners_from : List ℤ → List Vertex
@@ -96,62 +103,72 @@ first_failing [] = None
 first_failing (check ∷ checks) = if check.0 then first_failing checks else Some check.1
 
 -- the checks of the numbers after a key
-abbrev pub number_checks : Key → List ℤ → List Check
-number_checks key zs = (is_in_range key zs, kinds.Range) ∷ (has_corners key zs, kinds.Corners) ∷ []
+abbrev pub number_checks : ℕ → Key → List ℤ → List Check
+number_checks version key zs = (is_in_range version key zs, kinds.Range) ∷ (has_corners key zs, kinds.Corners) ∷ []
 
 -- the checks of a line with the key, by the keys that are supported: those of its form, and then those of its numbers
-abbrev pub checks_of : (Key → Bool) → Given → Key → List (List ℕ) → List Check
-checks_of built given key words =
+abbrev pub checks_of : (Key → Bool) → ℕ → Given → Key → List (List ℕ) → List Check
+checks_of built version given key words =
     (built key, kinds.Unbuilt)
-    ∷ (not (is_repeated given key), kinds.Repeat)
+    ∷ (not (is_repeated version given key), kinds.Repeat)
     ∷ (fits_words key (length words), kinds.Words)
-    ∷ (not (is_too_many given key (length words)), kinds.Many)
+    ∷ (not (is_too_many version given key (length words)), kinds.Many)
     ∷ (list_all is_number words, kinds.Number)
-    ∷ number_checks key (map value_of words)
+    ∷ number_checks version key (map value_of words)
 
 -- the fault of the words after a key, if the line begins with one
-abbrev pub fault_at_key : (Key → Bool) → Given → Option Key → List (List ℕ) → Option Kind
-fault_at_key built given None words = Some kinds.Key
-fault_at_key built given (Some key) words = first_failing (checks_of built given key words)
+abbrev pub fault_at_key : (Key → Bool) → ℕ → Given → Option Key → List (List ℕ) → Option Kind
+fault_at_key built version given None words = Some kinds.Key
+fault_at_key built version given (Some key) words = first_failing (checks_of built version given key words)
 
 -- the fault of a line after the version
-abbrev pub fault_of_statement : (Key → Bool) → Given → List (List ℕ) → Option Kind
-fault_of_statement built given [] = None
-fault_of_statement built given (word ∷ words) = fault_at_key built given (key_of word) words
+abbrev pub fault_of_statement : (Key → Bool) → ℕ → Given → List (List ℕ) → Option Kind
+fault_of_statement built version given [] = None
+fault_of_statement built version given (word ∷ words) = fault_at_key built version given (key_of version word) words
 
--- the first statement
-abbrev pub is_version : List (List ℕ) → Bool
-is_version (first ∷ second ∷ []) = bytes_eq first format_name && bytes_eq second format_version
-is_version words = false
+-- the version, if there is one that is read
+abbrev pub version_within : (ℕ → Bool) → Option ℕ → Option ℕ
+version_within reads None = None
+version_within reads (Some version) = if reads version then Some version else None
+
+-- the version that the first statement gives: the name of the format, and then the number of a version that is read
+abbrev pub version_of : (ℕ → Bool) → List (List ℕ) → Option ℕ
+version_of reads (first ∷ second ∷ []) = if bytes_eq first format_name then version_within reads (version_among second every_version) else None
+version_of reads words = None
+
+-- the fault of the first statement, by the version that it gives
+abbrev pub fault_of_version : Option ℕ → Option Kind
+fault_of_version None = Some kinds.Version
+fault_of_version (Some version) = None
 
 -- the fault of a line that is not skipped, after the version or as the first
-abbrev pub fault_after : (Key → Bool) → Bool → Given → List (List ℕ) → Option Kind
-fault_after built true given words = fault_of_statement built given words
-fault_after built false given words = if is_version words then None else Some kinds.Version
+abbrev pub fault_after : Format → Option ℕ → Given → List (List ℕ) → Option Kind
+fault_after format None given words = fault_of_version (version_of format.reads words)
+fault_after format (Some version) given words = fault_of_statement format.built version given words
 
--- the fault of a line
-abbrev pub fault_of_words : (Key → Bool) → Bool → Given → List (List ℕ) → Option Kind
-fault_of_words built version_read given words = if is_skipped words then None else fault_after built version_read given words
+-- the fault of a line, after the version if there is one
+abbrev pub fault_of_words : Format → Option ℕ → Given → List (List ℕ) → Option Kind
+fault_of_words format version given words = if is_skipped words then None else fault_after format version given words
 
 -- the keys that each scene needs
 abbrev pub needed_keys : List Key
 needed_keys = keys.Room ∷ keys.Start ∷ keys.Goal ∷ keys.Step ∷ []
 
 -- what is missing after the last line
-abbrev pub fault_at_end : Bool → Given → Option Kind
-fault_at_end true given = if list_all (stands given) needed_keys then None else Some kinds.Missing
-fault_at_end false given = Some kinds.Version
+abbrev pub fault_at_end : Option ℕ → Given → Option Kind
+fault_at_end None given = Some kinds.Version
+fault_at_end (Some version) given = if list_all (stands given) needed_keys then None else Some kinds.Missing
 
 -- ---- what lines without a fault give
 
 -- these numbers may stand after the key
-pub record MayStand (key : Key) (zs : List ℤ) : Type 0 where
+pub record MayStand (version : ℕ) (key : Key) (zs : List ℤ) : Type 0 where
   pub count : fits_words key (length zs) ≡ true
   pub few : nat_lt (2 * most_corners key) (length zs) ≡ false
-  pub ranged : is_in_range key zs ≡ true
+  pub ranged : is_in_range version key zs ≡ true
   pub corners : has_corners key zs ≡ true
 
 -- the numbers of each line may stand after its key, and no key stands too often
-pub record AllMayStand (given : Given) : Type 0 where
-  pub stand : (key : Key) → All (MayStand key) (given key)
-  pub few : (key : Key) → length (given key) ≤ most_lines key
+pub record AllMayStand (version : ℕ) (given : Given) : Type 0 where
+  pub stand : (key : Key) → All (MayStand version key) (given key)
+  pub few : (key : Key) → length (given key) ≤ most_lines version key

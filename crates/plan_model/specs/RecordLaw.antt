@@ -86,14 +86,18 @@ pub record IsBlockedLawfully (setup : Setup) (state : TreeState) (entry : Record
   pub blocked : ¬ Clear setup.space (point_of state.points entry.nearest) p
   pub free : (i : ℕ) → IsEarlier state entry i → ¬ StandsAt state.points i p
 
--- what the outcome of mark k says, where the nearest node steered to p
-abbrev pub HasLawfulOutcome : Setup → TreeState → ℕ → Record → Point → Outcome → Type 0
-HasLawfulOutcome setup state k entry p Placed = IsPlacedLawfully setup state k entry p
-HasLawfulOutcome setup state k entry p (Same j) = StandsAt state.points j p
-HasLawfulOutcome setup state k entry p Blocked = IsBlockedLawfully setup state entry p
-
--- The record of mark k: no earlier node is nearer to the mark than the nearest one, and the outcome is what it says.
-pub record IsLawfulRecord (setup : Setup) (state : TreeState) (k : ℕ) (mark : Point) (entry : Record) : Type 0 where
+-- The nearest node is present, no earlier node is nearer to the mark, and this is the outcome at the point to which it steers.
+pub record IsSteeredLawfully (setup : Setup) (state : TreeState) (mark : Point) (entry : Record) (EndsAt : Point → Type 0) : Type 0 where
   pub present : IsPresent state.points entry.nearest
   pub nearest : (i : ℕ) → IsEarlier state entry i → IsNotAbove (distance_to mark state.points) entry.nearest i
-  pub outcome : HasLawfulOutcome setup state k entry (steered (point_of state.points entry.nearest) mark setup.step) entry.outcome
+  pub outcome : EndsAt (steered (point_of state.points entry.nearest) mark setup.step)
+
+-- what the outcome of mark k says
+abbrev pub HasLawfulOutcome : Setup → TreeState → ℕ → Point → Record → Outcome → Type 0
+HasLawfulOutcome setup state k mark entry Placed = IsSteeredLawfully setup state mark entry (IsPlacedLawfully setup state k entry)
+HasLawfulOutcome setup state k mark entry (Same j) = IsSteeredLawfully setup state mark entry (StandsAt state.points j)
+HasLawfulOutcome setup state k mark entry Blocked = IsSteeredLawfully setup state mark entry (IsBlockedLawfully setup state entry)
+
+-- The record of mark k: its outcome is what it says.
+abbrev pub IsLawfulRecord : Setup → TreeState → ℕ → Point → Record → Type 0
+IsLawfulRecord setup state k mark entry = HasLawfulOutcome setup state k mark entry entry.outcome

@@ -2,7 +2,7 @@
 use Rattle.std.specs.Prelude.{ℕ, suc, Bool, true, false, Option, Some, None, List, [], ◌∷◌, ◌++◌, length, map, reverse, flat_map, codes, decimal}
 use Rattle.std.specs.List.{range_with_len, join_with_byte}
 use Rattle.plan_model.specs.declared.geometry.Point.{Point}
-use Rattle.plan_model.specs.declared.geometry.Goal.{Goal}
+use Rattle.plan_model.specs.declared.scenes.Scene.{Scene}
 use Rattle.plan_model.specs.declared.records.Outcome.{Outcome}
 use Rattle.plan_model.specs.declared.records.Outcome.TheVariants.{Placed, Same, Blocked}
 use Rattle.plan_model.specs.declared.records.Record.{Record}
@@ -10,7 +10,7 @@ use Rattle.plan_model.specs.Outcomes.{is_placed, is_same, is_blocked}
 use Rattle.plan_model.specs.PointsByNumber.{point_at, point_of, node_count}
 use Rattle.plan_model.specs.TreeStates.{TreeState, chain_in, sum_in}
 use Rattle.plan_model.specs.ClosedLaw.{outcome_count}
-use Rattle.plan_model.specs.BestNode.{best_node}
+use Rattle.plan_model.specs.BestNode.{best_node, goals_of}
 
 -- words with a space between two of them, and a line feed
 abbrev pub line : List (List ℕ) → List ℕ
@@ -50,9 +50,10 @@ best_path state (Some n) = path_to state n
 
 -- ---- the counts
 
--- how many nodes are present, and how many of the marks below the limit were placed, on a node already, and blocked
-abbrev pub counts_line : ℕ → TreeState → List ℕ
-counts_line limit state =
+-- How many nodes are present, and how many of the marks below the limit were placed, on a node already, and blocked; of each scene the same
+-- counts.
+abbrev pub counts_line : Scene → ℕ → TreeState → List ℕ
+counts_line scene limit state =
     line (
     codes "nodes" ∷ decimal (node_count state.points) ∷ codes "placed" ∷ decimal (outcome_count state.record_of limit is_placed)
     ∷ codes "same" ∷ decimal (outcome_count state.record_of limit is_same)
@@ -78,19 +79,20 @@ node_line_if_present state n (Some p) = node_line state n p
 abbrev pub node_lines : ℕ → TreeState → List ℕ
 node_lines limit state = flat_map (λ n. node_line_if_present state n (point_at state.points n)) (range_with_len 0 (suc limit))
 
--- what became of a mark, in words
+-- what became of a mark, in words, from its nearest node on
 abbrev pub outcome_words : Record → Outcome → List (List ℕ)
 outcome_words entry Placed =
-    codes "placed" ∷ codes "class" ∷ decimal entry.class ∷ codes "first" ∷ decimal entry.first_parent ∷ decimal entry.first_cost ∷ []
-outcome_words entry (Same j) = codes "same" ∷ decimal j ∷ []
-outcome_words entry Blocked = codes "blocked" ∷ []
+    codes "nearest" ∷ decimal entry.nearest ∷ codes "placed" ∷ codes "class" ∷ decimal entry.class
+    ∷ codes "first" ∷ decimal entry.first_parent ∷ decimal entry.first_cost ∷ []
+outcome_words entry (Same j) = codes "nearest" ∷ decimal entry.nearest ∷ codes "same" ∷ decimal j ∷ []
+outcome_words entry Blocked = codes "nearest" ∷ decimal entry.nearest ∷ codes "blocked" ∷ []
 
 -- mark k and its record
 abbrev pub mark_line : ℕ → Record → List ℕ
 mark_line k entry =
     line (
-    (codes "mark" ∷ decimal k ∷ codes "worker" ∷ decimal entry.worker ∷ codes "turn" ∷ decimal entry.turn
-    ∷ codes "nearest" ∷ decimal entry.nearest ∷ []) ++ outcome_words entry entry.outcome
+    (codes "mark" ∷ decimal k ∷ codes "worker" ∷ decimal entry.worker ∷ codes "turn" ∷ decimal entry.turn ∷ [])
+    ++ outcome_words entry entry.outcome
     )
 
 -- the line of a mark, if it has a record
@@ -105,19 +107,20 @@ mark_lines limit state = flat_map (λ k. mark_line_if_recorded k (state.record_o
 -- ---- the reports
 
 -- The short report: the best path, or that there is none, and the counts.
-abbrev pub short_report : List Goal → ℕ → TreeState → List ℕ
-short_report goals limit state =
-    (head_line state (best_node goals limit state) ++ point_lines (best_path state (best_node goals limit state))) ++ counts_line limit state
+abbrev pub short_report : Scene → ℕ → TreeState → List ℕ
+short_report scene limit state =
+    (head_line state (best_node (goals_of scene) limit state) ++ point_lines (best_path state (best_node (goals_of scene) limit state)))
+    ++ counts_line scene limit state
 
 -- The full report: the short one, and then a line for each node that is present and for each mark.
-abbrev pub full_report : List Goal → ℕ → TreeState → List ℕ
-full_report goals limit state = (short_report goals limit state ++ node_lines limit state) ++ mark_lines limit state
+abbrev pub full_report : Scene → ℕ → TreeState → List ℕ
+full_report scene limit state = (short_report scene limit state ++ node_lines limit state) ++ mark_lines limit state
 
 -- the report, short or full
-abbrev pub report_text : Bool → List Goal → ℕ → TreeState → List ℕ
-report_text false goals limit state = short_report goals limit state
-report_text true goals limit state = full_report goals limit state
+abbrev pub report_text : Bool → Scene → ℕ → TreeState → List ℕ
+report_text false scene limit state = short_report scene limit state
+report_text true scene limit state = full_report scene limit state
 
 -- the short report without the lines of its path's points
-abbrev pub summary : List Goal → ℕ → TreeState → List ℕ
-summary goals limit state = head_line state (best_node goals limit state) ++ counts_line limit state
+abbrev pub summary : Scene → ℕ → TreeState → List ℕ
+summary scene limit state = head_line state (best_node (goals_of scene) limit state) ++ counts_line scene limit state

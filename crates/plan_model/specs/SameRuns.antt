@@ -5,7 +5,7 @@ use Rattle.plan_model.specs.declared.scenes.Scene.{Scene}
 use Rattle.plan_model.specs.declared.records.Record.{Record}
 use Rattle.plan_model.specs.ConfigurationSpace.{space_of}
 use Rattle.plan_model.specs.MarkPoints.{mark_points}
-use Rattle.plan_model.specs.Textbook.{Nodes, Setup, IsTextbookRun}
+use Rattle.plan_model.specs.Textbook.{Nodes, Setup, skipping_goals, IsTextbookRun}
 use Rattle.plan_model.specs.TreeStates.{TreeState, state_of, AreSameRuns}
 
 -- two records say the same of a mark
@@ -24,6 +24,7 @@ pub record HaveSameInputs (one other : Scene) : Type 0 where
   pub start : one.start ≡ other.start
   pub step : one.step ≡ other.step
   pub gamma : one.gamma ≡ other.gamma
+  pub goals : skipping_goals one ≡ skipping_goals other
   pub marks : mark_points one ≡ mark_points other
 
 -- The tree and its records are those of the textbook run over these marks, each node kept at its sum.

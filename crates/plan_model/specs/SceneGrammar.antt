@@ -1,6 +1,6 @@
--- The grammar of scene texts, version 1: two relations over the list of lines, one for each answer of a reader.
-use Rattle.std.specs.Prelude.{◌≡◌, ℕ, ◌+◌, ◌<◌, Bool, true, ℤ, pos, unsigned_abs, ◌⊎◌, Option, Some, None, List, [], ◌∷◌, length, map, take, drop}
-use Rattle.std.specs.Prelude.{get_or}
+-- The grammar of scene texts: two relations over the list of lines, one for each answer of a reader.
+use Rattle.std.specs.Prelude.{◌≡◌, ℕ, ◌+◌, ◌<◌, ◌==◌, Bool, true, false, ℤ, pos, unsigned_abs, ◌⊎◌, Option, Some, None, List, [], ◌∷◌, length, map, take}
+use Rattle.std.specs.Prelude.{drop, get_or}
 use Rattle.plan_model.specs.declared.geometry.Point.{Point}
 use Rattle.plan_model.specs.declared.geometry.Vertex.{Vertex}
 use Rattle.plan_model.specs.declared.geometry.Goal.{Goal}
@@ -11,27 +11,28 @@ use Rattle.plan_model.specs.declared.text_terms.Key.{Key}
 use Rattle.plan_model.specs.declared.text_terms.Key.TheVariants as keys
 use Rattle.plan_model.specs.declared.text_terms.Kind.{Kind}
 use Rattle.plan_model.specs.TextLines.{lines_of, words_of, statements_of}
-use Rattle.plan_model.specs.LineChecks.{Given, given_by, is_inhabited, corners_from, fault_of_words, fault_at_end}
+use Rattle.plan_model.specs.LineChecks.{Format, Given, given_by, version_of, corners_from, fault_of_words, fault_at_end}
 
 -- ---- faults
 
--- the version is read: some statement stands
-abbrev pub is_version_read : List (List (List ℕ)) → Bool
-is_version_read statements = is_inhabited statements
+-- the version that the first of the statements gives
+abbrev pub version_given : (ℕ → Bool) → List (List (List ℕ)) → Option ℕ
+version_given reads [] = None
+version_given reads (first ∷ statements) = version_of reads first
 
 -- what the statements after the version give
 abbrev pub given_after_version : List (List (List ℕ)) → Given
 given_after_version statements = given_by (drop 1 statements)
 
 -- the fault of line i, counted from 0, against the statements of the lines before it
-abbrev pub fault_of_line : (Key → Bool) → List (List ℕ) → ℕ → Option Kind
-fault_of_line built lines i =
+abbrev pub fault_of_line : Format → List (List ℕ) → ℕ → Option Kind
+fault_of_line format lines i =
     let before = statements_of (take i lines) in
-    fault_of_words built (is_version_read before) (given_after_version before) (words_of (get_or lines i []))
+    fault_of_words format (version_given format.reads before) (given_after_version before) (words_of (get_or lines i []))
 
 -- what is missing after the last line
-abbrev pub fault_of_end : List (List (List ℕ)) → Option Kind
-fault_of_end statements = fault_at_end (is_version_read statements) (given_after_version statements)
+abbrev pub fault_of_end : Format → List (List (List ℕ)) → Option Kind
+fault_of_end format statements = fault_at_end (version_given format.reads statements) (given_after_version statements)
 
 -- ---- the scene that lines give
 
@@ -63,46 +64,57 @@ abbrev pub plan_from : List (List ℤ) → List (List ℤ) → Marks
 plan_from [] points = Listed (map point_from points)
 plan_from (zs ∷ rest) points = Drawn (number_or 0 zs)
 
--- the fields are those of the lines, or those that hold without a line
-pub record HasFields (given : Given) (scene : Scene) : Type 0 where
-  pub version : scene.version ≡ 1
+-- the version is the one that was read, and the other fields are those of the lines, or those that hold without a line
+pub record HasFields (version_read : Option ℕ) (given : Given) (scene : Scene) : Type 0 where
+  pub version : version_read ≡ Some scene.version
   pub room : scene.room ≡ point_from (first_of (given keys.Room))
   pub body : scene.body ≡ body_from (given keys.Body)
   pub obstacles : scene.obstacles ≡ map corners_from (given keys.Obstacle)
+  pub clearance : scene.clearance ≡ number_or 0 (first_of (given keys.Clearance))
   pub start : scene.start ≡ point_from (first_of (given keys.Start))
-  pub goal : scene.goal ≡ goal_from (first_of (given keys.Goal))
+  pub goals : scene.goals ≡ map goal_from (given keys.Goal)
   pub step : scene.step ≡ number_or 0 (first_of (given keys.Step))
   pub gamma : scene.gamma ≡ number_or 0 (first_of (given keys.Gamma))
   pub seed : scene.seed ≡ number_or 0 (first_of (given keys.Seed))
   pub strips : scene.strips ≡ number_or 1 (first_of (given keys.Strips))
+  pub informed : scene.informed ≡ (number_or 0 (first_of (given keys.Informed)) == 1)
   pub plan : scene.plan ≡ plan_from (given keys.Marks) (given keys.Mark)
 
 -- ---- the two relations
 
 -- no line below line n, counted from 0, has a fault
-abbrev pub IsSoundBelow : (Key → Bool) → List (List ℕ) → ℕ → Type 0
-IsSoundBelow built lines n = (i : ℕ) → i < n → fault_of_line built lines i ≡ None
+abbrev pub IsSoundBelow : Format → List (List ℕ) → ℕ → Type 0
+IsSoundBelow format lines n = (i : ℕ) → i < n → fault_of_line format lines i ≡ None
 
 -- The text spells the scene: no line has a fault, nothing is missing, and the fields are those of the lines.
-pub record Spells (built : Key → Bool) (text : List ℕ) (scene : Scene) : Type 0 where
-  pub sound : IsSoundBelow built (lines_of text) (length (lines_of text))
-  pub whole : fault_of_end (statements_of (lines_of text)) ≡ None
-  pub fields : HasFields (given_after_version (statements_of (lines_of text))) scene
+pub record Spells (format : Format) (text : List ℕ) (scene : Scene) : Type 0 where
+  pub sound : IsSoundBelow format (lines_of text) (length (lines_of text))
+  pub whole : fault_of_end format (statements_of (lines_of text)) ≡ None
+  pub fields : HasFields (version_given format.reads (statements_of (lines_of text))) (given_after_version (statements_of (lines_of text))) scene
 
 -- the check that line i fails, counted from 0, or what is missing after the last line
-abbrev pub FailsAt : (Key → Bool) → List (List ℕ) → ℕ → Kind → Type 0
-FailsAt built lines i kind =
-    ((i < length lines) × (fault_of_line built lines i ≡ Some kind))
-    ⊎ ((i ≡ length lines) × (fault_of_end (statements_of lines) ≡ Some kind))
+abbrev pub FailsAt : Format → List (List ℕ) → ℕ → Kind → Type 0
+FailsAt format lines i kind =
+    ((i < length lines) × (fault_of_line format lines i ≡ Some kind))
+    ⊎ ((i ≡ length lines) × (fault_of_end format (statements_of lines) ≡ Some kind))
 
 -- The text is refused at a line, counted from 1, for the first check that the line fails: it is the first line with a
 -- fault, or the one after the last, if something is missing.
-abbrev pub Refused : (Key → Bool) → List ℕ → ℕ → Kind → Type 0
-Refused built text number kind =
-    (i : ℕ) × (number ≡ i + 1) × IsSoundBelow built (lines_of text) i × FailsAt built (lines_of text) i kind
+abbrev pub Refused : Format → List ℕ → ℕ → Kind → Type 0
+Refused format text number kind =
+    (i : ℕ) × (number ≡ i + 1) × IsSoundBelow format (lines_of text) i × FailsAt format (lines_of text) i kind
 
--- ---- the keys that are supported
+-- ---- what is supported
 
--- the keys that this version of the reader supports: every key
-abbrev pub supported : Key → Bool
-supported key = true
+-- the keys that are supported: every key but `informed`
+abbrev pub is_supported : Key → Bool
+is_supported keys.Informed = false
+is_supported key = true
+
+-- what the reader reads: version 1 alone, with the keys that are supported
+abbrev pub supported : Format
+supported = record { reads = λ version. version == 1; built = is_supported }
+
+-- the grammar of both versions, with every key
+abbrev pub whole_format : Format
+whole_format = record { reads = λ version. true; built = λ key. true }

@@ -1,5 +1,6 @@
 -- The textbook run: RRT* as in Karaman and Frazzoli, IJRR 2011, algorithm 6, one mark after another.
-use Rattle.std.specs.Prelude.{◌≡◌, ℕ, suc, ◌+◌, ◌<◌, ◌⊎◌, refl, IsTrue, Contains, Option, Some, None, List, [], ◌∷◌, ◌++◌, slice_set}
+use Rattle.std.specs.Prelude.{◌≡◌, ℕ, suc, ◌+◌, ◌<◌, ◌⊎◌, refl, IsTrue, Contains, Option, Some, None, List, [], ◌∷◌, ◌++◌, slice_set, if◌then◌else◌}
+use Rattle.plan_model.specs.declared.geometry.Goal.{Goal}
 use Rattle.plan_model.specs.declared.geometry.Point.{Point}
 use Rattle.plan_model.specs.declared.trees.Twig.{Twig}
 use Rattle.plan_model.specs.declared.scenes.Scene.{Scene}
@@ -22,16 +23,23 @@ use Rattle.plan_model.specs.Trees.{points_of, sum_of}
 abbrev pub Nodes : Type 0
 Nodes = List (Option Twig)
 
--- What a run depends on besides its marks: the configuration space, where it starts, the longest edge and the factor of the radius.
+-- What a run depends on besides its marks: the configuration space, where it starts, the longest edge, the factor of the radius, and the
+-- goals by which marks may be skipped.
 pub record Setup : Type 0 where
   pub space : ConfigurationSpace
   pub start : Point
   pub step : ℕ
   pub gamma : ℕ
+  pub goals : List Goal
+
+-- the goals by which marks of a scene may be skipped: none if it is not informed
+abbrev pub skipping_goals : Scene → List Goal
+skipping_goals scene = if scene.informed then scene.goals else []
 
 -- what a run of a scene depends on besides its marks
 abbrev pub setup_of : Scene → Setup
-setup_of scene = record { space = space_of scene; start = scene.start; step = scene.step; gamma = scene.gamma }
+setup_of scene =
+    record { space = space_of scene; start = scene.start; step = scene.step; gamma = scene.gamma; goals = skipping_goals scene }
 
 -- the tree of the start alone
 abbrev pub start_alone : Point → Nodes

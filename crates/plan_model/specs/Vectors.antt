@@ -11,6 +11,7 @@ pub mod Polygons
 pub mod Reports
 pub mod Words
 pub mod Texts
+pub mod SecondVersion
 pub mod Limits
 pub mod Ranges
 pub mod Trees

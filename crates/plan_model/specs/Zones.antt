@@ -1,4 +1,4 @@
--- Zones: configuration-space obstacles, the Minkowski sum of an obstacle and the reflected body.
+-- Zones: configuration-space obstacles, the Minkowski sum of an obstacle, the reflected body and the square of the clearance.
 use Rattle.std.specs.Prelude.{◌≡◌, ◌↔◌, ℕ, ◌<◌, ◌<ℤ◌, ◌≤ℤ◌, ◌⊎◌, true, List, length}
 use Rattle.plan_model.specs.declared.geometry.Vertex.{Vertex}
 use Rattle.plan_model.specs.Convexity.{corner_at, is_strictly_convex}
@@ -10,9 +10,9 @@ use Rattle.plan_model.specs.RoomOfConfigurations.{Rational}
 abbrev pub IsLowerOrLeft : Vertex → Vertex → Type 0
 IsLowerOrLeft a b = (a.y <ℤ b.y) ⊎ ((a.y ≡ b.y) × (a.x ≤ℤ b.x))
 
--- These are the corners of the set of points at which the body meets the obstacle: counterclockwise, none between two
--- others, from the lowest and of these the leftmost.
-pub record IsZoneOf (body obstacle corners : List Vertex) : Type 0 where
-  pub exact : (q : Rational) → Meets body q obstacle ↔ IsInside corners q
+-- These are the corners of the set of points at which the body meets the obstacle with this clearance: counterclockwise, none
+-- between two others, from the lowest and of these the leftmost.
+pub record IsZoneOf (clearance : ℕ) (body obstacle corners : List Vertex) : Type 0 where
+  pub exact : (q : Rational) → Meets clearance body q obstacle ↔ IsInside corners q
   pub convex : is_strictly_convex corners ≡ true
   pub first : (i : ℕ) → i < length corners → IsLowerOrLeft (corner_at corners 0) (corner_at corners i)

@@ -18,6 +18,9 @@ pub struct ConfigurationSpace {
     pub body: Poly,
     /// The corners of each obstacle.
     pub obstacles: Polys,
+    /// The clearance from obstacles, in lattice steps: the body collides with an obstacle if it comes within so many
+    /// lattice steps of it in both coordinates, so with 0 if it touches it. Walls have no clearance.
+    pub clearance: u32,
 }
 
 impl ConfigurationSpace {
@@ -37,6 +40,7 @@ impl ConfigurationSpace {
             room: scene.room,
             body: copied(alloc, &scene.body)?,
             obstacles: Sequence::from_vec(obstacles),
+            clearance: scene.clearance,
         })
     }
 }

@@ -1,15 +1,15 @@
 //! Laws of the definitions, each the contract of a function that does nothing.
 
-ghost use Rattle.std.specs.Prelude.{◌≡◌, ℕ, Bool, Option, List, [], ◌+◌, ◌-◌, ◌*◌, ◌^◌, ◌<◌, ◌≤◌, ◌⊎◌};
+ghost use Rattle.std.specs.Prelude.{◌≡◌, ℕ, Option, List, [], ◌+◌, ◌-◌, ◌*◌, ◌^◌, ◌<◌, ◌≤◌, ◌⊎◌};
 ghost use Rattle.plan_model.specs.Cost.{cost_of};
 ghost use Rattle.plan_model.specs.Radius.{class_of, radius_of_class};
 ghost use Rattle.plan_model.specs.Roots.{IsRootCeiling, root_ceiling};
+ghost use Rattle.plan_model.specs.LineChecks.{Format};
 ghost use Rattle.plan_model.specs.SceneGrammar.{Refused, Spells};
 ghost use Rattle.plan_model.specs.PointsByNumber.{IsFree};
 ghost use Rattle.plan_model.specs.Textbook.{Setup, near_new};
 ghost use Rattle.plan_model.specs.declared.geometry.Point.{Point};
 ghost use Rattle.plan_model.specs.declared.scenes.Scene.{Scene};
-ghost use Rattle.plan_model.specs.declared.text_terms.Key.{Key};
 ghost use Rattle.plan_model.specs.declared.text_terms.Kind.{Kind};
 
 mod clearance;
@@ -49,19 +49,19 @@ pub fn gamma_0_is_rrt()
 
 /// A text is refused at one line and for one kind, and no text that spells a scene is refused.
 pub fn refusals_are_unique()
-    ensures line { (built : Key → Bool) (text : List ℕ) (m n : ℕ) (one other : Kind) → Refused built text m one → Refused built text n other → m ≡ n }
-    ensures kind { (built : Key → Bool) (text : List ℕ) (m n : ℕ) (one other : Kind) → Refused built text m one → Refused built text n other → one ≡ other }
-    ensures spelled { (built : Key → Bool) (text : List ℕ) (scene : Scene) (n : ℕ) (kind : Kind) → Spells built text scene → ¬ Refused built text n kind }
+    ensures line { (format : Format) (text : List ℕ) (m n : ℕ) (one other : Kind) → Refused format text m one → Refused format text n other → m ≡ n }
+    ensures kind { (format : Format) (text : List ℕ) (m n : ℕ) (one other : Kind) → Refused format text m one → Refused format text n other → one ≡ other }
+    ensures spelled { (format : Format) (text : List ℕ) (scene : Scene) (n : ℕ) (kind : Kind) → Spells format text scene → ¬ Refused format text n kind }
 {}
 
-/// A text spells one scene at most, whichever keys are supported.
+/// A text spells one scene at most, whichever versions are read and keys are supported.
 pub fn scenes_are_unique()
-    ensures { (built : Key → Bool) (text : List ℕ) (one other : Scene) → Spells built text one → Spells built text other → one ≡ other }
+    ensures { (format : Format) (text : List ℕ) (one other : Scene) → Spells format text one → Spells format text other → one ≡ other }
 {}
 
-/// Each text, of bytes or of any numbers, spells a scene or is refused, whichever keys are supported. With the two
+/// Each text, of bytes or of any numbers, spells a scene or is refused, whichever versions are read and keys are supported. With the two
 /// laws above it spells exactly one scene, or else is refused at exactly one line and for exactly one kind.
 pub fn each_text_is_decided()
-    ensures { (built : Key → Bool) (text : List ℕ)
-        → ((scene : Scene) × Spells built text scene) ⊎ ((number : ℕ) × (kind : Kind) × Refused built text number kind) }
+    ensures { (format : Format) (text : List ℕ)
+        → ((scene : Scene) × Spells format text scene) ⊎ ((number : ℕ) × (kind : Kind) × Refused format text number kind) }
 {}

@@ -1,8 +1,8 @@
 //! The limits of scene texts, scenes and runs, each said once.
 //!
-//! What a scene may have is one thing (`MOST_SIDE`, `MOST_STEP`, the range of obstacles), and what computing counts on is
-//! another, which is wider (`MOST_COORDINATE`, `MOST_STEERING_STEP`, the range of summands). The lemmas `SceneBounds` lead
-//! from the first to the second.
+//! What a scene may have is one thing, by the version of its text (`MOST_SIDE`, `MOST_STEP` and the range of obstacles in
+//! version 1; those that end in `_OF_VERSION_2`), and what computing counts on is another, which is as wide or wider
+//! (`MOST_COORDINATE`, `MOST_STEERING_STEP`, the range of summands). The lemmas `SceneBounds` lead from the first to the second.
 
 /// The most bytes of a scene text.
 pub const MOST_TEXT_BYTES: usize = 16_777_216;
@@ -37,14 +37,27 @@ pub const MOST_BODY_CORNERS: usize = 16;
 /// The least side of a room, in lattice steps.
 pub const LEAST_SIDE: u32 = 1;
 
-/// The greatest side of a room, and the greatest coordinate of a start, a goal and a listed mark, in lattice steps.
+/// The greatest side of a room, and the greatest coordinate of a start, a goal and a listed mark, in lattice steps, in
+/// version 1.
 pub const MOST_SIDE: u32 = 65_535;
+
+/// The same in version 2.
+pub const MOST_SIDE_OF_VERSION_2: u32 = 1_048_575;
 
 /// The least step (the longest edge of a tree), in lattice steps.
 pub const LEAST_STEP: u32 = 4;
 
-/// The greatest step, in lattice steps.
+/// The greatest step, in lattice steps, in version 1.
 pub const MOST_STEP: u32 = 4_096;
+
+/// The greatest step, in lattice steps, in version 2.
+pub const MOST_STEP_OF_VERSION_2: u32 = 65_536;
+
+/// The most goals of a scene of version 2; one of version 1 has one.
+pub const MOST_GOALS: usize = 16;
+
+/// The greatest clearance of a scene of version 2, in lattice steps; that of one of version 1 is 0.
+pub const MOST_CLEARANCE: u32 = 4_096;
 
 /// The greatest factor of the rewiring radius.
 pub const MOST_GAMMA: u32 = 16_777_215;
@@ -58,11 +71,17 @@ pub const LEAST_BODY_COORDINATE: i32 = -4_096;
 /// The greatest coordinate of a body's corner, in lattice steps.
 pub const MOST_BODY_COORDINATE: i32 = 4_096;
 
-/// The least coordinate of an obstacle's corner, in lattice steps.
+/// The least coordinate of an obstacle's corner, in lattice steps, in version 1.
 pub const LEAST_OBSTACLE_COORDINATE: i32 = -131_072;
 
-/// The greatest coordinate of an obstacle's corner, in lattice steps.
+/// The greatest coordinate of an obstacle's corner, in lattice steps, in version 1.
 pub const MOST_OBSTACLE_COORDINATE: i32 = 131_071;
+
+/// The least coordinate of an obstacle's corner, in lattice steps, in version 2.
+pub const LEAST_OBSTACLE_COORDINATE_OF_VERSION_2: i32 = -2_097_152;
+
+/// The greatest coordinate of an obstacle's corner, in lattice steps, in version 2.
+pub const MOST_OBSTACLE_COORDINATE_OF_VERSION_2: i32 = 2_097_151;
 
 /// The least coordinate of a corner whose orientations are taken, in lattice steps: no product of two coordinates of
 /// edges passes 2^46.

@@ -1,7 +1,7 @@
 //! Laws of reports, each the contract of a function that does nothing.
 
 ghost use Rattle.std.specs.Prelude.{◌≡◌, ℕ, Bool, List};
-ghost use Rattle.plan_model.specs.BestNode.{best_node};
+ghost use Rattle.plan_model.specs.BestNode.{best_node, goals_of};
 ghost use Rattle.plan_model.specs.Clearance.{ClearAt};
 ghost use Rattle.plan_model.specs.OrderLaw.{KeepsOrder};
 ghost use Rattle.plan_model.specs.ReportText.{report_text, summary};
@@ -10,6 +10,7 @@ ghost use Rattle.plan_model.specs.Textbook.{Setup};
 ghost use Rattle.plan_model.specs.TreeStates.{AreSameRuns, TreeState};
 ghost use Rattle.plan_model.specs.declared.geometry.Point.{Point};
 ghost use Rattle.plan_model.specs.declared.geometry.Goal.{Goal};
+ghost use Rattle.plan_model.specs.declared.scenes.Scene.{Scene};
 
 /// Runs that are the same, however they are kept, have the same best node, the same report, short and full, and the same
 /// summary. One of them keeps the order law, as every closed run does.
@@ -17,9 +18,9 @@ pub fn same_runs_have_the_same_report()
     ensures best { (setup : Setup) (one other : TreeState) → KeepsOrder setup one → AreSameRuns one other
         → (goals : List Goal) (limit : ℕ) → best_node goals limit other ≡ best_node goals limit one }
     ensures report { (setup : Setup) (one other : TreeState) → KeepsOrder setup one → AreSameRuns one other
-        → (goals : List Goal) (limit : ℕ) (full : Bool) → report_text full goals limit other ≡ report_text full goals limit one }
+        → (scene : Scene) (limit : ℕ) (full : Bool) → report_text full scene limit other ≡ report_text full scene limit one }
     ensures summary { (setup : Setup) (one other : TreeState) → KeepsOrder setup one → AreSameRuns one other
-        → (goals : List Goal) (limit : ℕ) → summary goals limit other ≡ summary goals limit one }
+        → (scene : Scene) (limit : ℕ) → summary scene limit other ≡ summary scene limit one }
 {}
 
 /// Trees of the textbook run over the same marks, from a start that is clear, are the same run, and so have the same report,
@@ -29,8 +30,17 @@ pub fn textbook_runs_have_one_report()
         → IsOfTextbookRun setup marks one → IsOfTextbookRun setup marks other → AreSameRuns one other }
     ensures report { (setup : Setup) (marks : List Point) (one other : TreeState) → ClearAt setup.space setup.start
         → IsOfTextbookRun setup marks one → IsOfTextbookRun setup marks other
-        → (goals : List Goal) (limit : ℕ) (full : Bool) → report_text full goals limit other ≡ report_text full goals limit one }
+        → (scene : Scene) (limit : ℕ) (full : Bool) → report_text full scene limit other ≡ report_text full scene limit one }
     ensures summary { (setup : Setup) (marks : List Point) (one other : TreeState) → ClearAt setup.space setup.start
         → IsOfTextbookRun setup marks one → IsOfTextbookRun setup marks other
-        → (goals : List Goal) (limit : ℕ) → summary goals limit other ≡ summary goals limit one }
+        → (scene : Scene) (limit : ℕ) → summary scene limit other ≡ summary scene limit one }
+{}
+
+/// Of the scene a report looks at its goals alone: scenes that have the same ones have the same report of each tree, short and
+/// full, and the same summary.
+pub fn same_goals_have_the_same_report()
+    ensures report { (one other : Scene) (limit : ℕ) (state : TreeState) → goals_of other ≡ goals_of one → (full : Bool)
+        → report_text full other limit state ≡ report_text full one limit state }
+    ensures summary { (one other : Scene) (limit : ℕ) (state : TreeState) → goals_of other ≡ goals_of one
+        → summary other limit state ≡ summary one limit state }
 {}

@@ -55,7 +55,7 @@ pub fn textbook_run_is_unique()
         → records ≡ entries }
 {}
 
-/// Scenes with the same space, start, step, gamma and marks have the same run.
+/// Scenes with the same space, start, step, gamma and marks, and the same goals by which marks may be skipped, have the same run.
 pub fn same_inputs_have_the_same_run()
     ensures { (one other : Scene) (tree : Nodes) (records : List Record) → HaveSameInputs one other
         → IsTextbookRun (setup_of one) (mark_points one) tree records

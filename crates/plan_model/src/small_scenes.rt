@@ -1,13 +1,14 @@
 //! Small scenes for tests and examples, of this crate and of those above it.
 
-ghost use Rattle.std.specs.Prelude.{◌≡◌, ◌≤◌, IfOk, IsTrue};
+ghost use Rattle.std.specs.Prelude.{◌≡◌, ◌≤◌, [], ◌∷◌, IfOk, IsTrue};
 ghost use Rattle.plan_model.specs.Clearance.{ClearAt};
 ghost use Rattle.plan_model.specs.ConfigurationSpace.{space_among, space_of};
 ghost use Rattle.plan_model.specs.EmptyRooms.{IsInRoom, empty_room};
-ghost use Rattle.plan_model.specs.Limits.{IsBetween, IsGoal, are_obstacles, is_body, is_plan};
+ghost use Rattle.plan_model.specs.Limits.{IsBetween, are_obstacles, is_body, is_goal, is_plan};
 ghost use Rattle.plan_model.specs.Textbook.{setup_of};
 ghost use Rattle.plan_model.specs.declared.scenes.Marks.TheVariants.{Listed};
-ghost use Rattle.plan_model.specs.declared.limits.TheConstants.{LEAST_SIDE, LEAST_STEP, LEAST_STRIPS, MOST_GAMMA, MOST_SEED, MOST_SIDE, MOST_STEP, MOST_STRIPS};
+ghost use Rattle.plan_model.specs.declared.limits.TheConstants.{LEAST_SIDE, LEAST_STEP, LEAST_STRIPS, MOST_GAMMA, MOST_SEED};
+ghost use Rattle.plan_model.specs.declared.limits.TheConstants.{MOST_SIDE, MOST_STEP, MOST_STRIPS};
 
 use crate::errors::Memory;
 use crate::geometry::{Goal, Point, Vertex};
@@ -16,7 +17,7 @@ use crate::scenes::{Marks, Poly, Polys, Scene};
 use crate::tasks::Task;
 use std::alloc::Global;
 
-/// A small scene for tests and examples: all of a scene but its body, its obstacles and its marks.
+/// A small scene for tests and examples, of version 1: all of a scene but its body, its obstacles and its marks.
 ///
 /// ```text
 /// let task = SmallScene {
@@ -48,7 +49,7 @@ pub struct SmallScene {
     pub strips: u32,
     ghost room_within: { IsBetween LEAST_SIDE MOST_SIDE room },
     ghost start_within: { IsInRoom room start },
-    ghost goal_within: { IsGoal goal },
+    ghost goal_within: { IsTrue (is_goal 1 goal) },
     ghost step_low: { LEAST_STEP ≤ step },
     ghost step_high: { step ≤ MOST_STEP },
     ghost gamma_high: { gamma ≤ MOST_GAMMA },
@@ -58,35 +59,51 @@ pub struct SmallScene {
 }
 
 impl SmallScene {
-    /// The scene with this body, these obstacles and this plan of marks, each within the limits of a [`Scene`]. O(1).
-    pub fn scene(self, body: Poly, obstacles: Polys, plan: Marks) -> Scene
+    /// The scene with this body, these obstacles and this plan of marks, each within the limits of a [`Scene`] of version 1.
+    /// O(1).
+    ///
+    /// # Errors
+    ///
+    /// `Memory` if out of memory for the goal.
+    pub fn scene(
+        self,
+        alloc: Global,
+        body: Poly,
+        obstacles: Polys,
+        plan: Marks,
+    ) -> Result<Scene, Memory>
         requires body { IsTrue (is_body body) }
-        requires obstacles { IsTrue (are_obstacles obstacles) }
-        requires plan { IsTrue (is_plan plan) }
-        ensures setup { setup_of result ≡ record {
+        requires obstacles { IsTrue (are_obstacles 1 obstacles) }
+        requires plan { IsTrue (is_plan 1 plan) }
+        ensures version { IfOk result (λ scene. scene.version ≡ 1) }
+        ensures clearance { IfOk result (λ scene. scene.clearance ≡ 0) }
+        ensures setup { IfOk result (λ scene. setup_of scene ≡ record {
           space = space_among self.room body obstacles;
           start = self.start;
           step = self.step;
           gamma = self.gamma;
-        } }
-        ensures goal { result.goal ≡ self.goal }
-        ensures seed { result.seed ≡ self.seed }
-        ensures strips { result.strips ≡ self.strips }
-        ensures plan { result.plan ≡ plan }
+          goals = [];
+        }) }
+        ensures goals { IfOk result (λ scene. scene.goals ≡ self.goal ∷ []) }
+        ensures seed { IfOk result (λ scene. scene.seed ≡ self.seed) }
+        ensures strips { IfOk result (λ scene. scene.strips ≡ self.strips) }
+        ensures plan { IfOk result (λ scene. scene.plan ≡ plan) }
     {
-        Scene {
+        Ok(Scene {
             version: 1,
             room: self.room,
             body,
             obstacles,
+            clearance: 0,
             start: self.start,
-            goal: self.goal,
+            goals: Sequence::from_vec(vec![in alloc; self.goal]?),
             step: self.step,
             gamma: self.gamma,
             seed: self.seed,
             strips: self.strips,
+            informed: false,
             plan,
-        }
+        })
     }
 
     /// The task of these listed marks for a point body in the empty room, in which the start is clear. There are 0 to
@@ -94,16 +111,19 @@ impl SmallScene {
     ///
     /// # Errors
     ///
-    /// `Memory` if out of memory for the body or the marks.
+    /// `Memory` if out of memory for the body, the goal or the marks.
     pub fn task(self, alloc: Global, marks: &[Point]) -> Result<Task, Memory>
-        requires { IsTrue (is_plan (Listed marks.now)) }
+        requires { IsTrue (is_plan 1 (Listed marks.now)) }
+        ensures version { IfOk result (λ task. task.scene.version ≡ 1) }
+        ensures clearance { IfOk result (λ task. task.scene.clearance ≡ 0) }
         ensures setup { IfOk result (λ task. setup_of task.scene ≡ record {
           space = empty_room self.room;
           start = self.start;
           step = self.step;
           gamma = self.gamma;
+          goals = [];
         }) }
-        ensures goal { IfOk result (λ task. task.scene.goal ≡ self.goal) }
+        ensures goals { IfOk result (λ task. task.scene.goals ≡ self.goal ∷ []) }
         ensures strips { IfOk result (λ task. task.scene.strips ≡ self.strips) }
         ensures marks { IfOk result (λ task. task.marks ≡ marks.now) }
         ensures clear { IfOk result (λ task. ClearAt (space_of task.scene) task.scene.start) }
@@ -112,7 +132,7 @@ impl SmallScene {
         let obstacles = Sequence::from_vec(Vec::new(alloc));
         let plan = Marks::Listed(Sequence::from_vec(Vec::from_slice(alloc, marks)?));
         Ok(Task {
-            scene: self.scene(body, obstacles, plan),
+            scene: self.scene(alloc, body, obstacles, plan)?,
             marks: Sequence::from_vec(Vec::from_slice(alloc, marks)?),
         })
     }

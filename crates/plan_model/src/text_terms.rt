@@ -13,9 +13,11 @@ pub enum Key {
     Body,
     /// The corners of an obstacle.
     Obstacle,
+    /// The clearance of the body, in version 2.
+    Clearance,
     /// The configuration in which the tree begins.
     Start,
-    /// The lower left and the upper right corner of the goal.
+    /// The lower left and the upper right corner of a goal.
     Goal,
     /// The longest edge of the tree.
     Step,
@@ -25,6 +27,8 @@ pub enum Key {
     Seed,
     /// The number of strips that the room is cut into.
     Strips,
+    /// Whether marks are skipped that can lead to no cheaper path, in version 2.
+    Informed,
     /// The number of marks that are drawn.
     Marks,
     /// A mark that is listed.
@@ -36,9 +40,9 @@ pub enum Key {
 /// The checks of a line are made in the order Key, Unbuilt, Repeat, Words, Many, Number, Range, Corners.
 #[derive(Clone, Copy, Debug, PartialEq, Eq)]
 pub enum Kind {
-    /// The first line that is not skipped is not `prrt 1`, or there is none.
+    /// The first line that is not skipped is no version that is read, or there is none.
     Version = 1,
-    /// The line begins with no key.
+    /// The line begins with no key of the version.
     Key = 2,
     /// Too many or too few words follow the key.
     Words = 3,
@@ -50,7 +54,7 @@ pub enum Kind {
     Repeat = 6,
     /// A polygon is not strictly convex and counterclockwise.
     Corners = 7,
-    /// Too many corners, obstacles or marks.
+    /// Too many corners, obstacles, goals or marks.
     Many = 8,
     /// `room`, `start`, `goal` or `step` does not stand; the line is the one after the last.
     Missing = 9,

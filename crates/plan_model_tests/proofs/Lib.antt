@@ -1,4 +1,5 @@
 pub mod ShortLists
+pub mod Pillars
 pub mod KeptRun
 pub mod OverlappingMarks
 pub mod SeenByOne

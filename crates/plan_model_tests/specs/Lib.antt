@@ -1,4 +1,10 @@
+pub mod Boundaries
+pub mod FaultWords
+pub mod LinkedNodes
 pub mod NarrowRuns
 pub mod UnlawfulTrees
 pub mod UnlawfulRecords
 pub mod UnclosedRuns
+pub mod GrownTrees
+pub mod LesserSights
+pub mod OpenPaths

@@ -12,7 +12,7 @@ use Rattle.plan_model.specs.Vectors.Shapes.{at}
 
 -- a point body in the corner of an empty room; with this gamma the radius is 40 before the fourth mark, and 34 at it
 abbrev pub narrow_setup : Setup
-narrow_setup = record { space = empty_room (at 100 100); start = at 0 0; step = 50; gamma = 40 }
+narrow_setup = record { space = empty_room (at 100 100); start = at 0 0; step = 50; gamma = 40; goals = [] }
 
 -- The start is between 36 and 37 away from node 3 and from node 4. So it is near node 3, and is its parent, as the cheapest way; it is
 -- not near node 4. Node 2, more than 42 away from node 3 and 36 from node 4, is near neither. With a radius of 40 for node 4 too, the

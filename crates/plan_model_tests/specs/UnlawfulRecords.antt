@@ -13,7 +13,7 @@ use Rattle.plan_model.specs.Vectors.Shapes.{at}
 
 -- a point body in an empty room that is 100 wide and so high, with this step and gamma
 abbrev pub room_by : ℕ → ℕ → ℕ → Setup
-room_by height step gamma = record { space = empty_room (at 100 height); start = at 0 0; step = step; gamma = gamma }
+room_by height step gamma = record { space = empty_room (at 100 height); start = at 0 0; step = step; gamma = gamma; goals = [] }
 
 -- nodes at these points and costs, each below the start, and the records of the marks
 abbrev pub nodes_with : List (Option Point) → List ℕ → List Record → TreeState

@@ -10,7 +10,7 @@ use Rattle.plan_model.specs.Vectors.Shapes.{at}
 
 -- a point body in an empty room that is 100 wide and so high, with this start, and steps of 50
 abbrev pub room_to : ℕ → Point → Setup
-room_to height start = record { space = empty_room (at 100 height); start = start; step = 50; gamma = 40 }
+room_to height start = record { space = empty_room (at 100 height); start = start; step = 50; gamma = 40; goals = [] }
 
 -- nodes with these parents and costs, which are 0 past the lists; no mark has a record
 abbrev pub tree_of : List (Option Point) → List ℕ → List ℕ → TreeState

@@ -29,7 +29,8 @@ fn assert_task(rt: &impl Abort, task: &Task) {
     assert!(rt; task.marks.as_slice() == [CORNER].as_slice());
     assert!(rt; task.scene.obstacles.len() == 0);
     assert!(rt; task.scene.room == CORNER);
-    assert!(rt; task.scene.goal.low == CORNER);
+    assert!(rt; task.scene.version == 1);
+    assert!(rt; task.scene.goals.as_slice()[0].low == CORNER);
 }
 
 #[test]

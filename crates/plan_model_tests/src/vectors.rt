@@ -13,6 +13,7 @@ ghost use Rattle.plan_model.specs.Vectors.Ranges.{RangeVectors};
 ghost use Rattle.plan_model.specs.Vectors.Reports.{ReportVectors};
 ghost use Rattle.plan_model.specs.Vectors.Rooms.{RoomVectors};
 ghost use Rattle.plan_model.specs.Vectors.Runs.{RunVectors};
+ghost use Rattle.plan_model.specs.Vectors.SecondVersion.{SecondVersionSpelling, SecondVersionVectors, WideSpelling};
 ghost use Rattle.plan_model.specs.Vectors.SeenTrees.{SeenTreeVectors};
 ghost use Rattle.plan_model.specs.Vectors.Steps.{SteeringVectors};
 ghost use Rattle.plan_model.specs.Vectors.Streams.{StreamVectors};
@@ -21,7 +22,13 @@ ghost use Rattle.plan_model.specs.Vectors.Texts.{FieldSpellingVector, PolygonSpe
 ghost use Rattle.plan_model.specs.Vectors.Trees.{TreeVectors};
 ghost use Rattle.plan_model.specs.Vectors.Ways.{WayVectors};
 ghost use Rattle.plan_model.specs.Vectors.Words.{LineVectors, NumberVectors};
+ghost use Rattle.plan_model_tests.specs.Boundaries.{BoundaryVectors};
+ghost use Rattle.plan_model_tests.specs.FaultWords.{FaultWordVectors};
+ghost use Rattle.plan_model_tests.specs.GrownTrees.{GrownTreeVectors, KeptCostVectors};
+ghost use Rattle.plan_model_tests.specs.LesserSights.{LaterSightVectors, SeenAtLeastVectors, SeenParentVectors};
+ghost use Rattle.plan_model_tests.specs.LinkedNodes.{LinkVectors};
 ghost use Rattle.plan_model_tests.specs.NarrowRuns.{FallingRadiusVectors, RewiredInTurnVectors};
+ghost use Rattle.plan_model_tests.specs.OpenPaths.{OpenPathVectors, SameInputVectors};
 ghost use Rattle.plan_model_tests.specs.UnclosedRuns.{UnclosedRunVectors};
 ghost use Rattle.plan_model_tests.specs.UnlawfulRecords.{UnlawfulRecordVectors, UnplacedRecordVectors};
 ghost use Rattle.plan_model_tests.specs.UnlawfulTrees.{CostBoundVectors, UnlawfulTreeVectors};
@@ -51,12 +58,12 @@ pub fn strips()
     ensures { StripVectors }
 {}
 
-/// Bodies that touch an obstacle, and bodies beside it.
+/// Bodies that touch an obstacle or are as far from it as the clearance, and bodies beside it.
 pub fn meetings()
     ensures { MeetingVectors }
 {}
 
-/// Points and segments of a point body beside a square.
+/// Points and segments of a point body beside a square, and of one with a clearance beside a pillar.
 pub fn clearances()
     ensures { ClearanceVectors }
 {}
@@ -101,6 +108,21 @@ pub fn field_spelling()
     ensures { FieldSpellingVector }
 {}
 
+/// Texts that are refused by what differs between the versions.
+pub fn second_version()
+    ensures { SecondVersionVectors }
+{}
+
+/// A text of version 2.
+pub fn second_version_spelling()
+    ensures { SecondVersionSpelling }
+{}
+
+/// A text of version 2 that gives what only version 2 has.
+pub fn wide_spelling()
+    ensures { WideSpelling }
+{}
+
 /// The limits, each as a number.
 pub fn constants()
     ensures { ConstantVectors }
@@ -111,7 +133,7 @@ pub fn limits()
     ensures { LimitVectors }
 {}
 
-/// Bodies, obstacles and plans at the limits of a scene.
+/// Bodies, obstacles, goals and plans at the limits of a scene.
 pub fn ranges()
     ensures { RangeVectors }
 {}
@@ -191,4 +213,54 @@ pub fn unclosed_runs()
 /// Choices from a path of three points, and what they cost.
 pub fn choices()
     ensures { ChoiceVectors }
+{}
+
+/// The words that name a fault of each kind.
+pub fn fault_words()
+    ensures { FaultWordVectors }
+{}
+
+/// Points, roots, costs and steps at a limit, and just beyond it.
+pub fn boundaries()
+    ensures { BoundaryVectors }
+{}
+
+/// A link of a node into a kd-tree, and changes that are no such link.
+pub fn links()
+    ensures { LinkVectors }
+{}
+
+/// A tree and a later moment of it, and trees that are none, for one thing each; costs alone that change, and runs that are the same.
+pub fn grown_trees()
+    ensures { GrownTreeVectors }
+{}
+
+/// Costs of a branch that is lowered, costs that are tight, and costs that fall.
+pub fn kept_costs()
+    ensures { KeptCostVectors }
+{}
+
+/// What has been seen at least, and what is less; a tree that grows; what two saw of parents.
+pub fn seen_at_least()
+    ensures { SeenAtLeastVectors }
+{}
+
+/// A later moment of a worker, moments that are none, and sights that are not kept.
+pub fn later_sights()
+    ensures { LaterSightVectors }
+{}
+
+/// Parents and costs that were not seen of a lawful tree.
+pub fn seen_parents()
+    ensures { SeenParentVectors }
+{}
+
+/// Nodes with a clear edge to a point, and clear paths; nodes and paths that lead past a wall.
+pub fn open_paths()
+    ensures { OpenPathVectors }
+{}
+
+/// Scenes that have the same run, and a tree that is that of a run.
+pub fn same_inputs()
+    ensures { SameInputVectors }
 {}

@@ -1,10 +1,8 @@
 -- What a pass may record fits the word of a record.
 use Rattle.std.proofs.Common.{ℕ, ◌*◌, ◌<◌, ◌≤◌, ◌^◌, ap, arith}
 use Rattle.std.specs.Prelude.{is_some}
-use Rattle.plan_model.specs.ClosedLaw.{mark_at}
-use Rattle.plan_model.specs.PointsByNumber.{IsPresent, point_of}
+use Rattle.plan_model.specs.PointsByNumber.{IsPresent}
 use Rattle.plan_model.specs.Radius.{class_of}
-use Rattle.plan_model.specs.Steering.{steered}
 use Rattle.plan_model.specs.declared.records.Outcome.{Outcome}
 use Rattle.plan_model.specs.declared.records.Outcome.TheVariants.{Blocked, Placed, Same}
 use Rattle.plan_model.specs.declared.records.Record.{Record}
@@ -23,18 +21,21 @@ module _ (view : View) (hand : Hand) (entry : Record) (lawful : IsLawfulView vie
   small_number n h = omega (arith, lawful.within n (lawful.tree.rooted.points n h), lawful.run.marks)
 
   pub nearest_fits : entry.nearest < 2 ^ 18
-  nearest_fits = small_number entry.nearest may.present
+  nearest_fits = by_outcome entry.outcome may
+    where
+      by_outcome : (o : Outcome) → MayEnd view hand entry o → entry.nearest < 2 ^ 18
+      by_outcome Placed h = small_number entry.nearest h.present
+      by_outcome (Same j) h = small_number entry.nearest h.present
+      by_outcome Blocked h = small_number entry.nearest h.present
 
   -- by a variable, since the class of a numeral computes long
   low_class : (most : ℕ) → 2 ^ 18 ≤ most → most < 2 * 2 ^ 18 → sees view Count ≤ most → entry.class ≤ class_of (sees view Count) → entry.class < 2 ^ 18
   low_class most low below within high = omega (arith, high, class_of-le (sees view Count) most within, class_from_powers most 18 low below)
 
   pub last_fits : last_field entry.outcome entry.class < 2 ^ 18
-  last_fits = by_outcome entry.outcome may.outcome
+  last_fits = by_outcome entry.outcome may
     where
-      by_outcome : (o : Outcome)
-          → MayEnd view hand entry (steered (point_of (tree_seen view).points entry.nearest) (mark_at view.run.marks hand.mark) view.run.step) o
-          → last_field o entry.class < 2 ^ 18
-      by_outcome Placed h = low_class 262144 (omega arith) (omega arith) (omega (arith, lawful.count, lawful.run.marks)) h.high
-      by_outcome (Same j) h = small_number j (ap is_some h)
+      by_outcome : (o : Outcome) → MayEnd view hand entry o → last_field o entry.class < 2 ^ 18
+      by_outcome Placed h = low_class 262144 (omega arith) (omega arith) (omega (arith, lawful.count, lawful.run.marks)) h.outcome.high
+      by_outcome (Same j) h = small_number j (ap is_some h.outcome)
       by_outcome Blocked h = omega arith

@@ -146,14 +146,14 @@ module _ (view : View) (hand : Hand) (entry : Record) (cost : ℕ) (lawful : IsL
   pub MayRecord-first :
       entry.outcome ≡ Placed → entry.first_parent ≡ 0 → entry.first_cost ≡ cost → entry.class ≡ 1 → 1 ≤ sees view Count → MayRecord view hand entry
   MayRecord-first outcome parent cost_is class some =
-      record {
+      subst (MayEnd view hand entry) (sym outcome) record {
         present = subst (IsPresent (tree_seen view).points) (sym nearest) (IsPresent-stands (tree_seen view).points 0 hung.start hung.seen);
         nearest = λ i own. (
             let alone = own_start view entry first i own in
             subst (λ n. IsNotAbove (distance_to (mark_at view.run.marks hand.mark) (tree_seen view).points) n i) (sym nearest)
             (subst (IsNotAbove (distance_to (mark_at view.run.marks hand.mark) (tree_seen view).points) 0) (sym alone)
             (record { least = omega arith; first = λ e. omega arith })));
-        outcome = subst (MayEnd view hand entry _) (sym outcome) placed;
+        outcome = placed;
       }
     where
       placed : MayBePlaced view hand entry

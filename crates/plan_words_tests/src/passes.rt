@@ -24,7 +24,7 @@ pub(crate) const START: Point = Point { x: 0, y: 0 };
 
 /// These marks in a small room, in three strips.
 fn marks_in_strips(alloc: Global, marks: &[Point]) -> Result<Task, Memory>
-    requires { IsTrue (is_plan (Listed marks.now)) }
+    requires { IsTrue (is_plan 1 (Listed marks.now)) }
     ensures clear { IfOk result (λ task. ClearAt (space_of task.scene) task.scene.start) }
     ensures marks { IfOk result (λ task. task.marks ≡ marks.now) }
     ensures strips { IfOk result (λ task. task.scene.strips ≡ 3) }
@@ -47,7 +47,7 @@ fn marks_in_strips(alloc: Global, marks: &[Point]) -> Result<Task, Memory>
 /// This many marks on the start.
 fn marks_on_start(alloc: Global, count: u32) -> Result<Vec<Point>, Memory>
     requires { count ≤ MOST_MARKS }
-    ensures plan { IfOk result (λ marks. IsTrue (is_plan (Listed marks.items))) }
+    ensures plan { IfOk result (λ marks. IsTrue (is_plan 1 (Listed marks.items))) }
     ensures count { IfOk result (λ marks. length marks.items ≡ count) }
 {
     Ok(vec![in alloc; START; count as usize]?)

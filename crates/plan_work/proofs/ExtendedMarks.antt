@@ -1,5 +1,5 @@
 -- A mark is handled in steps: what the first of them leave, and what all of them leave together.
-use Rattle.std.proofs.Common.{◌≡◌, ℕ, suc, ◌≤◌, Some, refl, sym, ap, ◌∙◌, subst, arith}
+use Rattle.std.proofs.Common.{◌≡◌, ℕ, ◌≤◌, Some, refl, sym, ap, ◌∙◌, subst, arith}
 use Rattle.std.specs.Prelude.{[], IfSome, IsSome, is_some}
 use Rattle.plan_model.specs.Clearance.{Clear}
 use Rattle.plan_model.specs.ConfigurationSpace.{space_of}
@@ -15,7 +15,7 @@ use Rattle.plan_words.specs.States.{BelongsTo, GoesOn, PassState, SharedState, t
 use Rattle.plan_words.proofs.GoingOn.{GoesOn-trans}
 use Rattle.step_core.proofs.LawfulSights.{IsLaterMoment-later, KeepsSight-lawful}
 use Rattle.step_core.proofs.SeenWords.{point_at-seen, seen-within}
-use Rattle.step_core.specs.SeenRecords.{MayRecord}
+use Rattle.step_core.specs.SeenRecords.{MayBeBlocked, MayRecord}
 use Rattle.step_core.specs.ViewSteps.{one_turn_more, pointed}
 use Rattle.step_core.specs.ViewTrees.{IsSteered, SeesPoint, sight_in}
 use Rattle.step_core.specs.Views.{run_sizes, sees, setup_in, tree_seen}
@@ -30,12 +30,12 @@ use Rattle.kd_shared.specs.Looking.{OnlyLooks}
 use Rattle.plan_work.proofs.HeldMarks.{holding, if_held}
 use Rattle.plan_work.proofs.KeptRecords.{KeepsRecords-looks, KeepsRecords-trans}
 use Rattle.plan_work.proofs.KeptSights.{HasSteered-still}
-use Rattle.plan_work.proofs.RecordedMarks.{HandlesMark-recorded, IsSteeredTo-still, MayRecord-steered, has_node-kept, others_still, present_recorded}
+use Rattle.plan_work.proofs.RecordedMarks.{HandlesMark-recorded, IsSteeredTo-still, MaySteer-steered, has_node-kept, others_still, present_recorded}
+use Rattle.plan_work.proofs.SteeredOutcomes.{EndsAsSeen-written, WasSteered-to}
 use Rattle.plan_work.proofs.TriedMarks.{HasFilledNear-still}
-use Rattle.plan_work.specs.Extensions.{EndsAsSeen, HandlesMark, HasFilledNear, HasRecorded, HasSteered, IsBlockedAt, IsExtended}
-use Rattle.plan_work.specs.Extensions.{IsFilledSince, IsSteeredTo, KeepsRecords, MayPlace, own_unplaced}
+use Rattle.plan_work.specs.Extensions.{EndsAsSeen, EndsWritten, HandlesMark, HasFilledNear, HasRecorded, HasSteered, IsBlockedAt, IsExtended}
+use Rattle.plan_work.specs.Extensions.{IsFilledSince, IsSteeredTo, KeepsRecords, MayPlace, WasSteered, own_unplaced}
 use Rattle.plan_model.specs.declared.records.Outcome.{Outcome}
-use Rattle.plan_model.specs.declared.records.Outcome.TheVariants.{Blocked, Placed, Same}
 
 -- ---- one after another
 
@@ -133,13 +133,6 @@ free_still before after run same p free j stands =
     (point_at-seen (run_sizes before.run) (sees before) j was ∙ ap point_of_word (sym (same j))
     ∙ sym (point_at-seen (run_sizes after.run) (sees after) j low) ∙ stands)
 
--- where a mark ended at such a point, it was blocked
-Blocked-free : (before after : View) (k : ℕ) (entry : Record) (p : Point) (outcome : Outcome) → EndsAsSeen before after k entry p outcome
-    → IsFree (tree_seen after).points p → outcome ≡ Blocked
-Blocked-free before after k entry p Placed placed free = absurd (free (suc k) placed.stands)
-Blocked-free before after k entry p (Same j) stands free = absurd (free j stands)
-Blocked-free before after k entry p Blocked blocked free = refl
-
 -- a point whose way came to a place found empty is swept, also since an earlier moment
 swept_since : (first before after done : View) → GoesOn first before → GoesOn before after → GoesOn after done → (p : Point)
     → EndsSince (sight_in after) before.steps p → IsSwept (sight_in done) first.steps p
@@ -166,38 +159,34 @@ module _
   pub MayRecord-found : (j : ℕ) → SeesPoint found.view j p → IfSome found.view.hand (λ h. MayRecord found.view h (own_unplaced found.view m (Same j)))
   MayRecord-found j stands =
       if_held found.view (λ h. MayRecord found.view h (own_unplaced found.view m (Same j))) hand held
-      (MayRecord-steered found.view hand k m p (own_unplaced found.view m (Same j)) (IsSteeredTo-found shared before found k m from p keeps steers) mark refl
-      stands)
+      (MaySteer-steered found.view hand k m p (own_unplaced found.view m (Same j)) (SeesPoint found.view j)
+      (IsSteeredTo-found shared before found k m from p keeps steers) mark refl stands)
 
   -- or the segment to it is blocked
   pub MayRecord-blocked : IsFree (tree_seen found.view).points p → ¬ Clear (setup_in found.view.run).space (point_of (tree_seen found.view).points m) p
       → IfSome found.view.hand (λ h. MayRecord found.view h (own_unplaced found.view m Blocked))
   MayRecord-blocked free blocked =
       if_held found.view (λ h. MayRecord found.view h (own_unplaced found.view m Blocked)) hand held
-      (MayRecord-steered found.view hand k m p (own_unplaced found.view m Blocked) (IsSteeredTo-found shared before found k m from p keeps steers) mark
-      refl record { blocked = blocked; free = λ i own. free i })
+      (MaySteer-steered found.view hand k m p (own_unplaced found.view m Blocked) (MayBeBlocked found.view (own_unplaced found.view m Blocked))
+      (IsSteeredTo-found shared before found k m from p keeps steers) mark refl record { blocked = blocked; free = λ i own. free i })
 
   module _ (done : PassState) (entry : Record) (recorded : HasRecorded shared found done entry) where
     handles : HandlesMark shared before done k entry
     handles = HandlesMark-recorded shared before found done hand k entry keeps recorded held mark
 
-    extended : entry.nearest ≡ m → EndsAsSeen before.view done.view k entry p entry.outcome → IsExtended before.view done.view k entry
-    extended is outcome = record {
-      stored = handles.stored;
-      from = from;
-      point = p;
-      steered =
-          subst (λ n. HasSteered before.view done.view k n from p) (sym is)
-          (HasSteered-still before.view found.view done.view keeps.goes_on recorded.goes_on k m from p steers);
-      outcome = outcome;
-      free_is_blocked = Blocked-free before.view done.view k entry p entry.outcome outcome;
-    }
+    was_steered : entry.nearest ≡ m → (EndsAt : Point → Type 0) → EndsAt p → WasSteered before.view done.view k entry EndsAt
+    was_steered is EndsAt ended =
+        WasSteered-to before.view done.view k entry from p EndsAt
+        (subst (λ n. HasSteered before.view done.view k n from p) (sym is)
+        (HasSteered-still before.view found.view done.view keeps.goes_on recorded.goes_on k m from p steers)) ended
+
+    extended : (outcome : Outcome) → entry.outcome ≡ outcome → EndsAsSeen before.view done.view k entry outcome → IsExtended before.view done.view k entry
+    extended outcome is ended = record { stored = handles.stored; outcome = subst (EndsAsSeen before.view done.view k entry) (sym is) ended }
 
     pub IsExtended-found : (j : ℕ) → entry ≡ own_unplaced found.view m (Same j) → SeesPoint found.view j p → IsExtended before.view done.view k entry
     IsExtended-found j is stands =
-        extended (ap (λ (e : Record). e.nearest) is)
-        (subst (EndsAsSeen before.view done.view k entry p) (sym (ap (λ (e : Record). e.outcome) is))
-        (stands_later found.view done.view recorded.goes_on j p stands))
+        extended (Same j) (ap (λ (e : Record). e.outcome) is)
+        (was_steered (ap (λ (e : Record). e.nearest) is) (SeesPoint done.view j) (stands_later found.view done.view recorded.goes_on j p stands))
 
     pub IsExtended-blocked : (steering : View) → GoesOn before.view steering → GoesOn steering found.view → entry ≡ own_unplaced found.view m Blocked
         → IsFree (tree_seen found.view).points p → EndsSince (sight_in found.view) steering.steps p
@@ -219,7 +208,7 @@ module _
               (λ n. others_still found.view done.view hand entry held last keeps.goes_on.lawful (PointOf n) (λ e. cc)) p free;
           swept = swept_since before.view steering found.view done.view one two recorded.goes_on p ends;
         } in
-        extended nearest (subst (EndsAsSeen before.view done.view k entry p) (sym (ap (λ (e : Record). e.outcome) is)) ended)
+        extended Blocked (ap (λ (e : Record). e.outcome) is) (was_steered nearest (IsBlockedAt before.view done.view entry) ended)
 
 -- ---- marks whose point is written
 
@@ -283,16 +272,14 @@ module _
 pub IsExtended-written :
     (shared : SharedState) (before steering found written done : PassState) (k m : ℕ) (from p : Point) (entry : Record)
     → HasLooked shared before steering found k m from p → KeepsRecords shared before written → GoesOn found.view written.view
-    → HandlesMark shared written done k entry → entry.nearest ≡ m → EndsAsSeen before.view done.view k entry p entry.outcome
+    → HandlesMark shared written done k entry → entry.nearest ≡ m → EndsWritten before.view done.view k entry p entry.outcome
     → IsExtended before.view done.view k entry
 IsExtended-written shared before steering found written done k m from p entry looked keeps goes_on handles is ended = record {
   stored = handles.stored;
-  from = from;
-  point = p;
-  steered =
-      subst (λ n. HasSteered before.view done.view k n from p) (sym is)
+  outcome =
+      EndsAsSeen-written before.view done.view k entry from p
+      (subst (λ n. HasSteered before.view done.view k n from p) (sym is)
       (HasSteered-still before.view found.view done.view looked.keeps.goes_on
-      (GoesOn-trans found.view written.view done.view goes_on handles.goes_on) k m from p looked.steers);
-  outcome = ended;
-  free_is_blocked = Blocked-free before.view done.view k entry p entry.outcome ended;
+      (GoesOn-trans found.view written.view done.view goes_on handles.goes_on) k m from p looked.steers))
+      entry.outcome ended;
 }

@@ -7,6 +7,7 @@ pub mod TriedMarks
 pub mod NearestListed
 pub mod RecordedMarks
 pub mod PlacedMarks
+pub mod SteeredOutcomes
 pub mod ExtendedMarks
 pub mod WorkedMarks
 pub mod TextbookTurns

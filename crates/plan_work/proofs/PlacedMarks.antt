@@ -20,7 +20,7 @@ use Rattle.plan_model.proofs.RecordLaws.{class_of-le}
 use Rattle.plan_model.proofs.SegmentLaws.{Clear-back}
 use Rattle.plan_words.specs.States.{GoesOn, PassState, SharedState}
 use Rattle.plan_words.proofs.GoingOn.{GoesOn-trans}
-use Rattle.step_core.specs.SeenRecords.{IsOwnNeighbour, MayRecord, is_own_node, own_count, own_first_cost}
+use Rattle.step_core.specs.SeenRecords.{IsOwnNeighbour, MayBePlaced, MayRecord, is_own_node, own_count, own_first_cost}
 use Rattle.kd_shared.specs.Searches.{SweepsWithin}
 use Rattle.step_core.specs.ViewTrees.{SeesPoint, sight_in}
 use Rattle.step_core.specs.Views.{sees, setup_in, tree_seen}
@@ -38,7 +38,7 @@ use Rattle.tree_rewire.specs.SeenCosts.{IsLoadedSince, NamesTreeOrPoint, SeesAne
 use Rattle.plan_work.proofs.FilledNear.{looked_still}
 use Rattle.plan_work.proofs.KeptSights.{SweepsWithin-still}
 use Rattle.plan_work.proofs.HeldMarks.{if_held, of_held}
-use Rattle.plan_work.proofs.RecordedMarks.{IsSteeredTo-still, MayRecord-steered, has_node-kept, others_still, own_count-same, own_recorded, present_recorded}
+use Rattle.plan_work.proofs.RecordedMarks.{IsSteeredTo-still, MaySteer-steered, has_node-kept, others_still, own_count-same, own_recorded, present_recorded}
 use Rattle.plan_work.proofs.TriedMarks.{HasFilledNear-still, clear_of-may}
 use Rattle.plan_work.specs.Extensions.{HasFilledNear, HasRecorded, IsFilledSince, IsPlacedAt, IsTried, KeepsRecords}
 use Rattle.plan_work.specs.Extensions.{IsWithinRadius, MayPlace, WasChosen, WasNeighbour, WasRewired, hung_by, own_placed, own_unplaced, radius_in}
@@ -75,7 +75,7 @@ pub MayRecord-same :
     → IfSome after.view.hand (λ hand. MayRecord after.view hand (own_unplaced after.view m (SameNode j)))
 MayRecord-same shared before after k m p hanging j may keeps tried =
     if_held after.view (λ hand. MayRecord after.view hand (own_unplaced after.view m (SameNode j))) (hung_by may.hand hanging) tried.came.unchanged
-    (MayRecord-steered after.view (hung_by may.hand hanging) k m p (own_unplaced after.view m (SameNode j))
+    (MaySteer-steered after.view (hung_by may.hand hanging) k m p (own_unplaced after.view m (SameNode j)) (SeesPoint after.view j)
     (IsSteeredTo-still before.view after.view k m p keeps.goes_on keeps.records may.steered) may.mark refl
     (subst (SeesPoint after.view j) may.pointed.point tried.came.stands))
 
@@ -230,7 +230,8 @@ module _
   pub MayRecord-placed : IfSome after.view.hand (λ hand. MayRecord after.view hand entry)
   MayRecord-placed =
       if_held after.view (λ hand. MayRecord after.view hand entry) counted_hand (seen.kept.hand ∙ is_tried.came.counted)
-      (MayRecord-steered after.view counted_hand k m p entry (IsSteeredTo-still before.view after.view k m p whole records may.steered) may.mark refl
+      (MaySteer-steered after.view counted_hand k m p entry (λ q. MayBePlaced after.view counted_hand entry)
+      (IsSteeredTo-still before.view after.view k m p whole records may.steered) may.mark refl
       record {
         nearest_is = sym may.pointed.nearest;
         parent_is = refl;

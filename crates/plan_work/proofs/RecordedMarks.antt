@@ -25,7 +25,7 @@ use Rattle.step_core.proofs.PlacedWords.{has_node-same}
 use Rattle.step_core.proofs.SeenByViews.{WritesWord-saw}
 use Rattle.step_core.specs.GrownWords.{has_node, has_placed, record_at}
 use Rattle.step_core.specs.LaterViews.{IsLawfulView}
-use Rattle.step_core.specs.SeenRecords.{MayBePlaced, MayEnd, MayRecord, is_own_node, own_count}
+use Rattle.step_core.specs.SeenRecords.{MayBePlaced, MayEnd, MayRecord, MaySteer, is_own_node, own_count}
 use Rattle.step_core.specs.Stages.{has_first}
 use Rattle.step_core.specs.ViewSteps.{finished, one_turn_more, pair_in_hand}
 use Rattle.step_core.specs.Views.{sees, tree_seen}
@@ -93,11 +93,11 @@ IsSteeredTo-still before after k m p goes_on records h =
           (h.not_above n was));
     }
 
--- So the mark may be recorded, if it ended as the record says.
-pub MayRecord-steered :
-    (view : View) (hand : Hand) (k m : ℕ) (p : Point) (entry : Record) → IsSteeredTo view k m p → hand.mark ≡ k → entry.nearest ≡ m
-    → MayEnd view hand entry p entry.outcome → MayRecord view hand entry
-MayRecord-steered view hand k m p entry h mark is ended =
+-- So the mark may be recorded as what it may be at p.
+pub MaySteer-steered :
+    (view : View) (hand : Hand) (k m : ℕ) (p : Point) (entry : Record) (MayEndAt : Point → Type 0) → IsSteeredTo view k m p → hand.mark ≡ k
+    → entry.nearest ≡ m → MayEndAt p → MaySteer view hand entry MayEndAt
+MaySteer-steered view hand k m p entry MayEndAt h mark is ended =
     let points = (tree_seen view).points in
     let reached : p ≡ steered (point_of points entry.nearest) (mark_at view.run.marks hand.mark) view.run.step =
     h.point_is
@@ -108,7 +108,7 @@ MayRecord-steered view hand k m p entry h mark is ended =
       nearest = λ i own.
           subst (λ n. IsNotAbove (distance_to (mark_at view.run.marks hand.mark) points) n i) (sym is)
           (subst (λ j. IsNotAbove (distance_to (mark_at view.run.marks j) points) m i) (sym mark) (h.not_above i (own_recorded view entry i own)));
-      outcome = subst (λ q. MayEnd view hand entry q entry.outcome) reached ended;
+      outcome = subst MayEndAt reached ended;
     }
 
 -- ---- records
@@ -135,8 +135,7 @@ pub IsFirstWord-placed :
     (view : View) (hand : Hand) (entry : Record) → IsLawfulView view → view.hand ≡ Some hand → hand.stage ≡ Counted → entry.outcome ≡ Placed
     → MayRecord view hand entry → (first : ℕ) → first ≡ pair_in_hand hand → IsFirstWord entry first
 IsFirstWord-placed view hand entry lawful held counted placed may first is =
-    let reached = steered (point_of (tree_seen view).points entry.nearest) (mark_at view.run.marks hand.mark) view.run.step in
-    let ended : MayBePlaced view hand entry = subst (MayEnd view hand entry reached) placed may.outcome in
+    let ended : MayBePlaced view hand entry = (subst (MayEnd view hand entry) placed may).outcome in
     let fits = lawful.pair_fits hand held (ap has_first counted) in
     record {
       word = λ same. omega (arith, is, ended.parent_is, ended.cost_is);

@@ -231,18 +231,29 @@ pub record IsBlockedAt (before after : View) (entry : Record) (p : Point) : Type
   pub free : IsFree (tree_seen after).points p
   pub swept : IsSwept (sight_in after) before.steps p
 
--- what the outcome says
-abbrev pub EndsAsSeen : View → View → ℕ → Record → Point → Outcome → Type 0
-EndsAsSeen before after k entry p Placed = IsPlacedAt before after k entry p
-EndsAsSeen before after k entry p (Same j) = SeesPoint after j p
-EndsAsSeen before after k entry p Blocked = IsBlockedAt before after entry p
+-- a mark whose point p is written is placed there, or ends at a node that is seen there
+abbrev pub EndsWritten : View → View → ℕ → Record → Point → Outcome → Type 0
+EndsWritten before after k entry p Placed = IsPlacedAt before after k entry p
+EndsWritten before after k entry p (Same j) = SeesPoint after j p
+EndsWritten before after k entry p Blocked = ⊥
 
--- Mark k was handled: the record that stands there is the one answered. The nearest node steered to a point, and the outcome is what it says:
--- blocked if no node is seen at that point, and only then.
+-- where the nearest node of a record steers towards mark k, as it is seen
+abbrev pub steered_point : View → ℕ → Record → Point
+steered_point view k entry = steered (point_of (tree_seen view).points entry.nearest) (mark_at view.run.marks k) view.run.step
+
+-- The nearest node steered to a point, and this is the outcome there.
+pub record WasSteered (before after : View) (k : ℕ) (entry : Record) (EndsAt : Point → Type 0) : Type 0 where
+  pub from : Point
+  pub steered : HasSteered before after k entry.nearest from (steered_point after k entry)
+  pub outcome : EndsAt (steered_point after k entry)
+
+-- what the outcome says: blocked if no node is seen at the point, and only then
+abbrev pub EndsAsSeen : View → View → ℕ → Record → Outcome → Type 0
+EndsAsSeen before after k entry Placed = WasSteered before after k entry (IsPlacedAt before after k entry)
+EndsAsSeen before after k entry (Same j) = WasSteered before after k entry (SeesPoint after j)
+EndsAsSeen before after k entry Blocked = WasSteered before after k entry (IsBlockedAt before after entry)
+
+-- Mark k was handled: the record that stands there is the one answered, and its outcome is what it says.
 pub record IsExtended (before after : View) (k : ℕ) (entry : Record) : Type 0 where
   pub stored : record_at (sees after) k ≡ Some entry
-  pub from : Point
-  pub point : Point
-  pub steered : HasSteered before after k entry.nearest from point
-  pub outcome : EndsAsSeen before after k entry point entry.outcome
-  pub free_is_blocked : IsFree (tree_seen after).points point → entry.outcome ≡ Blocked
+  pub outcome : EndsAsSeen before after k entry entry.outcome

@@ -14,7 +14,7 @@ ghost use Rattle.plan_model.specs.declared.geometry.Point.{Point};
 ghost use Rattle.plan_model.specs.declared.records.Outcome.TheVariants.{Blocked, Placed, Same};
 ghost use Rattle.plan_model.specs.declared.records.Record.{Record};
 ghost use Rattle.plan_words.specs.States.{GoesOn};
-ghost use Rattle.plan_work.specs.Extensions.{IsExtended, IsWithinRadius, radius_in};
+ghost use Rattle.plan_work.specs.Extensions.{IsExtended, IsWithinRadius, radius_in, steered_point};
 ghost use Rattle.plan_work.specs.Workers.{AllExtended};
 ghost use Rattle.step_core.specs.ViewTrees.{SeesPoint, sight_in};
 ghost use Rattle.step_core.specs.Views.{last_look, sees, setup_in, tree_seen};
@@ -31,19 +31,19 @@ pub fn handled_marks_are_steered_to()
     ensures nearest { (before after : View) (k : ℕ) (entry : Record) → IsExtended before after k entry → (n : ℕ)
         → IsPresent (tree_seen before).points n
         → IsNotAbove (distance_to (mark_at after.run.marks k) (tree_seen after).points) entry.nearest n }
-    ensures same { (before after : View) (k : ℕ) (entry : Record) (extended : IsExtended before after k entry) (j : ℕ) → entry.outcome ≡ Same j
-        → SeesPoint after j extended.point }
-    ensures blocked { (before after : View) (k : ℕ) (entry : Record) (extended : IsExtended before after k entry) → entry.outcome ≡ Blocked
-        → IsFree (tree_seen after).points extended.point
-        × (¬ Clear (setup_in after.run).space (point_of (tree_seen after).points entry.nearest) extended.point) }
-    ensures free { (before after : View) (k : ℕ) (entry : Record) (extended : IsExtended before after k entry)
-        → IsFree (tree_seen after).points extended.point → entry.outcome ≡ Blocked }
+    ensures same { (before after : View) (k : ℕ) (entry : Record) → IsExtended before after k entry → (j : ℕ) → entry.outcome ≡ Same j
+        → SeesPoint after j (steered_point after k entry) }
+    ensures blocked { (before after : View) (k : ℕ) (entry : Record) → IsExtended before after k entry → entry.outcome ≡ Blocked
+        → IsFree (tree_seen after).points (steered_point after k entry)
+        × (¬ Clear (setup_in after.run).space (point_of (tree_seen after).points entry.nearest) (steered_point after k entry)) }
+    ensures free { (before after : View) (k : ℕ) (entry : Record) → IsExtended before after k entry
+        → IsFree (tree_seen after).points (steered_point after k entry) → entry.outcome ≡ Blocked }
     // all points at most as far from the mark as the nearest node are swept, and so is the point of a blocked mark
     ensures swept { (before after : View) (k : ℕ) (entry : Record) → IsExtended before after k entry → (q : Point)
         → squared_distance q (mark_at after.run.marks k)
         ≤ distance_to (mark_at after.run.marks k) (tree_seen after).points entry.nearest → IsSwept (sight_in after) before.steps q }
-    ensures blocked_swept { (before after : View) (k : ℕ) (entry : Record) (extended : IsExtended before after k entry)
-        → entry.outcome ≡ Blocked → IsSwept (sight_in after) before.steps extended.point }
+    ensures blocked_swept { (before after : View) (k : ℕ) (entry : Record) → IsExtended before after k entry
+        → entry.outcome ≡ Blocked → IsSwept (sight_in after) before.steps (steered_point after k entry) }
 {}
 
 /// A mark that was placed: its node is seen at the steered point, with the class of the count that was loaded in the call. Each node
@@ -51,23 +51,23 @@ pub fn handled_marks_are_steered_to()
 /// cheaper a parent than the first one, by what it was seen to cost at entry, and it costs no more than through the new node, by
 /// what it is seen to cost at return.
 pub fn placed_marks_have_the_best_parent()
-    ensures node { (before after : View) (k : ℕ) (entry : Record) (extended : IsExtended before after k entry) → entry.outcome ≡ Placed
-        → SeesPoint after (suc k) extended.point × (entry.class ≡ class_of (sees after Count)) × (before.steps < last_look after Count) }
-    ensures loaded { (before after : View) (k : ℕ) (entry : Record) (extended : IsExtended before after k entry) → entry.outcome ≡ Placed
+    ensures node { (before after : View) (k : ℕ) (entry : Record) → IsExtended before after k entry → entry.outcome ≡ Placed
+        → SeesPoint after (suc k) (steered_point after k entry) × (entry.class ≡ class_of (sees after Count)) × (before.steps < last_look after Count) }
+    ensures loaded { (before after : View) (k : ℕ) (entry : Record) → IsExtended before after k entry → entry.outcome ≡ Placed
         → (i : ℕ) (q : Point) → SeesPoint before i q
-        → squared_distance q extended.point ≤ radius_in after entry.class * radius_in after entry.class
-        → Clear (setup_in after.run).space q extended.point → before.steps < last_look after (TreeOf i) }
-    ensures chosen { (before after : View) (k : ℕ) (entry : Record) (extended : IsExtended before after k entry) → entry.outcome ≡ Placed
+        → squared_distance q (steered_point after k entry) ≤ radius_in after entry.class * radius_in after entry.class
+        → Clear (setup_in after.run).space q (steered_point after k entry) → before.steps < last_look after (TreeOf i) }
+    ensures chosen { (before after : View) (k : ℕ) (entry : Record) → IsExtended before after k entry → entry.outcome ≡ Placed
         → (i : ℕ) (q : Point) → SeesPoint before i q → SeesPair before i
-        → squared_distance q extended.point ≤ radius_in after entry.class * radius_in after entry.class
-        → Clear (setup_in after.run).space q extended.point → entry.first_cost ≤ cost_seen before i + cost_of q extended.point }
-    ensures rewired { (before after : View) (k : ℕ) (entry : Record) (extended : IsExtended before after k entry) → entry.outcome ≡ Placed
+        → squared_distance q (steered_point after k entry) ≤ radius_in after entry.class * radius_in after entry.class
+        → Clear (setup_in after.run).space q (steered_point after k entry) → entry.first_cost ≤ cost_seen before i + cost_of q (steered_point after k entry) }
+    ensures rewired { (before after : View) (k : ℕ) (entry : Record) → IsExtended before after k entry → entry.outcome ≡ Placed
         → (i : ℕ) (q : Point) → SeesPoint before i q
-        → squared_distance q extended.point ≤ radius_in after entry.class * radius_in after entry.class
-        → Clear (setup_in after.run).space q extended.point
-        → SeesPair after i × (cost_seen after i ≤ entry.first_cost + cost_of q extended.point) }
-    ensures swept { (before after : View) (k : ℕ) (entry : Record) (extended : IsExtended before after k entry) → entry.outcome ≡ Placed
-        → (q : Point) → squared_distance q extended.point ≤ radius_in after entry.class * radius_in after entry.class
+        → squared_distance q (steered_point after k entry) ≤ radius_in after entry.class * radius_in after entry.class
+        → Clear (setup_in after.run).space q (steered_point after k entry)
+        → SeesPair after i × (cost_seen after i ≤ entry.first_cost + cost_of q (steered_point after k entry)) }
+    ensures swept { (before after : View) (k : ℕ) (entry : Record) → IsExtended before after k entry → entry.outcome ≡ Placed
+        → (q : Point) → squared_distance q (steered_point after k entry) ≤ radius_in after entry.class * radius_in after entry.class
         → IsSwept (sight_in after) before.steps q }
 {}
 
@@ -75,12 +75,12 @@ pub fn placed_marks_have_the_best_parent()
 /// that the pass has seen to fall since, outside the radius, costs no more than through its parent, and neither does a child of it
 /// that was seen by then.
 pub fn placed_marks_bring_falls_down()
-    ensures linked { (before after : View) (k : ℕ) (entry : Record) (extended : IsExtended before after k entry) → entry.outcome ≡ Placed
+    ensures linked { (before after : View) (k : ℕ) (entry : Record) → IsExtended before after k entry → entry.outcome ≡ Placed
         → (mid : View) × GoesOn before mid × GoesOn mid after
         × (sees mid (TreeOf (suc k)) ≡ tree_word entry.first_parent entry.first_cost) }
-    ensures fallen { (before after : View) (k : ℕ) (entry : Record) (extended : IsExtended before after k entry) → entry.outcome ≡ Placed
+    ensures fallen { (before after : View) (k : ℕ) (entry : Record) → IsExtended before after k entry → entry.outcome ≡ Placed
         → (mid : View) × GoesOn before mid × GoesOn mid after × ((n : ℕ) → IsInFall mid after n
-        → (¬ IsWithinRadius mid entry extended.point n) ⊎ (parent_seen after n ≡ suc k) → IsWithinParent after n) }
+        → (¬ IsWithinRadius mid entry (steered_point after k entry) n) ⊎ (parent_seen after n ≡ suc k) → IsWithinParent after n) }
 {}
 
 /// Each mark of which a worker's pass sees a record now, and saw none before, was handled as `extend` promises, between two moments

@@ -5,7 +5,7 @@ ghost use Rattle.plan_model.specs.Clearance.{Clear};
 ghost use Rattle.plan_model.specs.ConfigurationSpace.{space_of};
 ghost use Rattle.plan_words.specs.Claims.{SeesAsBefore};
 ghost use Rattle.plan_words.specs.States.{BelongsTo, HasWholeShare, PassState};
-ghost use Rattle.plan_work.specs.Extensions.{EndsAsSeen, HandlesMark, IsFilledSince, IsHung, IsPointed, IsTried, KeepsRecords, MayPlace};
+ghost use Rattle.plan_work.specs.Extensions.{EndsWritten, HandlesMark, IsFilledSince, IsHung, IsPointed, IsTried, KeepsRecords, MayPlace};
 ghost use Rattle.plan_work.specs.OneWorker.{SeesTextbook, WorksAlone};
 ghost use Rattle.plan_work.specs.WholeShares.{IsBestHanging, IsFilledWhole, IsSteeredWhole, IsTriedWhole};
 ghost use Rattle.step_core.specs.Views.{sees, share, tree_seen};
@@ -105,7 +105,7 @@ pub(crate) fn place_rewire_and_record<C: Clearing>(
     ensures nearest { result.nearest ≡ steering.nearest }
     // of the time since any moment after which the near list was filled
     ensures ended { (first : PassState) → IsFilledSince shared.now first pass.old steering.point class
-        → EndsAsSeen first.view pass.new.view k result steering.point result.outcome }
+        → EndsWritten first.view pass.new.view k result steering.point result.outcome }
     // a pass that works alone does so as in the textbook
     ensures textbook { IsSteeredWhole pass.old.view k steering.nearest steering.point
         → IsFilledWhole pass.old.view steering.point class pass.old.near

@@ -93,7 +93,7 @@ static WALL: [Vertex; 4] = [
 
 /// The wall, which is the only obstacle.
 fn wall<R: Abort>(rt: &R, alloc: Global) -> Polys
-    ensures { IsTrue (are_obstacles result) }
+    ensures { IsTrue (are_obstacles 1 result) }
 {
     let obstacle = sure(rt, list_of(alloc, &WALL));
     sure(rt, only(alloc, obstacle))
@@ -101,7 +101,7 @@ fn wall<R: Abort>(rt: &R, alloc: Global) -> Polys
 
 /// The scene of these marks for a point body in a room of 100 by 100, with the wall.
 fn walled_scene<R: Abort>(rt: &R, alloc: Global, marks: &[Point]) -> Scene
-    requires { IsTrue (is_plan (Listed marks.now)) }
+    requires { IsTrue (is_plan 1 (Listed marks.now)) }
     ensures { result.plan ≡ Listed marks.now }
 {
     let body = sure(rt, list_of(alloc, &BODY));
@@ -119,12 +119,12 @@ fn walled_scene<R: Abort>(rt: &R, alloc: Global, marks: &[Point]) -> Scene
         seed: 0,
         strips: 1,
     };
-    small.scene(body, obstacles, plan)
+    sure(rt, small.scene(alloc, body, obstacles, plan))
 }
 
 /// The task of these marks in that scene.
 fn walled_task<R: Abort>(rt: &R, alloc: Global, marks: &[Point]) -> Task
-    requires { IsTrue (is_plan (Listed marks.now)) }
+    requires { IsTrue (is_plan 1 (Listed marks.now)) }
     ensures { result.marks ≡ marks.now }
 {
     let scene = walled_scene(rt, alloc, marks);
@@ -136,6 +136,7 @@ fn walled_task<R: Abort>(rt: &R, alloc: Global, marks: &[Point]) -> Task
 fn assert_start_clear<R: Abort>(rt: &R, alloc: Global, scene: &Scene)
     ensures { ClearAt (space_of scene.now) scene.now.start }
 {
+    assert!(rt; scene.clearance == 0);
     let hall = sure(rt, Hall::new(alloc, scene));
     assert!(rt; hall.clear_at(scene.start));
     drop(hall);
@@ -143,7 +144,7 @@ fn assert_start_clear<R: Abort>(rt: &R, alloc: Global, scene: &Scene)
 
 /// The task of these marks in the room with the wall, where its start is clear.
 fn task_by_wall<R: Abort>(rt: &R, alloc: Global, marks: &[Point]) -> Task
-    requires { IsTrue (is_plan (Listed marks.now)) }
+    requires { IsTrue (is_plan 1 (Listed marks.now)) }
     ensures clear { ClearAt (space_of result.scene) result.scene.start }
     ensures marks { result.marks ≡ marks.now }
 {

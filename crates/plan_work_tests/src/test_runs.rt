@@ -42,7 +42,7 @@ pub(crate) fn some<R: Abort, T>(rt: &R, found: Option<T>) -> T
 /// The task of these marks for a point body in an empty room of 100 by 100, from its lower left corner by steps of 50, and with a
 /// gamma by which all nodes are near.
 pub(crate) fn small_task<R: Abort>(rt: &R, alloc: Global, marks: &[Point]) -> Task
-    requires { IsTrue (is_plan (Listed marks.now)) }
+    requires { IsTrue (is_plan 1 (Listed marks.now)) }
     ensures clear { ClearAt (space_of result.scene) result.scene.start }
     ensures marks { result.marks ≡ marks.now }
 {
@@ -58,7 +58,7 @@ pub(crate) fn task_to<R: Abort>(
     gamma: u32,
     marks: &[Point],
 ) -> Task
-    requires plan { IsTrue (is_plan (Listed marks.now)) }
+    requires plan { IsTrue (is_plan 1 (Listed marks.now)) }
     requires goal { (goal.x ≤ 100) × (goal.y ≤ 100) }
     requires gamma { gamma ≤ 1000 }
     ensures clear { ClearAt (space_of result.scene) result.scene.start }

@@ -13,6 +13,7 @@ use Rattle.plan_model.specs.RoomOfConfigurations.{at_lattice, moved_by, IsBetwee
 use Rattle.plan_model.specs.declared.configuration_spaces.ConfigurationSpace.{ConfigurationSpace}
 use Rattle.plan_model.specs.ConfigurationSpace.{space_among}
 use Rattle.plan_model.specs.Clearance.{ClearAt}
+use Rattle.plan_model.proofs.MeetingLaws.{SharesPoint-meets}
 use Rattle.planner_main.specs.GeneratedScenes.{lattice_corner, square_at, triangle_at, place_in_cell}
 use Rattle.planner_main.specs.GeneratedScenes.{side_by, obstacle_by, generated_obstacle, generated_obstacles}
 
@@ -51,8 +52,9 @@ weighted_at_most n (w ∷ ws) (c ∷ cs) l h =
 
 -- a body that ends before the obstacle begins does not meet it
 not_met : (p : Point) (reach begin : ℕ) (body obstacle : List Vertex) → All (λ v. v.x ≤ℤ pos reach) body
-    → All (λ v. pos begin ≤ℤ v.x) obstacle → p.x + reach < begin → ¬ Meets body (at_lattice p) obstacle
-not_met p reach begin body obstacle left right apart m =
+    → All (λ v. pos begin ≤ℤ v.x) obstacle → p.x + reach < begin → ¬ Meets 0 body (at_lattice p) obstacle
+not_met p reach begin body obstacle left right apart meets =
+    let m = SharesPoint-meets body obstacle (at_lattice p) meets in
     let some = m.some_weight in
     let low = rw m.obstacle_total at (weighted_at_least begin m.on_obstacle obstacle m.obstacle_corners right) in
     let high = rw m.body_total at (weighted_at_most reach m.on_body body m.body_corners left) in
@@ -128,6 +130,6 @@ start_in_room number = record {
 pub ClearAt-start : (number : ℕ) → ClearAt (space number) start
 ClearAt-start number = record {
   in_room = start_in_room number;
-  meets_none = All-map (λ obstacle. ¬ Meets body (at_lattice start) obstacle) (generated_obstacle number) (range_with_len 0 64)
+  meets_none = All-map (λ obstacle. ¬ Meets 0 body (at_lattice start) obstacle) (generated_obstacle number) (range_with_len 0 64)
       (λ k d l. not_met start 20 200 body _ body_left (obstacle_right _ _ _) (omega arith));
 }

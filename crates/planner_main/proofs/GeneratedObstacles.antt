@@ -70,7 +70,7 @@ record IsPlaced (at : Point) (side : ℕ) : Type 0 where
 in_range : (x y : ℕ) → x ≤ 9999 → y ≤ 9999 → is_corner_between LEAST_OBSTACLE_COORDINATE MOST_OBSTACLE_COORDINATE (lattice_corner x y) ≡ true
 in_range x y f g = grind (arith, ints)
 
-is_obstacle-square : (at : Point) (side : ℕ) → IsPlaced at side → is_obstacle (square_at at side) ≡ true
+is_obstacle-square : (at : Point) (side : ℕ) → IsPlaced at side → is_obstacle 1 (square_at at side) ≡ true
 is_obstacle-square at side h =
     let right = h.right in
     let top = h.top in
@@ -82,7 +82,7 @@ is_obstacle-square at side h =
       in_range at.x (at.y + side) (omega arith) (omega arith),
     ) refl
 
-is_obstacle-triangle : (at : Point) (side : ℕ) → IsPlaced at side → is_obstacle (triangle_at at side) ≡ true
+is_obstacle-triangle : (at : Point) (side : ℕ) → IsPlaced at side → is_obstacle 1 (triangle_at at side) ≡ true
 is_obstacle-triangle at side h =
     let right = h.right in
     let top = h.top in
@@ -102,23 +102,23 @@ IsPlaced-in_cell cell u v few =
     let y : cell / 8 < 8 = omega (arith, div-add-mod' cell 8, x) in
     record { right = omega arith; top = omega arith; some = omega arith }
 
-is_obstacle-by : (cell u v : ℕ) → cell < 64 → is_obstacle (obstacle_by cell u v) ≡ true
+is_obstacle-by : (cell u v : ℕ) → cell < 64 → is_obstacle 1 (obstacle_by cell u v) ≡ true
 is_obstacle-by cell u v few = by (cell % 2 == 0) refl
   where
     placed : IsPlaced (place_in_cell cell u v) (side_by u)
     placed = IsPlaced-in_cell cell u v few
 
-    by : (even : Bool) → (cell % 2 == 0) ≡ even → is_obstacle (obstacle_by cell u v) ≡ true
+    by : (even : Bool) → (cell % 2 == 0) ≡ even → is_obstacle 1 (obstacle_by cell u v) ≡ true
     by true e = rw e (is_obstacle-square (place_in_cell cell u v) (side_by u) placed)
     by false e = rw e (is_obstacle-triangle (place_in_cell cell u v) (side_by u) placed)
 
-are_obstacles-numbered : (f : ℕ → List Vertex) (n : ℕ) → n ≤ MOST_OBSTACLES → ((k : ℕ) → k < n → is_obstacle (f k) ≡ true) →
-    are_obstacles (map f (range_with_len 0 n)) ≡ true
+are_obstacles-numbered : (f : ℕ → List Vertex) (n : ℕ) → n ≤ MOST_OBSTACLES → ((k : ℕ) → k < n → is_obstacle 1 (f k) ≡ true) →
+    are_obstacles 1 (map f (range_with_len 0 n)) ≡ true
 are_obstacles-numbered f n few h =
     let long = length-map-range_with_len f 0 n in
-    and_from (nat_le (length (map f (range_with_len 0 n))) MOST_OBSTACLES) (list_all is_obstacle (map f (range_with_len 0 n)))
-    (rw long (grind arith)) (list_all-map is_obstacle f (range_with_len 0 n) ∙ true_of_below (λ k. is_obstacle (f k)) n h)
+    and_from (nat_le (length (map f (range_with_len 0 n))) MOST_OBSTACLES) (list_all (is_obstacle 1) (map f (range_with_len 0 n)))
+    (rw long (grind arith)) (list_all-map (is_obstacle 1) f (range_with_len 0 n) ∙ true_of_below (λ k. is_obstacle 1 (f k)) n h)
 
-pub are_obstacles-generated : (number : ℕ) → IsTrue (are_obstacles (generated_obstacles number))
+pub are_obstacles-generated : (number : ℕ) → IsTrue (are_obstacles 1 (generated_obstacles number))
 are_obstacles-generated number =
     are_obstacles-numbered (generated_obstacle number) 64 (omega arith) (λ cell few. is_obstacle-by cell _ _ few)

@@ -1,4 +1,5 @@
 pub mod Causes
+pub mod ReadClearances
 pub mod DecidedStatuses
 pub mod Successes
 pub mod GivenAnswers

@@ -1,7 +1,6 @@
 -- What the program may answer: a success with its text, or a refusal with its cause and its line.
 use Rattle.std.specs.Prelude.{◌≡◌, ℕ, ◌<◌, ◌⊎◌, Bool, true, false, IsTrue, MatchBool, List, length}
 use Rattle.std.specs.Prelude.{Option, Some, None, is_some, IsSome, IsSomeAnd, Result, IfOk, IfErr}
-use Rattle.plan_model.specs.declared.geometry.Goal.{Goal}
 use Rattle.plan_model.specs.declared.records.Record.{Record}
 use Rattle.plan_model.specs.declared.scenes.Scene.{Scene}
 use Rattle.plan_model.specs.ConfigurationSpace.{space_of}
@@ -40,9 +39,9 @@ abbrev pub status_of_report : Bool → ℕ
 status_of_report true = DONE
 status_of_report false = NO_PATH
 
--- how the goals of a scene, and the tree and the records of its run over so many marks, become a text
+-- how a scene, and the tree and the records of its run over so many marks, become a text
 abbrev pub Report : Type 0
-Report = List Goal → ℕ → TreeState → List ℕ
+Report = Scene → ℕ → TreeState → List ℕ
 
 -- The run is of the scene, and of all its marks: it is closed at their number and settled. It is in what is done, the status
 -- says whether some node of it lies in a goal, and the text is such a report of it.
@@ -53,7 +52,7 @@ pub record ReportsGrown (report : Report) (scene : Scene) (grown : Grown) (done 
   pub closed : IsClosed (setup_of scene) (mark_points scene) (length (mark_points scene)) (state_of_grown grown)
   pub settled : IsSettled (state_of_grown grown)
   pub best : done.status ≡ status_of_report (is_some (best_node (goals_of scene) grown.limit (state_of_grown grown)))
-  pub written : text ≡ report (goals_of scene) grown.limit (state_of_grown grown)
+  pub written : text ≡ report scene grown.limit (state_of_grown grown)
 
 -- There is a run that is such a one and the textbook run of the scene.
 pub record ReportsScene (report : Report) (scene : Scene) (done : Done) (text : List ℕ) : Type 0 where

@@ -1,7 +1,8 @@
 -- Generated scenes: one for each number. A square room is cut into eight columns and eight rows of cells, each with one
 -- obstacle: a square or a right triangle, whose place in its cell and whose side are drawn.
-use Rattle.std.specs.Prelude.{◌≡◌, ℕ, ◌+◌, ◌*◌, ◌/◌, ◌%◌, ◌==◌, pos, List, [], ◌∷◌, map, if◌then◌else◌}
+use Rattle.std.specs.Prelude.{◌≡◌, ℕ, ◌+◌, ◌*◌, ◌/◌, ◌%◌, ◌==◌, false, pos, List, [], ◌∷◌, map, if◌then◌else◌}
 use Rattle.std.specs.List.{range_with_len}
+use Rattle.plan_model.specs.declared.geometry.Goal.{Goal}
 use Rattle.plan_model.specs.declared.geometry.Point.{Point}
 use Rattle.plan_model.specs.declared.geometry.Vertex.{Vertex}
 use Rattle.plan_model.specs.declared.scenes.Scene.{Scene}
@@ -53,16 +54,22 @@ generated_obstacle number cell =
 abbrev pub generated_obstacles : ℕ → List (List Vertex)
 generated_obstacles number = map (generated_obstacle number) (range_with_len 0 64)
 
+-- the goal of each scene
+abbrev pub generated_goals : List Goal
+generated_goals = record { low = record { x = 9700; y = 9700 }; high = record { x = 9900; y = 9900 } } ∷ []
+
 -- the scene of this number
 pub record IsGenerated (number : ℕ) (scene : Scene) : Type 0 where
   pub version : scene.version ≡ 1
   pub room : scene.room ≡ record { x = 9999; y = 9999 }
   pub body : scene.body ≡ square_at (record { x = 0; y = 0 }) 20
   pub obstacles : scene.obstacles ≡ generated_obstacles number
+  pub clearance : scene.clearance ≡ 0
   pub start : scene.start ≡ record { x = 100; y = 100 }
-  pub goal : scene.goal ≡ record { low = record { x = 9700; y = 9700 }; high = record { x = 9900; y = 9900 } }
+  pub goals : scene.goals ≡ generated_goals
   pub step : scene.step ≡ 400
   pub gamma : scene.gamma ≡ 6900
   pub seed : scene.seed ≡ number
   pub strips : scene.strips ≡ 8
+  pub informed : scene.informed ≡ false
   pub plan : scene.plan ≡ Drawn (2000 * (1 + number % 10))

@@ -137,6 +137,8 @@ fn scene_for<S: Source>(alloc: Global, command: Command, source: &mut S) -> Resu
     requires reads { input_of command ≡ one_scene }
     requires unended { (S.state source.old).has_ended ≡ false }
     ensures scene { IfOk result (HasScene (S.state source.old) (S.state source.new)) }
+    ensures version { IfOk result (λ scene. scene.version ≡ 1) }
+    ensures clearance { IfOk result (λ scene. scene.clearance ≡ 0) }
     ensures refusal { IfErr result (IsCaused (Some command) (S.state source.old) (S.state source.new)) }
     ensures within { ReadsWithin (S.state source.old).bytes_left (S.state source.new).bytes_left }
 {
@@ -147,6 +149,7 @@ fn scene_for<S: Source>(alloc: Global, command: Command, source: &mut S) -> Resu
 
 /// The collision checker of a scene that is to be planned, so one whose start is clear.
 fn hall_for(alloc: Global, scene: &Scene) -> Result<Boxes, Refusal>
+    requires { scene.now.clearance ≡ 0 }
     ensures hall { IfOk result (λ hall. hall ≡ space_of scene.now) }
     ensures start { IfOk result (λ hall. ClearAt (space_of scene.now) scene.now.start) }
     ensures refusal { IfErr result (λ refusal. (refusal ≡ Refusal.Memory)
@@ -262,6 +265,7 @@ fn generate(alloc: Global, number: u32) -> Result<Answer, Memory>
 
 /// The collision checker of a scene.
 fn boxes_of(alloc: Global, scene: &Scene) -> Result<Boxes, Memory>
+    requires { scene.now.clearance ≡ 0 }
     ensures { IfOk result (λ boxes. boxes ≡ space_of scene.now) }
 {
     Boxes::new(alloc, Hall::new(alloc, scene)?)

@@ -12,7 +12,7 @@ ghost use Rattle.plan_model.specs.Clearance.{ClearAt};
 ghost use Rattle.plan_model.specs.ConfigurationSpace.{space_of};
 ghost use Rattle.planner_main.specs.GeneratedScenes as spec;
 
-use plan_model::{Goal, Marks, Memory, Point, Poly, Polys, Scene, Vertex};
+use plan_model::{Goal, Goals, Marks, Memory, Point, Poly, Polys, Scene, Vertex};
 use std::alloc::Global;
 use strip_sampler::drawn_words;
 
@@ -27,7 +27,7 @@ const CELLS: u32 = 64;
 ///
 /// # Errors
 ///
-/// `Memory` if out of memory for the obstacles or the body.
+/// `Memory` if out of memory for the obstacles, the body or the goal.
 pub fn gen_scene(alloc: Global, number: u32) -> Result<Scene, Memory>
     requires { number ≤ MOST_GENERATED }
     ensures scene { IfOk result (spec.IsGenerated number) }
@@ -38,17 +38,27 @@ pub fn gen_scene(alloc: Global, number: u32) -> Result<Scene, Memory>
         room: Point { x: 9_999, y: 9_999 },
         body: square_at(alloc, Point { x: 0, y: 0 }, 20)?,
         obstacles: obstacles(alloc, number)?,
+        clearance: 0,
         start: Point { x: 100, y: 100 },
-        goal: Goal {
-            low: Point { x: 9_700, y: 9_700 },
-            high: Point { x: 9_900, y: 9_900 },
-        },
+        goals: goals(alloc)?,
         step: 400,
         gamma: 6_900,
         seed: u64::from(number),
         strips: 8,
+        informed: false,
         plan: Marks::Drawn(2_000 * (1 + number % 10)),
     })
+}
+
+/// The goal of each generated scene.
+fn goals(alloc: Global) -> Result<Goals, Memory>
+    ensures { IfOk result (λ goals. goals ≡ spec.generated_goals) }
+{
+    let goal = Goal {
+        low: Point { x: 9_700, y: 9_700 },
+        high: Point { x: 9_900, y: 9_900 },
+    };
+    Ok(Goals::from_vec(vec![in alloc; goal]?))
 }
 
 /// The obstacles of a generated scene, one in each cell.

@@ -1,5 +1,6 @@
 -- The canonical text of a scene is not longer than a text may be.
-use Rattle.std.proofs.Common.{◌≡◌, ℕ, ◌+◌, ◌*◌, ◌≤◌, true, leb, suc, ℤ, pos, negsuc, List, [], ◌∷◌, ◌++◌, length, map, sym, ap, ◌∙◌, subst, arith}
+use Rattle.std.proofs.Common.{◌≡◌, ℕ, ◌+◌, ◌*◌, ◌≤◌, Bool, true, false, cond, eqb, leb, suc, ℤ, pos, negsuc, List, [], ◌∷◌, ◌++◌, length, map, refl}
+use Rattle.std.proofs.Common.{sym, ap, ◌∙◌, subst, arith}
 use Rattle.std.specs.Fmt.{signed_decimal}
 use Rattle.std.specs.List.{list_all, flat_map}
 use Rattle.std.proofs.lemmas.Bool.Decides.{nat_tests}
@@ -7,6 +8,7 @@ use Rattle.std.proofs.lemmas.Fmt.{length-decimal-le}
 use Rattle.std.proofs.lemmas.Grind.{flat_map-append}
 use Rattle.std.proofs.lemmas.List.{length-append}
 use Rattle.std.proofs.lemmas.Bool.{and_parts}
+use Rattle.plan_model.specs.declared.geometry.Goal.{Goal}
 use Rattle.plan_model.specs.declared.geometry.Point.{Point}
 use Rattle.plan_model.specs.declared.geometry.Vertex.{Vertex}
 use Rattle.plan_model.specs.declared.scenes.Scene.{Scene}
@@ -14,17 +16,20 @@ use Rattle.plan_model.specs.declared.scenes.Marks.{Marks}
 use Rattle.plan_model.specs.declared.scenes.Marks.TheVariants.{Drawn, Listed}
 use Rattle.plan_model.specs.declared.text_terms.Key.{Key}
 use Rattle.plan_model.specs.declared.text_terms.Key.TheVariants as keys
-use Rattle.plan_model.specs.declared.limits.TheConstants.{MOST_BODY_CORNERS, MOST_MARKS, MOST_OBSTACLE_CORNERS, MOST_OBSTACLES, MOST_TEXT_BYTES}
-use Rattle.plan_model.specs.Limits.{is_obstacle, is_mark, is_plan}
+use Rattle.plan_model.specs.declared.limits.TheConstants.{MOST_BODY_CORNERS, MOST_GOALS, MOST_MARKS, MOST_OBSTACLE_CORNERS, MOST_OBSTACLES}
+use Rattle.plan_model.specs.declared.limits.TheConstants.{MOST_TEXT_BYTES}
+use Rattle.plan_model.specs.Limits.{is_goal, is_obstacle, is_mark, is_plan}
 use Rattle.plan_model.specs.ReportText.{line}
-use Rattle.plan_model.specs.Keys.{name_of}
-use Rattle.plan_model.specs.CanonicalText.{point_numbers, goal_numbers, corner_numbers, statement, version_statement, obstacle_statement, mark_statement}
-use Rattle.plan_model.specs.CanonicalText.{plan_statements, task_statements, canonical_text}
+use Rattle.plan_model.specs.Keys.{format_name, version_word, name_of}
+use Rattle.plan_model.specs.CanonicalText.{point_numbers, goal_numbers, corner_numbers, statement, version_statement, obstacle_statement, goal_statement}
+use Rattle.plan_model.specs.CanonicalText.{mark_statement, clearance_statements, informed_statements, plan_statements, search_statements, task_statements}
+use Rattle.plan_model.specs.CanonicalText.{canonical_text}
 use Rattle.scene_text.proofs.TextLemmas.{line-spaced}
 use Rattle.scene_text.proofs.DecimalWords.{IsShort}
 use Rattle.scene_text.proofs.CanonicalWords.{IsFit, AreShort, short-ranged}
-use Rattle.scene_text.proofs.CanonicalNumbers.{fit-room, fit-body, few-body, fit-obstacle, small-obstacle, fit-start, fit-goal, fit-step, fit-gamma}
-use Rattle.scene_text.proofs.CanonicalNumbers.{fit-seed, fit-strips, fit-marks, fit-mark}
+use Rattle.scene_text.proofs.CanonicalNumbers.{fit-room, fit-body, few-body, fit-obstacle, small-obstacle, fit-clearance, fit-start, fit-goal, fit-step}
+use Rattle.scene_text.proofs.CanonicalNumbers.{fit-gamma, fit-seed, fit-strips, fit-informed, fit-marks, fit-mark}
+use Rattle.scene_text.proofs.CanonicalFaults.{goals-within}
 
 -- ---- one line
 
@@ -41,27 +46,30 @@ length-spaced (z ∷ zs) h =
     let both_parts = length-append (32 ∷ signed_decimal z) (flat_map (λ y. 32 ∷ signed_decimal y) zs) in
     omega arith
 
--- the longest key is `obstacle`
-length-name : (key : Key) → length (name_of key) ≤ 8
+-- the longest key is `clearance`
+length-name : (key : Key) → length (name_of key) ≤ 9
 length-name keys.Room = omega arith
 length-name keys.Body = omega arith
 length-name keys.Obstacle = omega arith
+length-name keys.Clearance = omega arith
 length-name keys.Start = omega arith
 length-name keys.Goal = omega arith
 length-name keys.Step = omega arith
 length-name keys.Gamma = omega arith
 length-name keys.Seed = omega arith
 length-name keys.Strips = omega arith
+length-name keys.Informed = omega arith
 length-name keys.Marks = omega arith
 length-name keys.Mark = omega arith
 
-length-line : (key : Key) (zs : List ℤ) → IsFit key zs → length (line (statement key zs)) ≤ length (name_of key) + 22 * length zs + 1
-length-line key zs fit =
+length-line : (version : ℕ) (key : Key) (zs : List ℤ) → IsFit version key zs
+    → length (line (statement key zs)) ≤ length (name_of key) + 22 * length zs + 1
+length-line version key zs fit =
     let spaced = flat_map (λ z. 32 ∷ signed_decimal z) zs in
     let pieces = ap length (line-spaced (name_of key) zs) in
     let outer = length-append (name_of key) (spaced ++ 10 ∷ []) in
     let inner = length-append spaced (10 ∷ []) in
-    let numbers = length-spaced zs (short-ranged key zs fit.ranged) in
+    let numbers = length-spaced zs (short-ranged version key zs fit.ranged) in
     omega arith
 
 -- ---- several lines
@@ -73,89 +81,138 @@ length-more words statements = length-append (line words) (flat_map line stateme
 length-both : (xs ys : List (List (List ℕ))) → length (flat_map line (xs ++ ys)) ≡ length (flat_map line xs) + length (flat_map line ys)
 length-both xs ys = ap length (flat_map-append line xs ys) ∙ length-append (flat_map line xs) (flat_map line ys)
 
-length-obstacles : (obstacles : List (List Vertex)) → list_all is_obstacle obstacles ≡ true
-    → length (flat_map line (map obstacle_statement obstacles)) ≤ 2825 * length obstacles
-length-obstacles [] h = omega arith
-length-obstacles (corners ∷ obstacles) h =
-    let parts = and_parts (is_obstacle corners) (list_all is_obstacle obstacles) h in
-    let few = small-obstacle corners parts.0 in
+length-obstacles : (version : ℕ) (obstacles : List (List Vertex)) → list_all (is_obstacle version) obstacles ≡ true
+    → length (flat_map line (map obstacle_statement obstacles)) ≤ 2826 * length obstacles
+length-obstacles version [] h = omega arith
+length-obstacles version (corners ∷ obstacles) h =
+    let parts = and_parts (is_obstacle version corners) (list_all (is_obstacle version) obstacles) h in
+    let few = small-obstacle version corners parts.0 in
     let count : length (corner_numbers corners) ≤ 2 * MOST_OBSTACLE_CORNERS = grind (arith, nat_tests) in
-    let here = length-line keys.Obstacle (corner_numbers corners) (fit-obstacle corners parts.0) in
+    let here = length-line version keys.Obstacle (corner_numbers corners) (fit-obstacle version corners parts.0) in
     let name = length-name keys.Obstacle in
-    let rest = length-obstacles obstacles parts.1 in
+    let rest = length-obstacles version obstacles parts.1 in
     let more = length-more (obstacle_statement corners) (map obstacle_statement obstacles) in
     omega arith
 
-length-marks : (points : List Point) → list_all is_mark points ≡ true → length (flat_map line (map mark_statement points)) ≤ 49 * length points
-length-marks [] h = omega arith
-length-marks (p ∷ points) h =
-    let parts = and_parts (is_mark p) (list_all is_mark points) h in
-    let here = length-line keys.Mark (point_numbers p) (fit-mark p parts.0) in
-    let rest = length-marks points parts.1 in
+length-goals : (version : ℕ) (goals : List Goal) → list_all (is_goal version) goals ≡ true
+    → length (flat_map line (map goal_statement goals)) ≤ 98 * length goals
+length-goals version [] h = omega arith
+length-goals version (goal ∷ goals) h =
+    let parts = and_parts (is_goal version goal) (list_all (is_goal version) goals) h in
+    let here = length-line version keys.Goal (goal_numbers goal) (fit-goal version goal parts.0) in
+    let name = length-name keys.Goal in
+    let rest = length-goals version goals parts.1 in
+    let more = length-more (goal_statement goal) (map goal_statement goals) in
+    omega arith
+
+length-marks : (version : ℕ) (points : List Point) → list_all (is_mark version) points ≡ true
+    → length (flat_map line (map mark_statement points)) ≤ 49 * length points
+length-marks version [] h = omega arith
+length-marks version (p ∷ points) h =
+    let parts = and_parts (is_mark version p) (list_all (is_mark version) points) h in
+    let here = length-line version keys.Mark (point_numbers p) (fit-mark version p parts.0) in
+    let rest = length-marks version points parts.1 in
     let more = length-more (mark_statement p) (map mark_statement points) in
     omega arith
 
-length-plan : (plan : Marks) → is_plan plan ≡ true → length (flat_map line (plan_statements plan)) ≤ 49 * MOST_MARKS
-length-plan (Drawn n) h =
-    let here = length-line keys.Marks (pos n ∷ []) (fit-marks n h) in
+length-plan : (version : ℕ) (plan : Marks) → is_plan version plan ≡ true → length (flat_map line (plan_statements plan)) ≤ 49 * MOST_MARKS
+length-plan version (Drawn n) h =
+    let here = length-line version keys.Marks (pos n ∷ []) (fit-marks version n h) in
     let more = length-more (statement keys.Marks (pos n ∷ [])) [] in
     omega arith
-length-plan (Listed points) h =
-    let parts = and_parts (leb (length points) MOST_MARKS) (list_all is_mark points) h in
+length-plan version (Listed points) h =
+    let parts = and_parts (leb (length points) MOST_MARKS) (list_all (is_mark version) points) h in
     let few : length points ≤ MOST_MARKS = grind (arith, nat_tests) in
-    let lines = length-marks points parts.1 in
+    let lines = length-marks version points parts.1 in
     omega arith
 
 -- ---- the whole text
 
 -- one more line
-length-once : (key : Key) (zs : List ℤ) (statements : List (List (List ℕ))) (most : ℕ) → IsFit key zs → length (flat_map line statements) ≤ most
-    → length (flat_map line (statement key zs ∷ statements)) ≤ 9 + 22 * length zs + most
-length-once key zs statements most fit rest =
+length-once : (version : ℕ) (key : Key) (zs : List ℤ) (statements : List (List (List ℕ))) (most : ℕ) → IsFit version key zs
+    → length (flat_map line statements) ≤ most → length (flat_map line (statement key zs ∷ statements)) ≤ 10 + 22 * length zs + most
+length-once version key zs statements most fit rest =
     let name = length-name key in
-    let here = length-line key zs fit in
+    let here = length-line version key zs fit in
     let more = length-more (statement key zs) statements in
     omega arith
 
-length-task : (scene : Scene) → length (flat_map line (task_statements scene)) ≤ 300
+length-informed : (informed : Bool) → length (flat_map line (informed_statements informed)) ≤ 32
+length-informed true = length-once 2 keys.Informed (pos 1 ∷ []) [] 0 (fit-informed 2 refl) (omega arith)
+length-informed false = omega arith
+
+length-clearance : (scene : Scene) → length (flat_map line (clearance_statements scene)) ≤ 32
+length-clearance scene = by (eqb scene.version 1)
+  where
+    by : (first : Bool) → length (flat_map line (cond first [] (statement keys.Clearance (pos scene.clearance ∷ []) ∷ []))) ≤ 32
+    by true = omega arith
+    by false =
+        length-once scene.version keys.Clearance (pos scene.clearance ∷ []) [] 0 (fit-clearance scene.version scene.clearance scene.clearance_high)
+        (omega arith)
+
+length-search : (scene : Scene) → length (flat_map line (search_statements scene)) ≤ 160
+length-search scene =
+    let version = scene.version in
+    let last = informed_statements scene.informed in
+    let fourth = statement keys.Strips (pos scene.strips ∷ []) ∷ last in
+    let third = statement keys.Seed (pos scene.seed ∷ []) ∷ fourth in
+    let second = statement keys.Gamma (pos scene.gamma ∷ []) ∷ third in
+    let strips = length-once version keys.Strips (pos scene.strips ∷ []) last _ (fit-strips version scene.strips scene.strips_low scene.strips_high)
+    (length-informed scene.informed) in
+    let seed = length-once version keys.Seed (pos scene.seed ∷ []) fourth _ (fit-seed version scene.seed scene.seed_high) strips in
+    let gamma = length-once version keys.Gamma (pos scene.gamma ∷ []) third _ (fit-gamma version scene.gamma scene.gamma_high) seed in
+    let step = length-once version keys.Step (pos scene.step ∷ []) second _ (fit-step version scene.step scene.step_low scene.step_high) gamma in
+    omega (arith, step)
+
+few-goals : (first : Bool) (n : ℕ) → n ≤ cond first 1 MOST_GOALS → n ≤ MOST_GOALS
+few-goals true n h = omega arith
+few-goals false n h = h
+
+length-task : (scene : Scene) → length (flat_map line (task_statements scene)) ≤ 2000
 length-task scene =
-    let last = statement keys.Strips (pos scene.strips ∷ []) ∷ [] in
-    let fifth = statement keys.Seed (pos scene.seed ∷ []) ∷ last in
-    let fourth = statement keys.Gamma (pos scene.gamma ∷ []) ∷ fifth in
-    let third = statement keys.Step (pos scene.step ∷ []) ∷ fourth in
-    let second = statement keys.Goal (goal_numbers scene.goal) ∷ third in
-    let strips = length-once keys.Strips (pos scene.strips ∷ []) [] 0 (fit-strips scene.strips scene.strips_low scene.strips_high) (omega arith) in
-    let seed = length-once keys.Seed (pos scene.seed ∷ []) last _ (fit-seed scene.seed scene.seed_high) strips in
-    let gamma = length-once keys.Gamma (pos scene.gamma ∷ []) fifth _ (fit-gamma scene.gamma scene.gamma_high) seed in
-    let step = length-once keys.Step (pos scene.step ∷ []) fourth _ (fit-step scene.step scene.step_low scene.step_high) gamma in
-    let goal = length-once keys.Goal (goal_numbers scene.goal) third _ (fit-goal scene.goal scene.goal_within) step in
-    let start = length-once keys.Start (point_numbers scene.start) second _ (fit-start scene.start scene.start_within) goal in
+    let within = goals-within scene in
+    let few = few-goals (eqb scene.version 1) (length scene.goals) within.0 in
+    let goals = length-goals scene.version scene.goals within.1 in
+    let search = length-search scene in
+    let both_parts = length-both (map goal_statement scene.goals) (search_statements scene) in
+    let start = length-once scene.version keys.Start (point_numbers scene.start) (map goal_statement scene.goals ++ search_statements scene) 1800
+    (fit-start scene.version scene.start scene.start_within) (omega arith) in
     omega (arith, start)
 
 -- the lines after the body
-length-after : (scene : Scene) → length (flat_map line (map obstacle_statement scene.obstacles ++ (task_statements scene ++ plan_statements scene.plan)))
-    ≤ 2825 * MOST_OBSTACLES + (300 + 49 * MOST_MARKS)
+length-after : (scene : Scene)
+    → length (flat_map line (map obstacle_statement scene.obstacles ++ (clearance_statements scene ++ (task_statements scene ++ plan_statements scene.plan))))
+    ≤ 2826 * MOST_OBSTACLES + (2032 + 49 * MOST_MARKS)
 length-after scene =
-    let parts = and_parts (leb (length scene.obstacles) MOST_OBSTACLES) (list_all is_obstacle scene.obstacles) scene.obstacles_within in
+    let late = task_statements scene ++ plan_statements scene.plan in
+    let parts = and_parts (leb (length scene.obstacles) MOST_OBSTACLES) (list_all (is_obstacle scene.version) scene.obstacles) scene.obstacles_within in
     let few : length scene.obstacles ≤ MOST_OBSTACLES = grind (arith, nat_tests) in
-    let obstacles = length-obstacles scene.obstacles parts.1 in
+    let obstacles = length-obstacles scene.version scene.obstacles parts.1 in
+    let clearance = length-clearance scene in
     let task = length-task scene in
-    let plan = length-plan scene.plan scene.plan_within in
-    let outer = length-both (map obstacle_statement scene.obstacles) (task_statements scene ++ plan_statements scene.plan) in
+    let plan = length-plan scene.version scene.plan scene.plan_within in
+    let outer = length-both (map obstacle_statement scene.obstacles) (clearance_statements scene ++ late) in
+    let middle = length-both (clearance_statements scene) late in
     let inner = length-both (task_statements scene) (plan_statements scene.plan) in
     omega arith
+
+length-version : (first : Bool) → length (line (format_name ∷ cond first (version_word 1) (version_word 2) ∷ [])) ≤ 7
+length-version true = omega arith
+length-version false = omega arith
 
 -- the text is not too long
 pub length-canonical : (scene : Scene) → length (canonical_text scene) ≤ MOST_TEXT_BYTES
 length-canonical scene =
     let few = few-body scene.body scene.body_within in
     let count : length (corner_numbers scene.body) ≤ 2 * MOST_BODY_CORNERS = grind (arith, nat_tests) in
-    let after = map obstacle_statement scene.obstacles ++ (task_statements scene ++ plan_statements scene.plan) in
+    let after = map obstacle_statement scene.obstacles ++ (clearance_statements scene ++ (task_statements scene ++ plan_statements scene.plan)) in
     let below = statement keys.Body (corner_numbers scene.body) ∷ after in
-    let body = length-once keys.Body (corner_numbers scene.body) after _ (fit-body scene.body scene.body_within) (length-after scene) in
-    let room = length-once keys.Room (point_numbers scene.room) below _ (fit-room scene.room scene.room_within) body in
-    let version = length-more version_statement (statement keys.Room (point_numbers scene.room) ∷ below) in
-    omega (arith, room, version)
+    let body = length-once scene.version keys.Body (corner_numbers scene.body) after _ (fit-body scene.version scene.body scene.body_within)
+    (length-after scene) in
+    let room = length-once scene.version keys.Room (point_numbers scene.room) below _ (fit-room scene.version scene.room scene.room_within) body in
+    let version = length-more (version_statement scene.version) (statement keys.Room (point_numbers scene.room) ∷ below) in
+    let short = length-version (eqb scene.version 1) in
+    omega (arith, room, version, short)
 
 -- a text that is the canonical one is not too long
 pub length-written : (scene : Scene) (text : List ℕ) → text ≡ canonical_text scene → length text ≤ MOST_TEXT_BYTES

@@ -1,18 +1,18 @@
 -- The numbers of a scene's parts may stand after their keys, and give the parts back.
-use Rattle.std.proofs.Common.{◌≡◌, ℕ, ◌*◌, ◌%◌, ◌≤◌, Bool, true, false, ◌&&◌, ◌||◌, eqb, leb, ltb, ℤ, pos, int_le, List, [], ◌∷◌, length, ◌⊎◌}
+use Rattle.std.proofs.Common.{◌≡◌, ℕ, ◌*◌, ◌%◌, ◌≤◌, Bool, true, false, cond, not, ◌&&◌, ◌||◌, eqb, leb, ltb, ℤ, pos, int_le, List, [], ◌∷◌, length, ◌⊎◌}
 use Rattle.std.proofs.Common.{inl, inr, refl, ap, ◌∙◌, arith}
 use Rattle.std.specs.List.{list_all}
 use Rattle.std.proofs.lemmas.Bool.Decides.{nat_tests}
-use Rattle.std.proofs.lemmas.Bool.{and_parts}
+use Rattle.std.proofs.lemmas.Bool.{and_parts, leb-true}
 use Rattle.plan_model.specs.declared.geometry.Point.{Point}
 use Rattle.plan_model.specs.declared.geometry.Vertex.{Vertex}
 use Rattle.plan_model.specs.declared.geometry.Goal.{Goal}
 use Rattle.plan_model.specs.declared.text_terms.Key.TheVariants as keys
 use Rattle.plan_model.specs.Convexity.{is_strictly_convex}
-use Rattle.plan_model.specs.Limits.{IsBetween, IsGoal, is_body, is_obstacle, is_mark}
-use Rattle.plan_model.specs.declared.limits.TheConstants.{LEAST_BODY_COORDINATE, LEAST_CORNERS, LEAST_OBSTACLE_COORDINATE, LEAST_SIDE, LEAST_STEP}
-use Rattle.plan_model.specs.declared.limits.TheConstants.{MOST_BODY_COORDINATE, MOST_BODY_CORNERS, MOST_GAMMA, MOST_MARKS, MOST_OBSTACLE_COORDINATE}
-use Rattle.plan_model.specs.declared.limits.TheConstants.{MOST_OBSTACLE_CORNERS, MOST_SEED, MOST_SIDE, MOST_STEP, MOST_STRIPS}
+use Rattle.plan_model.specs.Limits.{IsBetween, by_version, is_body, is_goal, is_obstacle, is_mark, least_obstacle_coordinate, most_clearance}
+use Rattle.plan_model.specs.Limits.{most_obstacle_coordinate, most_side, most_step}
+use Rattle.plan_model.specs.declared.limits.TheConstants.{LEAST_BODY_COORDINATE, LEAST_CORNERS, LEAST_SIDE, LEAST_STEP, MOST_BODY_COORDINATE}
+use Rattle.plan_model.specs.declared.limits.TheConstants.{MOST_BODY_CORNERS, MOST_GAMMA, MOST_MARKS, MOST_OBSTACLE_CORNERS, MOST_SEED, MOST_STRIPS}
 use Rattle.plan_model.specs.LineChecks.{corners_from}
 use Rattle.plan_model.specs.CanonicalText.{point_numbers, goal_numbers, corner_numbers}
 use Rattle.scene_text.proofs.CanonicalWords.{IsFit}
@@ -25,63 +25,85 @@ single low high n l h =
     let b : leb n high ≡ true = grind (arith, nat_tests) in
     rw (a, b) refl
 
-pub fit-step : (n : ℕ) → LEAST_STEP ≤ n → n ≤ MOST_STEP → IsFit keys.Step (pos n ∷ [])
-fit-step n low high = record { words = refl; ranged = single LEAST_STEP MOST_STEP n low high; convex = refl }
+pub fit-step : (version n : ℕ) → LEAST_STEP ≤ n → n ≤ most_step version → IsFit version keys.Step (pos n ∷ [])
+fit-step version n low high = record { words = refl; ranged = single LEAST_STEP (most_step version) n low high; convex = refl }
 
-pub fit-gamma : (n : ℕ) → n ≤ MOST_GAMMA → IsFit keys.Gamma (pos n ∷ [])
-fit-gamma n high = record { words = refl; ranged = single 0 MOST_GAMMA n (omega arith) high; convex = refl }
+pub fit-clearance : (version n : ℕ) → n ≤ most_clearance version → IsFit version keys.Clearance (pos n ∷ [])
+fit-clearance version n high = record { words = refl; ranged = single 0 (most_clearance version) n (omega arith) high; convex = refl }
 
-pub fit-seed : (n : ℕ) → n ≤ MOST_SEED → IsFit keys.Seed (pos n ∷ [])
-fit-seed n high = record { words = refl; ranged = single 0 MOST_SEED n (omega arith) high; convex = refl }
+pub fit-gamma : (version n : ℕ) → n ≤ MOST_GAMMA → IsFit version keys.Gamma (pos n ∷ [])
+fit-gamma version n high = record { words = refl; ranged = single 0 MOST_GAMMA n (omega arith) high; convex = refl }
 
-pub fit-strips : (n : ℕ) → 1 ≤ n → n ≤ MOST_STRIPS → IsFit keys.Strips (pos n ∷ [])
-fit-strips n low high = record { words = refl; ranged = single 1 MOST_STRIPS n low high; convex = refl }
+pub fit-seed : (version n : ℕ) → n ≤ MOST_SEED → IsFit version keys.Seed (pos n ∷ [])
+fit-seed version n high = record { words = refl; ranged = single 0 MOST_SEED n (omega arith) high; convex = refl }
 
-pub fit-marks : (n : ℕ) → leb n MOST_MARKS ≡ true → IsFit keys.Marks (pos n ∷ [])
-fit-marks n high = record { words = refl; ranged = single 0 MOST_MARKS n (omega arith) (grind (arith, nat_tests)); convex = refl }
+pub fit-strips : (version n : ℕ) → 1 ≤ n → n ≤ MOST_STRIPS → IsFit version keys.Strips (pos n ∷ [])
+fit-strips version n low high = record { words = refl; ranged = single 1 MOST_STRIPS n low high; convex = refl }
+
+-- in a version of which some scene is informed
+informed_by : (first : Bool) → not first ≡ true → 1 ≤ cond first 0 1
+informed_by true h = absurd (cc)
+informed_by false h = omega arith
+
+pub fit-informed : (version : ℕ) → not (eqb version 1) ≡ true → IsFit version keys.Informed (pos 1 ∷ [])
+fit-informed version second = record {
+  words = refl;
+  ranged = single 0 (by_version version 0 1) 1 (omega arith) (informed_by (eqb version 1) second);
+  convex = refl;
+}
+
+pub fit-marks : (version n : ℕ) → leb n MOST_MARKS ≡ true → IsFit version keys.Marks (pos n ∷ [])
+fit-marks version n high = record { words = refl; ranged = single 0 MOST_MARKS n (omega arith) (grind (arith, nat_tests)); convex = refl }
 
 -- ---- points
 
-pair : (low x y : ℕ) → low ≤ x → x ≤ MOST_SIDE → low ≤ y → y ≤ MOST_SIDE → ((leb low x && leb x MOST_SIDE) && ((leb low y && leb y MOST_SIDE) && true)) ≡ true
-pair low x y a b c d =
+pair : (low high x y : ℕ) → low ≤ x → x ≤ high → low ≤ y → y ≤ high → ((leb low x && leb x high) && ((leb low y && leb y high) && true)) ≡ true
+pair low high x y a b c d =
     let p : leb low x ≡ true = grind (arith, nat_tests) in
-    let q : leb x MOST_SIDE ≡ true = grind (arith, nat_tests) in
+    let q : leb x high ≡ true = grind (arith, nat_tests) in
     let r : leb low y ≡ true = grind (arith, nat_tests) in
-    let s : leb y MOST_SIDE ≡ true = grind (arith, nat_tests) in
+    let s : leb y high ≡ true = grind (arith, nat_tests) in
     rw (p, q, r, s) refl
 
-pub fit-room : (p : Point) → IsBetween LEAST_SIDE MOST_SIDE p → IsFit keys.Room (point_numbers p)
-fit-room p h = record { words = refl; ranged = pair LEAST_SIDE p.x p.y h.left h.right h.bottom h.top; convex = refl }
+pub fit-room : (version : ℕ) (p : Point) → IsBetween LEAST_SIDE (most_side version) p → IsFit version keys.Room (point_numbers p)
+fit-room version p h = record { words = refl; ranged = pair LEAST_SIDE (most_side version) p.x p.y h.left h.right h.bottom h.top; convex = refl }
 
-pub fit-start : (p : Point) → IsBetween 0 MOST_SIDE p → IsFit keys.Start (point_numbers p)
-fit-start p h = record { words = refl; ranged = pair 0 p.x p.y h.left h.right h.bottom h.top; convex = refl }
+pub fit-start : (version : ℕ) (p : Point) → IsBetween 0 (most_side version) p → IsFit version keys.Start (point_numbers p)
+fit-start version p h = record { words = refl; ranged = pair 0 (most_side version) p.x p.y h.left h.right h.bottom h.top; convex = refl }
 
-pub fit-mark : (p : Point) → is_mark p ≡ true → IsFit keys.Mark (point_numbers p)
-fit-mark p h =
-    let parts = and_parts (leb p.x MOST_SIDE) (leb p.y MOST_SIDE) h in
+pub fit-mark : (version : ℕ) (p : Point) → is_mark version p ≡ true → IsFit version keys.Mark (point_numbers p)
+fit-mark version p h =
+    let most = most_side version in
+    let parts = and_parts (leb p.x most) (leb p.y most) h in
     record {
       words = refl;
-      ranged = pair 0 p.x p.y (omega arith) (grind (arith, nat_tests)) (omega arith) (grind (arith, nat_tests));
+      ranged = pair 0 most p.x p.y (omega arith) (leb-true p.x most parts.0) (omega arith) (leb-true p.y most parts.1);
       convex = refl;
     }
 
 -- both pairs in range, and in order
-ordered : (a b c d : ℕ) → c ≤ MOST_SIDE → d ≤ MOST_SIDE → a ≤ c → b ≤ d
-    → ((leb a c && leb b d) && ((leb 0 a && leb a MOST_SIDE)
-    && ((leb 0 b && leb b MOST_SIDE) && ((leb 0 c && leb c MOST_SIDE) && ((leb 0 d && leb d MOST_SIDE) && true))))) ≡ true
-ordered a b c d right top horizontal vertical =
-    let bound : (n : ℕ) → n ≤ MOST_SIDE → leb n MOST_SIDE ≡ true = λ n h. grind (arith, nat_tests) in
+ordered : (most a b c d : ℕ) → c ≤ most → d ≤ most → a ≤ c → b ≤ d
+    → ((leb a c && leb b d) && ((leb 0 a && leb a most)
+    && ((leb 0 b && leb b most) && ((leb 0 c && leb c most) && ((leb 0 d && leb d most) && true))))) ≡ true
+ordered most a b c d right top horizontal vertical =
+    let bound : (n : ℕ) → n ≤ most → leb n most ≡ true = λ n h. grind (arith, nat_tests) in
     let none : (n : ℕ) → leb 0 n ≡ true = λ n. grind (arith, nat_tests) in
     let p : leb a c ≡ true = grind (arith, nat_tests) in
     let q : leb b d ≡ true = grind (arith, nat_tests) in
     rw (bound a (omega arith), bound b (omega arith), bound c right, bound d top, none a, none b, none c, none d, p, q) refl
 
-pub fit-goal : (goal : Goal) → IsGoal goal → IsFit keys.Goal (goal_numbers goal)
-fit-goal goal h = record {
-  words = refl;
-  ranged = ordered goal.low.x goal.low.y goal.high.x goal.high.y h.right h.top h.horizontal h.vertical;
-  convex = refl;
-}
+pub fit-goal : (version : ℕ) (goal : Goal) → is_goal version goal ≡ true → IsFit version keys.Goal (goal_numbers goal)
+fit-goal version goal h =
+    let most = most_side version in
+    let parts = and_parts (leb goal.high.x most && leb goal.high.y most) (leb goal.low.x goal.high.x && leb goal.low.y goal.high.y) h in
+    let most_parts = and_parts (leb goal.high.x most) (leb goal.high.y most) parts.0 in
+    let order = and_parts (leb goal.low.x goal.high.x) (leb goal.low.y goal.high.y) parts.1 in
+    record {
+      words = refl;
+      ranged = ordered most goal.low.x goal.low.y goal.high.x goal.high.y (leb-true goal.high.x most most_parts.0) (leb-true goal.high.y most most_parts.1)
+          (leb-true goal.low.x goal.high.x order.0) (leb-true goal.low.y goal.high.y order.1);
+      convex = refl;
+    }
 
 -- ---- polygons
 
@@ -159,8 +181,8 @@ body-shaped corners h =
     IsShaped-one corners (shape (eqb (length corners) 1) (is_strictly_convex corners) (length corners)
     (and_parts (eqb (length corners) 1 || (leb (length corners) MOST_BODY_CORNERS && is_strictly_convex corners)) _ h).0 refl)
 
-pub fit-body : (corners : List Vertex) → is_body corners ≡ true → IsFit keys.Body (corner_numbers corners)
-fit-body corners h =
+pub fit-body : (version : ℕ) (corners : List Vertex) → is_body corners ≡ true → IsFit version keys.Body (corner_numbers corners)
+fit-body version corners h =
     let shaped = body-shaped corners h in
     let count = length-corner_numbers corners in
     record {
@@ -177,24 +199,26 @@ few-body corners h =
     let count = length-corner_numbers corners in
     grind (arith, nat_tests)
 
-obstacle-parts : (corners : List Vertex) → is_obstacle corners ≡ true → (length corners ≤ MOST_OBSTACLE_CORNERS) × (is_strictly_convex corners ≡ true)
-obstacle-parts corners h =
+obstacle-parts : (version : ℕ) (corners : List Vertex) → is_obstacle version corners ≡ true
+    → (length corners ≤ MOST_OBSTACLE_CORNERS) × (is_strictly_convex corners ≡ true)
+obstacle-parts version corners h =
     let parts = and_parts (leb (length corners) MOST_OBSTACLE_CORNERS) (is_strictly_convex corners)
     (and_parts (leb (length corners) MOST_OBSTACLE_CORNERS && is_strictly_convex corners) _ h).0 in
     (grind (arith, nat_tests), parts.1)
 
-pub fit-obstacle : (corners : List Vertex) → is_obstacle corners ≡ true → IsFit keys.Obstacle (corner_numbers corners)
-fit-obstacle corners h =
-    let convex = (obstacle-parts corners h).1 in
+pub fit-obstacle : (version : ℕ) (corners : List Vertex) → is_obstacle version corners ≡ true → IsFit version keys.Obstacle (corner_numbers corners)
+fit-obstacle version corners h =
+    let convex = (obstacle-parts version corners h).1 in
     record {
       words = words-many (length corners) (length (corner_numbers corners)) (length-corner_numbers corners) (convex-many corners convex);
-      ranged = corners-ranged LEAST_OBSTACLE_COORDINATE MOST_OBSTACLE_COORDINATE corners
+      ranged = corners-ranged (least_obstacle_coordinate version) (most_obstacle_coordinate version) corners
           (and_parts (leb (length corners) MOST_OBSTACLE_CORNERS && is_strictly_convex corners) _ h).1;
       convex = ap is_strictly_convex (corners_from-numbers corners) ∙ convex;
     }
 
-pub small-obstacle : (corners : List Vertex) → is_obstacle corners ≡ true → ltb (2 * MOST_OBSTACLE_CORNERS) (length (corner_numbers corners)) ≡ false
-small-obstacle corners h =
-    let few = (obstacle-parts corners h).0 in
+pub small-obstacle : (version : ℕ) (corners : List Vertex) → is_obstacle version corners ≡ true
+    → ltb (2 * MOST_OBSTACLE_CORNERS) (length (corner_numbers corners)) ≡ false
+small-obstacle version corners h =
+    let few = (obstacle-parts version corners h).0 in
     let count = length-corner_numbers corners in
     grind (arith, nat_tests)

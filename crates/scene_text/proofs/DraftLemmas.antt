@@ -1,8 +1,9 @@
 -- The checks of a draft are those of the grammar over what the draft gives.
-use Rattle.std.proofs.Common.{◌≡◌, ℕ, ◌&&◌, ◌||◌, not, Bool, true, false, None, List, [], ◌∷◌, ◌++◌, map, Result, Ok, Err, OnOk}
+use Rattle.std.proofs.Common.{◌≡◌, ℕ, not, Bool, true, false, Option, Some, None, List, [], ◌∷◌, ◌++◌, map, Result, Ok, Err, OnOk}
 use Rattle.std.proofs.Common.{refl, sym, ap, ◌∙◌}
 use mathlib.Core.Path.{fun_ext}
 use Rattle.std.proofs.lemmas.List.{map-append}
+use Rattle.plan_model.specs.declared.geometry.Goal.{Goal}
 use Rattle.plan_model.specs.declared.geometry.Point.{Point}
 use Rattle.plan_model.specs.declared.geometry.Vertex.{Vertex}
 use Rattle.plan_model.specs.declared.text_terms.Key.{Key}
@@ -11,12 +12,12 @@ use Rattle.plan_model.specs.declared.text_terms.Kind.TheVariants as kinds
 use Rattle.plan_model.specs.TextLines.{is_skipped}
 use Rattle.plan_model.specs.TextNumbers.{value_of}
 use Rattle.plan_model.specs.Keys.{name_of}
-use Rattle.plan_model.specs.LineChecks.{Check, with_statement, is_version, fault_of_statement}
+use Rattle.plan_model.specs.LineChecks.{Check, Given, with_statement, version_of, fault_of_statement}
 use Rattle.plan_model.specs.LineChecks.{first_failing}
-use Rattle.plan_model.specs.SceneGrammar.{supported}
-use Rattle.plan_model.specs.CanonicalText.{point_numbers, corner_numbers}
+use Rattle.plan_model.specs.SceneGrammar.{is_supported, supported}
+use Rattle.plan_model.specs.CanonicalText.{point_numbers, goal_numbers, corner_numbers}
 use Rattle.scene_text.specs.declared.drafts.Draft.{Draft}
-use Rattle.scene_text.specs.Drafts.{given_by_draft, TakesLine}
+use Rattle.scene_text.specs.Drafts.{given_by_draft, given_after, version_after, TakesLine}
 
 -- the checks that pass leave those after them
 formed : (built repeated fits many numbers : Bool) (rest : List Check) → built ≡ true → repeated ≡ false → fits ≡ true → many ≡ false → numbers ≡ true
@@ -30,23 +31,23 @@ formed built repeated fits many numbers rest a b c d e = rw (a, b, c, d, e) refl
 pub TakesLine-skipped : (draft : Draft) (words : List (List ℕ)) → is_skipped words ≡ true → TakesLine draft draft words
 TakesLine-skipped draft words skipped = record {
   sound = rw skipped refl;
-  version_read = rw (skipped, or-false draft.version_read) refl;
-  given = rw (skipped, and-false draft.version_read) refl;
+  version = version_kept draft.version;
+  given = given_kept draft.version (given_by_draft draft);
 }
   where
-    or-false : (b : Bool) → (b || false) ≡ b
-    or-false true = refl
-    or-false false = refl
+    version_kept : (version : Option ℕ) → version ≡ version_after version words
+    version_kept None = rw skipped refl
+    version_kept (Some version) = refl
 
-    and-false : (b : Bool) → (b && false) ≡ false
-    and-false true = refl
-    and-false false = refl
+    given_kept : (version : Option ℕ) (given : Given) → given ≡ given_after version given words
+    given_kept None given = refl
+    given_kept (Some version) given = rw skipped refl
 
 -- that the version was read gives no numbers
-pub given-version : (draft : Draft) → given_by_draft (record draft { version_read = true }) ≡ given_by_draft draft
-given-version draft = fun_ext (λ key. same key)
+pub given-version : (draft : Draft) (read : Option ℕ) → given_by_draft (record draft { version = read }) ≡ given_by_draft draft
+given-version draft read = fun_ext (λ key. same key)
   where
-    same : (key : Key) → given_by_draft (record draft { version_read = true }) key ≡ given_by_draft draft key
+    same : (key : Key) → given_by_draft (record draft { version = read }) key ≡ given_by_draft draft key
     same keys.Room = refl
     same key = refl
 
@@ -63,6 +64,19 @@ given-obstacle old new words corners items value = fun_ext (λ key. same key)
         ∙ ap (λ zs. map corner_numbers old.obstacles.items ++ zs ∷ []) (sym value)
     same key = refl
 
+-- one more goal is what its line gives
+pub given-goal : (old new : Draft) (words : List (List ℕ)) (goal : Goal) → new.goals.items ≡ old.goals.items ++ goal ∷ []
+    → map value_of words ≡ goal_numbers goal
+    → given_by_draft (record old { goals = new.goals }) ≡ with_statement (given_by_draft old) (name_of keys.Goal ∷ words)
+given-goal old new words goal items value = fun_ext (λ key. same key)
+  where
+    same : (key : Key) → given_by_draft (record old { goals = new.goals }) key
+        ≡ with_statement (given_by_draft old) (name_of keys.Goal ∷ words) key
+    same keys.Goal =
+        ap (map goal_numbers) items ∙ map-append goal_numbers old.goals.items (goal ∷ [])
+        ∙ ap (λ zs. map goal_numbers old.goals.items ++ zs ∷ []) (sym value)
+    same key = refl
+
 -- one more mark is what its line gives
 pub given-mark : (old new : Draft) (words : List (List ℕ)) (p : Point) → new.marks.items ≡ old.marks.items ++ p ∷ []
     → map value_of words ≡ point_numbers p
@@ -77,21 +91,21 @@ given-mark old new words p items value = fun_ext (λ key. same key)
     same key = refl
 
 -- the version gives nothing but that it was read
-pub TakesLine-version : (old new : Draft) (words : List (List ℕ)) → is_skipped words ≡ false → old.version_read ≡ false → is_version words ≡ true
-    → new.version_read ≡ true → given_by_draft new ≡ given_by_draft old → TakesLine old new words
-TakesLine-version old new words kept unread version read same = record {
-  sound = rw (kept, unread, version) refl;
-  version_read = rw (read, unread, kept) refl;
+pub TakesLine-version : (old new : Draft) (words : List (List ℕ)) (version : ℕ) → is_skipped words ≡ false → old.version ≡ None
+    → version_of supported.reads words ≡ Some version → new.version ≡ Some version → given_by_draft new ≡ given_by_draft old → TakesLine old new words
+TakesLine-version old new words version kept unread named read same = record {
+  sound = rw (kept, unread, named) refl;
+  version = rw (read, unread, kept, named) refl;
   given = rw (same, unread) refl;
 }
 
 -- a statement after the version
-pub TakesLine-statement : (old new : Draft) (words : List (List ℕ)) → is_skipped words ≡ false → old.version_read ≡ true
-    → fault_of_statement supported (given_by_draft old) words ≡ None → new.version_read ≡ old.version_read
+pub TakesLine-statement : (old new : Draft) (words : List (List ℕ)) (version : ℕ) → is_skipped words ≡ false → old.version ≡ Some version
+    → fault_of_statement is_supported version (given_by_draft old) words ≡ None → new.version ≡ old.version
     → given_by_draft new ≡ with_statement (given_by_draft old) words → TakesLine old new words
-TakesLine-statement old new words kept read sound same given = record {
+TakesLine-statement old new words version kept read sound same given = record {
   sound = rw (kept, read) sound;
-  version_read = rw (same, read) refl;
+  version = rw (same, read) refl;
   given = rw (given, read, kept) refl;
 }
 

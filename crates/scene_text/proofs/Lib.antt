@@ -12,3 +12,4 @@ pub mod CanonicalNumbers
 pub mod CanonicalFaults
 pub mod CanonicalFields
 pub mod CanonicalLengths
+pub mod CoveredScenes

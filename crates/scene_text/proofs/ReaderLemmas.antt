@@ -1,51 +1,74 @@
 -- How far a text is read: the lines so far have no fault, and the draft gives what their statements give.
-use Rattle.std.proofs.Common.{◌≡◌, ℕ, ◌+◌, ◌<◌, ◌≤◌, ◌&&◌, ◌||◌, not, Bool, true, false, cond, None, List, [], ◌∷◌, ◌++◌, length, take, drop, get_or, refl}
-use Rattle.std.proofs.Common.{sym, ap, ◌∙◌, subst, inl, inr, arith}
+use Rattle.std.proofs.Common.{◌≡◌, ℕ, ◌+◌, ◌<◌, ◌≤◌, not, Bool, true, false, cond, Option, Some, None, List, [], ◌∷◌, ◌++◌, length, take, drop, get_or, refl}
+use Rattle.std.proofs.Common.{is_some, sym, ap, ◌∙◌, subst, inl, inr, arith}
 use borrow.Author.Count.{below_more}
 use Rattle.std.proofs.lemmas.List.{append-nil, drop_more, take_more, take_all, length-drop}
 use Rattle.plan_model.specs.declared.scenes.Scene.{Scene}
 use Rattle.plan_model.specs.TextLines.{lines_of, words_of, is_skipped, statements_of}
-use Rattle.plan_model.specs.LineChecks.{given_by, with_statement, fault_of_words, fault_at_end, AllMayStand}
-use Rattle.plan_model.specs.SceneGrammar.{is_version_read, given_after_version, fault_of_line, fault_of_end, HasFields, IsSoundBelow, Spells, supported}
+use Rattle.plan_model.specs.LineChecks.{Given, given_by, is_inhabited, version_of, fault_of_version, fault_of_words, fault_at_end, AllMayStand}
+use Rattle.plan_model.specs.SceneGrammar.{version_given, given_after_version, fault_of_line, fault_of_end, HasFields, IsSoundBelow, Spells, supported}
 use Rattle.plan_model.proofs.StatementNumbers.{given_by-push, statements_of-push}
 use Rattle.plan_model.proofs.SoundStatements.{IsSoundGiven-text}
+use Rattle.plan_model.proofs.ReadVersions.{IsReadVersion-given}
 use Rattle.scene_text.specs.declared.drafts.Draft.{Draft}
 use Rattle.scene_text.specs.declared.refusals.LineRefusal.{LineRefusal}
 use Rattle.scene_text.specs.declared.refusals.LineRefusal.TheVariants as line_refusal
 use Rattle.scene_text.specs.Refusals.{refusal_at, IsLineRefusal, IsSceneRefusal}
-use Rattle.scene_text.specs.Drafts.{given_by_draft, given_after, TakesLine}
+use Rattle.scene_text.specs.Drafts.{given_by_draft, given_after, version_after, IsSoundDraft, TakesLine}
 
 -- ---- what a draft stands for
 
--- the draft gives what the statements give
+-- the draft has the version of the statements, which each statement but the first comes after, and gives what they give
 pub record StandsFor (draft : Draft) (statements : List (List (List ℕ))) : Type 0 where
-  pub version_read : draft.version_read ≡ is_version_read statements
+  pub version : draft.version ≡ version_given supported.reads statements
+  pub known : is_inhabited statements ≡ true → is_some draft.version ≡ true
   pub given : given_by_draft draft ≡ given_after_version statements
 
 -- the statements with those of one more line
 abbrev more_statements : Bool → List (List (List ℕ)) → List (List ℕ) → List (List (List ℕ))
 more_statements skipped statements words = statements ++ cond (not skipped) (words ∷ []) []
 
-version_read-more : (skipped : Bool) (statements : List (List (List ℕ))) (words : List (List ℕ))
-    → (is_version_read statements || not skipped) ≡ is_version_read (more_statements skipped statements words)
-version_read-more true [] words = refl
-version_read-more false [] words = refl
-version_read-more skipped (version ∷ before) words = refl
+version-more : (skipped : Bool) (statements : List (List (List ℕ))) (words : List (List ℕ)) (old : Option ℕ) → is_skipped words ≡ skipped
+    → old ≡ version_given supported.reads statements → (is_inhabited statements ≡ true → is_some old ≡ true)
+    → version_after old words ≡ version_given supported.reads (more_statements skipped statements words)
+version-more true [] words None s e known = rw s refl
+version-more false [] words None s e known = rw s refl
+version-more skipped [] words (Some version) s e known = absurd (cc)
+version-more skipped (first ∷ before) words None s e known = let none = known refl in absurd (cc)
+version-more skipped (first ∷ before) words (Some version) s e known = e
 
-given-more : (skipped : Bool) (statements : List (List (List ℕ))) (words : List (List ℕ))
-    → cond (is_version_read statements && not skipped) (with_statement (given_after_version statements) words) (given_after_version statements)
-    ≡ given_after_version (more_statements skipped statements words)
-given-more true [] words = refl
-given-more false [] words = refl
-given-more true (version ∷ before) words = ap given_by (sym (append-nil before))
-given-more false (version ∷ before) words = sym (given_by-push before words)
+some-version : (found : Option ℕ) → fault_of_version found ≡ None → is_some found ≡ true
+some-version None e = absurd (cc)
+some-version (Some version) e = refl
+
+known-more : (skipped : Bool) (statements : List (List (List ℕ))) (words : List (List ℕ)) (old : Option ℕ) (given : Given) → is_skipped words ≡ skipped
+    → fault_of_words supported old given words ≡ None → (is_inhabited statements ≡ true → is_some old ≡ true)
+    → is_inhabited (more_statements skipped statements words) ≡ true → is_some (version_after old words) ≡ true
+known-more skipped statements words (Some version) given s sound known more = refl
+known-more true [] words None given s sound known more = absurd (cc)
+known-more true (first ∷ before) words None given s sound known more = let none = known refl in absurd (cc)
+known-more false statements words None given s sound known more =
+    let named = rw s at sound in
+    rw s (some-version (version_of supported.reads words) named)
+
+given-more : (skipped : Bool) (statements : List (List (List ℕ))) (words : List (List ℕ)) (old : Option ℕ) → is_skipped words ≡ skipped
+    → old ≡ version_given supported.reads statements → (is_inhabited statements ≡ true → is_some old ≡ true)
+    → given_after old (given_after_version statements) words ≡ given_after_version (more_statements skipped statements words)
+given-more true [] words None s e known = refl
+given-more false [] words None s e known = refl
+given-more skipped [] words (Some version) s e known = absurd (cc)
+given-more skipped (first ∷ before) words None s e known = let none = known refl in absurd (cc)
+given-more true (first ∷ before) words (Some version) s e known = rw s (ap given_by (sym (append-nil before)))
+given-more false (first ∷ before) words (Some version) s e known = rw s (sym (given_by-push before words))
 
 StandsFor-more : (old new : Draft) (statements : List (List (List ℕ))) (words : List (List ℕ)) → StandsFor old statements → TakesLine old new words
     → StandsFor new (more_statements (is_skipped words) statements words)
 StandsFor-more old new statements words h takes = record {
-  version_read = takes.version_read ∙ ap (λ b. b || not (is_skipped words)) h.version_read ∙ version_read-more (is_skipped words) statements words;
-  given = takes.given ∙ ap (λ b. given_after b (given_by_draft old) words) h.version_read
-      ∙ ap (λ given. given_after (is_version_read statements) given words) h.given ∙ given-more (is_skipped words) statements words;
+  version = takes.version ∙ version-more (is_skipped words) statements words old.version refl h.version h.known;
+  known = λ more. ap is_some takes.version
+      ∙ known-more (is_skipped words) statements words old.version (given_by_draft old) refl takes.sound h.known more;
+  given = takes.given ∙ ap (λ given. given_after old.version given words) h.given
+      ∙ given-more (is_skipped words) statements words old.version refl h.version h.known;
 }
 
 -- ---- so many lines of a text
@@ -58,12 +81,12 @@ pub record Reads (text : List ℕ) (number : ℕ) (rest : List ℕ) (draft : Dra
   pub stands : StandsFor draft (statements_of (take number (lines_of text)))
   pub short : number + length rest ≤ length text
 
-pub Reads-none : (text : List ℕ) (draft : Draft) → draft.version_read ≡ false → given_by_draft draft ≡ given_by [] → Reads text 0 text draft
+pub Reads-none : (text : List ℕ) (draft : Draft) → draft.version ≡ None → given_by_draft draft ≡ given_by [] → Reads text 0 text draft
 Reads-none text draft unread none = record {
   left = refl;
   below = omega arith;
   sound = λ i below. absurd (omega arith);
-  stands = record { version_read = unread; given = none };
+  stands = record { version = unread; known = λ some. absurd (cc); given = none };
   short = omega arith;
 }
 
@@ -87,12 +110,12 @@ IsNext-from_drop lines number line after e =
 
 -- the fault of the line that is next
 fault-next : (draft : Draft) (lines : List (List ℕ)) (number : ℕ) (line : List ℕ) → StandsFor draft (statements_of (take number lines))
-    → get_or lines number [] ≡ line → fault_of_line supported lines number ≡ fault_of_words supported draft.version_read (given_by_draft draft) (words_of line)
+    → get_or lines number [] ≡ line → fault_of_line supported lines number ≡ fault_of_words supported draft.version (given_by_draft draft) (words_of line)
 fault-next draft lines number line h e =
     let before = statements_of (take number lines) in
-    ap (λ bytes. fault_of_words supported (is_version_read before) (given_after_version before) (words_of bytes)) e
-    ∙ sym (ap (λ b. fault_of_words supported b (given_by_draft draft) (words_of line)) h.version_read
-    ∙ ap (λ given. fault_of_words supported (is_version_read before) given (words_of line)) h.given)
+    ap (λ bytes. fault_of_words supported (version_given supported.reads before) (given_after_version before) (words_of bytes)) e
+    ∙ sym (ap (λ read. fault_of_words supported read (given_by_draft draft) (words_of line)) h.version
+    ∙ ap (λ given. fault_of_words supported (version_given supported.reads before) given (words_of line)) h.given)
 
 pub Reads-more : (text : List ℕ) (number : ℕ) (rest : List ℕ) (old new : Draft) (line after : List ℕ) → Reads text number rest old
     → lines_of rest ≡ line ∷ lines_of after → length after < length rest → TakesLine old new (words_of line) → Reads text (number + 1) after new
@@ -113,7 +136,7 @@ Reads-more text number rest old new line after h split shorter takes =
 -- a line with a fault refuses the text
 pub Reads-refused : (text : List ℕ) (number : ℕ) (rest : List ℕ) (draft : Draft) (line after : List ℕ) (refusal : LineRefusal)
     → Reads text number rest draft → lines_of rest ≡ line ∷ lines_of after
-    → IsLineRefusal (fault_of_words supported draft.version_read (given_by_draft draft) (words_of line)) refusal
+    → IsLineRefusal (fault_of_words supported draft.version (given_by_draft draft) (words_of line)) refusal
     → IsSceneRefusal text (refusal_at (number + 1) refusal)
 Reads-refused text number rest draft line after (line_refusal.Fault kind) h split fault =
     let next = IsNext-from_drop (lines_of text) number line (lines_of after) (h.left ∙ split) in
@@ -138,21 +161,29 @@ ReadsAll-from_end text number draft h =
       stands = subst (λ lines. StandsFor draft (statements_of lines)) (take_all number (lines_of text) (omega arith)) h.stands;
     }
 
--- what the draft gives may stand
-pub AllMayStand-draft : (text : List ℕ) (number : ℕ) (draft : Draft) → Reads text number [] draft → AllMayStand (given_by_draft draft)
-AllMayStand-draft text number draft h =
+-- the version of the draft is one that is read, and what the draft gives may stand
+pub IsSoundDraft-read : (text : List ℕ) (number : ℕ) (draft : Draft) → Reads text number [] draft → IsSoundDraft draft
+IsSoundDraft-read text number draft h =
     let all = ReadsAll-from_end text number draft h in
-    subst AllMayStand (sym all.stands.given) (IsSoundGiven-text supported text all.sound).stand
+    let statements = statements_of (lines_of text) in
+    let read : (version : ℕ) → draft.version ≡ Some version → version_given supported.reads statements
+    ≡ Some version = λ version known. sym all.stands.version ∙ known in
+    record {
+      low = λ version known. (IsReadVersion-given supported.reads statements version (read version known)).low;
+      high = λ version known. (IsReadVersion-given supported.reads statements version (read version known)).high;
+      stand = λ version known. subst (AllMayStand version) (sym all.stands.given)
+          (IsSoundGiven-text supported text version all.sound (read version known)).stand;
+    }
 
 -- what is missing is missing in the draft
 fault_of_end-draft : (draft : Draft) (statements : List (List (List ℕ))) → StandsFor draft statements
-    → fault_of_end statements ≡ fault_at_end draft.version_read (given_by_draft draft)
+    → fault_of_end supported statements ≡ fault_at_end draft.version (given_by_draft draft)
 fault_of_end-draft draft statements h =
-    sym (ap (λ b. fault_at_end b (given_by_draft draft)) h.version_read ∙ ap (fault_at_end (is_version_read statements)) h.given)
+    sym (ap (λ read. fault_at_end read (given_by_draft draft)) h.version ∙ ap (fault_at_end (version_given supported.reads statements)) h.given)
 
 -- what is missing refuses the text after its last line
 pub Reads-missing : (text : List ℕ) (number : ℕ) (draft : Draft) (refusal : LineRefusal) → Reads text number [] draft
-    → IsLineRefusal (fault_at_end draft.version_read (given_by_draft draft)) refusal → IsSceneRefusal text (refusal_at (number + 1) refusal)
+    → IsLineRefusal (fault_at_end draft.version (given_by_draft draft)) refusal → IsSceneRefusal text (refusal_at (number + 1) refusal)
 Reads-missing text number draft (line_refusal.Fault kind) h fault =
     let all = ReadsAll-from_end text number draft h in
     (number, refl, h.sound, inr (all.all, fault_of_end-draft draft (statements_of (lines_of text)) all.stands ∙ fault))
@@ -160,11 +191,13 @@ Reads-missing text number draft line_refusal.Memory h fault = tt
 
 -- the text spells the scene of its draft
 pub Reads-all : (text : List ℕ) (number : ℕ) (draft : Draft) (scene : Scene) → Reads text number [] draft
-    → fault_at_end draft.version_read (given_by_draft draft) ≡ None → HasFields (given_by_draft draft) scene → Spells supported text scene
+    → fault_at_end draft.version (given_by_draft draft) ≡ None → HasFields draft.version (given_by_draft draft) scene
+    → Spells supported text scene
 Reads-all text number draft scene h whole fields =
     let all = ReadsAll-from_end text number draft h in
     record {
       sound = all.sound;
       whole = fault_of_end-draft draft (statements_of (lines_of text)) all.stands ∙ whole;
-      fields = subst (λ given. HasFields given scene) all.stands.given fields;
+      fields = subst (λ read. HasFields read (given_after_version (statements_of (lines_of text))) scene) all.stands.version
+          (subst (λ given. HasFields draft.version given scene) all.stands.given fields);
     }

@@ -1,17 +1,17 @@
 -- A text whose lines are statements, their words with a blank between two: its lines and words are those of the statements.
-use Rattle.std.proofs.Common.{◌≡◌, ℕ, ◌<◌, Bool, true, false, not, ◌&&◌, eqb, ltb, zero, suc, Option, None, List, [], ◌∷◌, ◌++◌, length, map, take, get_or}
-use Rattle.std.proofs.Common.{filter, refl, sym, ap, ◌∙◌, subst, arith}
+use Rattle.std.proofs.Common.{◌≡◌, ℕ, ◌<◌, Bool, true, false, not, ◌&&◌, eqb, ltb, zero, suc, Option, Some, None, List, [], ◌∷◌, ◌++◌, length, map, take}
+use Rattle.std.proofs.Common.{get_or, filter, refl, sym, ap, ◌∙◌, subst, arith}
 use Rattle.std.specs.List.{list_all, flat_map, join_with_byte}
 use Rattle.std.proofs.lemmas.List.{append_assoc, append-nil, take-map, length-map}
 use Rattle.std.proofs.Math.ListN.{get_or-map}
 use Rattle.std.proofs.lemmas.List.Folds.{list_all-append}
 use Rattle.std.proofs.lemmas.Bool.{and_parts}
-use Rattle.plan_model.specs.declared.text_terms.Key.{Key}
 use Rattle.plan_model.specs.ReportText.{line}
 use Rattle.plan_model.specs.TextLines.{lines_of, pieces_of, words_of, is_skipped, statements_of}
-use Rattle.plan_model.specs.LineChecks.{fault_after}
+use Rattle.plan_model.specs.declared.text_terms.Key.{Key}
+use Rattle.plan_model.specs.LineChecks.{Format, given_by, version_of, fault_of_statement, fault_after}
 use Rattle.plan_model.specs.declared.text_terms.Kind.{Kind}
-use Rattle.plan_model.specs.SceneGrammar.{is_version_read, given_after_version, fault_of_line, IsSoundBelow, supported}
+use Rattle.plan_model.specs.SceneGrammar.{version_given, given_after_version, fault_of_line, IsSoundBelow}
 
 -- ---- words
 
@@ -129,13 +129,13 @@ clean-at (words ∷ statements) (suc i) h below =
     clean-at statements i (and_parts (is_clean words) (list_all is_clean statements) h).1 (omega arith)
 
 -- the fault of a statement after others
-abbrev pub fault_after_statements : (Key → Bool) → List (List (List ℕ)) → List (List ℕ) → Option Kind
-fault_after_statements built before words = fault_after built (is_version_read before) (given_after_version before) words
+abbrev pub fault_after_statements : Format → List (List (List ℕ)) → List (List ℕ) → Option Kind
+fault_after_statements format before words = fault_after format (version_given format.reads before) (given_after_version before) words
 
 -- the fault of a line is that of its statement
-pub fault_of_line-statement : (built : Key → Bool) (statements : List (List (List ℕ))) (i : ℕ) → list_all is_clean statements ≡ true → i < length statements
-    → fault_of_line built (map line_of statements) i ≡ fault_after_statements built (take i statements) (get_or statements i [])
-fault_of_line-statement built statements i h below =
+pub fault_of_line-statement : (format : Format) (statements : List (List (List ℕ))) (i : ℕ) → list_all is_clean statements ≡ true → i < length statements
+    → fault_of_line format (map line_of statements) i ≡ fault_after_statements format (take i statements) (get_or statements i [])
+fault_of_line-statement format statements i h below =
     let clean = and_parts (list_all is_word (get_or statements i [])) (not (is_skipped (get_or statements i []))) (clean-at statements i h below) in
     let kept : is_skipped (get_or statements i []) ≡ false = not-true (is_skipped (get_or statements i [])) clean.1 in
     let here : words_of (get_or (map line_of statements) i []) ≡ get_or statements i [] = ap words_of (get_or-map line_of statements i [])
@@ -147,28 +147,47 @@ fault_of_line-statement built statements i h below =
 -- ---- statements without a fault
 
 -- after these statements, none of those has a fault
-abbrev pub AreSound : List (List (List ℕ)) → List (List (List ℕ)) → Type 0
-AreSound before [] = Unit {0}
-AreSound before (words ∷ statements) =
-    (fault_after_statements supported before words ≡ None) × AreSound (before ++ words ∷ []) statements
+abbrev pub AreSound : Format → List (List (List ℕ)) → List (List (List ℕ)) → Type 0
+AreSound format before [] = Unit {0}
+AreSound format before (words ∷ statements) =
+    (fault_after_statements format before words ≡ None) × AreSound format (before ++ words ∷ []) statements
 
-sound-at : (before statements : List (List (List ℕ))) (i : ℕ) → AreSound before statements → i < length statements
-    → fault_after_statements supported (before ++ take i statements) (get_or statements i []) ≡ None
-sound-at before [] i h below = absurd (omega arith)
-sound-at before (words ∷ statements) zero h below = rw (append-nil before) h.0
-sound-at before (words ∷ statements) (suc i) h below =
-    ap (λ prefix. fault_after_statements supported prefix (get_or statements i [])) (sym (append_assoc before (words ∷ []) (take i statements)))
-    ∙ sound-at (before ++ words ∷ []) statements i h.1 (omega arith)
+sound-at : (format : Format) (before statements : List (List (List ℕ))) (i : ℕ) → AreSound format before statements → i < length statements
+    → fault_after_statements format (before ++ take i statements) (get_or statements i []) ≡ None
+sound-at format before [] i h below = absurd (omega arith)
+sound-at format before (words ∷ statements) zero h below = rw (append-nil before) h.0
+sound-at format before (words ∷ statements) (suc i) h below =
+    ap (λ prefix. fault_after_statements format prefix (get_or statements i [])) (sym (append_assoc before (words ∷ []) (take i statements)))
+    ∙ sound-at format (before ++ words ∷ []) statements i h.1 (omega arith)
 
-pub AreSound-append : (before xs ys : List (List (List ℕ))) → AreSound before xs → AreSound (before ++ xs) ys → AreSound before (xs ++ ys)
-AreSound-append before [] ys h k = subst (λ prefix. AreSound prefix ys) (append-nil before) k
-AreSound-append before (words ∷ xs) ys h k =
-    (h.0, AreSound-append (before ++ words ∷ []) xs ys h.1 (subst (λ prefix. AreSound prefix ys) (sym (append_assoc before (words ∷ []) xs)) k))
+-- after a version that is read and these statements, none of those has a fault
+abbrev pub AreSoundAfter : (Key → Bool) → ℕ → List (List (List ℕ)) → List (List (List ℕ)) → Type 0
+AreSoundAfter built version before [] = Unit {0}
+AreSoundAfter built version before (words ∷ statements) =
+    (fault_of_statement built version (given_by before) words ≡ None) × AreSoundAfter built version (before ++ words ∷ []) statements
+
+pub AreSoundAfter-append : (built : Key → Bool) (version : ℕ) (before xs ys : List (List (List ℕ))) → AreSoundAfter built version before xs
+    → AreSoundAfter built version (before ++ xs) ys → AreSoundAfter built version before (xs ++ ys)
+AreSoundAfter-append built version before [] ys h k = subst (λ prefix. AreSoundAfter built version prefix ys) (append-nil before) k
+AreSoundAfter-append built version before (words ∷ xs) ys h k = (
+  h.0,
+  AreSoundAfter-append built version (before ++ words ∷ []) xs ys h.1
+      (subst (λ prefix. AreSoundAfter built version prefix ys) (sym (append_assoc before (words ∷ []) xs)) k),
+)
+
+-- the first statement gives the version
+pub AreSound-after : (format : Format) (version : ℕ) (first : List (List ℕ)) (before statements : List (List (List ℕ)))
+    → version_of format.reads first ≡ Some version → AreSoundAfter format.built version before statements → AreSound format (first ∷ before) statements
+AreSound-after format version first before [] read h = tt
+AreSound-after format version first before (words ∷ statements) read h = (
+  ap (λ found. fault_after format found (given_by before) words) read ∙ h.0,
+  AreSound-after format version first (before ++ words ∷ []) statements read h.1,
+)
 
 -- no line of the text has a fault
-pub IsSoundBelow-text : (statements : List (List (List ℕ))) → list_all is_clean statements ≡ true → AreSound [] statements
-    → IsSoundBelow supported (lines_of (flat_map line statements)) (length (lines_of (flat_map line statements)))
-IsSoundBelow-text statements clean sound =
-    subst (λ lines. IsSoundBelow supported lines (length lines)) (sym (lines_of-text statements clean))
-    (λ i below. let within : i < length statements = omega (arith, length-map statements line_of) in fault_of_line-statement supported statements i clean
-    within ∙ sound-at [] statements i sound within)
+pub IsSoundBelow-text : (format : Format) (statements : List (List (List ℕ))) → list_all is_clean statements ≡ true → AreSound format [] statements
+    → IsSoundBelow format (lines_of (flat_map line statements)) (length (lines_of (flat_map line statements)))
+IsSoundBelow-text format statements clean sound =
+    subst (λ lines. IsSoundBelow format lines (length lines)) (sym (lines_of-text statements clean))
+    (λ i below. let within : i < length statements = omega (arith, length-map statements line_of) in fault_of_line-statement format statements i clean
+    within ∙ sound-at format [] statements i sound within)

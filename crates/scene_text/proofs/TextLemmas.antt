@@ -1,5 +1,6 @@
 -- The text of a line, word by word.
-use Rattle.std.proofs.Common.{◌≡◌, ℕ, ℤ, List, [], ◌∷◌, ◌++◌, map, refl, sym, ap, ◌∙◌}
+use Rattle.std.proofs.Common.{◌≡◌, ℕ, ℤ, List, [], ◌∷◌, ◌++◌, map, refl, sym, ap, ◌∙◌, arith}
+use Rattle.std.proofs.lemmas.Grind.{common_steps}
 use Rattle.std.specs.Fmt.{signed_decimal}
 use Rattle.std.specs.List.{flat_map, join_with_byte}
 use Rattle.std.proofs.lemmas.List.{append_assoc, append-nil}
@@ -21,3 +22,10 @@ pub line-pushed : (before named spaced after word : List ℕ) (zs : List ℤ) �
     → spaced ≡ named ++ flat_map (λ z. 32 ∷ signed_decimal z) zs → after ≡ spaced ++ 10 ∷ [] → after ≡ before ++ line (word ∷ map signed_decimal zs)
 line-pushed before named spaced after word zs e f g =
     rw (line-spaced word zs, g, f, e, append_assoc, append_assoc) refl
+
+-- the lines of statements, written one part after another
+pub lines-written : (whole fourth third second first : List ℕ) (version room body : List (List ℕ)) (obstacles task plan : List (List (List ℕ)))
+    → whole ≡ fourth ++ flat_map line plan → fourth ≡ third ++ flat_map line task → third ≡ second ++ flat_map line obstacles
+    → second ≡ first ++ line body → first ≡ flat_map line (version ∷ room ∷ [])
+    → whole ≡ flat_map line (version ∷ room ∷ body ∷ (obstacles ++ (task ++ plan)))
+lines-written whole fourth third second first version room body obstacles task plan e f g h k = grind (arith, common_steps)

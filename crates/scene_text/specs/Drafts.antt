@@ -1,13 +1,13 @@
 -- What the fields of a draft give, and what one more line adds.
-use Rattle.std.specs.Prelude.{◌≡◌, ℕ, ◌&&◌, ◌||◌, not, Bool, true, false, ℤ, pos, Option, Some, None, List, [], ◌∷◌, length, map, if◌then◌else◌}
+use Rattle.std.specs.Prelude.{◌≡◌, ℕ, ◌≤◌, true, false, ℤ, pos, Option, Some, None, List, [], ◌∷◌, length, map, if◌then◌else◌}
 use Rattle.std.specs.List.{list_all}
 use Rattle.plan_model.specs.declared.text_terms.Key.{Key}
 use Rattle.plan_model.specs.declared.text_terms.Key.TheVariants as keys
 use Rattle.plan_model.specs.TextLines.{is_skipped}
 use Rattle.plan_model.specs.TextNumbers.{is_number}
 use Rattle.plan_model.specs.Keys.{fits_words}
-use Rattle.plan_model.specs.LineChecks.{Given, with_statement, is_repeated, is_too_many, fault_of_words}
-use Rattle.plan_model.specs.SceneGrammar.{supported}
+use Rattle.plan_model.specs.LineChecks.{Given, with_statement, version_of, is_repeated, is_too_many, fault_of_words, AllMayStand}
+use Rattle.plan_model.specs.SceneGrammar.{is_supported, supported}
 use Rattle.plan_model.specs.CanonicalText.{point_numbers, goal_numbers, corner_numbers}
 use Rattle.scene_text.specs.declared.drafts.Draft.{Draft}
 
@@ -27,31 +27,45 @@ abbrev pub given_by_draft : Draft → Given
 given_by_draft draft keys.Room = line_numbers point_numbers draft.room
 given_by_draft draft keys.Body = line_numbers corner_numbers draft.body
 given_by_draft draft keys.Obstacle = map corner_numbers draft.obstacles.items
+given_by_draft draft keys.Clearance = line_numbers amount_numbers draft.clearance
 given_by_draft draft keys.Start = line_numbers point_numbers draft.start
-given_by_draft draft keys.Goal = line_numbers goal_numbers draft.goal
+given_by_draft draft keys.Goal = map goal_numbers draft.goals.items
 given_by_draft draft keys.Step = line_numbers amount_numbers draft.step
 given_by_draft draft keys.Gamma = line_numbers amount_numbers draft.gamma
 given_by_draft draft keys.Seed = line_numbers amount_numbers draft.seed
 given_by_draft draft keys.Strips = line_numbers amount_numbers draft.strips
+given_by_draft draft keys.Informed = []
 given_by_draft draft keys.Marks = line_numbers amount_numbers draft.drawn
 given_by_draft draft keys.Mark = map point_numbers draft.marks.items
+
+-- if a version was read, it is one of the format, and by it the numbers of each line may stand after its key
+pub record IsSoundDraft (draft : Draft) : Type 0 where
+  pub low : (version : ℕ) → draft.version ≡ Some version → 1 ≤ version
+  pub high : (version : ℕ) → draft.version ≡ Some version → version ≤ 2
+  pub stand : (version : ℕ) → draft.version ≡ Some version → AllMayStand version (given_by_draft draft)
 
 -- ---- one more line
 
 -- the checks of a line that come before those of its numbers pass
-pub record IsFormed (given : Given) (key : Key) (words : List (List ℕ)) : Type 0 where
-  pub built : supported key ≡ true
-  pub fresh : is_repeated given key ≡ false
+pub record IsFormed (version : ℕ) (given : Given) (key : Key) (words : List (List ℕ)) : Type 0 where
+  pub built : is_supported key ≡ true
+  pub fresh : is_repeated version given key ≡ false
   pub fits : fits_words key (length words) ≡ true
-  pub few : is_too_many given key (length words) ≡ false
+  pub few : is_too_many version given key (length words) ≡ false
   pub numbers : list_all is_number words ≡ true
 
 -- what is given after one more line, which before the version is the version
-abbrev pub given_after : Bool → Given → List (List ℕ) → Given
-given_after version_read given words = if version_read && not (is_skipped words) then with_statement given words else given
+abbrev pub given_after : Option ℕ → Given → List (List ℕ) → Given
+given_after None given words = given
+given_after (Some version) given words = if is_skipped words then given else with_statement given words
+
+-- the version after one more line
+abbrev pub version_after : Option ℕ → List (List ℕ) → Option ℕ
+version_after None words = if is_skipped words then None else version_of supported.reads words
+version_after (Some version) words = Some version
 
 -- the line has no fault, and the new draft gives what the old one gave, and the numbers of the line
 pub record TakesLine (old new : Draft) (words : List (List ℕ)) : Type 0 where
-  pub sound : fault_of_words supported old.version_read (given_by_draft old) words ≡ None
-  pub version_read : new.version_read ≡ (old.version_read || not (is_skipped words))
-  pub given : given_by_draft new ≡ given_after old.version_read (given_by_draft old) words
+  pub sound : fault_of_words supported old.version (given_by_draft old) words ≡ None
+  pub version : new.version ≡ version_after old.version words
+  pub given : given_by_draft new ≡ given_after old.version (given_by_draft old) words

@@ -3,36 +3,38 @@
 ghost use Rattle.std.specs.Prelude.{◌≡◌, ◌≤◌, [], ◌∷◌, Some, None, true, false, length, map, IfOk, OnOk, IfErr};
 ghost use Rattle.plan_model.specs.TextLines.{words_of};
 ghost use Rattle.plan_model.specs.TextNumbers.{value_of};
-ghost use Rattle.plan_model.specs.Keys.{name_of};
+ghost use Rattle.plan_model.specs.Keys.{every_version, name_of, version_among};
 ghost use Rattle.plan_model.specs.LineChecks.{given_by, with_statement, stands, is_repeated, is_too_many, first_failing, number_checks, checks_of};
-ghost use Rattle.plan_model.specs.LineChecks.{is_version, fault_of_statement, fault_of_words, fault_at_end, AllMayStand};
-ghost use Rattle.plan_model.specs.SceneGrammar.{supported, body_from, plan_from, HasFields};
+ghost use Rattle.plan_model.specs.LineChecks.{version_of, fault_of_statement, fault_of_words, fault_at_end};
+ghost use Rattle.plan_model.specs.SceneGrammar.{is_supported, supported, body_from, plan_from, HasFields};
 ghost use Rattle.plan_model.specs.CanonicalText.{point_numbers, corner_numbers};
 ghost use Rattle.scene_text.specs.Drafts.{line_numbers, amount_numbers};
 ghost use Rattle.scene_text.specs.Refusals.{IsLineRefusal};
 
 use crate::field_words::{read_amount, read_body, read_goal, read_obstacle, read_point};
 use crate::key_words::{
-    FORMAT_NAME, FORMAT_VERSION, fits_words, is_supported, key_of, most_corners, most_lines,
-    rival_of,
+    FORMAT_NAME, fits_words, is_supported, key_of, most_corners, most_lines, rival_of,
 };
 use crate::line_words::{WordCount, count_words};
 use crate::refusals::LineRefusal;
-use plan_model::{Goal, Key, Kind, Marks, Point, Points, Poly, Polys, Scene, Vertex, next_word};
+use plan_model::{
+    Goal, Goals, Key, Kind, Marks, Point, Points, Poly, Polys, Scene, Vertex, next_word,
+};
 use std::alloc::{AllocError, Global};
 
-/// What the lines so far give: a field for each key.
+/// What the lines so far give: the version, and a field for each key that is supported.
 ///
 /// It stands for the numbers of those lines, by their keys, and has nothing else. So the checks of the next line are
 /// those of the grammar over these numbers.
 #[derive(Drop)]
 pub(crate) struct Draft {
-    version_read: bool,
+    version: Option<u8>,
     room: Option<Point>,
     body: Option<Poly>,
     obstacles: Vec<Poly>,
+    clearance: Option<u32>,
     start: Option<Point>,
-    goal: Option<Goal>,
+    goals: Vec<Goal>,
     step: Option<u32>,
     gamma: Option<u32>,
     seed: Option<u64>,
@@ -41,16 +43,40 @@ pub(crate) struct Draft {
     marks: Vec<Point>,
 }
 
-/// Whether a statement is the version, by its first word and the words after it.
-fn is_version(word: &[u8], words: &[u8]) -> bool
-    ensures { result ≡ is_version (word.now ∷ words_of words.now) }
+/// The version with this word.
+fn numbered_version(word: &[u8]) -> Option<u8>
+    ensures { result ≡ version_among word.now every_version }
 {
-    let Some((version, rest)) = next_word(words) else {
-        return false;
-    };
-    word == FORMAT_NAME.as_bytes()
-        && version == FORMAT_VERSION.as_bytes()
-        && next_word(rest).is_none()
+    if word == b"1".as_slice() {
+        Some(1)
+    } else if word == b"2".as_slice() {
+        Some(2)
+    } else {
+        None
+    }
+}
+
+/// Whether the version is read: version 1 alone.
+fn is_read(version: u8) -> bool
+    ensures { result ≡ supported.reads version }
+{
+    version == 1
+}
+
+/// The version that the first statement gives, by its first word and the words after it, if it is one that is read.
+fn version_of(word: &[u8], words: &[u8]) -> Option<u8>
+    ensures { result ≡ version_of supported.reads (word.now ∷ words_of words.now) }
+{
+    let (second, rest) = next_word(words)?;
+    if word != FORMAT_NAME.as_bytes() || next_word(rest).is_some() {
+        return None;
+    }
+    let version = numbered_version(second)?;
+    if is_read(version) {
+        Some(version)
+    } else {
+        None
+    }
 }
 
 /// The body, or without a line for it the point at the origin.
@@ -74,20 +100,21 @@ fn plan_of(drawn: Option<u32>, listed: Vec<Point>) -> Marks
 }
 
 impl Draft {
-    ghost use Rattle.scene_text.specs.Drafts.{given_by_draft, IsFormed, TakesLine};
+    ghost use Rattle.scene_text.specs.Drafts.{given_by_draft, IsFormed, IsSoundDraft, TakesLine};
 
     /// The draft before the first line.
     pub(crate) fn new(alloc: Global) -> Draft
-        ensures version_read { result.version_read ≡ false }
+        ensures version { result.version ≡ None }
         ensures given { given_by_draft result ≡ given_by [] }
     {
         Draft {
-            version_read: false,
+            version: None,
             room: None,
             body: None,
             obstacles: Vec::new(alloc),
+            clearance: None,
             start: None,
-            goal: None,
+            goals: Vec::new(alloc),
             step: None,
             gamma: None,
             seed: None,
@@ -105,12 +132,14 @@ impl Draft {
             Key::Room => usize::from(self.room.is_some()),
             Key::Body => usize::from(self.body.is_some()),
             Key::Obstacle => self.obstacles.len(),
+            Key::Clearance => usize::from(self.clearance.is_some()),
             Key::Start => usize::from(self.start.is_some()),
-            Key::Goal => usize::from(self.goal.is_some()),
+            Key::Goal => self.goals.len(),
             Key::Step => usize::from(self.step.is_some()),
             Key::Gamma => usize::from(self.gamma.is_some()),
             Key::Seed => usize::from(self.seed.is_some()),
             Key::Strips => usize::from(self.strips.is_some()),
+            Key::Informed => 0,
             Key::Marks => usize::from(self.drawn.is_some()),
             Key::Mark => self.marks.len(),
         }
@@ -124,10 +153,10 @@ impl Draft {
     }
 
     /// Whether the key may stand once and stands already, or one stands that may not stand beside it.
-    fn is_repeated(&self, key: Key) -> bool
-        ensures { result ≡ is_repeated (given_by_draft self.now) key }
+    fn is_repeated(&self, version: u8, key: Key) -> bool
+        ensures { result ≡ is_repeated version (given_by_draft self.now) key }
     {
-        if most_lines(key) == 1 && self.stands(key) {
+        if most_lines(version, key) == 1 && self.stands(key) {
             return true;
         }
         match rival_of(key) {
@@ -137,29 +166,29 @@ impl Draft {
     }
 
     /// Whether so many words after the key give too many corners, or no further line with the key may stand.
-    fn is_too_many(&self, key: Key, count: usize) -> bool
-        ensures { result ≡ is_too_many (given_by_draft self.now) key count }
+    fn is_too_many(&self, version: u8, key: Key, count: usize) -> bool
+        ensures { result ≡ is_too_many version (given_by_draft self.now) key count }
     {
-        2 * most_corners(key) < count || most_lines(key) <= self.count(key)
+        2 * most_corners(key) < count || most_lines(version, key) <= self.count(key)
     }
 
     /// Makes the checks of a line that come before those of its numbers.
-    fn check_form(&self, key: Key, words: &[u8]) -> Result<(), Kind>
-        ensures formed { OnOk result (IsFormed (given_by_draft self.now) key (words_of words.now)) }
+    fn check_form(&self, version: u8, key: Key, words: &[u8]) -> Result<(), Kind>
+        ensures formed { OnOk result (IsFormed version (given_by_draft self.now) key (words_of words.now)) }
         ensures refused { IfErr result (λ kind.
-            first_failing (checks_of supported (given_by_draft self.now) key (words_of words.now)) ≡ Some kind) }
+            first_failing (checks_of is_supported version (given_by_draft self.now) key (words_of words.now)) ≡ Some kind) }
     {
         let WordCount { count, are_numbers } = count_words(words);
         if !is_supported(key) {
             return Err(Kind::Unbuilt);
         }
-        if self.is_repeated(key) {
+        if self.is_repeated(version, key) {
             return Err(Kind::Repeat);
         }
         if !fits_words(key, count) {
             return Err(Kind::Words);
         }
-        if self.is_too_many(key, count) {
+        if self.is_too_many(version, key, count) {
             return Err(Kind::Many);
         }
         if !are_numbers {
@@ -169,26 +198,34 @@ impl Draft {
     }
 
     /// Takes the field that the numbers after the key give, or returns the first of their checks that fails.
-    fn take_field(&mut self, alloc: Global, key: Key, words: &[u8]) -> Result<(), LineRefusal>
-        requires { IsFormed (given_by_draft self.old) key (words_of words.now) }
-        ensures sound { OnOk result (first_failing (number_checks key (map value_of (words_of words.now))) ≡ None) }
-        ensures version_read { OnOk result (self.new.version_read ≡ self.old.version_read) }
+    fn take_field(
+        &mut self,
+        alloc: Global,
+        version: u8,
+        key: Key,
+        words: &[u8],
+    ) -> Result<(), LineRefusal>
+        requires { IsFormed version (given_by_draft self.old) key (words_of words.now) }
+        ensures sound { OnOk result (first_failing (number_checks version key (map value_of (words_of words.now))) ≡ None) }
+        ensures version { OnOk result (self.new.version ≡ self.old.version) }
         ensures given { OnOk result (given_by_draft self.new
             ≡ with_statement (given_by_draft self.old) (name_of key ∷ words_of words.now)) }
-        ensures refused { IfErr result (IsLineRefusal (first_failing (number_checks key (map value_of (words_of words.now))))) }
+        ensures refused { IfErr result (IsLineRefusal (first_failing (number_checks version key (map value_of (words_of words.now))))) }
     {
         match key {
-            Key::Room => self.room = Some(read_point(words, key)?),
-            Key::Body => self.body = Some(read_body(alloc, words)?),
-            Key::Obstacle => self.obstacles.push(read_obstacle(alloc, words)?)?,
-            Key::Start => self.start = Some(read_point(words, key)?),
-            Key::Goal => self.goal = Some(read_goal(words)?),
-            Key::Step => self.step = Some(read_amount(words, key)? as u32),
-            Key::Gamma => self.gamma = Some(read_amount(words, key)? as u32),
-            Key::Seed => self.seed = Some(read_amount(words, key)?),
-            Key::Strips => self.strips = Some(read_amount(words, key)? as u32),
-            Key::Marks => self.drawn = Some(read_amount(words, key)? as u32),
-            Key::Mark => self.marks.push(read_point(words, key)?)?,
+            Key::Room => self.room = Some(read_point(words, version, key)?),
+            Key::Body => self.body = Some(read_body(alloc, words, version)?),
+            Key::Obstacle => self.obstacles.push(read_obstacle(alloc, words, version)?)?,
+            Key::Clearance => self.clearance = Some(read_amount(words, version, key)? as u32),
+            Key::Start => self.start = Some(read_point(words, version, key)?),
+            Key::Goal => self.goals.push(read_goal(words, version)?)?,
+            Key::Step => self.step = Some(read_amount(words, version, key)? as u32),
+            Key::Gamma => self.gamma = Some(read_amount(words, version, key)? as u32),
+            Key::Seed => self.seed = Some(read_amount(words, version, key)?),
+            Key::Strips => self.strips = Some(read_amount(words, version, key)? as u32),
+            Key::Informed => unreachable!(),
+            Key::Marks => self.drawn = Some(read_amount(words, version, key)? as u32),
+            Key::Mark => self.marks.push(read_point(words, version, key)?)?,
         }
         Ok(())
     }
@@ -197,24 +234,27 @@ impl Draft {
     fn take_statement(
         &mut self,
         alloc: Global,
+        version: u8,
         word: &[u8],
         words: &[u8],
     ) -> Result<(), LineRefusal>
-        ensures sound { OnOk result (fault_of_statement supported (given_by_draft self.old) (word.now ∷ words_of words.now) ≡ None) }
-        ensures version_read { OnOk result (self.new.version_read ≡ self.old.version_read) }
+        ensures sound { OnOk result
+            (fault_of_statement is_supported version (given_by_draft self.old) (word.now ∷ words_of words.now) ≡ None) }
+        ensures version { OnOk result (self.new.version ≡ self.old.version) }
         ensures given { OnOk result (given_by_draft self.new ≡ with_statement (given_by_draft self.old) (word.now ∷ words_of words.now)) }
-        ensures refused { IfErr result (IsLineRefusal (fault_of_statement supported (given_by_draft self.old) (word.now ∷ words_of words.now))) }
+        ensures refused { IfErr result
+            (IsLineRefusal (fault_of_statement is_supported version (given_by_draft self.old) (word.now ∷ words_of words.now))) }
     {
-        let key = key_of(word).ok_or(Kind::Key)?;
-        self.check_form(key, words)?;
-        self.take_field(alloc, key, words)
+        let key = key_of(version, word).ok_or(Kind::Key)?;
+        self.check_form(version, key, words)?;
+        self.take_field(alloc, version, key, words)
     }
 
     /// Takes a line, or returns the first check that it fails.
     pub(crate) fn take_line(&mut self, alloc: Global, line: &[u8]) -> Result<(), LineRefusal>
         ensures taken { OnOk result (TakesLine self.old self.new (words_of line.now)) }
         ensures refused { IfErr result (IsLineRefusal
-            (fault_of_words supported self.old.version_read (given_by_draft self.old) (words_of line.now))) }
+            (fault_of_words supported self.old.version (given_by_draft self.old) (words_of line.now))) }
     {
         let Some((word, words)) = next_word(line) else {
             return Ok(());
@@ -222,43 +262,46 @@ impl Draft {
         if word.first() == Some(&b'#') {
             return Ok(());
         }
-        if self.version_read {
-            return self.take_statement(alloc, word, words);
+        if let Some(version) = self.version {
+            return self.take_statement(alloc, version, word, words);
         }
-        if !is_version(word, words) {
+        let Some(version) = version_of(word, words) else {
             return Err(LineRefusal::Fault(Kind::Version));
-        }
-        self.version_read = true;
+        };
+        self.version = Some(version);
         Ok(())
     }
 
     /// The scene that the lines give, or what is missing.
     pub(crate) fn into_scene(self, alloc: Global) -> Result<Scene, LineRefusal>
-        requires { AllMayStand (given_by_draft self) }
-        ensures whole { OnOk result (fault_at_end self.version_read (given_by_draft self) ≡ None) }
-        ensures fields { IfOk result (HasFields (given_by_draft self)) }
-        ensures refused { IfErr result (IsLineRefusal (fault_at_end self.version_read (given_by_draft self))) }
+        requires { IsSoundDraft self }
+        ensures whole { OnOk result (fault_at_end self.version (given_by_draft self) ≡ None) }
+        ensures fields { IfOk result (HasFields self.version (given_by_draft self)) }
+        ensures refused { IfErr result (IsLineRefusal (fault_at_end self.version (given_by_draft self))) }
     {
-        if !self.version_read {
+        let Some(version) = self.version else {
             return Err(LineRefusal::Fault(Kind::Version));
-        }
-        let (Some(room), Some(start), Some(goal), Some(step)) = (
-            self.room, self.start, self.goal, self.step,
-        ) else {
+        };
+        let (Some(room), Some(start), Some(step)) = (self.room, self.start, self.step) else {
             return Err(LineRefusal::Fault(Kind::Missing));
         };
+        if self.goals.is_empty() {
+            return Err(LineRefusal::Fault(Kind::Missing));
+        }
         let body = body_or_origin(alloc, self.body)?;
         Ok(Scene {
-            version: 1,
+            version,
             room,
             body,
             obstacles: Polys::from_vec(self.obstacles),
+            clearance: self.clearance.unwrap_or(0),
             start,
-            goal,
+            goals: Goals::from_vec(self.goals),
             step,
             gamma: self.gamma.unwrap_or(0),
             seed: self.seed.unwrap_or(0),
             strips: self.strips.unwrap_or(1),
+            informed: false,
             plan: plan_of(self.drawn, self.marks),
         })
     }

@@ -21,79 +21,79 @@ use plan_model::{Goal, Key, Kind, Point, Poly, Vertex, integer, next_word};
 use std::alloc::Global;
 
 /// The first of the numbers, if it may stand after the key, and the words after it.
-fn read_number(words: &[u8], key: Key) -> Option<(i128, &[u8])>
+fn read_number(words: &[u8], version: u8, key: Key) -> Option<(i128, &[u8])>
     requires numbers { IsTrue (list_all is_number (words_of words.now)) }
     requires some { 0 < length (words_of words.now) }
     ensures value { IfSome result (λ found. map value_of (words_of words.now) ≡ found.0 ∷ map value_of (words_of found.1.now)) }
-    ensures within { IfSome result (λ found. are_between (least_of key) (most_of key) (found.0 ∷ []) ≡ true) }
+    ensures within { IfSome result (λ found. are_between (least_of version key) (most_of version key) (found.0 ∷ []) ≡ true) }
     ensures rest { IfSome result (λ found. IsTrue (list_all is_number (words_of found.1.now))) }
-    ensures outside { IfNone result (are_between (least_of key) (most_of key) (map value_of (words_of words.now)) ≡ false) }
+    ensures outside { IfNone result (are_between (least_of version key) (most_of version key) (map value_of (words_of words.now)) ≡ false) }
 {
     let (word, rest) = next_word(words)?;
-    let number = integer(word, range_of(key))?;
+    let number = integer(word, range_of(version, key))?;
     Some((number, rest))
 }
 
 /// The first of the numbers as one that is not negative, if it may stand after the key, and the words after it.
-fn read_natural(words: &[u8], key: Key) -> Option<(u32, &[u8])>
+fn read_natural(words: &[u8], version: u8, key: Key) -> Option<(u32, &[u8])>
     requires numbers { IsTrue (list_all is_number (words_of words.now)) }
     requires some { 0 < length (words_of words.now) }
-    requires natural { pos 0 ≤ℤ least_of key }
-    requires narrow { most_of key ≤ℤ pos u32.MAX }
+    requires natural { pos 0 ≤ℤ least_of version key }
+    requires narrow { most_of version key ≤ℤ pos u32.MAX }
     ensures value { IfSome result (λ found. map value_of (words_of words.now) ≡ pos found.0 ∷ map value_of (words_of found.1.now)) }
-    ensures within { IfSome result (λ found. are_between (least_of key) (most_of key) (pos found.0 ∷ []) ≡ true) }
+    ensures within { IfSome result (λ found. are_between (least_of version key) (most_of version key) (pos found.0 ∷ []) ≡ true) }
     ensures rest { IfSome result (λ found. IsTrue (list_all is_number (words_of found.1.now))) }
-    ensures outside { IfNone result (are_between (least_of key) (most_of key) (map value_of (words_of words.now)) ≡ false) }
+    ensures outside { IfNone result (are_between (least_of version key) (most_of version key) (map value_of (words_of words.now)) ≡ false) }
 {
-    let (number, rest) = read_number(words, key)?;
+    let (number, rest) = read_number(words, version, key)?;
     Some((number as u32, rest))
 }
 
 /// The point that the first two of the numbers give, if they may stand after the key, and the words after them.
-fn read_place(words: &[u8], key: Key) -> Option<(Point, &[u8])>
+fn read_place(words: &[u8], version: u8, key: Key) -> Option<(Point, &[u8])>
     requires numbers { IsTrue (list_all is_number (words_of words.now)) }
     requires two { 1 < length (words_of words.now) }
-    requires natural { pos 0 ≤ℤ least_of key }
-    requires narrow { most_of key ≤ℤ pos u32.MAX }
+    requires natural { pos 0 ≤ℤ least_of version key }
+    requires narrow { most_of version key ≤ℤ pos u32.MAX }
     ensures value { IfSome result (λ found. map value_of (words_of words.now)
         ≡ pos found.0.x ∷ pos found.0.y ∷ map value_of (words_of found.1.now)) }
-    ensures within { IfSome result (λ found. are_between (least_of key) (most_of key) (point_numbers found.0) ≡ true) }
+    ensures within { IfSome result (λ found. are_between (least_of version key) (most_of version key) (point_numbers found.0) ≡ true) }
     ensures rest { IfSome result (λ found. IsTrue (list_all is_number (words_of found.1.now))) }
-    ensures outside { IfNone result (are_between (least_of key) (most_of key) (map value_of (words_of words.now)) ≡ false) }
+    ensures outside { IfNone result (are_between (least_of version key) (most_of version key) (map value_of (words_of words.now)) ≡ false) }
 {
-    let (x, rest) = read_natural(words, key)?;
-    let (y, rest) = read_natural(rest, key)?;
+    let (x, rest) = read_natural(words, version, key)?;
+    let (y, rest) = read_natural(rest, version, key)?;
     Some((Point { x, y }, rest))
 }
 
 /// The point that two numbers give, in lattice steps.
 ///
 /// The error is `Range` if one of them may not stand after the key.
-pub(crate) fn read_point(words: &[u8], key: Key) -> Result<Point, Kind>
+pub(crate) fn read_point(words: &[u8], version: u8, key: Key) -> Result<Point, Kind>
     requires numbers { IsTrue (list_all is_number (words_of words.now)) }
     requires two { length (words_of words.now) ≡ 2 }
-    requires natural { pos 0 ≤ℤ least_of key }
-    requires narrow { most_of key ≤ℤ pos u32.MAX }
+    requires natural { pos 0 ≤ℤ least_of version key }
+    requires narrow { most_of version key ≤ℤ pos u32.MAX }
     ensures value { IfOk result (λ point. map value_of (words_of words.now) ≡ point_numbers point) }
-    ensures inside { is_ok result ≡ are_between (least_of key) (most_of key) (map value_of (words_of words.now)) }
+    ensures inside { is_ok result ≡ are_between (least_of version key) (most_of version key) (map value_of (words_of words.now)) }
     ensures outside { IfErr result (λ kind. kind ≡ kinds.Range) }
 {
-    let (point, _) = read_place(words, key).ok_or(Kind::Range)?;
+    let (point, _) = read_place(words, version, key).ok_or(Kind::Range)?;
     Ok(point)
 }
 
 /// The goal that four numbers give, its lower left and its upper right corner.
 ///
 /// The error is `Range` if one of them may not stand there, or the corners are in the wrong order.
-pub(crate) fn read_goal(words: &[u8]) -> Result<Goal, Kind>
+pub(crate) fn read_goal(words: &[u8], version: u8) -> Result<Goal, Kind>
     requires numbers { IsTrue (list_all is_number (words_of words.now)) }
     requires four { length (words_of words.now) ≡ 4 }
     ensures value { IfOk result (λ goal. map value_of (words_of words.now) ≡ goal_numbers goal) }
-    ensures inside { is_ok result ≡ is_in_range keys.Goal (map value_of (words_of words.now)) }
+    ensures inside { is_ok result ≡ is_in_range version keys.Goal (map value_of (words_of words.now)) }
     ensures outside { IfErr result (λ kind. kind ≡ kinds.Range) }
 {
-    let (low, rest) = read_place(words, Key::Goal).ok_or(Kind::Range)?;
-    let (high, _) = read_place(rest, Key::Goal).ok_or(Kind::Range)?;
+    let (low, rest) = read_place(words, version, Key::Goal).ok_or(Kind::Range)?;
+    let (high, _) = read_place(rest, version, Key::Goal).ok_or(Kind::Range)?;
     if high.x < low.x || high.y < low.y {
         return Err(Kind::Range);
     }
@@ -103,67 +103,72 @@ pub(crate) fn read_goal(words: &[u8]) -> Result<Goal, Kind>
 /// The number that stands alone.
 ///
 /// The error is `Range` if it may not stand after the key.
-pub(crate) fn read_amount(words: &[u8], key: Key) -> Result<u64, Kind>
+pub(crate) fn read_amount(words: &[u8], version: u8, key: Key) -> Result<u64, Kind>
     requires numbers { IsTrue (list_all is_number (words_of words.now)) }
     requires one { length (words_of words.now) ≡ 1 }
-    requires natural { pos 0 ≤ℤ least_of key }
-    requires narrow { most_of key ≤ℤ pos u64.MAX }
+    requires natural { pos 0 ≤ℤ least_of version key }
+    requires narrow { most_of version key ≤ℤ pos u64.MAX }
     ensures value { IfOk result (λ amount. map value_of (words_of words.now) ≡ pos amount ∷ []) }
-    ensures within { IfOk result (λ amount. pos amount ≤ℤ most_of key) }
-    ensures inside { is_ok result ≡ are_between (least_of key) (most_of key) (map value_of (words_of words.now)) }
+    ensures within { IfOk result (λ amount. pos amount ≤ℤ most_of version key) }
+    ensures inside { is_ok result ≡ are_between (least_of version key) (most_of version key) (map value_of (words_of words.now)) }
     ensures outside { IfErr result (λ kind. kind ≡ kinds.Range) }
 {
-    let (amount, _) = read_number(words, key).ok_or(Kind::Range)?;
+    let (amount, _) = read_number(words, version, key).ok_or(Kind::Range)?;
     Ok(amount as u64)
 }
 
 /// The first of the numbers as a corner's coordinate, if it may stand after the key, and the words after it.
-fn read_coordinate(words: &[u8], key: Key) -> Option<(i32, &[u8])>
+fn read_coordinate(words: &[u8], version: u8, key: Key) -> Option<(i32, &[u8])>
     requires numbers { IsTrue (list_all is_number (words_of words.now)) }
     requires some { 0 < length (words_of words.now) }
-    requires low { i32.MIN ≤ℤ least_of key }
-    requires high { most_of key ≤ℤ i32.MAX }
+    requires low { i32.MIN ≤ℤ least_of version key }
+    requires high { most_of version key ≤ℤ i32.MAX }
     ensures value { IfSome result (λ found. map value_of (words_of words.now) ≡ found.0 ∷ map value_of (words_of found.1.now)) }
-    ensures within { IfSome result (λ found. are_between (least_of key) (most_of key) (found.0 ∷ []) ≡ true) }
+    ensures within { IfSome result (λ found. are_between (least_of version key) (most_of version key) (found.0 ∷ []) ≡ true) }
     ensures rest { IfSome result (λ found. IsTrue (list_all is_number (words_of found.1.now))) }
-    ensures outside { IfNone result (are_between (least_of key) (most_of key) (map value_of (words_of words.now)) ≡ false) }
+    ensures outside { IfNone result (are_between (least_of version key) (most_of version key) (map value_of (words_of words.now)) ≡ false) }
 {
-    let (number, rest) = read_number(words, key)?;
+    let (number, rest) = read_number(words, version, key)?;
     Some((number as i32, rest))
 }
 
 /// The first of the corners, if its numbers may stand after the key, and the words after it.
-fn read_corner(words: &[u8], key: Key) -> Option<(Vertex, &[u8])>
+fn read_corner(words: &[u8], version: u8, key: Key) -> Option<(Vertex, &[u8])>
     requires numbers { IsTrue (list_all is_number (words_of words.now)) }
     requires two { 1 < length (words_of words.now) }
-    requires low { i32.MIN ≤ℤ least_of key }
-    requires high { most_of key ≤ℤ i32.MAX }
+    requires low { i32.MIN ≤ℤ least_of version key }
+    requires high { most_of version key ≤ℤ i32.MAX }
     ensures value { IfSome result (λ found. map value_of (words_of words.now)
         ≡ found.0.x ∷ found.0.y ∷ map value_of (words_of found.1.now)) }
-    ensures within { IfSome result (λ found. are_between (least_of key) (most_of key) (found.0.x ∷ found.0.y ∷ []) ≡ true) }
+    ensures within { IfSome result (λ found. are_between (least_of version key) (most_of version key) (found.0.x ∷ found.0.y ∷ []) ≡ true) }
     ensures rest { IfSome result (λ found. IsTrue (list_all is_number (words_of found.1.now))) }
-    ensures outside { IfNone result (are_between (least_of key) (most_of key) (map value_of (words_of words.now)) ≡ false) }
+    ensures outside { IfNone result (are_between (least_of version key) (most_of version key) (map value_of (words_of words.now)) ≡ false) }
 {
-    let (x, rest) = read_coordinate(words, key)?;
-    let (y, rest) = read_coordinate(rest, key)?;
+    let (x, rest) = read_coordinate(words, version, key)?;
+    let (y, rest) = read_coordinate(rest, version, key)?;
     Some((Vertex { x, y }, rest))
 }
 
 /// The corners that the numbers give, two for each. The error is `Range` if a number may not stand after the key.
-fn read_corners(alloc: Global, words: &[u8], key: Key) -> Result<Vec<Vertex>, LineRefusal>
+fn read_corners(
+    alloc: Global,
+    words: &[u8],
+    version: u8,
+    key: Key,
+) -> Result<Vec<Vertex>, LineRefusal>
     requires numbers { IsTrue (list_all is_number (words_of words.now)) }
     requires pairs { length (words_of words.now) % 2 ≡ 0 }
-    requires low { i32.MIN ≤ℤ least_of key }
-    requires high { most_of key ≤ℤ i32.MAX }
+    requires low { i32.MIN ≤ℤ least_of version key }
+    requires high { most_of version key ≤ℤ i32.MAX }
     ensures value { IfOk result (λ corners. map value_of (words_of words.now) ≡ corner_numbers corners.items) }
-    ensures within { OnOk result (are_between (least_of key) (most_of key) (map value_of (words_of words.now)) ≡ true) }
+    ensures within { OnOk result (are_between (least_of version key) (most_of version key) (map value_of (words_of words.now)) ≡ true) }
     ensures outside { IfErr result (IsLineRefusal
-        (if are_between (least_of key) (most_of key) (map value_of (words_of words.now)) then None else Some kinds.Range)) }
+        (if are_between (least_of version key) (most_of version key) (map value_of (words_of words.now)) then None else Some kinds.Range)) }
 {
     let mut corners = Vec::new(alloc);
     let mut rest = words;
     while next_word(rest).is_some() {
-        let (corner, after) = read_corner(rest, key).ok_or(Kind::Range)?;
+        let (corner, after) = read_corner(rest, version, key).ok_or(Kind::Range)?;
         corners.push(corner)?;
         rest = after;
     }
@@ -176,14 +181,14 @@ fn read_corners(alloc: Global, words: &[u8], key: Key) -> Result<Vec<Vertex>, Li
 ///
 /// `Range` if a coordinate is out of its range, `Corners` if the corners are not strictly convex and counterclockwise, and
 /// `Memory` if out of memory.
-pub(crate) fn read_obstacle(alloc: Global, words: &[u8]) -> Result<Poly, LineRefusal>
+pub(crate) fn read_obstacle(alloc: Global, words: &[u8], version: u8) -> Result<Poly, LineRefusal>
     requires numbers { IsTrue (list_all is_number (words_of words.now)) }
     requires pairs { length (words_of words.now) % 2 ≡ 0 }
     ensures value { IfOk result (λ corners. map value_of (words_of words.now) ≡ corner_numbers corners) }
-    ensures sound { OnOk result (first_failing (number_checks keys.Obstacle (map value_of (words_of words.now))) ≡ None) }
-    ensures refused { IfErr result (IsLineRefusal (first_failing (number_checks keys.Obstacle (map value_of (words_of words.now))))) }
+    ensures sound { OnOk result (first_failing (number_checks version keys.Obstacle (map value_of (words_of words.now))) ≡ None) }
+    ensures refused { IfErr result (IsLineRefusal (first_failing (number_checks version keys.Obstacle (map value_of (words_of words.now))))) }
 {
-    let corners = read_corners(alloc, words, Key::Obstacle)?;
+    let corners = read_corners(alloc, words, version, Key::Obstacle)?;
     if !is_convex(corners.as_slice()) {
         return Err(LineRefusal::Fault(Kind::Corners));
     }
@@ -204,14 +209,14 @@ fn is_point_or_convex(corners: &[Vertex]) -> bool
 ///
 /// `Range` if a coordinate is out of its range, `Corners` if three corners or more are not strictly convex and
 /// counterclockwise, and `Memory` if out of memory.
-pub(crate) fn read_body(alloc: Global, words: &[u8]) -> Result<Poly, LineRefusal>
+pub(crate) fn read_body(alloc: Global, words: &[u8], version: u8) -> Result<Poly, LineRefusal>
     requires numbers { IsTrue (list_all is_number (words_of words.now)) }
     requires pairs { length (words_of words.now) % 2 ≡ 0 }
     ensures value { IfOk result (λ corners. map value_of (words_of words.now) ≡ corner_numbers corners) }
-    ensures sound { OnOk result (first_failing (number_checks keys.Body (map value_of (words_of words.now))) ≡ None) }
-    ensures refused { IfErr result (IsLineRefusal (first_failing (number_checks keys.Body (map value_of (words_of words.now))))) }
+    ensures sound { OnOk result (first_failing (number_checks version keys.Body (map value_of (words_of words.now))) ≡ None) }
+    ensures refused { IfErr result (IsLineRefusal (first_failing (number_checks version keys.Body (map value_of (words_of words.now))))) }
 {
-    let corners = read_corners(alloc, words, Key::Body)?;
+    let corners = read_corners(alloc, words, version, Key::Body)?;
     if !is_point_or_convex(corners.as_slice()) {
         return Err(LineRefusal::Fault(Kind::Corners));
     }

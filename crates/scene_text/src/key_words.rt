@@ -1,25 +1,47 @@
-//! The keys of lines, and the tables of what may stand after each key, and how often.
+//! The versions, the keys of lines, and the tables of what may stand after each key, and how often, by the version.
 
 ghost use Rattle.std.specs.Prelude.{◌≡◌, pos};
-ghost use Rattle.plan_model.specs.Keys.{key_of, fits_words, least_of, most_corners, most_lines, most_of, rival_of};
-ghost use Rattle.plan_model.specs.SceneGrammar.{supported};
+ghost use Rattle.plan_model.specs.Keys.{every_key, fits_words, is_key, key_among, key_of, least_of, most_corners, most_lines, most_of, rival_of};
+ghost use Rattle.plan_model.specs.Limits.{by_version, most_obstacle_coordinate};
+ghost use Rattle.plan_model.specs.SceneGrammar.{is_supported};
 
 use plan_model::{
-    Key, LEAST_BODY_COORDINATE, LEAST_CORNERS, LEAST_OBSTACLE_COORDINATE, LEAST_SIDE, LEAST_STEP,
-    LEAST_STRIPS, MOST_BODY_COORDINATE, MOST_BODY_CORNERS, MOST_GAMMA, MOST_MARKS,
-    MOST_OBSTACLE_COORDINATE, MOST_OBSTACLE_CORNERS, MOST_OBSTACLES, MOST_SEED, MOST_SIDE,
-    MOST_STEP, MOST_STRIPS, NumberRange,
+    Key, LEAST_BODY_COORDINATE, LEAST_CORNERS, LEAST_OBSTACLE_COORDINATE,
+    LEAST_OBSTACLE_COORDINATE_OF_VERSION_2, LEAST_SIDE, LEAST_STEP, LEAST_STRIPS,
+    MOST_BODY_COORDINATE, MOST_BODY_CORNERS, MOST_CLEARANCE, MOST_GAMMA, MOST_GOALS, MOST_MARKS,
+    MOST_OBSTACLE_COORDINATE, MOST_OBSTACLE_COORDINATE_OF_VERSION_2, MOST_OBSTACLE_CORNERS,
+    MOST_OBSTACLES, MOST_SEED, MOST_SIDE, MOST_SIDE_OF_VERSION_2, MOST_STEP,
+    MOST_STEP_OF_VERSION_2, MOST_STRIPS, NumberRange,
 };
 
 /// The word that a scene text begins with.
 pub(crate) const FORMAT_NAME: &str = "prrt";
 
-/// The second word, the version of the format.
-pub(crate) const FORMAT_VERSION: &str = "1";
+/// The key of the version that a word names.
+pub(crate) fn key_of(version: u8, word: &[u8]) -> Option<Key>
+    ensures { result ≡ key_of version word.now }
+{
+    let key = named_key(word)?;
+    if is_key(version, key) {
+        Some(key)
+    } else {
+        None
+    }
+}
 
-/// The key that a word names.
-pub(crate) fn key_of(word: &[u8]) -> Option<Key>
-    ensures { result ≡ key_of word.now }
+/// Whether the key is one of the version.
+fn is_key(version: u8, key: Key) -> bool
+    ensures { result ≡ is_key version key }
+{
+    match key {
+        Key::Clearance | Key::Informed => version != 1,
+        _ => true,
+    }
+}
+
+/// The key of any version that a word names.
+fn named_key(word: &[u8]) -> Option<Key>
+    ensures { result ≡ key_among word.now every_key }
 {
     if word == b"room".as_slice() {
         Some(Key::Room)
@@ -27,6 +49,8 @@ pub(crate) fn key_of(word: &[u8]) -> Option<Key>
         Some(Key::Body)
     } else if word == b"obstacle".as_slice() {
         Some(Key::Obstacle)
+    } else if word == b"clearance".as_slice() {
+        Some(Key::Clearance)
     } else if word == b"start".as_slice() {
         Some(Key::Start)
     } else if word == b"goal".as_slice() {
@@ -39,6 +63,8 @@ pub(crate) fn key_of(word: &[u8]) -> Option<Key>
         Some(Key::Seed)
     } else if word == b"strips".as_slice() {
         Some(Key::Strips)
+    } else if word == b"informed".as_slice() {
+        Some(Key::Informed)
     } else if word == b"marks".as_slice() {
         Some(Key::Marks)
     } else if word == b"mark".as_slice() {
@@ -48,14 +74,16 @@ pub(crate) fn key_of(word: &[u8]) -> Option<Key>
     }
 }
 
-/// Whether this version of the reader supports the key. This version supports each.
+/// Whether the reader supports the key. It supports each but `informed`.
 pub(crate) fn is_supported(key: Key) -> bool
-    ensures { result ≡ supported key }
+    ensures { result ≡ is_supported key }
 {
     match key {
+        Key::Informed => false,
         Key::Room
         | Key::Body
         | Key::Obstacle
+        | Key::Clearance
         | Key::Start
         | Key::Goal
         | Key::Step
@@ -76,7 +104,13 @@ pub(crate) fn fits_words(key: Key, count: usize) -> bool
         Key::Body => count == 2 || (count % 2 == 0 && 2 * LEAST_CORNERS <= count),
         Key::Obstacle => count % 2 == 0 && 2 * LEAST_CORNERS <= count,
         Key::Goal => count == 4,
-        Key::Step | Key::Gamma | Key::Seed | Key::Strips | Key::Marks => count == 1,
+        Key::Clearance
+        | Key::Step
+        | Key::Gamma
+        | Key::Seed
+        | Key::Strips
+        | Key::Informed
+        | Key::Marks => count == 1,
     }
 }
 
@@ -92,11 +126,12 @@ pub(crate) fn most_corners(key: Key) -> usize
 }
 
 /// How many lines with the key may stand.
-pub(crate) fn most_lines(key: Key) -> usize
-    ensures { result ≡ most_lines key }
+pub(crate) fn most_lines(version: u8, key: Key) -> usize
+    ensures { result ≡ most_lines version key }
 {
     match key {
         Key::Obstacle => MOST_OBSTACLES,
+        Key::Goal => by_version(version, 1, MOST_GOALS),
         Key::Mark => MOST_MARKS as usize,
         _ => 1,
     }
@@ -114,24 +149,35 @@ pub(crate) fn rival_of(key: Key) -> Option<Key>
 }
 
 /// The numbers that may stand after the key.
-pub(crate) fn range_of(key: Key) -> NumberRange
-    ensures least { result.least ≡ least_of key }
-    ensures most { pos result.most ≡ most_of key }
+pub(crate) fn range_of(version: u8, key: Key) -> NumberRange
+    ensures least { result.least ≡ least_of version key }
+    ensures most { pos result.most ≡ most_of version key }
 {
     NumberRange {
-        least: least_of(key),
-        most: most_of(key),
+        least: least_of(version, key),
+        most: most_of(version, key),
     }
 }
 
+/// The first value in version 1, and the second one in version 2.
+fn by_version<T: Copy>(version: u8, first: T, second: T) -> T
+    ensures { result ≡ by_version version first second }
+{
+    if version == 1 { first } else { second }
+}
+
 /// The least number that may stand after the key.
-fn least_of(key: Key) -> i32
-    ensures { result ≡ least_of key }
+fn least_of(version: u8, key: Key) -> i32
+    ensures { result ≡ least_of version key }
 {
     match key {
         Key::Room => LEAST_SIDE as i32,
         Key::Body => LEAST_BODY_COORDINATE,
-        Key::Obstacle => LEAST_OBSTACLE_COORDINATE,
+        Key::Obstacle => by_version(
+            version,
+            LEAST_OBSTACLE_COORDINATE,
+            LEAST_OBSTACLE_COORDINATE_OF_VERSION_2,
+        ),
         Key::Step => LEAST_STEP as i32,
         Key::Strips => LEAST_STRIPS as i32,
         _ => 0,
@@ -139,17 +185,30 @@ fn least_of(key: Key) -> i32
 }
 
 /// The greatest number that may stand after the key.
-fn most_of(key: Key) -> u64
-    ensures { pos result ≡ most_of key }
+fn most_of(version: u8, key: Key) -> u64
+    ensures { pos result ≡ most_of version key }
 {
     match key {
         Key::Body => MOST_BODY_COORDINATE as u64,
-        Key::Obstacle => MOST_OBSTACLE_COORDINATE as u64,
-        Key::Step => u64::from(MOST_STEP),
+        Key::Obstacle => most_obstacle_coordinate(version),
+        Key::Clearance => u64::from(by_version(version, 0, MOST_CLEARANCE)),
+        Key::Step => u64::from(by_version(version, MOST_STEP, MOST_STEP_OF_VERSION_2)),
         Key::Gamma => u64::from(MOST_GAMMA),
         Key::Seed => MOST_SEED,
         Key::Strips => u64::from(MOST_STRIPS),
+        Key::Informed => by_version(version, 0, 1),
         Key::Marks => u64::from(MOST_MARKS),
-        _ => u64::from(MOST_SIDE),
+        _ => u64::from(by_version(version, MOST_SIDE, MOST_SIDE_OF_VERSION_2)),
+    }
+}
+
+/// The greatest coordinate of an obstacle's corner.
+fn most_obstacle_coordinate(version: u8) -> u64
+    ensures { pos result ≡ most_obstacle_coordinate version }
+{
+    if version == 1 {
+        MOST_OBSTACLE_COORDINATE as u64
+    } else {
+        MOST_OBSTACLE_COORDINATE_OF_VERSION_2 as u64
     }
 }

@@ -2,17 +2,20 @@
 
 ghost use Rattle.std.specs.Prelude.{◌≡◌, ℕ, ◌≤◌, length};
 ghost use Rattle.plan_model.specs.declared.scenes.Scene.{Scene};
-ghost use Rattle.plan_model.specs.CanonicalText.{canonical_text};
+ghost use Rattle.plan_model.specs.CanonicalText.{canonical_text, Covers};
 ghost use Rattle.plan_model.specs.declared.text_terms.Kind.{Kind};
-ghost use Rattle.plan_model.specs.SceneGrammar.{Spells, Refused, supported};
+ghost use Rattle.plan_model.specs.LineChecks.{Format};
+ghost use Rattle.plan_model.specs.SceneGrammar.{Spells, Refused};
 ghost use Rattle.plan_model.specs.declared.limits.TheConstants.{MOST_TEXT_BYTES};
 
-/// What is written for a scene is read as the same scene: its canonical text spells this scene and no other, is never
-/// refused, and is never too long to be read. So two scenes with the same canonical text are the same.
+/// What is written for a scene is read as the same scene: in each format that has its version and its keys its canonical
+/// text spells this scene and no other, and is not refused; and it is never too long to be read. Two scenes with the same
+/// canonical text are the same.
 pub fn written_scenes_are_read_again()
-    ensures spells { (scene : Scene) → Spells supported (canonical_text scene) scene }
-    ensures alone { (scene other : Scene) → Spells supported (canonical_text scene) other → other ≡ scene }
-    ensures sound { (scene : Scene) (number : ℕ) (kind : Kind) → ¬ Refused supported (canonical_text scene) number kind }
+    ensures spells { (format : Format) (scene : Scene) → Covers format scene → Spells format (canonical_text scene) scene }
+    ensures alone { (format : Format) (scene other : Scene) → Covers format scene → Spells format (canonical_text scene) other → other ≡ scene }
+    ensures sound { (format : Format) (scene : Scene) (number : ℕ) (kind : Kind) → Covers format scene
+        → ¬ Refused format (canonical_text scene) number kind }
     ensures distinct { (scene other : Scene) → canonical_text scene ≡ canonical_text other → scene ≡ other }
     ensures fits { (scene : Scene) → length (canonical_text scene) ≤ MOST_TEXT_BYTES }
 {}

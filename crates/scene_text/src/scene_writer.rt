@@ -1,40 +1,54 @@
 //! The writer of a scene's canonical text.
 
-ghost use Rattle.std.specs.Prelude.{◌≡◌, ◌≤◌, ◌∷◌, ◌++◌, length, map, flat_map, string_bytes, IfOk, OnOk};
+ghost use Rattle.std.specs.Prelude.{◌≡◌, ◌≤◌, [], ◌∷◌, ◌++◌, length, map, flat_map, string_bytes, IfOk, OnOk};
 ghost use Rattle.std.specs.Fmt.{signed_decimal};
-ghost use Rattle.plan_model.specs.CanonicalText.{canonical_text, corner_numbers, obstacle_statement, mark_statement, plan_statements, task_statements};
+ghost use Rattle.plan_model.specs.CanonicalText.{canonical_text, corner_numbers, goal_statement, mark_statement, obstacle_statement};
+ghost use Rattle.plan_model.specs.CanonicalText.{informed_statements, plan_statements, point_numbers, search_statements, statement, task_statements};
+ghost use Rattle.plan_model.specs.CanonicalText.{version_statement};
+ghost use Rattle.plan_model.specs.declared.text_terms.Key.TheVariants as keys;
 ghost use Rattle.plan_model.specs.ReportText.{line};
 ghost use Rattle.plan_model.specs.SceneGrammar.{Spells, supported};
 ghost use Rattle.plan_model.specs.declared.limits.TheConstants.{MOST_TEXT_BYTES};
 
-use crate::key_words::{FORMAT_NAME, FORMAT_VERSION};
-use plan_model::{Marks, Memory, Point, Poly, Scene, Vertex};
+use plan_model::{Goal, Marks, Memory, Point, Poly, Scene, Vertex};
 use std::alloc::{AllocError, Global};
 
-/// The canonical text of a scene: one text for each scene, with a line for each field, one space between words and a
-/// line feed at the end of each line. It is never too long to be read. O(n) for n bytes of it.
+/// The canonical text of a scene of version 1: one text for each scene, with a line for each field, one space between words
+/// and a line feed at the end of each line. It is never too long to be read. O(n) for n bytes of it.
 ///
 /// # Errors
 ///
 /// `Memory` if out of memory for the text.
 pub fn write_scene(alloc: Global, scene: &Scene) -> Result<Vec<u8>, Memory>
+    requires first { scene.now.version ≡ 1 }
     ensures text { IfOk result (λ text. text.items ≡ canonical_text scene.now) }
     // read again, it gives this scene
     ensures spells { IfOk result (λ text. Spells supported text.items scene.now) }
     ensures fits { IfOk result (λ text. length text.items ≤ MOST_TEXT_BYTES) }
 {
     let mut text = String::new(alloc);
-    let room = scene.room;
-    write!(
-        text,
-        "{FORMAT_NAME} {FORMAT_VERSION}\nroom {} {}\n",
-        room.x, room.y
-    )?;
+    push_head(&mut text, scene.room)?;
     push_polygon(&mut text, "body", scene.body.as_slice())?;
     push_obstacles(&mut text, scene.obstacles.as_slice())?;
     push_task(&mut text, scene)?;
     push_plan(&mut text, &scene.plan)?;
     Ok(text.into_bytes())
+}
+
+/// The lines of version 1 and of the room.
+fn push_head(text: &mut String, room: Point) -> Result<(), AllocError>
+    ensures { OnOk result (string_bytes text.new ≡ string_bytes text.old
+        ++ flat_map line (version_statement 1 ∷ statement keys.Room (point_numbers room) ∷ [])) }
+{
+    text.push_str("prrt 1\n")?;
+    push_room(text, room)
+}
+
+/// The line of the room.
+fn push_room(text: &mut String, room: Point) -> Result<(), AllocError>
+    ensures { OnOk result (string_bytes text.new ≡ string_bytes text.old ++ line (statement keys.Room (point_numbers room))) }
+{
+    write!(text, "room {} {}\n", room.x, room.y)
 }
 
 /// The line of a polygon.
@@ -74,11 +88,41 @@ fn push_obstacles(text: &mut String, obstacles: &[Poly]) -> Result<(), AllocErro
 fn push_task(text: &mut String, scene: &Scene) -> Result<(), AllocError>
     ensures { OnOk result (string_bytes text.new ≡ string_bytes text.old ++ flat_map line (task_statements scene.now)) }
 {
-    let (low, high) = (scene.goal.low, scene.goal.high);
     write!(text, "start {} {}\n", scene.start.x, scene.start.y)?;
-    write!(text, "goal {} {} {} {}\n", low.x, low.y, high.x, high.y)?;
+    push_goals(text, scene.goals.as_slice())?;
+    push_search(text, scene)
+}
+
+/// A line for each goal.
+fn push_goals(text: &mut String, goals: &[Goal]) -> Result<(), AllocError>
+    ensures { OnOk result (string_bytes text.new ≡ string_bytes text.old
+        ++ flat_map line (map goal_statement goals.now)) }
+{
+    for goal in goals {
+        let (low, high) = (goal.low, goal.high);
+        write!(text, "goal {} {} {} {}\n", low.x, low.y, high.x, high.y)?;
+    }
+    Ok(())
+}
+
+/// The lines of how the goals are searched for.
+fn push_search(text: &mut String, scene: &Scene) -> Result<(), AllocError>
+    ensures { OnOk result (string_bytes text.new ≡ string_bytes text.old ++ flat_map line (search_statements scene.now)) }
+{
     write!(text, "step {}\ngamma {}\n", scene.step, scene.gamma)?;
-    write!(text, "seed {}\nstrips {}\n", scene.seed, scene.strips)
+    write!(text, "seed {}\nstrips {}\n", scene.seed, scene.strips)?;
+    push_informed(text, scene.informed)
+}
+
+/// The line of a scene that is informed.
+fn push_informed(text: &mut String, informed: bool) -> Result<(), AllocError>
+    ensures { OnOk result (string_bytes text.new ≡ string_bytes text.old ++ flat_map line (informed_statements informed)) }
+{
+    if informed {
+        let yes: u32 = 1;
+        write!(text, "informed {yes}\n")?;
+    }
+    Ok(())
 }
 
 /// The line of how many marks are drawn, or those of the listed marks.

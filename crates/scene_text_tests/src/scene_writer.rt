@@ -26,14 +26,14 @@ static WIDE: [Vertex; 3] = [
 ];
 
 fn triangle(alloc: Global) -> Result<Poly, AllocError>
-    ensures { IfOk result (λ corners. IsTrue (is_obstacle corners)) }
+    ensures { IfOk result (λ corners. IsTrue (is_obstacle 1 corners)) }
 {
     let corners = Vec::from_slice(alloc, &WIDE)?;
     Ok(Poly::from_vec(corners))
 }
 
 fn most_obstacles(alloc: Global) -> Result<Polys, AllocError>
-    ensures { IfOk result (λ obstacles. IsTrue (are_obstacles obstacles)) }
+    ensures { IfOk result (λ obstacles. IsTrue (are_obstacles 1 obstacles)) }
 {
     let mut obstacles = Vec::new(alloc);
     for _number in 0..MOST_OBSTACLES {
@@ -43,7 +43,9 @@ fn most_obstacles(alloc: Global) -> Result<Polys, AllocError>
 }
 
 // Asserts the canonical text of a scene.
-fn assert_written<R: Abort>(rt: &R, alloc: Global, scene: &Scene, want: &str) {
+fn assert_written<R: Abort>(rt: &R, alloc: Global, scene: &Scene, want: &str)
+    requires { scene.now.version ≡ 1 }
+{
     let text = sure(rt, write_scene(alloc, scene));
     assert!(rt; text.as_slice() == want.as_bytes());
     drop(text);
@@ -77,7 +79,9 @@ fn most_obstacles_written<R: Abort>(rt: &R, alloc: Global) -> String {
 }
 
 // The small scene with as many obstacles as there may be.
-fn scene_with_most_obstacles<R: Abort>(rt: &R, alloc: Global) -> Scene {
+fn scene_with_most_obstacles<R: Abort>(rt: &R, alloc: Global) -> Scene
+    ensures { result.version ≡ 1 }
+{
     let obstacles = sure(rt, most_obstacles(alloc));
     let mut scene = scene_of(rt, alloc, SMALL);
     scene.obstacles = obstacles;
@@ -104,6 +108,7 @@ mark 0 0\nmark 65535 65535\nmark 0 0\n";
 
 // The scene that is read from what is written for it.
 fn read_again(alloc: Global, scene: &Scene) -> Result<Scene, Fail>
+    requires { scene.now.version ≡ 1 }
     // it is the same
     ensures { IfOk result (λ again. again ≡ scene.now) }
 {

@@ -1,6 +1,6 @@
 //! Values that memory lasts for, and texts with their scenes, for the tests of the reader and the writer.
 
-ghost use Rattle.std.specs.Prelude.{◌≡◌, Ok};
+ghost use Rattle.std.specs.Prelude.{◌≡◌, IfOk, Ok};
 
 use plan_model::{MOST_TEXT_BYTES, Scene};
 use scene_text::{SceneRefusal, read_scene};
@@ -23,12 +23,16 @@ pub(crate) const POLYGONS: &str =
     "prrt 1\nobstacle 4 4 6 4 5 7\nroom 9 9\nstart 0 0\nstep 4\ngoal 1 1 2 2\nbody -1 -2 3 -2 3 4 -1 4\nobstacle -9 2 3 2 3 3\n";
 
 /// The scene of a text, or why it is refused.
-pub(crate) fn read(rt: &impl Abort, alloc: Global, text: &str) -> Result<Scene, SceneRefusal> {
+pub(crate) fn read(rt: &impl Abort, alloc: Global, text: &str) -> Result<Scene, SceneRefusal>
+    ensures { IfOk result (λ scene. scene.version ≡ 1) }
+{
     assert!(rt; text.len() <= MOST_TEXT_BYTES);
     read_scene(alloc, text.as_bytes())
 }
 
 /// The scene of a text that is not refused.
-pub(crate) fn scene_of(rt: &impl Abort, alloc: Global, text: &str) -> Scene {
+pub(crate) fn scene_of(rt: &impl Abort, alloc: Global, text: &str) -> Scene
+    ensures { result.version ≡ 1 }
+{
     sure(rt, read(rt, alloc, text))
 }

@@ -20,7 +20,7 @@ pub(crate) type Entry = (u32, u32, Outcome, u32, u64, u32);
 /// The textbook run over these marks in a room of 100 by 100, from its lower left corner by steps of 50.
 fn small_run(alloc: Global, gamma: u32, marks: &[Point]) -> Result<Grown, Memory>
     requires gamma { gamma ≤ MOST_GAMMA }
-    requires marks { IsTrue (is_plan (Marks.Listed marks.now)) }
+    requires marks { IsTrue (is_plan 1 (Marks.Listed marks.now)) }
 {
     let task = SmallScene {
         room: Point { x: 100, y: 100 },
@@ -83,7 +83,7 @@ pub(crate) fn assert_run(
     records: &[Entry],
 ) -> Result<(), Memory>
     requires gamma { gamma ≤ MOST_GAMMA }
-    requires marks { IsTrue (is_plan (Marks.Listed marks.now)) }
+    requires marks { IsTrue (is_plan 1 (Marks.Listed marks.now)) }
 {
     let grown = small_run(alloc, gamma, marks)?;
     assert_nodes(rt, &grown, nodes);

@@ -20,7 +20,7 @@ pub fn best(grown: &Grown) -> Option<u32>
     ensures value { result ≡ best_node (goals_of grown.now.task.scene) grown.now.limit (state_of_grown grown.now) }
     ensures present { IfSome result (IsPresent (state_of_grown grown.now).points) }
 {
-    let goals = grown.task().scene.goals();
+    let goals = grown.task().scene.goals.as_slice();
     let mut best: Option<u32> = None;
     // from the last number down, so that of equal costs the lesser number stays
     for node in (0..grown.limit() + 1).rev() {

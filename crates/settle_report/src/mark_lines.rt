@@ -9,8 +9,7 @@ use plan_model::{Outcome, Record};
 use std::alloc::AllocError;
 use step_core::Grown;
 
-/// A line for each mark that was handled, in rising number: its worker and turn, the nearest node, and what became of it.
-/// O(n) for n marks.
+/// A line for each mark that was handled, in rising number: its worker and turn, and what became of it. O(n) for n marks.
 ///
 /// # Errors
 ///
@@ -24,7 +23,7 @@ pub(crate) fn push_mark_lines(text: &mut String, grown: &Grown) -> Result<(), Al
     Ok(())
 }
 
-/// Appends the line of one mark, as a full report has it: its worker and turn, the nearest node, and what became of it. O(1).
+/// Appends the line of one mark, as a full report has it: its worker and turn, and what became of it. O(1).
 ///
 /// # Errors
 ///
@@ -42,22 +41,22 @@ fn push_handling(text: &mut String, mark: u32, entry: Record) -> Result<(), Allo
 {
     write!(
         text,
-        "mark {mark} worker {} turn {} nearest {} ",
-        entry.worker, entry.turn, entry.nearest
+        "mark {mark} worker {} turn {} ",
+        entry.worker, entry.turn
     )
 }
 
-/// The rest of a mark's line: what became of it.
+/// The rest of a mark's line: what became of it, from its nearest node on.
 fn push_outcome(text: &mut String, entry: Record) -> Result<(), AllocError>
     ensures { OnOk result (string_bytes text.new ≡ string_bytes text.old ++ line (outcome_words entry entry.outcome)) }
 {
     match entry.outcome {
         Outcome::Placed => write!(
             text,
-            "placed class {} first {} {}\n",
-            entry.class, entry.first_parent, entry.first_cost
+            "nearest {} placed class {} first {} {}\n",
+            entry.nearest, entry.class, entry.first_parent, entry.first_cost
         ),
-        Outcome::Same(node) => write!(text, "same {node}\n"),
-        Outcome::Blocked => text.push_str("blocked\n"),
+        Outcome::Same(node) => write!(text, "nearest {} same {node}\n", entry.nearest),
+        Outcome::Blocked => write!(text, "nearest {} blocked\n", entry.nearest),
     }
 }

@@ -27,7 +27,7 @@ use step_core::Grown;
 /// `Memory` if out of memory for the path or the text.
 pub fn report(alloc: Global, grown: &Grown, full: bool) -> Result<Vec<u8>, Memory>
     requires { IsSettled (state_of_grown grown.now) }
-    ensures { IfOk result (λ text. text.items ≡ report_text full (goals_of grown.now.task.scene) grown.now.limit (state_of_grown grown.now)) }
+    ensures { IfOk result (λ text. text.items ≡ report_text full grown.now.task.scene grown.now.limit (state_of_grown grown.now)) }
 {
     report_by_best(alloc, grown, best(grown), full)
 }
@@ -45,7 +45,7 @@ pub fn report_by_best(
 ) -> Result<Vec<u8>, Memory>
     requires settled { IsSettled (state_of_grown grown.now) }
     requires best { best ≡ best_node (goals_of grown.now.task.scene) grown.now.limit (state_of_grown grown.now) }
-    ensures { IfOk result (λ text. text.items ≡ report_text full (goals_of grown.now.task.scene) grown.now.limit (state_of_grown grown.now)) }
+    ensures { IfOk result (λ text. text.items ≡ report_text full grown.now.task.scene grown.now.limit (state_of_grown grown.now)) }
 {
     let mut text = String::new(alloc);
     let path = best_path(alloc, grown, best)?;
@@ -66,7 +66,7 @@ pub fn report_by_best(
 /// `Memory` if out of memory for the path or the text.
 pub fn summary(alloc: Global, grown: &Grown) -> Result<Vec<u8>, Memory>
     requires { IsSettled (state_of_grown grown.now) }
-    ensures { IfOk result (λ text. text.items ≡ summary (goals_of grown.now.task.scene) grown.now.limit (state_of_grown grown.now)) }
+    ensures { IfOk result (λ text. text.items ≡ summary grown.now.task.scene grown.now.limit (state_of_grown grown.now)) }
 {
     summary_by_best(alloc, grown, best(grown))
 }
@@ -79,7 +79,7 @@ pub fn summary(alloc: Global, grown: &Grown) -> Result<Vec<u8>, Memory>
 pub fn summary_by_best(alloc: Global, grown: &Grown, best: Option<u32>) -> Result<Vec<u8>, Memory>
     requires settled { IsSettled (state_of_grown grown.now) }
     requires best { best ≡ best_node (goals_of grown.now.task.scene) grown.now.limit (state_of_grown grown.now) }
-    ensures { IfOk result (λ text. text.items ≡ summary (goals_of grown.now.task.scene) grown.now.limit (state_of_grown grown.now)) }
+    ensures { IfOk result (λ text. text.items ≡ summary grown.now.task.scene grown.now.limit (state_of_grown grown.now)) }
 {
     let mut text = String::new(alloc);
     push_head_line(&mut text, grown, best, &best_path(alloc, grown, best)?)?;
@@ -171,7 +171,7 @@ fn counts_of(grown: &Grown) -> Counts
 
 /// The line of the counts of nodes and of marks by their outcomes.
 fn push_counts_line(text: &mut String, grown: &Grown) -> Result<(), AllocError>
-    ensures { OnOk result (string_bytes text.new ≡ string_bytes text.old ++ spec.counts_line grown.now.limit (state_of_grown grown.now)) }
+    ensures { OnOk result (string_bytes text.new ≡ string_bytes text.old ++ spec.counts_line grown.now.task.scene grown.now.limit (state_of_grown grown.now)) }
 {
     let counts = counts_of(grown);
     write!(

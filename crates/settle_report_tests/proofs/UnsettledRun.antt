@@ -31,7 +31,7 @@ use Rattle.plan_model.proofs.PlacedNodes.{ArePlacedMarks-from}
 use Rattle.plan_model.proofs.TurnsFromZero.{AreTurns-counted}
 
 abbrev pub rrt_setup : Setup
-rrt_setup = record { space = empty_room (at 100 100); start = at 0 0; step = 50; gamma = 0 }
+rrt_setup = record { space = empty_room (at 100 100); start = at 0 0; step = 50; gamma = 0; goals = [] }
 
 abbrev knot : ℕ → ℕ → ℕ → ℕ → Option Knot
 knot x y parent cost = Some (record { point = at x y; parent = parent; cost = cost })

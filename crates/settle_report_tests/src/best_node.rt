@@ -1,7 +1,7 @@
 //! The best nodes of a run of three marks, and of the start alone, for goals here and there.
 
-ghost use Rattle.std.specs.Prelude.{◌≡◌};
-ghost use Rattle.plan_model.specs.Limits.{IsGoal};
+ghost use Rattle.std.specs.Prelude.{◌≡◌, IsTrue};
+ghost use Rattle.plan_model.specs.Limits.{is_goal};
 ghost use Rattle.plan_model.specs.Vectors.Reports.{box};
 
 use crate::test_runs::{settle_run, start_alone, unsettled_run};
@@ -28,12 +28,10 @@ fn goal(low: (u32, u32), high: (u32, u32)) -> Goal
 fn assert_best<R: Abort>(rt: &R, alloc: Global, grown: Grown, want: Option<u32>) {
     let mut grown = grown;
     settle_run(rt, alloc, &mut grown);
-    let low = grown.task().scene.goal.low;
+    let goals = grown.task().scene.goals.as_slice();
     assert!(rt;
         best(&grown) == want,
-        "for the goal from ({}, {})",
-        low.x,
-        low.y
+        "for the goals {goals:?}"
     );
     drop(grown);
 }
@@ -46,7 +44,7 @@ fn assert_best_of_run<R: Abort>(
     high: (u32, u32),
     want: Option<u32>,
 )
-    requires { IsGoal (box low.0 low.1 high.0 high.1) }
+    requires { IsTrue (is_goal 1 (box low.0 low.1 high.0 high.1)) }
 {
     let grown = unsettled_run(rt, alloc, goal(low, high));
     assert_best(rt, alloc, grown, want);
@@ -70,7 +68,7 @@ fn assert_best_alone<R: Abort>(
     high: (u32, u32),
     want: Option<u32>,
 )
-    requires { IsGoal (box low.0 low.1 high.0 high.1) }
+    requires { IsTrue (is_goal 1 (box low.0 low.1 high.0 high.1)) }
 {
     let grown = start_alone(rt, alloc, goal(low, high));
     assert_best(rt, alloc, grown, want);

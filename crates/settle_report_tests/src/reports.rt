@@ -1,7 +1,7 @@
 //! Reports of a run of three marks, and of the start alone.
 
-ghost use Rattle.std.specs.Prelude.{◌≤◌};
-ghost use Rattle.plan_model.specs.Limits.{IsGoal};
+ghost use Rattle.std.specs.Prelude.{◌≤◌, IsTrue};
+ghost use Rattle.plan_model.specs.Limits.{is_goal};
 
 use crate::test_runs::{settle_run, start_alone, sure, unsettled_run};
 use plan_model::{Goal, Point};
@@ -14,7 +14,7 @@ use step_core::Grown;
 fn goal_at(x: u32, y: u32) -> Goal
     requires right { x ≤ 100 }
     requires top { y ≤ 100 }
-    ensures { IsGoal result }
+    ensures { IsTrue (is_goal 1 result) }
 {
     let point = Point { x, y };
     Goal {

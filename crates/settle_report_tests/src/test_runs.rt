@@ -6,7 +6,7 @@ ghost use Rattle.plan_model.specs.Clearance.{ClearAt};
 ghost use Rattle.plan_model.specs.ClosedLaw.{IsClosed};
 ghost use Rattle.plan_model.specs.ConfigurationSpace.{space_of};
 ghost use Rattle.plan_model.specs.EmptyRooms.{empty_room};
-ghost use Rattle.plan_model.specs.Limits.{IsGoal, is_plan};
+ghost use Rattle.plan_model.specs.Limits.{is_goal, is_plan};
 ghost use Rattle.plan_model.specs.Textbook.{placed_record, setup_of};
 ghost use Rattle.plan_model.specs.TreeStates.{IsSettled};
 ghost use Rattle.plan_model.specs.Vectors.Shapes.{at};
@@ -41,9 +41,9 @@ pub(crate) fn settle_run<R: Abort>(rt: &R, alloc: Global, grown: &mut Grown)
 
 /// The task of these marks for a point body in an empty room, from (0, 0) by steps of 50; nothing is rewired.
 fn task_of<R: Abort>(rt: &R, alloc: Global, goal: Goal, marks: &[Point]) -> Task
-    requires goal { IsGoal goal }
-    requires marks { IsTrue (is_plan (Listed marks.now)) }
-    ensures setup { setup_of result.scene ≡ record { space = empty_room (at 100 100); start = at 0 0; step = 50; gamma = 0 } }
+    requires goal { IsTrue (is_goal 1 goal) }
+    requires marks { IsTrue (is_plan 1 (Listed marks.now)) }
+    ensures setup { setup_of result.scene ≡ record { space = empty_room (at 100 100); start = at 0 0; step = 50; gamma = 0; goals = [] } }
     ensures marks { result.marks ≡ marks.now }
     ensures clear { ClearAt (space_of result.scene) result.scene.start }
 {
@@ -149,7 +149,7 @@ fn unsettled_records() -> [Record; 3]
 ///
 /// Node 3 is kept at 12,900 and node 2 at 25,449, but the start is 12,800 from node 3, and that is 12,544 from node 2.
 pub(crate) fn unsettled_run<R: Abort>(rt: &R, alloc: Global, goal: Goal) -> Grown
-    requires { IsGoal goal }
+    requires { IsTrue (is_goal 1 goal) }
 {
     let marks = [
         Point { x: 0, y: 50 },
@@ -162,7 +162,7 @@ pub(crate) fn unsettled_run<R: Abort>(rt: &R, alloc: Global, goal: Goal) -> Grow
 
 /// A run of one mark in the same room that has handled none.
 pub(crate) fn start_alone<R: Abort>(rt: &R, alloc: Global, goal: Goal) -> Grown
-    requires { IsGoal goal }
+    requires { IsTrue (is_goal 1 goal) }
 {
     let task = task_of(rt, alloc, goal, &[Point { x: 0, y: 50 }]);
     sure(rt, Grown::new(alloc, task))

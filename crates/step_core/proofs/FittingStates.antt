@@ -19,7 +19,6 @@ use Rattle.plan_model.specs.Outcomes.{is_zero_unless_placed}
 use Rattle.plan_model.specs.PointsByNumber.{IsPresent, point_of, node_count}
 use Rattle.plan_model.specs.Radius.{class_of}
 use Rattle.plan_model.specs.RecordLaw.{HasLawfulOutcome}
-use Rattle.plan_model.specs.Steering.{steered}
 use Rattle.plan_model.specs.Textbook.{setup_of}
 use Rattle.plan_model.specs.TreeStates.{TreeState}
 use Rattle.plan_model.proofs.ClassLaws.{class_from_powers}
@@ -122,28 +121,30 @@ module _
     word = record {
       worker = closed.workers k entry is;
       turn = omega (arith, turn-below_limit state.record_of limit closed.turns k entry (recorded-below k entry is) is, closed.within, length-marks task);
-      nearest = small_number entry.nearest (closed.lawful k entry is).present;
-      last = last entry.outcome refl (closed.lawful k entry is).outcome;
+      nearest = nearest entry.outcome (closed.lawful k entry is);
+      last = last entry.outcome (closed.lawful k entry is);
     };
-    parent = (first entry.outcome refl (closed.lawful k entry is).outcome).0;
-    cost = (first entry.outcome refl (closed.lawful k entry is).outcome).1;
+    parent = (first entry.outcome refl (closed.lawful k entry is)).0;
+    cost = (first entry.outcome refl (closed.lawful k entry is)).1;
   }
     where
-      last : (o : Outcome) → entry.outcome ≡ o
-          → HasLawfulOutcome (setup_of task.scene) state k entry (steered (point_of state.points entry.nearest) (mark_at task.marks k) task.scene.step) o
-          → last_field o entry.class < 2 ^ 18
-      last Placed e h = low_class entry.class h.by_worker.of_class.high
-      last (Same j) e h = small_number j (IsPresent-stands state.points j _ h)
-      last Blocked e h = omega arith
+      nearest : (o : Outcome) → HasLawfulOutcome (setup_of task.scene) state k (mark_at task.marks k) entry o → entry.nearest < 2 ^ 18
+      nearest Placed h = small_number entry.nearest h.present
+      nearest (Same j) h = small_number entry.nearest h.present
+      nearest Blocked h = small_number entry.nearest h.present
+
+      last : (o : Outcome) → HasLawfulOutcome (setup_of task.scene) state k (mark_at task.marks k) entry o → last_field o entry.class < 2 ^ 18
+      last Placed h = low_class entry.class h.outcome.by_worker.of_class.high
+      last (Same j) h = small_number j (IsPresent-stands state.points j _ h.outcome)
+      last Blocked h = omega arith
 
       zeros : (entry.outcome ≡ Placed → ⊥) → (entry.first_parent < 2 ^ 18) × (entry.first_cost < 2 ^ 44)
       zeros apart =
           let none = zero_unless_placed entry.outcome entry.first_parent entry.first_cost entry.class apart entry.unplaced in
           (omega (arith, none.0), omega (arith, none.1))
 
-      first : (o : Outcome) → entry.outcome ≡ o
-          → HasLawfulOutcome (setup_of task.scene) state k entry (steered (point_of state.points entry.nearest) (mark_at task.marks k) task.scene.step) o
+      first : (o : Outcome) → entry.outcome ≡ o → HasLawfulOutcome (setup_of task.scene) state k (mark_at task.marks k) entry o
           → (entry.first_parent < 2 ^ 18) × (entry.first_cost < 2 ^ 44)
-      first Placed e h = (small_number entry.first_parent h.by_tree.first.present, low_cost entry.first_cost h.by_tree.bounded)
+      first Placed e h = (small_number entry.first_parent h.outcome.by_tree.first.present, low_cost entry.first_cost h.outcome.by_tree.bounded)
       first (Same j) e h = zeros (λ placed. let gone = sym placed ∙ e in cc)
       first Blocked e h = zeros (λ placed. let gone = sym placed ∙ e in cc)

@@ -16,8 +16,8 @@ use Rattle.plan_model.specs.OrderLaw.{Hangs}
 use Rattle.plan_model.specs.Outcomes.{is_placed}
 use Rattle.plan_model.specs.PointsByNumber.{IsPresent, StandsAt, node_count, point_at, point_of}
 use Rattle.plan_model.specs.Radius.{class_of, radius_of_class}
-use Rattle.plan_model.specs.RecordLaw.{HangsLawfully, HasLawfulOutcome, IsChosenLawfully, IsEarlier, IsLawfulRecord, IsNeighbour}
-use Rattle.plan_model.specs.RecordLaw.{earlier_count, first_cost_through, is_earlier, is_earlier_record}
+use Rattle.plan_model.specs.RecordLaw.{HangsLawfully, HasLawfulOutcome, IsBlockedLawfully, IsChosenLawfully, IsEarlier, IsLawfulRecord, IsNeighbour}
+use Rattle.plan_model.specs.RecordLaw.{IsPlacedLawfully, IsSteeredLawfully, earlier_count, first_cost_through, is_earlier, is_earlier_record}
 use Rattle.plan_model.specs.Steering.{steered}
 use Rattle.plan_model.specs.Textbook.{Setup}
 use Rattle.plan_model.specs.TreeStates.{TreeState, first_cost_of}
@@ -30,7 +30,7 @@ use Rattle.plan_model.proofs.CountsBelow.{count-more, count-same}
 use Rattle.plan_model.proofs.NewNodes.{IsPresent-stands, StandsAt-present}
 use Rattle.plan_model.proofs.RecordLaws.{class_of-le}
 use Rattle.step_core.specs.GrownWords.{has_node, has_placed, record_at}
-use Rattle.step_core.specs.SeenRecords.{IsOwnNeighbour, MayBePlaced, MayEnd, MayRecord, is_own_node, own_count, own_first_cost}
+use Rattle.step_core.specs.SeenRecords.{IsOwnNeighbour, MayBeBlocked, MayBePlaced, MayEnd, MayRecord, MaySteer, is_own_node, own_count, own_first_cost}
 use Rattle.step_core.specs.SharedWords.{linked_point}
 use Rattle.step_core.specs.Stages.{MayBeRecorded, has_count, has_first, has_link, has_point}
 use Rattle.step_core.specs.ViewTrees.{SeesHand, SeesPoint, SeesTree}
@@ -339,25 +339,27 @@ module _ (words : Words) (views : List View) (id : ℕ) (view : View) (world : I
 
     -- ---- the outcome
 
-    outcome_now : (p : Point) → p ≡ steered (point_of seen_points entry.nearest) (mark_at own_run.marks hand.mark) own_run.step
-        → MayBeRecorded hand.stage entry.outcome
-        → (outcome : Outcome) → entry.outcome ≡ outcome → MayEnd view hand entry p outcome → HasLawfulOutcome setup state hand.mark entry p outcome
-    outcome_now p is stage Placed e may =
-        let count : has_count hand.stage ≡ true = sym stage.counted ∙ ap is_placed e in
+    placed_now : (p : Point) → p ≡ steered (point_of seen_points entry.nearest) (mark_at own_run.marks hand.mark) own_run.step
+        → has_count hand.stage ≡ true → MayBePlaced view hand entry → IsPlacedLawfully setup state hand.mark entry p
+    placed_now p is count may =
         let there = is ∙ hand_point count may.nearest_is in
         record { by_worker = IsChosenLawfully-seen p there may; by_tree = HangsLawfully-seen count p there may }
-    outcome_now p is stage (Same j) e may = stands_now j p may
-    outcome_now p is stage Blocked e may = record {
+
+    blocked_now : (p : Point) → MayBeBlocked view entry p → IsBlockedLawfully setup state entry p
+    blocked_now p may = record {
       blocked = λ clear. may.blocked (subst (λ a. Clear setup.space a p) (same_point entry.nearest present) clear);
       free = λ i early stands.
           let own = own_of i early in
           may.free i own (sym (same_at i (own_seen i own)) ∙ stands);
     }
 
-  -- What the view allows to be recorded is lawful.
-  IsLawfulRecord-own : MayRecord view hand entry → MayBeRecorded hand.stage entry.outcome
-      → IsLawfulRecord setup state hand.mark (mark_at own_run.marks hand.mark) entry
-  IsLawfulRecord-own may stage =
+  -- A nearest node that was seen is lawful, and steers to the same point.
+  IsSteeredLawfully-own :
+      (MayEndAt EndsAt : Point → Type 0)
+      → (IsPresent seen_points entry.nearest → (p : Point)
+      → p ≡ steered (point_of seen_points entry.nearest) (mark_at own_run.marks hand.mark) own_run.step → MayEndAt p → EndsAt p)
+      → MaySteer view hand entry MayEndAt → IsSteeredLawfully setup state (mark_at own_run.marks hand.mark) entry EndsAt
+  IsSteeredLawfully-own MayEndAt EndsAt now may =
       let mark : Point = mark_at own_run.marks hand.mark in
       record {
         present = ap is_some (same_at entry.nearest may.present) ∙ may.present;
@@ -368,13 +370,28 @@ module _ (words : Words) (views : List View) (id : ℕ) (view : View) (world : I
             let other = ap (λ a. squared_distance a mark) (same_point i (own_seen i own)) in
             record { least = omega (arith, near, other, h.least); first = λ e. h.first (omega (arith, near, other, e)) };
         outcome =
-            subst (λ a. HasLawfulOutcome setup state hand.mark entry (steered a mark own_run.step) entry.outcome) (sym (same_point entry.nearest may.present))
-            (outcome_now may.present (steered (point_of seen_points entry.nearest) mark own_run.step) refl stage entry.outcome refl may.outcome);
+            subst (λ a. EndsAt (steered a mark own_run.step)) (sym (same_point entry.nearest may.present))
+            (now may.present (steered (point_of seen_points entry.nearest) mark own_run.step) refl may.outcome);
       }
+
+  -- What the view allows to be recorded is lawful.
+  IsLawfulRecord-own : MayRecord view hand entry → MayBeRecorded hand.stage entry.outcome
+      → IsLawfulRecord setup state hand.mark (mark_at own_run.marks hand.mark) entry
+  IsLawfulRecord-own may stage = by_outcome entry.outcome refl may
+    where
+      by_outcome : (outcome : Outcome) → entry.outcome ≡ outcome → MayEnd view hand entry outcome
+          → HasLawfulOutcome setup state hand.mark (mark_at own_run.marks hand.mark) entry outcome
+      by_outcome Placed e placed =
+          IsSteeredLawfully-own (λ p. MayBePlaced view hand entry) (IsPlacedLawfully setup state hand.mark entry)
+          (λ present p is ended. placed_now present p is (sym stage.counted ∙ ap is_placed e) ended) placed
+      by_outcome (Same j) e same =
+          IsSteeredLawfully-own (SeesPoint view j) (StandsAt state.points j) (λ present p is ended. stands_now j p ended) same
+      by_outcome Blocked e blocked =
+          IsSteeredLawfully-own (MayBeBlocked view entry) (IsBlockedLawfully setup state entry) (λ present p is ended. blocked_now present p ended) blocked
 
   -- Its first word has its first parent and its first cost, if it was placed.
   IsFirstWord-own : MayRecord view hand entry → MayBeRecorded hand.stage entry.outcome → IsFirstWord entry (words (FirstOf (suc hand.mark)))
-  IsFirstWord-own may stage = by_outcome entry.outcome refl may.outcome
+  IsFirstWord-own may stage = by_outcome entry.outcome refl may
     where
       unplaced : (outcome : Outcome) → entry.outcome ≡ outcome → outcome ≢ Placed
           → IsTrue (entry.first_parent == 0 && (entry.first_cost == 0 && entry.class == 0)) → IsFirstWord entry (words (FirstOf (suc hand.mark)))
@@ -386,10 +403,9 @@ module _ (words : Words) (views : List View) (id : ℕ) (view : View) (world : I
             cost = omega (arith, fields.cost_is);
           }
 
-      by_outcome : (outcome : Outcome) → entry.outcome ≡ outcome
-          → MayEnd view hand entry (steered (point_of seen_points entry.nearest) (mark_at own_run.marks hand.mark) own_run.step) outcome
-          → IsFirstWord entry (words (FirstOf (suc hand.mark)))
-      by_outcome Placed e placed =
+      by_outcome : (outcome : Outcome) → entry.outcome ≡ outcome → MayEnd view hand entry outcome → IsFirstWord entry (words (FirstOf (suc hand.mark)))
+      by_outcome Placed e ended =
+          let placed = ended.outcome in
           let first = world.pairs.first id view at hand held (has_come hand.stage (sym stage.counted ∙ ap is_placed e)).first in
           record {
             word = λ is. first.word ∙ ap (λ f. tree_word f hand.cost) (sym placed.parent_is) ∙ ap (tree_word entry.first_parent) (sym placed.cost_is);

@@ -64,16 +64,19 @@ pub record MayBeBlocked (view : View) (entry : Record) (p : Point) : Type 0 wher
   pub blocked : ¬ Clear (setup_in view.run).space (point_of (tree_seen view).points entry.nearest) p
   pub free : (i : ℕ) → IsTrue (is_own_node view entry i) → ¬ SeesPoint view i p
 
--- what the outcome asks, where the nearest node steered to p
-abbrev pub MayEnd : View → Hand → Record → Point → Outcome → Type 0
-MayEnd view hand entry p Placed = MayBePlaced view hand entry
-MayEnd view hand entry p (Same j) = SeesPoint view j p
-MayEnd view hand entry p Blocked = MayBeBlocked view entry p
-
--- The nearest node is seen, no own node is nearer to the mark, and the outcome is what it says.
-pub record MayRecord (view : View) (hand : Hand) (entry : Record) : Type 0 where
+-- The nearest node is seen, no own node is nearer to the mark, and the mark may end so at the point to which it steers.
+pub record MaySteer (view : View) (hand : Hand) (entry : Record) (MayEndAt : Point → Type 0) : Type 0 where
   pub present : IsPresent (tree_seen view).points entry.nearest
   pub nearest : (i : ℕ) → IsTrue (is_own_node view entry i)
       → IsNotAbove (distance_to (mark_at view.run.marks hand.mark) (tree_seen view).points) entry.nearest i
-  pub outcome :
-      MayEnd view hand entry (steered (point_of (tree_seen view).points entry.nearest) (mark_at view.run.marks hand.mark) view.run.step) entry.outcome
+  pub outcome : MayEndAt (steered (point_of (tree_seen view).points entry.nearest) (mark_at view.run.marks hand.mark) view.run.step)
+
+-- what the outcome asks
+abbrev pub MayEnd : View → Hand → Record → Outcome → Type 0
+MayEnd view hand entry Placed = MaySteer view hand entry (λ p. MayBePlaced view hand entry)
+MayEnd view hand entry (Same j) = MaySteer view hand entry (SeesPoint view j)
+MayEnd view hand entry Blocked = MaySteer view hand entry (MayBeBlocked view entry)
+
+-- The mark may end as the record says.
+abbrev pub MayRecord : View → Hand → Record → Type 0
+MayRecord view hand entry = MayEnd view hand entry entry.outcome

@@ -4,7 +4,7 @@ use Rattle.plan_model.specs.Bounds.{IsBounded}
 use Rattle.plan_model.specs.ClosedLaw.{mark_at}
 use Rattle.plan_model.specs.ConfigurationSpace.{space_among, space_of}
 use Rattle.plan_model.specs.SeenTrees.{SeenTree}
-use Rattle.plan_model.specs.Textbook.{Setup}
+use Rattle.plan_model.specs.Textbook.{Setup, skipping_goals}
 use Rattle.plan_model.specs.declared.limits.TheConstants.{MOST_MARKS, MOST_STEERING_STEP, MOST_STRIPS, MOST_WORKERS}
 use Rattle.plan_model.specs.declared.tasks.Task.{Task}
 use Rattle.step_core.specs.SeenWords.{SeenWords, seen_tree_of_words}
@@ -25,6 +25,7 @@ run_of task workers opening =
       start = task.scene.start;
       step = task.scene.step;
       gamma = task.scene.gamma;
+      goals = skipping_goals task.scene;
       strips = task.scene.strips;
       marks = task.marks;
       workers = workers;
@@ -34,7 +35,7 @@ run_of task workers opening =
 -- what the tree depends on besides the marks
 abbrev pub setup_in : SharedRun → Setup
 setup_in run =
-    record { space = run.space; start = run.start; step = run.step; gamma = run.gamma }
+    record { space = run.space; start = run.start; step = run.step; gamma = run.gamma; goals = run.goals }
 
 -- how many strips and marks it has
 abbrev pub run_sizes : SharedRun → Sizes
@@ -115,6 +116,7 @@ no_run =
       start = record { x = 0; y = 0 };
       step = 0;
       gamma = 0;
+      goals = [];
       strips = 0;
       marks = [];
       workers = 0;

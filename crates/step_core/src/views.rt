@@ -1,7 +1,7 @@
 //! What each pass over a shared run knows and has in hand: its view, of which the law of worlds (`specs/Worlds`) speaks. No
 //! program makes a view; a table of words keeps them for the proofs alone.
 
-use plan_model::{ConfigurationSpace, Point, Points};
+use plan_model::{ConfigurationSpace, Goal, Point, Points, Sequence};
 use std::collections::LinkedList;
 
 /// What a shared run is told once: of the scene what planning asks for, and who plans.
@@ -14,6 +14,8 @@ pub struct SharedRun {
     pub step: u32,
     /// The factor of the radius of near nodes.
     pub gamma: u32,
+    /// The goals by which marks may be skipped, none if the scene is not informed.
+    pub goals: Sequence<Goal>,
     /// How many strips there are.
     pub strips: u32,
     /// The mark points.

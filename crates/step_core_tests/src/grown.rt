@@ -37,8 +37,8 @@ fn task_of<R: Abort>(rt: &R, alloc: Global, side: u32, start: Point, marks: &[Po
     requires high { side ≤ 65535 }
     requires right { start.x ≤ side }
     requires top { start.y ≤ side }
-    requires marks { IsTrue (is_plan (Listed marks.now)) }
-    ensures setup { setup_of result.scene ≡ record { space = empty_room (at side side); start = start; step = 50; gamma = 1000 } }
+    requires marks { IsTrue (is_plan 1 (Listed marks.now)) }
+    ensures setup { setup_of result.scene ≡ record { space = empty_room (at side side); start = start; step = 50; gamma = 1000; goals = [] } }
     ensures marks { result.marks ≡ marks.now }
     ensures clear { ClearAt (space_of result.scene) result.scene.start }
 {
@@ -221,7 +221,7 @@ fn start_packed<R: Abort>(rt: &R, alloc: Global, task: Task) -> Grown
 /// This many marks at one point.
 fn many_marks(alloc: Global, count: u32) -> Result<Vec<Point>, Memory>
     requires { count ≤ MOST_MARKS }
-    ensures { IfOk result (λ marks. IsTrue (is_plan (Listed marks.items))) }
+    ensures { IfOk result (λ marks. IsTrue (is_plan 1 (Listed marks.items))) }
 {
     Ok(vec![in alloc; Point { x: 7, y: 9 }; count as usize]?)
 }
@@ -294,7 +294,7 @@ fn assert_start_alone<R: Abort>(rt: &R, grown: Grown, start: Point, marks: usize
 fn assert_starts_alone<R: Abort>(rt: &R, alloc: Global, start: Point, marks: &[Point], count: usize)
     requires right { start.x ≤ 100 }
     requires top { start.y ≤ 100 }
-    requires marks { IsTrue (is_plan (Listed marks.now)) }
+    requires marks { IsTrue (is_plan 1 (Listed marks.now)) }
 {
     let task = task_of(rt, alloc, 100, start, marks);
     assert_start_alone(rt, sure(rt, Grown::new(alloc, task)), start, count);

@@ -4,6 +4,7 @@ use Rattle.std.proofs.lemmas.Int.{ints}
 use Rattle.plan_model.specs.declared.geometry.Point.{Point}
 use Rattle.plan_model.specs.declared.scenes.Scene.{Scene}
 use Rattle.plan_model.specs.Bounds.{IsBounded}
+use Rattle.plan_model.proofs.SceneBounds.{IsBounded-room}
 use Rattle.plan_model.specs.Clearance.{Clear}
 use Rattle.plan_model.specs.ConfigurationSpace.{space_of}
 use Rattle.plan_model.specs.declared.configuration_spaces.ConfigurationSpace.{ConfigurationSpace}
@@ -23,12 +24,6 @@ IsBounded-clear space a b bounded clear = (
   IsBounded-in_room space a bounded (first_in_room space a b clear),
   IsBounded-in_room space b bounded (last_in_room space a b clear),
 )
-
--- the room of a scene is within bounds
-pub IsBounded-room : (scene : Scene) → IsBounded scene.room
-IsBounded-room scene =
-    let within = scene.room_within in
-    record { right = omega (arith, within.right); top = omega (arith, within.top) }
 
 pub IsBounded-clear_in_scene : (scene : Scene) (a b : Point) → Clear (space_of scene) a b → IsBounded a × IsBounded b
 IsBounded-clear_in_scene scene a b clear = IsBounded-clear (space_of scene) a b (IsBounded-room scene) clear

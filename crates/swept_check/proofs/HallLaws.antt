@@ -16,7 +16,7 @@ use Rattle.swept_check.proofs.RoomLaws.{InRoom-on_the_way}
 abbrev pub CrossesNone : List (List Vertex) → Point → Point → Type 0
 CrossesNone zones a b = All (λ zone. ¬ Crosses zone a b) zones
 
-pub crosses_none : (space : ConfigurationSpace) (zones : List (List Vertex)) (a b : Point) → AreZonesOf space.body space.obstacles zones
+pub crosses_none : (space : ConfigurationSpace) (zones : List (List Vertex)) (a b : Point) → AreZonesOf space zones
     → Clear space a b → CrossesNone zones a b
 crosses_none space zones a b h clear =
     let count = h.count in
@@ -24,18 +24,18 @@ crosses_none space zones a b h clear =
     let at : i < length space.obstacles = omega arith in
     let here = clear x.s x.d x.positive x.on_segment in
     let q = on_the_way a b x.s x.d x.positive in
-    let apart = All-get_or (λ obstacle. ¬ Meets space.body q obstacle) space.obstacles i [] at here.meets_none in
+    let apart = All-get_or (λ obstacle. ¬ Meets space.clearance space.body q obstacle) space.obstacles i [] at here.meets_none in
     let exact = (h.each i at).exact q in
     apart (exact.1 x.inside))
 
-pub clear_of : (space : ConfigurationSpace) (zones : List (List Vertex)) (a b : Point) → AreZonesOf space.body space.obstacles zones
+pub clear_of : (space : ConfigurationSpace) (zones : List (List Vertex)) (a b : Point) → AreZonesOf space zones
     → InRoom space (at_lattice a) → InRoom space (at_lattice b) → CrossesNone zones a b → Clear space a b
 clear_of space zones a b h first last none s d p l =
     let count = h.count in
     let q = on_the_way a b s d p in
     record {
       in_room = InRoom-on_the_way space a b s d p l first last;
-      meets_none = All-from_get_or (λ obstacle. ¬ Meets space.body q obstacle) space.obstacles [] (λ i at meets.
+      meets_none = All-from_get_or (λ obstacle. ¬ Meets space.clearance space.body q obstacle) space.obstacles [] (λ i at meets.
           let exact = (h.each i at).exact q in
           let apart = All-get_or (λ zone. ¬ Crosses zone a b) zones i [] (omega arith) none in
           apart (record { s = s; d = d; positive = p; on_segment = l; inside = exact.0 meets }));

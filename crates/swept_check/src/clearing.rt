@@ -9,12 +9,12 @@ use plan_model::Point;
 
 /// A collision checker: it stands for the configuration space of a body in a room among obstacles.
 pub trait Clearing: Sync {
-    /// The room, the body and the obstacles that it stands for.
+    /// The room, the body, the obstacles and the clearance that it stands for.
     ghost space: { Self → ConfigurationSpace };
 
     /// Whether the body is clear of the walls and the obstacles at every rational point of the segment from `a` to `b`, both
-    /// ends included. The ends may be any points, also one and the same. Touching an obstacle collides; touching a wall does
-    /// not. It takes no memory.
+    /// ends included. The ends may be any points, also one and the same. Touching an obstacle collides, and so does coming
+    /// within the clearance of it; touching a wall does not. It takes no memory.
     fn clear(&self, a: Point, b: Point) -> bool
         ensures { IsTrue result ↔ Clear (space self.now) a b };
 

@@ -44,7 +44,7 @@ impl Model for Hall {
     ghost view = { λ h. h.space };
 
     ghost invariant = { λ h. record {
-      zones : AreZonesOf h.space.body h.space.obstacles h.zones.items;
+      zones : AreZonesOf h.space h.zones.items;
       spans : AreSpansOf h.space.room h.space.body h.spans;
       right : h.space.room.x ≤ MOST_COORDINATE;
       top : h.space.room.y ≤ MOST_COORDINATE;
@@ -56,13 +56,14 @@ impl Hall {
     ghost use Rattle.plan_model.specs.Clearance.{ClearAt};
     ghost use Rattle.swept_check.specs.Halls.{AreZonesOf};
 
-    /// The collision checker of a scene's room, body and obstacles; without an obstacle the walls alone count. O(n) for n
-    /// corners in all of the zones.
+    /// The collision checker of a scene's room, body and obstacles, for a scene without a clearance; without an obstacle the
+    /// walls alone count. O(n) for n corners in all of the zones.
     ///
     /// # Errors
     ///
     /// `Memory` if out of memory for the zones or for the copies of the body and the obstacles.
     pub fn new(alloc: Global, scene: &Scene) -> Result<Hall, Memory>
+        requires { scene.now.clearance ≡ 0 }
         ensures { IfOk result (λ hall. hall ≡ space_of scene.now) }
     {
         let mut zones = Vec::new(alloc);
@@ -94,7 +95,7 @@ impl Hall {
 
     /// The zones, one for each obstacle, in the scene's order. O(1); no memory.
     pub fn zones(&self) -> &[Zone]
-        ensures { AreZonesOf self.now.body self.now.obstacles result.now }
+        ensures { AreZonesOf self.now result.now }
     {
         self.zones.as_slice()
     }

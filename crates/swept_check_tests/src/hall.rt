@@ -1,6 +1,6 @@
 //! Segments that touch zones, and segments that just miss them.
 
-ghost use Rattle.std.specs.Prelude.{IfOk, IsTrue};
+ghost use Rattle.std.specs.Prelude.{◌≡◌, IfOk, IsTrue};
 ghost use Rattle.plan_model.specs.Limits.{are_obstacles, is_body, is_obstacle};
 
 use crate::memory::sure;
@@ -11,9 +11,9 @@ use swept_check::{Clearing, Hall};
 
 /// The obstacles with these corners.
 fn obstacles_of(alloc: Global, first: &[Vertex], second: &[Vertex]) -> Result<Polys, Memory>
-    requires first { IsTrue (is_obstacle first.now) }
-    requires second { IsTrue (is_obstacle second.now) }
-    ensures { IfOk result (λ obstacles. IsTrue (are_obstacles obstacles)) }
+    requires first { IsTrue (is_obstacle 1 first.now) }
+    requires second { IsTrue (is_obstacle 1 second.now) }
+    ensures { IfOk result (λ obstacles. IsTrue (are_obstacles 1 obstacles)) }
 {
     let mut obstacles = Vec::new(alloc);
     obstacles.push(Sequence::from_vec(Vec::from_slice(alloc, first)?))?;
@@ -24,7 +24,8 @@ fn obstacles_of(alloc: Global, first: &[Vertex], second: &[Vertex]) -> Result<Po
 /// The scene of a body and obstacles in a room of 20 by 20.
 fn scene(alloc: Global, body: &[Vertex], obstacles: Polys) -> Result<Scene, Memory>
     requires body { IsTrue (is_body body.now) }
-    requires obstacles { IsTrue (are_obstacles obstacles) }
+    requires obstacles { IsTrue (are_obstacles 1 obstacles) }
+    ensures { IfOk result (λ scene. scene.clearance ≡ 0) }
 {
     let small = SmallScene {
         room: Point { x: 20, y: 20 },
@@ -39,7 +40,7 @@ fn scene(alloc: Global, body: &[Vertex], obstacles: Polys) -> Result<Scene, Memo
         strips: 1,
     };
     let body = Sequence::from_vec(Vec::from_slice(alloc, body)?);
-    Ok(small.scene(body, obstacles, Marks::Drawn(0)))
+    small.scene(alloc, body, obstacles, Marks::Drawn(0))
 }
 
 /// The collision checker of a body and two obstacles in a room of 20 by 20.
@@ -50,8 +51,8 @@ fn hall_of_two(
     second: &[Vertex],
 ) -> Result<Hall, Memory>
     requires body { IsTrue (is_body body.now) }
-    requires first { IsTrue (is_obstacle first.now) }
-    requires second { IsTrue (is_obstacle second.now) }
+    requires first { IsTrue (is_obstacle 1 first.now) }
+    requires second { IsTrue (is_obstacle 1 second.now) }
 {
     let obstacles = obstacles_of(alloc, first, second)?;
     let scene = scene(alloc, body, obstacles)?;
@@ -97,7 +98,7 @@ fn expect_beside<R: Abort>(
     cases: &[Case],
 )
     requires body { IsTrue (is_body body.now) }
-    requires obstacle { IsTrue (is_obstacle obstacle.now) }
+    requires obstacle { IsTrue (is_obstacle 1 obstacle.now) }
 {
     let hall = sure(rt, hall_of_two(alloc, body, obstacle, obstacle));
     expect_each(rt, &hall, cases);

@@ -56,7 +56,7 @@ pub(crate) fn marks_in_square<R: Abort>(
     requires step { 50 ≤ step }
     requires short { step ≤ 150 }
     requires gamma { gamma ≤ 1000 }
-    requires plan { IsTrue (is_plan (Listed marks.now)) }
+    requires plan { IsTrue (is_plan 1 (Listed marks.now)) }
     ensures marks { result.marks ≡ marks.now }
     ensures clear { ClearAt (space_of result.scene) result.scene.start }
 {
@@ -83,6 +83,7 @@ fn run_to<R: Threads + Sync + Abort>(rt: &R, alloc: Global, task: Task, limit: u
     ensures task { result.0.task ≡ task }
     ensures hall { result.1 ≡ space_of task.scene }
 {
+    assert!(rt; task.scene.clearance == 0);
     let hall = sure(rt, Hall::new(alloc, &task.scene));
     let fresh = sure(rt, Grown::new(alloc, task));
     let grown = sure(rt, grow(rt, alloc, fresh, &hall, 1, limit, &NoGate));

@@ -1,7 +1,9 @@
 -- Words of SplitMix64, and a mark that they draw.
-use Rattle.std.specs.Prelude.{◌≡◌, [], ◌∷◌}
+use Rattle.std.specs.Prelude.{◌≡◌, List, [], ◌∷◌}
+use Rattle.plan_model.specs.declared.geometry.Point.{Point}
 use Rattle.plan_model.specs.declared.scenes.Scene.{Scene}
-use Rattle.plan_model.specs.MarkPoints.{picked, first_word, second_word, drawn_mark}
+use Rattle.plan_model.specs.declared.scenes.Marks.TheVariants.{Drawn, Listed}
+use Rattle.plan_model.specs.MarkPoints.{picked, first_word, second_word, drawn_mark, mark_points}
 use Rattle.plan_model.specs.Vectors.Shapes.{at, corner}
 
 pub record DrawnVectors : Type 0 where
@@ -17,3 +19,6 @@ pub record DrawnVectors : Type 0 where
   pub least_word : picked (record { first = 5; count = 10 }) 0 ≡ 5
   pub greatest_word : picked (record { first = 5; count = 10 }) 18446744073709551615 ≡ 14
   pub no_column : picked (record { first = 5; count = 0 }) 18446744073709551615 ≡ 5
+  -- marks are drawn by their numbers, from 0 on; listed ones are as they are listed
+  pub drawn_marks : (scene : Scene) → scene.plan ≡ Drawn 2 → mark_points scene ≡ drawn_mark scene 0 ∷ drawn_mark scene 1 ∷ []
+  pub listed_marks : (scene : Scene) (points : List Point) → scene.plan ≡ Listed points → mark_points scene ≡ points

@@ -4,14 +4,16 @@ use Rattle.plan_model.specs.declared.text_terms.Key.TheVariants as keys
 use Rattle.plan_model.specs.declared.text_terms.Kind.{Kind}
 use Rattle.plan_model.specs.declared.text_terms.Kind.TheVariants as kinds
 use Rattle.plan_model.specs.declared.limits.TheConstants.{LEAST_BODY_COORDINATE, LEAST_CORNER_COORDINATE, LEAST_CORNERS, LEAST_OBSTACLE_COORDINATE}
-use Rattle.plan_model.specs.declared.limits.TheConstants.{LEAST_SIDE, LEAST_STEP, LEAST_STRIPS, LEAST_SUMMAND_COORDINATE, MOST_BODY_COORDINATE}
-use Rattle.plan_model.specs.declared.limits.TheConstants.{MOST_BODY_CORNERS, MOST_COORDINATE, MOST_CORNER_COORDINATE, MOST_GAMMA, MOST_MARKS, MOST_NODES}
-use Rattle.plan_model.specs.declared.limits.TheConstants.{MOST_OBSTACLE_COORDINATE, MOST_OBSTACLE_CORNERS, MOST_OBSTACLES, MOST_SEED, MOST_SIDE}
-use Rattle.plan_model.specs.declared.limits.TheConstants.{MOST_STEERING_STEP, MOST_STEP, MOST_STRIPS, MOST_SUMMAND_COORDINATE, MOST_TEXT_BYTES, MOST_WORKERS}
+use Rattle.plan_model.specs.declared.limits.TheConstants.{LEAST_OBSTACLE_COORDINATE_OF_VERSION_2, LEAST_SIDE, LEAST_STEP, LEAST_STRIPS}
+use Rattle.plan_model.specs.declared.limits.TheConstants.{LEAST_SUMMAND_COORDINATE, MOST_BODY_COORDINATE, MOST_BODY_CORNERS, MOST_CLEARANCE}
+use Rattle.plan_model.specs.declared.limits.TheConstants.{MOST_COORDINATE, MOST_CORNER_COORDINATE, MOST_GAMMA, MOST_GOALS, MOST_MARKS, MOST_NODES}
+use Rattle.plan_model.specs.declared.limits.TheConstants.{MOST_OBSTACLE_COORDINATE, MOST_OBSTACLE_COORDINATE_OF_VERSION_2, MOST_OBSTACLE_CORNERS}
+use Rattle.plan_model.specs.declared.limits.TheConstants.{MOST_OBSTACLES, MOST_SEED, MOST_SIDE, MOST_SIDE_OF_VERSION_2, MOST_STEERING_STEP, MOST_STEP}
+use Rattle.plan_model.specs.declared.limits.TheConstants.{MOST_STEP_OF_VERSION_2, MOST_STRIPS, MOST_SUMMAND_COORDINATE, MOST_TEXT_BYTES, MOST_WORKERS}
 use Rattle.plan_model.specs.TextLines.{words_of}
 use Rattle.plan_model.specs.Keys.{most_lines}
-use Rattle.plan_model.specs.LineChecks.{given_by, fault_of_statement, is_too_many}
-use Rattle.plan_model.specs.SceneGrammar.{supported}
+use Rattle.plan_model.specs.LineChecks.{given_by, fault_of_statement, is_repeated, is_too_many}
+use Rattle.plan_model.specs.SceneGrammar.{is_supported}
 
 -- each limit as a number, so that a constant cannot change without its value here
 pub record ConstantVectors : Type 0 where
@@ -27,14 +29,20 @@ pub record ConstantVectors : Type 0 where
   pub body_corners : MOST_BODY_CORNERS ≡ 16
   pub least_side : LEAST_SIDE ≡ 1
   pub side : MOST_SIDE ≡ 65535
+  pub side_of_version_2 : MOST_SIDE_OF_VERSION_2 ≡ 1048575
   pub least_step : LEAST_STEP ≡ 4
   pub step : MOST_STEP ≡ 4096
+  pub step_of_version_2 : MOST_STEP_OF_VERSION_2 ≡ 65536
+  pub goals : MOST_GOALS ≡ 16
+  pub clearance : MOST_CLEARANCE ≡ 4096
   pub gamma : MOST_GAMMA ≡ 16777215
   pub seed : MOST_SEED ≡ 18446744073709551615
   pub least_body_coordinate : LEAST_BODY_COORDINATE ≡ neg_ℤ (pos 4096)
   pub body_coordinate : MOST_BODY_COORDINATE ≡ pos 4096
   pub least_obstacle_coordinate : LEAST_OBSTACLE_COORDINATE ≡ neg_ℤ (pos 131072)
   pub obstacle_coordinate : MOST_OBSTACLE_COORDINATE ≡ pos 131071
+  pub least_obstacle_coordinate_of_version_2 : LEAST_OBSTACLE_COORDINATE_OF_VERSION_2 ≡ neg_ℤ (pos 2097152)
+  pub obstacle_coordinate_of_version_2 : MOST_OBSTACLE_COORDINATE_OF_VERSION_2 ≡ pos 2097151
   pub least_corner_coordinate : LEAST_CORNER_COORDINATE ≡ neg_ℤ (pos 4194304)
   pub corner_coordinate : MOST_CORNER_COORDINATE ≡ pos 4194304
   pub least_summand_coordinate : LEAST_SUMMAND_COORDINATE ≡ neg_ℤ (pos 2097152)
@@ -42,13 +50,17 @@ pub record ConstantVectors : Type 0 where
   pub coordinate : MOST_COORDINATE ≡ 1048575
   pub steering_step : MOST_STEERING_STEP ≡ 65536
 
--- the fault of a line right after the version
+-- the fault of a line right after the version 1
 abbrev pub fault_alone : List ℕ → Option Kind
-fault_alone line = fault_of_statement supported (given_by []) (words_of line)
+fault_alone line = fault_of_statement is_supported 1 (given_by []) (words_of line)
 
--- the same of a line of a key and so many words `x`
+-- the fault of a line right after the version 2, if every key is supported
+abbrev pub fault_in_second : List ℕ → Option Kind
+fault_in_second line = fault_of_statement (λ key. true) 2 (given_by []) (words_of line)
+
+-- the fault of a line of a key and so many words `x` right after the version 1
 abbrev pub fault_of_xs : List ℕ → ℕ → Option Kind
-fault_of_xs key n = fault_of_statement supported (given_by []) (key ∷ replicate n (codes "x"))
+fault_of_xs key n = fault_of_statement is_supported 1 (given_by []) (key ∷ replicate n (codes "x"))
 
 pub record LimitVectors : Type 0 where
   -- the least and the greatest numbers of each key, and the numbers just beyond
@@ -102,7 +114,37 @@ pub record LimitVectors : Type 0 where
   pub corners_of_an_obstacle : fault_of_xs (codes "obstacle") 130 ≡ Some kinds.Many
   pub fewer_corners_of_an_obstacle : fault_of_xs (codes "obstacle") 128 ≡ Some kinds.Number
   -- the obstacle after the last that there may be
-  pub obstacles : is_too_many (λ key. replicate 1024 []) keys.Obstacle 6 ≡ true
-  pub fewer_obstacles : is_too_many (λ key. replicate 1023 []) keys.Obstacle 6 ≡ false
+  pub obstacles : is_too_many 1 (λ key. replicate 1024 []) keys.Obstacle 6 ≡ true
+  pub fewer_obstacles : is_too_many 1 (λ key. replicate 1023 []) keys.Obstacle 6 ≡ false
   -- as many marks as there may be
-  pub marks : most_lines keys.Mark ≡ 262143
+  pub marks : most_lines 1 keys.Mark ≡ 262143
+  -- the keys of version 2, and the ranges that are wider there
+  pub clearance_first : fault_alone (codes "clearance 1") ≡ Some kinds.Key
+  pub informed_first : fault_alone (codes "informed 1") ≡ Some kinds.Key
+  pub clearance_none : fault_in_second (codes "clearance 0") ≡ None
+  pub clearance_most : fault_in_second (codes "clearance 4096") ≡ None
+  pub clearance_beyond : fault_in_second (codes "clearance 4097") ≡ Some kinds.Range
+  pub clearance_words : fault_in_second (codes "clearance") ≡ Some kinds.Words
+  pub informed_not : fault_in_second (codes "informed 0") ≡ None
+  pub informed : fault_in_second (codes "informed 1") ≡ None
+  pub informed_beyond : fault_in_second (codes "informed 2") ≡ Some kinds.Range
+  pub wide_room_most : fault_in_second (codes "room 1048575 1048575") ≡ None
+  pub wide_room_beyond : fault_in_second (codes "room 1048576 1") ≡ Some kinds.Range
+  pub wide_obstacle : fault_in_second (codes "obstacle -2097152 0 2097151 0 0 2097151") ≡ None
+  pub wide_obstacle_below : fault_in_second (codes "obstacle -2097153 0 9 0 0 9") ≡ Some kinds.Range
+  pub wide_obstacle_beyond : fault_in_second (codes "obstacle 0 0 2097152 0 0 9") ≡ Some kinds.Range
+  pub wide_start : fault_in_second (codes "start 1048575 1048575") ≡ None
+  pub wide_start_beyond : fault_in_second (codes "start 0 1048576") ≡ Some kinds.Range
+  pub wide_goal : fault_in_second (codes "goal 1048575 0 1048575 1048575") ≡ None
+  pub wide_goal_reversed : fault_in_second (codes "goal 5 5 4 5") ≡ Some kinds.Range
+  pub wide_goal_beyond : fault_in_second (codes "goal 0 0 1048576 0") ≡ Some kinds.Range
+  pub long_step : fault_in_second (codes "step 65536") ≡ None
+  pub long_step_beyond : fault_in_second (codes "step 65537") ≡ Some kinds.Range
+  pub wide_mark : fault_in_second (codes "mark 1048575 1048575") ≡ None
+  pub wide_mark_beyond : fault_in_second (codes "mark 0 1048576") ≡ Some kinds.Range
+  -- in version 1 a second goal is a repeated key, and in version 2 the 17th is one too many
+  pub second_goal_first : is_repeated 1 (λ key. replicate 1 []) keys.Goal ≡ true
+  pub second_goal : is_repeated 2 (λ key. replicate 1 []) keys.Goal ≡ false
+  pub goals : is_too_many 2 (λ key. replicate 16 []) keys.Goal 4 ≡ true
+  pub goals_repeated : is_repeated 2 (λ key. replicate 16 []) keys.Goal ≡ false
+  pub fewer_goals : is_too_many 2 (λ key. replicate 15 []) keys.Goal 4 ≡ false

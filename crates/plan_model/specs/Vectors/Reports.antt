@@ -42,17 +42,19 @@ abbrev pub goal_point : Goal
 goal_point = record { low = at 30 40; high = at 30 40 }
 
 pub record ReportVectors : Type 0 where
-  pub best : (scene : Scene) → scene.goal ≡ goal_point → best_node (goals_of scene) 1 (state_of two_nodes one_placed) ≡ Some 1
+  pub best : (scene : Scene) → scene.goals ≡ goal_point ∷ [] → best_node (goals_of scene) 1 (state_of two_nodes one_placed) ≡ Some 1
   -- a number past the limit is not looked at
-  pub past_the_limit : (scene : Scene) → scene.goal ≡ goal_point → best_node (goals_of scene) 0 (state_of two_nodes one_placed) ≡ None
+  pub past_the_limit : (scene : Scene) → scene.goals ≡ goal_point ∷ [] → best_node (goals_of scene) 0 (state_of two_nodes one_placed) ≡ None
   pub report :
-      (scene : Scene) → scene.goal ≡ goal_point → short_report (goals_of scene) 1 (state_of two_nodes one_placed)
+      (scene : Scene) → scene.goals ≡ goal_point ∷ [] → short_report scene 1 (state_of two_nodes one_placed)
       ≡ codes "path 2 cost 12800\n0 0\n30 40\nnodes 2 placed 1 same 0 blocked 0\n"
   -- the box is closed
   pub low_corner : is_in_goal (box 1 2 3 4) (at 1 2) ≡ true
   pub high_corner : is_in_goal (box 1 2 3 4) (at 3 4) ≡ true
   pub left_of_it : is_in_goal (box 1 2 3 4) (at 0 2) ≡ false
   pub above_it : is_in_goal (box 1 2 3 4) (at 3 5) ≡ false
+  pub right_of_it : is_in_goal (box 1 2 3 4) (at 4 4) ≡ false
+  pub below_it : is_in_goal (box 1 2 3 4) (at 1 1) ≡ false
   -- one of several goals is enough
   pub in_second_goal : lies_in_goals (box 1 2 3 4 ∷ box 5 5 6 6 ∷ []) (at 5 6) ≡ true
   pub between_goals : lies_in_goals (box 1 2 3 4 ∷ box 5 5 6 6 ∷ []) (at 4 5) ≡ false
@@ -60,17 +62,17 @@ pub record ReportVectors : Type 0 where
   pub least_of_two_goals : best_node (box 40 30 40 30 ∷ box 30 40 30 40 ∷ []) 3 (state_of two_branches []) ≡ Some 1
   pub second_goal_alone : best_node (box 41 41 50 50 ∷ box 40 30 40 30 ∷ []) 3 (state_of two_branches []) ≡ Some 3
   -- of two nodes with the same sum, the one with the lesser number
-  pub tied : (scene : Scene) → scene.goal ≡ box 30 30 40 40 → best_node (goals_of scene) 3 (state_of two_branches []) ≡ Some 1
-  pub none_reached : (scene : Scene) → scene.goal ≡ box 41 41 50 50 → best_node (goals_of scene) 3 (state_of two_branches []) ≡ None
+  pub tied : (scene : Scene) → scene.goals ≡ box 30 30 40 40 ∷ [] → best_node (goals_of scene) 3 (state_of two_branches []) ≡ Some 1
+  pub none_reached : (scene : Scene) → scene.goals ≡ box 41 41 50 50 ∷ [] → best_node (goals_of scene) 3 (state_of two_branches []) ≡ None
   pub no_path :
-      (scene : Scene) → scene.goal ≡ box 41 41 50 50 → short_report (goals_of scene) 1 (state_of two_nodes one_placed)
+      (scene : Scene) → scene.goals ≡ box 41 41 50 50 ∷ [] → short_report scene 1 (state_of two_nodes one_placed)
       ≡ codes "no path\nnodes 2 placed 1 same 0 blocked 0\n"
   pub start_in_goal :
-      (scene : Scene) → scene.goal ≡ box 0 0 9 9 → short_report (goals_of scene) 0 (state_of two_nodes [])
+      (scene : Scene) → scene.goals ≡ box 0 0 9 9 ∷ [] → short_report scene 0 (state_of two_nodes [])
       ≡ codes "path 1 cost 0\n0 0\nnodes 2 placed 0 same 0 blocked 0\n"
   -- absent nodes have no line
   pub in_full :
-      (scene : Scene) → scene.goal ≡ box 41 41 50 50 → full_report (goals_of scene) 3 (state_of one_of_three three_records)
+      (scene : Scene) → scene.goals ≡ box 41 41 50 50 ∷ [] → full_report scene 3 (state_of one_of_three three_records)
       ≡ codes "no path\nnodes 2 placed 1 same 1 blocked 1\nnode 0 at 0 0 parent 0 cost 0\nnode 1 at 30 40 parent 0 cost 12800\n"
       ++ codes "mark 0 worker 0 turn 0 nearest 0 placed class 1 first 0 12800\n"
       ++ codes "mark 1 worker 0 turn 1 nearest 1 same 1\nmark 2 worker 0 turn 2 nearest 1 blocked\n"

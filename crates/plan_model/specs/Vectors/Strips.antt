@@ -1,6 +1,6 @@
 -- Columns cut into three strips, the quotas of three strips, and the columns in which a body fits.
-use Rattle.std.specs.Prelude.{◌≡◌, List, [], ◌∷◌}
-use Rattle.plan_model.specs.MarkPoints.{IsInSpan, strip, strip_of_mark, quota_of, span_within, columns, rows, reach, below_zero, above_zero}
+use Rattle.std.specs.Prelude.{◌≡◌, true, false, List, [], ◌∷◌, map, slice_index_or}
+use Rattle.plan_model.specs.MarkPoints.{IsInSpan, strip, strip_of_mark, quota_of, is_claimed, span_within, columns, rows, reach, below_zero, above_zero}
 use Rattle.plan_model.specs.declared.geometry.Vertex.{Vertex}
 use Rattle.plan_model.specs.declared.spans.Span.{Span}
 use Rattle.plan_model.specs.Vectors.Shapes.{at, corner, corner_below}
@@ -29,6 +29,10 @@ pub record StripVectors : Type 0 where
   -- mark 5 is the second one of the last strip
   pub before_second_mark : quota_of 3 2 5 ≡ 1
   pub with_second_mark : quota_of 3 2 6 ≡ 2
+  -- marks 0 and 3 of the first strip are claimed, none of the second, and mark 2 of the third
+  pub claimed :
+      map (is_claimed 3 (λ g. slice_index_or (2 ∷ 0 ∷ 1 ∷ []) g 0)) (0 ∷ 1 ∷ 2 ∷ 3 ∷ 4 ∷ 5 ∷ 6 ∷ [])
+      ≡ true ∷ false ∷ true ∷ true ∷ false ∷ false ∷ false ∷ []
   -- a point body, a body as wide as the side, and a wider one
   pub all_columns : span_within 10 0 0 ≡ record { first = 0; count = 11 }
   pub last_column : span_within 10 4 6 ≡ record { first = 4; count = 1 }

@@ -1,18 +1,22 @@
 -- Texts that are refused, and a text that spells a scene.
-use Rattle.std.specs.Prelude.{◌≡◌, false, List, ℕ, [], ◌∷◌, ◌++◌, codes}
+use Rattle.std.specs.Prelude.{◌≡◌, ◌==◌, false, List, ℕ, [], ◌∷◌, ◌++◌, codes}
 use Rattle.plan_model.specs.declared.scenes.Scene.{Scene}
 use Rattle.plan_model.specs.declared.scenes.Marks.TheVariants.{Drawn, Listed}
 use Rattle.plan_model.specs.declared.text_terms.Kind.TheVariants as kinds
+use Rattle.plan_model.specs.LineChecks.{Format}
 use Rattle.plan_model.specs.SceneGrammar.{supported, Refused, Spells}
 use Rattle.plan_model.specs.CanonicalText.{canonical_text}
 use Rattle.plan_model.specs.Vectors.Shapes.{at, corner, corner_below}
+
+-- version 1 without its keys
+abbrev pub without_keys : Format
+without_keys = record { reads = λ version. version == 1; built = λ key. false }
 
 pub record RefusalVectors : Type 0 where
   pub empty_text : Refused supported [] 1 kinds.Version
   pub other_version : Refused supported (codes "# a scene\n\nprrt 2\n") 3 kinds.Version
   pub not_a_key : Refused supported (codes "prrt 1\nroom 10 10\nstar\n") 3 kinds.Key
-  -- with a table that supports no key
-  pub not_supported : Refused (λ key. false) (codes "prrt 1\nroom 10 10\n") 2 kinds.Unbuilt
+  pub not_supported : Refused without_keys (codes "prrt 1\nroom 10 10\n") 2 kinds.Unbuilt
   pub repeated : Refused supported (codes "prrt 1\nroom 10 10\nstep 4\nstep 4\n") 4 kinds.Repeat
   pub word_missing : Refused supported (codes "prrt 1\nroom 10\n") 2 kinds.Words
   pub not_a_number : Refused supported (codes "prrt 1\nroom 10 010\n") 2 kinds.Number
@@ -44,7 +48,10 @@ pub record SpellingVector : Type 0 where
   pub body : scene.body ≡ corner 0 0 ∷ []
   pub obstacles : scene.obstacles ≡ []
   pub start : scene.start ≡ at 5 5
-  pub goal : scene.goal ≡ record { low = at 8 8; high = at 9 9 }
+  pub version : scene.version ≡ 1
+  pub goals : scene.goals ≡ record { low = at 8 8; high = at 9 9 } ∷ []
+  pub clearance : scene.clearance ≡ 0
+  pub informed : scene.informed ≡ false
   pub step : scene.step ≡ 4
   pub gamma : scene.gamma ≡ 0
   pub plan : scene.plan ≡ Listed (at 7 7 ∷ [])

@@ -44,7 +44,7 @@ fn open_scene<R: Abort>(
     requires body { IsTrue (is_body body.now) }
     requires strips_low { LEAST_STRIPS ≤ strips }
     requires strips_high { strips ≤ MOST_STRIPS }
-    requires plan { IsTrue (is_plan plan) }
+    requires plan { IsTrue (is_plan 1 plan) }
     ensures room { result.room ≡ room }
     ensures body { result.body ≡ body.now }
     ensures plan { result.plan ≡ plan }
@@ -62,7 +62,8 @@ fn open_scene<R: Abort>(
         strips,
     };
     let body = Sequence::from_vec(copied(rt, body.to_vec(alloc)));
-    small.scene(body, Sequence::from_vec(Vec::new(alloc)), plan)
+    let obstacles = Sequence::from_vec(Vec::new(alloc));
+    sure(rt, small.scene(alloc, body, obstacles, plan))
 }
 
 /// So many marks of a point body, drawn in a room whose sides are as long as each other.
@@ -78,7 +79,7 @@ fn drawn_marks<R: Abort>(
     requires side_high { side ≤ MOST_SIDE }
     requires strips_low { LEAST_STRIPS ≤ strips }
     requires strips_high { strips ≤ MOST_STRIPS }
-    requires count { IsTrue (is_plan (Drawn count)) }
+    requires count { IsTrue (is_plan 1 (Drawn count)) }
 {
     let room = Point { x: side, y: side };
     let body = [Vertex { x: 0, y: 0 }];

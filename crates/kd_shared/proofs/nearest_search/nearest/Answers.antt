@@ -81,6 +81,13 @@ stack_child-requires-clause-belongs c =
     c.point-here-then-square-best.ensures.view c.point-here-then-square-best.ensures.goes_on c.point-here-then-square-best.ensures.seen
     c.point-here-then-square-best.ensures.whole).belongs
 
+pub stack_child-requires-clause-seen : goal.stack_child-requires-clause-seen
+stack_child-requires-clause-seen c =
+    let seen = popped_seen c.args.shared.now c.args.pass.now c.visits.pass c.args.p c.visits.best.distance c.visits.best.node c.visits._visit
+    c.visits.invariant.seeks c.pop_spot.new.self c.pop_spot.ensures.others c.in-Some.spot c.in-Some.ensures.popped in
+    SeesNode-later c.pop_spot.new.self.view c.point-here-then-square-best.new.pass.view c.in-Some.spot.node
+    c.point-here-then-square-best.ensures.goes_on.later seen
+
 pub stack_child-requires-clause-room : goal.stack_child-requires-clause-room
 stack_child-requires-clause-room c =
     let popped = popped_belongs c.args.shared.now c.args.pass.now c.visits.pass c.args.p c.visits.best.distance c.visits.best.node c.visits._visit

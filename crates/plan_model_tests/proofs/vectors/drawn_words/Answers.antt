@@ -1,4 +1,5 @@
-use Rattle.std.proofs.Common.{refl}
+use Rattle.std.proofs.Common.{ap, refl}
+use Rattle.plan_model.specs.MarkPoints.{points_of_marks}
 use Rattle.plan_model_tests.proofs.vectors.drawn_words.Goals as goal
 
 pub returns : goal.returns
@@ -10,4 +11,6 @@ returns c = record {
   least_word = refl;
   greatest_word = refl;
   no_column = refl;
+  drawn_marks = λ scene plan. ap (points_of_marks scene) plan;
+  listed_marks = λ scene points plan. ap (points_of_marks scene) plan;
 }

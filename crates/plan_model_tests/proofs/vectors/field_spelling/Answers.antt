@@ -1,4 +1,4 @@
-use Rattle.std.proofs.Common.{[], ◌∷◌, arith, refl}
+use Rattle.std.proofs.Common.{false, [], ◌∷◌, arith, refl}
 use Rattle.std.specs.Fmt.{digits}
 use Rattle.plan_model.specs.declared.scenes.Scene.{Scene}
 use Rattle.plan_model.specs.declared.scenes.Marks.TheVariants.{Drawn}
@@ -15,25 +15,30 @@ the_scene = record {
   room = at 9 9;
   body = corner 1 2 ∷ [];
   obstacles = (corner 4 4 ∷ corner 6 4 ∷ corner 5 7 ∷ []) ∷ [];
+  clearance = 0;
   start = at 0 0;
-  goal = record { low = at 1 1; high = at 2 2 };
+  goals = record { low = at 1 1; high = at 2 2 } ∷ [];
   step = 4096;
   gamma = 16777215;
   seed = 18446744073709551615;
   strips = 64;
+  informed = false;
   plan = Drawn 262143;
-  version_is_one = refl;
+  version_low = omega arith;
+  version_high = omega arith;
   room_within = record { left = omega arith; right = omega arith; bottom = omega arith; top = omega arith };
   body_within = refl;
   obstacles_within = refl;
+  clearance_high = omega arith;
   start_within = record { left = omega arith; right = omega arith; bottom = omega arith; top = omega arith };
-  goal_within = record { right = omega arith; top = omega arith; horizontal = omega arith; vertical = omega arith };
+  goals_within = refl;
   step_low = omega arith;
   step_high = omega arith;
   gamma_high = omega arith;
   seed_high = omega arith;
   strips_low = omega arith;
   strips_high = omega arith;
+  informed_within = refl;
   plan_within = refl;
 }
 
@@ -49,12 +54,14 @@ returns c = record {
       room = refl;
       body = refl;
       obstacles = refl;
+      clearance = refl;
       start = refl;
-      goal = refl;
+      goals = refl;
       step = refl;
       gamma = refl;
       seed = refl;
       strips = refl;
+      informed = refl;
       plan = refl;
     };
   };

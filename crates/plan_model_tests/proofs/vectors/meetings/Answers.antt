@@ -1,9 +1,13 @@
 use Rattle.std.proofs.Common.{◌≡◌, ℕ, ◌<◌, [], ◌∷◌, arith, refl}
 use Rattle.std.specs.Prelude.{pos, ◌-ℤ◌, ◌*ℤ◌, sum}
 use Rattle.std.proofs.lemmas.Int.{ints}
+use Rattle.plan_model.specs.RoomOfConfigurations.{at_lattice}
 use Rattle.plan_model.specs.Meeting.{weighted}
-use Rattle.plan_model.specs.Vectors.Meetings.{small_triangle, great_triangle, small_square, great_square, far_square}
+use Rattle.plan_model.specs.Vectors.Shapes.{at, halves}
+use Rattle.plan_model.specs.Vectors.Meetings.{small_triangle, great_triangle, small_square, great_square, far_square, point_body, pillar}
+use Rattle.plan_model.proofs.MeetingLaws.{SharesPoint-meets, Meets-shares_point}
 use Rattle.plan_model_tests.proofs.ShortLists.{three, four}
+use Rattle.plan_model_tests.proofs.Pillars.{apart_left, apart_above}
 use Rattle.plan_model_tests.proofs.vectors.meetings.Goals as goal
 
 -- each difference of an obstacle's and a body's point has coordinates that add up to 18 at least
@@ -34,7 +38,7 @@ beyond_far_edge t a b c d e f g h some obstacle body horizontal = omega (arith, 
 
 pub returns : goal.returns
 returns c = record {
-  at_corner = record {
+  at_corner = Meets-shares_point 0 small_triangle great_triangle (at_lattice (at 9 9)) (record {
     total = 2;
     on_obstacle = 2 ∷ 0 ∷ 0 ∷ [];
     on_body = 0 ∷ 1 ∷ 1 ∷ [];
@@ -45,13 +49,14 @@ returns c = record {
     body_total = refl;
     horizontal = refl;
     vertical = refl;
-  };
-  beside_corner = λ m.
+  });
+  beside_corner = λ meets.
+      let m = SharesPoint-meets small_triangle great_triangle (at_lattice (at 8 9)) meets in
       let o = three m.on_obstacle m.obstacle_corners in
       let b = three m.on_body m.body_corners in
       beside_corner m.total o.first o.second o.third b.first b.second b.third m.some_weight (rw o.are at m.obstacle_total) (rw b.are at m.body_total)
       (rw (o.are, b.are) at m.horizontal) (rw (o.are, b.are) at m.vertical);
-  at_corner_in_halves = record {
+  at_corner_in_halves = Meets-shares_point 0 small_triangle great_triangle (halves (pos 18) (pos 18)) (record {
     total = 2;
     on_obstacle = 2 ∷ 0 ∷ 0 ∷ [];
     on_body = 0 ∷ 1 ∷ 1 ∷ [];
@@ -62,13 +67,14 @@ returns c = record {
     body_total = refl;
     horizontal = refl;
     vertical = refl;
-  };
-  half_beside_corner = λ m.
+  });
+  half_beside_corner = λ meets.
+      let m = SharesPoint-meets small_triangle great_triangle (halves (pos 17) (pos 18)) meets in
       let o = three m.on_obstacle m.obstacle_corners in
       let b = three m.on_body m.body_corners in
       half_beside_corner m.total o.first o.second o.third b.first b.second b.third m.some_weight (rw o.are at m.obstacle_total) (rw b.are at m.body_total)
       (rw (o.are, b.are) at m.horizontal) (rw (o.are, b.are) at m.vertical);
-  inside = record {
+  inside = Meets-shares_point 0 small_triangle great_triangle (at_lattice (at 12 12)) (record {
     total = 10;
     on_obstacle = 6 ∷ 2 ∷ 2 ∷ [];
     on_body = 10 ∷ 0 ∷ 0 ∷ [];
@@ -79,8 +85,8 @@ returns c = record {
     body_total = refl;
     horizontal = refl;
     vertical = refl;
-  };
-  at_edge = record {
+  });
+  at_edge = Meets-shares_point 0 small_square great_square (at_lattice (at 8 3)) (record {
     total = 10;
     on_obstacle = 7 ∷ 0 ∷ 0 ∷ 3 ∷ [];
     on_body = 0 ∷ 10 ∷ 0 ∷ 0 ∷ [];
@@ -91,13 +97,14 @@ returns c = record {
     body_total = refl;
     horizontal = refl;
     vertical = refl;
-  };
-  beside_edge = λ m.
+  });
+  beside_edge = λ meets.
+      let m = SharesPoint-meets small_square great_square (at_lattice (at 7 3)) meets in
       let o = four m.on_obstacle m.obstacle_corners in
       let b = four m.on_body m.body_corners in
       beside_edge m.total o.first o.second o.third o.fourth b.first b.second b.third b.fourth m.some_weight (rw o.are at m.obstacle_total)
       (rw b.are at m.body_total) (rw (o.are, b.are) at m.horizontal);
-  at_far_edge = record {
+  at_far_edge = Meets-shares_point 0 far_square great_square (at_lattice (at 0 3)) (record {
     total = 10;
     on_obstacle = 0 ∷ 7 ∷ 3 ∷ 0 ∷ [];
     on_body = 10 ∷ 0 ∷ 0 ∷ 0 ∷ [];
@@ -108,10 +115,39 @@ returns c = record {
     body_total = refl;
     horizontal = refl;
     vertical = refl;
-  };
-  beyond_far_edge = λ m.
+  });
+  beyond_far_edge = λ meets.
+      let m = SharesPoint-meets far_square great_square (at_lattice (at 1 3)) meets in
       let o = four m.on_obstacle m.obstacle_corners in
       let b = four m.on_body m.body_corners in
       beyond_far_edge m.total o.first o.second o.third o.fourth b.first b.second b.third b.fourth m.some_weight (rw o.are at m.obstacle_total)
       (rw b.are at m.body_total) (rw (o.are, b.are) at m.horizontal);
+  at_pillar = Meets-shares_point 0 point_body pillar (at_lattice (at 40 60)) (record {
+    total = 1;
+    on_obstacle = 0 ∷ 0 ∷ 0 ∷ 1 ∷ [];
+    on_body = 1 ∷ [];
+    some_weight = omega arith;
+    obstacle_corners = refl;
+    body_corners = refl;
+    obstacle_total = refl;
+    body_total = refl;
+    horizontal = refl;
+    vertical = refl;
+  });
+  beside_pillar = apart_left 0 39 60 1 _ (omega arith);
+  at_clearance = record {
+    total = 1;
+    on_obstacle = 0 ∷ 0 ∷ 0 ∷ 1 ∷ [];
+    on_body = 1 ∷ [];
+    some_weight = omega arith;
+    obstacle_corners = refl;
+    body_corners = refl;
+    obstacle_total = refl;
+    body_total = refl;
+    horizontal = record { lowest = omega (arith, ints); highest = omega (arith, ints) };
+    vertical = record { lowest = omega (arith, ints); highest = omega (arith, ints) };
+  };
+  left_of_clearance = apart_left 5 34 65 1 _ (omega arith);
+  left_of_clearance_and_above = apart_left 5 34 66 1 _ (omega arith);
+  above_clearance = apart_above 5 35 66 1 _ (omega arith);
 }

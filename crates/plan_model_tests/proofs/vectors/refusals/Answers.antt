@@ -1,8 +1,9 @@
-use Rattle.std.proofs.Common.{false, arith, refl, inr}
+use Rattle.std.proofs.Common.{arith, refl, inr}
 use Rattle.std.specs.Prelude.{codes}
 use Rattle.plan_model.specs.TextLines.{lines_of}
 use Rattle.plan_model.specs.SceneGrammar.{supported}
 use Rattle.plan_model.specs.declared.text_terms.Kind.TheVariants as kinds
+use Rattle.plan_model.specs.Vectors.Texts.{without_keys}
 use Rattle.plan_model.proofs.Soundness.{are_sound, IsSoundBelow-from_test, refused_at_line}
 use Rattle.plan_model_tests.proofs.vectors.refusals.Goals as goal
 
@@ -12,7 +13,7 @@ returns c = record {
   empty_text = (0, refl, (λ i h. absurd (omega arith)), inr (refl, refl));
   other_version = refused_at_line supported (codes "# a scene\n\nprrt 2\n") 2 kinds.Version refl (omega arith) refl;
   not_a_key = refused_at_line supported (codes "prrt 1\nroom 10 10\nstar\n") 2 kinds.Key refl (omega arith) refl;
-  not_supported = refused_at_line (λ key. false) (codes "prrt 1\nroom 10 10\n") 1 kinds.Unbuilt refl (omega arith) refl;
+  not_supported = refused_at_line without_keys (codes "prrt 1\nroom 10 10\n") 1 kinds.Unbuilt refl (omega arith) refl;
   repeated = refused_at_line supported (codes "prrt 1\nroom 10 10\nstep 4\nstep 4\n") 3 kinds.Repeat refl (omega arith) refl;
   word_missing = refused_at_line supported (codes "prrt 1\nroom 10\n") 1 kinds.Words refl (omega arith) refl;
   not_a_number = refused_at_line supported (codes "prrt 1\nroom 10 010\n") 1 kinds.Number refl (omega arith) refl;

@@ -1,5 +1,5 @@
 -- A report is computed part by part, after its best node.
-use Rattle.std.proofs.Common.{◌≡◌, ℕ, List, ◌++◌, Option, Some, refl, ap, ◌∙◌}
+use Rattle.std.proofs.Common.{◌≡◌, ℕ, List, [], ◌∷◌, ◌++◌, Option, Some, refl, ap, ◌∙◌}
 use Rattle.std.specs.Prelude.{codes}
 use Rattle.std.specs.Fmt.{digits}
 use Rattle.plan_model.specs.declared.scenes.Scene.{Scene}
@@ -20,16 +20,16 @@ joined e f = cc
 abbrev pub path_part : TreeState → Option ℕ → List ℕ
 path_part state best = head_line state best ++ point_lines (best_path state best)
 
-rewired_best : (scene : Scene) → scene.goal ≡ box 40 79 40 79 → best_node (goals_of scene) 3 (state_of rewired_tree rewired_records) ≡ Some 2
+rewired_best : (scene : Scene) → scene.goals ≡ box 40 79 40 79 ∷ [] → best_node (goals_of scene) 3 (state_of rewired_tree rewired_records) ≡ Some 2
 rewired_best scene e = rw e refl
 
 rewired_path : path_part (state_of rewired_tree rewired_records) (Some 2) ≡ codes "path 3 cost 25344\n0 0\n40 30\n40 79\n"
 unfolding digits
 rewired_path = rw (cost_2500, cost_2401) refl
 
-rewired_counts : counts_line 3 (state_of rewired_tree rewired_records) ≡ codes "nodes 4 placed 3 same 0 blocked 0\n"
+rewired_counts : (scene : Scene) → counts_line scene 3 (state_of rewired_tree rewired_records) ≡ codes "nodes 4 placed 3 same 0 blocked 0\n"
 unfolding digits
-rewired_counts = refl
+rewired_counts scene = refl
 
 rewired_nodes :
     node_lines 3 (state_of rewired_tree rewired_records)
@@ -46,35 +46,35 @@ rewired_marks :
 unfolding digits
 rewired_marks = refl
 
-rewired_report : ((path_part (state_of rewired_tree rewired_records) (Some 2) ++ counts_line 3 (state_of rewired_tree rewired_records))
+rewired_report : (scene : Scene) → ((path_part (state_of rewired_tree rewired_records) (Some 2) ++ counts_line scene 3 (state_of rewired_tree rewired_records))
     ++ node_lines 3 (state_of rewired_tree rewired_records)) ++ mark_lines 3 (state_of rewired_tree rewired_records) ≡ rewired_text
-rewired_report = joined (joined (joined rewired_path rewired_counts) rewired_nodes) rewired_marks
+rewired_report scene = joined (joined (joined rewired_path (rewired_counts scene)) rewired_nodes) rewired_marks
 
-kept_best : (scene : Scene) → scene.goal ≡ box 40 80 40 80 → best_node (goals_of scene) 3 (state_of kept_tree kept_records) ≡ Some 2
+kept_best : (scene : Scene) → scene.goals ≡ box 40 80 40 80 ∷ [] → best_node (goals_of scene) 3 (state_of kept_tree kept_records) ≡ Some 2
 kept_best scene e = rw e refl
 
 kept_path : path_part (state_of kept_tree kept_records) (Some 2) ≡ codes "path 3 cost 25600\n0 0\n0 50\n40 80\n"
 unfolding digits
 kept_path = rw cost_2500 refl
 
-kept_counts : counts_line 3 (state_of kept_tree kept_records) ≡ codes "nodes 4 placed 3 same 0 blocked 0\n"
+kept_counts : (scene : Scene) → counts_line scene 3 (state_of kept_tree kept_records) ≡ codes "nodes 4 placed 3 same 0 blocked 0\n"
 unfolding digits
-kept_counts = refl
+kept_counts scene = refl
 
-kept_report : path_part (state_of kept_tree kept_records) (Some 2) ++ counts_line 3 (state_of kept_tree kept_records) ≡ kept_text
-kept_report = joined kept_path kept_counts
+kept_report : (scene : Scene) → path_part (state_of kept_tree kept_records) (Some 2) ++ counts_line scene 3 (state_of kept_tree kept_records) ≡ kept_text
+kept_report scene = joined kept_path (kept_counts scene)
 
 pub returns : goal.returns
 returns c = record {
   rewired = rewired_run;
   cost_of_rewired = rewired_sum;
   report_of_rewired = λ scene e.
-      ap (λ best. ((path_part (state_of rewired_tree rewired_records) best ++ counts_line 3 (state_of rewired_tree rewired_records))
+      ap (λ best. ((path_part (state_of rewired_tree rewired_records) best ++ counts_line scene 3 (state_of rewired_tree rewired_records))
       ++ node_lines 3 (state_of rewired_tree rewired_records)) ++ mark_lines 3 (state_of rewired_tree rewired_records)) (rewired_best scene e)
-      ∙ rewired_report;
+      ∙ rewired_report scene;
   kept = kept_run;
   cost_of_kept = kept_sum;
   report_of_kept = λ scene e.
-      ap (λ best. path_part (state_of kept_tree kept_records) best ++ counts_line 3 (state_of kept_tree kept_records)) (kept_best scene e)
-      ∙ kept_report;
+      ap (λ best. path_part (state_of kept_tree kept_records) best ++ counts_line scene 3 (state_of kept_tree kept_records)) (kept_best scene e)
+      ∙ kept_report scene;
 }

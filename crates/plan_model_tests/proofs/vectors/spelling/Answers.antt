@@ -1,4 +1,4 @@
-use Rattle.std.proofs.Common.{[], ◌∷◌, arith, refl}
+use Rattle.std.proofs.Common.{false, [], ◌∷◌, arith, refl}
 use Rattle.std.specs.Fmt.{digits}
 use Rattle.plan_model.specs.declared.scenes.Scene.{Scene}
 use Rattle.plan_model.specs.declared.scenes.Marks.TheVariants.{Listed}
@@ -15,25 +15,30 @@ the_scene = record {
   room = at 10 10;
   body = corner 0 0 ∷ [];
   obstacles = [];
+  clearance = 0;
   start = at 5 5;
-  goal = record { low = at 8 8; high = at 9 9 };
+  goals = record { low = at 8 8; high = at 9 9 } ∷ [];
   step = 4;
   gamma = 0;
   seed = 0;
   strips = 1;
+  informed = false;
   plan = Listed (at 7 7 ∷ []);
-  version_is_one = refl;
+  version_low = omega arith;
+  version_high = omega arith;
   room_within = record { left = omega arith; right = omega arith; bottom = omega arith; top = omega arith };
   body_within = refl;
   obstacles_within = refl;
+  clearance_high = omega arith;
   start_within = record { left = omega arith; right = omega arith; bottom = omega arith; top = omega arith };
-  goal_within = record { right = omega arith; top = omega arith; horizontal = omega arith; vertical = omega arith };
+  goals_within = refl;
   step_low = omega arith;
   step_high = omega arith;
   gamma_high = omega arith;
   seed_high = omega arith;
   strips_low = omega arith;
   strips_high = omega arith;
+  informed_within = refl;
   plan_within = refl;
 }
 
@@ -49,12 +54,14 @@ returns c = record {
       room = refl;
       body = refl;
       obstacles = refl;
+      clearance = refl;
       start = refl;
-      goal = refl;
+      goals = refl;
       step = refl;
       gamma = refl;
       seed = refl;
       strips = refl;
+      informed = refl;
       plan = refl;
     };
   };
@@ -62,7 +69,10 @@ returns c = record {
   body = refl;
   obstacles = refl;
   start = refl;
-  goal = refl;
+  version = refl;
+  goals = refl;
+  clearance = refl;
+  informed = refl;
   step = refl;
   gamma = refl;
   plan = refl;

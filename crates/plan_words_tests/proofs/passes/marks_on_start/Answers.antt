@@ -11,15 +11,15 @@ use Rattle.plan_model.specs.Limits.{is_mark, is_plan}
 use Rattle.plan_model.specs.Vectors.Shapes.{at}
 use Rattle.plan_words_tests.proofs.passes.marks_on_start.Goals as goal
 
-list_all-replicate : (n : ℕ) → list_all is_mark (replicate n (at 0 0)) ≡ true
+list_all-replicate : (n : ℕ) → list_all (is_mark 1) (replicate n (at 0 0)) ≡ true
 list_all-replicate zero = refl
 list_all-replicate (suc n) = list_all-replicate n
 
-is_plan-replicate : (n : ℕ) (items : List Point) → n ≤ MOST_MARKS → items ≡ replicate n (at 0 0) → IsTrue (is_plan (Listed items))
+is_plan-replicate : (n : ℕ) (items : List Point) → n ≤ MOST_MARKS → items ≡ replicate n (at 0 0) → IsTrue (is_plan 1 (Listed items))
 is_plan-replicate n items low same =
     let few = le-leb (length items) MOST_MARKS (omega (arith, low, ap length same, length-replicate n (at 0 0))) in
-    let each : list_all is_mark items ≡ true = ap (list_all is_mark) same ∙ list_all-replicate n in
-    and_from (leb (length items) MOST_MARKS) (list_all is_mark items) few each
+    let each : list_all (is_mark 1) items ≡ true = ap (list_all (is_mark 1)) same ∙ list_all-replicate n in
+    and_from (leb (length items) MOST_MARKS) (list_all (is_mark 1) items) few each
 
 pub returns-clause-plan : goal.returns-clause-plan
 returns-clause-plan c =

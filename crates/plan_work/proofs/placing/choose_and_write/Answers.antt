@@ -12,6 +12,7 @@ use Rattle.plan_work.proofs.placing.choose_and_write.Goals as goal
 use Rattle.plan_work.specs.Extensions.{IsHung, IsPointed}
 use Rattle.step_core.specs.ViewTrees.{MayHang}
 use Rattle.step_core.specs.Views.{setup_in}
+use Rattle.step_core.specs.WordNames.Word.{Count}
 use Rattle.step_core.specs.declared.views.SharedRun.{SharedRun}
 use Rattle.tree_rewire.specs.SeenCosts.{NamesTree}
 
@@ -38,6 +39,14 @@ returns-clause-keeps g c =
     (KeepsRecords-anew NamesTree c.args.shared.now before mid (λ k no. no) (λ g no. no) c.choose-parent.ensures.belongs c.choose-parent.ensures.seen)
     (KeepsRecords-written c.args.shared.now mid c.write_tree.new.pass own.hand c.choose-parent.result.0 c.choose-parent.result.1
     c.choose-parent.ensures.belongs (of_held mid.view _ own.hand held c.write_tree.ensures.view) c.write_tree.ensures.goes_on)
+
+pub returns-clause-count : goal.returns-clause-count
+returns-clause-count g c =
+    let mid = c.choose-parent.new.pass in
+    let own = holding c.args.pass.now.view (λ hand. IsPointed hand c.args.nearest c.args.p) c.requires.hand c.requires.pointed in
+    let held = c.choose-parent.ensures.seen.kept.hand ∙ own.held in
+    let written = of_held mid.view _ own.hand held c.write_tree.ensures.view in
+    ap (λ (x : PassState). sees x.view Count) written ∙ c.choose-parent.ensures.seen.others Count (λ no. no)
 
 pub returns-clause-hung : goal.returns-clause-hung
 returns-clause-hung g c =

@@ -10,7 +10,7 @@ use Rattle.plan_work.proofs.PlacedAlone.{AloneNext-placed, AloneNext-same, Mirro
 use Rattle.plan_work.proofs.WholeLists.{HasWholeShare-kept}
 use Rattle.plan_work.specs.WholeShares.{IsFilledWhole, IsTriedWhole}
 use Rattle.plan_work.proofs.placing.place_rewire_and_record.Goals as goal
-use Rattle.plan_work.specs.Extensions.{EndsAsSeen, IsFilledSince, IsTried, hung_by}
+use Rattle.plan_work.specs.Extensions.{EndsWritten, IsFilledSince, IsTried, hung_by}
 use Rattle.step_core.specs.ViewSteps.{pair_in_hand}
 use Rattle.step_core.specs.ViewTrees.{SeesPoint}
 use Rattle.step_core.specs.Views.{sees}
@@ -107,7 +107,7 @@ returns-in-Placed-clause-ended g c = λ first filled.
     may.held c.choose_and_place-placing.ensures.tried in
     let placed = subst (λ placing. IsTried before after may.hand placing c.choose_and_place-placing.result.1) c.in-Placed.is tried in
     let since = subst (IsFilledSince c.args.shared.now first before c.args.steering.point) (sym c.choose_and_place-placing.ensures.class) filled in
-    subst (EndsAsSeen first.view c.record_placed.new.pass.view c.args.k c.record_placed.result c.args.steering.point)
+    subst (EndsWritten first.view c.record_placed.new.pass.view c.args.k c.record_placed.result c.args.steering.point)
     (sym (ap (λ (entry : Record). entry.outcome) c.record_placed.ensures.entry))
     (IsPlacedAt-recorded c.args.shared.now first before after c.rewire.new.pass c.args.k c.args.steering.nearest c.args.steering.point
     c.choose_and_place-placing.result.1 may since c.choose_and_place-placing.ensures.keeps placed c.rewire.ensures.seen c.rewire.ensures.pairs
@@ -134,7 +134,7 @@ returns-in-Same-clause-ended g c = λ first filled.
     let tried = of_held before.view (λ hand. IsTried before after hand c.choose_and_place-placing.result.0 c.choose_and_place-placing.result.1) may.hand
     may.held c.choose_and_place-placing.ensures.tried in
     let same = subst (λ placing. IsTried before after may.hand placing c.choose_and_place-placing.result.1) c.in-Same.is tried in
-    subst (EndsAsSeen first.view c.record_unplaced.new.pass.view c.args.k c.record_unplaced.result c.args.steering.point)
+    subst (EndsWritten first.view c.record_unplaced.new.pass.view c.args.k c.record_unplaced.result c.args.steering.point)
     (sym (ap (λ (entry : Record). entry.outcome) c.record_unplaced.ensures.entry))
     (subst (SeesPoint c.record_unplaced.new.pass.view c.in-Same.node) may.pointed.point
     (stands_later after.view c.record_unplaced.new.pass.view c.record_unplaced.ensures.recorded.goes_on c.in-Same.node may.hand.point same.came.stands))

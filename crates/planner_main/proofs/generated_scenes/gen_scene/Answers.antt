@@ -9,18 +9,23 @@ use Rattle.planner_main.proofs.generated_scenes.gen_scene.Goals as goal
 pub invariant_of-result-clause-obstacles_within : goal.invariant_of-result-clause-obstacles_within
 invariant_of-result-clause-obstacles_within c = rw c.in_ok-obstacles.ensures (are_obstacles-generated c.args.number)
 
+pub invariant_of-result-clause-goals_within : goal.invariant_of-result-clause-goals_within
+invariant_of-result-clause-goals_within c = rw c.in_ok-goals.ensures refl
+
 pub returns-clause-scene : goal.returns-clause-scene
 returns-clause-scene c = record {
   version = refl;
   room = refl;
   body = c.in_ok-square_at.ensures;
   obstacles = c.in_ok-obstacles.ensures;
+  clearance = refl;
   start = refl;
-  goal = refl;
+  goals = c.in_ok-goals.ensures;
   step = refl;
   gamma = refl;
   seed = c.from.ensures;
   strips = refl;
+  informed = refl;
   plan = refl;
 }
 

@@ -1,17 +1,22 @@
-use Rattle.std.proofs.Common.{◌≡◌, map, ◌∙◌, sym, false, true, rules, arith}
+use Rattle.std.proofs.Common.{◌≡◌, ◌≤ℤ◌, map, ◌∙◌, sym, false, true, rules, arith}
 use Rattle.std.proofs.lemmas.Int.{ints}
 use Rattle.plan_model.specs.TextLines.{words_of}
 use Rattle.plan_model.specs.TextNumbers.{value_of}
-use Rattle.plan_model.specs.declared.limits.TheConstants.{LEAST_OBSTACLE_COORDINATE, MOST_OBSTACLE_COORDINATE}
+use Rattle.plan_model.specs.declared.limits.TheConstants.{LEAST_CORNER_COORDINATE, MOST_CORNER_COORDINATE}
+use Rattle.plan_model.specs.Limits.{least_obstacle_coordinate, most_obstacle_coordinate}
+use Rattle.plan_model.proofs.SceneBounds.{least_obstacle-counted, most_obstacle-counted}
 use Rattle.scene_text.proofs.PolygonLemmas.{bounded-given, has_corners-obstacle, checks-pass, checks-corners}
 use Rattle.scene_text.proofs.field_words.read_obstacle.Goals as goal
 
 pub is_convex-requires : goal.is_convex-requires
 is_convex-requires c =
     let read = c.in_ok-corners.ensures in
+    let version = c.args.version in
+    let low : LEAST_CORNER_COORDINATE ≤ℤ least_obstacle_coordinate version = omega (arith, ints, least_obstacle-counted version) in
+    let high : most_obstacle_coordinate version ≤ℤ MOST_CORNER_COORDINATE = omega (arith, ints, most_obstacle-counted version) in
     rw c.as_slice.ensures.value
-    (bounded-given LEAST_OBSTACLE_COORDINATE MOST_OBSTACLE_COORDINATE (map value_of (words_of c.args.words.now)) c.in_ok-corners.corners.items
-    (omega (arith, ints)) (omega (arith, ints)) read.value read.within)
+    (bounded-given (least_obstacle_coordinate version) (most_obstacle_coordinate version) (map value_of (words_of c.args.words.now))
+    c.in_ok-corners.corners.items low high read.value read.within)
 
 pub returns-then-not-is_convex-clause-refused : goal.returns-then-not-is_convex-clause-refused
 returns-then-not-is_convex-clause-refused c =

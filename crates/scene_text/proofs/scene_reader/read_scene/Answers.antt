@@ -2,11 +2,11 @@ use Rattle.std.proofs.Common.{List, ℕ, ◌≡◌, ◌+◌, IfErr, subst, sym, 
 use Rattle.std.proofs.lemmas.Result.{err_from_is_err_and}
 use Rattle.scene_text.specs.Refusals.{refusal_at, IsSceneRefusal}
 use Rattle.scene_text.proofs.MappedErrors.{IfErr-map_err, IfOk-map_err, IfOk-two, OnOk-before_map_err}
-use Rattle.scene_text.proofs.ReaderLemmas.{Reads, Reads-none, Reads-more, Reads-refused, Reads-missing, Reads-all, AllMayStand-draft}
+use Rattle.scene_text.proofs.ReaderLemmas.{Reads, Reads-none, Reads-more, Reads-refused, Reads-missing, Reads-all, IsSoundDraft-read}
 use Rattle.scene_text.proofs.scene_reader.read_scene.Goals as goal
 
 pub loop-line-init : goal.loop-line-init
-loop-line-init c = Reads-none c.args.text.now c.new-draft.result c.new-draft.ensures.version_read c.new-draft.ensures.given
+loop-line-init c = Reads-none c.args.text.now c.new-draft.result c.new-draft.ensures.version c.new-draft.ensures.given
 
 pub returns-in_err-map_err-clause-fault : goal.returns-in_err-map_err-clause-fault
 returns-in_err-map_err-clause-fault c =
@@ -27,7 +27,7 @@ loop-line-preserved c =
 pub into_scene-requires : goal.into_scene-requires
 into_scene-requires c =
     let all = subst (λ (rest : List ℕ). Reads c.args.text.now c.loop-line.number rest c.loop-line.draft) c.in_default.ensures.none c.loop-line.invariant in
-    AllMayStand-draft c.args.text.now c.loop-line.number c.loop-line.draft all
+    IsSoundDraft-read c.args.text.now c.loop-line.number c.loop-line.draft all
 
 pub returns-clause-scene : goal.returns-clause-scene
 returns-clause-scene c =

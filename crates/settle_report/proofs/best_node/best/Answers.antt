@@ -26,7 +26,7 @@ loop-node-preserved-then-is_goal_node c =
     let all : ℕ = grown.limit + 1 in
     let here =
     best_of-goal_node (goals_of grown.task.scene) state (next - 1) next (all - (next - 1)) (all - next) (omega arith)
-    (omega (arith, c.limit-node.ensures)) (sym (rw (c.goals-goals.ensures, c.task.ensures) at c.is_goal_node.ensures.value) ∙ c.if-is_goal_node.true) in
+    (omega (arith, c.limit-node.ensures)) (sym (rw (c.as_slice-goals.ensures, c.task.ensures) at c.is_goal_node.ensures.value) ∙ c.if-is_goal_node.true) in
     record {
       least = ap Some (c.better_node.ensures.value ∙ ap (lesser (sum_in state) (next - 1)) c.loop-node.invariant.least) ∙ sym here;
       present = c.better_node.ensures.present;
@@ -41,7 +41,7 @@ loop-node-preserved c =
       least =
           c.loop-node.invariant.least
           ∙ sym (best_of-other (goals_of grown.task.scene) (state_of_grown grown) (next - 1) next (all - (next - 1)) (all - next) (omega arith)
-          (omega (arith, c.limit-node.ensures)) (sym (rw (c.goals-goals.ensures, c.task.ensures) at c.is_goal_node.ensures.value) ∙ c.if-is_goal_node.false));
+          (omega (arith, c.limit-node.ensures)) (sym (rw (c.as_slice-goals.ensures, c.task.ensures) at c.is_goal_node.ensures.value) ∙ c.if-is_goal_node.false));
       present = c.loop-node.invariant.present;
     }
 

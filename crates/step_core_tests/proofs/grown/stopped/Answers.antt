@@ -23,7 +23,7 @@ use Rattle.step_core.proofs.ListedRuns.{IsClosed-same_lists}
 use Rattle.step_core_tests.proofs.grown.stopped.Goals as goal
 
 abbrev low_setup : Setup
-low_setup = record { space = empty_room (at 40 40); start = at 0 0; step = 50; gamma = 1000 }
+low_setup = record { space = empty_room (at 40 40); start = at 0 0; step = 50; gamma = 1000; goals = [] }
 
 abbrev marks : List Point
 marks = at 0 0 ∷ at 0 50 ∷ []

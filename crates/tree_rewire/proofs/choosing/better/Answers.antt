@@ -4,11 +4,14 @@ use Rattle.plan_model.specs.Cost.{cost_of}
 use Rattle.tree_rewire.specs.SeenCosts.{cost_through}
 use Rattle.tree_rewire.proofs.ChosenParents.{read_through}
 use Rattle.tree_rewire.proofs.CostSteps.{PassSees-point}
-use Rattle.tree_rewire.proofs.SeenCosts.{point_later}
+use Rattle.tree_rewire.proofs.SeenCosts.{SeesNode-pair, point_later}
 use Rattle.tree_rewire.proofs.choosing.better.Given.{Over}
 use Rattle.tree_rewire.proofs.choosing.better.Goals as goal
 use Rattle.tree_rewire.proofs.choosing.better.Goals.{After-is_beaten_by}
 use Rattle.tree_rewire.proofs.choosing.better.Goals.{else-is_beaten_by-via-then-is_beaten_by+else-clear, else-is_beaten_by-via-else-is_beaten_by}
+
+pub point-from-requires-clause-seen_node : goal.point-from-requires-clause-seen_node
+point-from-requires-clause-seen_node g c = SeesNode-pair c.args.pass.now.view c.args.node c.requires.lawful c.requires.pair
 
 -- the cost through the node, once its point is loaded
 through :

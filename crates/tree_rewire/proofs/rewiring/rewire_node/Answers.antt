@@ -19,7 +19,7 @@ use Rattle.tree_rewire.proofs.CostSteps.{PassLowers-sees, PassLowers-trans, Pass
 use Rattle.tree_rewire.proofs.LoweredCosts.{IsWithinParent-below}
 use Rattle.tree_rewire.proofs.MirroredTrees.{Mirrors-same}
 use Rattle.tree_rewire.proofs.RewiredTrees.{AllTightBut-lowered, Clear-cheaper_through, IsCheaperThrough-seen, Mirrors-rewired, less-cheaper_through}
-use Rattle.tree_rewire.proofs.SeenCosts.{SeesPair-later, cost_seen-later, point_later, stands_later}
+use Rattle.tree_rewire.proofs.SeenCosts.{SeesNode-pair, SeesPair-later, cost_seen-later, point_later, stands_later}
 use Rattle.tree_rewire.proofs.SpreadFalls.{HasSpreadFalls-none, HasSpreadFalls-turn, IsShortcut-seen}
 use Rattle.tree_rewire.proofs.WholeShares.{HasWholeShare-later, SeesAsBefore-none, SeesAsBefore-trans}
 use Rattle.tree_rewire.proofs.rewiring.rewire_node.Given.{Over}
@@ -27,6 +27,11 @@ use Rattle.tree_rewire.proofs.rewiring.rewire_node.Goals as goal
 use Rattle.tree_rewire.proofs.rewiring.rewire_node.Goals.{After-seen_cost}
 use Rattle.tree_rewire.proofs.rewiring.rewire_node.Goals.{else-costs_less_through-via-then-costs_less_through+else-clear}
 use Rattle.tree_rewire.proofs.rewiring.rewire_node.Goals.{else-costs_less_through-via-else-costs_less_through}
+
+pub point-to-requires-clause-seen_node : goal.point-to-requires-clause-seen_node
+point-to-requires-clause-seen_node g c =
+    let known = c.known_cost-kept_cost.ensures in
+    SeesNode-pair c.known_cost-kept_cost.new.pass.view c.args.node known.steps.sees_anew.goes_on.lawful known.pair
 
 -- the point of the node is loaded again
 loads_point : (g : Over) (c : After-seen_cost g) → PassSees NamesNothing c.args.shared.now c.known_cost-kept_cost.new.pass c.point-to.new.pass
@@ -92,6 +97,10 @@ improve-requires-clause-edge g c =
 
 pub improve-requires-clause-from : goal.improve-requires-clause-from
 improve-requires-clause-from g c = IsBounded-seen c.args.pass.now.view c.args.parent c.args.from c.requires.parent
+
+pub improve-requires-clause-pair : goal.improve-requires-clause-pair
+improve-requires-clause-pair g c =
+    SeesPair-later c.known_cost-kept_cost.new.pass.view c.point-to.new.pass.view c.point-to.ensures.goes_on c.args.node c.known_cost-kept_cost.ensures.pair
 
 pub spread-requires-clause-pair : goal.spread-requires-clause-pair
 spread-requires-clause-pair g c =
@@ -178,6 +187,10 @@ returns-else-costs_less_through-clause-steps g c =
     let to = (goal.at.returns-else-costs_less_through-clause-steps g c).After-seen_cost in
     PassLowers-sees c.args.shared.now c.args.pass.now c.point-to.new.pass
     (PassSees-more NamesTree NamesTreeOrPoint c.args.shared.now c.args.pass.now c.point-to.new.pass TreeOrPoint-tree (loads g to))
+
+pub returns-else-costs_less_through-clause-pair : goal.returns-else-costs_less_through-clause-pair
+returns-else-costs_less_through-clause-pair g c =
+    SeesPair-later c.known_cost-kept_cost.new.pass.view c.point-to.new.pass.view c.point-to.ensures.goes_on c.args.node c.known_cost-kept_cost.ensures.pair
 
 pub returns-else-costs_less_through-clause-rewired : goal.returns-else-costs_less_through-clause-rewired
 returns-else-costs_less_through-clause-rewired g c =

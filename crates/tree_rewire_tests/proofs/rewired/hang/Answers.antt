@@ -1,4 +1,4 @@
-use Rattle.std.proofs.Common.{◌≡◌, ℕ, ap, subst, sym, ◌∙◌}
+use Rattle.std.proofs.Common.{◌≡◌, ℕ, ap, arith, length, refl, subst, sym, ◌∙◌}
 use Rattle.std.specs.Prelude.{All, IfSome}
 use Rattle.std.proofs.lemmas.List.Elements.{All-head}
 use Rattle.plan_model.specs.declared.geometry.Point.{Point}
@@ -98,3 +98,30 @@ returns-clause-near c =
     (All-in_reach-later mid.view now.view holds.hand.point mid.near now.near choice.seen.goes_on (ap (λ (s : PassState). s.near) choice.view_alone)
     (All-in_reach-later before.view mid.view holds.hand.point before.near mid.near c.point-from.ensures.goes_on
     (ap (λ (s : PassState). s.near) c.point-from.ensures.view) all)))
+
+pub returns-clause-holds : goal.returns-clause-holds
+returns-clause-holds c =
+    let holds = c.requires.holds in
+    let now = c.choose-parent.new.pass in
+    let after = c.write_tree.new.pass in
+    let choice = c.choose-parent.ensures in
+    let held = choice.seen.kept.hand ∙ ap (λ (s : PassState). s.view.hand) c.point-from.ensures.view ∙ holds.held in
+    let is = at_hand
+    (λ hand. after ≡ with_view now
+    (treed (half now.view hand c.choose-parent.result.0 c.choose-parent.result.1)
+    (record hand { stage = Half; parent = c.choose-parent.result.0; cost = c.choose-parent.result.1 })))
+    now.view.hand holds.hand held c.write_tree.ensures.view in
+    let crew = ap (λ (s : PassState). s.view.crew) is ∙ choice.seen.kept.crew ∙ ap (λ (s : PassState). s.view.crew) c.point-from.ensures.view in
+    record {
+      belongs = record {
+        table = ap (λ (s : PassState). s.table) is ∙ choice.belongs.table;
+        run = ap (λ (s : PassState). s.view.run) is ∙ choice.belongs.run;
+      };
+      part = omega (arith, holds.part, ap (λ crew. length crew) crew);
+      lawful = c.write_tree.ensures.goes_on.lawful;
+      hand = record holds.hand { stage = Treed; parent = c.choose-parent.result.0; cost = c.choose-parent.result.1 };
+      held = ap (λ (s : PassState). s.view.hand) is;
+      mark = holds.mark;
+      stage_is = refl;
+      nearest_is = holds.nearest_is;
+    }

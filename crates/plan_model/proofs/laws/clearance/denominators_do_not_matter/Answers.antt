@@ -8,7 +8,10 @@ pub returns-clause-in_room : goal.returns-clause-in_room
 returns-clause-in_room c = λ space q r h. (InRoom-same space q r h, InRoom-same space r q (IsSamePoint-sym q r h))
 
 pub returns-clause-meets : goal.returns-clause-meets
-returns-clause-meets c = λ body obstacle q r h. (Meets-same body obstacle q r h, Meets-same body obstacle r q (IsSamePoint-sym q r h))
+returns-clause-meets c = λ clearance body obstacle q r h. (
+  Meets-same clearance body obstacle q r h,
+  Meets-same clearance body obstacle r q (IsSamePoint-sym q r h),
+)
 
 pub returns-clause-clear : goal.returns-clause-clear
 returns-clause-clear c = λ space q r h. (IsClear-same space q r h, IsClear-same space r q (IsSamePoint-sym q r h))

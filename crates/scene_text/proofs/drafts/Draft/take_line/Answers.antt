@@ -1,6 +1,7 @@
-use Rattle.std.proofs.Common.{◌≡◌, ◌∷◌, true, false, refl, rules, ap, ◌∙◌}
+use Rattle.std.proofs.Common.{◌≡◌, ◌∷◌, true, false, Some, None, refl, rules, ap, ◌∙◌}
 use Rattle.plan_model.specs.TextLines.{words_of, is_skipped}
-use Rattle.plan_model.specs.LineChecks.{is_version}
+use Rattle.plan_model.specs.LineChecks.{version_of}
+use Rattle.plan_model.specs.SceneGrammar.{supported}
 use Rattle.scene_text.proofs.DraftLemmas.{given-version, TakesLine-skipped, TakesLine-version, TakesLine-statement, OnOk-three}
 use Rattle.scene_text.proofs.drafts.Draft.take_line.Goals as goal
 
@@ -13,18 +14,20 @@ returns-then-eq-clause-taken c =
     let comment : is_skipped (c.in-Some.word.now ∷ words_of c.in-Some.words.now) ≡ true = search rules in
     TakesLine-skipped c.args.self.now (words_of c.args.line.now) (ap is_skipped c.in-Some.ensures.some ∙ comment)
 
-pub returns-then-self-clause-taken : goal.returns-then-self-clause-taken
-returns-then-self-clause-taken c =
+pub returns-in-Some-version-clause-taken : goal.returns-in-Some-version-clause-taken
+returns-in-Some-version-clause-taken c =
     let kept : is_skipped (c.in-Some.word.now ∷ words_of c.in-Some.words.now) ≡ false = search rules in
     let taken = c.take_statement.ensures in
     rw c.in-Some.ensures.some (OnOk-three c.take_statement.result
-    (TakesLine-statement c.args.self.now c.take_statement.new.self (c.in-Some.word.now ∷ words_of c.in-Some.words.now) kept c.if-self.true) taken.sound
-    taken.version_read taken.given)
+    (TakesLine-statement c.args.self.now c.take_statement.new.self (c.in-Some.word.now ∷ words_of c.in-Some.words.now) c.in-Some-version.version kept
+    c.in-Some-version.is) taken.sound taken.version taken.given)
 
 pub returns-clause-taken : goal.returns-clause-taken
 returns-clause-taken c =
     let kept : is_skipped (c.in-Some.word.now ∷ words_of c.in-Some.words.now) ≡ false = search rules in
     let old = c.args.self.now in
-    let version : is_version (c.in-Some.word.now ∷ words_of c.in-Some.words.now) ≡ true = search rules in
-    rw c.in-Some.ensures.some (TakesLine-version old (record old { version_read = true }) (c.in-Some.word.now ∷ words_of c.in-Some.words.now) kept
-    c.if-self.false version refl (given-version old))
+    let unread : old.version ≡ None = search rules in
+    let version = c.in-Some-version_of.version in
+    let named : version_of supported.reads (c.in-Some.word.now ∷ words_of c.in-Some.words.now) ≡ Some version = search rules in
+    rw c.in-Some.ensures.some (TakesLine-version old (record old { version = Some version }) (c.in-Some.word.now ∷ words_of c.in-Some.words.now) version kept
+    unread named refl (given-version old (Some version)))

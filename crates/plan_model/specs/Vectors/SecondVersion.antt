@@ -1,0 +1,62 @@
+-- Texts of version 2, and texts of version 1 that have what only version 2 has.
+use Rattle.std.specs.Prelude.{◌≡◌, true, false, List, ℕ, [], ◌∷◌, ◌++◌, codes, replicate}
+use Rattle.std.specs.List.{concat}
+use Rattle.plan_model.specs.declared.scenes.Scene.{Scene}
+use Rattle.plan_model.specs.declared.text_terms.Kind.TheVariants as kinds
+use Rattle.plan_model.specs.LineChecks.{Format}
+use Rattle.plan_model.specs.SceneGrammar.{is_supported, supported, whole_format, Refused, Spells}
+use Rattle.plan_model.specs.CanonicalText.{canonical_text}
+use Rattle.plan_model.specs.Vectors.Shapes.{at}
+
+-- both versions, with the keys that are supported
+abbrev pub both_versions : Format
+both_versions = record { reads = λ version. true; built = is_supported }
+
+-- so many lines of a goal after the version
+abbrev pub text_of_goals : ℕ → List ℕ
+text_of_goals n = codes "prrt 2\n" ++ concat (replicate n (codes "goal 1 1 2 2\n"))
+
+pub record SecondVersionVectors : Type 0 where
+  pub not_read : Refused supported (codes "prrt 2\nroom 9 9\n") 1 kinds.Version
+  pub no_version : Refused both_versions (codes "prrt 3\n") 1 kinds.Version
+  pub version_in_digits : Refused both_versions (codes "prrt 02\n") 1 kinds.Version
+  pub clearance_of_first : Refused both_versions (codes "prrt 1\nclearance 1\n") 2 kinds.Key
+  pub informed_of_first : Refused whole_format (codes "prrt 1\ninformed 1\n") 2 kinds.Key
+  pub not_supported : Refused both_versions (codes "prrt 2\ninformed 1\n") 2 kinds.Unbuilt
+  pub clearance_twice : Refused both_versions (codes "prrt 2\nclearance 1\nclearance 1\n") 3 kinds.Repeat
+  pub second_goal_of_first : Refused both_versions (codes "prrt 1\ngoal 1 1 2 2\ngoal 1 1 2 2\n") 3 kinds.Repeat
+  pub too_many_goals : Refused both_versions (text_of_goals 17) 18 kinds.Many
+  pub goal_missing : Refused both_versions (codes "prrt 2\nroom 9 9\nstart 0 0\nstep 4\n") 5 kinds.Missing
+
+abbrev pub small_text : List ℕ
+small_text =
+    codes "prrt 2\nroom 9 9\nstart 0 0\ngoal 1 1 2 2\nstep 4\n"
+
+-- a text of version 2 with what each scene needs, and no more
+pub record SecondVersionSpelling : Type 0 where
+  pub scene : Scene
+  pub spelled : Spells both_versions small_text scene
+  pub version : scene.version ≡ 2
+  pub goals : scene.goals ≡ record { low = at 1 1; high = at 2 2 } ∷ []
+  pub clearance : scene.clearance ≡ 0
+  pub informed : scene.informed ≡ false
+  pub canonical :
+      canonical_text scene
+      ≡ codes "prrt 2\nroom 9 9\nbody 0 0\nclearance 0\nstart 0 0\ngoal 1 1 2 2\nstep 4\ngamma 0\nseed 0\nstrips 1\n"
+
+abbrev pub wide_text : List ℕ
+wide_text =
+    codes "prrt 2\ngoal 8 8 9 9\ninformed 1\nstep 65536\nclearance 3\nroom 1048575 9\n"
+    ++ codes "goal 1 1 2 2\nobstacle 4 4 6 4 5 7\nstart 0 0\nmarks 5\n"
+
+-- a text of version 2 with every field: the goals are in the order of their lines
+pub record WideSpelling : Type 0 where
+  pub scene : Scene
+  pub spelled : Spells whole_format wide_text scene
+  pub goals : scene.goals ≡ record { low = at 8 8; high = at 9 9 } ∷ record { low = at 1 1; high = at 2 2 } ∷ []
+  pub clearance : scene.clearance ≡ 3
+  pub informed : scene.informed ≡ true
+  pub canonical :
+      canonical_text scene
+      ≡ codes "prrt 2\nroom 1048575 9\nbody 0 0\nobstacle 4 4 6 4 5 7\nclearance 3\nstart 0 0\ngoal 8 8 9 9\ngoal 1 1 2 2\n"
+      ++ codes "step 65536\ngamma 0\nseed 0\nstrips 1\ninformed 1\nmarks 5\n"

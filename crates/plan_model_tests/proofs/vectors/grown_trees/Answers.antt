@@ -1,0 +1,110 @@
+use Rattle.std.proofs.Common.{◌≡◌, ℕ, zero, suc, ◌≤◌, ◌<◌, Some, None, [], ◌∷◌, arith, refl, ap, inl, inr}
+use Rattle.std.specs.Prelude.{◌⊎◌, unwrap_or}
+use Rattle.plan_model.specs.declared.geometry.Point.{Point}
+use Rattle.plan_model.specs.declared.records.Record.{Record}
+use Rattle.plan_model.specs.OrderLaw.{most_cost_of}
+use Rattle.plan_model.specs.PointsByNumber.{StandsAt, IsPresent, node_count, point_at}
+use Rattle.plan_model.specs.TreeStates.{first_cost_of, KeepsOrFalls, TreeState}
+use Rattle.plan_model.specs.Vectors.Shapes.{at}
+use Rattle.plan_model.proofs.OpenRoomMarks.{same_y}
+use Rattle.plan_model_tests.specs.GrownTrees.{before, after_with, both_records, first_by, four_points, moment_of}
+use Rattle.plan_model_tests.specs.UnlawfulTrees.{room_to, three_points}
+use Rattle.plan_model_tests.proofs.vectors.grown_trees.Goals as goal
+
+abbrev after : TreeState
+after = after_with four_points [] (0 ∷ 12803 ∷ 2560 ∷ 10240 ∷ []) both_records
+
+nodes : (n : ℕ) (p : Point) → StandsAt three_points n p → StandsAt four_points n p
+nodes zero p h = h
+nodes (suc zero) p h = h
+nodes (suc (suc zero)) p h = h
+nodes (suc (suc (suc n))) p h = cc
+
+first_costs : (n : ℕ) → IsPresent three_points n → first_cost_of after n ≡ first_cost_of before n
+first_costs zero h = refl
+first_costs (suc zero) h = refl
+first_costs (suc (suc zero)) h = refl
+first_costs (suc (suc (suc n))) h = cc
+
+trees : (n : ℕ) → IsPresent three_points n → KeepsOrFalls before after n
+trees zero h = inl (refl, refl)
+trees (suc zero) h = inl (refl, refl)
+trees (suc (suc zero)) h = inr (omega arith)
+trees (suc (suc (suc n))) h = cc
+
+records : (k : ℕ) (entry : Record) → before.record_of k ≡ Some entry → after.record_of k ≡ Some entry
+records zero entry h = h
+records (suc k) entry h = cc
+
+-- a node neither keeps its cost nor falls
+higher : (m n : ℕ) (A : Type 0) → m < n → ¬ (((n ≡ m) × A) ⊎ (n < m))
+higher m n A h (inl kept) = omega (arith, h, kept.0)
+higher m n A h (inr falls) = omega (arith, h, falls)
+
+-- a node neither keeps its parent nor falls
+moved : (n a b : ℕ) → a < b → ¬ (((n ≡ n) × (a ≡ b)) ⊎ (n < n))
+moved n a b h (inl kept) = omega (arith, h, kept.1)
+moved n a b h (inr falls) = omega (arith, falls)
+
+same_points : (n : ℕ) → point_at (Some (at 0 0) ∷ Some (at 0 50) ∷ Some (at 0 10) ∷ None ∷ []) n ≡ point_at three_points n
+same_points zero = refl
+same_points (suc zero) = refl
+same_points (suc (suc zero)) = refl
+same_points (suc (suc (suc zero))) = refl
+same_points (suc (suc (suc (suc n)))) = refl
+
+abbrev same_run : TreeState
+same_run =
+    moment_of (Some (at 0 0) ∷ Some (at 0 50) ∷ Some (at 0 10) ∷ None ∷ []) (0 ∷ 0 ∷ 1 ∷ 2 ∷ []) (0 ∷ 12803 ∷ 23043 ∷ 7 ∷ []) 0
+    (first_by 0 12803 ∷ [])
+
+same_parents : (n : ℕ) → IsPresent three_points n → same_run.parent n ≡ before.parent n
+same_parents zero h = refl
+same_parents (suc zero) h = refl
+same_parents (suc (suc zero)) h = refl
+same_parents (suc (suc (suc n))) h = cc
+
+same_costs : (n : ℕ) → IsPresent three_points n → same_run.cost n ≡ before.cost n
+same_costs zero h = refl
+same_costs (suc zero) h = refl
+same_costs (suc (suc zero)) h = refl
+same_costs (suc (suc (suc n))) h = cc
+
+kept : (n : ℕ) → IsPresent three_points n → before.cost n ≤ first_cost_of before n
+kept zero h = omega arith
+kept (suc zero) h = omega arith
+kept (suc (suc zero)) h = omega arith
+kept (suc (suc (suc n))) h = cc
+
+bounded : (n : ℕ) → IsPresent three_points n → first_cost_of before n ≤ most_cost_of (room_to 50 (at 0 0)) (node_count three_points)
+bounded zero h = omega arith
+bounded (suc zero) h = omega arith
+bounded (suc (suc zero)) h = omega arith
+bounded (suc (suc (suc n))) h = cc
+
+same_worker : (one other : Record) → Some one ≡ Some other → one.worker ≡ other.worker
+same_worker one other e = ap (λ o. (unwrap_or o one).worker) e
+
+pub returns : goal.returns
+returns c = record {
+  later = record { nodes = nodes; first_costs = first_costs; trees = trees; records = records };
+  node_gone = λ h. let e = h.nodes 2 (at 0 10) refl in cc;
+  node_elsewhere = λ h. omega (arith, same_y (at 0 11) (at 0 10) (h.nodes 2 (at 0 10) refl));
+  other_first_cost = λ h. omega (arith, h.first_costs 2 refl);
+  cost_rose = λ h. higher 12803 12804 (0 ≡ 0) (omega arith) (h.trees 1 refl);
+  moved_at_the_same_cost = λ h. moved 23043 0 1 (omega arith) (h.trees 2 refl);
+  other_record = λ h. omega (arith, same_worker (first_by 1 12803) (first_by 0 12803) (h.records 0 (first_by 0 12803) refl));
+  other_costs = record { points = refl; parents = λ n. refl; written_costs = λ n. refl; records = λ k. refl };
+  node_too = λ h. let e = ap (λ points. point_at points 3) h.points in cc;
+  parent_too = λ h. omega (arith, h.parents 2);
+  written_cost_too = λ h. omega (arith, h.written_costs 0);
+  record_too = λ h. let e = h.records 0 in cc;
+  same = record { points = same_points; parents = same_parents; costs = same_costs; records = λ k. refl };
+  one_node_more = λ h. let e = h.points 3 in cc;
+  other_parent = λ h. omega (arith, h.parents 2 refl);
+  other_cost = λ h. omega (arith, h.costs 2 refl);
+  record_more = λ h. let e = h.records 1 in cc;
+  keeps_first_costs = record { kept = kept; bounded = bounded };
+  above_first_cost = λ h. omega (arith, h.kept 1 refl);
+  first_cost_above_the_bound = λ h. omega (arith, h.bounded 2 refl);
+}

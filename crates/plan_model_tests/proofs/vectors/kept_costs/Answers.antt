@@ -1,0 +1,56 @@
+use Rattle.std.proofs.Common.{◌≡◌, ℕ, zero, suc, ◌+◌, ◌≤◌, ◌<◌, [], ◌∷◌, arith, refl}
+use Rattle.std.specs.Prelude.{◌≢◌}
+use Rattle.plan_model.specs.PointsByNumber.{IsPresent}
+use Rattle.plan_model.specs.Trees.{edge_by, parent_of, points_of}
+use Rattle.plan_model.specs.Vectors.Trees.{gapped}
+use Rattle.plan_model.proofs.OpenRoomMarks.{cost_2500}
+use Rattle.plan_model_tests.specs.GrownTrees.{costs_of}
+use Rattle.plan_model_tests.specs.UnlawfulTrees.{three_points}
+use Rattle.plan_model_tests.proofs.vectors.kept_costs.Goals as goal
+
+with_parent : (n : ℕ) → IsPresent three_points (suc n) → suc n ≢ 1
+    → costs_of (0 ∷ 12800 ∷ 23040 ∷ []) (suc n) + costs_of (0 ∷ 12803 ∷ 23043 ∷ []) (costs_of (0 ∷ 0 ∷ 1 ∷ []) (suc n))
+    ≡ costs_of (0 ∷ 12803 ∷ 23043 ∷ []) (suc n) + costs_of (0 ∷ 12800 ∷ 23040 ∷ []) (costs_of (0 ∷ 0 ∷ 1 ∷ []) (suc n))
+with_parent zero h other = absurd (other refl)
+with_parent (suc zero) h other = refl
+with_parent (suc (suc n)) h other = cc
+
+none_rises : (n : ℕ) → costs_of (0 ∷ 12800 ∷ 23040 ∷ []) n ≤ costs_of (0 ∷ 12803 ∷ 23043 ∷ []) n
+none_rises zero = omega arith
+none_rises (suc zero) = omega arith
+none_rises (suc (suc zero)) = omega arith
+none_rises (suc (suc (suc n))) = omega arith
+
+edges : (n : ℕ) → IsPresent (points_of gapped) (suc n)
+    → costs_of (0 ∷ 0 ∷ 12800 ∷ []) (suc n)
+    ≡ costs_of (0 ∷ 0 ∷ 12800 ∷ []) (parent_of gapped (suc n)) + edge_by (points_of gapped) (parent_of gapped) (suc n)
+edges zero h = cc
+edges (suc zero) h = omega (arith, cost_2500)
+edges (suc (suc n)) h = cc
+
+parents : (n : ℕ) → IsPresent (points_of gapped) (suc n) → IsPresent (points_of gapped) (parent_of gapped (suc n))
+parents zero h = cc
+parents (suc zero) h = refl
+parents (suc (suc n)) h = cc
+
+falls : (n : ℕ) → IsPresent (points_of gapped) (suc n) → costs_of (5 ∷ 0 ∷ 6 ∷ []) (parent_of gapped (suc n)) < costs_of (5 ∷ 0 ∷ 6 ∷ []) (suc n)
+falls zero h = cc
+falls (suc zero) h = omega arith
+falls (suc (suc n)) h = cc
+
+pub returns : goal.returns
+returns c = record {
+  lowered = record { top = refl; start = refl; with_parent = with_parent; none_rises = none_rises };
+  top_by_less = λ h. omega (arith, h.top);
+  start_too = λ h. omega (arith, h.start);
+  child_stays = λ h. omega (arith, h.with_parent 1 refl (λ e. omega (arith, e)));
+  other_rises = λ h. omega (arith, h.none_rises 3);
+  tight = record { start = refl; edges = edges };
+  start_at_a_cost = λ h. omega (arith, h.start);
+  above_its_edge = λ h. omega (arith, h.edges 1 refl, cost_2500);
+  fall = record { start = refl; parent = parents; falls = falls };
+  no_fall = λ h. omega (arith, h.falls 1 refl);
+  no_start = λ h. let e = h.start in cc;
+  no_parent = λ h. let e = h.parent 0 refl in cc;
+  nodes_alone = refl;
+}

@@ -1,0 +1,36 @@
+use Rattle.std.proofs.Common.{◌≡◌, ℕ, List, [], cond, refl, sym, ap, ◌∙◌}
+use Rattle.plan_model.specs.declared.geometry.Point.{Point}
+use Rattle.plan_model.specs.declared.geometry.Vertex.{Vertex}
+use Rattle.plan_model.specs.declared.configuration_spaces.ConfigurationSpace.{ConfigurationSpace}
+use Rattle.plan_model.specs.MarkPoints.{points_of_marks}
+use Rattle.plan_model.proofs.RewiredRun.{rewired_run}
+use Rattle.plan_model.specs.Vectors.Runs.{rewired_records, rewired_tree}
+use Rattle.plan_model_tests.proofs.vectors.same_inputs.Goals as goal
+
+abbrev space_with : Point → List Vertex → List (List Vertex) → ℕ → ConfigurationSpace
+space_with room body obstacles clearance = record { room = room; body = body; obstacles = obstacles; clearance = clearance }
+
+same_space : (room hall : Point) (body other : List Vertex) (obstacles others : List (List Vertex)) (clearance distance : ℕ)
+    → room ≡ hall → body ≡ other → obstacles ≡ others → clearance ≡ distance
+    → space_with room body obstacles clearance ≡ space_with hall other others distance
+same_space room hall body other obstacles others clearance distance e f g h = cc
+
+pub returns : goal.returns
+returns c = record {
+  without_marks = λ one other room body obstacles clearance start step gamma plain plain_too listed drawn.
+      record {
+        space = same_space one.room other.room one.body other.body one.obstacles other.obstacles one.clearance other.clearance room body obstacles
+            clearance;
+        start = start;
+        step = step;
+        gamma = gamma;
+        goals = ap (λ b. cond b one.goals []) plain ∙ sym (ap (λ b. cond b other.goals []) plain_too);
+        marks = ap (points_of_marks one) listed ∙ sym (ap (points_of_marks other) drawn);
+      };
+  of_a_run = record {
+    nodes = rewired_tree;
+    records = rewired_records;
+    run = rewired_run;
+    same = record { points = λ n. refl; parents = λ n h. refl; costs = λ n h. refl; records = λ k. refl };
+  };
+}

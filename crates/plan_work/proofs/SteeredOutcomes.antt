@@ -1,0 +1,46 @@
+-- What each outcome says of the nearest node, and of the point to which it steered.
+use Rattle.std.proofs.Common.{◌≡◌, ℕ, suc, refl, sym, ap, ◌∙◌, subst}
+use Rattle.plan_model.specs.ClosedLaw.{mark_at}
+use Rattle.plan_model.specs.PointsByNumber.{IsFree}
+use Rattle.plan_model.specs.Steering.{steered}
+use Rattle.plan_model.specs.declared.geometry.Point.{Point}
+use Rattle.plan_model.specs.declared.records.Outcome.{Outcome}
+use Rattle.plan_model.specs.declared.records.Outcome.TheVariants.{Blocked, Placed, Same}
+use Rattle.plan_model.specs.declared.records.Record.{Record}
+use Rattle.plan_model.proofs.NewNodes.{point_of-stands}
+use Rattle.step_core.specs.Views.{tree_seen}
+use Rattle.step_core.specs.declared.views.View.{View}
+use Rattle.plan_work.specs.Extensions.{EndsAsSeen, EndsWritten, HasSteered, IsPlacedAt, WasSteered, steered_point}
+use Rattle.step_core.specs.ViewTrees.{SeesPoint}
+
+module _ (before after : View) (k : ℕ) (entry : Record) where
+  -- a mark that was steered to p, and ended there
+  pub WasSteered-to :
+      (from p : Point) (EndsAt : Point → Type 0) → HasSteered before after k entry.nearest from p → EndsAt p → WasSteered before after k entry EndsAt
+  WasSteered-to from p EndsAt steers ended =
+      let at = sym (point_of-stands (tree_seen after).points entry.nearest from steers.stands) in
+      let is : p ≡ steered_point after k entry = steers.point_is ∙ ap (λ q. steered q (mark_at after.run.marks k) after.run.step) at in
+      record { from = from; steered = subst (HasSteered before after k entry.nearest from) is steers; outcome = subst EndsAt is ended }
+
+  -- so does one whose point was written
+  pub EndsAsSeen-written :
+      (from p : Point) → HasSteered before after k entry.nearest from p → (outcome : Outcome) → EndsWritten before after k entry p outcome
+      → EndsAsSeen before after k entry outcome
+  EndsAsSeen-written from p steers Placed ended = WasSteered-to from p (IsPlacedAt before after k entry) steers ended
+  EndsAsSeen-written from p steers (Same j) ended = WasSteered-to from p (SeesPoint after j) steers ended
+  EndsAsSeen-written from p steers Blocked ended = absurd ended
+
+  -- each outcome has a nearest node, which steered
+  pub HasSteered-ended :
+      (outcome : Outcome) → EndsAsSeen before after k entry outcome
+      → (from : Point) × HasSteered before after k entry.nearest from (steered_point after k entry)
+  HasSteered-ended Placed ended = (ended.from, ended.steered)
+  HasSteered-ended (Same j) ended = (ended.from, ended.steered)
+  HasSteered-ended Blocked ended = (ended.from, ended.steered)
+
+  -- where no node is seen at the point, the mark was blocked
+  pub Blocked-free :
+      (outcome : Outcome) → EndsAsSeen before after k entry outcome → IsFree (tree_seen after).points (steered_point after k entry) → outcome ≡ Blocked
+  Blocked-free Placed ended free = absurd (free (suc k) ended.outcome.stands)
+  Blocked-free (Same j) ended free = absurd (free j ended.outcome)
+  Blocked-free Blocked ended free = refl
