@@ -6,9 +6,9 @@ use Rattle.std.proofs.lemmas.Int.{ints}
 use borrow.Author.Count.{below_more}
 use Rattle.plan_model.specs.declared.limits.TheConstants.{LEAST_CORNER_COORDINATE, MOST_CORNER_COORDINATE}
 use Rattle.plan_model.specs.declared.geometry.Vertex.{Vertex}
-use Rattle.plan_model.specs.Convexity.{corner_at}
-use Rattle.plan_model.specs.HalfPlanes.{IsInside}
-use Rattle.plan_model.specs.RoomOfConfigurations.{Rational, at_lattice}
+use Rattle.plan_model.specs.Geometry.Convexity.{corner_at}
+use Rattle.plan_model.specs.Spaces.HalfPlanes.{IsInside}
+use Rattle.plan_model.specs.Spaces.RoomOfConfigurations.{Rational, at_lattice}
 use Rattle.convex_sets.specs.declared.boxes.BoundingBox.{BoundingBox}
 use Rattle.convex_sets.specs.Boxes.{IsBoundingBox, IsBoxed, IsInBox}
 use Rattle.convex_sets.proofs.Corners.{IsWithin, bounded_corner, bounded_at}

@@ -6,8 +6,8 @@ use Rattle.std.proofs.lemmas.Int.{ints}
 use Rattle.std.proofs.lemmas.Bool.{and_parts, and_from, leb-true, eqb-true, cases_lt}
 use Rattle.std.specs.List.{list_all, range_with_len}
 use Rattle.plan_model.specs.declared.geometry.Vertex.{Vertex}
-use Rattle.plan_model.specs.Convexity.{corner_at, next_corner, is_left_of_edge, is_strictly_convex}
-use Rattle.plan_model.specs.Geometry.{orientation}
+use Rattle.plan_model.specs.Geometry.Convexity.{corner_at, next_corner, is_left_of_edge, is_strictly_convex}
+use Rattle.plan_model.specs.Geometry.Plane.{orientation}
 use Rattle.convex_sets.specs.Edges.{is_end_or_left}
 use Rattle.convex_sets.proofs.Tests.{true_below, true_of_below, false_below, last_true, one_true}
 

@@ -5,8 +5,8 @@ use Rattle.std.proofs.lemmas.Bool.{and_parts, and_from}
 use Rattle.std.proofs.lemmas.Int.{ints}
 use Rattle.plan_model.specs.declared.limits.TheConstants.{LEAST_CORNER_COORDINATE, MOST_CORNER_COORDINATE}
 use Rattle.plan_model.specs.declared.geometry.Vertex.{Vertex}
-use Rattle.plan_model.specs.Convexity.{corner_at}
-use Rattle.plan_model.specs.Limits.{is_corner_between}
+use Rattle.plan_model.specs.Geometry.Convexity.{corner_at}
+use Rattle.plan_model.specs.Scenes.Limits.{is_corner_between}
 use Rattle.convex_sets.specs.Bounds.{IsBoundedCorner, AreBoundedCorners}
 use Rattle.convex_sets.proofs.Tests.{true_at}
 

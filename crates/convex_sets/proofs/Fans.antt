@@ -3,15 +3,15 @@ use Rattle.std.proofs.Common.{◌≡◌, ℕ, ◌+◌, ◌-◌, ◌<◌, ◌≤�
 use Rattle.std.specs.Prelude.{ℤ, pos, negsuc, ◌+ℤ◌, ◌-ℤ◌, ◌*ℤ◌, ◌<ℤ◌, ◌≤ℤ◌}
 use Rattle.std.proofs.lemmas.Int.{ints, by_lt_z}
 use Rattle.plan_model.specs.declared.geometry.Vertex.{Vertex}
-use Rattle.plan_model.specs.Convexity.{corner_at, next_corner}
-use Rattle.plan_model.specs.HalfPlanes.{IsInside, side_of}
-use Rattle.plan_model.specs.RoomOfConfigurations.{Rational}
+use Rattle.plan_model.specs.Geometry.Convexity.{corner_at, next_corner}
+use Rattle.plan_model.specs.Spaces.HalfPlanes.{IsInside, side_of}
+use Rattle.plan_model.specs.Spaces.RoomOfConfigurations.{Rational}
 use Rattle.convex_sets.specs.Boxes.{at_corner}
 use Rattle.convex_sets.specs.Edges.{cross, from_to}
 use Rattle.convex_sets.proofs.Ring.{Read, var, plus, minus, times, same}
 use Rattle.convex_sets.proofs.Crosses.{exchange_x, exchange_y, cross_opposite}
 use Rattle.convex_sets.proofs.Signs.{mul-positive}
-use Rattle.plan_model.specs.Geometry.{orientation}
+use Rattle.plan_model.specs.Geometry.Plane.{orientation}
 use Rattle.convex_sets.proofs.ConvexPolygons.{IsConvex, next_suc, next_last}
 
 -- the vector from a corner to a point, times the point's denominator

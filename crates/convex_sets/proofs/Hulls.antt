@@ -4,9 +4,9 @@ use Rattle.std.specs.Prelude.{ℤ, pos, ◌+ℤ◌, ◌-ℤ◌, ◌*ℤ◌, ◌<
 use Rattle.std.proofs.lemmas.Int.{ints}
 use Rattle.std.proofs.lemmas.List.Sums.{sum_by-cons}
 use Rattle.plan_model.specs.declared.geometry.Vertex.{Vertex}
-use Rattle.plan_model.specs.Convexity.{corner_at}
-use Rattle.plan_model.specs.Meeting.{Meets, weighted}
-use Rattle.plan_model.specs.RoomOfConfigurations.{Rational}
+use Rattle.plan_model.specs.Geometry.Convexity.{corner_at}
+use Rattle.plan_model.specs.Spaces.Meeting.{Meets, weighted}
+use Rattle.plan_model.specs.Spaces.RoomOfConfigurations.{Rational}
 use Rattle.plan_model.proofs.MeetingLaws.{SharesPoint-meets, Meets-shares_point}
 use Rattle.convex_sets.specs.Edges.{cross, from_to}
 use Rattle.convex_sets.proofs.Ring.{var, plus, minus, times, same}

@@ -3,7 +3,7 @@ use Rattle.std.proofs.Common.{◌≡◌, ◌⊎◌, ℕ, suc, ◌<◌, ◌≤◌
 use Rattle.std.specs.Prelude.{pos, negsuc, ◌*ℤ◌, ◌<ℤ◌, ◌≤ℤ◌}
 use Rattle.std.proofs.lemmas.Int.{ints, by_lt_z}
 use Rattle.plan_model.specs.declared.geometry.Vertex.{Vertex}
-use Rattle.plan_model.specs.Convexity.{corner_at}
+use Rattle.plan_model.specs.Geometry.Convexity.{corner_at}
 use Rattle.convex_sets.specs.Edges.{cross, from_to}
 use Rattle.convex_sets.specs.Outlines.{both, edge_at, start, rise, IsOutline}
 use Rattle.std.proofs.lemmas.Bool.{cases_lt}

@@ -6,8 +6,8 @@ use Rattle.std.proofs.lemmas.Int.{ints, by_lt_z}
 use Rattle.std.proofs.lemmas.Bool.{cases_lt, cases_order, ltb-true, ltb-false, eqb-true}
 use Rattle.plan_model.specs.declared.limits.TheConstants.{LEAST_CORNER_COORDINATE, MOST_CORNER_COORDINATE}
 use Rattle.plan_model.specs.declared.geometry.Vertex.{Vertex}
-use Rattle.plan_model.specs.Convexity.{corner_at, next_corner, is_strictly_convex}
-use Rattle.plan_model.specs.Geometry.{orientation}
+use Rattle.plan_model.specs.Geometry.Convexity.{corner_at, next_corner, is_strictly_convex}
+use Rattle.plan_model.specs.Geometry.Plane.{orientation}
 use Rattle.convex_sets.specs.Bounds.{AreBoundedCorners, IsBoundedCorner}
 use Rattle.convex_sets.specs.Edges.{cross, from_to}
 use Rattle.convex_sets.specs.Outlines.{edge_at, start, rise, IsOutline, IsOutlineOf, IsTurned, places_after}
@@ -18,7 +18,7 @@ use Rattle.convex_sets.proofs.MergedPaths.{pushed, at_front, at_end}
 use borrow.Author.Count.{below_more}
 use Rattle.convex_sets.proofs.ConvexPolygons.{IsConvex, IsConvex-from_test, next_suc, next_last}
 use Rattle.convex_sets.proofs.Tests.{true_of_all}
-use Rattle.plan_model.specs.Limits.{is_corner_between}
+use Rattle.plan_model.specs.Scenes.Limits.{is_corner_between}
 
 pub places_before : (n i k : ℕ) → i + k < n → places_after n i k ≡ i + k
 places_before n i k h = by (ltb (i + k) n) refl

@@ -7,13 +7,13 @@ use Rattle.std.proofs.lemmas.Int.{ints, by_lt_z}
 use Rattle.plan_model.specs.declared.limits.TheConstants.{LEAST_BODY_COORDINATE, LEAST_CORNER_COORDINATE, LEAST_SUMMAND_COORDINATE}
 use Rattle.plan_model.specs.declared.limits.TheConstants.{MOST_BODY_COORDINATE, MOST_CORNER_COORDINATE, MOST_SUMMAND_COORDINATE}
 use Rattle.plan_model.specs.declared.geometry.Vertex.{Vertex}
-use Rattle.plan_model.specs.Convexity.{corner_at, next_corner, is_strictly_convex}
-use Rattle.plan_model.specs.Geometry.{orientation}
-use Rattle.plan_model.specs.HalfPlanes.{IsInside}
-use Rattle.plan_model.specs.Limits.{is_corner_between}
-use Rattle.plan_model.specs.Meeting.{Meets}
-use Rattle.plan_model.specs.RoomOfConfigurations.{Rational}
-use Rattle.plan_model.specs.Zones.{IsZoneOf, IsLowerOrLeft}
+use Rattle.plan_model.specs.Geometry.Convexity.{corner_at, next_corner, is_strictly_convex}
+use Rattle.plan_model.specs.Geometry.Plane.{orientation}
+use Rattle.plan_model.specs.Spaces.HalfPlanes.{IsInside}
+use Rattle.plan_model.specs.Scenes.Limits.{is_corner_between}
+use Rattle.plan_model.specs.Spaces.Meeting.{Meets}
+use Rattle.plan_model.specs.Spaces.RoomOfConfigurations.{Rational}
+use Rattle.plan_model.specs.Spaces.Zones.{IsZoneOf, IsLowerOrLeft}
 use Rattle.convex_sets.specs.Bounds.{AreBoundedCorners}
 use Rattle.convex_sets.specs.Edges.{cross, from_to}
 use Rattle.convex_sets.specs.Outlines.{both, reflection, IsMerged, IsOutlineOf, IsSum}

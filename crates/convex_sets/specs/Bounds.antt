@@ -3,7 +3,7 @@ use Rattle.std.specs.Prelude.{List, IsTrue}
 use Rattle.std.specs.List.{list_all}
 use Rattle.plan_model.specs.declared.geometry.Vertex.{Vertex}
 use Rattle.plan_model.specs.declared.limits.TheConstants.{LEAST_CORNER_COORDINATE, MOST_CORNER_COORDINATE}
-use Rattle.plan_model.specs.Limits.{is_corner_between}
+use Rattle.plan_model.specs.Scenes.Limits.{is_corner_between}
 
 -- both coordinates are between the least and the greatest of a corner
 abbrev pub IsBoundedCorner : Vertex → Type 0

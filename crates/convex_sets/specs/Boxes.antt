@@ -3,8 +3,8 @@ use Rattle.std.specs.Prelude.{◌≡◌, ℕ, ◌<◌, pos, ◌≤ℤ◌, List, 
 use Rattle.std.proofs.Math.Nat.{le_refl}
 use Rattle.plan_model.specs.declared.geometry.Point.{Point}
 use Rattle.plan_model.specs.declared.geometry.Vertex.{Vertex}
-use Rattle.plan_model.specs.Convexity.{corner_at, is_strictly_convex}
-use Rattle.plan_model.specs.RoomOfConfigurations.{Rational}
+use Rattle.plan_model.specs.Geometry.Convexity.{corner_at, is_strictly_convex}
+use Rattle.plan_model.specs.Spaces.RoomOfConfigurations.{Rational}
 use Rattle.convex_sets.specs.declared.boxes.BoundingBox.{BoundingBox}
 use Rattle.convex_sets.specs.Bounds.{AreBoundedCorners}
 

@@ -2,8 +2,8 @@
 use Rattle.std.specs.Prelude.{ℕ, Bool, ◌==◌, ◌||◌, ℤ, pos, ◌-ℤ◌, ◌*ℤ◌, ◌≤ℤ◌, int_lt, List}
 use Rattle.plan_model.specs.declared.geometry.Vertex.{Vertex}
 use Rattle.plan_model.specs.declared.limits.TheConstants.{LEAST_CORNER_COORDINATE, MOST_CORNER_COORDINATE}
-use Rattle.plan_model.specs.Convexity.{corner_at}
-use Rattle.plan_model.specs.Geometry.{orientation}
+use Rattle.plan_model.specs.Geometry.Convexity.{corner_at}
+use Rattle.plan_model.specs.Geometry.Plane.{orientation}
 
 -- the vector from one corner to another
 abbrev pub from_to : Vertex → Vertex → Vertex

@@ -1,7 +1,7 @@
 -- Closed outlines, and their merging into the outline of the Minkowski sum.
 use Rattle.std.specs.Prelude.{◌≡◌, ◌≢◌, ℕ, suc, ◌+◌, ◌-◌, nat_lt, if◌then◌else◌, ◌<◌, ◌⊎◌, ℤ, pos, negsuc, neg_ℤ, ◌+ℤ◌, ◌<ℤ◌, ◌≤ℤ◌, List, length, true}
 use Rattle.plan_model.specs.declared.geometry.Vertex.{Vertex}
-use Rattle.plan_model.specs.Convexity.{corner_at, is_strictly_convex, next_corner}
+use Rattle.plan_model.specs.Geometry.Convexity.{corner_at, is_strictly_convex, next_corner}
 use Rattle.convex_sets.specs.Edges.{cross, from_to}
 
 -- the sum of two corners

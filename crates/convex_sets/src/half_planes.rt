@@ -3,7 +3,7 @@
 ghost use Rattle.std.specs.Prelude.{◌↔◌, IsTrue};
 ghost use Rattle.convex_sets.specs.Bounds.{AreBoundedCorners, IsBoundedCorner};
 ghost use Rattle.convex_sets.specs.Boxes.{at_corner};
-ghost use Rattle.plan_model.specs.HalfPlanes.{IsInside};
+ghost use Rattle.plan_model.specs.Spaces.HalfPlanes.{IsInside};
 
 use crate::orientations::orientation;
 use crate::polygon_corners::next_corner;

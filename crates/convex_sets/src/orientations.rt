@@ -3,7 +3,7 @@
 ghost use Rattle.std.specs.Prelude.{◌≡◌};
 ghost use Rattle.convex_sets.specs.Bounds.{IsBoundedCorner};
 ghost use Rattle.convex_sets.specs.Edges.{IsShort, cross, from_to};
-ghost use Rattle.plan_model.specs.Geometry.{orientation};
+ghost use Rattle.plan_model.specs.Geometry.Plane.{orientation};
 
 use plan_model::Vertex;
 

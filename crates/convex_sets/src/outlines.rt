@@ -4,7 +4,7 @@ ghost use Rattle.std.specs.Prelude.{◌≡◌, ℕ, ◌+◌, ◌<◌, ◌≤◌,
 ghost use Rattle.convex_sets.specs.Bounds.{AreBoundedCorners, IsBoundedCorner};
 ghost use Rattle.convex_sets.specs.Edges.{from_to};
 ghost use Rattle.convex_sets.specs.Outlines.{IsOutline, IsOutlineOf, IsTurned, places_after, reflection, rise};
-ghost use Rattle.plan_model.specs.Convexity.{corner_at, is_strictly_convex};
+ghost use Rattle.plan_model.specs.Geometry.Convexity.{corner_at, is_strictly_convex};
 
 use plan_model::{Memory, Vertex};
 use std::alloc::Global;

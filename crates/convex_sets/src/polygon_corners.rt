@@ -3,7 +3,7 @@
 ghost use Rattle.std.specs.Prelude.{◌≡◌, ◌<◌};
 ghost use Rattle.convex_sets.specs.Bounds.{IsBoundedCorner};
 ghost use Rattle.convex_sets.specs.Boxes.{corner_of};
-ghost use Rattle.plan_model.specs.Convexity.{next_corner};
+ghost use Rattle.plan_model.specs.Geometry.Convexity.{next_corner};
 
 use plan_model::{Point, Vertex};
 

@@ -50,13 +50,13 @@ impl Zone {
     ghost use Rattle.std.specs.List.{list_all};
     ghost use Rattle.plan_model.specs.declared.limits.TheConstants.{LEAST_BODY_COORDINATE, LEAST_SUMMAND_COORDINATE};
     ghost use Rattle.plan_model.specs.declared.limits.TheConstants.{MOST_BODY_COORDINATE, MOST_SUMMAND_COORDINATE};
-    ghost use Rattle.plan_model.specs.Limits.{is_corner_between};
-    ghost use Rattle.plan_model.specs.Zones.{IsZoneOf};
+    ghost use Rattle.plan_model.specs.Scenes.Limits.{is_corner_between};
+    ghost use Rattle.plan_model.specs.Spaces.Zones.{IsZoneOf};
     ghost use Rattle.convex_sets.specs.Bounds.{AreBoundedCorners};
     ghost use Rattle.convex_sets.specs.Boxes.{IsBoundingBox};
-    ghost use Rattle.plan_model.specs.Convexity.{is_strictly_convex};
-    ghost use Rattle.plan_model.specs.HalfPlanes.{IsInside};
-    ghost use Rattle.plan_model.specs.RoomOfConfigurations.{at_lattice};
+    ghost use Rattle.plan_model.specs.Geometry.Convexity.{is_strictly_convex};
+    ghost use Rattle.plan_model.specs.Spaces.HalfPlanes.{IsInside};
+    ghost use Rattle.plan_model.specs.Spaces.RoomOfConfigurations.{at_lattice};
 
     /// The zone of a body and an obstacle, with clearance 0: the Minkowski sum of the obstacle and the reflected body,
     /// made of the edges of both, sorted by angle. Parallel edges become one, so no corner stands between two others.

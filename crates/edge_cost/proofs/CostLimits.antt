@@ -1,7 +1,7 @@
 -- A root, rounded up, is within a limit exactly if the square of a number within the limit reaches.
 use Rattle.std.proofs.Common.{ℕ, ◌*◌, ◌≤◌, min, arith}
 use Rattle.std.proofs.lemmas.Nat.{mul-le}
-use Rattle.plan_model.specs.Roots.{root_ceiling}
+use Rattle.plan_model.specs.Geometry.Roots.{root_ceiling}
 use Rattle.plan_model.proofs.RootLaws.{root_ceiling-is}
 
 pub within_if_reached : (n limit most : ℕ) → most ≤ limit → n ≤ most * most → root_ceiling n ≤ limit

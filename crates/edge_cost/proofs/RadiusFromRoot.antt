@@ -4,7 +4,7 @@ use Rattle.std.proofs.Math.Nat.{div-mul-le_self}
 use Rattle.std.proofs.lemmas.Nat.{le-div, mul-le, pow_pos, pow_below}
 use Rattle.std.proofs.lemmas.Bool.{cases_lt}
 use Rattle.std.proofs.lemmas.Bool.Decides.{nat_tests}
-use Rattle.plan_model.specs.Radius.{radius_of_class}
+use Rattle.plan_model.specs.Geometry.Radius.{radius_of_class}
 use Rattle.plan_model.proofs.RootLaws.{lt-from_squares}
 use Rattle.plan_model.proofs.RadiusLaws.{greatest-unique}
 

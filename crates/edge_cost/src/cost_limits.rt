@@ -1,8 +1,8 @@
 //! Costs by way of a node, against a limit.
 
 ghost use Rattle.std.specs.Prelude.{◌↔◌, ◌+◌, ◌<◌, ◌≤◌, IsTrue};
-ghost use Rattle.plan_model.specs.Cost.{cost_of};
-ghost use Rattle.plan_model.specs.Bounds.{IsBounded};
+ghost use Rattle.plan_model.specs.Geometry.Cost.{cost_of};
+ghost use Rattle.plan_model.specs.Geometry.Bounds.{IsBounded};
 
 use crate::costs::SQUARED_UNITS;
 use plan_model::Point;

@@ -1,8 +1,8 @@
 //! What an edge costs.
 
 ghost use Rattle.std.specs.Prelude.{◌≡◌, ◌^◌, ◌<◌};
-ghost use Rattle.plan_model.specs.Cost.{IsCost, cost_of};
-ghost use Rattle.plan_model.specs.Bounds.{IsBounded};
+ghost use Rattle.plan_model.specs.Geometry.Cost.{IsCost, cost_of};
+ghost use Rattle.plan_model.specs.Geometry.Bounds.{IsBounded};
 
 use crate::roots::root_ceiling;
 use plan_model::Point;

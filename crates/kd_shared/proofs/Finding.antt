@@ -3,8 +3,8 @@ use Rattle.std.proofs.Common.{◌≡◌, ℕ, suc, ◌<◌, Bool, false, not, So
 use Rattle.std.specs.Prelude.{◌≢◌}
 use Rattle.plan_model.specs.declared.geometry.Point.{Point}
 use Rattle.plan_model.specs.declared.limits.TheConstants.{MOST_NODES}
-use Rattle.plan_model.specs.PointsByNumber.{IsFree}
-use Rattle.plan_model.specs.Ways.{goes_right}
+use Rattle.plan_model.specs.Trees.PointsByNumber.{IsFree}
+use Rattle.plan_model.specs.Seen.Ways.{goes_right}
 use Rattle.step_core.specs.LaterViews.{IsLater, IsLawfulView}
 use Rattle.step_core.specs.ViewTrees.{LeadsTo, SeesPoint, sight_in}
 use Rattle.step_core.specs.Views.{tree_seen}

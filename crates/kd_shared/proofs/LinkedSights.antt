@@ -3,8 +3,8 @@ use Rattle.std.proofs.Common.{◌≡◌, ℕ, suc, ◌^◌, ◌<◌, ◌≤◌, 
 use Rattle.std.specs.Prelude.{IfSome}
 use Rattle.std.proofs.lemmas.Bool.{cases_eq}
 use Rattle.plan_model.specs.declared.geometry.Point.{Point}
-use Rattle.plan_model.specs.PointsByNumber.{IsFree, IsPresent, point_at}
-use Rattle.plan_model.specs.Ways.{IsOnWay}
+use Rattle.plan_model.specs.Trees.PointsByNumber.{IsFree, IsPresent, point_at}
+use Rattle.plan_model.specs.Seen.Ways.{IsOnWay}
 use Rattle.plan_words.specs.States.{GoesOn, HasWholeShare, PassState, with_view}
 use Rattle.step_core.specs.GrownWords.{child_of_word, has_node, record_at}
 use Rattle.step_core.specs.LaterViews.{IsLater, IsLawfulView}

@@ -1,7 +1,7 @@
 -- A loaded child goes onto a stack, or into a queue with its point.
 use Rattle.std.proofs.Common.{◌≡◌, ℕ, zero, suc, ◌*◌, ◌<◌, Bool, not, List, [], ◌∷◌, ◌++◌, Some, None, arith, refl, ◌∙◌, inl, inr}
 use Rattle.std.proofs.lemmas.Nat.{mul-le}
-use Rattle.plan_model.specs.Sights.{KeepsSight, Sight}
+use Rattle.plan_model.specs.Seen.Sights.{KeepsSight, Sight}
 use Rattle.plan_model.proofs.SightLaws.{IsLaterMoment-refl, IsLaterMoment-trans}
 use Rattle.kd_shared.specs.Loads.{LoadsChild, LoadsPoint}
 use Rattle.kd_shared.specs.Spots.{LeavesChild, Puts, QueuesChild, StacksChild}

@@ -3,9 +3,9 @@ use Rattle.std.proofs.Common.{◌≡◌, ℕ, suc, ◌+◌, ◌*◌, ◌<◌, Bo
 use Rattle.std.specs.List.Sorted.{IsNonDecreasing, IsPermutation}
 use Rattle.plan_model.specs.declared.geometry.Point.{Point}
 use Rattle.plan_model.specs.declared.limits.TheConstants.{MOST_NODES}
-use Rattle.plan_model.specs.Bounds.{IsBounded}
-use Rattle.plan_model.specs.Geometry.{squared_distance}
-use Rattle.plan_model.specs.Sights.{KeepsSight}
+use Rattle.plan_model.specs.Geometry.Bounds.{IsBounded}
+use Rattle.plan_model.specs.Geometry.Plane.{squared_distance}
+use Rattle.plan_model.specs.Seen.Sights.{KeepsSight}
 use Rattle.plan_words.specs.States.{BelongsTo, PassState, SharedState}
 use Rattle.plan_words.specs.declared.scratch.Spot.{Spot}
 use Rattle.step_core.specs.LaterViews.{IsLawfulView}

@@ -7,11 +7,11 @@ use Rattle.std.proofs.lemmas.Bool.{cases_eq}
 use Rattle.std.proofs.lemmas.List.{append-nil, nil_from_length}
 use Rattle.std.proofs.lemmas.List.Elements.{Contains-append_left, Contains-push, Contains-push_cases}
 use Rattle.plan_model.specs.declared.geometry.Point.{Point}
-use Rattle.plan_model.specs.Geometry.{squared_distance}
-use Rattle.plan_model.specs.Nearness.{is_within}
-use Rattle.plan_model.specs.PointsByNumber.{point_at, AreDistinct, StandsAt}
-use Rattle.plan_model.specs.SeenTrees.{IsSeen}
-use Rattle.plan_model.specs.Sights.{IsLaterMoment, KeepsSight, Sight}
+use Rattle.plan_model.specs.Geometry.Plane.{squared_distance}
+use Rattle.plan_model.specs.Trees.Nearness.{is_within}
+use Rattle.plan_model.specs.Trees.PointsByNumber.{point_at, AreDistinct, StandsAt}
+use Rattle.plan_model.specs.Seen.SeenTrees.{IsSeen}
+use Rattle.plan_model.specs.Seen.Sights.{IsLaterMoment, KeepsSight, Sight}
 use Rattle.plan_model.proofs.NewNodes.{IsPresent-stands, StandsAt-unique}
 use Rattle.plan_model.proofs.SightLaws.{IsFree-ends, IsLaterMoment-trans}
 use Rattle.kd_shared.specs.Loads.{KeepsPoints, LoadsPoint}

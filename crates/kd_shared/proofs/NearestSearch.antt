@@ -5,12 +5,12 @@ use Rattle.std.specs.Prelude.{Contains}
 use Rattle.std.proofs.lemmas.Bool.{cases_eq, cases_lt}
 use Rattle.std.proofs.lemmas.List.Elements.{Contains-push}
 use Rattle.plan_model.specs.declared.geometry.Point.{Point}
-use Rattle.plan_model.specs.Geometry.{squared_distance}
-use Rattle.plan_model.specs.LeastPairs.{IsNotAbove}
-use Rattle.plan_model.specs.Nearness.{distance_to}
-use Rattle.plan_model.specs.PointsByNumber.{point_of, AreDistinct, StandsAt}
-use Rattle.plan_model.specs.SeenTrees.{IsSeen}
-use Rattle.plan_model.specs.Sights.{KeepsSight, Sight}
+use Rattle.plan_model.specs.Geometry.Plane.{squared_distance}
+use Rattle.plan_model.specs.Trees.LeastPairs.{IsNotAbove}
+use Rattle.plan_model.specs.Trees.Nearness.{distance_to}
+use Rattle.plan_model.specs.Trees.PointsByNumber.{point_of, AreDistinct, StandsAt}
+use Rattle.plan_model.specs.Seen.SeenTrees.{IsSeen}
+use Rattle.plan_model.specs.Seen.Sights.{KeepsSight, Sight}
 use Rattle.plan_model.proofs.NewNodes.{IsPresent-stands, point_of-stands, StandsAt-present, StandsAt-unique}
 use Rattle.plan_model.proofs.SightLaws.{IsFree-ends}
 use Rattle.kd_shared.specs.Loads.{LoadsPoint}

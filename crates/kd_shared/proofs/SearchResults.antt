@@ -2,10 +2,10 @@
 use Rattle.std.proofs.Common.{ℕ, ◌*◌, ◌≤◌, List, arith, sym, ap, ◌∙◌, subst}
 use Rattle.std.specs.Prelude.{Contains}
 use Rattle.plan_model.specs.declared.geometry.Point.{Point}
-use Rattle.plan_model.specs.Geometry.{squared_distance}
-use Rattle.plan_model.specs.Nearness.{is_within}
-use Rattle.plan_model.specs.PointsByNumber.{point_at, StandsAt}
-use Rattle.plan_model.specs.Sights.{EndsSince, IsLaterMoment, KeepsSight, Sight}
+use Rattle.plan_model.specs.Geometry.Plane.{squared_distance}
+use Rattle.plan_model.specs.Trees.Nearness.{is_within}
+use Rattle.plan_model.specs.Trees.PointsByNumber.{point_at, StandsAt}
+use Rattle.plan_model.specs.Seen.Sights.{EndsSince, IsLaterMoment, KeepsSight, Sight}
 use Rattle.plan_model.proofs.NearNodes.{Contains-near}
 use Rattle.plan_model.proofs.SightLaws.{IsSwept-later}
 use Rattle.kd_shared.specs.Searches.{AreNearSeen, SweepsWithin}

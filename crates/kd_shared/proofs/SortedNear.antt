@@ -14,9 +14,9 @@ use Rattle.std.proofs.lemmas.Map.Keys.{below_from_sorted, IsDistinct-IsPermutati
 use Rattle.std.proofs.lemmas.Map.Keys.{sorted_tail}
 use Rattle.std.specs.List.Sorted.{IsStrictlySortedBy}
 use Rattle.plan_model.specs.declared.geometry.Point.{Point}
-use Rattle.plan_model.specs.Geometry.{squared_distance}
-use Rattle.plan_model.specs.Nearness.{is_within, near}
-use Rattle.plan_model.specs.PointsByNumber.{point_at}
+use Rattle.plan_model.specs.Geometry.Plane.{squared_distance}
+use Rattle.plan_model.specs.Trees.Nearness.{is_within, near}
+use Rattle.plan_model.specs.Trees.PointsByNumber.{point_at}
 use Rattle.plan_model.proofs.NearNodes.{Contains-near}
 use Rattle.kd_shared.proofs.DistinctNumbers.{AreDifferent, Contains-cases, Contains-first, Contains-more, Contains-none, IsDistinct-from_different}
 

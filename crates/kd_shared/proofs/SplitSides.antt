@@ -6,8 +6,8 @@ use Rattle.std.proofs.lemmas.Bool.{ltb-true, ltb-false}
 use Rattle.std.proofs.Math.Nat.{suc-mod}
 use Rattle.std.proofs.lemmas.Nat.{mul-le}
 use Rattle.plan_model.specs.declared.geometry.Point.{Point}
-use Rattle.plan_model.specs.Geometry.{squared_distance}
-use Rattle.plan_model.specs.Ways.{goes_right}
+use Rattle.plan_model.specs.Geometry.Plane.{squared_distance}
+use Rattle.plan_model.specs.Seen.Ways.{goes_right}
 use Rattle.kd_shared.specs.Sides.{goes_right_by, is_by_rows, split_distance}
 
 -- by row at odd depth, by column at even depth

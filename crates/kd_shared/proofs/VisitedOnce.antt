@@ -3,8 +3,8 @@ use Rattle.std.proofs.Common.{◌≡◌, ◌⊎◌, ℕ, suc, ◌+◌, ◌≤◌
 use Rattle.std.proofs.Common.{subst, inl, inr}
 use Rattle.std.specs.Prelude.{Contains, map}
 use Rattle.std.proofs.lemmas.List.{length-map}
-use Rattle.plan_model.specs.SeenTrees.{IsSeen}
-use Rattle.plan_model.specs.Sights.{IsLaterMoment, KeepsSight, Sight}
+use Rattle.plan_model.specs.Seen.SeenTrees.{IsSeen}
+use Rattle.plan_model.specs.Seen.Sights.{IsLaterMoment, KeepsSight, Sight}
 use Rattle.kd_shared.specs.Spots.{HasRoomFor, Opens}
 use Rattle.plan_words.specs.declared.scratch.Spot.{Spot}
 use Rattle.kd_shared.proofs.DistinctNumbers.{AreDifferent, AreDifferent-after, AreDifferent-few, AreDifferent-within, Contains-cases, Contains-first}

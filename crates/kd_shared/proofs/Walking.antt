@@ -2,11 +2,11 @@
 use Rattle.std.proofs.Common.{◌≡◌, ℕ, zero, suc, ◌<◌, ◌≤◌, Bool, List, [], ◌∷◌, length, Option, Some, None, arith, refl, sym, ap, ◌∙◌, subst, inl, inr}
 use Rattle.std.specs.Prelude.{◌≢◌, ◌⊎◌, Contains}
 use Rattle.plan_model.specs.declared.geometry.Point.{Point}
-use Rattle.plan_model.specs.PointsByNumber.{IsFree}
-use Rattle.plan_model.specs.SeenTrees.{FollowSeenWays, IsSeen}
-use Rattle.plan_model.specs.Sights.{EndsSince, IsLaterMoment, KeepsSight, Sight}
-use Rattle.plan_model.specs.Ways.{EndsBelow, goes_right, IsOnWay}
-use Rattle.plan_model.specs.Ways.IsOnWay.{begins, goes_on}
+use Rattle.plan_model.specs.Trees.PointsByNumber.{IsFree}
+use Rattle.plan_model.specs.Seen.SeenTrees.{FollowSeenWays, IsSeen}
+use Rattle.plan_model.specs.Seen.Sights.{EndsSince, IsLaterMoment, KeepsSight, Sight}
+use Rattle.plan_model.specs.Seen.Ways.{EndsBelow, goes_right, IsOnWay}
+use Rattle.plan_model.specs.Seen.Ways.IsOnWay.{begins, goes_on}
 use Rattle.plan_model.proofs.SeenTreeLaws.{HasSeenAtLeast-refl, IsSeen-more}
 use Rattle.plan_model.proofs.SightLaws.{IsFree-ends, IsLaterMoment-refl, IsLaterMoment-trans}
 use Rattle.plan_model.proofs.WayLaws.{last_step, way_start}

@@ -1,8 +1,8 @@
 -- What a load of a point or of a child shows, from the moment before it to the moment after.
 use Rattle.std.specs.Prelude.{◌≡◌, ◌≢◌, ℕ, ◌<◌, Bool, Option, Some, None}
 use Rattle.plan_model.specs.declared.geometry.Point.{Point}
-use Rattle.plan_model.specs.PointsByNumber.{point_at, StandsAt}
-use Rattle.plan_model.specs.Sights.{IsLaterMoment, KeepsSight, Sight}
+use Rattle.plan_model.specs.Trees.PointsByNumber.{point_at, StandsAt}
+use Rattle.plan_model.specs.Seen.Sights.{IsLaterMoment, KeepsSight, Sight}
 
 -- no point was seen in between
 abbrev pub KeepsPoints : Sight → Sight → Type 0

@@ -1,11 +1,11 @@
 -- What a search over what is seen has found, from the moment at which it began to the moment at which it returns.
 use Rattle.std.specs.Prelude.{◌≡◌, ℕ, ◌*◌, ◌≤◌, Option, Some, None, List}
 use Rattle.plan_model.specs.declared.geometry.Point.{Point}
-use Rattle.plan_model.specs.Geometry.{squared_distance}
-use Rattle.plan_model.specs.LeastPairs.{IsNotAbove}
-use Rattle.plan_model.specs.Nearness.{distance_to, near, IsNearest}
-use Rattle.plan_model.specs.PointsByNumber.{IsFree, IsPresent, StandsAt}
-use Rattle.plan_model.specs.Sights.{EndsSince, IsSwept, Sight}
+use Rattle.plan_model.specs.Geometry.Plane.{squared_distance}
+use Rattle.plan_model.specs.Trees.LeastPairs.{IsNotAbove}
+use Rattle.plan_model.specs.Trees.Nearness.{distance_to, near, IsNearest}
+use Rattle.plan_model.specs.Trees.PointsByNumber.{IsFree, IsPresent, StandsAt}
+use Rattle.plan_model.specs.Seen.Sights.{EndsSince, IsSwept, Sight}
 
 -- A search for a node at p finds one that is seen there, or none: then none was seen there before, and the way of p came to a place
 -- that the search found empty.

@@ -1,8 +1,8 @@
 -- What the steps of a search do to the nodes that wait to be visited, and to what it has found.
 use Rattle.std.specs.Prelude.{◌≡◌, ◌⊎◌, ℕ, ◌*◌, ◌<◌, ◌≤◌, Bool, not, Some, List, [], ◌∷◌, ◌++◌}
-use Rattle.plan_model.specs.PointsByNumber.{StandsAt}
-use Rattle.plan_model.specs.SeenTrees.{IsSeen}
-use Rattle.plan_model.specs.Sights.{IsLaterMoment, KeepsSight, Sight}
+use Rattle.plan_model.specs.Trees.PointsByNumber.{StandsAt}
+use Rattle.plan_model.specs.Seen.SeenTrees.{IsSeen}
+use Rattle.plan_model.specs.Seen.Sights.{IsLaterMoment, KeepsSight, Sight}
 use Rattle.kd_shared.specs.Loads.{FindsEmpty, KeepsOtherPoints, KeepsPoints}
 use Rattle.plan_words.specs.declared.scratch.Spot.{Spot}
 

@@ -3,7 +3,7 @@ use Rattle.std.specs.Prelude.{◌≡◌, ℕ, Bool, None}
 use Rattle.kd_shared.specs.Searches.{Finds}
 use Rattle.kd_shared.specs.Sides.{is_by_rows}
 use Rattle.plan_model.specs.declared.geometry.Point.{Point}
-use Rattle.plan_model.specs.PointsByNumber.{IsFree}
+use Rattle.plan_model.specs.Trees.PointsByNumber.{IsFree}
 use Rattle.step_core.specs.ViewTrees.{IsOnWayOf, SeesNode, SeesPoint, sight_in}
 use Rattle.step_core.specs.Views.{tree_seen}
 use Rattle.step_core.specs.declared.views.View.{View}

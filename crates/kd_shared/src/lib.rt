@@ -9,7 +9,7 @@
 //!     depth 2   (30,10)            (50,90)
 //!
 //! Others add nodes while a call walks, so each promise speaks of the nodes that the pass has seen with their points, at entry and
-//! at return (`plan_model/specs/Sights`). A point is swept if a node is seen there, or the way of the point came to a place that the
+//! at return (`plan_model/specs/Seen/Sights`). A point is swept if a node is seen there, or the way of the point came to a place that the
 //! call itself found empty: then the point was free at some moment of the call (law `swept_points_were_free` of `step_core`).
 //! [`find`] sweeps one point, [`nearest`] all that are at most as far as its answer, [`near`] and [`around`] all within the radius.
 //! What they find are nodes, seen with their points.

@@ -4,7 +4,7 @@ ghost use Rattle.std.specs.Prelude.{◌≡◌, ◌*◌, ◌+◌, ◌<◌, length
 ghost use Rattle.kd_shared.specs.Looking.{KeepsLists, OnlyLooks};
 ghost use Rattle.kd_shared.specs.Searches.{AreNearSeen};
 ghost use Rattle.kd_shared.specs.Spots.{HasRoomFor, Notes, QueuesChild, QueuesWithin};
-ghost use Rattle.plan_model.specs.Bounds.{IsBounded};
+ghost use Rattle.plan_model.specs.Geometry.Bounds.{IsBounded};
 ghost use Rattle.plan_words.specs.States.{BelongsTo};
 ghost use Rattle.step_core.specs.LaterViews.{IsLawfulView};
 ghost use Rattle.step_core.specs.ViewTrees.{SeesNode, sight_in};

@@ -2,8 +2,8 @@
 
 ghost use Rattle.std.specs.Prelude.{◌≡◌, IfNone, IfSome};
 ghost use Rattle.kd_shared.specs.Looking.{OnlyLooks};
-ghost use Rattle.plan_model.specs.PointsByNumber.{IsFree};
-ghost use Rattle.plan_model.specs.Sights.{EndsSince};
+ghost use Rattle.plan_model.specs.Trees.PointsByNumber.{IsFree};
+ghost use Rattle.plan_model.specs.Seen.Sights.{EndsSince};
 ghost use Rattle.plan_words.specs.States.{BelongsTo, with_view};
 ghost use Rattle.step_core.specs.ViewTrees.{SeesPoint, sight_in};
 ghost use Rattle.step_core.specs.Views.{tree_seen};

@@ -4,7 +4,7 @@ use Rattle.std.specs.Prelude.{◌&&◌, nat_le}
 use Rattle.std.specs.List.{list_all}
 use Rattle.std.proofs.lemmas.Bool.{le-leb}
 use Rattle.std.proofs.lemmas.List.Folds.{list_all-append}
-use Rattle.plan_model.specs.Limits.{is_mark, is_plan}
+use Rattle.plan_model.specs.Scenes.Limits.{is_mark, is_plan}
 use Rattle.plan_model.specs.declared.geometry.Point.{Point}
 use Rattle.plan_model.specs.declared.limits.TheConstants.{MOST_MARKS, MOST_SIDE}
 use Rattle.plan_model.specs.declared.scenes.Marks.TheVariants.{Listed}

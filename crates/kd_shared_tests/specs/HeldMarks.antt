@@ -1,11 +1,11 @@
 -- Passes with a mark in hand, as the tests follow them.
 use Rattle.std.specs.Prelude.{◌≡◌, ◌≤◌, ℕ, suc, true, false, Some}
-use Rattle.plan_model.specs.Clearance.{Clear}
-use Rattle.plan_model.specs.ClosedLaw.{mark_at}
-use Rattle.plan_model.specs.LeastPairs.{IsNotAbove}
-use Rattle.plan_model.specs.Nearness.{distance_to}
-use Rattle.plan_model.specs.PointsByNumber.{point_of}
-use Rattle.plan_model.specs.Radius.{class_of}
+use Rattle.plan_model.specs.Spaces.Clearance.{Clear}
+use Rattle.plan_model.specs.Runs.ClosedLaw.{mark_at}
+use Rattle.plan_model.specs.Trees.LeastPairs.{IsNotAbove}
+use Rattle.plan_model.specs.Trees.Nearness.{distance_to}
+use Rattle.plan_model.specs.Trees.PointsByNumber.{point_of}
+use Rattle.plan_model.specs.Geometry.Radius.{class_of}
 use Rattle.plan_model.specs.declared.geometry.Point.{Point}
 use Rattle.plan_words.specs.States.{BelongsTo, PassState, SharedState}
 use Rattle.kd_shared.specs.declared.placing.Placing.{Placing}

@@ -5,11 +5,11 @@ use Rattle.std.proofs.lemmas.Int.{ints}
 use Rattle.std.proofs.lemmas.Bool.{eqb-true, eqb-false}
 use Rattle.plan_model.specs.declared.geometry.Point.{Point}
 use Rattle.plan_model.specs.declared.geometry.Vertex.{Vertex}
-use Rattle.plan_model.specs.Clearance.{on_the_way}
-use Rattle.plan_model.specs.Convexity.{corner_at, next_corner}
-use Rattle.plan_model.specs.Geometry.{orientation}
-use Rattle.plan_model.specs.HalfPlanes.{IsInside}
-use Rattle.plan_model.specs.Zones.{IsZoneOf}
+use Rattle.plan_model.specs.Spaces.Clearance.{on_the_way}
+use Rattle.plan_model.specs.Geometry.Convexity.{corner_at, next_corner}
+use Rattle.plan_model.specs.Geometry.Plane.{orientation}
+use Rattle.plan_model.specs.Spaces.HalfPlanes.{IsInside}
+use Rattle.plan_model.specs.Spaces.Zones.{IsZoneOf}
 use Rattle.convex_sets.specs.declared.boxes.BoundingBox.{BoundingBox}
 use Rattle.convex_sets.specs.Boxes.{IsBoundingBox, at_corner}
 use Rattle.convex_sets.proofs.BoxLaws.{IsInRange, in_range}

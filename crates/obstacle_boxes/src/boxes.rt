@@ -1,8 +1,8 @@
 //! The collision checker with boxes over the zones.
 
 ghost use Rattle.std.specs.Prelude.{◌≡◌, ◌↔◌, ◌+◌, ◌<◌, ◌≤◌, IfOk, IsTrue, List, false};
-ghost use Rattle.plan_model.specs.Clearance.{Clear};
-ghost use Rattle.plan_model.specs.RoomOfConfigurations.{InRoom, at_lattice};
+ghost use Rattle.plan_model.specs.Spaces.Clearance.{Clear};
+ghost use Rattle.plan_model.specs.Spaces.RoomOfConfigurations.{InRoom, at_lattice};
 ghost use Rattle.convex_sets.specs.declared.boxes.BoundingBox.{BoundingBox};
 
 use crate::descent::crosses_none;

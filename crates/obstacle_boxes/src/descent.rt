@@ -1,7 +1,7 @@
 //! The descent of the tree that tests the zones near a segment.
 
 ghost use Rattle.std.specs.Prelude.{◌≡◌, ℕ, ◌+◌, ◌<◌, ◌≤◌, All, IsTrue, false, length, slice_index_or};
-ghost use Rattle.plan_model.specs.Bounds.{IsBounded};
+ghost use Rattle.plan_model.specs.Geometry.Bounds.{IsBounded};
 ghost use Rattle.obstacle_boxes.specs.LeafBoxes.{IsLeafAmong, IsMissed, leaves_met};
 ghost use Rattle.obstacle_boxes.specs.NearZones.{segment_box};
 ghost use Rattle.obstacle_boxes.specs.Searches.{CrossesSome, HasSearched};

@@ -1,7 +1,7 @@
 //! Boxes that meet.
 
 ghost use Rattle.std.specs.Prelude.{◌≡◌};
-ghost use Rattle.plan_model.specs.Bounds.{IsBounded};
+ghost use Rattle.plan_model.specs.Geometry.Bounds.{IsBounded};
 ghost use Rattle.obstacle_boxes.specs.NearZones.{boxes_meet, segment_box};
 
 use convex_sets::BoundingBox;

@@ -4,9 +4,9 @@
 //! the contract of `counted` says that the steps are as many.
 
 ghost use Rattle.std.specs.Prelude.{◌≡◌, ◌+◌, ◌<◌, ◌≤◌, IfOk, IsTrue, List, false};
-ghost use Rattle.plan_model.specs.RoomOfConfigurations.{InRoom, at_lattice};
+ghost use Rattle.plan_model.specs.Spaces.RoomOfConfigurations.{InRoom, at_lattice};
 ghost use Rattle.convex_sets.specs.declared.boxes.BoundingBox.{BoundingBox};
-ghost use Rattle.plan_model.specs.Limits.{are_obstacles};
+ghost use Rattle.plan_model.specs.Scenes.Limits.{are_obstacles};
 ghost use Rattle.obstacle_boxes.specs.NearZones.{AreZoneBoxes, boxes_meet, near_count, segment_box};
 
 use crate::scenes::{boxes_of, polygon, scene, sure};

@@ -1,7 +1,7 @@
 //! Collision checkers of a point body among triangles and squares, in a room of 100 by 100.
 
 ghost use Rattle.std.specs.Prelude.{◌≡◌, IsTrue, Ok};
-ghost use Rattle.plan_model.specs.Limits.{are_obstacles};
+ghost use Rattle.plan_model.specs.Scenes.Limits.{are_obstacles};
 
 use obstacle_boxes::Boxes;
 use plan_model::{Goal, Marks, Point, Poly, Polys, Scene, Sequence, SmallScene, Vertex};

@@ -3,9 +3,9 @@ use Rattle.std.proofs.Common.{◌≡◌, ℕ, suc, ◌<◌, List, Option, Some, 
 use Rattle.std.specs.Prelude.{Bool, IsTrue, IsSome}
 use Rattle.plan_model.specs.declared.geometry.Point.{Point}
 use Rattle.plan_model.specs.declared.geometry.Goal.{Goal}
-use Rattle.plan_model.specs.PointsByNumber.{point_at, AreNumberedTo}
-use Rattle.plan_model.specs.TreeStates.{TreeState, sum_in}
-use Rattle.plan_model.specs.BestNode.{is_goal_point, IsGoalNode, IsBestNode, best_node}
+use Rattle.plan_model.specs.Trees.PointsByNumber.{point_at, AreNumberedTo}
+use Rattle.plan_model.specs.Trees.TreeStates.{TreeState, sum_in}
+use Rattle.plan_model.specs.Trees.BestNode.{is_goal_point, IsGoalNode, IsBestNode, best_node}
 use Rattle.plan_model.proofs.LeastPairLaws.{
   IsBelowPassing,
   IsFirstLeast-among,

@@ -6,9 +6,9 @@ use Rattle.std.proofs.lemmas.Bool.Decides.{nat_tests}
 use Rattle.std.proofs.lemmas.List.Sums.{sum_by-cons}
 use Rattle.std.proofs.lemmas.Grind.{common_steps}
 use Rattle.plan_model.specs.declared.geometry.Point.{Point}
-use Rattle.plan_model.specs.Cost.{cost_of}
-use Rattle.plan_model.specs.PointsByNumber.{point_at, point_of, IsPresent, node_count}
-use Rattle.plan_model.specs.Trees.{chain_within, chain_by, length_of_path, sum_by, edge_by, FallAlong, AreTightAlong}
+use Rattle.plan_model.specs.Geometry.Cost.{cost_of}
+use Rattle.plan_model.specs.Trees.PointsByNumber.{point_at, point_of, IsPresent, node_count}
+use Rattle.plan_model.specs.Trees.NodeLists.{chain_within, chain_by, length_of_path, sum_by, edge_by, FallAlong, AreTightAlong}
 
 -- ---- how many present nodes cost at most so much
 

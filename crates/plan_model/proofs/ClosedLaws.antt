@@ -5,14 +5,14 @@ use Rattle.plan_model.specs.declared.geometry.Point.{Point}
 use Rattle.plan_model.specs.declared.records.Outcome.{Outcome}
 use Rattle.plan_model.specs.declared.records.Outcome.TheVariants.{Placed}
 use Rattle.plan_model.specs.declared.records.Record.{Record}
-use Rattle.plan_model.specs.PointsByNumber.{IsPresent, point_of, node_count}
-use Rattle.plan_model.specs.Steering.{steered}
-use Rattle.plan_model.specs.TreeStates.{TreeState, recorded_or, first_cost_of}
-use Rattle.plan_model.specs.OrderLaw.{most_cost_of, KeepsFirstCosts}
-use Rattle.plan_model.specs.RecordLaw.{HasLawfulOutcome, HangsLawfully}
-use Rattle.plan_model.specs.ClosedLaw.{mark_at, has_outcome, IsClosed}
-use Rattle.plan_model.specs.Outcomes.{is_placed}
-use Rattle.plan_model.specs.Textbook.{Setup}
+use Rattle.plan_model.specs.Trees.PointsByNumber.{IsPresent, point_of, node_count}
+use Rattle.plan_model.specs.Geometry.Steering.{steered}
+use Rattle.plan_model.specs.Trees.TreeStates.{TreeState, recorded_or, first_cost_of}
+use Rattle.plan_model.specs.Runs.OrderLaw.{most_cost_of, KeepsFirstCosts}
+use Rattle.plan_model.specs.Runs.RecordLaw.{HasLawfulOutcome, HangsLawfully}
+use Rattle.plan_model.specs.Runs.ClosedLaw.{mark_at, has_outcome, IsClosed}
+use Rattle.plan_model.specs.Runs.Outcomes.{is_placed}
+use Rattle.plan_model.specs.Runs.Textbook.{Setup}
 use Rattle.plan_model.proofs.OrderLaws.{start-present}
 use Rattle.plan_model.proofs.LoweredCosts.{
   LowersCosts,

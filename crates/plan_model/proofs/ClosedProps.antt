@@ -5,15 +5,15 @@ use Rattle.plan_model.specs.declared.geometry.Point.{Point}
 use Rattle.plan_model.specs.declared.records.Outcome.{Outcome}
 use Rattle.plan_model.specs.declared.records.Outcome.TheVariants.{Placed, Same, Blocked}
 use Rattle.plan_model.specs.declared.records.Record.{Record}
-use Rattle.plan_model.specs.Clearance.{IsClear}
+use Rattle.plan_model.specs.Spaces.Clearance.{IsClear}
 use Rattle.plan_model.specs.declared.configuration_spaces.ConfigurationSpace.{ConfigurationSpace}
-use Rattle.plan_model.specs.PointsByNumber.{StandsAt}
-use Rattle.plan_model.specs.RoomOfConfigurations.{Rational}
-use Rattle.plan_model.specs.TreeStates.{TreeState}
-use Rattle.plan_model.specs.OrderLaw.{KeepsOrder}
-use Rattle.plan_model.specs.RecordLaw.{IsPlacedLawfully, IsBlockedLawfully, IsSteeredLawfully, HasLawfulOutcome, IsLawfulRecord}
-use Rattle.plan_model.specs.ClosedLaw.{IsClosed}
-use Rattle.plan_model.specs.Textbook.{Setup}
+use Rattle.plan_model.specs.Trees.PointsByNumber.{StandsAt}
+use Rattle.plan_model.specs.Spaces.RoomOfConfigurations.{Rational}
+use Rattle.plan_model.specs.Trees.TreeStates.{TreeState}
+use Rattle.plan_model.specs.Runs.OrderLaw.{KeepsOrder}
+use Rattle.plan_model.specs.Runs.RecordLaw.{IsPlacedLawfully, IsBlockedLawfully, IsSteeredLawfully, HasLawfulOutcome, IsLawfulRecord}
+use Rattle.plan_model.specs.Runs.ClosedLaw.{IsClosed}
+use Rattle.plan_model.specs.Runs.Textbook.{Setup}
 
 IsClear-prop : (space : ConfigurationSpace) (q : Rational) → IsProp (IsClear space q)
 IsClear-prop space q = hlevel props

@@ -7,11 +7,11 @@ use Rattle.plan_model.specs.declared.geometry.Point.{Point}
 use Rattle.plan_model.specs.declared.records.Outcome.{Outcome}
 use Rattle.plan_model.specs.declared.records.Outcome.TheVariants.{Placed, Same, Blocked}
 use Rattle.plan_model.specs.declared.records.Record.{Record}
-use Rattle.plan_model.specs.Outcomes.{is_placed, is_same, is_blocked}
-use Rattle.plan_model.specs.PointsByNumber.{AreNumberedTo, node_count}
-use Rattle.plan_model.specs.TreeStates.{TreeState}
-use Rattle.plan_model.specs.ClosedLaw.{has_outcome, outcome_count, IsClosed}
-use Rattle.plan_model.specs.Textbook.{Setup}
+use Rattle.plan_model.specs.Runs.Outcomes.{is_placed, is_same, is_blocked}
+use Rattle.plan_model.specs.Trees.PointsByNumber.{AreNumberedTo, node_count}
+use Rattle.plan_model.specs.Trees.TreeStates.{TreeState}
+use Rattle.plan_model.specs.Runs.ClosedLaw.{has_outcome, outcome_count, IsClosed}
+use Rattle.plan_model.specs.Runs.Textbook.{Setup}
 use Rattle.plan_model.proofs.CountsBelow.{count-more, count-longer, count-one_more}
 use Rattle.plan_model.proofs.NodeCounts.{count-next}
 use Rattle.plan_model.proofs.NextRecords.{RecordsMark}

@@ -3,7 +3,7 @@ use Rattle.std.proofs.Common.{◌≡◌, ℕ, ◌+◌, ◌-◌, ◌*◌, ◌≤�
 use Rattle.std.proofs.Common.{drop, fold, pos, int_le, neg_ℤ, Option, None, Some, IfNone, refl, sym, arith}
 use Rattle.std.proofs.lemmas.List.{at_drop_more}
 use Rattle.std.proofs.lemmas.Bool.Decides.{nat_tests}
-use Rattle.plan_model.specs.TextNumbers.{is_positive, is_number, magnitude, value_of}
+use Rattle.plan_model.specs.Texts.TextNumbers.{is_positive, is_number, magnitude, value_of}
 
 -- the number that digits stand for after a number
 abbrev pub magnitude_after : ℕ → List ℕ → ℕ

@@ -37,10 +37,10 @@ use Rattle.plan_model.specs.declared.records.Outcome.{Outcome}
 use Rattle.plan_model.specs.declared.records.Outcome.TheVariants.{Placed, Same, Blocked}
 use Rattle.plan_model.specs.declared.records.Record.{Record}
 use Rattle.plan_model.specs.declared.configuration_spaces.ConfigurationSpace.{ConfigurationSpace}
-use Rattle.plan_model.specs.PointsByNumber.{point_at, StandsAt, IsPresent, point_of, IsFree, AreDistinct}
-use Rattle.plan_model.specs.Nearness.{is_within, near}
-use Rattle.plan_model.specs.Trees.{points_of}
-use Rattle.plan_model.specs.Textbook.{Nodes, Setup, start_alone, near_new, with_parent, RewiresOne, Rewires, Ends, HandlesAll, IsTextbookRun}
+use Rattle.plan_model.specs.Trees.PointsByNumber.{point_at, StandsAt, IsPresent, point_of, IsFree, AreDistinct}
+use Rattle.plan_model.specs.Trees.Nearness.{is_within, near}
+use Rattle.plan_model.specs.Trees.NodeLists.{points_of}
+use Rattle.plan_model.specs.Runs.Textbook.{Nodes, Setup, start_alone, near_new, with_parent, RewiresOne, Rewires, Ends, HandlesAll, IsTextbookRun}
 use Rattle.plan_model.proofs.TreeChanges.{points_of-push}
 use Rattle.plan_model.proofs.NewNodes.{StandsAt-present}
 

@@ -6,11 +6,11 @@ use Rattle.std.proofs.lemmas.Bool.{cases_eq, and_parts, and_left, and_right, ne_
 use Rattle.std.proofs.lemmas.List.Sums.{length-filter}
 use Rattle.plan_model.specs.declared.records.Outcome.TheVariants.{Placed}
 use Rattle.plan_model.specs.declared.records.Record.{Record}
-use Rattle.plan_model.specs.PointsByNumber.{IsPresent}
-use Rattle.plan_model.specs.TreeStates.{TreeState, GrowsInto}
-use Rattle.plan_model.specs.Outcomes.{is_placed}
-use Rattle.plan_model.specs.RecordLaw.{is_earlier_record, is_earlier, IsEarlier, earlier_count}
-use Rattle.plan_model.specs.ClosedLaw.{ArePlacedMarks}
+use Rattle.plan_model.specs.Trees.PointsByNumber.{IsPresent}
+use Rattle.plan_model.specs.Trees.TreeStates.{TreeState, GrowsInto}
+use Rattle.plan_model.specs.Runs.Outcomes.{is_placed}
+use Rattle.plan_model.specs.Runs.RecordLaw.{is_earlier_record, is_earlier, IsEarlier, earlier_count}
+use Rattle.plan_model.specs.Runs.ClosedLaw.{ArePlacedMarks}
 use Rattle.plan_model.proofs.CountsBelow.{count-same, count-limits}
 use Rattle.plan_model.proofs.DistinctPoints.{IsPresent-below}
 use Rattle.plan_model.proofs.NextRecords.{RecordsMark}

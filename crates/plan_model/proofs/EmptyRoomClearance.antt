@@ -8,10 +8,10 @@ use Rattle.std.proofs.lemmas.List.Elements.{All-cons, All-nil}
 use Rattle.plan_model.specs.declared.geometry.Vertex.{Vertex}
 use Rattle.plan_model.specs.declared.geometry.Point.{Point}
 use Rattle.plan_model.specs.declared.configuration_spaces.ConfigurationSpace.{ConfigurationSpace}
-use Rattle.plan_model.specs.RoomOfConfigurations.{Rational, moved_by, IsBetweenWalls}
-use Rattle.plan_model.specs.Meeting.{Meets}
-use Rattle.plan_model.specs.Clearance.{IsClear, ClearAt, on_the_way, Clear}
-use Rattle.plan_model.specs.EmptyRooms.{empty_room, IsInRoom}
+use Rattle.plan_model.specs.Spaces.RoomOfConfigurations.{Rational, moved_by, IsBetweenWalls}
+use Rattle.plan_model.specs.Spaces.Meeting.{Meets}
+use Rattle.plan_model.specs.Spaces.Clearance.{IsClear, ClearAt, on_the_way, Clear}
+use Rattle.plan_model.specs.Spaces.EmptyRooms.{empty_room, IsInRoom}
 use Rattle.plan_model.proofs.SegmentLaws.{part_and_rest, way_is}
 
 -- a coordinate on the way lies between 0 and the side

@@ -2,7 +2,7 @@
 use Rattle.std.proofs.Common.{◌≡◌, ℕ, ◌+◌, ◌<◌, Bool, true, false, cond, not, eqb, List, [], ◌∷◌, suc, length, take, drop, refl, ap, ◌∙◌, arith}
 use Rattle.std.specs.List.{position_or_len}
 use Rattle.std.proofs.lemmas.List.{drop-drop}
-use Rattle.plan_model.specs.TextLines.{lines_of, onto_first}
+use Rattle.plan_model.specs.Texts.TextLines.{lines_of, onto_first}
 
 -- how many bytes the first line has
 abbrev pub line_length : List ℕ → ℕ

@@ -5,7 +5,7 @@ use Rattle.std.specs.List.{position_or_len, prefix_len, filter}
 use Rattle.std.proofs.lemmas.List.{length-take-le, nil_from_length}
 use Rattle.std.proofs.lemmas.List.Sums.{prefix_len-le-length}
 use Rattle.std.proofs.lemmas.Bool.Decides.{nat_tests}
-use Rattle.plan_model.specs.TextLines.{pieces_of, words_of, onto_first}
+use Rattle.plan_model.specs.Texts.TextLines.{pieces_of, words_of, onto_first}
 
 -- how many blanks a line begins with
 abbrev pub blank_count : List ℕ → ℕ

@@ -5,13 +5,13 @@ use Rattle.std.proofs.lemmas.Bool.{cases_lt}
 use Rattle.std.proofs.lemmas.Nat.{mul-le}
 use Rattle.plan_model.specs.declared.geometry.Point.{Point}
 use Rattle.plan_model.specs.declared.trees.Twig.{Twig}
-use Rattle.plan_model.specs.Geometry.{squared_distance}
-use Rattle.plan_model.specs.Cost.{cost_of}
-use Rattle.plan_model.specs.PointsByNumber.{point_at, IsPresent, point_of}
-use Rattle.plan_model.specs.Trees.{node_at, points_of, parent_or_zero, parent_of, edge_of, CostsFall, AreTight}
+use Rattle.plan_model.specs.Geometry.Plane.{squared_distance}
+use Rattle.plan_model.specs.Geometry.Cost.{cost_of}
+use Rattle.plan_model.specs.Trees.PointsByNumber.{point_at, IsPresent, point_of}
+use Rattle.plan_model.specs.Trees.NodeLists.{node_at, points_of, parent_or_zero, parent_of, edge_of, CostsFall, AreTight}
 use Rattle.plan_model.proofs.RootLaws.{root_ceiling-is}
 use Rattle.plan_model.proofs.FreePoints.{same-from_distance}
-use Rattle.plan_model.specs.Textbook.{start_alone}
+use Rattle.plan_model.specs.Runs.Textbook.{start_alone}
 use Rattle.plan_model.proofs.TreeChanges.{node_at-past}
 use Rattle.plan_model.proofs.NewNodes.{Adds, not_present, point_at-same, IsPresent-kept, point_of-kept, parent_of-kept}
 use Rattle.plan_model.proofs.NewNodes.{IsPresent-stands, point_of-stands, StandsAt-present, StandsAt-new, parent_of-new, new_or_kept}

@@ -3,7 +3,7 @@ use Rattle.std.proofs.Common.{◌≡◌, ℕ, zero, suc, ◌+◌, ◌<◌, ◌�
 use Rattle.std.specs.Prelude.{IsTrue, filter}
 use Rattle.std.specs.List.{range_with_len}
 use Rattle.std.proofs.lemmas.Bool.{cases_order, ltb-true, ltb-false}
-use Rattle.plan_model.specs.LeastPairs.{IsNotAbove, IsFirstLeast, lesser, first_least}
+use Rattle.plan_model.specs.Trees.LeastPairs.{IsNotAbove, IsFirstLeast, lesser, first_least}
 
 -- ---- the order
 

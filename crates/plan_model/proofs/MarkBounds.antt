@@ -15,10 +15,10 @@ use Rattle.plan_model.specs.declared.scenes.Marks.TheVariants.{Drawn, Listed}
 use Rattle.plan_model.specs.declared.spans.Span.{Span}
 use Rattle.plan_model.specs.declared.tasks.Task.{Task}
 use Rattle.plan_model.specs.declared.limits.TheConstants.{LEAST_BODY_COORDINATE, MOST_BODY_COORDINATE, MOST_COORDINATE, MOST_MARKS}
-use Rattle.plan_model.specs.Bounds.{IsBounded}
-use Rattle.plan_model.specs.Limits.{is_corner_between, is_mark, is_plan}
-use Rattle.plan_model.specs.MarkPoints.{mark_points, points_of_marks, drawn_mark, strip_of_mark, first_word, second_word, next_state}
-use Rattle.plan_model.specs.MarkPoints.{below_zero, above_zero, reach, span_within, columns, rows, strip, picked}
+use Rattle.plan_model.specs.Geometry.Bounds.{IsBounded}
+use Rattle.plan_model.specs.Scenes.Limits.{is_corner_between, is_mark, is_plan}
+use Rattle.plan_model.specs.Scenes.MarkPoints.{mark_points, points_of_marks, drawn_mark, strip_of_mark, first_word, second_word, next_state}
+use Rattle.plan_model.specs.Scenes.MarkPoints.{below_zero, above_zero, reach, span_within, columns, rows, strip, picked}
 use Rattle.plan_model.proofs.SceneBounds.{IsBounded-listed, IsBounded-room}
 use Rattle.plan_model.proofs.SpanLaws.{reach-bounded}
 use Rattle.plan_model.proofs.StripLaws.{strip-some, strip-within}

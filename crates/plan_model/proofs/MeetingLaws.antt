@@ -6,9 +6,9 @@ use Rattle.std.proofs.lemmas.Nat.{mul-le}
 use Rattle.std.proofs.lemmas.List.Elements.{All-weaker}
 use Rattle.plan_model.specs.declared.geometry.Vertex.{Vertex}
 use Rattle.plan_model.specs.declared.configuration_spaces.ConfigurationSpace.{ConfigurationSpace}
-use Rattle.plan_model.specs.RoomOfConfigurations.{Rational}
-use Rattle.plan_model.specs.Meeting.{IsWithin, Meets, SharesPoint}
-use Rattle.plan_model.specs.Clearance.{IsClear}
+use Rattle.plan_model.specs.Spaces.RoomOfConfigurations.{Rational}
+use Rattle.plan_model.specs.Spaces.Meeting.{IsWithin, Meets, SharesPoint}
+use Rattle.plan_model.specs.Spaces.Clearance.{IsClear}
 
 -- numbers no distance apart are equal
 equal-within : (m n : ℕ) (a b : ℤ) → IsWithin (0 * m * n) a b → a ≡ b

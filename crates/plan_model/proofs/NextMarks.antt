@@ -9,16 +9,16 @@ use Rattle.plan_model.specs.declared.limits.TheConstants.{MOST_WORKERS}
 use Rattle.plan_model.specs.declared.records.Outcome.{Outcome}
 use Rattle.plan_model.specs.declared.records.Outcome.TheVariants.{Placed, Same, Blocked}
 use Rattle.plan_model.specs.declared.records.Record.{Record}
-use Rattle.plan_model.specs.Clearance.{Clear}
-use Rattle.plan_model.specs.PointsByNumber.{IsFree, IsPresent, StandsAt, point_of, node_count}
-use Rattle.plan_model.specs.Steering.{steered}
-use Rattle.plan_model.specs.TreeStates.{TreeState, GrowsInto}
-use Rattle.plan_model.specs.OrderLaw.{KeepsOrder}
-use Rattle.plan_model.specs.Outcomes.{is_placed}
-use Rattle.plan_model.specs.RecordLaw.{is_earlier, IsEarlier, earlier_count, IsBlockedLawfully, IsSteeredLawfully, HasLawfulOutcome, IsLawfulRecord}
-use Rattle.plan_model.specs.ClosedLaw.{mark_at, IsClosed}
-use Rattle.plan_model.specs.Textbook.{Setup, SteersTo}
-use Rattle.plan_model.specs.Turns.{turns_of}
+use Rattle.plan_model.specs.Spaces.Clearance.{Clear}
+use Rattle.plan_model.specs.Trees.PointsByNumber.{IsFree, IsPresent, StandsAt, point_of, node_count}
+use Rattle.plan_model.specs.Geometry.Steering.{steered}
+use Rattle.plan_model.specs.Trees.TreeStates.{TreeState, GrowsInto}
+use Rattle.plan_model.specs.Runs.OrderLaw.{KeepsOrder}
+use Rattle.plan_model.specs.Runs.Outcomes.{is_placed}
+use Rattle.plan_model.specs.Runs.RecordLaw.{is_earlier, IsEarlier, earlier_count, IsBlockedLawfully, IsSteeredLawfully, HasLawfulOutcome, IsLawfulRecord}
+use Rattle.plan_model.specs.Runs.ClosedLaw.{mark_at, IsClosed}
+use Rattle.plan_model.specs.Runs.Textbook.{Setup, SteersTo}
+use Rattle.plan_model.specs.Runs.Turns.{turns_of}
 use Rattle.plan_model.proofs.NodeCounts.{count-le_node_count}
 use Rattle.plan_model.proofs.TreeStateLaws.{IsPresent-grows, point_of-grows, StandsAt-before}
 use Rattle.plan_model.proofs.OrderLaws.{start-present}

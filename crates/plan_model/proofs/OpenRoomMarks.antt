@@ -3,15 +3,15 @@ use Rattle.std.proofs.Common.{◌≡◌, ℕ, zero, suc, List, [], ◌∷◌, �
 use Rattle.std.specs.Prelude.{All, Contains, unwrap_or}
 use Rattle.std.proofs.lemmas.List.Elements.{All-cons, All-nil, All-contains}
 use Rattle.plan_model.specs.declared.geometry.Point.{Point}
-use Rattle.plan_model.specs.EmptyRooms.{empty_room, IsInRoom}
-use Rattle.plan_model.specs.Roots.{root_ceiling}
-use Rattle.plan_model.specs.Steering.{steered}
-use Rattle.plan_model.specs.Radius.{class_of}
-use Rattle.plan_model.specs.PointsByNumber.{point_of, IsFree, IsPresent, node_count}
-use Rattle.plan_model.specs.LeastPairs.{IsNotAbove}
-use Rattle.plan_model.specs.Nearness.{distance_to, IsNearest}
-use Rattle.plan_model.specs.Trees.{points_of}
-use Rattle.plan_model.specs.Textbook.{Nodes, near_new, cost_through, Rewires, EndsPlaced, placed_record}
+use Rattle.plan_model.specs.Spaces.EmptyRooms.{empty_room, IsInRoom}
+use Rattle.plan_model.specs.Geometry.Roots.{root_ceiling}
+use Rattle.plan_model.specs.Geometry.Steering.{steered}
+use Rattle.plan_model.specs.Geometry.Radius.{class_of}
+use Rattle.plan_model.specs.Trees.PointsByNumber.{point_of, IsFree, IsPresent, node_count}
+use Rattle.plan_model.specs.Trees.LeastPairs.{IsNotAbove}
+use Rattle.plan_model.specs.Trees.Nearness.{distance_to, IsNearest}
+use Rattle.plan_model.specs.Trees.NodeLists.{points_of}
+use Rattle.plan_model.specs.Runs.Textbook.{Nodes, near_new, cost_through, Rewires, EndsPlaced, placed_record}
 use Rattle.plan_model.specs.Vectors.Shapes.{at}
 use Rattle.plan_model.specs.Vectors.Runs.{open_setup, node}
 use Rattle.plan_model.proofs.LeastPairLaws.{IsNotAbove-refl}

@@ -1,10 +1,10 @@
 -- A state that keeps the order law: kept costs fall along its parents, are at least its sums, and its sums if they are settled.
 use Rattle.std.proofs.Common.{◌≡◌, ℕ, zero, suc, ◌+◌, ◌≤◌, arith, ◌∙◌}
-use Rattle.plan_model.specs.PointsByNumber.{IsPresent}
-use Rattle.plan_model.specs.Trees.{edge_by, FallAlong}
-use Rattle.plan_model.specs.TreeStates.{TreeState, sum_in}
-use Rattle.plan_model.specs.OrderLaw.{KeepsOrder}
-use Rattle.plan_model.specs.Textbook.{Setup}
+use Rattle.plan_model.specs.Trees.PointsByNumber.{IsPresent}
+use Rattle.plan_model.specs.Trees.NodeLists.{edge_by, FallAlong}
+use Rattle.plan_model.specs.Trees.TreeStates.{TreeState, sum_in}
+use Rattle.plan_model.specs.Runs.OrderLaw.{KeepsOrder}
+use Rattle.plan_model.specs.Runs.Textbook.{Setup}
 use Rattle.plan_model.proofs.ChainLaws.{sum-start, sum-parent}
 use Rattle.plan_model.proofs.LoweredCosts.{StandsStill, SettlesCosts}
 use Rattle.plan_model.proofs.OrderLaws.{start-present, KeepsOrder-falls}

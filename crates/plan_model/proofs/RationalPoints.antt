@@ -9,9 +9,9 @@ use borrow.Author.Differences.{up, down, sum_is_lem, product_is}
 use Rattle.plan_model.specs.declared.geometry.Vertex.{Vertex}
 use Rattle.plan_model.specs.declared.geometry.Point.{Point}
 use Rattle.plan_model.specs.declared.configuration_spaces.ConfigurationSpace.{ConfigurationSpace}
-use Rattle.plan_model.specs.RoomOfConfigurations.{Rational, IsSamePoint, scaled, moved_by, IsBetweenWalls, InRoom}
-use Rattle.plan_model.specs.Meeting.{weighted, IsWithin, Meets}
-use Rattle.plan_model.specs.Clearance.{IsClear}
+use Rattle.plan_model.specs.Spaces.RoomOfConfigurations.{Rational, IsSamePoint, scaled, moved_by, IsBetweenWalls, InRoom}
+use Rattle.plan_model.specs.Spaces.Meeting.{weighted, IsWithin, Meets}
+use Rattle.plan_model.specs.Spaces.Clearance.{IsClear}
 
 -- ---- numbers
 -- x / m and z / n are one number

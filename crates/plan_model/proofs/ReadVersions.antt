@@ -2,10 +2,10 @@
 use Rattle.std.proofs.Common.{◌≡◌, ℕ, ◌≤◌, Bool, true, false, cond, Option, Some, None, List, [], ◌∷◌, refl, subst, arith}
 use Rattle.std.specs.Prelude.{bytes_eq}
 use Rattle.plan_model.specs.declared.scenes.Scene.{Scene}
-use Rattle.plan_model.specs.TextLines.{lines_of, statements_of}
-use Rattle.plan_model.specs.Keys.{format_name, version_word, every_version, version_among}
-use Rattle.plan_model.specs.LineChecks.{Format, Given, fault_at_end, version_of, version_within}
-use Rattle.plan_model.specs.SceneGrammar.{version_given, Spells}
+use Rattle.plan_model.specs.Texts.TextLines.{lines_of, statements_of}
+use Rattle.plan_model.specs.Texts.Keys.{format_name, version_word, every_version, version_among}
+use Rattle.plan_model.specs.Texts.LineChecks.{Format, Given, fault_at_end, version_of, version_within}
+use Rattle.plan_model.specs.Texts.SceneGrammar.{version_given, Spells}
 
 -- a version of the format that is read
 pub record IsReadVersion (reads : ℕ → Bool) (version : ℕ) : Type 0 where

@@ -1,8 +1,8 @@
 -- The run in which node 2 gets a cheaper way through node 3.
 use Rattle.std.proofs.Common.{◌≡◌, [], ◌∷◌, refl, arith, inl}
-use Rattle.plan_model.specs.EmptyRooms.{empty_room}
-use Rattle.plan_model.specs.Trees.{sum_of}
-use Rattle.plan_model.specs.Textbook.{cost_through, IsCheaperThrough, Rewires, IsTextbookRun}
+use Rattle.plan_model.specs.Spaces.EmptyRooms.{empty_room}
+use Rattle.plan_model.specs.Trees.NodeLists.{sum_of}
+use Rattle.plan_model.specs.Runs.Textbook.{cost_through, IsCheaperThrough, Rewires, IsTextbookRun}
 use Rattle.plan_model.specs.Vectors.Shapes.{at}
 use Rattle.plan_model.specs.Vectors.Runs.{open_setup, marks_to_rewire, rewired_tree, rewired_records}
 use Rattle.plan_model.proofs.EmptyRoomClearance.{Clear-empty_room}

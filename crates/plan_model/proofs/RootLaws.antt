@@ -2,7 +2,7 @@
 use Rattle.std.proofs.Common.{◌≡◌, ℕ, zero, suc, ◌-◌, ◌*◌, ◌<◌, ◌≤◌, ltb, cond, Bool, true, false, refl, arith}
 use Rattle.std.proofs.lemmas.Nat.{mul-le}
 use Rattle.std.proofs.lemmas.Bool.Decides.{nat_tests}
-use Rattle.plan_model.specs.Roots.{IsRootCeiling, root_ceiling}
+use Rattle.plan_model.specs.Geometry.Roots.{IsRootCeiling, root_ceiling}
 
 -- a number with a greater square is greater
 pub lt-from_squares : (r s n : ℕ) → r * r ≤ n → n < s * s → r < s

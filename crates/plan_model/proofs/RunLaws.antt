@@ -2,7 +2,7 @@
 use Rattle.std.proofs.Common.{◌≡◌, ℕ, suc, ◌+◌, List, [], ◌∷◌, ◌++◌, length, arith, refl, ap, subst}
 use Rattle.plan_model.specs.declared.geometry.Point.{Point}
 use Rattle.plan_model.specs.declared.records.Record.{Record}
-use Rattle.plan_model.specs.Textbook.{Nodes, Setup, Handles, HandlesAll}
+use Rattle.plan_model.specs.Runs.Textbook.{Nodes, Setup, Handles, HandlesAll}
 
 -- there are as many records as marks
 pub HandlesAll-length :

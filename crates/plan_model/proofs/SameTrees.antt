@@ -2,14 +2,14 @@
 use Rattle.std.proofs.Common.{length, ◌≡◌, ℕ, zero, suc, List, [], ◌∷◌, map, refl, sym, ap, ◌∙◌, inl}
 use Rattle.std.specs.Prelude.{is_some, unwrap_or}
 use Rattle.plan_model.specs.declared.geometry.Point.{Point}
-use Rattle.plan_model.specs.PointsByNumber.{IsPresent, point_of, node_count}
-use Rattle.plan_model.specs.Trees.{chain_within, length_of_path}
-use Rattle.plan_model.specs.TreeStates.{TreeState, recorded_or, first_cost_of, chain_in, sum_in, IsSettled, AreSameRuns, GrowsInto, state_of}
-use Rattle.plan_model.specs.Clearance.{ClearAt}
-use Rattle.plan_model.specs.ClosedLaw.{IsClosed}
-use Rattle.plan_model.specs.SameRuns.{IsOfTextbookRun}
-use Rattle.plan_model.specs.OrderLaw.{KeepsOrder}
-use Rattle.plan_model.specs.Textbook.{Setup}
+use Rattle.plan_model.specs.Trees.PointsByNumber.{IsPresent, point_of, node_count}
+use Rattle.plan_model.specs.Trees.NodeLists.{chain_within, length_of_path}
+use Rattle.plan_model.specs.Trees.TreeStates.{TreeState, recorded_or, first_cost_of, chain_in, sum_in, IsSettled, AreSameRuns, GrowsInto, state_of}
+use Rattle.plan_model.specs.Spaces.Clearance.{ClearAt}
+use Rattle.plan_model.specs.Runs.ClosedLaw.{IsClosed}
+use Rattle.plan_model.specs.Runs.SameRuns.{IsOfTextbookRun}
+use Rattle.plan_model.specs.Runs.OrderLaw.{KeepsOrder}
+use Rattle.plan_model.specs.Runs.Textbook.{Setup}
 use Rattle.plan_model.proofs.NodeCounts.{node_count-same}
 use Rattle.plan_model.proofs.LoweredCosts.{HaveSameTree}
 use Rattle.plan_model.proofs.ClosedLaws.{IsClosed-same}

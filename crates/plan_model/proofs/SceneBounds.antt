@@ -12,11 +12,11 @@ use Rattle.plan_model.specs.declared.limits.TheConstants.{LEAST_OBSTACLE_COORDIN
 use Rattle.plan_model.specs.declared.limits.TheConstants.{MOST_CLEARANCE, MOST_COORDINATE, MOST_OBSTACLE_COORDINATE, MOST_OBSTACLE_COORDINATE_OF_VERSION_2}
 use Rattle.plan_model.specs.declared.limits.TheConstants.{MOST_OBSTACLE_CORNERS, MOST_SIDE, MOST_SIDE_OF_VERSION_2, MOST_STEERING_STEP, MOST_STEP}
 use Rattle.plan_model.specs.declared.limits.TheConstants.{MOST_STEP_OF_VERSION_2, MOST_SUMMAND_COORDINATE}
-use Rattle.plan_model.specs.Bounds.{IsBounded}
-use Rattle.plan_model.specs.Convexity.{is_strictly_convex}
-use Rattle.plan_model.specs.EmptyRooms.{IsInRoom}
-use Rattle.plan_model.specs.Limits.{is_corner_between, is_mark, is_obstacle, least_obstacle_coordinate, most_obstacle_coordinate, most_side}
-use Rattle.plan_model.specs.Limits.{most_clearance, most_step}
+use Rattle.plan_model.specs.Geometry.Bounds.{IsBounded}
+use Rattle.plan_model.specs.Geometry.Convexity.{is_strictly_convex}
+use Rattle.plan_model.specs.Spaces.EmptyRooms.{IsInRoom}
+use Rattle.plan_model.specs.Scenes.Limits.{is_corner_between, is_mark, is_obstacle, least_obstacle_coordinate, most_obstacle_coordinate, most_side}
+use Rattle.plan_model.specs.Scenes.Limits.{most_clearance, most_step}
 
 -- ---- the limits of either version
 

@@ -5,8 +5,8 @@ use Rattle.std.proofs.Math.Nat.{le_refl}
 use Rattle.std.proofs.lemmas.Int.{ints}
 use Rattle.plan_model.specs.declared.geometry.Point.{Point}
 use Rattle.plan_model.specs.declared.configuration_spaces.ConfigurationSpace.{ConfigurationSpace}
-use Rattle.plan_model.specs.RoomOfConfigurations.{at_lattice, IsSamePoint}
-use Rattle.plan_model.specs.Clearance.{ClearAt, on_the_way, Clear}
+use Rattle.plan_model.specs.Spaces.RoomOfConfigurations.{at_lattice, IsSamePoint}
+use Rattle.plan_model.specs.Spaces.Clearance.{ClearAt, on_the_way, Clear}
 use Rattle.plan_model.proofs.RationalPoints.{IsSamePoint-sym, IsClear-same}
 
 -- s of d parts and the rest of them are the whole

@@ -3,13 +3,13 @@ use Rattle.std.proofs.Common.{◌≡◌, ℕ, ◌≤◌, List, arith, sym, ap, �
 use Rattle.std.specs.Prelude.{IsTrue}
 use Rattle.plan_model.specs.declared.geometry.Point.{Point}
 use Rattle.plan_model.specs.declared.geometry.Goal.{Goal}
-use Rattle.plan_model.specs.BestNode.{IsBestNode, IsGoalNode, is_goal_point}
-use Rattle.plan_model.specs.Clearance.{ClearAt}
-use Rattle.plan_model.specs.PointsByNumber.{IsPresent, point_at}
-use Rattle.plan_model.specs.SameRuns.{IsOfTextbookRun}
-use Rattle.plan_model.specs.Textbook.{Setup}
-use Rattle.plan_model.specs.TreeStates.{AreSameRuns, ChangesCosts, GrowsInto, IsSettled, TreeState, state_of, sum_in}
-use Rattle.plan_model.specs.Trees.{sum_by}
+use Rattle.plan_model.specs.Trees.BestNode.{IsBestNode, IsGoalNode, is_goal_point}
+use Rattle.plan_model.specs.Spaces.Clearance.{ClearAt}
+use Rattle.plan_model.specs.Trees.PointsByNumber.{IsPresent, point_at}
+use Rattle.plan_model.specs.Runs.SameRuns.{IsOfTextbookRun}
+use Rattle.plan_model.specs.Runs.Textbook.{Setup}
+use Rattle.plan_model.specs.Trees.TreeStates.{AreSameRuns, ChangesCosts, GrowsInto, IsSettled, TreeState, state_of, sum_in}
+use Rattle.plan_model.specs.Trees.NodeLists.{sum_by}
 use Rattle.plan_model.proofs.BestNodeLaws.{IsPresent-goal}
 use Rattle.plan_model.proofs.SameTrees.{AreSameRuns-trans, IsSettled-of_textbook}
 use Rattle.plan_model.proofs.TreeStateLaws.{IsPresent-grows, cost-grows, point_at-grows}

@@ -2,10 +2,10 @@
 use Rattle.std.proofs.Common.{◌≡◌, ℕ, zero, suc, ◌<◌, Bool, Option, Some, None, arith, refl, sym, ap, ◌∙◌, subst, inl, inr}
 use Rattle.std.proofs.lemmas.Bool.{cases_eq}
 use Rattle.plan_model.specs.declared.geometry.Point.{Point}
-use Rattle.plan_model.specs.PointsByNumber.{point_at, IsFree}
-use Rattle.plan_model.specs.Ways.{goes_right}
-use Rattle.plan_model.specs.SeenTrees.{IsSeen, IsOnSeenWay}
-use Rattle.plan_model.specs.Sights.{Sight, KeepsSight, KeepsOrFindsEmpty, IsLaterMoment, EndsSince, IsSwept}
+use Rattle.plan_model.specs.Trees.PointsByNumber.{point_at, IsFree}
+use Rattle.plan_model.specs.Seen.Ways.{goes_right}
+use Rattle.plan_model.specs.Seen.SeenTrees.{IsSeen, IsOnSeenWay}
+use Rattle.plan_model.specs.Seen.Sights.{Sight, KeepsSight, KeepsOrFindsEmpty, IsLaterMoment, EndsSince, IsSwept}
 use Rattle.plan_model.proofs.NewNodes.{IsPresent-stands}
 use Rattle.plan_model.proofs.SeenTreeLaws.{HasSeenAtLeast-refl, HasSeenAtLeast-trans, IsSeen-more, seen_step, same_way, further_down}
 use Rattle.plan_model.proofs.WayLaws.{not_empty}

@@ -4,10 +4,10 @@ use Rattle.std.specs.Prelude.{◌⊎◌, nat_lt, cond, is_some, IsSome}
 use Rattle.std.specs.Option.{option_or}
 use Rattle.std.proofs.lemmas.Bool.{cases_lt, ltb-true, ltb-false}
 use Rattle.plan_model.specs.declared.geometry.Point.{Point}
-use Rattle.plan_model.specs.PointsByNumber.{point_at, point_of, StandsAt}
-use Rattle.plan_model.specs.Ways.{FollowWays}
-use Rattle.plan_model.specs.SeenTrees.{SeenTree, IsSeen, IsRooted, HasSeenAtLeast, SharedTree, IsTrueOf}
-use Rattle.plan_model.specs.Sights.{Sight, KeepsSight, IsLaterMoment, cheaper_of, HaveSeenTogether, TakesOver, AgreeOnParents}
+use Rattle.plan_model.specs.Trees.PointsByNumber.{point_at, point_of, StandsAt}
+use Rattle.plan_model.specs.Seen.Ways.{FollowWays}
+use Rattle.plan_model.specs.Seen.SeenTrees.{SeenTree, IsSeen, IsRooted, HasSeenAtLeast, SharedTree, IsTrueOf}
+use Rattle.plan_model.specs.Seen.Sights.{Sight, KeepsSight, IsLaterMoment, cheaper_of, HaveSeenTogether, TakesOver, AgreeOnParents}
 use Rattle.plan_model.proofs.NewNodes.{IsPresent-stands, StandsAt-present, StandsAt-unique}
 use Rattle.plan_model.proofs.SeenTreeLaws.{IsSeen-more}
 use Rattle.plan_model.proofs.TrueSights.{FollowSeenWays-true}

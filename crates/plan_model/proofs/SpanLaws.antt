@@ -6,8 +6,8 @@ use Rattle.std.proofs.lemmas.List.Elements.{All-cons, All-nil, All-head, All-tai
 use Rattle.plan_model.specs.declared.geometry.Vertex.{Vertex}
 use Rattle.plan_model.specs.declared.geometry.Point.{Point}
 use Rattle.plan_model.specs.declared.configuration_spaces.ConfigurationSpace.{ConfigurationSpace}
-use Rattle.plan_model.specs.RoomOfConfigurations.{at_lattice, InRoom}
-use Rattle.plan_model.specs.MarkPoints.{below_zero, above_zero, reach, IsInSpan, span_within, columns, rows, BodyFits}
+use Rattle.plan_model.specs.Spaces.RoomOfConfigurations.{at_lattice, InRoom}
+use Rattle.plan_model.specs.Scenes.MarkPoints.{below_zero, above_zero, reach, IsInSpan, span_within, columns, rows, BodyFits}
 use Rattle.plan_model.specs.declared.spans.Span.{Span}
 
 -- ---- how far a body reaches, seen from a bound of it

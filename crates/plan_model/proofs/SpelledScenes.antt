@@ -1,10 +1,10 @@
 -- A text spells one scene at most, so two scenes that it spells are clear at the same points.
 use Rattle.std.proofs.Common.{List, ℕ, subst}
 use Rattle.plan_model.specs.declared.scenes.Scene.{Scene}
-use Rattle.plan_model.specs.LineChecks.{Format}
-use Rattle.plan_model.specs.SceneGrammar.{Spells}
-use Rattle.plan_model.specs.ConfigurationSpace.{space_of}
-use Rattle.plan_model.specs.Clearance.{ClearAt}
+use Rattle.plan_model.specs.Texts.LineChecks.{Format}
+use Rattle.plan_model.specs.Texts.SceneGrammar.{Spells}
+use Rattle.plan_model.specs.Spaces.ConfigurationSpace.{space_of}
+use Rattle.plan_model.specs.Spaces.Clearance.{ClearAt}
 use Rattle.plan_model.proofs.SameScenes.{Spells-one_scene}
 
 pub ClearAt-spelled :

@@ -7,9 +7,9 @@ use Rattle.std.proofs.lemmas.List.Elements.{filter-append}
 use Rattle.std.proofs.lemmas.Slice.Eq.{bytes_eq-Decides}
 use Rattle.plan_model.specs.declared.text_terms.Key.{Key}
 use Rattle.plan_model.specs.declared.text_terms.Key.TheVariants as keys
-use Rattle.plan_model.specs.TextLines.{words_of, is_skipped, statements_of}
-use Rattle.plan_model.specs.Keys.{name_of, every_key, key_among, is_key, key_within, key_of}
-use Rattle.plan_model.specs.LineChecks.{begins_with, numbers_in, given_by, with_statement}
+use Rattle.plan_model.specs.Texts.TextLines.{words_of, is_skipped, statements_of}
+use Rattle.plan_model.specs.Texts.Keys.{name_of, every_key, key_among, is_key, key_within, key_of}
+use Rattle.plan_model.specs.Texts.LineChecks.{begins_with, numbers_in, given_by, with_statement}
 
 -- ---- keys
 

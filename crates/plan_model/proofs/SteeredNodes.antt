@@ -2,11 +2,11 @@
 use Rattle.std.proofs.Common.{◌≡◌, ℕ, ◌≤◌, List, Option, Some, IsSome, refl, ap, sym, ◌∙◌, subst}
 use Rattle.std.specs.Prelude.{◌≢◌, unwrap_or}
 use Rattle.plan_model.specs.declared.geometry.Point.{Point}
-use Rattle.plan_model.specs.Geometry.{squared_distance}
-use Rattle.plan_model.specs.PointsByNumber.{point_of, StandsAt, IsPresent, IsFree}
-use Rattle.plan_model.specs.Nearness.{IsNearest}
-use Rattle.plan_model.specs.Steering.{steered}
-use Rattle.plan_model.specs.Textbook.{Setup, SteersTo}
+use Rattle.plan_model.specs.Geometry.Plane.{squared_distance}
+use Rattle.plan_model.specs.Trees.PointsByNumber.{point_of, StandsAt, IsPresent, IsFree}
+use Rattle.plan_model.specs.Trees.Nearness.{IsNearest}
+use Rattle.plan_model.specs.Geometry.Steering.{steered}
+use Rattle.plan_model.specs.Runs.Textbook.{Setup, SteersTo}
 use Rattle.plan_model.proofs.NewNodes.{point_of-stands}
 use Rattle.plan_model.proofs.SteeringLaws.{IsStep-steered, corner_of_box}
 

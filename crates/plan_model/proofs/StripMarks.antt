@@ -7,8 +7,8 @@ use Rattle.std.proofs.lemmas.Bool.{cases_eq, cases_lt, eq-eqb, ne_eqb, lt-ltb, l
 use Rattle.std.proofs.lemmas.List.Sums.{sum_by_push}
 use Rattle.std.proofs.lemmas.Nat.{div-add-mod', div-mul-add, mod-mul-add}
 use Rattle.plan_model.specs.declared.records.Record.{Record}
-use Rattle.plan_model.specs.ClosedLaw.{AreRecordedBelow}
-use Rattle.plan_model.specs.MarkPoints.{quota_of, IsMarkOf, is_claimed}
+use Rattle.plan_model.specs.Runs.ClosedLaw.{AreRecordedBelow}
+use Rattle.plan_model.specs.Scenes.MarkPoints.{quota_of, IsMarkOf, is_claimed}
 use Rattle.plan_model.proofs.CountsBelow.{range-more, count-more, count-single}
 use Rattle.plan_model.proofs.QuotaLaws.{IsCutAt-quota}
 use Rattle.plan_model.proofs.WorkerTurns.{ltb-next}

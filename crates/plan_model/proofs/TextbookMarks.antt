@@ -12,16 +12,16 @@ use Rattle.plan_model.specs.declared.records.Outcome.{Outcome}
 use Rattle.plan_model.specs.declared.records.Outcome.TheVariants.{Placed, Same, Blocked}
 use Rattle.plan_model.specs.declared.records.Record.{Record}
 use Rattle.plan_model.specs.declared.trees.Twig.{Twig}
-use Rattle.plan_model.specs.Clearance.{Clear}
-use Rattle.plan_model.specs.Cost.{cost_of}
-use Rattle.plan_model.specs.Geometry.{squared_distance}
-use Rattle.plan_model.specs.PointsByNumber.{point_at, point_of}
-use Rattle.plan_model.specs.Trees.{points_of, sum_of}
-use Rattle.plan_model.specs.TreeStates.{TreeState, GrowsInto, state_of}
-use Rattle.plan_model.specs.OrderLaw.{KeepsOrder}
-use Rattle.plan_model.specs.Outcomes.{is_placed}
-use Rattle.plan_model.specs.ClosedLaw.{mark_at, IsClosed}
-use Rattle.plan_model.specs.Textbook.{Nodes, Setup, near_new, SteersTo, EndsPlaced, Ends}
+use Rattle.plan_model.specs.Spaces.Clearance.{Clear}
+use Rattle.plan_model.specs.Geometry.Cost.{cost_of}
+use Rattle.plan_model.specs.Geometry.Plane.{squared_distance}
+use Rattle.plan_model.specs.Trees.PointsByNumber.{point_at, point_of}
+use Rattle.plan_model.specs.Trees.NodeLists.{points_of, sum_of}
+use Rattle.plan_model.specs.Trees.TreeStates.{TreeState, GrowsInto, state_of}
+use Rattle.plan_model.specs.Runs.OrderLaw.{KeepsOrder}
+use Rattle.plan_model.specs.Runs.Outcomes.{is_placed}
+use Rattle.plan_model.specs.Runs.ClosedLaw.{mark_at, IsClosed}
+use Rattle.plan_model.specs.Runs.Textbook.{Nodes, Setup, near_new, SteersTo, EndsPlaced, Ends}
 use Rattle.plan_model.proofs.CostLaws.{cost_of-swap}
 use Rattle.plan_model.proofs.SegmentLaws.{Clear-back}
 use Rattle.plan_model.proofs.CountsBelow.{count-all}
@@ -35,7 +35,7 @@ use Rattle.plan_model.proofs.NextMarks.{EndsLawfully, EndsUnplaced, IsClosed-nex
 use Rattle.plan_model.proofs.PlacedMarks.{ChoosesParent, LeavesPlaced, parent-reachable, parent-allowed, EndsLawfully-placed}
 use Rattle.plan_model.proofs.TextbookStates.{RecordsNext, RecordsMark-push, AddsRecord-unplaced, PlacesNode, sum-placed, AddsNode-placed}
 use Rattle.plan_model.proofs.TextbookRewiring.{MayRewire, IsReached, Relaxes, Relaxes-all, AreReached-all}
-use Rattle.plan_model.specs.Turns.{is_of_worker, turns_of}
+use Rattle.plan_model.specs.Runs.Turns.{is_of_worker, turns_of}
 
 -- ---- runs so far
 

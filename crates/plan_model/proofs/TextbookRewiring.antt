@@ -5,14 +5,14 @@ use Rattle.std.proofs.lemmas.Bool.{cases_eq, cases_lt}
 use Rattle.std.proofs.lemmas.List.Elements.{All-head, All-tail, All-cons, All-nil, All-weaker}
 use Rattle.plan_model.specs.declared.geometry.Point.{Point}
 use Rattle.plan_model.specs.declared.records.Record.{Record}
-use Rattle.plan_model.specs.Clearance.{Clear}
-use Rattle.plan_model.specs.Cost.{cost_of}
-use Rattle.plan_model.specs.Geometry.{squared_distance}
-use Rattle.plan_model.specs.PointsByNumber.{point_at, StandsAt, IsPresent, point_of}
-use Rattle.plan_model.specs.Trees.{points_of, parent_of, sum_of, edge_of, CostsFall, AreTight}
-use Rattle.plan_model.specs.TreeStates.{first_cost_of, GrowsInto, state_of}
-use Rattle.plan_model.specs.OrderLaw.{IsAllowedEdge, Hangs, KeepsOrder, KeepsFirstCosts}
-use Rattle.plan_model.specs.Textbook.{Nodes, Setup, cost_through, IsCheaperThrough, with_parent, RewiresOne, Rewires}
+use Rattle.plan_model.specs.Spaces.Clearance.{Clear}
+use Rattle.plan_model.specs.Geometry.Cost.{cost_of}
+use Rattle.plan_model.specs.Geometry.Plane.{squared_distance}
+use Rattle.plan_model.specs.Trees.PointsByNumber.{point_at, StandsAt, IsPresent, point_of}
+use Rattle.plan_model.specs.Trees.NodeLists.{points_of, parent_of, sum_of, edge_of, CostsFall, AreTight}
+use Rattle.plan_model.specs.Trees.TreeStates.{first_cost_of, GrowsInto, state_of}
+use Rattle.plan_model.specs.Runs.OrderLaw.{IsAllowedEdge, Hangs, KeepsOrder, KeepsFirstCosts}
+use Rattle.plan_model.specs.Runs.Textbook.{Nodes, Setup, cost_through, IsCheaperThrough, with_parent, RewiresOne, Rewires}
 use Rattle.plan_model.proofs.ChainLaws.{AreTight-sums}
 use Rattle.plan_model.proofs.NewNodes.{StandsAt-present}
 use Rattle.plan_model.proofs.ParentChanges.{HasCheaperParent, points_of-cheaper_parent, IsPresent-cheaper_parent, parent_new, parent_kept, edge_from}

@@ -6,13 +6,13 @@ use Rattle.std.proofs.lemmas.Option.{slice_get_past}
 use Rattle.plan_model.specs.declared.geometry.Point.{Point}
 use Rattle.plan_model.specs.declared.records.Record.{Record}
 use Rattle.plan_model.specs.declared.trees.Twig.{Twig}
-use Rattle.plan_model.specs.Clearance.{ClearAt}
-use Rattle.plan_model.specs.PointsByNumber.{StandsAt, IsPresent, point_of, IsFree, node_count}
-use Rattle.plan_model.specs.Trees.{parent_of, points_of, parent_or_zero, sum_of, CostsFall, AreTight}
-use Rattle.plan_model.specs.TreeStates.{recorded_or, first_cost_of, state_of}
-use Rattle.plan_model.specs.OrderLaw.{IsAllowedEdge, most_cost_of, KeepsOrder}
-use Rattle.plan_model.specs.ClosedLaw.{IsClosed}
-use Rattle.plan_model.specs.Textbook.{Nodes, Setup, start_alone, cost_through}
+use Rattle.plan_model.specs.Spaces.Clearance.{ClearAt}
+use Rattle.plan_model.specs.Trees.PointsByNumber.{StandsAt, IsPresent, point_of, IsFree, node_count}
+use Rattle.plan_model.specs.Trees.NodeLists.{parent_of, points_of, parent_or_zero, sum_of, CostsFall, AreTight}
+use Rattle.plan_model.specs.Trees.TreeStates.{recorded_or, first_cost_of, state_of}
+use Rattle.plan_model.specs.Runs.OrderLaw.{IsAllowedEdge, most_cost_of, KeepsOrder}
+use Rattle.plan_model.specs.Runs.ClosedLaw.{IsClosed}
+use Rattle.plan_model.specs.Runs.Textbook.{Nodes, Setup, start_alone, cost_through}
 use Rattle.plan_model.proofs.ChainLaws.{sums-tight, AreTight-sums}
 use Rattle.plan_model.proofs.DistinctPoints.{AreDistinct-start}
 use Rattle.plan_model.proofs.KeptCosts.{AddsPriced, CostsFall-adds, AreTight-adds}
@@ -35,7 +35,7 @@ use Rattle.plan_model.proofs.LoweredCosts.{AddsRecord}
 use Rattle.plan_model.proofs.OrderedTrees.{FallAlong-ordered}
 use Rattle.plan_model.proofs.AddedNodes.{AddsNode}
 use Rattle.plan_model.proofs.NextRecords.{RecordsMark, still_recorded}
-use Rattle.plan_model.specs.Turns.{once_if}
+use Rattle.plan_model.specs.Runs.Turns.{once_if}
 use Rattle.plan_model.proofs.PlacedNodes.{ArePlacedMarks-from}
 
 -- ---- the start alone

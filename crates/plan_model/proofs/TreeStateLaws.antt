@@ -2,8 +2,8 @@
 use Rattle.std.proofs.Common.{◌≡◌, ℕ, ◌≤◌, arith, refl, sym, ap, ◌∙◌, inl, inr}
 use Rattle.std.specs.Prelude.{unwrap_or}
 use Rattle.plan_model.specs.declared.geometry.Point.{Point}
-use Rattle.plan_model.specs.PointsByNumber.{point_at, StandsAt, IsPresent, point_of, node_count}
-use Rattle.plan_model.specs.TreeStates.{TreeState, KeepsOrFalls, GrowsInto}
+use Rattle.plan_model.specs.Trees.PointsByNumber.{point_at, StandsAt, IsPresent, point_of, node_count}
+use Rattle.plan_model.specs.Trees.TreeStates.{TreeState, KeepsOrFalls, GrowsInto}
 use Rattle.plan_model.proofs.NewNodes.{IsPresent-stands, StandsAt-present}
 use Rattle.plan_model.proofs.NodeCounts.{node_count-le}
 

@@ -2,12 +2,12 @@
 use Rattle.std.proofs.Common.{◌≡◌, ℕ, zero, suc, ◌<◌, ◌≤◌, Option, Some, None, arith, refl, sym, ap, ◌∙◌, subst, inl, inr}
 use Rattle.std.specs.Prelude.{◌≢◌, ◌⊎◌, option_map}
 use Rattle.plan_model.specs.declared.geometry.Point.{Point}
-use Rattle.plan_model.specs.PointsByNumber.{point_at, point_of, StandsAt, IsPresent, AreDistinct}
-use Rattle.plan_model.specs.TreeStates.{TreeState, KeepsOrFalls}
-use Rattle.plan_model.specs.Ways.{goes_right, IsOnWay, FollowWays}
-use Rattle.plan_model.specs.SeenTrees.{SeenTree, IsSeen, IsRooted, IsOnSeenWay, HasSeenWay, FollowSeenWays, KeepsOrLowers, HasSeenAtLeast}
-use Rattle.plan_model.specs.SeenTrees.{SharedTree, TreeGrows, seen_whole, IsTrueOf}
-use Rattle.plan_model.specs.SeenTrees.IsOnSeenWay.{begins, goes_on}
+use Rattle.plan_model.specs.Trees.PointsByNumber.{point_at, point_of, StandsAt, IsPresent, AreDistinct}
+use Rattle.plan_model.specs.Trees.TreeStates.{TreeState, KeepsOrFalls}
+use Rattle.plan_model.specs.Seen.Ways.{goes_right, IsOnWay, FollowWays}
+use Rattle.plan_model.specs.Seen.SeenTrees.{SeenTree, IsSeen, IsRooted, IsOnSeenWay, HasSeenWay, FollowSeenWays, KeepsOrLowers, HasSeenAtLeast}
+use Rattle.plan_model.specs.Seen.SeenTrees.{SharedTree, TreeGrows, seen_whole, IsTrueOf}
+use Rattle.plan_model.specs.Seen.SeenTrees.IsOnSeenWay.{begins, goes_on}
 use Rattle.plan_model.proofs.NewNodes.{IsPresent-stands, StandsAt-present, StandsAt-unique}
 use Rattle.plan_model.proofs.SeenTreeLaws.{HasSeenAtLeast-trans}
 use Rattle.plan_model.proofs.TreeStateLaws.{IsPresent-grows}

@@ -9,16 +9,16 @@ use Rattle.plan_model.specs.declared.records.Outcome.{Outcome}
 use Rattle.plan_model.specs.declared.records.Outcome.TheVariants.{Placed, Same, Blocked}
 use Rattle.plan_model.specs.declared.records.Record.{Record}
 use Rattle.plan_model.specs.declared.configuration_spaces.ConfigurationSpace.{ConfigurationSpace}
-use Rattle.plan_model.specs.Clearance.{Clear}
-use Rattle.plan_model.specs.Steering.{steered}
-use Rattle.plan_model.specs.Radius.{class_of}
-use Rattle.plan_model.specs.Outcomes.{is_zero_unless_placed}
-use Rattle.plan_model.specs.PointsByNumber.{StandsAt, IsPresent, point_of, AreDistinct, node_count}
-use Rattle.plan_model.specs.Nearness.{distance_to, IsNearest}
-use Rattle.plan_model.specs.MarkPoints.{mark_points}
-use Rattle.plan_model.specs.Trees.{points_of}
-use Rattle.plan_model.specs.SameRuns.{HaveSameFields, HaveSameInputs}
-use Rattle.plan_model.specs.Textbook.{
+use Rattle.plan_model.specs.Spaces.Clearance.{Clear}
+use Rattle.plan_model.specs.Geometry.Steering.{steered}
+use Rattle.plan_model.specs.Geometry.Radius.{class_of}
+use Rattle.plan_model.specs.Runs.Outcomes.{is_zero_unless_placed}
+use Rattle.plan_model.specs.Trees.PointsByNumber.{StandsAt, IsPresent, point_of, AreDistinct, node_count}
+use Rattle.plan_model.specs.Trees.Nearness.{distance_to, IsNearest}
+use Rattle.plan_model.specs.Scenes.MarkPoints.{mark_points}
+use Rattle.plan_model.specs.Trees.NodeLists.{points_of}
+use Rattle.plan_model.specs.Runs.SameRuns.{HaveSameFields, HaveSameInputs}
+use Rattle.plan_model.specs.Runs.Textbook.{
   Nodes,
   Setup,
   setup_of,

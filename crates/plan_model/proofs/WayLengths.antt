@@ -3,9 +3,9 @@ use Rattle.std.proofs.Common.{◌≡◌, ℕ, zero, suc, ◌+◌, ◌<◌, ◌�
 use Rattle.std.specs.Prelude.{◌⊎◌, is_some}
 use Rattle.std.proofs.lemmas.List.{get_or-set_same, get_or-set_other}
 use Rattle.plan_model.specs.declared.geometry.Point.{Point}
-use Rattle.plan_model.specs.PointsByNumber.{point_at, point_of, StandsAt, IsPresent, IsFree, node_count}
-use Rattle.plan_model.specs.Ways.{Children, IsOnWay, EndsBelow, FollowWays}
-use Rattle.plan_model.specs.Ways.IsOnWay.{begins}
+use Rattle.plan_model.specs.Trees.PointsByNumber.{point_at, point_of, StandsAt, IsPresent, IsFree, node_count}
+use Rattle.plan_model.specs.Seen.Ways.{Children, IsOnWay, EndsBelow, FollowWays}
+use Rattle.plan_model.specs.Seen.Ways.IsOnWay.{begins}
 use Rattle.plan_model.proofs.NewNodes.{StandsAt-present}
 use Rattle.plan_model.proofs.NodeCounts.{node_count-one_more}
 use Rattle.plan_model.proofs.SamePoints.{same_or_other}

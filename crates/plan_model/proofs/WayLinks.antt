@@ -3,9 +3,9 @@ use Rattle.std.proofs.Common.{◌≡◌, ℕ, zero, suc, Bool, true, false, List
 use Rattle.std.specs.Prelude.{◌≢◌, ◌⊎◌, is_some}
 use Rattle.std.proofs.lemmas.Bool.{cases_eq}
 use Rattle.plan_model.specs.declared.geometry.Point.{Point}
-use Rattle.plan_model.specs.PointsByNumber.{point_at, point_of, StandsAt, IsPresent}
-use Rattle.plan_model.specs.Ways.{goes_right, Children, IsOnWay, EndsBelow, FollowWays, LinksAt, AddsPoint, FillsPlaces}
-use Rattle.plan_model.specs.Ways.IsOnWay.{begins, goes_on}
+use Rattle.plan_model.specs.Trees.PointsByNumber.{point_at, point_of, StandsAt, IsPresent}
+use Rattle.plan_model.specs.Seen.Ways.{goes_right, Children, IsOnWay, EndsBelow, FollowWays, LinksAt, AddsPoint, FillsPlaces}
+use Rattle.plan_model.specs.Seen.Ways.IsOnWay.{begins, goes_on}
 use Rattle.plan_model.proofs.NewNodes.{IsPresent-stands, StandsAt-present, StandsAt-unique}
 use Rattle.plan_model.proofs.WayLaws.{way_start, last_step, same_child, not_empty, way_goes_on, IsOnWay-began}
 

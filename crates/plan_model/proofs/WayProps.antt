@@ -6,9 +6,9 @@ use Rattle.std.proofs.lemmas.Bool.{cases_eq, cases_lt}
 use Rattle.std.proofs.lemmas.Option.{same_Some}
 use mathlib.Core.HLevel.{is_prop→PathP}
 use Rattle.plan_model.specs.declared.geometry.Point.{Point}
-use Rattle.plan_model.specs.PointsByNumber.{point_at, StandsAt, IsPresent}
-use Rattle.plan_model.specs.Ways.{Children, goes_right, IsOnWay, FollowWays}
-use Rattle.plan_model.specs.Ways.IsOnWay.{begins, goes_on}
+use Rattle.plan_model.specs.Trees.PointsByNumber.{point_at, StandsAt, IsPresent}
+use Rattle.plan_model.specs.Seen.Ways.{Children, goes_right, IsOnWay, FollowWays}
+use Rattle.plan_model.specs.Seen.Ways.IsOnWay.{begins, goes_on}
 use Rattle.plan_model.proofs.WayLaws.{IsOnWay-unique, way_stops}
 
 StandsAt-prop : (points : List (Option Point)) (n : ℕ) (p : Point) → IsProp (StandsAt points n p)

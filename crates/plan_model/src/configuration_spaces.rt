@@ -1,7 +1,7 @@
 //! The configuration space of a translating body in a room among obstacles. A collision checker stands for one.
 
 ghost use Rattle.std.specs.Prelude.{◌≡◌, IfOk};
-ghost use Rattle.plan_model.specs.ConfigurationSpace.{space_of};
+ghost use Rattle.plan_model.specs.Spaces.ConfigurationSpace.{space_of};
 
 use crate::errors::Memory;
 use crate::geometry::Point;

@@ -15,8 +15,8 @@ pub struct Point {
 
 impl Point {
     ghost use Rattle.std.specs.Prelude.{◌≡◌, ◌^◌, ◌<◌};
-    ghost use Rattle.plan_model.specs.Geometry.{squared_distance};
-    ghost use Rattle.plan_model.specs.Bounds.{IsBounded};
+    ghost use Rattle.plan_model.specs.Geometry.Plane.{squared_distance};
+    ghost use Rattle.plan_model.specs.Geometry.Bounds.{IsBounded};
 
     /// The square of the distance to another point, in square lattice steps. No coordinate is above `MOST_COORDINATE`. O(1).
     pub fn squared_distance(self, other: Point) -> u64
@@ -61,7 +61,7 @@ pub struct Goal {
 
 impl Goal {
     ghost use Rattle.std.specs.Prelude.{◌≡◌};
-    ghost use Rattle.plan_model.specs.BestNode.{is_in_goal};
+    ghost use Rattle.plan_model.specs.Trees.BestNode.{is_in_goal};
 
     /// Whether the point lies in the box, on its edges or within them. A box may be a single point. O(1).
     pub fn contains(self, point: Point) -> bool

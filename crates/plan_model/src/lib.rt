@@ -3,7 +3,6 @@
 //! Planning, IJRR 2011.
 #![tactic(auto)]
 
-mod closed_laws;
 mod configuration_spaces;
 mod errors;
 mod geometry;
@@ -12,14 +11,8 @@ mod limits;
 mod lists;
 mod memory_streams;
 mod number_words;
-mod path_laws;
 mod records;
-mod report_laws;
-mod run_laws;
-mod scene_laws;
 mod scenes;
-mod seen_laws;
-mod settled_laws;
 mod sinks;
 mod small_scenes;
 mod sources;
@@ -28,9 +21,7 @@ mod strips;
 mod tasks;
 mod text_lines;
 mod text_terms;
-mod tree_laws;
 mod trees;
-mod way_laws;
 
 pub use configuration_spaces::ConfigurationSpace;
 pub use errors::{Failed, Memory};

@@ -1,7 +1,7 @@
 //! A scene, and the plan of its marks.
 
 ghost use Rattle.std.specs.Prelude.{◌≡◌, ◌≤◌, IsTrue};
-ghost use Rattle.plan_model.specs.Limits.{IsBetween, are_goals, are_obstacles, is_body, is_plan, may_be_informed, most_clearance, most_side, most_step};
+ghost use Rattle.plan_model.specs.Scenes.Limits.{IsBetween, are_goals, are_obstacles, is_body, is_plan, may_be_informed, most_clearance, most_side, most_step};
 ghost use Rattle.plan_model.specs.declared.limits.TheConstants.{LEAST_SIDE, LEAST_STEP, LEAST_STRIPS, MOST_GAMMA, MOST_SEED, MOST_STRIPS};
 
 use crate::geometry::{Goal, Point, Vertex};

@@ -2,7 +2,7 @@
 
 ghost use Rattle.std.specs.Prelude.{◌≡◌, ◌≤◌, ◌<◌, IsTrue, length, IfOk, OnOk, OnErr, Ok};
 ghost use Rattle.std.specs.Io.KnownBytes.{WriteAppends};
-ghost use Rattle.plan_model.specs.Streams.{SinkState, FaultsRose, counted};
+ghost use Rattle.plan_model.specs.Texts.Streams.{SinkState, FaultsRose, counted};
 
 use crate::errors::Failed;
 

@@ -1,11 +1,11 @@
 //! Small scenes for tests and examples, of this crate and of those above it.
 
 ghost use Rattle.std.specs.Prelude.{◌≡◌, ◌≤◌, [], ◌∷◌, IfOk, IsTrue};
-ghost use Rattle.plan_model.specs.Clearance.{ClearAt};
-ghost use Rattle.plan_model.specs.ConfigurationSpace.{space_among, space_of};
-ghost use Rattle.plan_model.specs.EmptyRooms.{IsInRoom, empty_room};
-ghost use Rattle.plan_model.specs.Limits.{IsBetween, are_obstacles, is_body, is_goal, is_plan};
-ghost use Rattle.plan_model.specs.Textbook.{setup_of};
+ghost use Rattle.plan_model.specs.Spaces.Clearance.{ClearAt};
+ghost use Rattle.plan_model.specs.Spaces.ConfigurationSpace.{space_among, space_of};
+ghost use Rattle.plan_model.specs.Spaces.EmptyRooms.{IsInRoom, empty_room};
+ghost use Rattle.plan_model.specs.Scenes.Limits.{IsBetween, are_obstacles, is_body, is_goal, is_plan};
+ghost use Rattle.plan_model.specs.Runs.Textbook.{setup_of};
 ghost use Rattle.plan_model.specs.declared.scenes.Marks.TheVariants.{Listed};
 ghost use Rattle.plan_model.specs.declared.limits.TheConstants.{LEAST_SIDE, LEAST_STEP, LEAST_STRIPS, MOST_GAMMA, MOST_SEED};
 ghost use Rattle.plan_model.specs.declared.limits.TheConstants.{MOST_SIDE, MOST_STEP, MOST_STRIPS};

@@ -2,7 +2,7 @@
 
 ghost use Rattle.std.specs.Prelude.{◌≡◌, ◌≤◌, IsTrue, length, IfOk, OnOk, OnErr, Ok};
 ghost use Rattle.std.specs.Io.KnownBytes.{Keeps, ReadConsumes};
-ghost use Rattle.plan_model.specs.Streams.{SourceState, FaultsRose, counted, ended_after};
+ghost use Rattle.plan_model.specs.Texts.Streams.{SourceState, FaultsRose, counted, ended_after};
 
 use crate::errors::Failed;
 

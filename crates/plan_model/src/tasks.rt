@@ -2,7 +2,7 @@
 
 ghost use Rattle.std.specs.Prelude.{◌≡◌};
 ghost use Rattle.std.proofs.Props.{props};
-ghost use Rattle.plan_model.specs.MarkPoints.{mark_points};
+ghost use Rattle.plan_model.specs.Scenes.MarkPoints.{mark_points};
 
 use crate::scenes::{Points, Scene};
 

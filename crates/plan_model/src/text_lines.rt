@@ -2,7 +2,7 @@
 
 ghost use Rattle.std.specs.Prelude.{◌≡◌, ◌==◌, ◌<◌, ◌≤◌, [], ◌∷◌, length, IfNone, IfSome};
 ghost use Rattle.std.specs.List.{position_or_len, prefix_len};
-ghost use Rattle.plan_model.specs.TextLines.{lines_of, words_of};
+ghost use Rattle.plan_model.specs.Texts.TextLines.{lines_of, words_of};
 
 /// The byte that ends a line.
 const LINE_FEED: u8 = b'\n';

@@ -1,8 +1,8 @@
 -- The run in which node 2 keeps its parent, since the way through node 3 costs the same.
 use Rattle.std.proofs.Common.{◌≡◌, [], ◌∷◌, refl, arith, inr}
-use Rattle.plan_model.specs.EmptyRooms.{empty_room}
-use Rattle.plan_model.specs.Trees.{sum_of}
-use Rattle.plan_model.specs.Textbook.{cost_through, Rewires, IsTextbookRun}
+use Rattle.plan_model.specs.Spaces.EmptyRooms.{empty_room}
+use Rattle.plan_model.specs.Trees.NodeLists.{sum_of}
+use Rattle.plan_model.specs.Runs.Textbook.{cost_through, Rewires, IsTextbookRun}
 use Rattle.plan_model.specs.Vectors.Shapes.{at}
 use Rattle.plan_model.specs.Vectors.Runs.{open_setup, marks_to_keep, kept_tree, kept_records}
 use Rattle.plan_model.proofs.OpenRoomMarks.{cost_2500, two_nodes}

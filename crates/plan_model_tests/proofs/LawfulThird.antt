@@ -2,17 +2,17 @@
 use Rattle.std.proofs.Common.{◌≡◌, ℕ, zero, suc, ◌+◌, ◌≤◌, false, arith, refl, sym, subst}
 use Rattle.plan_model.specs.declared.geometry.Point.{Point}
 use Rattle.plan_model.specs.declared.records.Record.{Record}
-use Rattle.plan_model.specs.Clearance.{Clear}
-use Rattle.plan_model.specs.Cost.{cost_of}
-use Rattle.plan_model.specs.EmptyRooms.{empty_room}
-use Rattle.plan_model.specs.Geometry.{squared_distance}
-use Rattle.plan_model.specs.LeastPairs.{IsNotAbove}
-use Rattle.plan_model.specs.Nearness.{distance_to, is_within}
-use Rattle.plan_model.specs.OrderLaw.{IsAllowedEdge}
-use Rattle.plan_model.specs.PointsByNumber.{IsPresent, point_at, point_of}
-use Rattle.plan_model.specs.RecordLaw.{HangsLawfully, HasClass, IsEarlier, IsLawfulRecord, IsNeighbour, IsPlacedLawfully, first_cost_through}
-use Rattle.plan_model.specs.Roots.{root_ceiling}
-use Rattle.plan_model.specs.TreeStates.{TreeState}
+use Rattle.plan_model.specs.Spaces.Clearance.{Clear}
+use Rattle.plan_model.specs.Geometry.Cost.{cost_of}
+use Rattle.plan_model.specs.Spaces.EmptyRooms.{empty_room}
+use Rattle.plan_model.specs.Geometry.Plane.{squared_distance}
+use Rattle.plan_model.specs.Trees.LeastPairs.{IsNotAbove}
+use Rattle.plan_model.specs.Trees.Nearness.{distance_to, is_within}
+use Rattle.plan_model.specs.Runs.OrderLaw.{IsAllowedEdge}
+use Rattle.plan_model.specs.Trees.PointsByNumber.{IsPresent, point_at, point_of}
+use Rattle.plan_model.specs.Runs.RecordLaw.{HangsLawfully, HasClass, IsEarlier, IsLawfulRecord, IsNeighbour, IsPlacedLawfully, first_cost_through}
+use Rattle.plan_model.specs.Geometry.Roots.{root_ceiling}
+use Rattle.plan_model.specs.Trees.TreeStates.{TreeState}
 use Rattle.plan_model.specs.Vectors.Shapes.{at}
 use Rattle.plan_model.proofs.EmptyRoomClearance.{AreInRoom-from_clear, Clear-empty_room}
 use Rattle.plan_model.proofs.LeastPairLaws.{IsNotAbove-lesser, IsNotAbove-refl}

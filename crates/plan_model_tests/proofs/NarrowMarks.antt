@@ -6,15 +6,15 @@ use Rattle.std.specs.List.{range_with_len}
 use Rattle.std.proofs.lemmas.Bool.{le-leb}
 use Rattle.std.proofs.lemmas.List.Elements.{All-contains}
 use Rattle.plan_model.specs.declared.geometry.Point.{Point}
-use Rattle.plan_model.specs.EmptyRooms.{empty_room, IsInRoom}
-use Rattle.plan_model.specs.Geometry.{squared_distance}
-use Rattle.plan_model.specs.Steering.{steered}
-use Rattle.plan_model.specs.Radius.{class_of}
-use Rattle.plan_model.specs.PointsByNumber.{point_at, point_of, IsFree, IsPresent, node_count}
-use Rattle.plan_model.specs.LeastPairs.{IsNotAbove, first_least}
-use Rattle.plan_model.specs.Nearness.{distance_to, is_within, near, IsNearest}
-use Rattle.plan_model.specs.Trees.{points_of}
-use Rattle.plan_model.specs.Textbook.{Nodes, near_new, cost_through, Rewires, EndsPlaced, placed_record}
+use Rattle.plan_model.specs.Spaces.EmptyRooms.{empty_room, IsInRoom}
+use Rattle.plan_model.specs.Geometry.Plane.{squared_distance}
+use Rattle.plan_model.specs.Geometry.Steering.{steered}
+use Rattle.plan_model.specs.Geometry.Radius.{class_of}
+use Rattle.plan_model.specs.Trees.PointsByNumber.{point_at, point_of, IsFree, IsPresent, node_count}
+use Rattle.plan_model.specs.Trees.LeastPairs.{IsNotAbove, first_least}
+use Rattle.plan_model.specs.Trees.Nearness.{distance_to, is_within, near, IsNearest}
+use Rattle.plan_model.specs.Trees.NodeLists.{points_of}
+use Rattle.plan_model.specs.Runs.Textbook.{Nodes, near_new, cost_through, Rewires, EndsPlaced, placed_record}
 use Rattle.plan_model.specs.Vectors.Shapes.{at}
 use Rattle.plan_model.specs.Vectors.Runs.{node}
 use Rattle.plan_model.proofs.DistinctPoints.{IsPresent-below}

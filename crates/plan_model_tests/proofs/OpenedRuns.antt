@@ -3,15 +3,15 @@ use Rattle.std.proofs.Common.{◌≡◌, ℕ, zero, suc, ◌<◌, ◌≤◌, Som
 use Rattle.std.specs.Prelude.{◌↔◌, IsSome, unwrap_or}
 use Rattle.plan_model.specs.declared.records.Outcome.TheVariants.{Placed}
 use Rattle.plan_model.specs.declared.records.Record.{Record}
-use Rattle.plan_model.specs.ClosedLaw.{IsClosed, mark_at}
-use Rattle.plan_model.specs.EmptyRooms.{empty_room}
-use Rattle.plan_model.specs.LeastPairs.{IsNotAbove}
-use Rattle.plan_model.specs.Nearness.{distance_to}
-use Rattle.plan_model.specs.OrderLaw.{HangsBelow, KeepsOrder, most_cost_of}
-use Rattle.plan_model.specs.PointsByNumber.{IsPresent, node_count}
-use Rattle.plan_model.specs.RecordLaw.{IsEarlier, IsLawfulRecord}
-use Rattle.plan_model.specs.Textbook.{same_record}
-use Rattle.plan_model.specs.Turns.{RunFromZero}
+use Rattle.plan_model.specs.Runs.ClosedLaw.{IsClosed, mark_at}
+use Rattle.plan_model.specs.Spaces.EmptyRooms.{empty_room}
+use Rattle.plan_model.specs.Trees.LeastPairs.{IsNotAbove}
+use Rattle.plan_model.specs.Trees.Nearness.{distance_to}
+use Rattle.plan_model.specs.Runs.OrderLaw.{HangsBelow, KeepsOrder, most_cost_of}
+use Rattle.plan_model.specs.Trees.PointsByNumber.{IsPresent, node_count}
+use Rattle.plan_model.specs.Runs.RecordLaw.{IsEarlier, IsLawfulRecord}
+use Rattle.plan_model.specs.Runs.Textbook.{same_record}
+use Rattle.plan_model.specs.Runs.Turns.{RunFromZero}
 use Rattle.plan_model.specs.Vectors.Overlaps.{placed_by}
 use Rattle.plan_model.specs.Vectors.Overlaps.{early_record, overlapped}
 use Rattle.plan_model.specs.Vectors.Runs.{open_setup, marks_to_rewire}

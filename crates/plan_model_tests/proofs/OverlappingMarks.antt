@@ -4,16 +4,16 @@ use Rattle.std.specs.Prelude.{◌↔◌, IsSome, ◌/◌, unwrap_or}
 use Rattle.plan_model.specs.declared.geometry.Point.{Point}
 use Rattle.plan_model.specs.declared.records.Outcome.TheVariants.{Placed}
 use Rattle.plan_model.specs.declared.records.Record.{Record}
-use Rattle.plan_model.specs.ClosedLaw.{IsClosed, mark_at}
-use Rattle.plan_model.specs.Cost.{cost_of}
-use Rattle.plan_model.specs.Geometry.{squared_distance}
-use Rattle.plan_model.specs.LeastPairs.{IsNotAbove}
-use Rattle.plan_model.specs.Nearness.{distance_to}
-use Rattle.plan_model.specs.OrderLaw.{HangsBelow, IsAllowedEdge, most_cost_of}
-use Rattle.plan_model.specs.PointsByNumber.{StandsAt, IsPresent, point_of, node_count}
-use Rattle.plan_model.specs.RecordLaw.{IsEarlier, IsLawfulRecord, IsPlacedLawfully, first_cost_through}
-use Rattle.plan_model.specs.Roots.{root_ceiling}
-use Rattle.plan_model.specs.Steering.{advanced, steered}
+use Rattle.plan_model.specs.Runs.ClosedLaw.{IsClosed, mark_at}
+use Rattle.plan_model.specs.Geometry.Cost.{cost_of}
+use Rattle.plan_model.specs.Geometry.Plane.{squared_distance}
+use Rattle.plan_model.specs.Trees.LeastPairs.{IsNotAbove}
+use Rattle.plan_model.specs.Trees.Nearness.{distance_to}
+use Rattle.plan_model.specs.Runs.OrderLaw.{HangsBelow, IsAllowedEdge, most_cost_of}
+use Rattle.plan_model.specs.Trees.PointsByNumber.{StandsAt, IsPresent, point_of, node_count}
+use Rattle.plan_model.specs.Runs.RecordLaw.{IsEarlier, IsLawfulRecord, IsPlacedLawfully, first_cost_through}
+use Rattle.plan_model.specs.Geometry.Roots.{root_ceiling}
+use Rattle.plan_model.specs.Geometry.Steering.{advanced, steered}
 use Rattle.plan_model.specs.Vectors.Overlaps.{early_record, overlapped, placed_by}
 use Rattle.plan_model.specs.Vectors.Runs.{open_setup, marks_to_rewire}
 use Rattle.plan_model.specs.Vectors.Shapes.{at}
@@ -22,7 +22,7 @@ use Rattle.plan_model.proofs.LeastPairLaws.{IsNotAbove-lesser, IsNotAbove-refl}
 use Rattle.plan_model.proofs.OpenRoomMarks.{cost_2500}
 use Rattle.plan_model.proofs.RootLaws.{root_ceiling-from_squares}
 use Rattle.plan_model.proofs.SegmentLaws.{Clear-first}
-use Rattle.plan_model.specs.Turns.{RunFromZero}
+use Rattle.plan_model.specs.Runs.Turns.{RunFromZero}
 use Rattle.plan_model.proofs.PlacedNodes.{ArePlacedMarks-from}
 use Rattle.plan_model.proofs.TurnsFromZero.{AreTurns-counted}
 

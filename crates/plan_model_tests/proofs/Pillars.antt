@@ -3,8 +3,8 @@ use Rattle.std.proofs.Common.{◌≡◌, ℕ, ◌+◌, ◌*◌, ◌<◌, [], ◌
 use Rattle.std.specs.Prelude.{pos, ◌-ℤ◌, ◌*ℤ◌, sum}
 use Rattle.std.proofs.lemmas.Int.{ints}
 use Rattle.std.proofs.lemmas.Nat.{mul-le}
-use Rattle.plan_model.specs.RoomOfConfigurations.{Rational}
-use Rattle.plan_model.specs.Meeting.{weighted, IsWithin, Meets}
+use Rattle.plan_model.specs.Spaces.RoomOfConfigurations.{Rational}
+use Rattle.plan_model.specs.Spaces.Meeting.{weighted, IsWithin, Meets}
 use Rattle.plan_model.specs.Vectors.Meetings.{point_body, pillar}
 use Rattle.plan_model_tests.proofs.ShortLists.{one, four}
 

@@ -2,11 +2,11 @@
 use Rattle.std.proofs.Common.{◌≡◌, ℕ, [], ◌∷◌, refl, arith, inl, inr}
 use Rattle.std.specs.Prelude.{All}
 use Rattle.std.proofs.lemmas.List.Elements.{All-cons, All-nil}
-use Rattle.plan_model.specs.EmptyRooms.{empty_room}
-use Rattle.plan_model.specs.LeastPairs.{IsNotAbove}
-use Rattle.plan_model.specs.Roots.{root_ceiling}
-use Rattle.plan_model.specs.Textbook.{Nodes, cost_through, IsCheaperThrough, Rewires, EndsPlaced, placed_record, IsTextbookRun}
-use Rattle.plan_model.specs.Trees.{sum_of}
+use Rattle.plan_model.specs.Spaces.EmptyRooms.{empty_room}
+use Rattle.plan_model.specs.Trees.LeastPairs.{IsNotAbove}
+use Rattle.plan_model.specs.Geometry.Roots.{root_ceiling}
+use Rattle.plan_model.specs.Runs.Textbook.{Nodes, cost_through, IsCheaperThrough, Rewires, EndsPlaced, placed_record, IsTextbookRun}
+use Rattle.plan_model.specs.Trees.NodeLists.{sum_of}
 use Rattle.plan_model.specs.Vectors.Runs.{node}
 use Rattle.plan_model.specs.Vectors.Shapes.{at}
 use Rattle.plan_model.proofs.EmptyRoomClearance.{Clear-empty_room}

@@ -2,11 +2,11 @@
 use Rattle.std.proofs.Common.{◌≡◌, ℕ, zero, suc, ◌<◌, ◌≤◌, Bool, true, false, Some, arith, refl, sym, ap, ◌∙◌, subst, inl, inr}
 use Rattle.std.specs.Prelude.{◌≢◌, ◌/◌, ◌%◌, ◌==◌, IsSome, unwrap_or}
 use Rattle.plan_model.specs.declared.geometry.Point.{Point}
-use Rattle.plan_model.specs.PointsByNumber.{point_at, StandsAt, IsPresent, IsFree}
-use Rattle.plan_model.specs.Ways.{goes_right, IsOnWay}
-use Rattle.plan_model.specs.Ways.IsOnWay.{begins, goes_on}
-use Rattle.plan_model.specs.SeenTrees.{IsSeen, HasSeenWay, KeepsOrLowers}
-use Rattle.plan_model.specs.Sights.{KeepsSight, KeepsOrFindsEmpty, IsLaterMoment, IsSwept}
+use Rattle.plan_model.specs.Trees.PointsByNumber.{point_at, StandsAt, IsPresent, IsFree}
+use Rattle.plan_model.specs.Seen.Ways.{goes_right, IsOnWay}
+use Rattle.plan_model.specs.Seen.Ways.IsOnWay.{begins, goes_on}
+use Rattle.plan_model.specs.Seen.SeenTrees.{IsSeen, HasSeenWay, KeepsOrLowers}
+use Rattle.plan_model.specs.Seen.Sights.{KeepsSight, KeepsOrFindsEmpty, IsLaterMoment, IsSwept}
 use Rattle.plan_model.specs.Vectors.Shapes.{at}
 use Rattle.plan_model.specs.Vectors.SeenTrees.{at_entry, at_return, four_children, found_at_return}
 use Rattle.plan_model.specs.Vectors.Ways.{three_points, three_children}

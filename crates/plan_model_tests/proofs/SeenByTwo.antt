@@ -3,9 +3,9 @@ use Rattle.std.proofs.Common.{◌≡◌, ℕ, zero, suc, Bool, true, false, Some
 use Rattle.std.specs.Prelude.{unwrap_or}
 use Rattle.std.specs.Option.{option_or}
 use Rattle.plan_model.specs.declared.geometry.Point.{Point}
-use Rattle.plan_model.specs.PointsByNumber.{point_at, StandsAt}
-use Rattle.plan_model.specs.SeenTrees.{KeepsOrLowers, HasSeenAtLeast, IsTrueOf, seen_whole}
-use Rattle.plan_model.specs.Sights.{IsLaterMoment, TakesOver, cheaper_of}
+use Rattle.plan_model.specs.Trees.PointsByNumber.{point_at, StandsAt}
+use Rattle.plan_model.specs.Seen.SeenTrees.{KeepsOrLowers, HasSeenAtLeast, IsTrueOf, seen_whole}
+use Rattle.plan_model.specs.Seen.Sights.{IsLaterMoment, TakesOver, cheaper_of}
 use Rattle.plan_model.specs.Vectors.SeenTrees.{at_entry, at_return, of_other, of_both, tree_now, tree_before}
 use Rattle.plan_model.specs.Vectors.SeenTrees.{four_children, five_children, others_children, five_points, others_points}
 use Rattle.plan_model.specs.Vectors.Ways.{three_children, three_points}

@@ -1,11 +1,11 @@
 -- The start and two nodes keep the order law, and so does a start alone; each other tree breaks the clause that its name says.
 use Rattle.std.proofs.Common.{◌≡◌, ℕ, zero, suc, ◌≤◌, Option, Some, List, [], ◌∷◌, arith, refl}
 use Rattle.plan_model.specs.declared.geometry.Point.{Point}
-use Rattle.plan_model.specs.EmptyRooms.{empty_room}
-use Rattle.plan_model.specs.Geometry.{squared_distance}
-use Rattle.plan_model.specs.OrderLaw.{HangsBelow, IsAllowedEdge, KeepsOrder, most_cost_of}
-use Rattle.plan_model.specs.PointsByNumber.{AreDistinct, IsPresent, node_count}
-use Rattle.plan_model.specs.Roots.{root_ceiling}
+use Rattle.plan_model.specs.Spaces.EmptyRooms.{empty_room}
+use Rattle.plan_model.specs.Geometry.Plane.{squared_distance}
+use Rattle.plan_model.specs.Runs.OrderLaw.{HangsBelow, IsAllowedEdge, KeepsOrder, most_cost_of}
+use Rattle.plan_model.specs.Trees.PointsByNumber.{AreDistinct, IsPresent, node_count}
+use Rattle.plan_model.specs.Geometry.Roots.{root_ceiling}
 use Rattle.plan_model.specs.Vectors.Shapes.{at}
 use Rattle.plan_model.proofs.DistinctPoints.{AreDistinct-placed}
 use Rattle.plan_model.proofs.EmptyRoomClearance.{AreInRoom-from_clear, Clear-empty_room, IsInRoom-from_clear_at}

@@ -3,14 +3,14 @@ use Rattle.std.proofs.Common.{◌≡◌, ℕ, zero, suc, ◌≤◌, ap, arith, r
 use Rattle.plan_model.specs.declared.geometry.Point.{Point}
 use Rattle.plan_model.specs.declared.records.Outcome.TheVariants.{Same, Blocked}
 use Rattle.plan_model.specs.declared.records.Record.{Record}
-use Rattle.plan_model.specs.EmptyRooms.{empty_room}
-use Rattle.plan_model.specs.LeastPairs.{IsNotAbove}
-use Rattle.plan_model.specs.Nearness.{distance_to}
-use Rattle.plan_model.specs.PointsByNumber.{StandsAt}
-use Rattle.plan_model.specs.RecordLaw.{IsBlockedLawfully, IsEarlier, IsLawfulRecord}
-use Rattle.plan_model.specs.Roots.{root_ceiling}
-use Rattle.plan_model.specs.Steering.{advanced, steered}
-use Rattle.plan_model.specs.Textbook.{unplaced_record}
+use Rattle.plan_model.specs.Spaces.EmptyRooms.{empty_room}
+use Rattle.plan_model.specs.Trees.LeastPairs.{IsNotAbove}
+use Rattle.plan_model.specs.Trees.Nearness.{distance_to}
+use Rattle.plan_model.specs.Trees.PointsByNumber.{StandsAt}
+use Rattle.plan_model.specs.Runs.RecordLaw.{IsBlockedLawfully, IsEarlier, IsLawfulRecord}
+use Rattle.plan_model.specs.Geometry.Roots.{root_ceiling}
+use Rattle.plan_model.specs.Geometry.Steering.{advanced, steered}
+use Rattle.plan_model.specs.Runs.Textbook.{unplaced_record}
 use Rattle.plan_model.specs.Vectors.Shapes.{at}
 use Rattle.plan_model.proofs.EmptyRoomClearance.{AreInRoom-from_clear, Clear-empty_room}
 use Rattle.plan_model.proofs.LeastPairLaws.{IsNotAbove-lesser, IsNotAbove-refl}

@@ -1,10 +1,10 @@
 -- Points, roots, costs and steps at the limit of a definition, and just beyond it.
 use Rattle.std.specs.Prelude.{}
-use Rattle.plan_model.specs.Bounds.{IsBounded}
-use Rattle.plan_model.specs.Cost.{IsCost}
-use Rattle.plan_model.specs.EmptyRooms.{IsInRoom}
-use Rattle.plan_model.specs.Roots.{IsRootCeiling}
-use Rattle.plan_model.specs.Steering.{IsStep}
+use Rattle.plan_model.specs.Geometry.Bounds.{IsBounded}
+use Rattle.plan_model.specs.Geometry.Cost.{IsCost}
+use Rattle.plan_model.specs.Spaces.EmptyRooms.{IsInRoom}
+use Rattle.plan_model.specs.Geometry.Roots.{IsRootCeiling}
+use Rattle.plan_model.specs.Geometry.Steering.{IsStep}
 use Rattle.plan_model.specs.Vectors.Shapes.{at}
 
 pub record BoundaryVectors : Type 0 where

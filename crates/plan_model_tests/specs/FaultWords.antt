@@ -1,7 +1,7 @@
 -- The words that name a fault, for each kind.
 use Rattle.std.specs.Prelude.{◌≡◌, [], ◌∷◌, codes, map}
 use Rattle.plan_model.specs.declared.text_terms.Kind.TheVariants as kinds
-use Rattle.plan_model.specs.KindNames.{fault_words}
+use Rattle.plan_model.specs.Texts.KindNames.{fault_words}
 
 pub record FaultWordVectors : Type 0 where
   pub of_each_kind :

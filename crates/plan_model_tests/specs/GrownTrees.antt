@@ -3,10 +3,10 @@ use Rattle.std.specs.Prelude.{◌≡◌, ℕ, Option, Some, None, List, [], ◌�
 use Rattle.plan_model.specs.declared.geometry.Point.{Point}
 use Rattle.plan_model.specs.declared.records.Record.{Record}
 use Rattle.plan_model.specs.declared.trees.Twig.{Twig}
-use Rattle.plan_model.specs.Branches.{IsBranchLowered}
-use Rattle.plan_model.specs.OrderLaw.{KeepsFirstCosts}
-use Rattle.plan_model.specs.Trees.{AreTight, CostsFall, without_costs}
-use Rattle.plan_model.specs.TreeStates.{AreSameRuns, ChangesCosts, GrowsInto, TreeState}
+use Rattle.plan_model.specs.Trees.Branches.{IsBranchLowered}
+use Rattle.plan_model.specs.Runs.OrderLaw.{KeepsFirstCosts}
+use Rattle.plan_model.specs.Trees.NodeLists.{AreTight, CostsFall, without_costs}
+use Rattle.plan_model.specs.Trees.TreeStates.{AreSameRuns, ChangesCosts, GrowsInto, TreeState}
 use Rattle.plan_model.specs.Vectors.Overlaps.{placed_by}
 use Rattle.plan_model.specs.Vectors.Shapes.{at}
 use Rattle.plan_model.specs.Vectors.Trees.{gapped}

@@ -3,9 +3,9 @@
 use Rattle.std.specs.Prelude.{ℕ, zero, suc, Bool, true, false, Option, Some, None, List, [], ◌∷◌, slice_get, slice_index_or}
 use Rattle.plan_model.specs.declared.geometry.Point.{Point}
 use Rattle.plan_model.specs.declared.records.Record.{Record}
-use Rattle.plan_model.specs.SeenParents.{AreSeenLawfully}
-use Rattle.plan_model.specs.SeenTrees.{FollowSeenWays, HasSeenAtLeast, IsRooted, SeenTree, TreeGrows}
-use Rattle.plan_model.specs.Sights.{AgreeOnParents, IsLaterMoment, KeepsSight, Sight}
+use Rattle.plan_model.specs.Seen.SeenParents.{AreSeenLawfully}
+use Rattle.plan_model.specs.Seen.SeenTrees.{FollowSeenWays, HasSeenAtLeast, IsRooted, SeenTree, TreeGrows}
+use Rattle.plan_model.specs.Seen.Sights.{AgreeOnParents, IsLaterMoment, KeepsSight, Sight}
 use Rattle.plan_model.specs.Vectors.Overlaps.{placed_by}
 use Rattle.plan_model.specs.Vectors.SeenTrees.{at_entry, at_return, found_at_entry, found_at_return, tree_before, tree_now, trees_at_entry}
 use Rattle.plan_model.specs.Vectors.Shapes.{at}

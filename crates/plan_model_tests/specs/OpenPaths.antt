@@ -4,11 +4,11 @@ use Rattle.plan_model.specs.declared.configuration_spaces.ConfigurationSpace.{Co
 use Rattle.plan_model.specs.declared.geometry.Point.{Point}
 use Rattle.plan_model.specs.declared.scenes.Marks.TheVariants.{Drawn, Listed}
 use Rattle.plan_model.specs.declared.scenes.Scene.{Scene}
-use Rattle.plan_model.specs.ClearPaths.{IsClearPath}
-use Rattle.plan_model.specs.EmptyRooms.{empty_room}
-use Rattle.plan_model.specs.OpenNodes.{IsOpenTo}
-use Rattle.plan_model.specs.SameRuns.{HaveSameInputs, IsOfTextbookRun}
-use Rattle.plan_model.specs.TreeStates.{state_of}
+use Rattle.plan_model.specs.Spaces.ClearPaths.{IsClearPath}
+use Rattle.plan_model.specs.Spaces.EmptyRooms.{empty_room}
+use Rattle.plan_model.specs.Trees.OpenNodes.{IsOpenTo}
+use Rattle.plan_model.specs.Runs.SameRuns.{HaveSameInputs, IsOfTextbookRun}
+use Rattle.plan_model.specs.Trees.TreeStates.{state_of}
 use Rattle.plan_model.specs.Vectors.Runs.{marks_to_rewire, open_setup, rewired_records, rewired_tree}
 use Rattle.plan_model.specs.Vectors.Shapes.{at}
 

@@ -4,10 +4,10 @@ use Rattle.std.specs.Prelude.{ℕ, Option, Some, List, [], ◌∷◌, slice_get,
 use Rattle.plan_model.specs.declared.geometry.Point.{Point}
 use Rattle.plan_model.specs.declared.records.Outcome.TheVariants.{Same, Blocked}
 use Rattle.plan_model.specs.declared.records.Record.{Record}
-use Rattle.plan_model.specs.EmptyRooms.{empty_room}
-use Rattle.plan_model.specs.RecordLaw.{IsLawfulRecord}
-use Rattle.plan_model.specs.Textbook.{Setup, unplaced_record}
-use Rattle.plan_model.specs.TreeStates.{TreeState}
+use Rattle.plan_model.specs.Spaces.EmptyRooms.{empty_room}
+use Rattle.plan_model.specs.Runs.RecordLaw.{IsLawfulRecord}
+use Rattle.plan_model.specs.Runs.Textbook.{Setup, unplaced_record}
+use Rattle.plan_model.specs.Trees.TreeStates.{TreeState}
 use Rattle.plan_model.specs.Vectors.Overlaps.{placed_by}
 use Rattle.plan_model.specs.Vectors.Shapes.{at}
 

@@ -2,10 +2,10 @@
 -- on costs.
 use Rattle.std.specs.Prelude.{◌≡◌, ℕ, Option, Some, None, List, [], ◌∷◌, map, slice_index_or}
 use Rattle.plan_model.specs.declared.geometry.Point.{Point}
-use Rattle.plan_model.specs.EmptyRooms.{empty_room}
-use Rattle.plan_model.specs.OrderLaw.{most_cost_of, KeepsOrder}
-use Rattle.plan_model.specs.Textbook.{Setup}
-use Rattle.plan_model.specs.TreeStates.{TreeState}
+use Rattle.plan_model.specs.Spaces.EmptyRooms.{empty_room}
+use Rattle.plan_model.specs.Runs.OrderLaw.{most_cost_of, KeepsOrder}
+use Rattle.plan_model.specs.Runs.Textbook.{Setup}
+use Rattle.plan_model.specs.Trees.TreeStates.{TreeState}
 use Rattle.plan_model.specs.Vectors.Shapes.{at}
 
 -- a point body in an empty room that is 100 wide and so high, with this start, and steps of 50

@@ -5,8 +5,8 @@ use Rattle.std.proofs.lemmas.Bool.{cases_eq, cases_lt}
 use mathlib.Core.Option.{some, some-injective, some-ne-none}
 use lib.ListN.{get_elem?}
 use Rattle.atomic_table.specs.Table.{Final, Seen, State}
-use Rattle.plan_model.specs.MarkPoints.{quota_of}
-use Rattle.plan_model.specs.TreeStates.{AreSameRuns}
+use Rattle.plan_model.specs.Scenes.MarkPoints.{quota_of}
+use Rattle.plan_model.specs.Trees.TreeStates.{AreSameRuns}
 use Rattle.plan_model.specs.declared.records.Record.{Record}
 use Rattle.plan_model.specs.declared.tasks.Task.{Task}
 use Rattle.plan_words.specs.Claims.{HasNoneLeft}

@@ -1,8 +1,8 @@
 -- What a pass may record fits the word of a record.
 use Rattle.std.proofs.Common.{ℕ, ◌*◌, ◌<◌, ◌≤◌, ◌^◌, ap, arith}
 use Rattle.std.specs.Prelude.{is_some}
-use Rattle.plan_model.specs.PointsByNumber.{IsPresent}
-use Rattle.plan_model.specs.Radius.{class_of}
+use Rattle.plan_model.specs.Trees.PointsByNumber.{IsPresent}
+use Rattle.plan_model.specs.Geometry.Radius.{class_of}
 use Rattle.plan_model.specs.declared.records.Outcome.{Outcome}
 use Rattle.plan_model.specs.declared.records.Outcome.TheVariants.{Blocked, Placed, Same}
 use Rattle.plan_model.specs.declared.records.Record.{Record}

@@ -2,7 +2,7 @@
 use Rattle.std.proofs.Common.{◌≡◌, ◌≢◌, ℕ, zero, suc, ◌<◌, ◌≤◌, ◌^◌, Bool, true, false, List, length, Option, Some, None, inr, refl, sym, ap, ◌∙◌, subst, arith}
 use Rattle.std.specs.Prelude.{◌==◌, cond, IfSome, IsSome, is_some}
 use Rattle.std.proofs.lemmas.Bool.{eqb-true, ne_eqb}
-use Rattle.plan_model.specs.Bounds.{IsBounded}
+use Rattle.plan_model.specs.Geometry.Bounds.{IsBounded}
 use Rattle.plan_words.specs.Nodes.{NamesChildOrPoint, IsLinkedAt, NamesNode}
 use Rattle.plan_words.specs.States.{PassState, with_view}
 use Rattle.step_core.specs.GrownWords.{child_of_word}

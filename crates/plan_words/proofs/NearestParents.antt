@@ -1,12 +1,12 @@
 -- A node in hand may hang below the node that it was steered from, if the segment between them is clear.
 use Rattle.std.proofs.Common.{◌≡◌, ℕ, ◌+◌, ◌≤◌, ◌^◌, true, Some, refl, sym, ap, subst, arith}
 use Rattle.std.specs.Prelude.{IfSome}
-use Rattle.plan_model.specs.Bounds.{IsBounded}
-use Rattle.plan_model.specs.Clearance.{Clear}
-use Rattle.plan_model.specs.ClosedLaw.{mark_at}
-use Rattle.plan_model.specs.ConfigurationSpace.{space_of}
-use Rattle.plan_model.specs.Cost.{cost_of}
-use Rattle.plan_model.specs.Geometry.{squared_distance}
+use Rattle.plan_model.specs.Geometry.Bounds.{IsBounded}
+use Rattle.plan_model.specs.Spaces.Clearance.{Clear}
+use Rattle.plan_model.specs.Runs.ClosedLaw.{mark_at}
+use Rattle.plan_model.specs.Spaces.ConfigurationSpace.{space_of}
+use Rattle.plan_model.specs.Geometry.Cost.{cost_of}
+use Rattle.plan_model.specs.Geometry.Plane.{squared_distance}
 use Rattle.plan_model.specs.declared.geometry.Point.{Point}
 use Rattle.plan_model.proofs.NewNodes.{StandsAt-unique}
 use Rattle.plan_model.proofs.SteeringLaws.{IsStep-steered}

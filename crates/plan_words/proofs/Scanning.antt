@@ -5,7 +5,7 @@ use Rattle.std.specs.Prelude.{◌==◌, nat_lt, cond, MatchOption}
 use Rattle.std.specs.List.{range_with_len, sum_by}
 use Rattle.std.proofs.lemmas.Bool.{cases_Bool, cases_eq, cases_lt, le-ltb, lt-ltb, ltb-true}
 use Rattle.std.proofs.lemmas.List.Sums.{sum_by_push}
-use Rattle.plan_model.specs.MarkPoints.{quota_of}
+use Rattle.plan_model.specs.Scenes.MarkPoints.{quota_of}
 use Rattle.plan_model.proofs.CountsBelow.{range-more}
 use Rattle.plan_model.proofs.QuotaLaws.{IsCutAt-quota}
 use Rattle.plan_words.specs.Claims.{AllFull, GoesBefore, IsOpen, better_of, better_open, goes_first, is_own, mark_in, owns}

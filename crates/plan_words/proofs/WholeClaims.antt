@@ -5,7 +5,7 @@ use lib.ListN.{get_elem?}
 use mathlib.Core.Option.{some}
 use Rattle.std.proofs.lemmas.Bool.{cases_eq, cases_lt, eq-eqb, le-ltb, lt-ltb}
 use Rattle.std.proofs.lemmas.Nat.{div-add-mod', div-mul-add, mod-mul-add, mod_below, mul-le}
-use Rattle.plan_model.specs.MarkPoints.{is_claimed}
+use Rattle.plan_model.specs.Scenes.MarkPoints.{is_claimed}
 use Rattle.plan_words.specs.Claims.{GoesBefore, IsLeastOpen, IsOpen, KeepsHand, OwnsAllStrips, RaisesCounter, SeesAsBefore, is_own, next_mark}
 use Rattle.plan_words.specs.States.{BelongsTo, HasWholeShare, PassState, SharedState, worker_of}
 use Rattle.step_core.specs.LaterViews.{IsLawfulView}

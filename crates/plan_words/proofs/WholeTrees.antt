@@ -5,8 +5,8 @@ use Rattle.std.specs.List.{list_any, range_with_len}
 use mathlib.Core.Option.{some}
 use lib.ListN.{get_elem?}
 use Rattle.std.proofs.lemmas.Bool.{cases_Bool}
-use Rattle.plan_model.specs.PointsByNumber.{IsPresent, point_at}
-use Rattle.plan_model.specs.TreeStates.{AreSameRuns}
+use Rattle.plan_model.specs.Trees.PointsByNumber.{IsPresent, point_at}
+use Rattle.plan_model.specs.Trees.TreeStates.{AreSameRuns}
 use Rattle.step_core.specs.GrownWords.{is_linked}
 use Rattle.step_core.specs.SharedWords.{linked_point, linked_points, state_of_links}
 use Rattle.step_core.specs.Views.{run_sizes, sees, share}

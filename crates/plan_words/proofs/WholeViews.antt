@@ -2,7 +2,7 @@
 use Rattle.std.proofs.Common.{◌≡◌, ◌≢◌, ℕ, ◌<◌, List, Some, refl, sym, ap, ◌∙◌, subst}
 use mathlib.Core.Option.{some}
 use lib.ListN.{get_elem?}
-use Rattle.plan_model.specs.PointsByNumber.{node_count}
+use Rattle.plan_model.specs.Trees.PointsByNumber.{node_count}
 use Rattle.plan_words.specs.States.{HasWholeShare}
 use Rattle.step_core.specs.ViewTrees.{MayLoad}
 use Rattle.step_core.specs.Views.{sees, share, tree_seen}

@@ -5,7 +5,7 @@ use Rattle.std.proofs.lemmas.Bool.{cases_lt, lt-ltb}
 use Rattle.std.proofs.lemmas.List.FromFn.{get_or-map-range_with_len}
 use mathlib.Core.Option.{some}
 use lib.ListN.{get_elem?}
-use Rattle.plan_model.specs.PointsByNumber.{IsPresent, point_at}
+use Rattle.plan_model.specs.Trees.PointsByNumber.{IsPresent, point_at}
 use Rattle.step_core.specs.GrownWords.{is_linked}
 use Rattle.step_core.specs.SharedWords.{linked_point, linked_points}
 use Rattle.step_core.specs.ViewTrees.{SeesNode}

@@ -1,6 +1,6 @@
 -- Which mark a claim takes, by the counters that the pass has seen.
 use Rattle.std.specs.Prelude.{◌≡◌, ◌≢◌, ℕ, ◌+◌, ◌*◌, ◌%◌, ◌<◌, ◌≤◌, ◌⊎◌, ◌==◌, nat_lt, max, Bool, true, false, Option, Some, None, if◌then◌else◌}
-use Rattle.plan_model.specs.MarkPoints.{is_claimed, quota_of, strip_of_mark}
+use Rattle.plan_model.specs.Scenes.MarkPoints.{is_claimed, quota_of, strip_of_mark}
 use Rattle.plan_words.specs.States.{worker_of}
 use Rattle.plan_words.specs.declared.claims.Choice.{Choice}
 use Rattle.plan_words.specs.declared.claims.Next.{Next}

@@ -1,7 +1,7 @@
 -- What a pass is told of parents and costs.
 use Rattle.std.specs.Prelude.{◌≡◌, ℕ, ◌<◌, ◌≤◌, ◌^◌}
 use Rattle.plan_model.specs.declared.geometry.Point.{Point}
-use Rattle.plan_model.specs.OrderLaw.{IsAllowedEdge}
+use Rattle.plan_model.specs.Runs.OrderLaw.{IsAllowedEdge}
 use Rattle.step_core.specs.ViewTrees.{SeesPoint}
 use Rattle.step_core.specs.Views.{setup_in}
 use Rattle.step_core.specs.Words.{cost_in, parent_in}

@@ -2,7 +2,7 @@
 use Rattle.std.specs.Prelude.{◌≡◌, ◌≢◌, ℕ, ◌≤◌, ◌==◌, ◌^◌, Some, if◌then◌else◌}
 use mathlib.Core.Option.{Option, some, none}
 use Rattle.atomic_table.specs.Table.{Me, Step}
-use Rattle.plan_model.specs.PointsByNumber.{node_count}
+use Rattle.plan_model.specs.Trees.PointsByNumber.{node_count}
 use Rattle.plan_model.specs.declared.geometry.Point.{Point}
 use Rattle.plan_model.specs.declared.records.Record.{Record}
 use Rattle.plan_words.specs.declared.openings.Aim.{Aim}

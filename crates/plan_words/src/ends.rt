@@ -2,7 +2,7 @@
 
 ghost use Rattle.std.specs.Prelude.{◌≡◌, ◌≢◌, ℕ, ◌<◌, ◌≤◌, None, Some, length};
 ghost use Rattle.std.specs.Mem.Slots.{IsFull, slots_items, slots_len};
-ghost use Rattle.plan_model.specs.TreeStates.{AreSameRuns};
+ghost use Rattle.plan_model.specs.Trees.TreeStates.{AreSameRuns};
 ghost use Rattle.plan_model.specs.declared.records.Record.{Record};
 ghost use Rattle.plan_words.specs.Claims.{HasNoneLeft};
 ghost use Rattle.plan_words.specs.States.{BelongsTo};

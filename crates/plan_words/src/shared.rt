@@ -1,7 +1,7 @@
 //! The shared words, and the steps that look at a number, record a mark, split a pass and join two.
 
 ghost use Rattle.std.specs.Prelude.{◌≡◌, ◌≢◌, ℕ, ◌+◌, ◌<◌, ◌≤◌, length, slice_index, IfOk, None, OnErr, OnOk, IsSome, IfSome, Some};
-ghost use Rattle.plan_model.specs.PointsByNumber.{node_count};
+ghost use Rattle.plan_model.specs.Trees.PointsByNumber.{node_count};
 ghost use Rattle.plan_model.specs.declared.limits.TheConstants.{MOST_MARKS};
 ghost use Rattle.plan_model.specs.declared.records.Record.{Record};
 ghost use Rattle.plan_words.specs.Chains.{HasParentsBelow};

@@ -3,7 +3,7 @@
 ghost use Rattle.std.specs.Prelude.{◌≡◌, ℕ, ◌+◌, ◌≤◌, ◌<◌, None, Some, [], ◌∷◌, All, length, IfOk, OnOk, slice_index};
 ghost use lib.ListN.{get_elem?};
 ghost use mathlib.Core.Option.{some};
-ghost use Rattle.plan_model.specs.Turns.{turns_of};
+ghost use Rattle.plan_model.specs.Runs.Turns.{turns_of};
 ghost use Rattle.plan_model.specs.declared.limits.TheConstants.{MOST_WORKERS};
 ghost use Rattle.plan_words.specs.Chains.{HasParentsWithin};
 ghost use Rattle.plan_words.specs.Dealt.{IsPassOf, StandsFor, each_after};

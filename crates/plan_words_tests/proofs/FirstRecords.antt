@@ -3,16 +3,16 @@ use Rattle.std.proofs.Common.{◌≡◌, ◌≢◌, ℕ, zero, suc, ◌+◌, ◌
 use Rattle.std.specs.Prelude.{◌==◌, ◌&&◌, IfErr, IfOk, IfSome, IsTrue, Result, Ok, Err, nat_lt}
 use Rattle.std.proofs.lemmas.Bool.{and_parts, cases_Bool, cases_lt, le-ltb}
 use Rattle.std.proofs.lemmas.List.Sums.{length-filter}
-use Rattle.plan_model.specs.Clearance.{Clear}
-use Rattle.plan_model.specs.ClosedLaw.{mark_at}
-use Rattle.plan_model.specs.ConfigurationSpace.{space_of}
-use Rattle.plan_model.specs.Cost.{cost_of}
-use Rattle.plan_model.specs.LeastPairs.{IsNotAbove}
-use Rattle.plan_model.specs.Nearness.{distance_to}
-use Rattle.plan_model.specs.Outcomes.{is_placed}
-use Rattle.plan_model.specs.PointsByNumber.{IsPresent, point_of}
-use Rattle.plan_model.specs.Radius.{class_of}
-use Rattle.plan_model.specs.RecordLaw.{is_earlier_record}
+use Rattle.plan_model.specs.Spaces.Clearance.{Clear}
+use Rattle.plan_model.specs.Runs.ClosedLaw.{mark_at}
+use Rattle.plan_model.specs.Spaces.ConfigurationSpace.{space_of}
+use Rattle.plan_model.specs.Geometry.Cost.{cost_of}
+use Rattle.plan_model.specs.Trees.LeastPairs.{IsNotAbove}
+use Rattle.plan_model.specs.Trees.Nearness.{distance_to}
+use Rattle.plan_model.specs.Runs.Outcomes.{is_placed}
+use Rattle.plan_model.specs.Trees.PointsByNumber.{IsPresent, point_of}
+use Rattle.plan_model.specs.Geometry.Radius.{class_of}
+use Rattle.plan_model.specs.Runs.RecordLaw.{is_earlier_record}
 use Rattle.plan_model.specs.declared.geometry.Point.{Point}
 use Rattle.plan_model.specs.declared.records.Outcome.TheVariants.{Placed}
 use Rattle.plan_model.specs.declared.records.Record.{Record}

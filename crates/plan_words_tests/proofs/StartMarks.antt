@@ -2,11 +2,11 @@
 use Rattle.std.proofs.Common.{◌≡◌, ℕ, ◌*◌, Some, sym, ap, ◌∙◌, subst, arith}
 use Rattle.std.specs.Int.{abs_diff}
 use Rattle.std.specs.Prelude.{IfSome}
-use Rattle.plan_model.specs.ClosedLaw.{mark_at}
-use Rattle.plan_model.specs.Geometry.{squared_distance}
-use Rattle.plan_model.specs.Nearness.{distance_to}
-use Rattle.plan_model.specs.PointsByNumber.{IsPresent, point_of}
-use Rattle.plan_model.specs.Steering.{steered}
+use Rattle.plan_model.specs.Runs.ClosedLaw.{mark_at}
+use Rattle.plan_model.specs.Geometry.Plane.{squared_distance}
+use Rattle.plan_model.specs.Trees.Nearness.{distance_to}
+use Rattle.plan_model.specs.Trees.PointsByNumber.{IsPresent, point_of}
+use Rattle.plan_model.specs.Geometry.Steering.{steered}
 use Rattle.plan_model.specs.declared.geometry.Point.{Point}
 use Rattle.plan_model.specs.declared.records.Outcome.TheVariants.{Same}
 use Rattle.plan_model.specs.declared.records.Record.{Record}

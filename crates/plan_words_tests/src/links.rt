@@ -1,8 +1,8 @@
 //! Two passes whose points lead to one place of the kd-tree.
 
 ghost use Rattle.std.specs.Prelude.{◌≡◌, All, IfErr, IfOk, IfSome, Some, length, true};
-ghost use Rattle.plan_model.specs.Clearance.{ClearAt};
-ghost use Rattle.plan_model.specs.ConfigurationSpace.{space_of};
+ghost use Rattle.plan_model.specs.Spaces.Clearance.{ClearAt};
+ghost use Rattle.plan_model.specs.Spaces.ConfigurationSpace.{space_of};
 ghost use Rattle.plan_words.specs.States.{MayClaim};
 ghost use Rattle.plan_words_tests.specs.HeldMarks.{HangsFromStart, HoldsMark};
 ghost use Rattle.step_core.specs.ViewTrees.{SeesPoint};

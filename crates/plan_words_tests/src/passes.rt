@@ -1,10 +1,10 @@
 //! Three passes over marks in three strips, and what the tests do with a pass.
 
 ghost use Rattle.std.specs.Prelude.{◌≡◌, ◌≤◌, All, IfOk, IfSome, IsTrue, length};
-ghost use Rattle.plan_model.specs.Clearance.{ClearAt};
-ghost use Rattle.plan_model.specs.ClosedLaw.{mark_at};
-ghost use Rattle.plan_model.specs.ConfigurationSpace.{space_of};
-ghost use Rattle.plan_model.specs.Limits.{is_plan};
+ghost use Rattle.plan_model.specs.Spaces.Clearance.{ClearAt};
+ghost use Rattle.plan_model.specs.Runs.ClosedLaw.{mark_at};
+ghost use Rattle.plan_model.specs.Spaces.ConfigurationSpace.{space_of};
+ghost use Rattle.plan_model.specs.Scenes.Limits.{is_plan};
 ghost use Rattle.plan_model.specs.declared.limits.TheConstants.{MOST_MARKS};
 ghost use Rattle.plan_model.specs.declared.scenes.Marks.TheVariants.{Listed};
 ghost use Rattle.plan_words.specs.States.{MayClaim};

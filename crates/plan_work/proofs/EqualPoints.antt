@@ -4,10 +4,10 @@ use Rattle.std.specs.Prelude.{filter}
 use Rattle.std.specs.List.{range_with_len}
 use Rattle.std.proofs.lemmas.List.{append-nil, get_or_past}
 use Rattle.std.proofs.lemmas.List.Elements.{filter-append, filter_agree}
-use Rattle.plan_model.specs.Nearness.{is_within, near}
-use Rattle.plan_model.specs.PointsByNumber.{node_count, point_at}
-use Rattle.plan_model.specs.Radius.{radius_of}
-use Rattle.plan_model.specs.Textbook.{Setup, near_new}
+use Rattle.plan_model.specs.Trees.Nearness.{is_within, near}
+use Rattle.plan_model.specs.Trees.PointsByNumber.{node_count, point_at}
+use Rattle.plan_model.specs.Geometry.Radius.{radius_of}
+use Rattle.plan_model.specs.Runs.Textbook.{Setup, near_new}
 use Rattle.plan_model.specs.declared.geometry.Point.{Point}
 use Rattle.plan_model.proofs.CountsBelow.{range-more}
 use Rattle.plan_model.proofs.NodeCounts.{node_count-same}

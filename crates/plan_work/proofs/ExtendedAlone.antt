@@ -3,11 +3,11 @@ use Rattle.std.proofs.Common.{◌≡◌, ℕ, suc, Some, None, [], ◌∷◌, �
 use Rattle.kd_shared.specs.Placings.{SeesPlacing}
 use Rattle.kd_shared.specs.declared.placing.Placing.{Placing}
 use Rattle.kd_shared.specs.declared.placing.Placing.TheVariants.{Placed, Same}
-use Rattle.plan_model.specs.Clearance.{Clear}
-use Rattle.plan_model.specs.ClosedLaw.{mark_at}
-use Rattle.plan_model.specs.PointsByNumber.{IsFree, point_of}
-use Rattle.plan_model.specs.Textbook.{Handles, SteersTo, unplaced_record}
-use Rattle.plan_model.specs.Trees.{points_of}
+use Rattle.plan_model.specs.Spaces.Clearance.{Clear}
+use Rattle.plan_model.specs.Runs.ClosedLaw.{mark_at}
+use Rattle.plan_model.specs.Trees.PointsByNumber.{IsFree, point_of}
+use Rattle.plan_model.specs.Runs.Textbook.{Handles, SteersTo, unplaced_record}
+use Rattle.plan_model.specs.Trees.NodeLists.{points_of}
 use Rattle.plan_model.specs.declared.geometry.Point.{Point}
 use Rattle.plan_model.specs.declared.records.Outcome.TheVariants.{Blocked, Same as SameNode}
 use Rattle.plan_model.specs.declared.records.Record.{Record}

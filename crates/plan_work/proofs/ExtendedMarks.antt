@@ -1,16 +1,16 @@
 -- A mark is handled in steps: what the first of them leave, and what all of them leave together.
 use Rattle.std.proofs.Common.{◌≡◌, ℕ, ◌≤◌, Some, refl, sym, ap, ◌∙◌, subst, arith}
 use Rattle.std.specs.Prelude.{[], IfSome, IsSome, is_some}
-use Rattle.plan_model.specs.Clearance.{Clear}
-use Rattle.plan_model.specs.ConfigurationSpace.{space_of}
-use Rattle.plan_model.specs.PointsByNumber.{IsFree, point_of}
-use Rattle.plan_model.specs.Sights.{EndsSince, IsSwept}
+use Rattle.plan_model.specs.Spaces.Clearance.{Clear}
+use Rattle.plan_model.specs.Spaces.ConfigurationSpace.{space_of}
+use Rattle.plan_model.specs.Trees.PointsByNumber.{IsFree, point_of}
+use Rattle.plan_model.specs.Seen.Sights.{EndsSince, IsSwept}
 use Rattle.plan_model.specs.declared.geometry.Point.{Point}
 use Rattle.plan_model.specs.declared.records.Outcome.TheVariants.{Blocked, Same}
 use Rattle.plan_model.specs.declared.records.Record.{Record}
 use Rattle.plan_model.proofs.NewNodes.{point_of-stands}
 use Rattle.plan_model.proofs.SightLaws.{EndsSince-later}
-use Rattle.plan_model.specs.Bounds.{IsBounded}
+use Rattle.plan_model.specs.Geometry.Bounds.{IsBounded}
 use Rattle.plan_words.specs.States.{BelongsTo, GoesOn, PassState, SharedState, turn_of, with_view, worker_of}
 use Rattle.plan_words.proofs.GoingOn.{GoesOn-trans}
 use Rattle.step_core.proofs.LawfulSights.{IsLaterMoment-later, KeepsSight-lawful}

@@ -7,8 +7,8 @@ use Rattle.std.proofs.lemmas.Nat.{mul-le}
 use Rattle.std.proofs.lemmas.List.Sums.{length-filter}
 use Rattle.kd_shared.specs.Searches.{AreNearSeen}
 use Rattle.kd_shared.proofs.SearchResults.{AreNearSeen-all, AreNearSeen-only, SweepsWithin-begun}
-use Rattle.plan_model.specs.Geometry.{squared_distance}
-use Rattle.plan_model.specs.Radius.{class_of, greatest, radius_of_class}
+use Rattle.plan_model.specs.Geometry.Plane.{squared_distance}
+use Rattle.plan_model.specs.Geometry.Radius.{class_of, greatest, radius_of_class}
 use Rattle.plan_model.specs.declared.geometry.Point.{Point}
 use Rattle.plan_model.specs.declared.records.Record.{Record}
 use Rattle.plan_model.proofs.CountsBelow.{count-some}

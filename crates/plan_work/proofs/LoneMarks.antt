@@ -3,9 +3,9 @@ use Rattle.std.proofs.Common.{◌≡◌, ℕ, suc, ◌+◌, ◌*◌, ◌/◌, �
 use Rattle.std.specs.Prelude.{◌≢◌, map}
 use Rattle.std.specs.List.{range_with_len}
 use Rattle.std.proofs.lemmas.Bool.{cases_eq, cases_lt, le-ltb, lt-ltb}
-use Rattle.plan_model.specs.MarkPoints.{is_claimed, strip_of_mark}
-use Rattle.plan_model.specs.PointsByNumber.{point_at}
-use Rattle.plan_model.specs.Textbook.{IsTextbookRun}
+use Rattle.plan_model.specs.Scenes.MarkPoints.{is_claimed, strip_of_mark}
+use Rattle.plan_model.specs.Trees.PointsByNumber.{point_at}
+use Rattle.plan_model.specs.Runs.Textbook.{IsTextbookRun}
 use Rattle.plan_model.specs.declared.records.Record.{Record}
 use Rattle.plan_model.proofs.StripMarks.{IsMarkOf-own, is_claimed-now, is_claimed-other}
 use Rattle.plan_model.proofs.WorkerTurns.{ltb-next}

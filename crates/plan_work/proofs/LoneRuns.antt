@@ -6,12 +6,12 @@ use Rattle.std.proofs.lemmas.Bool.{cases_Bool, cases_lt, le-ltb, lt-ltb}
 use Rattle.std.proofs.lemmas.List.{get_or_past}
 use Rattle.std.proofs.lemmas.List.FromFn.{length-map-range_with_len}
 use lib.Seq.{length-take-le}
-use Rattle.plan_model.specs.MarkPoints.{is_claimed}
-use Rattle.plan_model.specs.PointsByNumber.{IsPresent, point_at}
-use Rattle.plan_model.specs.SeenTrees.{IsSeen}
-use Rattle.plan_model.specs.Textbook.{IsTextbookRun, setup_of, start_alone}
-use Rattle.plan_model.specs.TreeStates.{AreSameRuns, state_of}
-use Rattle.plan_model.specs.Trees.{points_of}
+use Rattle.plan_model.specs.Scenes.MarkPoints.{is_claimed}
+use Rattle.plan_model.specs.Trees.PointsByNumber.{IsPresent, point_at}
+use Rattle.plan_model.specs.Seen.SeenTrees.{IsSeen}
+use Rattle.plan_model.specs.Runs.Textbook.{IsTextbookRun, setup_of, start_alone}
+use Rattle.plan_model.specs.Trees.TreeStates.{AreSameRuns, state_of}
+use Rattle.plan_model.specs.Trees.NodeLists.{points_of}
 use Rattle.plan_model.specs.declared.geometry.Point.{Point}
 use Rattle.plan_model.specs.declared.tasks.Task.{Task}
 use Rattle.plan_model.proofs.SameTrees.{AreSameRuns-trans}

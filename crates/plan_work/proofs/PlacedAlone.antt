@@ -6,16 +6,16 @@ use Rattle.std.proofs.lemmas.List.{get_or_past}
 use Rattle.std.proofs.lemmas.List.Elements.{All-cons}
 use Rattle.std.proofs.lemmas.List.FromFn.{length-map-range_with_len}
 use Rattle.kd_shared.specs.declared.placing.Placing.TheVariants.{Placed, Same}
-use Rattle.plan_model.specs.Clearance.{Clear, ClearAt}
-use Rattle.plan_model.specs.ClosedLaw.{mark_at}
-use Rattle.plan_model.specs.ConfigurationSpace.{space_of}
-use Rattle.plan_model.specs.LeastPairs.{IsFirstLeast}
-use Rattle.plan_model.specs.OpenNodes.{IsOpenTo}
-use Rattle.plan_model.specs.PointsByNumber.{IsFree, IsPresent, node_count, point_at, point_of}
-use Rattle.plan_model.specs.Radius.{class_of}
-use Rattle.plan_model.specs.Textbook.{Handles, IsBestParent, Nodes, Rewires, Setup, SteersTo, near_new, cost_through as textbook_cost}
-use Rattle.plan_model.specs.Textbook.{placed_record, unplaced_record}
-use Rattle.plan_model.specs.Trees.{points_of}
+use Rattle.plan_model.specs.Spaces.Clearance.{Clear, ClearAt}
+use Rattle.plan_model.specs.Runs.ClosedLaw.{mark_at}
+use Rattle.plan_model.specs.Spaces.ConfigurationSpace.{space_of}
+use Rattle.plan_model.specs.Trees.LeastPairs.{IsFirstLeast}
+use Rattle.plan_model.specs.Trees.OpenNodes.{IsOpenTo}
+use Rattle.plan_model.specs.Trees.PointsByNumber.{IsFree, IsPresent, node_count, point_at, point_of}
+use Rattle.plan_model.specs.Geometry.Radius.{class_of}
+use Rattle.plan_model.specs.Runs.Textbook.{Handles, IsBestParent, Nodes, Rewires, Setup, SteersTo, near_new, cost_through as textbook_cost}
+use Rattle.plan_model.specs.Runs.Textbook.{placed_record, unplaced_record}
+use Rattle.plan_model.specs.Trees.NodeLists.{points_of}
 use Rattle.plan_model.specs.declared.geometry.Point.{Point}
 use Rattle.plan_model.specs.declared.records.Outcome.TheVariants.{Placed as PlacedMark, Same as SameNode}
 use Rattle.plan_model.specs.declared.records.Record.{Record}

@@ -5,13 +5,13 @@ use Rattle.std.proofs.lemmas.Bool.{leb-true}
 use Rattle.std.proofs.lemmas.List.Elements.{All-contains}
 use Rattle.kd_shared.specs.declared.placing.Placing.TheVariants.{Placed, Same}
 use Rattle.plan_model.specs.declared.records.Outcome.TheVariants.{Same as SameNode}
-use Rattle.plan_model.specs.Clearance.{Clear}
-use Rattle.plan_model.specs.ConfigurationSpace.{space_of}
-use Rattle.plan_model.specs.Cost.{cost_of}
-use Rattle.plan_model.specs.Geometry.{squared_distance}
-use Rattle.plan_model.specs.Nearness.{distance_to, is_within}
-use Rattle.plan_model.specs.PointsByNumber.{point_at, point_of}
-use Rattle.plan_model.specs.Radius.{class_of, radius_of_class}
+use Rattle.plan_model.specs.Spaces.Clearance.{Clear}
+use Rattle.plan_model.specs.Spaces.ConfigurationSpace.{space_of}
+use Rattle.plan_model.specs.Geometry.Cost.{cost_of}
+use Rattle.plan_model.specs.Geometry.Plane.{squared_distance}
+use Rattle.plan_model.specs.Trees.Nearness.{distance_to, is_within}
+use Rattle.plan_model.specs.Trees.PointsByNumber.{point_at, point_of}
+use Rattle.plan_model.specs.Geometry.Radius.{class_of, radius_of_class}
 use Rattle.plan_model.specs.declared.geometry.Point.{Point}
 use Rattle.plan_model.specs.declared.records.Record.{Record}
 use Rattle.plan_model.proofs.CostLaws.{cost_of-swap}

@@ -3,7 +3,7 @@ use Rattle.std.proofs.Common.{◌≡◌, ℕ, zero, suc, ◌<◌, ◌≤◌, Lis
 use Rattle.std.specs.Prelude.{◌⊎◌, [], ◌∷◌, All, slice_index_or}
 use lib.ListN.{get_elem?}
 use mathlib.Core.Option.{some}
-use Rattle.plan_model.specs.MarkPoints.{quota_of}
+use Rattle.plan_model.specs.Scenes.MarkPoints.{quota_of}
 use Rattle.plan_model.proofs.StripMarks.{quotas-add_up}
 use Rattle.plan_words.specs.Claims.{AllFull, HasNoneLeft}
 use Rattle.plan_words.specs.States.{MayClaim, PassState, SharedState, StartsAs}
@@ -16,7 +16,7 @@ use Rattle.step_core.specs.GrownRuns.{state_of_grown, words_of_grown}
 use Rattle.step_core.specs.LastViews.{StandsAsSeen}
 use Rattle.step_core.specs.declared.grown.Grown.{Grown}
 use Rattle.step_core.proofs.GrownFromWords.{GrowsInto-seen}
-use Rattle.plan_model.specs.TreeStates.{GrowsInto, TreeState}
+use Rattle.plan_model.specs.Trees.TreeStates.{GrowsInto, TreeState}
 use Rattle.plan_work.proofs.LoneRuns.{HasHandled-started}
 use Rattle.plan_work.specs.OneWorker.{HasHandled, IsOfTextbook}
 use Rattle.plan_work.specs.Workers.{HasDone, HasTakenOver, shares_of}

@@ -1,8 +1,8 @@
 -- What each outcome says of the nearest node, and of the point to which it steered.
 use Rattle.std.proofs.Common.{◌≡◌, ℕ, suc, refl, sym, ap, ◌∙◌, subst}
-use Rattle.plan_model.specs.ClosedLaw.{mark_at}
-use Rattle.plan_model.specs.PointsByNumber.{IsFree}
-use Rattle.plan_model.specs.Steering.{steered}
+use Rattle.plan_model.specs.Runs.ClosedLaw.{mark_at}
+use Rattle.plan_model.specs.Trees.PointsByNumber.{IsFree}
+use Rattle.plan_model.specs.Geometry.Steering.{steered}
 use Rattle.plan_model.specs.declared.geometry.Point.{Point}
 use Rattle.plan_model.specs.declared.records.Outcome.{Outcome}
 use Rattle.plan_model.specs.declared.records.Outcome.TheVariants.{Blocked, Placed, Same}

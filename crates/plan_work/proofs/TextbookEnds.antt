@@ -1,10 +1,10 @@
 -- Textbook runs at their two ends: the start alone, and all marks of a scene.
 use Rattle.std.proofs.Common.{◌≡◌, List, [], length, take, sym, ap, ◌∙◌, subst, arith}
 use Rattle.std.proofs.lemmas.List.{take_all}
-use Rattle.plan_model.specs.MarkPoints.{mark_points}
-use Rattle.plan_model.specs.SameRuns.{IsOfTextbookRun}
-use Rattle.plan_model.specs.Textbook.{IsTextbookRun, setup_of, start_alone}
-use Rattle.plan_model.specs.TreeStates.{AreSameRuns, state_of}
+use Rattle.plan_model.specs.Scenes.MarkPoints.{mark_points}
+use Rattle.plan_model.specs.Runs.SameRuns.{IsOfTextbookRun}
+use Rattle.plan_model.specs.Runs.Textbook.{IsTextbookRun, setup_of, start_alone}
+use Rattle.plan_model.specs.Trees.TreeStates.{AreSameRuns, state_of}
 use Rattle.plan_model.specs.declared.scenes.Scene.{Scene}
 use Rattle.plan_model.specs.declared.tasks.Task.{Task}
 use Rattle.plan_work.specs.OneWorker.{IsOfTextbook}

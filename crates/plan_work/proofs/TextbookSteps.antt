@@ -2,16 +2,16 @@
 use Rattle.std.proofs.Common.{◌≡◌, ℕ, suc, ◌+◌, ◌<◌, ◌≤◌, Some, None, List, [], ◌∷◌, ◌++◌, length, take, arith, refl, sym, ap, ◌∙◌, subst, inl, inr}
 use Rattle.std.proofs.lemmas.List.{length-set, length-take-le}
 use Rattle.std.proofs.Math.Seq.{take-suc}
-use Rattle.plan_model.specs.Clearance.{Clear, ClearAt}
-use Rattle.plan_model.specs.ClosedLaw.{mark_at}
+use Rattle.plan_model.specs.Spaces.Clearance.{Clear, ClearAt}
+use Rattle.plan_model.specs.Runs.ClosedLaw.{mark_at}
 use Rattle.plan_model.specs.declared.configuration_spaces.ConfigurationSpace.{ConfigurationSpace}
-use Rattle.plan_model.specs.OrderLaw.{KeepsOrder}
-use Rattle.plan_model.specs.PointsByNumber.{IsFree, StandsAt, node_count, point_of}
-use Rattle.plan_model.specs.Radius.{class_of}
-use Rattle.plan_model.specs.Textbook.{Ends, Handles, HandlesAll, IsBestParent, IsTextbookRun, Nodes, Rewires, RewiresOne, Setup, SteersTo}
-use Rattle.plan_model.specs.Textbook.{blocked_record, cost_through, near_new, placed_record, same_record, start_alone}
-use Rattle.plan_model.specs.Trees.{points_of}
-use Rattle.plan_model.specs.TreeStates.{state_of}
+use Rattle.plan_model.specs.Runs.OrderLaw.{KeepsOrder}
+use Rattle.plan_model.specs.Trees.PointsByNumber.{IsFree, StandsAt, node_count, point_of}
+use Rattle.plan_model.specs.Geometry.Radius.{class_of}
+use Rattle.plan_model.specs.Runs.Textbook.{Ends, Handles, HandlesAll, IsBestParent, IsTextbookRun, Nodes, Rewires, RewiresOne, Setup, SteersTo}
+use Rattle.plan_model.specs.Runs.Textbook.{blocked_record, cost_through, near_new, placed_record, same_record, start_alone}
+use Rattle.plan_model.specs.Trees.NodeLists.{points_of}
+use Rattle.plan_model.specs.Trees.TreeStates.{state_of}
 use Rattle.plan_model.specs.declared.geometry.Point.{Point}
 use Rattle.plan_model.specs.declared.records.Outcome.{Outcome}
 use Rattle.plan_model.specs.declared.records.Outcome.TheVariants.{Blocked, Placed, Same}

@@ -3,8 +3,8 @@ use Rattle.std.proofs.Common.{◌≡◌, ℕ, zero, suc, ◌+◌, ◌<◌, ◌�
 use Rattle.std.specs.Prelude.{slice_get}
 use Rattle.std.proofs.lemmas.Bool.{cases_lt, eq-eqb}
 use Rattle.std.proofs.lemmas.Option.{slice_get_past}
-use Rattle.plan_model.specs.Textbook.{Ends, HandlesAll, Nodes, Setup}
-use Rattle.plan_model.specs.Turns.{is_of_worker, turns_of}
+use Rattle.plan_model.specs.Runs.Textbook.{Ends, HandlesAll, Nodes, Setup}
+use Rattle.plan_model.specs.Runs.Turns.{is_of_worker, turns_of}
 use Rattle.plan_model.specs.declared.geometry.Point.{Point}
 use Rattle.plan_model.specs.declared.records.Outcome.{Outcome}
 use Rattle.plan_model.specs.declared.records.Outcome.TheVariants.{Blocked, Placed, Same}

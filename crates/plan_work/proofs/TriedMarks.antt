@@ -3,13 +3,13 @@ use Rattle.std.proofs.Common.{◌≡◌, ℕ, ◌*◌, ◌≤◌, List, arith, s
 use Rattle.std.proofs.lemmas.List.Elements.{All-contains}
 use Rattle.kd_shared.specs.Placings.{GoesOnPlacing, IsPlacing, KeepsShare}
 use Rattle.kd_shared.specs.declared.placing.Placing.{Placing}
-use Rattle.plan_model.specs.Clearance.{Clear}
+use Rattle.plan_model.specs.Spaces.Clearance.{Clear}
 use Rattle.plan_model.specs.declared.configuration_spaces.ConfigurationSpace.{ConfigurationSpace}
-use Rattle.plan_model.specs.ClosedLaw.{mark_at}
-use Rattle.plan_model.specs.Geometry.{squared_distance}
-use Rattle.plan_model.specs.Nearness.{distance_to}
-use Rattle.plan_model.specs.PointsByNumber.{point_of}
-use Rattle.plan_model.specs.Radius.{class_of, radius_of_class}
+use Rattle.plan_model.specs.Runs.ClosedLaw.{mark_at}
+use Rattle.plan_model.specs.Geometry.Plane.{squared_distance}
+use Rattle.plan_model.specs.Trees.Nearness.{distance_to}
+use Rattle.plan_model.specs.Trees.PointsByNumber.{point_of}
+use Rattle.plan_model.specs.Geometry.Radius.{class_of, radius_of_class}
 use Rattle.kd_shared.specs.Searches.{SweepsWithin}
 use Rattle.step_core.specs.ViewTrees.{sight_in}
 use Rattle.step_core.specs.declared.views.SharedRun.{SharedRun}

@@ -1,15 +1,15 @@
 -- Near lists and nearest nodes of a pass with the share of all workers, while it is shown nothing new but the count.
 use Rattle.std.proofs.Common.{◌≡◌, ℕ, ◌+◌, Some, List, ◌∷◌, length, sym, ap, ◌∙◌, subst}
-use Rattle.plan_model.specs.ClosedLaw.{mark_at}
+use Rattle.plan_model.specs.Runs.ClosedLaw.{mark_at}
 use Rattle.plan_model.specs.declared.configuration_spaces.ConfigurationSpace.{ConfigurationSpace}
-use Rattle.plan_model.specs.Cost.{cost_of}
-use Rattle.plan_model.specs.LeastPairs.{IsFirstLeast}
-use Rattle.plan_model.specs.Nearness.{near}
-use Rattle.plan_model.specs.OpenNodes.{IsOpenTo}
-use Rattle.plan_model.specs.PointsByNumber.{IsPresent, node_count, point_of}
-use Rattle.plan_model.specs.Radius.{class_of, radius_of, radius_of_class}
-use Rattle.plan_model.specs.Steering.{steered}
-use Rattle.plan_model.specs.Textbook.{SteersTo, near_new}
+use Rattle.plan_model.specs.Geometry.Cost.{cost_of}
+use Rattle.plan_model.specs.Trees.LeastPairs.{IsFirstLeast}
+use Rattle.plan_model.specs.Trees.Nearness.{near}
+use Rattle.plan_model.specs.Trees.OpenNodes.{IsOpenTo}
+use Rattle.plan_model.specs.Trees.PointsByNumber.{IsPresent, node_count, point_of}
+use Rattle.plan_model.specs.Geometry.Radius.{class_of, radius_of, radius_of_class}
+use Rattle.plan_model.specs.Geometry.Steering.{steered}
+use Rattle.plan_model.specs.Runs.Textbook.{SteersTo, near_new}
 use Rattle.plan_model.specs.declared.geometry.Point.{Point}
 use Rattle.plan_model.proofs.NewNodes.{IsPresent-stands, point_of-stands}
 use Rattle.plan_words.specs.Claims.{SeesAsBefore}

@@ -4,24 +4,24 @@ use Rattle.edge_cost.specs.declared.radii.Radii.{Radii}
 use Rattle.kd_shared.specs.Searches.{SweepsWithin}
 use Rattle.kd_shared.specs.Placings.{IsPlacing}
 use Rattle.kd_shared.specs.declared.placing.Placing.{Placing}
-use Rattle.plan_model.specs.Bounds.{IsBounded}
-use Rattle.plan_model.specs.Clearance.{Clear}
-use Rattle.plan_model.specs.ConfigurationSpace.{space_of}
-use Rattle.plan_model.specs.ClosedLaw.{mark_at}
-use Rattle.plan_model.specs.Cost.{cost_of}
-use Rattle.plan_model.specs.Geometry.{squared_distance}
-use Rattle.plan_model.specs.LeastPairs.{IsNotAbove}
-use Rattle.plan_model.specs.Nearness.{distance_to}
-use Rattle.plan_model.specs.PointsByNumber.{IsFree, IsPresent, point_of}
-use Rattle.plan_model.specs.Radius.{class_of, radius_of_class}
-use Rattle.plan_model.specs.Sights.{IsSwept}
-use Rattle.plan_model.specs.Steering.{steered}
+use Rattle.plan_model.specs.Geometry.Bounds.{IsBounded}
+use Rattle.plan_model.specs.Spaces.Clearance.{Clear}
+use Rattle.plan_model.specs.Spaces.ConfigurationSpace.{space_of}
+use Rattle.plan_model.specs.Runs.ClosedLaw.{mark_at}
+use Rattle.plan_model.specs.Geometry.Cost.{cost_of}
+use Rattle.plan_model.specs.Geometry.Plane.{squared_distance}
+use Rattle.plan_model.specs.Trees.LeastPairs.{IsNotAbove}
+use Rattle.plan_model.specs.Trees.Nearness.{distance_to}
+use Rattle.plan_model.specs.Trees.PointsByNumber.{IsFree, IsPresent, point_of}
+use Rattle.plan_model.specs.Geometry.Radius.{class_of, radius_of_class}
+use Rattle.plan_model.specs.Seen.Sights.{IsSwept}
+use Rattle.plan_model.specs.Geometry.Steering.{steered}
 use Rattle.plan_model.specs.declared.geometry.Point.{Point}
 use Rattle.plan_model.specs.declared.records.Outcome.{Outcome}
 use Rattle.plan_model.specs.declared.records.Outcome.TheVariants.{Blocked, Placed, Same}
 use Rattle.plan_model.specs.declared.records.Record.{Record}
 use Rattle.plan_model.specs.declared.scenes.Scene.{Scene}
-use Rattle.plan_model.specs.Textbook.{unplaced_record}
+use Rattle.plan_model.specs.Runs.Textbook.{unplaced_record}
 use Rattle.plan_words.specs.States.{BelongsTo, GoesOn, MayClaim, PassState, SharedState, turn_of, with_view, worker_of}
 use Rattle.step_core.specs.SeenRecords.{own_count}
 use Rattle.step_core.specs.GrownWords.{has_node, record_at}

@@ -1,9 +1,9 @@
 -- One worker that works alone: what it sees is the textbook run over the marks that it has handled.
 use Rattle.std.specs.Prelude.{◌≡◌, ℕ, ◌≤◌, nat_lt, List, [], ◌∷◌, slice_get, take}
 use Rattle.plan_model.specs.declared.records.Record.{Record}
-use Rattle.plan_model.specs.MarkPoints.{is_claimed}
-use Rattle.plan_model.specs.SameRuns.{IsOfTextbookRun}
-use Rattle.plan_model.specs.Textbook.{IsTextbookRun, Nodes, setup_of}
+use Rattle.plan_model.specs.Scenes.MarkPoints.{is_claimed}
+use Rattle.plan_model.specs.Runs.SameRuns.{IsOfTextbookRun}
+use Rattle.plan_model.specs.Runs.Textbook.{IsTextbookRun, Nodes, setup_of}
 use Rattle.plan_words.specs.States.{HasWholeShare}
 use Rattle.step_core.specs.GrownRuns.{state_of_grown}
 use Rattle.step_core.specs.GrownWords.{record_at}

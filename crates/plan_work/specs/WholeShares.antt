@@ -2,13 +2,13 @@
 use Rattle.std.specs.Prelude.{◌≡◌, ◌≢◌, ℕ, suc, ◌∷◌, Some, List}
 use Rattle.kd_shared.specs.declared.placing.Placing.{Placing}
 use Rattle.kd_shared.specs.declared.placing.Placing.TheVariants.{Placed, Same}
-use Rattle.plan_model.specs.ClosedLaw.{mark_at}
+use Rattle.plan_model.specs.Runs.ClosedLaw.{mark_at}
 use Rattle.plan_model.specs.declared.configuration_spaces.ConfigurationSpace.{ConfigurationSpace}
-use Rattle.plan_model.specs.LeastPairs.{IsFirstLeast}
-use Rattle.plan_model.specs.OpenNodes.{IsOpenTo}
-use Rattle.plan_model.specs.PointsByNumber.{node_count}
-use Rattle.plan_model.specs.Radius.{class_of}
-use Rattle.plan_model.specs.Textbook.{SteersTo, near_new}
+use Rattle.plan_model.specs.Trees.LeastPairs.{IsFirstLeast}
+use Rattle.plan_model.specs.Trees.OpenNodes.{IsOpenTo}
+use Rattle.plan_model.specs.Trees.PointsByNumber.{node_count}
+use Rattle.plan_model.specs.Geometry.Radius.{class_of}
+use Rattle.plan_model.specs.Runs.Textbook.{SteersTo, near_new}
 use Rattle.plan_model.specs.declared.geometry.Point.{Point}
 use Rattle.plan_work.specs.declared.placing.Hanging.{Hanging}
 use Rattle.step_core.specs.Views.{sees, setup_in, tree_seen}

@@ -1,7 +1,7 @@
 //! The handling of one mark.
 
 ghost use Rattle.std.specs.Prelude.{◌≡◌, suc, IfSome, IsSome};
-ghost use Rattle.plan_model.specs.ConfigurationSpace.{space_of};
+ghost use Rattle.plan_model.specs.Spaces.ConfigurationSpace.{space_of};
 ghost use Rattle.plan_words.specs.States.{BelongsTo};
 ghost use Rattle.plan_work.specs.Extensions.{AreRadiiOf, HandlesMark, IsExtended};
 ghost use Rattle.plan_work.specs.OneWorker.{SeesTextbook, WorksAlone};

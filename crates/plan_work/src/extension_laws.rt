@@ -1,15 +1,15 @@
 //! What it means that a mark was handled as `extend` promises. Each law is the contract of a function that does nothing.
 
 ghost use Rattle.std.specs.Prelude.{◌≡◌, ◌≢◌, ◌⊎◌, ℕ, suc, ◌+◌, ◌*◌, ◌<◌, ◌≤◌};
-ghost use Rattle.plan_model.specs.Clearance.{Clear};
-ghost use Rattle.plan_model.specs.ClosedLaw.{mark_at};
-ghost use Rattle.plan_model.specs.Cost.{cost_of};
-ghost use Rattle.plan_model.specs.Geometry.{squared_distance};
-ghost use Rattle.plan_model.specs.LeastPairs.{IsNotAbove};
-ghost use Rattle.plan_model.specs.Nearness.{distance_to};
-ghost use Rattle.plan_model.specs.PointsByNumber.{IsFree, IsPresent, point_of};
-ghost use Rattle.plan_model.specs.Radius.{class_of};
-ghost use Rattle.plan_model.specs.Sights.{IsSwept};
+ghost use Rattle.plan_model.specs.Spaces.Clearance.{Clear};
+ghost use Rattle.plan_model.specs.Runs.ClosedLaw.{mark_at};
+ghost use Rattle.plan_model.specs.Geometry.Cost.{cost_of};
+ghost use Rattle.plan_model.specs.Geometry.Plane.{squared_distance};
+ghost use Rattle.plan_model.specs.Trees.LeastPairs.{IsNotAbove};
+ghost use Rattle.plan_model.specs.Trees.Nearness.{distance_to};
+ghost use Rattle.plan_model.specs.Trees.PointsByNumber.{IsFree, IsPresent, point_of};
+ghost use Rattle.plan_model.specs.Geometry.Radius.{class_of};
+ghost use Rattle.plan_model.specs.Seen.Sights.{IsSwept};
 ghost use Rattle.plan_model.specs.declared.geometry.Point.{Point};
 ghost use Rattle.plan_model.specs.declared.records.Outcome.TheVariants.{Blocked, Placed, Same};
 ghost use Rattle.plan_model.specs.declared.records.Record.{Record};

@@ -1,8 +1,8 @@
 //! The planner by several workers.
 
 ghost use Rattle.std.specs.Prelude.{◌≡◌, ◌+◌, ◌<◌, ◌≤◌, ℕ, [], ◌∷◌, All, IfOk, Some, length, slice_index_or};
-ghost use Rattle.plan_model.specs.ConfigurationSpace.{space_of};
-ghost use Rattle.plan_model.specs.TreeStates.{GrowsInto};
+ghost use Rattle.plan_model.specs.Spaces.ConfigurationSpace.{space_of};
+ghost use Rattle.plan_model.specs.Trees.TreeStates.{GrowsInto};
 ghost use Rattle.plan_model.specs.declared.limits.TheConstants.{MOST_WORKERS};
 ghost use Rattle.plan_model.specs.declared.records.Record.{Record};
 ghost use Rattle.plan_words.specs.States.{GoesOn, MayClaim, PassState};

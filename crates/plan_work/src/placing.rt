@@ -1,8 +1,8 @@
 //! The place of a new node: its parent and its cost, its link in the kd-tree, and the rewiring of the nodes near it.
 
 ghost use Rattle.std.specs.Prelude.{◌≡◌, ◌<◌, suc, All, IfSome, IsSome};
-ghost use Rattle.plan_model.specs.Clearance.{Clear};
-ghost use Rattle.plan_model.specs.ConfigurationSpace.{space_of};
+ghost use Rattle.plan_model.specs.Spaces.Clearance.{Clear};
+ghost use Rattle.plan_model.specs.Spaces.ConfigurationSpace.{space_of};
 ghost use Rattle.plan_words.specs.Claims.{SeesAsBefore};
 ghost use Rattle.plan_words.specs.States.{BelongsTo, HasWholeShare, PassState};
 ghost use Rattle.plan_work.specs.Extensions.{EndsWritten, HandlesMark, IsFilledSince, IsHung, IsPointed, IsTried, KeepsRecords, MayPlace};
@@ -11,7 +11,7 @@ ghost use Rattle.plan_work.specs.WholeShares.{IsBestHanging, IsFilledWhole, IsSt
 ghost use Rattle.step_core.specs.Views.{sees, share, tree_seen};
 ghost use Rattle.step_core.specs.WordNames.Word.{Count};
 ghost use Rattle.tree_rewire.specs.SeenCosts.{IsInReach};
-ghost use Rattle.plan_model.specs.PointsByNumber.{point_of};
+ghost use Rattle.plan_model.specs.Trees.PointsByNumber.{point_of};
 
 use crate::recording::{record_placed, record_unplaced};
 use crate::steering::Steering;

@@ -1,7 +1,7 @@
 //! The record of a mark: what became of it.
 
 ghost use Rattle.std.specs.Prelude.{◌≡◌, ◌<◌, false, suc, IfSome, IsSome};
-ghost use Rattle.plan_model.specs.Outcomes.{is_placed};
+ghost use Rattle.plan_model.specs.Runs.Outcomes.{is_placed};
 ghost use Rattle.plan_words.specs.States.{BelongsTo};
 ghost use Rattle.plan_work.specs.Extensions.{HasRecorded, own_placed, own_unplaced};
 ghost use Rattle.step_core.specs.SeenRecords.{MayRecord};

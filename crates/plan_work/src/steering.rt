@@ -3,9 +3,9 @@
 ghost use Rattle.std.specs.Prelude.{◌≡◌, ◌↔◌, ◌⊎◌, All, IfSome, IsSome, IsTrue};
 ghost use Rattle.kd_shared.specs.Looking.{OnlyLooks};
 ghost use Rattle.kd_shared.specs.Spots.{IsNotFurther};
-ghost use Rattle.plan_model.specs.Bounds.{IsBounded};
-ghost use Rattle.plan_model.specs.Clearance.{Clear};
-ghost use Rattle.plan_model.specs.Nearness.{distance_to};
+ghost use Rattle.plan_model.specs.Geometry.Bounds.{IsBounded};
+ghost use Rattle.plan_model.specs.Spaces.Clearance.{Clear};
+ghost use Rattle.plan_model.specs.Trees.Nearness.{distance_to};
 ghost use Rattle.plan_words.specs.Claims.{SeesAsBefore};
 ghost use Rattle.plan_words.specs.States.{BelongsTo, HasWholeShare, PassState};
 ghost use Rattle.plan_work.specs.Extensions.{AreRadiiOf, HasFilledNear, HasSteered, IsFilledSince, IsNearestOf, KeepsRecords};
@@ -13,7 +13,7 @@ ghost use Rattle.plan_work.specs.WholeShares.{HasCounted, IsFilledWhole, SeesBut
 ghost use Rattle.step_core.specs.LaterViews.{IsLawfulView};
 ghost use Rattle.step_core.specs.Views.{tree_seen};
 ghost use Rattle.tree_rewire.specs.SeenCosts.{NamesNothing, PassSees};
-ghost use Rattle.plan_model.specs.PointsByNumber.{IsPresent, point_of};
+ghost use Rattle.plan_model.specs.Trees.PointsByNumber.{IsPresent, point_of};
 
 use edge_cost::{Radii, class, steer};
 use kd_shared::{near, nearest};

@@ -1,7 +1,7 @@
 //! A worker, who handles mark after mark.
 
 ghost use Rattle.std.specs.Prelude.{◌≡◌, ◌≤◌, length};
-ghost use Rattle.plan_model.specs.ConfigurationSpace.{space_of};
+ghost use Rattle.plan_model.specs.Spaces.ConfigurationSpace.{space_of};
 ghost use Rattle.plan_words.specs.Claims.{AllFull, AllLoaded};
 ghost use Rattle.plan_words.specs.States.{GoesOn, MayClaim};
 ghost use Rattle.plan_work.specs.OneWorker.{HandlesRest};

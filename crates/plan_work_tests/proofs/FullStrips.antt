@@ -2,7 +2,7 @@
 use Rattle.std.proofs.Common.{◌≡◌, ℕ, ◌<◌, ◌≤◌, ap, subst, arith}
 use Rattle.plan_words.specs.Claims.{AllFull}
 use Rattle.plan_words.specs.States.{GoesOn}
-use Rattle.plan_model.specs.MarkPoints.{quota_of}
+use Rattle.plan_model.specs.Scenes.MarkPoints.{quota_of}
 use Rattle.step_core.specs.WordNames.Word.{Counter}
 use Rattle.step_core.specs.declared.views.View.{View}
 

@@ -1,7 +1,7 @@
 //! Costs that fell: the parent of a new node is chosen by costs that are loaded for it, and the nodes below a lowered one fall with it.
 
 ghost use Rattle.std.specs.Prelude.{◌≡◌, ◌≤◌, length};
-ghost use Rattle.plan_model.specs.ConfigurationSpace.{space_of};
+ghost use Rattle.plan_model.specs.Spaces.ConfigurationSpace.{space_of};
 ghost use Rattle.plan_work_tests.specs.Sharers.{HasShare};
 
 use crate::stale_costs::load_node;

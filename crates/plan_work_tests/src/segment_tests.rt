@@ -1,8 +1,8 @@
 //! A worker that is inside the test of its segment while another places a node.
 
 ghost use Rattle.std.specs.Prelude.{◌≡◌, length};
-ghost use Rattle.plan_model.specs.Clearance.{ClearAt};
-ghost use Rattle.plan_model.specs.ConfigurationSpace.{space_of};
+ghost use Rattle.plan_model.specs.Spaces.Clearance.{ClearAt};
+ghost use Rattle.plan_model.specs.Spaces.ConfigurationSpace.{space_of};
 ghost use Rattle.plan_work_tests.specs.Sharers.{HasClaimed, HasShare, IsOfThree};
 
 use crate::test_runs::{Entry, TO_REWIRE, assert_records, sure};

@@ -1,10 +1,10 @@
 //! A cost that one pass lowers after another saw it, which then finds the lowered one.
 
 ghost use Rattle.std.specs.Prelude.{◌≡◌, ◌≢◌, ◌+◌, ◌<◌, IfSome, IsTrue, length};
-ghost use Rattle.plan_model.specs.Bounds.{IsBounded};
-ghost use Rattle.plan_model.specs.ConfigurationSpace.{space_of};
-ghost use Rattle.plan_model.specs.Cost.{cost_of};
-ghost use Rattle.plan_model.specs.OrderLaw.{IsAllowedEdge};
+ghost use Rattle.plan_model.specs.Geometry.Bounds.{IsBounded};
+ghost use Rattle.plan_model.specs.Spaces.ConfigurationSpace.{space_of};
+ghost use Rattle.plan_model.specs.Geometry.Cost.{cost_of};
+ghost use Rattle.plan_model.specs.Runs.OrderLaw.{IsAllowedEdge};
 ghost use Rattle.plan_words.specs.States.{GoesOn, run_in};
 ghost use Rattle.plan_work_tests.specs.Sharers.{HasShare};
 ghost use Rattle.step_core.specs.LaterViews.{IsLawfulView};

@@ -8,11 +8,11 @@ use Rattle.std.proofs.lemmas.List.Sums.{sum_by-cons}
 use Rattle.std.proofs.lemmas.List.Elements.{All-from_recursion, All-head, All-tail, All-map}
 use Rattle.plan_model.specs.declared.geometry.Point.{Point}
 use Rattle.plan_model.specs.declared.geometry.Vertex.{Vertex}
-use Rattle.plan_model.specs.Meeting.{Meets, weighted}
-use Rattle.plan_model.specs.RoomOfConfigurations.{at_lattice, moved_by, IsBetweenWalls, InRoom}
+use Rattle.plan_model.specs.Spaces.Meeting.{Meets, weighted}
+use Rattle.plan_model.specs.Spaces.RoomOfConfigurations.{at_lattice, moved_by, IsBetweenWalls, InRoom}
 use Rattle.plan_model.specs.declared.configuration_spaces.ConfigurationSpace.{ConfigurationSpace}
-use Rattle.plan_model.specs.ConfigurationSpace.{space_among}
-use Rattle.plan_model.specs.Clearance.{ClearAt}
+use Rattle.plan_model.specs.Spaces.ConfigurationSpace.{space_among}
+use Rattle.plan_model.specs.Spaces.Clearance.{ClearAt}
 use Rattle.plan_model.proofs.MeetingLaws.{SharesPoint-meets}
 use Rattle.planner_main.specs.GeneratedScenes.{lattice_corner, square_at, triangle_at, place_in_cell}
 use Rattle.planner_main.specs.GeneratedScenes.{side_by, obstacle_by, generated_obstacle, generated_obstacles}

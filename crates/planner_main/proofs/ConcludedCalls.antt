@@ -2,7 +2,7 @@
 use Rattle.std.proofs.Common.{◌≡◌, ◌≢◌, ℕ, ◌⊎◌, inl, inr, true, false, Option, None, IfSome, List, refl, sym, subst, ◌∙◌}
 use Rattle.std.proofs.Math.Dec.{eqb}
 use Rattle.std.proofs.lemmas.Bool.Decides.{eqb_tells}
-use Rattle.plan_model.specs.Streams.{SourceState, SinkState}
+use Rattle.plan_model.specs.Texts.Streams.{SourceState, SinkState}
 use Rattle.scene_text.specs.Fetching.{ReadsWithin}
 use Rattle.planner_main.specs.declared.commands.Command.{Command}
 use Rattle.planner_main.specs.declared.refusals.Refusal.{Refusal}

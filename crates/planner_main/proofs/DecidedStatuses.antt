@@ -6,8 +6,8 @@ use Rattle.std.specs.Io.KnownBytes.{Consumes}
 use Rattle.plan_model.specs.declared.limits.TheConstants.{MOST_TEXT_BYTES}
 use Rattle.plan_model.specs.declared.scenes.Scene.{Scene}
 use Rattle.plan_model.specs.declared.text_terms.Kind.{Kind}
-use Rattle.plan_model.specs.SceneGrammar.{supported}
-use Rattle.plan_model.specs.Streams.{SourceState}
+use Rattle.plan_model.specs.Texts.SceneGrammar.{supported}
+use Rattle.plan_model.specs.Texts.Streams.{SourceState}
 use Rattle.plan_model.proofs.Soundness.{Spells-not_refused}
 use Rattle.plan_model.proofs.SpelledScenes.{ClearAt-spelled}
 use Rattle.scene_text.specs.Fetching.{CameTooLong}

@@ -10,9 +10,9 @@ use Rattle.std.proofs.lemmas.Int.{ints}
 use Rattle.std.proofs.lemmas.Bool.{and_from}
 use Rattle.plan_model.specs.declared.geometry.Point.{Point}
 use Rattle.plan_model.specs.declared.geometry.Vertex.{Vertex}
-use Rattle.plan_model.specs.Geometry.{orientation}
-use Rattle.plan_model.specs.Convexity.{is_strictly_convex}
-use Rattle.plan_model.specs.Limits.{is_corner_between, is_obstacle, are_obstacles}
+use Rattle.plan_model.specs.Geometry.Plane.{orientation}
+use Rattle.plan_model.specs.Geometry.Convexity.{is_strictly_convex}
+use Rattle.plan_model.specs.Scenes.Limits.{is_corner_between, is_obstacle, are_obstacles}
 use Rattle.plan_model.specs.declared.limits.TheConstants.{LEAST_OBSTACLE_COORDINATE, MOST_OBSTACLE_COORDINATE, MOST_OBSTACLES}
 use Rattle.convex_sets.proofs.Tests.{true_of_below}
 use Rattle.convex_sets.proofs.Ring.{Read, var, minus, times}

@@ -2,7 +2,7 @@
 use Rattle.std.proofs.Common.{◌≡◌, false, IsTrue, [], Some, Result, Ok, Err, IsErrAnd, refl, sym, subst, arith}
 use Rattle.std.proofs.KnownBytes.{Keeps-refl, Consumes-nil}
 use Rattle.plan_model.specs.declared.scenes.Scene.{Scene}
-use Rattle.plan_model.specs.Streams.{SourceState}
+use Rattle.plan_model.specs.Texts.Streams.{SourceState}
 use Rattle.scene_text.specs.Fetching.{ReadsWithin}
 use Rattle.planner_main.specs.declared.answers.Answer.{Answer}
 use Rattle.planner_main.specs.declared.commands.Command.{Command}

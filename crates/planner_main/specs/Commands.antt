@@ -2,7 +2,7 @@
 use Rattle.std.specs.Prelude.{ℕ, ◌≤◌, ◌&&◌, Bool, true, false, Option, Some, None, option_and_then, List, [], ◌∷◌, codes, bytes_eq, if◌then◌else◌}
 use Rattle.std.specs.Prelude.{pos, int_le, unsigned_abs}
 use Rattle.plan_model.specs.declared.limits.TheConstants.{MOST_WORKERS}
-use Rattle.plan_model.specs.TextNumbers.{is_number, value_of}
+use Rattle.plan_model.specs.Texts.TextNumbers.{is_number, value_of}
 use Rattle.planner_main.specs.declared.commands.Command.{Command}
 use Rattle.planner_main.specs.declared.commands.Command.TheVariants as commands
 use Rattle.planner_main.specs.declared.generated_scenes.TheConstants.{MOST_GENERATED}

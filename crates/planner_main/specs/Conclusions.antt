@@ -3,17 +3,17 @@ use Rattle.std.specs.Prelude.{◌≡◌, ℕ, ◌<◌, ◌⊎◌, Bool, true, fa
 use Rattle.std.specs.Prelude.{Option, Some, None, is_some, IsSome, IsSomeAnd, Result, IfOk, IfErr}
 use Rattle.plan_model.specs.declared.records.Record.{Record}
 use Rattle.plan_model.specs.declared.scenes.Scene.{Scene}
-use Rattle.plan_model.specs.ConfigurationSpace.{space_of}
-use Rattle.plan_model.specs.Clearance.{ClearAt}
-use Rattle.plan_model.specs.MarkPoints.{mark_points}
-use Rattle.plan_model.specs.ClosedLaw.{IsClosed}
-use Rattle.plan_model.specs.SameRuns.{IsOfTextbookRun}
-use Rattle.plan_model.specs.Streams.{SourceState}
-use Rattle.plan_model.specs.Textbook.{setup_of}
-use Rattle.plan_model.specs.TreeStates.{TreeState, IsSettled}
-use Rattle.plan_model.specs.BestNode.{best_node, goals_of}
-use Rattle.plan_model.specs.ReportText.{report_text, summary}
-use Rattle.plan_model.specs.CanonicalText.{canonical_text}
+use Rattle.plan_model.specs.Spaces.ConfigurationSpace.{space_of}
+use Rattle.plan_model.specs.Spaces.Clearance.{ClearAt}
+use Rattle.plan_model.specs.Scenes.MarkPoints.{mark_points}
+use Rattle.plan_model.specs.Runs.ClosedLaw.{IsClosed}
+use Rattle.plan_model.specs.Runs.SameRuns.{IsOfTextbookRun}
+use Rattle.plan_model.specs.Texts.Streams.{SourceState}
+use Rattle.plan_model.specs.Runs.Textbook.{setup_of}
+use Rattle.plan_model.specs.Trees.TreeStates.{TreeState, IsSettled}
+use Rattle.plan_model.specs.Trees.BestNode.{best_node, goals_of}
+use Rattle.plan_model.specs.Reports.ReportText.{report_text, summary}
+use Rattle.plan_model.specs.Texts.CanonicalText.{canonical_text}
 use Rattle.step_core.specs.declared.grown.Grown.{Grown}
 use Rattle.step_core.specs.GrownRuns.{state_of_grown}
 use Rattle.scene_text.specs.Fetching.{ReadsWithin}

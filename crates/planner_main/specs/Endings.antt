@@ -1,6 +1,6 @@
 -- How a whole call ends: what it has read, what it hands out, and what is written.
 use Rattle.std.specs.Prelude.{◌≡◌, ◌≢◌, ℕ, ◌⊎◌, Option, None, IfSome, List}
-use Rattle.plan_model.specs.Streams.{SourceState, SinkState}
+use Rattle.plan_model.specs.Texts.Streams.{SourceState, SinkState}
 use Rattle.scene_text.specs.Fetching.{ReadsWithin}
 use Rattle.planner_main.specs.declared.commands.Command.{Command}
 use Rattle.planner_main.specs.declared.statuses.TheConstants.{WORDS_REFUSED, WRITE_FAULT, NO_MEMORY}

@@ -2,7 +2,7 @@
 use Rattle.std.specs.Prelude.{◌≡◌, ℕ, ◌≤◌, true, false, IsTrue, Option, List, length}
 use Rattle.std.specs.Io.KnownBytes.{Appends, Consumes, IsAtEnd, Keeps}
 use Rattle.plan_model.specs.declared.limits.TheConstants.{MOST_TEXT_BYTES}
-use Rattle.plan_model.specs.Streams.{SourceState, SinkState, FaultsRose, counted}
+use Rattle.plan_model.specs.Texts.Streams.{SourceState, SinkState, FaultsRose, counted}
 use Rattle.scene_text.specs.Fetching.{CameTooLong, IsAllOf}
 use Rattle.settle_report.specs.Delivery.{AppendsPrefix}
 

@@ -7,7 +7,7 @@ use Rattle.plan_model.specs.declared.geometry.Point.{Point}
 use Rattle.plan_model.specs.declared.geometry.Vertex.{Vertex}
 use Rattle.plan_model.specs.declared.scenes.Scene.{Scene}
 use Rattle.plan_model.specs.declared.scenes.Marks.TheVariants.{Drawn}
-use Rattle.plan_model.specs.MarkPoints.{first_word, second_word}
+use Rattle.plan_model.specs.Scenes.MarkPoints.{first_word, second_word}
 
 -- the corner with these coordinates
 abbrev pub lattice_corner : ℕ → ℕ → Vertex

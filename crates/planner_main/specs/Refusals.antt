@@ -1,8 +1,8 @@
 -- The line that the program writes in place of a report, and the status that it ends with.
 use Rattle.std.specs.Prelude.{ℕ, List, ◌∷◌, [], codes}
 use Rattle.std.specs.List.{join_with_byte}
-use Rattle.plan_model.specs.KindNames.{fault_words}
-use Rattle.plan_model.specs.ReportText.{line}
+use Rattle.plan_model.specs.Texts.KindNames.{fault_words}
+use Rattle.plan_model.specs.Reports.ReportText.{line}
 use Rattle.planner_main.specs.declared.refusals.Refusal.{Refusal}
 use Rattle.planner_main.specs.declared.refusals.Refusal.TheVariants as refusals
 use Rattle.planner_main.specs.declared.statuses.TheConstants.{WORDS_REFUSED, TEXT_REFUSED, START_BLOCKED, READ_FAULT, NO_MEMORY}

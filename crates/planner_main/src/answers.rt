@@ -2,15 +2,15 @@
 //! the source and makes the text of the answer.
 
 ghost use Rattle.std.specs.Prelude.{◌≡◌, ◌≤◌, ◌<◌, ◌⊎◌, ℕ, true, false, length, map, is_some, string_bytes, IfOk, IfErr, None, Some};
-ghost use Rattle.plan_model.specs.ConfigurationSpace.{space_of};
-ghost use Rattle.plan_model.specs.Clearance.{ClearAt};
+ghost use Rattle.plan_model.specs.Spaces.ConfigurationSpace.{space_of};
+ghost use Rattle.plan_model.specs.Spaces.Clearance.{ClearAt};
 ghost use Rattle.plan_model.specs.declared.limits.TheConstants.{MOST_WORKERS};
 ghost use Rattle.plan_model.specs.declared.records.Record.{Record};
-ghost use Rattle.plan_model.specs.MarkPoints.{mark_points};
-ghost use Rattle.plan_model.specs.ReportText.{report_text, summary};
-ghost use Rattle.plan_model.specs.SameRuns.{IsOfTextbookRun};
-ghost use Rattle.plan_model.specs.Textbook.{setup_of};
-ghost use Rattle.plan_model.specs.TreeStates.{IsSettled};
+ghost use Rattle.plan_model.specs.Scenes.MarkPoints.{mark_points};
+ghost use Rattle.plan_model.specs.Reports.ReportText.{report_text, summary};
+ghost use Rattle.plan_model.specs.Runs.SameRuns.{IsOfTextbookRun};
+ghost use Rattle.plan_model.specs.Runs.Textbook.{setup_of};
+ghost use Rattle.plan_model.specs.Trees.TreeStates.{IsSettled};
 ghost use Rattle.scene_text.specs.Fetching.{ReadsWithin};
 ghost use Rattle.planner_main.specs.Commands.{command_of, input_of, IsNumbered};
 ghost use Rattle.planner_main.specs.Conclusions.{Answers, IsCaused, HandsOutNothing, HasScene, ReportsGrown, WritesGenerated, TriesGenerated};

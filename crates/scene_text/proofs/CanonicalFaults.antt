@@ -15,13 +15,13 @@ use Rattle.plan_model.specs.declared.scenes.Marks.TheVariants.{Drawn, Listed}
 use Rattle.plan_model.specs.declared.text_terms.Key.{Key}
 use Rattle.plan_model.specs.declared.text_terms.Key.TheVariants as keys
 use Rattle.plan_model.specs.declared.limits.TheConstants.{MOST_MARKS, MOST_OBSTACLE_CORNERS, MOST_OBSTACLES}
-use Rattle.plan_model.specs.Limits.{is_goal, is_mark, is_obstacle, is_plan, most_goals}
-use Rattle.plan_model.specs.Keys.{name_of, is_key, most_corners, most_lines, rival_of, version_word}
-use Rattle.plan_model.specs.LineChecks.{Format, begins_with, given_by, is_inhabited, version_of, is_repeated, is_too_many, fault_of_version}
-use Rattle.plan_model.specs.LineChecks.{fault_of_statement}
-use Rattle.plan_model.specs.CanonicalText.{point_numbers, goal_numbers, corner_numbers, statement, version_statement, obstacle_statement, goal_statement}
-use Rattle.plan_model.specs.CanonicalText.{mark_statement, clearance_statements, informed_statements, plan_statements, search_statements, task_statements}
-use Rattle.plan_model.specs.CanonicalText.{canonical_statements, Covers}
+use Rattle.plan_model.specs.Scenes.Limits.{is_goal, is_mark, is_obstacle, is_plan, most_goals}
+use Rattle.plan_model.specs.Texts.Keys.{name_of, is_key, most_corners, most_lines, rival_of, version_word}
+use Rattle.plan_model.specs.Texts.LineChecks.{Format, begins_with, given_by, is_inhabited, version_of, is_repeated, is_too_many, fault_of_version}
+use Rattle.plan_model.specs.Texts.LineChecks.{fault_of_statement}
+use Rattle.plan_model.specs.Texts.CanonicalText.{point_numbers, goal_numbers, corner_numbers, statement, version_statement, obstacle_statement, goal_statement}
+use Rattle.plan_model.specs.Texts.CanonicalText.{mark_statement, clearance_statements, informed_statements, plan_statements, search_statements, task_statements}
+use Rattle.plan_model.specs.Texts.CanonicalText.{canonical_statements, Covers}
 use Rattle.plan_model.proofs.StatementNumbers.{given_by-append}
 use Rattle.scene_text.proofs.StatementTexts.{is_word, is_clean, AreSound, AreSoundAfter, AreSoundAfter-append, AreSound-after}
 use Rattle.scene_text.proofs.CanonicalWords.{IsFit, is_clean-statement, fault-none}

@@ -13,17 +13,18 @@ use Rattle.plan_model.specs.declared.scenes.Marks.{Marks}
 use Rattle.plan_model.specs.declared.scenes.Marks.TheVariants.{Drawn, Listed}
 use Rattle.plan_model.specs.declared.text_terms.Key.{Key}
 use Rattle.plan_model.specs.declared.text_terms.Key.TheVariants as keys
-use Rattle.plan_model.specs.Limits.{is_goal, is_obstacle, is_mark, is_plan}
-use Rattle.plan_model.specs.TextLines.{statements_of, lines_of}
-use Rattle.plan_model.specs.TextNumbers.{value_of}
-use Rattle.plan_model.specs.Keys.{name_of}
+use Rattle.plan_model.specs.Scenes.Limits.{is_goal, is_obstacle, is_mark, is_plan}
+use Rattle.plan_model.specs.Texts.TextLines.{statements_of, lines_of}
+use Rattle.plan_model.specs.Texts.TextNumbers.{value_of}
+use Rattle.plan_model.specs.Texts.Keys.{name_of}
 use Rattle.plan_model.specs.declared.limits.TheConstants.{MOST_CLEARANCE, MOST_MARKS}
-use Rattle.plan_model.specs.LineChecks.{Format, begins_with, given_by, is_inhabited, stands, corners_from, fault_at_end}
-use Rattle.plan_model.specs.SceneGrammar.{point_from, goal_from, number_or, plan_from, first_of, version_given, fault_of_end, given_after_version, HasFields}
-use Rattle.plan_model.specs.SceneGrammar.{Spells}
-use Rattle.plan_model.specs.CanonicalText.{point_numbers, goal_numbers, corner_numbers, statement, obstacle_statement, goal_statement, mark_statement}
-use Rattle.plan_model.specs.CanonicalText.{clearance_statements, informed_statements, plan_statements, search_statements, task_statements}
-use Rattle.plan_model.specs.CanonicalText.{canonical_statements, canonical_text, Covers}
+use Rattle.plan_model.specs.Texts.LineChecks.{Format, begins_with, given_by, is_inhabited, stands, corners_from, fault_at_end}
+use Rattle.plan_model.specs.Texts.SceneGrammar.{point_from, goal_from, number_or, plan_from, first_of, version_given, fault_of_end, given_after_version}
+use Rattle.plan_model.specs.Texts.SceneGrammar.{HasFields}
+use Rattle.plan_model.specs.Texts.SceneGrammar.{Spells}
+use Rattle.plan_model.specs.Texts.CanonicalText.{point_numbers, goal_numbers, corner_numbers, statement, obstacle_statement, goal_statement, mark_statement}
+use Rattle.plan_model.specs.Texts.CanonicalText.{clearance_statements, informed_statements, plan_statements, search_statements, task_statements}
+use Rattle.plan_model.specs.Texts.CanonicalText.{canonical_statements, canonical_text, Covers}
 use Rattle.plan_model.proofs.StatementNumbers.{given_by-append}
 use Rattle.scene_text.proofs.StatementTexts.{lines_of-text, statements_of-lines, IsSoundBelow-text}
 use Rattle.scene_text.proofs.CanonicalWords.{IsFit, short-ranged, values-decimal}

@@ -18,12 +18,12 @@ use Rattle.plan_model.specs.declared.text_terms.Key.{Key}
 use Rattle.plan_model.specs.declared.text_terms.Key.TheVariants as keys
 use Rattle.plan_model.specs.declared.limits.TheConstants.{MOST_BODY_CORNERS, MOST_GOALS, MOST_MARKS, MOST_OBSTACLE_CORNERS, MOST_OBSTACLES}
 use Rattle.plan_model.specs.declared.limits.TheConstants.{MOST_TEXT_BYTES}
-use Rattle.plan_model.specs.Limits.{is_goal, is_obstacle, is_mark, is_plan}
-use Rattle.plan_model.specs.ReportText.{line}
-use Rattle.plan_model.specs.Keys.{format_name, version_word, name_of}
-use Rattle.plan_model.specs.CanonicalText.{point_numbers, goal_numbers, corner_numbers, statement, version_statement, obstacle_statement, goal_statement}
-use Rattle.plan_model.specs.CanonicalText.{mark_statement, clearance_statements, informed_statements, plan_statements, search_statements, task_statements}
-use Rattle.plan_model.specs.CanonicalText.{canonical_text}
+use Rattle.plan_model.specs.Scenes.Limits.{is_goal, is_obstacle, is_mark, is_plan}
+use Rattle.plan_model.specs.Reports.ReportText.{line}
+use Rattle.plan_model.specs.Texts.Keys.{format_name, version_word, name_of}
+use Rattle.plan_model.specs.Texts.CanonicalText.{point_numbers, goal_numbers, corner_numbers, statement, version_statement, obstacle_statement, goal_statement}
+use Rattle.plan_model.specs.Texts.CanonicalText.{mark_statement, clearance_statements, informed_statements, plan_statements, search_statements, task_statements}
+use Rattle.plan_model.specs.Texts.CanonicalText.{canonical_text}
 use Rattle.scene_text.proofs.TextLemmas.{line-spaced}
 use Rattle.scene_text.proofs.DecimalWords.{IsShort}
 use Rattle.scene_text.proofs.CanonicalWords.{IsFit, AreShort, short-ranged}

@@ -8,13 +8,13 @@ use Rattle.plan_model.specs.declared.geometry.Point.{Point}
 use Rattle.plan_model.specs.declared.geometry.Vertex.{Vertex}
 use Rattle.plan_model.specs.declared.geometry.Goal.{Goal}
 use Rattle.plan_model.specs.declared.text_terms.Key.TheVariants as keys
-use Rattle.plan_model.specs.Convexity.{is_strictly_convex}
-use Rattle.plan_model.specs.Limits.{IsBetween, by_version, is_body, is_goal, is_obstacle, is_mark, least_obstacle_coordinate, most_clearance}
-use Rattle.plan_model.specs.Limits.{most_obstacle_coordinate, most_side, most_step}
+use Rattle.plan_model.specs.Geometry.Convexity.{is_strictly_convex}
+use Rattle.plan_model.specs.Scenes.Limits.{IsBetween, by_version, is_body, is_goal, is_obstacle, is_mark, least_obstacle_coordinate, most_clearance}
+use Rattle.plan_model.specs.Scenes.Limits.{most_obstacle_coordinate, most_side, most_step}
 use Rattle.plan_model.specs.declared.limits.TheConstants.{LEAST_BODY_COORDINATE, LEAST_CORNERS, LEAST_SIDE, LEAST_STEP, MOST_BODY_COORDINATE}
 use Rattle.plan_model.specs.declared.limits.TheConstants.{MOST_BODY_CORNERS, MOST_GAMMA, MOST_MARKS, MOST_OBSTACLE_CORNERS, MOST_SEED, MOST_STRIPS}
-use Rattle.plan_model.specs.LineChecks.{corners_from}
-use Rattle.plan_model.specs.CanonicalText.{point_numbers, goal_numbers, corner_numbers}
+use Rattle.plan_model.specs.Texts.LineChecks.{corners_from}
+use Rattle.plan_model.specs.Texts.CanonicalText.{point_numbers, goal_numbers, corner_numbers}
 use Rattle.scene_text.proofs.CanonicalWords.{IsFit}
 
 -- ---- one number

@@ -12,11 +12,11 @@ use Rattle.plan_model.specs.declared.text_terms.Kind.TheVariants as kinds
 use Rattle.plan_model.specs.declared.limits.TheConstants.{LEAST_OBSTACLE_COORDINATE, LEAST_OBSTACLE_COORDINATE_OF_VERSION_2, MOST_CLEARANCE, MOST_GAMMA}
 use Rattle.plan_model.specs.declared.limits.TheConstants.{MOST_MARKS, MOST_OBSTACLE_COORDINATE, MOST_OBSTACLE_COORDINATE_OF_VERSION_2, MOST_SIDE}
 use Rattle.plan_model.specs.declared.limits.TheConstants.{MOST_SIDE_OF_VERSION_2, MOST_STEP, MOST_STEP_OF_VERSION_2, MOST_STRIPS}
-use Rattle.plan_model.specs.TextNumbers.{is_number, value_of}
-use Rattle.plan_model.specs.Keys.{name_of, is_key, least_of, most_of, fits_words}
-use Rattle.plan_model.specs.LineChecks.{is_repeated, is_too_many, is_in_range, is_ordered, are_between, has_corners, first_failing, fault_at_key}
-use Rattle.plan_model.specs.LineChecks.{fault_of_statement, Given}
-use Rattle.plan_model.specs.CanonicalText.{statement}
+use Rattle.plan_model.specs.Texts.TextNumbers.{is_number, value_of}
+use Rattle.plan_model.specs.Texts.Keys.{name_of, is_key, least_of, most_of, fits_words}
+use Rattle.plan_model.specs.Texts.LineChecks.{is_repeated, is_too_many, is_in_range, is_ordered, are_between, has_corners, first_failing, fault_at_key}
+use Rattle.plan_model.specs.Texts.LineChecks.{fault_of_statement, Given}
+use Rattle.plan_model.specs.Texts.CanonicalText.{statement}
 use Rattle.plan_model.proofs.StatementNumbers.{key_of-name}
 use Rattle.scene_text.proofs.StatementTexts.{is_word, is_clean}
 use Rattle.scene_text.proofs.DecimalWords.{IsShort, is_word-signed, is_number-signed, value_of-signed}

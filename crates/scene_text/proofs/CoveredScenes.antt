@@ -5,11 +5,11 @@ use Rattle.std.proofs.lemmas.Bool.{eqb-true}
 use Rattle.plan_model.specs.declared.scenes.Scene.{Scene}
 use Rattle.plan_model.specs.declared.text_terms.Key.{Key}
 use Rattle.plan_model.specs.declared.text_terms.Key.TheVariants as keys
-use Rattle.plan_model.specs.SceneGrammar.{Spells, is_supported, supported, whole_format}
-use Rattle.plan_model.specs.Limits.{by_version}
-use Rattle.plan_model.specs.ReportText.{line}
-use Rattle.plan_model.specs.CanonicalText.{point_numbers, corner_numbers, statement, version_statement, obstacle_statement, clearance_statements}
-use Rattle.plan_model.specs.CanonicalText.{task_statements, plan_statements, canonical_text, has_key, Covers}
+use Rattle.plan_model.specs.Texts.SceneGrammar.{Spells, is_supported, supported, whole_format}
+use Rattle.plan_model.specs.Scenes.Limits.{by_version}
+use Rattle.plan_model.specs.Reports.ReportText.{line}
+use Rattle.plan_model.specs.Texts.CanonicalText.{point_numbers, corner_numbers, statement, version_statement, obstacle_statement, clearance_statements}
+use Rattle.plan_model.specs.Texts.CanonicalText.{task_statements, plan_statements, canonical_text, has_key, Covers}
 use Rattle.plan_model.proofs.ReadVersions.{IsReadVersion-spelled}
 
 pub Covers-whole : (scene : Scene) → Covers whole_format scene

@@ -8,7 +8,7 @@ use Rattle.std.proofs.lemmas.List.Folds.{list_all-append}
 use Rattle.std.proofs.lemmas.List.Sums.{fold-append}
 use Rattle.std.proofs.lemmas.Bool.Decides.{nat_tests}
 use Rattle.std.proofs.lemmas.Bool.{and_parts}
-use Rattle.plan_model.specs.TextNumbers.{is_digit, is_positive, is_number, magnitude, value_of}
+use Rattle.plan_model.specs.Texts.TextNumbers.{is_digit, is_positive, is_number, magnitude, value_of}
 use Rattle.scene_text.proofs.StatementTexts.{is_inner, is_word}
 
 -- the number has at most 64 bits

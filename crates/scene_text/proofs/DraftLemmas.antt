@@ -9,13 +9,13 @@ use Rattle.plan_model.specs.declared.geometry.Vertex.{Vertex}
 use Rattle.plan_model.specs.declared.text_terms.Key.{Key}
 use Rattle.plan_model.specs.declared.text_terms.Key.TheVariants as keys
 use Rattle.plan_model.specs.declared.text_terms.Kind.TheVariants as kinds
-use Rattle.plan_model.specs.TextLines.{is_skipped}
-use Rattle.plan_model.specs.TextNumbers.{value_of}
-use Rattle.plan_model.specs.Keys.{name_of}
-use Rattle.plan_model.specs.LineChecks.{Check, Given, with_statement, version_of, fault_of_statement}
-use Rattle.plan_model.specs.LineChecks.{first_failing}
-use Rattle.plan_model.specs.SceneGrammar.{is_supported, supported}
-use Rattle.plan_model.specs.CanonicalText.{point_numbers, goal_numbers, corner_numbers}
+use Rattle.plan_model.specs.Texts.TextLines.{is_skipped}
+use Rattle.plan_model.specs.Texts.TextNumbers.{value_of}
+use Rattle.plan_model.specs.Texts.Keys.{name_of}
+use Rattle.plan_model.specs.Texts.LineChecks.{Check, Given, with_statement, version_of, fault_of_statement}
+use Rattle.plan_model.specs.Texts.LineChecks.{first_failing}
+use Rattle.plan_model.specs.Texts.SceneGrammar.{is_supported, supported}
+use Rattle.plan_model.specs.Texts.CanonicalText.{point_numbers, goal_numbers, corner_numbers}
 use Rattle.scene_text.specs.declared.drafts.Draft.{Draft}
 use Rattle.scene_text.specs.Drafts.{given_by_draft, given_after, version_after, TakesLine}
 

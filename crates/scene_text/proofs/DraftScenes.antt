@@ -9,10 +9,10 @@ use Rattle.plan_model.specs.declared.geometry.Goal.{Goal}
 use Rattle.plan_model.specs.declared.text_terms.Key.{Key}
 use Rattle.plan_model.specs.declared.text_terms.Key.TheVariants as keys
 use Rattle.plan_model.specs.declared.limits.TheConstants.{LEAST_SIDE, LEAST_STEP, MOST_GAMMA, MOST_STRIPS}
-use Rattle.plan_model.specs.Limits.{IsBetween, are_goals, are_obstacles, is_body, is_plan, most_clearance, most_side, most_step}
-use Rattle.plan_model.specs.LineChecks.{is_inhabited, corners_from, fault_at_end, MayStand, AllMayStand}
-use Rattle.plan_model.specs.SceneGrammar.{first_of, number_or, point_from, goal_from, body_from, plan_from}
-use Rattle.plan_model.specs.CanonicalText.{point_numbers, goal_numbers, corner_numbers}
+use Rattle.plan_model.specs.Scenes.Limits.{IsBetween, are_goals, are_obstacles, is_body, is_plan, most_clearance, most_side, most_step}
+use Rattle.plan_model.specs.Texts.LineChecks.{is_inhabited, corners_from, fault_at_end, MayStand, AllMayStand}
+use Rattle.plan_model.specs.Texts.SceneGrammar.{first_of, number_or, point_from, goal_from, body_from, plan_from}
+use Rattle.plan_model.specs.Texts.CanonicalText.{point_numbers, goal_numbers, corner_numbers}
 use Rattle.plan_model.proofs.SceneParts.{IsWithin, room-within, body-within, start-within, goals-within, step-within, clearance-within, gamma-within}
 use Rattle.plan_model.proofs.SceneParts.{strips-within, plan-within}
 use Rattle.plan_model.proofs.GivenScenes.{obstacles-given}

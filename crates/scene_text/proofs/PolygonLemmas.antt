@@ -7,14 +7,14 @@ use Rattle.std.proofs.lemmas.Bool.Decides.{nat_tests}
 use Rattle.convex_sets.specs.Bounds.{AreBoundedCorners}
 use Rattle.convex_sets.proofs.ZoneLaws.{bounded_corners}
 use Rattle.plan_model.specs.declared.geometry.Vertex.{Vertex}
-use Rattle.plan_model.specs.TextNumbers.{is_number, value_of}
+use Rattle.plan_model.specs.Texts.TextNumbers.{is_number, value_of}
 use Rattle.plan_model.specs.declared.text_terms.Key.TheVariants as keys
 use Rattle.plan_model.specs.declared.text_terms.Kind.TheVariants as kinds
 use Rattle.plan_model.specs.declared.limits.TheConstants.{LEAST_CORNER_COORDINATE, MOST_CORNER_COORDINATE}
-use Rattle.plan_model.specs.Convexity.{is_strictly_convex}
-use Rattle.plan_model.specs.Limits.{is_corner_between}
-use Rattle.plan_model.specs.LineChecks.{are_between, corners_from, has_corners, first_failing}
-use Rattle.plan_model.specs.CanonicalText.{corner_numbers}
+use Rattle.plan_model.specs.Geometry.Convexity.{is_strictly_convex}
+use Rattle.plan_model.specs.Scenes.Limits.{is_corner_between}
+use Rattle.plan_model.specs.Texts.LineChecks.{are_between, corners_from, has_corners, first_failing}
+use Rattle.plan_model.specs.Texts.CanonicalText.{corner_numbers}
 use Rattle.plan_model.proofs.SceneParts.{corners-within}
 use Rattle.scene_text.proofs.CanonicalNumbers.{corners_from-numbers, length-corner_numbers}
 

@@ -4,9 +4,9 @@ use Rattle.std.proofs.Common.{is_some, sym, ap, ◌∙◌, subst, inl, inr, arit
 use borrow.Author.Count.{below_more}
 use Rattle.std.proofs.lemmas.List.{append-nil, drop_more, take_more, take_all, length-drop}
 use Rattle.plan_model.specs.declared.scenes.Scene.{Scene}
-use Rattle.plan_model.specs.TextLines.{lines_of, words_of, is_skipped, statements_of}
-use Rattle.plan_model.specs.LineChecks.{Given, given_by, is_inhabited, version_of, fault_of_version, fault_of_words, fault_at_end, AllMayStand}
-use Rattle.plan_model.specs.SceneGrammar.{version_given, given_after_version, fault_of_line, fault_of_end, HasFields, IsSoundBelow, Spells, supported}
+use Rattle.plan_model.specs.Texts.TextLines.{lines_of, words_of, is_skipped, statements_of}
+use Rattle.plan_model.specs.Texts.LineChecks.{Given, given_by, is_inhabited, version_of, fault_of_version, fault_of_words, fault_at_end, AllMayStand}
+use Rattle.plan_model.specs.Texts.SceneGrammar.{version_given, given_after_version, fault_of_line, fault_of_end, HasFields, IsSoundBelow, Spells, supported}
 use Rattle.plan_model.proofs.StatementNumbers.{given_by-push, statements_of-push}
 use Rattle.plan_model.proofs.SoundStatements.{IsSoundGiven-text}
 use Rattle.plan_model.proofs.ReadVersions.{IsReadVersion-given}

@@ -6,12 +6,12 @@ use Rattle.std.proofs.lemmas.List.{append_assoc, append-nil, take-map, length-ma
 use Rattle.std.proofs.Math.ListN.{get_or-map}
 use Rattle.std.proofs.lemmas.List.Folds.{list_all-append}
 use Rattle.std.proofs.lemmas.Bool.{and_parts}
-use Rattle.plan_model.specs.ReportText.{line}
-use Rattle.plan_model.specs.TextLines.{lines_of, pieces_of, words_of, is_skipped, statements_of}
+use Rattle.plan_model.specs.Reports.ReportText.{line}
+use Rattle.plan_model.specs.Texts.TextLines.{lines_of, pieces_of, words_of, is_skipped, statements_of}
 use Rattle.plan_model.specs.declared.text_terms.Key.{Key}
-use Rattle.plan_model.specs.LineChecks.{Format, given_by, version_of, fault_of_statement, fault_after}
+use Rattle.plan_model.specs.Texts.LineChecks.{Format, given_by, version_of, fault_of_statement, fault_after}
 use Rattle.plan_model.specs.declared.text_terms.Kind.{Kind}
-use Rattle.plan_model.specs.SceneGrammar.{version_given, given_after_version, fault_of_line, IsSoundBelow}
+use Rattle.plan_model.specs.Texts.SceneGrammar.{version_given, given_after_version, fault_of_line, IsSoundBelow}
 
 -- ---- words
 

@@ -4,7 +4,7 @@ use Rattle.std.proofs.lemmas.Grind.{common_steps}
 use Rattle.std.specs.Fmt.{signed_decimal}
 use Rattle.std.specs.List.{flat_map, join_with_byte}
 use Rattle.std.proofs.lemmas.List.{append_assoc, append-nil}
-use Rattle.plan_model.specs.ReportText.{line}
+use Rattle.plan_model.specs.Reports.ReportText.{line}
 
 -- a word, and then each number after a blank
 join-spaced : (word : List ℕ) (zs : List ℤ) → join_with_byte 32 (word ∷ map signed_decimal zs) ≡ word ++ flat_map (λ z. 32 ∷ signed_decimal z) zs

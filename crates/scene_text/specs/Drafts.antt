@@ -3,12 +3,12 @@ use Rattle.std.specs.Prelude.{◌≡◌, ℕ, ◌≤◌, true, false, ℤ, pos, 
 use Rattle.std.specs.List.{list_all}
 use Rattle.plan_model.specs.declared.text_terms.Key.{Key}
 use Rattle.plan_model.specs.declared.text_terms.Key.TheVariants as keys
-use Rattle.plan_model.specs.TextLines.{is_skipped}
-use Rattle.plan_model.specs.TextNumbers.{is_number}
-use Rattle.plan_model.specs.Keys.{fits_words}
-use Rattle.plan_model.specs.LineChecks.{Given, with_statement, version_of, is_repeated, is_too_many, fault_of_words, AllMayStand}
-use Rattle.plan_model.specs.SceneGrammar.{is_supported, supported}
-use Rattle.plan_model.specs.CanonicalText.{point_numbers, goal_numbers, corner_numbers}
+use Rattle.plan_model.specs.Texts.TextLines.{is_skipped}
+use Rattle.plan_model.specs.Texts.TextNumbers.{is_number}
+use Rattle.plan_model.specs.Texts.Keys.{fits_words}
+use Rattle.plan_model.specs.Texts.LineChecks.{Given, with_statement, version_of, is_repeated, is_too_many, fault_of_words, AllMayStand}
+use Rattle.plan_model.specs.Texts.SceneGrammar.{is_supported, supported}
+use Rattle.plan_model.specs.Texts.CanonicalText.{point_numbers, goal_numbers, corner_numbers}
 use Rattle.scene_text.specs.declared.drafts.Draft.{Draft}
 
 -- ---- what a draft gives

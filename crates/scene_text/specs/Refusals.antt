@@ -2,8 +2,8 @@
 use Rattle.std.specs.Prelude.{◌≡◌, ℕ, Option, Some, List, codes}
 use Rattle.std.specs.List.{join_with_byte}
 use Rattle.plan_model.specs.declared.text_terms.Kind.{Kind}
-use Rattle.plan_model.specs.KindNames.{fault_words}
-use Rattle.plan_model.specs.SceneGrammar.{Refused, supported}
+use Rattle.plan_model.specs.Texts.KindNames.{fault_words}
+use Rattle.plan_model.specs.Texts.SceneGrammar.{Refused, supported}
 use Rattle.scene_text.specs.declared.refusals.SceneRefusal.{SceneRefusal}
 use Rattle.scene_text.specs.declared.refusals.SceneRefusal.TheVariants as scene
 use Rattle.scene_text.specs.declared.refusals.LineRefusal.{LineRefusal}

@@ -2,7 +2,7 @@
 
 ghost use Rattle.std.specs.Prelude.{◌≡◌, ◌≤◌, length, true, false, IsTrue, IfOk, OnOk, OnErr, IsErrOf};
 ghost use Rattle.std.specs.Io.KnownBytes.{IsAtEnd};
-ghost use Rattle.plan_model.specs.Streams.{FaultsRose, counted};
+ghost use Rattle.plan_model.specs.Texts.Streams.{FaultsRose, counted};
 ghost use Rattle.plan_model.specs.declared.limits.TheConstants.{MOST_TEXT_BYTES};
 ghost use Rattle.scene_text.specs.Fetching.{CameTooLong, Fetches, IsAllOf, ReadsWithin};
 ghost use Rattle.scene_text.specs.declared.fetching.FetchFault.TheVariants as faults;

@@ -4,12 +4,12 @@ ghost use Rattle.std.specs.Prelude.{◌≡◌, ◌≤ℤ◌, ◌<◌, ◌%◌, �
 ghost use Rattle.std.specs.Prelude.{IfOk, IfErr, OnOk, IfSome, IfNone, IsTrue};
 ghost use Rattle.std.specs.List.{list_all};
 ghost use Rattle.convex_sets.specs.Bounds.{AreBoundedCorners};
-ghost use Rattle.plan_model.specs.Convexity.{is_strictly_convex};
-ghost use Rattle.plan_model.specs.CanonicalText.{point_numbers, goal_numbers, corner_numbers};
-ghost use Rattle.plan_model.specs.TextLines.{words_of};
-ghost use Rattle.plan_model.specs.TextNumbers.{is_number, value_of};
-ghost use Rattle.plan_model.specs.Keys.{least_of, most_of};
-ghost use Rattle.plan_model.specs.LineChecks.{are_between, is_in_range, first_failing, number_checks};
+ghost use Rattle.plan_model.specs.Geometry.Convexity.{is_strictly_convex};
+ghost use Rattle.plan_model.specs.Texts.CanonicalText.{point_numbers, goal_numbers, corner_numbers};
+ghost use Rattle.plan_model.specs.Texts.TextLines.{words_of};
+ghost use Rattle.plan_model.specs.Texts.TextNumbers.{is_number, value_of};
+ghost use Rattle.plan_model.specs.Texts.Keys.{least_of, most_of};
+ghost use Rattle.plan_model.specs.Texts.LineChecks.{are_between, is_in_range, first_failing, number_checks};
 ghost use Rattle.plan_model.specs.declared.text_terms.Key.TheVariants as keys;
 ghost use Rattle.plan_model.specs.declared.text_terms.Kind.TheVariants as kinds;
 ghost use Rattle.scene_text.specs.Refusals.{IsLineRefusal};

@@ -1,9 +1,9 @@
 //! The versions, the keys of lines, and the tables of what may stand after each key, and how often, by the version.
 
 ghost use Rattle.std.specs.Prelude.{◌≡◌, pos};
-ghost use Rattle.plan_model.specs.Keys.{every_key, fits_words, is_key, key_among, key_of, least_of, most_corners, most_lines, most_of, rival_of};
-ghost use Rattle.plan_model.specs.Limits.{by_version, most_obstacle_coordinate};
-ghost use Rattle.plan_model.specs.SceneGrammar.{is_supported};
+ghost use Rattle.plan_model.specs.Texts.Keys.{every_key, fits_words, is_key, key_among, key_of, least_of, most_corners, most_lines, most_of, rival_of};
+ghost use Rattle.plan_model.specs.Scenes.Limits.{by_version, most_obstacle_coordinate};
+ghost use Rattle.plan_model.specs.Texts.SceneGrammar.{is_supported};
 
 use plan_model::{
     Key, LEAST_BODY_COORDINATE, LEAST_CORNERS, LEAST_OBSTACLE_COORDINATE,

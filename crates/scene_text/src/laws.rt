@@ -2,10 +2,10 @@
 
 ghost use Rattle.std.specs.Prelude.{◌≡◌, ℕ, ◌≤◌, length};
 ghost use Rattle.plan_model.specs.declared.scenes.Scene.{Scene};
-ghost use Rattle.plan_model.specs.CanonicalText.{canonical_text, Covers};
+ghost use Rattle.plan_model.specs.Texts.CanonicalText.{canonical_text, Covers};
 ghost use Rattle.plan_model.specs.declared.text_terms.Kind.{Kind};
-ghost use Rattle.plan_model.specs.LineChecks.{Format};
-ghost use Rattle.plan_model.specs.SceneGrammar.{Spells, Refused};
+ghost use Rattle.plan_model.specs.Texts.LineChecks.{Format};
+ghost use Rattle.plan_model.specs.Texts.SceneGrammar.{Spells, Refused};
 ghost use Rattle.plan_model.specs.declared.limits.TheConstants.{MOST_TEXT_BYTES};
 
 /// What is written for a scene is read as the same scene: in each format that has its version and its keys its canonical

@@ -1,7 +1,7 @@
 //! The reader of a scene text.
 
 ghost use Rattle.std.specs.Prelude.{◌<◌, length, IfOk, IfErr};
-ghost use Rattle.plan_model.specs.SceneGrammar.{Spells, supported};
+ghost use Rattle.plan_model.specs.Texts.SceneGrammar.{Spells, supported};
 ghost use Rattle.scene_text.specs.Refusals.{IsSceneRefusal};
 
 use crate::drafts::Draft;

@@ -2,12 +2,12 @@
 
 ghost use Rattle.std.specs.Prelude.{◌≡◌, ◌≤◌, [], ◌∷◌, ◌++◌, length, map, flat_map, string_bytes, IfOk, OnOk};
 ghost use Rattle.std.specs.Fmt.{signed_decimal};
-ghost use Rattle.plan_model.specs.CanonicalText.{canonical_text, corner_numbers, goal_statement, mark_statement, obstacle_statement};
-ghost use Rattle.plan_model.specs.CanonicalText.{informed_statements, plan_statements, point_numbers, search_statements, statement, task_statements};
-ghost use Rattle.plan_model.specs.CanonicalText.{version_statement};
+ghost use Rattle.plan_model.specs.Texts.CanonicalText.{canonical_text, corner_numbers, goal_statement, mark_statement, obstacle_statement};
+ghost use Rattle.plan_model.specs.Texts.CanonicalText.{informed_statements, plan_statements, point_numbers, search_statements, statement, task_statements};
+ghost use Rattle.plan_model.specs.Texts.CanonicalText.{version_statement};
 ghost use Rattle.plan_model.specs.declared.text_terms.Key.TheVariants as keys;
-ghost use Rattle.plan_model.specs.ReportText.{line};
-ghost use Rattle.plan_model.specs.SceneGrammar.{Spells, supported};
+ghost use Rattle.plan_model.specs.Reports.ReportText.{line};
+ghost use Rattle.plan_model.specs.Texts.SceneGrammar.{Spells, supported};
 ghost use Rattle.plan_model.specs.declared.limits.TheConstants.{MOST_TEXT_BYTES};
 
 use plan_model::{Goal, Marks, Memory, Point, Poly, Scene, Vertex};

@@ -1,7 +1,7 @@
 //! Canonical texts of a small scene, of one with as many obstacles as there may be, and of scenes that are read again.
 
 ghost use Rattle.std.specs.Prelude.{◌≡◌, IfOk, IsTrue};
-ghost use Rattle.plan_model.specs.Limits.{is_obstacle, are_obstacles};
+ghost use Rattle.plan_model.specs.Scenes.Limits.{is_obstacle, are_obstacles};
 
 use crate::test_scenes::{POLYGONS, scene_of, sure};
 use plan_model::{MOST_OBSTACLES, Poly, Polys, Scene, Vertex};

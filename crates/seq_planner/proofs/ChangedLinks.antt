@@ -32,8 +32,8 @@ use Rattle.std.proofs.lemmas.Bool.{cases_lt, cases_eq, eq-eqb, ne_eqb}
 use Rattle.std.proofs.lemmas.List.{get_or-set_same, get_or-set_other, length-append}
 use Rattle.std.proofs.Math.ListN.{length-set}
 use Rattle.plan_model.specs.declared.trees.Twig.{Twig}
-use Rattle.plan_model.specs.PointsByNumber.{IsPresent}
-use Rattle.plan_model.specs.Trees.{node_at, points_of}
+use Rattle.plan_model.specs.Trees.PointsByNumber.{IsPresent}
+use Rattle.plan_model.specs.Trees.NodeLists.{node_at, points_of}
 use Rattle.plan_model.proofs.TreeChanges.{node_at-push_new, node_at-past, node_at-absent}
 use Rattle.plan_model.proofs.NewNodes.{Adds-push, present_below}
 use Rattle.seq_planner.specs.declared.child_lists.ChildLists.{ChildLists}

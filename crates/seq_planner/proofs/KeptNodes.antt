@@ -2,13 +2,13 @@
 use Rattle.std.proofs.Common.{◌≡◌, ℕ, zero, suc, List, [], ◌∷◌, length, get_or, Some, None, arith, refl, sym, ap, ◌∙◌, subst}
 use Rattle.plan_model.specs.declared.geometry.Point.{Point}
 use Rattle.plan_model.specs.declared.records.Record.{Record}
-use Rattle.plan_model.specs.Clearance.{ClearAt}
-use Rattle.plan_model.specs.ClosedLaw.{IsClosed}
-use Rattle.plan_model.specs.PointsByNumber.{IsPresent, point_at}
-use Rattle.plan_model.specs.SameRuns.{IsOfTextbookRun}
-use Rattle.plan_model.specs.Textbook.{Nodes, Setup, IsTextbookRun}
-use Rattle.plan_model.specs.Trees.{points_of, parent_of, without_costs}
-use Rattle.plan_model.specs.TreeStates.{TreeState, AreSameRuns, state_of}
+use Rattle.plan_model.specs.Spaces.Clearance.{ClearAt}
+use Rattle.plan_model.specs.Runs.ClosedLaw.{IsClosed}
+use Rattle.plan_model.specs.Trees.PointsByNumber.{IsPresent, point_at}
+use Rattle.plan_model.specs.Runs.SameRuns.{IsOfTextbookRun}
+use Rattle.plan_model.specs.Runs.Textbook.{Nodes, Setup, IsTextbookRun}
+use Rattle.plan_model.specs.Trees.NodeLists.{points_of, parent_of, without_costs}
+use Rattle.plan_model.specs.Trees.TreeStates.{TreeState, AreSameRuns, state_of}
 use Rattle.plan_model.proofs.RunLaws.{HandlesAll-length}
 use Rattle.plan_model.proofs.SameTrees.{AreSameRuns-trans, IsClosed-same_run}
 use Rattle.plan_model.proofs.TextbookRuns.{IsClosed-textbook}

@@ -3,8 +3,8 @@ use Rattle.std.proofs.Common.{◌≡◌, ℕ, suc, ◌+◌, ◌<◌, ◌≤◌, 
 use Rattle.std.specs.Prelude.{◌≢◌, ◌==◌}
 use Rattle.std.proofs.lemmas.Bool.{cases_Bool, cases_eq, cases_lt}
 use Rattle.plan_model.specs.declared.trees.Twig.{Twig}
-use Rattle.plan_model.specs.PointsByNumber.{IsPresent}
-use Rattle.plan_model.specs.Trees.{points_of, parent_of, CostsFall}
+use Rattle.plan_model.specs.Trees.PointsByNumber.{IsPresent}
+use Rattle.plan_model.specs.Trees.NodeLists.{points_of, parent_of, CostsFall}
 use Rattle.seq_planner.specs.LinkedTrees.{is_child_of}
 use Rattle.seq_planner.proofs.Children.{IsChild, IsChild-is_child_of, is_child_of-present, IsChild-costs}
 use Rattle.seq_planner.proofs.LoweredBranches.{one_if, equal_one, other_none, HasFallen, IsDue, IsUnderway}

@@ -7,18 +7,19 @@ use Rattle.plan_model.specs.declared.geometry.Point.{Point}
 use Rattle.plan_model.specs.declared.trees.Twig.{Twig}
 use Rattle.plan_model.specs.declared.scenes.Scene.{Scene}
 use Rattle.plan_model.specs.declared.records.Record.{Record}
-use Rattle.plan_model.specs.ConfigurationSpace.{space_of}
-use Rattle.plan_model.specs.Clearance.{Clear}
-use Rattle.plan_model.specs.EmptyRooms.{IsInRoom}
-use Rattle.plan_model.specs.LeastPairs.{IsFirstLeast}
-use Rattle.plan_model.specs.Radius.{class_of, radius_of}
-use Rattle.plan_model.specs.Steering.{steered}
-use Rattle.plan_model.specs.Nearness.{IsNearest}
-use Rattle.plan_model.specs.OpenNodes.{IsOpenTo}
-use Rattle.plan_model.specs.PointsByNumber.{StandsAt, IsPresent, IsFree, point_of, node_count}
-use Rattle.plan_model.specs.Trees.{points_of}
-use Rattle.plan_model.specs.Textbook.{Nodes, setup_of, near_new, SteersTo, Rewires, EndsPlaced, Handles, IsCandidate, IsBestParent, cost_through, same_record}
-use Rattle.plan_model.specs.Textbook.{blocked_record, placed_record}
+use Rattle.plan_model.specs.Spaces.ConfigurationSpace.{space_of}
+use Rattle.plan_model.specs.Spaces.Clearance.{Clear}
+use Rattle.plan_model.specs.Spaces.EmptyRooms.{IsInRoom}
+use Rattle.plan_model.specs.Trees.LeastPairs.{IsFirstLeast}
+use Rattle.plan_model.specs.Geometry.Radius.{class_of, radius_of}
+use Rattle.plan_model.specs.Geometry.Steering.{steered}
+use Rattle.plan_model.specs.Trees.Nearness.{IsNearest}
+use Rattle.plan_model.specs.Trees.OpenNodes.{IsOpenTo}
+use Rattle.plan_model.specs.Trees.PointsByNumber.{StandsAt, IsPresent, IsFree, point_of, node_count}
+use Rattle.plan_model.specs.Trees.NodeLists.{points_of}
+use Rattle.plan_model.specs.Runs.Textbook.{Nodes, setup_of, near_new, SteersTo, Rewires, EndsPlaced, Handles, IsCandidate, IsBestParent, cost_through}
+use Rattle.plan_model.specs.Runs.Textbook.{same_record}
+use Rattle.plan_model.specs.Runs.Textbook.{blocked_record, placed_record}
 use Rattle.plan_model.proofs.LeastPairLaws.{IsFirstLeast-among}
 use Rattle.plan_model.proofs.EmptyRoomClearance.{AreInRoom-from_clear}
 use Rattle.plan_model.proofs.SteeredNodes.{IsFree-steered}

@@ -2,9 +2,9 @@
 use Rattle.std.proofs.Common.{◌≡◌, ℕ, zero, suc, true, [], ◌∷◌, ◌++◌, length, Some, arith, ap, inl, inr}
 use Rattle.plan_model.specs.declared.geometry.Point.{Point}
 use Rattle.plan_model.specs.declared.trees.Twig.{Twig}
-use Rattle.plan_model.specs.PointsByNumber.{IsPresent, point_of}
-use Rattle.plan_model.specs.Trees.{points_of, parent_of, CostsFall}
-use Rattle.plan_model.specs.Textbook.{Nodes}
+use Rattle.plan_model.specs.Trees.PointsByNumber.{IsPresent, point_of}
+use Rattle.plan_model.specs.Trees.NodeLists.{points_of, parent_of, CostsFall}
+use Rattle.plan_model.specs.Runs.Textbook.{Nodes}
 use Rattle.plan_model.proofs.NewNodes.{present_below, StandsAt-present, IsPresent-stands, Adds-push, new_or_kept, parent_of-kept, parent_of-new}
 use Rattle.seq_planner.specs.LinkedTrees.{is_child_of}
 use Rattle.seq_planner.proofs.Children.{IsChild, IsChild-is_child_of}

@@ -5,8 +5,8 @@ use Rattle.std.specs.List.{count_by, sum}
 use Rattle.std.proofs.lemmas.List.{get_or-set_same, get_or-set_other}
 use Rattle.std.proofs.lemmas.List.Sums.{count_by-le-length, sum_by_push, sum_by-set}
 use Rattle.plan_model.specs.declared.trees.Twig.{Twig}
-use Rattle.plan_model.specs.PointsByNumber.{IsPresent}
-use Rattle.plan_model.specs.Trees.{points_of}
+use Rattle.plan_model.specs.Trees.PointsByNumber.{IsPresent}
+use Rattle.plan_model.specs.Trees.NodeLists.{points_of}
 use Rattle.plan_model.proofs.NewNodes.{present_below}
 use Rattle.seq_planner.specs.LinkedTrees.{is_child_of}
 use Rattle.seq_planner.proofs.LoweredBranches.{one_if, equal_one, IsUnderway}

@@ -5,10 +5,10 @@ use Rattle.std.proofs.lemmas.List.Elements.{All-weaker}
 use Rattle.plan_model.specs.declared.geometry.Point.{Point}
 use Rattle.plan_model.specs.declared.trees.Twig.{Twig}
 use Rattle.plan_model.specs.declared.scenes.Scene.{Scene}
-use Rattle.plan_model.specs.ConfigurationSpace.{space_of}
-use Rattle.plan_model.specs.PointsByNumber.{IsPresent}
-use Rattle.plan_model.specs.Trees.{points_of, CostsFall}
-use Rattle.plan_model.specs.Textbook.{Nodes, Rewires}
+use Rattle.plan_model.specs.Spaces.ConfigurationSpace.{space_of}
+use Rattle.plan_model.specs.Trees.PointsByNumber.{IsPresent}
+use Rattle.plan_model.specs.Trees.NodeLists.{points_of, CostsFall}
+use Rattle.plan_model.specs.Runs.Textbook.{Nodes, Rewires}
 use Rattle.plan_model.proofs.TreeChanges.{points_of-push}
 use Rattle.plan_model.proofs.DistinctPoints.{IsPresent-push}
 use Rattle.seq_planner.specs.declared.extensions.Extension.{Extension}

@@ -2,11 +2,11 @@
 use Rattle.std.proofs.Common.{◌≡◌, ℕ, ◌+◌, ◌≤◌, List, length, Option, max, arith}
 use Rattle.plan_model.specs.declared.geometry.Point.{Point}
 use Rattle.plan_model.specs.declared.scenes.Scene.{Scene}
-use Rattle.plan_model.specs.Bounds.{IsBounded}
-use Rattle.plan_model.specs.Nearness.{IsNearest}
-use Rattle.plan_model.specs.PointsByNumber.{point_of}
-use Rattle.plan_model.specs.Steering.{steered}
-use Rattle.plan_model.specs.Trees.{points_of}
+use Rattle.plan_model.specs.Geometry.Bounds.{IsBounded}
+use Rattle.plan_model.specs.Trees.Nearness.{IsNearest}
+use Rattle.plan_model.specs.Trees.PointsByNumber.{point_of}
+use Rattle.plan_model.specs.Geometry.Steering.{steered}
+use Rattle.plan_model.specs.Trees.NodeLists.{points_of}
 use Rattle.seq_planner.specs.declared.search_tree.SearchTree.{SearchTree}
 use Rattle.seq_planner.specs.PlacedLists.{ArePlaced}
 use Rattle.seq_planner.specs.SearchTrees.{IsSoundTree}

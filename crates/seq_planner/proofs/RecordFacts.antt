@@ -5,8 +5,8 @@ use Rattle.std.proofs.Props.{props}
 use Rattle.plan_model.specs.declared.records.Outcome.{Outcome}
 use Rattle.plan_model.specs.declared.records.Outcome.TheVariants.{Placed}
 use Rattle.plan_model.specs.declared.records.Record.{Record}
-use Rattle.plan_model.specs.Outcomes.{is_zero_unless_placed}
-use Rattle.plan_model.specs.Textbook.{placed_record}
+use Rattle.plan_model.specs.Runs.Outcomes.{is_zero_unless_placed}
+use Rattle.plan_model.specs.Runs.Textbook.{placed_record}
 
 one_proof : (b : Bool) → IsProp (IsTrue b)
 one_proof b = hlevel props

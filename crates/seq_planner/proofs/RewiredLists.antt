@@ -7,9 +7,9 @@ use Rattle.std.proofs.lemmas.Bool.{cases_eq, cases_lt}
 use Rattle.std.proofs.lemmas.List.{take_more, get_or-set_other}
 use Rattle.plan_model.specs.declared.trees.Twig.{Twig}
 use Rattle.plan_model.specs.declared.configuration_spaces.ConfigurationSpace.{ConfigurationSpace}
-use Rattle.plan_model.specs.PointsByNumber.{point_of}
-use Rattle.plan_model.specs.Trees.{points_of}
-use Rattle.plan_model.specs.Textbook.{Nodes, with_parent, RewiresOne, Rewires}
+use Rattle.plan_model.specs.Trees.PointsByNumber.{point_of}
+use Rattle.plan_model.specs.Trees.NodeLists.{points_of}
+use Rattle.plan_model.specs.Runs.Textbook.{Nodes, with_parent, RewiresOne, Rewires}
 use Rattle.seq_planner.specs.declared.search_tree.SearchTree.{SearchTree}
 use Rattle.seq_planner.specs.LinkedTrees.{is_parent_number, is_child_of}
 use Rattle.seq_planner.specs.SearchTrees.{IsSoundTree}

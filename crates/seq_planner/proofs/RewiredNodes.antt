@@ -3,13 +3,13 @@ use Rattle.std.proofs.Common.{◌≡◌, ℕ, ◌+◌, ◌-◌, ◌<◌, List, l
 use Rattle.std.proofs.lemmas.List.{length-set}
 use Rattle.std.proofs.lemmas.Bool.{cases_eq}
 use Rattle.plan_model.specs.declared.geometry.Point.{Point}
-use Rattle.plan_model.specs.Branches.{IsBranchLowered}
-use Rattle.plan_model.specs.Clearance.{Clear}
+use Rattle.plan_model.specs.Trees.Branches.{IsBranchLowered}
+use Rattle.plan_model.specs.Spaces.Clearance.{Clear}
 use Rattle.plan_model.specs.declared.configuration_spaces.ConfigurationSpace.{ConfigurationSpace}
-use Rattle.plan_model.specs.Cost.{cost_of}
-use Rattle.plan_model.specs.PointsByNumber.{IsPresent, point_of, AreDistinct}
-use Rattle.plan_model.specs.Trees.{points_of, parent_of, sum_of}
-use Rattle.plan_model.specs.Textbook.{Nodes, with_parent, cost_through, IsCheaperThrough}
+use Rattle.plan_model.specs.Geometry.Cost.{cost_of}
+use Rattle.plan_model.specs.Trees.PointsByNumber.{IsPresent, point_of, AreDistinct}
+use Rattle.plan_model.specs.Trees.NodeLists.{points_of, parent_of, sum_of}
+use Rattle.plan_model.specs.Runs.Textbook.{Nodes, with_parent, cost_through, IsCheaperThrough}
 use Rattle.plan_model.proofs.ParentChanges.{HasCheaperParent, points_of-cheaper_parent, AreTight-cheaper_parent, CostsFall-lowered}
 use Rattle.seq_planner.specs.declared.placed_points.PlacedPoints.{PlacedPoints}
 use Rattle.seq_planner.specs.PlacedLists.{ArePlaced}

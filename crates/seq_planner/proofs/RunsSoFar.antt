@@ -4,7 +4,7 @@ use Rattle.std.proofs.lemmas.List.{take_more}
 use Rattle.plan_model.specs.declared.geometry.Point.{Point}
 use Rattle.plan_model.specs.declared.scenes.Scene.{Scene}
 use Rattle.plan_model.specs.declared.records.Record.{Record}
-use Rattle.plan_model.specs.Textbook.{setup_of, start_alone, Handles, HandlesAll}
+use Rattle.plan_model.specs.Runs.Textbook.{setup_of, start_alone, Handles, HandlesAll}
 use Rattle.plan_model.proofs.RunLaws.{HandlesAll-push}
 use Rattle.seq_planner.specs.declared.search_tree.SearchTree.{SearchTree}
 use Rattle.seq_planner.specs.SearchTrees.{IsSoundTree, GrowsByMark}

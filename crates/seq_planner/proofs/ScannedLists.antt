@@ -9,10 +9,10 @@ use Rattle.std.proofs.lemmas.List.{append-nil, get_or-map, get_or_default, get_o
 use Rattle.std.proofs.lemmas.List.Elements.{All-get_or, filter_more}
 use Rattle.std.proofs.lemmas.List.FromFn.{length-range_with_len, get_or-range_with_len}
 use Rattle.std.proofs.lemmas.List.Kept.{AllPairs-from_increasing, IsStrictlyIncreasing-filter}
-use Rattle.plan_model.specs.Geometry.{squared_distance}
-use Rattle.plan_model.specs.LeastPairs.{IsFirstLeast}
-use Rattle.plan_model.specs.Nearness.{distance_to, IsNearest, is_within, near}
-use Rattle.plan_model.specs.PointsByNumber.{point_at, StandsAt, IsPresent, point_of, IsFree}
+use Rattle.plan_model.specs.Geometry.Plane.{squared_distance}
+use Rattle.plan_model.specs.Trees.LeastPairs.{IsFirstLeast}
+use Rattle.plan_model.specs.Trees.Nearness.{distance_to, IsNearest, is_within, near}
+use Rattle.plan_model.specs.Trees.PointsByNumber.{point_at, StandsAt, IsPresent, point_of, IsFree}
 use Rattle.plan_model.specs.declared.geometry.Point.{Point}
 use Rattle.plan_model.proofs.DistinctPoints.{IsPresent-below, within_present}
 use Rattle.plan_model.proofs.FreePoints.{is_near_free, filter-none}

@@ -8,10 +8,10 @@ use Rattle.std.proofs.lemmas.List.Sums.{count_by-le-length}
 use Rattle.std.proofs.lemmas.Bool.{cases_order}
 use Rattle.plan_model.specs.declared.geometry.Point.{Point}
 use Rattle.plan_model.specs.declared.trees.Twig.{Twig}
-use Rattle.plan_model.specs.Bounds.{IsBounded}
-use Rattle.plan_model.specs.PointsByNumber.{StandsAt, IsPresent, point_of, node_count}
-use Rattle.plan_model.specs.Trees.{points_of, parent_of, sum_of}
-use Rattle.plan_model.specs.Textbook.{Nodes}
+use Rattle.plan_model.specs.Geometry.Bounds.{IsBounded}
+use Rattle.plan_model.specs.Trees.PointsByNumber.{StandsAt, IsPresent, point_of, node_count}
+use Rattle.plan_model.specs.Trees.NodeLists.{points_of, parent_of, sum_of}
+use Rattle.plan_model.specs.Runs.Textbook.{Nodes}
 use Rattle.plan_model.proofs.TreeChanges.{points_of-push, node_count-push, node_at-absent}
 use Rattle.plan_model.proofs.NewNodes.{Adds, Adds-push, AreDistinct-adds, StandsAt-present}
 use Rattle.plan_model.proofs.NewNodes.{node_count-some, new_or_kept, point_at-same, present_below}

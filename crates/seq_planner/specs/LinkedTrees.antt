@@ -1,8 +1,8 @@
 -- The children of nodes, and lists of them in falling number.
 use Rattle.std.specs.Prelude.{◌≡◌, ◌≢◌, ℕ, zero, suc, ◌+◌, ◌<◌, ◌≤◌, ◌==◌, Bool, false, Option, Some, None, List, length, slice_index_or, option_map}
 use Rattle.plan_model.specs.declared.trees.Twig.{Twig}
-use Rattle.plan_model.specs.PointsByNumber.{IsPresent}
-use Rattle.plan_model.specs.Trees.{node_at, points_of}
+use Rattle.plan_model.specs.Trees.PointsByNumber.{IsPresent}
+use Rattle.plan_model.specs.Trees.NodeLists.{node_at, points_of}
 use Rattle.seq_planner.specs.declared.child_lists.ChildLists.{ChildLists}
 
 -- the parent of a node that is a child; the start is nobody's, and neither is an absent node

@@ -2,7 +2,7 @@
 use Rattle.std.specs.Prelude.{◌≡◌, ℕ, is_some, Option, List, length, map, filter}
 use Rattle.std.specs.List.{range_with_len}
 use Rattle.plan_model.specs.declared.geometry.Point.{Point}
-use Rattle.plan_model.specs.PointsByNumber.{point_at, point_of}
+use Rattle.plan_model.specs.Trees.PointsByNumber.{point_at, point_of}
 use Rattle.seq_planner.specs.declared.placed_points.PlacedPoints.{PlacedPoints}
 
 -- the numbers of the nodes that are present, in rising order

@@ -7,11 +7,11 @@ use Rattle.plan_model.specs.declared.trees.Twig.{Twig}
 use Rattle.plan_model.specs.declared.trees.Knot.{Knot}
 use Rattle.plan_model.specs.declared.scenes.Scene.{Scene}
 use Rattle.plan_model.specs.declared.records.Record.{Record}
-use Rattle.plan_model.specs.Bounds.{IsBounded}
-use Rattle.plan_model.specs.ConfigurationSpace.{space_of}
-use Rattle.plan_model.specs.PointsByNumber.{StandsAt, IsPresent, IsFree, AreDistinct, node_count}
-use Rattle.plan_model.specs.Trees.{points_of, CostsFall, AreTight}
-use Rattle.plan_model.specs.Textbook.{Nodes, setup_of, cost_through, Rewires, Handles}
+use Rattle.plan_model.specs.Geometry.Bounds.{IsBounded}
+use Rattle.plan_model.specs.Spaces.ConfigurationSpace.{space_of}
+use Rattle.plan_model.specs.Trees.PointsByNumber.{StandsAt, IsPresent, IsFree, AreDistinct, node_count}
+use Rattle.plan_model.specs.Trees.NodeLists.{points_of, CostsFall, AreTight}
+use Rattle.plan_model.specs.Runs.Textbook.{Nodes, setup_of, cost_through, Rewires, Handles}
 use Rattle.seq_planner.specs.declared.extensions.Extension.{Extension}
 use Rattle.seq_planner.specs.declared.placed_points.PlacedPoints.{PlacedPoints}
 use Rattle.seq_planner.specs.declared.search_tree.SearchTree.{SearchTree}

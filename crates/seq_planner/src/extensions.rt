@@ -1,7 +1,7 @@
 //! The extension of a search tree by one mark.
 
 ghost use Rattle.std.specs.Prelude.{◌≡◌, Some, None};
-ghost use Rattle.plan_model.specs.Textbook.{blocked_record, placed_record, same_record};
+ghost use Rattle.plan_model.specs.Runs.Textbook.{blocked_record, placed_record, same_record};
 
 use edge_cost::Parent;
 use plan_model::{Outcome, Point, Record, Twig};

@@ -1,9 +1,9 @@
 //! Nodes by number, with lists of the children of each.
 
 ghost use Rattle.std.specs.Prelude.{◌≡◌, ◌+◌, ◌<◌, ◌≤◌, ◌==◌, ℕ, true, Option, List, Some, ◌∷◌, [], ◌++◌, length, IfOk, OnOk, count_by, if◌then◌else◌};
-ghost use Rattle.plan_model.specs.PointsByNumber.{IsPresent, point_of};
-ghost use Rattle.plan_model.specs.Textbook.{start_alone, with_parent};
-ghost use Rattle.plan_model.specs.Trees.{points_of};
+ghost use Rattle.plan_model.specs.Trees.PointsByNumber.{IsPresent, point_of};
+ghost use Rattle.plan_model.specs.Runs.Textbook.{start_alone, with_parent};
+ghost use Rattle.plan_model.specs.Trees.NodeLists.{points_of};
 ghost use Rattle.plan_model.specs.declared.limits.TheConstants.{MOST_MARKS};
 ghost use Rattle.plan_model.specs.declared.trees.Twig.{Twig};
 ghost use Rattle.seq_planner.specs.LinkedTrees.{AreLinked, is_child_of, MayJoin};

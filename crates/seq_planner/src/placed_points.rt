@@ -1,9 +1,9 @@
 //! The points of the nodes that are present, and the two scans over them.
 
 ghost use Rattle.std.specs.Prelude.{◌≡◌, ◌<◌, Option, List, Some, [], ◌∷◌, ◌++◌, length, All, IfOk, OnOk};
-ghost use Rattle.plan_model.specs.Bounds.{IsBounded};
-ghost use Rattle.plan_model.specs.Nearness.{IsNearest, near};
-ghost use Rattle.plan_model.specs.PointsByNumber.{IsFree, node_count};
+ghost use Rattle.plan_model.specs.Geometry.Bounds.{IsBounded};
+ghost use Rattle.plan_model.specs.Trees.Nearness.{IsNearest, near};
+ghost use Rattle.plan_model.specs.Trees.PointsByNumber.{IsFree, node_count};
 ghost use Rattle.plan_model.specs.declared.geometry.Point.{Point};
 ghost use Rattle.seq_planner.specs.PlacedLists.{ArePlaced};
 

@@ -2,9 +2,9 @@
 
 ghost use Rattle.std.specs.Prelude.{◌≡◌, ◌↔◌, ◌<◌, ◌≤◌, ℕ, true, length, All, IsTrue, OnOk};
 ghost use Rattle.std.specs.List.Sorted.{IsStrictlyIncreasing};
-ghost use Rattle.plan_model.specs.PointsByNumber.{IsPresent};
-ghost use Rattle.plan_model.specs.Textbook.{IsCheaperThrough, Rewires, RewiresOne};
-ghost use Rattle.plan_model.specs.Trees.{points_of};
+ghost use Rattle.plan_model.specs.Trees.PointsByNumber.{IsPresent};
+ghost use Rattle.plan_model.specs.Runs.Textbook.{IsCheaperThrough, Rewires, RewiresOne};
+ghost use Rattle.plan_model.specs.Trees.NodeLists.{points_of};
 ghost use Rattle.plan_model.specs.declared.limits.TheConstants.{MOST_NODES};
 ghost use Rattle.seq_planner.specs.LinkedTrees.{is_child_of};
 ghost use Rattle.seq_planner.specs.SearchTrees.{IsSoundTree};

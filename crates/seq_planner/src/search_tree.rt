@@ -1,12 +1,12 @@
 //! The search tree: its nodes, the costs that are kept beside them, and the records of the marks.
 
 ghost use Rattle.std.specs.Prelude.{◌≡◌, ◌+◌, ◌≤◌, [], ◌∷◌, ◌++◌, length, IfOk, OnOk};
-ghost use Rattle.plan_model.specs.Bounds.{IsBounded};
-ghost use Rattle.plan_model.specs.Clearance.{ClearAt};
-ghost use Rattle.plan_model.specs.ConfigurationSpace.{space_of};
-ghost use Rattle.plan_model.specs.SameRuns.{IsOfTextbookRun};
-ghost use Rattle.plan_model.specs.Textbook.{IsTextbookRun, setup_of, start_alone};
-ghost use Rattle.plan_model.specs.TreeStates.{IsSettled};
+ghost use Rattle.plan_model.specs.Geometry.Bounds.{IsBounded};
+ghost use Rattle.plan_model.specs.Spaces.Clearance.{ClearAt};
+ghost use Rattle.plan_model.specs.Spaces.ConfigurationSpace.{space_of};
+ghost use Rattle.plan_model.specs.Runs.SameRuns.{IsOfTextbookRun};
+ghost use Rattle.plan_model.specs.Runs.Textbook.{IsTextbookRun, setup_of, start_alone};
+ghost use Rattle.plan_model.specs.Trees.TreeStates.{IsSettled};
 ghost use Rattle.plan_model.specs.declared.limits.TheConstants.{MOST_MARKS};
 ghost use Rattle.seq_planner.specs.SearchTrees.{Fits, GrowsByMark, IsExtensionOf, IsSoundTree, with_cost, with_costs};
 ghost use Rattle.step_core.specs.GrownRuns.{state_of_grown};

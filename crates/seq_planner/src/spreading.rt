@@ -1,9 +1,9 @@
 //! How a lowered cost reaches the descendants of a node.
 
 ghost use Rattle.std.specs.Prelude.{◌≡◌, ◌<◌, ◌≤◌, length, slice_index, OnOk};
-ghost use Rattle.plan_model.specs.PointsByNumber.{IsPresent};
-ghost use Rattle.plan_model.specs.Trees.{CostsFall, parent_of, points_of};
-ghost use Rattle.plan_model.specs.Branches.{IsBranchLowered};
+ghost use Rattle.plan_model.specs.Trees.PointsByNumber.{IsPresent};
+ghost use Rattle.plan_model.specs.Trees.NodeLists.{CostsFall, parent_of, points_of};
+ghost use Rattle.plan_model.specs.Trees.Branches.{IsBranchLowered};
 
 use crate::linked_tree::LinkedTree;
 use plan_model::Memory;

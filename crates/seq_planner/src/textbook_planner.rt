@@ -1,11 +1,11 @@
 //! The textbook planner over the marks of a task.
 
 ghost use Rattle.std.specs.Prelude.{◌≡◌, length, IfOk};
-ghost use Rattle.plan_model.specs.Clearance.{ClearAt};
-ghost use Rattle.plan_model.specs.ConfigurationSpace.{space_of};
-ghost use Rattle.plan_model.specs.SameRuns.{IsOfTextbookRun};
-ghost use Rattle.plan_model.specs.Textbook.{setup_of};
-ghost use Rattle.plan_model.specs.TreeStates.{IsSettled};
+ghost use Rattle.plan_model.specs.Spaces.Clearance.{ClearAt};
+ghost use Rattle.plan_model.specs.Spaces.ConfigurationSpace.{space_of};
+ghost use Rattle.plan_model.specs.Runs.SameRuns.{IsOfTextbookRun};
+ghost use Rattle.plan_model.specs.Runs.Textbook.{setup_of};
+ghost use Rattle.plan_model.specs.Trees.TreeStates.{IsSettled};
 ghost use Rattle.step_core.specs.GrownRuns.{state_of_grown};
 
 use crate::search_tree::{Lists, SearchTree};

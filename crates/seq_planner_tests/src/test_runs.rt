@@ -2,7 +2,7 @@
 
 ghost use Rattle.std.specs.Prelude.{◌≤◌, IsTrue};
 ghost use Rattle.plan_model.specs.declared.limits.TheConstants.{MOST_GAMMA};
-ghost use Rattle.plan_model.specs.Limits.{is_plan};
+ghost use Rattle.plan_model.specs.Scenes.Limits.{is_plan};
 
 use plan_model::{Goal, Marks, Memory, Outcome, Point, SmallScene};
 use seq_planner::textbook;

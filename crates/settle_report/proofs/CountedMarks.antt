@@ -2,7 +2,7 @@
 use Rattle.std.proofs.Common.{◌≡◌, ℕ, suc, ◌+◌, Bool, true, false, cond, Option, Some, arith, ap, ◌∙◌}
 use Rattle.plan_model.specs.declared.records.Outcome.{Outcome}
 use Rattle.plan_model.specs.declared.records.Record.{Record}
-use Rattle.plan_model.specs.ClosedLaw.{has_outcome, outcome_count}
+use Rattle.plan_model.specs.Runs.ClosedLaw.{has_outcome, outcome_count}
 use Rattle.plan_model.proofs.CountsBelow.{count-more}
 
 module _

@@ -2,10 +2,10 @@
 use Rattle.std.proofs.Common.{◌≡◌, ℕ, suc, ◌+◌, true, false, List, filter, Option, Some, None, IfSome, refl, sym}
 use Rattle.std.specs.List.{range_with_len}
 use Rattle.plan_model.specs.declared.geometry.Goal.{Goal}
-use Rattle.plan_model.specs.BestNode.{best_node, is_goal_point}
-use Rattle.plan_model.specs.LeastPairs.{first_least, lesser}
-use Rattle.plan_model.specs.PointsByNumber.{IsPresent, point_at}
-use Rattle.plan_model.specs.TreeStates.{TreeState, sum_in}
+use Rattle.plan_model.specs.Trees.BestNode.{best_node, is_goal_point}
+use Rattle.plan_model.specs.Trees.LeastPairs.{first_least, lesser}
+use Rattle.plan_model.specs.Trees.PointsByNumber.{IsPresent, point_at}
+use Rattle.plan_model.specs.Trees.TreeStates.{TreeState, sum_in}
 use Rattle.plan_model.proofs.BestNodeLaws.{IsPresent-goal}
 use Rattle.plan_model.proofs.LeastPairLaws.{first_least-some}
 

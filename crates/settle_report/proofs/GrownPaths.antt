@@ -2,11 +2,11 @@
 use Rattle.std.proofs.Common.{◌≡◌, ◌≢◌, ℕ, zero, suc, ◌<◌, List, [], ◌∷◌, map, reverse, refl, sym, ap, ◌∙◌, subst}
 use mathlib.Core.List.{reverse_aux}
 use Rattle.plan_model.specs.declared.geometry.Point.{Point}
-use Rattle.plan_model.specs.PointsByNumber.{point_of, IsPresent, StandsAt}
-use Rattle.plan_model.specs.ReportText.{path_to}
-use Rattle.plan_model.specs.Textbook.{setup_of}
-use Rattle.plan_model.specs.Trees.{FallAlong}
-use Rattle.plan_model.specs.TreeStates.{TreeState, chain_in}
+use Rattle.plan_model.specs.Trees.PointsByNumber.{point_of, IsPresent, StandsAt}
+use Rattle.plan_model.specs.Reports.ReportText.{path_to}
+use Rattle.plan_model.specs.Runs.Textbook.{setup_of}
+use Rattle.plan_model.specs.Trees.NodeLists.{FallAlong}
+use Rattle.plan_model.specs.Trees.TreeStates.{TreeState, chain_in}
 use Rattle.plan_model.proofs.ChainLaws.{chain-start, chain-parent}
 use Rattle.plan_model.proofs.OrderLaws.{KeepsOrder-falls}
 use Rattle.step_core.specs.declared.grown.Grown.{Grown}

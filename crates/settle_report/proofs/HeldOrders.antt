@@ -1,10 +1,10 @@
 -- What the order law of a closed run says of its parents, its kept costs and its sums.
 use Rattle.std.proofs.Common.{ℕ, zero, suc, ◌+◌, ◌<◌, ◌≤◌, arith}
 use Rattle.plan_model.specs.declared.tasks.Task.{Task}
-use Rattle.plan_model.specs.PointsByNumber.{IsPresent}
-use Rattle.plan_model.specs.Textbook.{setup_of}
-use Rattle.plan_model.specs.Trees.{edge_by}
-use Rattle.plan_model.specs.TreeStates.{sum_in}
+use Rattle.plan_model.specs.Trees.PointsByNumber.{IsPresent}
+use Rattle.plan_model.specs.Runs.Textbook.{setup_of}
+use Rattle.plan_model.specs.Trees.NodeLists.{edge_by}
+use Rattle.plan_model.specs.Trees.TreeStates.{sum_in}
 use Rattle.plan_model.proofs.OrderLaws.{parent-present}
 use Rattle.plan_model.proofs.OrderedTrees.{sum_in-le_cost}
 use Rattle.step_core.specs.WordNames.{Words}

@@ -3,11 +3,11 @@ use Rattle.std.proofs.Common.{◌≡◌, ℕ, zero, suc, ◌+◌, ◌<◌, ◌�
 use Rattle.std.specs.Prelude.{slice_index_or}
 use Rattle.std.proofs.lemmas.Bool.{cases_eq, cases_lt}
 use Rattle.std.proofs.lemmas.List.{get_or_default}
-use Rattle.plan_model.specs.PointsByNumber.{IsPresent, StandsAt}
-use Rattle.plan_model.specs.OrderLaw.{KeepsOrder}
-use Rattle.plan_model.specs.Textbook.{Setup}
-use Rattle.plan_model.specs.Trees.{edge_by, sum_by}
-use Rattle.plan_model.specs.TreeStates.{TreeState, ChangesCosts, GrowsInto, first_cost_of, recorded_or, sum_in}
+use Rattle.plan_model.specs.Trees.PointsByNumber.{IsPresent, StandsAt}
+use Rattle.plan_model.specs.Runs.OrderLaw.{KeepsOrder}
+use Rattle.plan_model.specs.Runs.Textbook.{Setup}
+use Rattle.plan_model.specs.Trees.NodeLists.{edge_by, sum_by}
+use Rattle.plan_model.specs.Trees.TreeStates.{TreeState, ChangesCosts, GrowsInto, first_cost_of, recorded_or, sum_in}
 use Rattle.plan_model.proofs.OrderLaws.{KeepsOrder-falls, parent-present}
 use Rattle.plan_model.proofs.OrderedTrees.{sum_in-parent, sum_in-start}
 use Rattle.step_core.specs.GrownRuns.{CostsInstead}

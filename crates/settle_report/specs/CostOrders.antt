@@ -1,9 +1,9 @@
 -- The order in which the nodes of a tree are settled, and what settling one of them does.
 use Rattle.std.specs.Prelude.{◌≡◌, ℕ, suc, ◌+◌, ◌<◌, List, All, Contains}
 use Rattle.std.specs.List.Sorted.{IsNonDecreasingBy}
-use Rattle.plan_model.specs.PointsByNumber.{IsPresent}
-use Rattle.plan_model.specs.Trees.{edge_by}
-use Rattle.plan_model.specs.TreeStates.{TreeState}
+use Rattle.plan_model.specs.Trees.PointsByNumber.{IsPresent}
+use Rattle.plan_model.specs.Trees.NodeLists.{edge_by}
+use Rattle.plan_model.specs.Trees.TreeStates.{TreeState}
 use Rattle.step_core.specs.GrownRuns.{CostsInstead}
 
 -- a kept cost with its node, which is present and not the start

@@ -1,6 +1,6 @@
 -- The line of a node, from its numbers alone.
 use Rattle.std.specs.Prelude.{ℕ, List, [], ◌∷◌, codes, decimal}
-use Rattle.plan_model.specs.ReportText.{line}
+use Rattle.plan_model.specs.Reports.ReportText.{line}
 use Rattle.plan_model.specs.declared.trees.Knot.{Knot}
 
 -- Node n, where it stands, its parent and its cost. With the parent and the sum that a tree has, it is `node_line` of the tree.

@@ -1,10 +1,10 @@
 //! The best node of a run: the cheapest of those that lie in a goal.
 
 ghost use Rattle.std.specs.Prelude.{◌≡◌, IfSome, IsTrue};
-ghost use Rattle.plan_model.specs.BestNode.{best_node, goals_of, is_goal_point, lies_in_goals};
-ghost use Rattle.plan_model.specs.LeastPairs.{lesser};
-ghost use Rattle.plan_model.specs.PointsByNumber.{IsPresent, point_at};
-ghost use Rattle.plan_model.specs.TreeStates.{IsSettled, sum_in};
+ghost use Rattle.plan_model.specs.Trees.BestNode.{best_node, goals_of, is_goal_point, lies_in_goals};
+ghost use Rattle.plan_model.specs.Trees.LeastPairs.{lesser};
+ghost use Rattle.plan_model.specs.Trees.PointsByNumber.{IsPresent, point_at};
+ghost use Rattle.plan_model.specs.Trees.TreeStates.{IsSettled, sum_in};
 ghost use Rattle.step_core.specs.GrownRuns.{state_of_grown};
 
 use plan_model::{Goal, Point};

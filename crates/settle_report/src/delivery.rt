@@ -2,7 +2,7 @@
 
 ghost use Rattle.std.specs.Prelude.{◌≡◌, ◌≤◌, IsTrue, OnOk, OnErr};
 ghost use Rattle.std.specs.Io.KnownBytes.{Appends};
-ghost use Rattle.plan_model.specs.Streams.{FaultsRose, counted};
+ghost use Rattle.plan_model.specs.Texts.Streams.{FaultsRose, counted};
 ghost use Rattle.settle_report.specs.Delivery.{AppendsPrefix};
 
 use plan_model::{Failed, Sink};

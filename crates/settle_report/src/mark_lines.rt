@@ -1,7 +1,7 @@
 //! The lines of a full report on the marks of a run.
 
 ghost use Rattle.std.specs.Prelude.{◌≡◌, ◌++◌, OnOk, string_bytes};
-ghost use Rattle.plan_model.specs.ReportText.{line, mark_line, mark_lines, outcome_words};
+ghost use Rattle.plan_model.specs.Reports.ReportText.{line, mark_line, mark_lines, outcome_words};
 ghost use Rattle.step_core.specs.GrownRuns.{state_of_grown};
 ghost use Rattle.settle_report.specs.MarkWords.{words_before_outcome};
 

@@ -1,9 +1,9 @@
 //! Paths of a run: from the start to a node, by the node's parents.
 
 ghost use Rattle.std.specs.Prelude.{◌≡◌, IfOk, map};
-ghost use Rattle.plan_model.specs.PointsByNumber.{IsPresent, point_of};
-ghost use Rattle.plan_model.specs.ReportText.{path_to};
-ghost use Rattle.plan_model.specs.TreeStates.{chain_in};
+ghost use Rattle.plan_model.specs.Trees.PointsByNumber.{IsPresent, point_of};
+ghost use Rattle.plan_model.specs.Reports.ReportText.{path_to};
+ghost use Rattle.plan_model.specs.Trees.TreeStates.{chain_in};
 ghost use Rattle.step_core.specs.GrownRuns.{state_of_grown};
 
 use plan_model::{Memory, Point};

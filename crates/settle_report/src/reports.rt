@@ -1,13 +1,13 @@
 //! The reports of a settled run, as text: its cheapest path into a goal, the counts, and in full its nodes and marks.
 
 ghost use Rattle.std.specs.Prelude.{◌≡◌, ◌++◌, IfOk, IfSome, OnOk, string_bytes};
-ghost use Rattle.plan_model.specs.BestNode.{best_node, goals_of};
-ghost use Rattle.plan_model.specs.ClosedLaw.{outcome_count};
-ghost use Rattle.plan_model.specs.Outcomes.{is_blocked, is_placed, is_same};
-ghost use Rattle.plan_model.specs.PointsByNumber.{IsPresent};
-ghost use Rattle.plan_model.specs.ReportText as spec;
-ghost use Rattle.plan_model.specs.ReportText.{report_text, summary};
-ghost use Rattle.plan_model.specs.TreeStates.{IsSettled};
+ghost use Rattle.plan_model.specs.Trees.BestNode.{best_node, goals_of};
+ghost use Rattle.plan_model.specs.Runs.ClosedLaw.{outcome_count};
+ghost use Rattle.plan_model.specs.Runs.Outcomes.{is_blocked, is_placed, is_same};
+ghost use Rattle.plan_model.specs.Trees.PointsByNumber.{IsPresent};
+ghost use Rattle.plan_model.specs.Reports.ReportText as spec;
+ghost use Rattle.plan_model.specs.Reports.ReportText.{report_text, summary};
+ghost use Rattle.plan_model.specs.Trees.TreeStates.{IsSettled};
 ghost use Rattle.step_core.specs.GrownRuns.{state_of_grown};
 
 use crate::best_node::best;

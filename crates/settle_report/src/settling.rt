@@ -9,8 +9,8 @@
 //! changes. A walk down the tree from the start would serve too, but the words of a run have no lists of tree children.
 
 ghost use Rattle.std.specs.Prelude.{◌≡◌, ◌<◌, ℕ, Bool, IfOk, OnErr, OnOk};
-ghost use Rattle.plan_model.specs.PointsByNumber.{IsPresent};
-ghost use Rattle.plan_model.specs.TreeStates.{ChangesCosts, GrowsInto, IsSettled};
+ghost use Rattle.plan_model.specs.Trees.PointsByNumber.{IsPresent};
+ghost use Rattle.plan_model.specs.Trees.TreeStates.{ChangesCosts, GrowsInto, IsSettled};
 ghost use Rattle.settle_report.specs.CostOrders.{AreKeptCosts, IsCostOrder, SettlesNode};
 ghost use Rattle.step_core.specs.GrownRuns.{children_of_grown, state_of_grown};
 

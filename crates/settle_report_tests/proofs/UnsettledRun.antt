@@ -6,18 +6,18 @@ use Rattle.plan_model.specs.declared.geometry.Point.{Point}
 use Rattle.plan_model.specs.declared.records.Outcome.TheVariants.{Placed}
 use Rattle.plan_model.specs.declared.records.Record.{Record}
 use Rattle.plan_model.specs.declared.trees.Knot.{Knot}
-use Rattle.plan_model.specs.Clearance.{ClearAt}
-use Rattle.plan_model.specs.ClosedLaw.{IsClosed, mark_at}
-use Rattle.plan_model.specs.Cost.{cost_of}
-use Rattle.plan_model.specs.EmptyRooms.{empty_room}
-use Rattle.plan_model.specs.Geometry.{squared_distance}
-use Rattle.plan_model.specs.LeastPairs.{IsNotAbove}
-use Rattle.plan_model.specs.Nearness.{distance_to}
-use Rattle.plan_model.specs.OrderLaw.{HangsBelow, IsAllowedEdge, most_cost_of}
-use Rattle.plan_model.specs.PointsByNumber.{IsPresent, node_count}
-use Rattle.plan_model.specs.RecordLaw.{IsEarlier, IsLawfulRecord, IsNeighbour}
-use Rattle.plan_model.specs.Textbook.{Setup, placed_record}
-use Rattle.plan_model.specs.TreeStates.{TreeState}
+use Rattle.plan_model.specs.Spaces.Clearance.{ClearAt}
+use Rattle.plan_model.specs.Runs.ClosedLaw.{IsClosed, mark_at}
+use Rattle.plan_model.specs.Geometry.Cost.{cost_of}
+use Rattle.plan_model.specs.Spaces.EmptyRooms.{empty_room}
+use Rattle.plan_model.specs.Geometry.Plane.{squared_distance}
+use Rattle.plan_model.specs.Trees.LeastPairs.{IsNotAbove}
+use Rattle.plan_model.specs.Trees.Nearness.{distance_to}
+use Rattle.plan_model.specs.Runs.OrderLaw.{HangsBelow, IsAllowedEdge, most_cost_of}
+use Rattle.plan_model.specs.Trees.PointsByNumber.{IsPresent, node_count}
+use Rattle.plan_model.specs.Runs.RecordLaw.{IsEarlier, IsLawfulRecord, IsNeighbour}
+use Rattle.plan_model.specs.Runs.Textbook.{Setup, placed_record}
+use Rattle.plan_model.specs.Trees.TreeStates.{TreeState}
 use Rattle.plan_model.specs.Vectors.Runs.{marks_to_rewire, open_setup, rewired_records, rewired_tree}
 use Rattle.plan_model.specs.Vectors.Shapes.{at}
 use Rattle.plan_model.proofs.EmptyRoomClearance.{Clear-empty_room}
@@ -26,7 +26,7 @@ use Rattle.plan_model.proofs.OpenRoomMarks.{cost_2000, cost_2401, cost_2441, cos
 use Rattle.plan_model.proofs.RewiredRun.{rewired_run}
 use Rattle.plan_model.proofs.TextbookRuns.{IsClosed-textbook}
 use Rattle.step_core.specs.PackedRuns.{state_of_lists}
-use Rattle.plan_model.specs.Turns.{RunFromZero}
+use Rattle.plan_model.specs.Runs.Turns.{RunFromZero}
 use Rattle.plan_model.proofs.PlacedNodes.{ArePlacedMarks-from}
 use Rattle.plan_model.proofs.TurnsFromZero.{AreTurns-counted}
 

@@ -1,7 +1,7 @@
 //! The best nodes of a run of three marks, and of the start alone, for goals here and there.
 
 ghost use Rattle.std.specs.Prelude.{◌≡◌, IsTrue};
-ghost use Rattle.plan_model.specs.Limits.{is_goal};
+ghost use Rattle.plan_model.specs.Scenes.Limits.{is_goal};
 ghost use Rattle.plan_model.specs.Vectors.Reports.{box};
 
 use crate::test_runs::{settle_run, start_alone, unsettled_run};
@@ -29,10 +29,7 @@ fn assert_best<R: Abort>(rt: &R, alloc: Global, grown: Grown, want: Option<u32>)
     let mut grown = grown;
     settle_run(rt, alloc, &mut grown);
     let goals = grown.task().scene.goals.as_slice();
-    assert!(rt;
-        best(&grown) == want,
-        "for the goals {goals:?}"
-    );
+    assert!(rt; best(&grown) == want, "for the goals {goals:?}");
     drop(grown);
 }
 

@@ -1,7 +1,7 @@
 //! Reports of a run of three marks, and of the start alone.
 
 ghost use Rattle.std.specs.Prelude.{◌≤◌, IsTrue};
-ghost use Rattle.plan_model.specs.Limits.{is_goal};
+ghost use Rattle.plan_model.specs.Scenes.Limits.{is_goal};
 
 use crate::test_runs::{settle_run, start_alone, sure, unsettled_run};
 use plan_model::{Goal, Point};

@@ -2,13 +2,13 @@
 //! Runs and lists end by calls of `drop`: the proof of a call is shared, and that of the end of a scope is each function's own.
 
 ghost use Rattle.std.specs.Prelude.{◌≡◌, ◌∷◌, [], IfOk, IsTrue, Ok, Some, length};
-ghost use Rattle.plan_model.specs.Clearance.{ClearAt};
-ghost use Rattle.plan_model.specs.ClosedLaw.{IsClosed};
-ghost use Rattle.plan_model.specs.ConfigurationSpace.{space_of};
-ghost use Rattle.plan_model.specs.EmptyRooms.{empty_room};
-ghost use Rattle.plan_model.specs.Limits.{is_goal, is_plan};
-ghost use Rattle.plan_model.specs.Textbook.{placed_record, setup_of};
-ghost use Rattle.plan_model.specs.TreeStates.{IsSettled};
+ghost use Rattle.plan_model.specs.Spaces.Clearance.{ClearAt};
+ghost use Rattle.plan_model.specs.Runs.ClosedLaw.{IsClosed};
+ghost use Rattle.plan_model.specs.Spaces.ConfigurationSpace.{space_of};
+ghost use Rattle.plan_model.specs.Spaces.EmptyRooms.{empty_room};
+ghost use Rattle.plan_model.specs.Scenes.Limits.{is_goal, is_plan};
+ghost use Rattle.plan_model.specs.Runs.Textbook.{placed_record, setup_of};
+ghost use Rattle.plan_model.specs.Trees.TreeStates.{IsSettled};
 ghost use Rattle.plan_model.specs.Vectors.Shapes.{at};
 ghost use Rattle.plan_model.specs.declared.scenes.Marks.TheVariants.{Listed};
 ghost use Rattle.step_core.specs.GrownRuns.{state_of_grown};

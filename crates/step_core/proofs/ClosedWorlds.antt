@@ -7,14 +7,14 @@ use mathlib.Core.Option.{some, some-injective}
 use lib.ListN.{get_elem?}
 use Rattle.std.proofs.lemmas.Bool.{cases_Bool, cases_eq, cases_lt, eqb-true, le-ltb, lt-ltb, ltb-true}
 use Rattle.std.proofs.lemmas.Nat.{div-add-mod', mod_below}
-use Rattle.plan_model.specs.ClosedLaw.{IsClosed, has_outcome}
-use Rattle.plan_model.specs.MarkPoints.{is_claimed, quota_of}
-use Rattle.plan_model.specs.Outcomes.{is_placed}
-use Rattle.plan_model.specs.PointsByNumber.{IsPresent, StandsAt, node_count, point_at}
-use Rattle.plan_model.specs.Textbook.{setup_of}
-use Rattle.plan_model.specs.TreeStates.{AreSameRuns}
-use Rattle.plan_model.specs.Turns.{AreTurns, is_of_turn, is_of_worker, once_if}
-use Rattle.plan_model.specs.Ways.{FollowWays}
+use Rattle.plan_model.specs.Runs.ClosedLaw.{IsClosed, has_outcome}
+use Rattle.plan_model.specs.Scenes.MarkPoints.{is_claimed, quota_of}
+use Rattle.plan_model.specs.Runs.Outcomes.{is_placed}
+use Rattle.plan_model.specs.Trees.PointsByNumber.{IsPresent, StandsAt, node_count, point_at}
+use Rattle.plan_model.specs.Runs.Textbook.{setup_of}
+use Rattle.plan_model.specs.Trees.TreeStates.{AreSameRuns}
+use Rattle.plan_model.specs.Runs.Turns.{AreTurns, is_of_turn, is_of_worker, once_if}
+use Rattle.plan_model.specs.Seen.Ways.{FollowWays}
 use Rattle.plan_model.specs.declared.records.Record.{Record}
 use Rattle.plan_model.specs.declared.tasks.Task.{Task}
 use Rattle.plan_model.proofs.CountsBelow.{count-longer}

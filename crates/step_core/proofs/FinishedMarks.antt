@@ -6,11 +6,11 @@ use mathlib.Core.Option.{some}
 use lib.ListN.{get_elem?}
 use Rattle.std.proofs.lemmas.Bool.{cases_eq, eq-eqb, ne_eqb}
 use Rattle.std.proofs.lemmas.Nat.{div-mul-add, mod-mul-add}
-use Rattle.plan_model.specs.MarkPoints.{is_claimed}
-use Rattle.plan_model.specs.TreeStates.{GrowsInto}
-use Rattle.plan_model.specs.Turns.{once_if, turns_of}
+use Rattle.plan_model.specs.Scenes.MarkPoints.{is_claimed}
+use Rattle.plan_model.specs.Trees.TreeStates.{GrowsInto}
+use Rattle.plan_model.specs.Runs.Turns.{once_if, turns_of}
 use Rattle.plan_model.specs.declared.records.Record.{Record}
-use Rattle.plan_model.specs.Outcomes.{is_placed}
+use Rattle.plan_model.specs.Runs.Outcomes.{is_placed}
 use Rattle.step_core.specs.GrownWords.{has_placed, record_at}
 use Rattle.step_core.specs.SeenRecords.{MayRecord}
 use Rattle.step_core.specs.Stages.{MayBeRecorded, has_count, has_link}

@@ -6,7 +6,7 @@ use mathlib.Core.Option.{some, some-injective}
 use lib.ListN.{get_elem?}
 use Rattle.std.proofs.lemmas.Bool.{cases_eq, eq-eqb, eqb-true, le-ltb}
 use Rattle.std.proofs.lemmas.List.Sums.{sum_by-cons}
-use Rattle.plan_model.specs.Turns.{is_of_worker, once_if, turns_of}
+use Rattle.plan_model.specs.Runs.Turns.{is_of_worker, once_if, turns_of}
 use Rattle.plan_model.specs.declared.records.Record.{Record}
 use Rattle.plan_model.proofs.NextRecords.{RecordsMark}
 use Rattle.plan_model.proofs.WorkerTurns.{AreTurns-recorded, turns_of-recorded, turns_of-recorded_by_other}

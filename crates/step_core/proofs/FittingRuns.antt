@@ -5,12 +5,12 @@ use Rattle.std.proofs.lemmas.Option.{get_or_from_slice_get}
 use Rattle.plan_model.specs.declared.records.Record.{Record}
 use Rattle.plan_model.specs.declared.tasks.Task.{Task}
 use Rattle.plan_model.specs.declared.trees.Knot.{Knot}
-use Rattle.plan_model.specs.Bounds.{IsBounded}
-use Rattle.plan_model.specs.ClosedLaw.{IsClosed}
-use Rattle.plan_model.specs.PointsByNumber.{StandsAt}
-use Rattle.plan_model.specs.Textbook.{setup_of}
-use Rattle.plan_model.specs.Trees.{points_of, parent_of, without_costs}
-use Rattle.plan_model.specs.TreeStates.{TreeState}
+use Rattle.plan_model.specs.Geometry.Bounds.{IsBounded}
+use Rattle.plan_model.specs.Runs.ClosedLaw.{IsClosed}
+use Rattle.plan_model.specs.Trees.PointsByNumber.{StandsAt}
+use Rattle.plan_model.specs.Runs.Textbook.{setup_of}
+use Rattle.plan_model.specs.Trees.NodeLists.{points_of, parent_of, without_costs}
+use Rattle.plan_model.specs.Trees.TreeStates.{TreeState}
 use Rattle.plan_model.proofs.NewNodes.{IsPresent-stands, point_of-stands}
 use Rattle.plan_model.proofs.OrderLaws.{parent-present}
 use Rattle.step_core.specs.GrownWords.{sizes_of}

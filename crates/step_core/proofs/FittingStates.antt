@@ -9,18 +9,18 @@ use Rattle.plan_model.specs.declared.records.Outcome.{Outcome}
 use Rattle.plan_model.specs.declared.records.Outcome.TheVariants.{Placed, Same, Blocked}
 use Rattle.plan_model.specs.declared.records.Record.{Record}
 use Rattle.plan_model.specs.declared.tasks.Task.{Task}
-use Rattle.plan_model.specs.Bounds.{IsBounded}
-use Rattle.plan_model.specs.Clearance.{ClearAt}
-use Rattle.plan_model.specs.ClosedLaw.{IsClosed, has_outcome, mark_at}
-use Rattle.plan_model.specs.Outcomes.{is_placed}
-use Rattle.plan_model.specs.ConfigurationSpace.{space_of}
-use Rattle.plan_model.specs.OrderLaw.{most_cost_of}
-use Rattle.plan_model.specs.Outcomes.{is_zero_unless_placed}
-use Rattle.plan_model.specs.PointsByNumber.{IsPresent, point_of, node_count}
-use Rattle.plan_model.specs.Radius.{class_of}
-use Rattle.plan_model.specs.RecordLaw.{HasLawfulOutcome}
-use Rattle.plan_model.specs.Textbook.{setup_of}
-use Rattle.plan_model.specs.TreeStates.{TreeState}
+use Rattle.plan_model.specs.Geometry.Bounds.{IsBounded}
+use Rattle.plan_model.specs.Spaces.Clearance.{ClearAt}
+use Rattle.plan_model.specs.Runs.ClosedLaw.{IsClosed, has_outcome, mark_at}
+use Rattle.plan_model.specs.Runs.Outcomes.{is_placed}
+use Rattle.plan_model.specs.Spaces.ConfigurationSpace.{space_of}
+use Rattle.plan_model.specs.Runs.OrderLaw.{most_cost_of}
+use Rattle.plan_model.specs.Runs.Outcomes.{is_zero_unless_placed}
+use Rattle.plan_model.specs.Trees.PointsByNumber.{IsPresent, point_of, node_count}
+use Rattle.plan_model.specs.Geometry.Radius.{class_of}
+use Rattle.plan_model.specs.Runs.RecordLaw.{HasLawfulOutcome}
+use Rattle.plan_model.specs.Runs.Textbook.{setup_of}
+use Rattle.plan_model.specs.Trees.TreeStates.{TreeState}
 use Rattle.plan_model.proofs.ClassLaws.{class_from_powers}
 use Rattle.plan_model.proofs.CountLaws.{node_count-closed}
 use Rattle.plan_model.proofs.EmptyRoomClearance.{IsInRoom-from_clear_at}

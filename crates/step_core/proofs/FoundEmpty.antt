@@ -6,9 +6,9 @@ use Rattle.std.specs.Prelude.{◌⊎◌}
 use Rattle.std.proofs.lemmas.Bool.{cases_Bool, cases_eq, cases_order}
 use mathlib.Core.Option.{some, some-injective}
 use lib.ListN.{get_elem?}
-use Rattle.plan_model.specs.PointsByNumber.{IsFree, StandsAt, point_at}
-use Rattle.plan_model.specs.Sights.{EndsSince}
-use Rattle.plan_model.specs.Ways.{Children, FillsPlaces, FollowWays, IsOnWay, goes_right}
+use Rattle.plan_model.specs.Trees.PointsByNumber.{IsFree, StandsAt, point_at}
+use Rattle.plan_model.specs.Seen.Sights.{EndsSince}
+use Rattle.plan_model.specs.Seen.Ways.{Children, FillsPlaces, FollowWays, IsOnWay, goes_right}
 use Rattle.plan_model.specs.declared.geometry.Point.{Point}
 use Rattle.plan_model.proofs.NewNodes.{StandsAt-unique}
 use Rattle.plan_model.proofs.TrueSights.{IsOnWay-true}

@@ -2,7 +2,7 @@
 use Rattle.std.proofs.Common.{ℕ, ◌≤◌, sym, ◌∙◌, inl, inr}
 use Rattle.std.proofs.lemmas.Bool.{cases_lt}
 use Rattle.plan_model.specs.declared.tasks.Task.{Task}
-use Rattle.plan_model.specs.PointsByNumber.{StandsAt, IsPresent}
+use Rattle.plan_model.specs.Trees.PointsByNumber.{StandsAt, IsPresent}
 use Rattle.plan_model.proofs.NewNodes.{IsPresent-stands}
 use Rattle.step_core.specs.WordNames.{Words}
 use Rattle.step_core.specs.GrownWords.{HoldRun, points_of_words, sizes_of}

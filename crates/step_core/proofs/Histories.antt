@@ -4,7 +4,7 @@ use Rattle.std.specs.Prelude.{is_some}
 use Rattle.std.proofs.lemmas.Bool.{cases_eq}
 use mathlib.Core.Option.{some, some-injective}
 use lib.ListN.{get_elem?}
-use Rattle.plan_model.specs.Sights.{EndsSince}
+use Rattle.plan_model.specs.Seen.Sights.{EndsSince}
 use Rattle.plan_model.specs.declared.geometry.Point.{Point}
 use Rattle.step_core.specs.Histories.{HasCome, WasEmpty, WasFree}
 use Rattle.step_core.specs.Histories.HasCome.{begins, goes_on, steps}

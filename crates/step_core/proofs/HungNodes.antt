@@ -1,12 +1,12 @@
 -- From what a view has seen of parents and costs to the tree now: a node may hang where it was seen that it may, since no cost rises.
 use Rattle.std.proofs.Common.{◌≡◌, ◌≢◌, ℕ, suc, ◌<◌, ◌≤◌, ◌^◌, true, sym, ap, ◌∙◌, subst, inl, inr, arith}
 use Rattle.std.specs.Prelude.{is_some}
-use Rattle.plan_model.specs.Cost.{cost_of}
-use Rattle.plan_model.specs.OrderLaw.{Hangs, IsAllowedEdge, most_cost_of}
-use Rattle.plan_model.specs.PointsByNumber.{IsPresent, StandsAt, node_count, point_of}
-use Rattle.plan_model.specs.SeenParents.{AreSeenLawfully}
-use Rattle.plan_model.specs.TreeStates.{GrowsInto, TreeState, first_cost_of}
-use Rattle.plan_model.specs.Ways.{FollowWays}
+use Rattle.plan_model.specs.Geometry.Cost.{cost_of}
+use Rattle.plan_model.specs.Runs.OrderLaw.{Hangs, IsAllowedEdge, most_cost_of}
+use Rattle.plan_model.specs.Trees.PointsByNumber.{IsPresent, StandsAt, node_count, point_of}
+use Rattle.plan_model.specs.Seen.SeenParents.{AreSeenLawfully}
+use Rattle.plan_model.specs.Trees.TreeStates.{GrowsInto, TreeState, first_cost_of}
+use Rattle.plan_model.specs.Seen.Ways.{FollowWays}
 use Rattle.plan_model.specs.declared.geometry.Point.{Point}
 use Rattle.plan_model.specs.declared.limits.TheConstants.{MOST_NODES}
 use Rattle.plan_model.proofs.NewNodes.{IsPresent-stands, node_count-some, point_of-stands}

@@ -2,7 +2,7 @@
 use Rattle.std.proofs.Common.{◌≡◌, ℕ, zero, suc, ◌+◌, None, map, refl, ap, subst}
 use Rattle.std.specs.Prelude.{if◌then◌else◌}
 use Rattle.std.specs.List.{range_with_len}
-use Rattle.plan_model.specs.PointsByNumber.{point_at, IsPresent}
+use Rattle.plan_model.specs.Trees.PointsByNumber.{point_at, IsPresent}
 use Rattle.step_core.specs.WordNames.{Words, ChangesOnly, IsChildWord}
 use Rattle.step_core.specs.WordNames.Word.{PointOf, FirstOf, RecordOf}
 use Rattle.step_core.specs.WordPlaces.{Sizes}

@@ -4,10 +4,10 @@ use Rattle.std.specs.Prelude.{◌⊎◌}
 use lib.ListN.{get_elem?}
 use mathlib.Core.Option.{some}
 use Rattle.std.proofs.lemmas.Bool.{cases_Bool, cases_eq}
-use Rattle.plan_model.specs.Turns.{is_of_worker, turns_of}
+use Rattle.plan_model.specs.Runs.Turns.{is_of_worker, turns_of}
 use Rattle.plan_model.proofs.CountsBelow.{count-same}
-use Rattle.plan_model.specs.Bounds.{IsBounded}
-use Rattle.plan_model.specs.Ways.{FollowWays}
+use Rattle.plan_model.specs.Geometry.Bounds.{IsBounded}
+use Rattle.plan_model.specs.Seen.Ways.{FollowWays}
 use Rattle.step_core.specs.GrownWords.{children_of_words, is_linked, record_at}
 use Rattle.step_core.specs.SharedWords.{linked_points}
 use Rattle.step_core.specs.ViewTrees.{MayLoad, SeesTree}

@@ -5,13 +5,13 @@ use Rattle.std.specs.Prelude.{◌*◌, cond}
 use Rattle.std.proofs.lemmas.Bool.{le-ltb}
 use Rattle.plan_model.specs.declared.geometry.Point.{Point}
 use Rattle.plan_model.specs.declared.limits.TheConstants.{MOST_NODES}
-use Rattle.plan_model.specs.Clearance.{ClearAt}
-use Rattle.plan_model.specs.OrderLaw.{Hangs, IsAllowedEdge}
-use Rattle.plan_model.specs.PointsByNumber.{IsPresent, StandsAt, node_count, point_of}
-use Rattle.plan_model.specs.SeenParents.{AreSeenLawfully}
-use Rattle.plan_model.specs.Textbook.{Setup}
-use Rattle.plan_model.specs.TreeStates.{first_cost_of}
-use Rattle.plan_model.specs.Ways.{FollowWays}
+use Rattle.plan_model.specs.Spaces.Clearance.{ClearAt}
+use Rattle.plan_model.specs.Runs.OrderLaw.{Hangs, IsAllowedEdge}
+use Rattle.plan_model.specs.Trees.PointsByNumber.{IsPresent, StandsAt, node_count, point_of}
+use Rattle.plan_model.specs.Seen.SeenParents.{AreSeenLawfully}
+use Rattle.plan_model.specs.Runs.Textbook.{Setup}
+use Rattle.plan_model.specs.Trees.TreeStates.{first_cost_of}
+use Rattle.plan_model.specs.Seen.Ways.{FollowWays}
 use Rattle.plan_model.proofs.NewNodes.{point_of-stands}
 use Rattle.plan_model.proofs.OrderLaws.{most_cost_of-within}
 use Rattle.plan_model.proofs.SegmentLaws.{Clear-alone}

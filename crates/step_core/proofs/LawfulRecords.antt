@@ -7,21 +7,21 @@ use mathlib.Core.Option.{some}
 use lib.ListN.{get_elem?}
 use Rattle.std.proofs.lemmas.List.FromFn.{length-map-range_with_len}
 use Rattle.std.proofs.lemmas.List.Sums.{length-filter}
-use Rattle.plan_model.specs.Clearance.{Clear}
-use Rattle.plan_model.specs.ClosedLaw.{mark_at}
-use Rattle.plan_model.specs.Cost.{cost_of}
-use Rattle.plan_model.specs.Geometry.{squared_distance}
-use Rattle.plan_model.specs.Nearness.{is_within}
-use Rattle.plan_model.specs.OrderLaw.{Hangs}
-use Rattle.plan_model.specs.Outcomes.{is_placed}
-use Rattle.plan_model.specs.PointsByNumber.{IsPresent, StandsAt, node_count, point_at, point_of}
-use Rattle.plan_model.specs.Radius.{class_of, radius_of_class}
-use Rattle.plan_model.specs.RecordLaw.{HangsLawfully, HasLawfulOutcome, IsBlockedLawfully, IsChosenLawfully, IsEarlier, IsLawfulRecord, IsNeighbour}
-use Rattle.plan_model.specs.RecordLaw.{IsPlacedLawfully, IsSteeredLawfully, earlier_count, first_cost_through, is_earlier, is_earlier_record}
-use Rattle.plan_model.specs.Steering.{steered}
-use Rattle.plan_model.specs.Textbook.{Setup}
-use Rattle.plan_model.specs.TreeStates.{TreeState, first_cost_of}
-use Rattle.plan_model.specs.Turns.{is_of_worker, once_if}
+use Rattle.plan_model.specs.Spaces.Clearance.{Clear}
+use Rattle.plan_model.specs.Runs.ClosedLaw.{mark_at}
+use Rattle.plan_model.specs.Geometry.Cost.{cost_of}
+use Rattle.plan_model.specs.Geometry.Plane.{squared_distance}
+use Rattle.plan_model.specs.Trees.Nearness.{is_within}
+use Rattle.plan_model.specs.Runs.OrderLaw.{Hangs}
+use Rattle.plan_model.specs.Runs.Outcomes.{is_placed}
+use Rattle.plan_model.specs.Trees.PointsByNumber.{IsPresent, StandsAt, node_count, point_at, point_of}
+use Rattle.plan_model.specs.Geometry.Radius.{class_of, radius_of_class}
+use Rattle.plan_model.specs.Runs.RecordLaw.{HangsLawfully, HasLawfulOutcome, IsBlockedLawfully, IsChosenLawfully, IsEarlier, IsLawfulRecord, IsNeighbour}
+use Rattle.plan_model.specs.Runs.RecordLaw.{IsPlacedLawfully, IsSteeredLawfully, earlier_count, first_cost_through, is_earlier, is_earlier_record}
+use Rattle.plan_model.specs.Geometry.Steering.{steered}
+use Rattle.plan_model.specs.Runs.Textbook.{Setup}
+use Rattle.plan_model.specs.Trees.TreeStates.{TreeState, first_cost_of}
+use Rattle.plan_model.specs.Runs.Turns.{is_of_worker, once_if}
 use Rattle.plan_model.specs.declared.geometry.Point.{Point}
 use Rattle.plan_model.specs.declared.records.Outcome.{Outcome}
 use Rattle.plan_model.specs.declared.records.Outcome.TheVariants.{Blocked, Placed, Same}

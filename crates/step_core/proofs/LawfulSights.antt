@@ -3,14 +3,14 @@
 use Rattle.std.proofs.Common.{◌≡◌, ℕ, ◌≤◌, Bool, true, length, sym, ap, ◌∙◌, subst, inl, inr, arith}
 use Rattle.std.specs.Prelude.{is_some}
 use Rattle.plan_model.specs.declared.geometry.Point.{Point}
-use Rattle.plan_model.specs.Bounds.{IsBounded}
-use Rattle.plan_model.specs.ClosedLaw.{mark_at}
-use Rattle.plan_model.specs.Geometry.{IsInBoxOf}
-use Rattle.plan_model.specs.PointsByNumber.{AreDistinct, IsFree, IsPresent, point_of}
-use Rattle.plan_model.specs.SeenTrees.{FollowSeenWays, IsTrueOf, SharedTree}
-use Rattle.plan_model.specs.Sights.{IsLaterMoment, KeepsSight}
-use Rattle.plan_model.specs.Steering.{steered}
-use Rattle.plan_model.specs.Ways.{EndsBelow, FollowWays}
+use Rattle.plan_model.specs.Geometry.Bounds.{IsBounded}
+use Rattle.plan_model.specs.Runs.ClosedLaw.{mark_at}
+use Rattle.plan_model.specs.Geometry.Plane.{IsInBoxOf}
+use Rattle.plan_model.specs.Trees.PointsByNumber.{AreDistinct, IsFree, IsPresent, point_of}
+use Rattle.plan_model.specs.Seen.SeenTrees.{FollowSeenWays, IsTrueOf, SharedTree}
+use Rattle.plan_model.specs.Seen.Sights.{IsLaterMoment, KeepsSight}
+use Rattle.plan_model.specs.Geometry.Steering.{steered}
+use Rattle.plan_model.specs.Seen.Ways.{EndsBelow, FollowWays}
 use Rattle.plan_model.proofs.NewNodes.{StandsAt-present}
 use Rattle.plan_model.proofs.SteeringLaws.{IsStep-steered}
 use Rattle.plan_model.proofs.TrueSights.{AreDistinct-true, FollowSeenWays-true, IsOnWay-true, IsPresent-true}

@@ -6,8 +6,8 @@ use Rattle.std.specs.List.{range_with_len, sum_by}
 use Rattle.std.proofs.lemmas.Bool.{cases_Bool}
 use Rattle.std.proofs.lemmas.List.FromFn.{length-map-range_with_len}
 use Rattle.std.proofs.lemmas.List.Sums.{sum_by-cons}
-use Rattle.plan_model.specs.PointsByNumber.{IsPresent, node_count, point_at}
-use Rattle.plan_model.specs.Turns.{once_if}
+use Rattle.plan_model.specs.Trees.PointsByNumber.{IsPresent, node_count, point_at}
+use Rattle.plan_model.specs.Runs.Turns.{once_if}
 use Rattle.plan_model.proofs.NewNodes.{IsPresent-stands}
 use Rattle.plan_model.proofs.NodeCounts.{count-next}
 use Rattle.step_core.specs.GrownWords.{child_of_word, is_linked}

@@ -7,9 +7,9 @@ use Rattle.plan_model.specs.declared.geometry.Point.{Point}
 use Rattle.plan_model.specs.declared.records.Outcome.TheVariants.{Placed}
 use Rattle.plan_model.specs.declared.records.Record.{Record}
 use Rattle.plan_model.specs.declared.tasks.Task.{Task}
-use Rattle.plan_model.specs.PointsByNumber.{point_of, IsPresent}
-use Rattle.plan_model.specs.Ways.{IsOnWay}
-use Rattle.plan_model.specs.Ways.IsOnWay.{goes_on}
+use Rattle.plan_model.specs.Trees.PointsByNumber.{point_of, IsPresent}
+use Rattle.plan_model.specs.Seen.Ways.{IsOnWay}
+use Rattle.plan_model.specs.Seen.Ways.IsOnWay.{goes_on}
 use Rattle.plan_model.proofs.PlacedNodes.{is_placed-true, present-of_record}
 use Rattle.plan_model.proofs.NewNodes.{StandsAt-present}
 use Rattle.step_core.specs.WordNames.{Words}

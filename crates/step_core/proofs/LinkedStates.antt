@@ -6,11 +6,11 @@ use Rattle.std.proofs.lemmas.List.FromFn.{get_or-map-range_with_len, length-map-
 use Rattle.std.proofs.lemmas.Option.{same_Some}
 use Rattle.plan_model.specs.declared.geometry.Point.{Point}
 use Rattle.plan_model.specs.declared.records.Record.{Record}
-use Rattle.plan_model.specs.PointsByNumber.{IsPresent, StandsAt, node_count, point_at}
+use Rattle.plan_model.specs.Trees.PointsByNumber.{IsPresent, StandsAt, node_count, point_at}
 use Rattle.plan_model.specs.declared.limits.TheConstants.{MOST_NODES}
 use Rattle.plan_model.proofs.NodeCounts.{node_count-length}
-use Rattle.plan_model.specs.TreeStates.{GrowsInto, first_cost_of, recorded_or}
-use Rattle.plan_model.specs.Turns.{once_if}
+use Rattle.plan_model.specs.Trees.TreeStates.{GrowsInto, first_cost_of, recorded_or}
+use Rattle.plan_model.specs.Runs.Turns.{once_if}
 use Rattle.step_core.specs.GrownWords.{child_of_word, has_node, has_placed, is_linked, record_at}
 use Rattle.step_core.specs.SharedWords.{linked_point, linked_points}
 use Rattle.step_core.specs.Stages.{has_link}

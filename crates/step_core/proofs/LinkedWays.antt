@@ -2,10 +2,10 @@
 use Rattle.std.proofs.Common.{◌≡◌, ◌≢◌, ℕ, zero, suc, ◌+◌, ◌≤◌, Bool, true, Some, None, refl, sym, ap, ◌∙◌, subst, arith}
 use Rattle.std.specs.Prelude.{IsSome, is_some, if◌then◌else◌}
 use Rattle.std.proofs.lemmas.List.FromFn.{get_or-map-range_with_len}
-use Rattle.plan_model.specs.PointsByNumber.{point_of}
-use Rattle.plan_model.specs.SeenTrees.{HasSeenAtLeast}
-use Rattle.plan_model.specs.Ways.{FollowWays, IsOnWay}
-use Rattle.plan_model.specs.Ways.IsOnWay.{begins, goes_on}
+use Rattle.plan_model.specs.Trees.PointsByNumber.{point_of}
+use Rattle.plan_model.specs.Seen.SeenTrees.{HasSeenAtLeast}
+use Rattle.plan_model.specs.Seen.Ways.{FollowWays, IsOnWay}
+use Rattle.plan_model.specs.Seen.Ways.IsOnWay.{begins, goes_on}
 use Rattle.plan_model.specs.declared.geometry.Point.{Point}
 use Rattle.plan_model.proofs.NewNodes.{StandsAt-present}
 use Rattle.plan_model.proofs.WayLinks.{IsOnWay-fills}

@@ -3,8 +3,8 @@ use Rattle.std.proofs.Common.{◌≡◌, ℕ, ◌+◌, Bool, Some, arith, sym, a
 use Rattle.std.specs.Prelude.{◌≢◌, is_some}
 use Rattle.std.proofs.lemmas.Bool.{cases_lt}
 use Rattle.plan_model.specs.declared.geometry.Point.{Point}
-use Rattle.plan_model.specs.PointsByNumber.{point_at, StandsAt, point_of}
-use Rattle.plan_model.specs.Ways.{goes_right, AddsPoint, LinksAt}
+use Rattle.plan_model.specs.Trees.PointsByNumber.{point_at, StandsAt, point_of}
+use Rattle.plan_model.specs.Seen.Ways.{goes_right, AddsPoint, LinksAt}
 use Rattle.plan_model.proofs.NewNodes.{IsPresent-stands, StandsAt-present}
 use Rattle.plan_model.proofs.WayLinks.{AddsPoint-stands, FollowWays-links, new_or_old_child}
 use Rattle.step_core.specs.WordNames.{Words, WritesWord, IsChildWord}

@@ -3,8 +3,8 @@ use Rattle.std.proofs.Common.{◌≡◌, Option, List, length, sym, ap, subst}
 use Rattle.plan_model.specs.declared.geometry.Point.{Point}
 use Rattle.plan_model.specs.declared.records.Record.{Record}
 use Rattle.plan_model.specs.declared.trees.Knot.{Knot}
-use Rattle.plan_model.specs.ClosedLaw.{IsClosed}
-use Rattle.plan_model.specs.Textbook.{Setup}
+use Rattle.plan_model.specs.Runs.ClosedLaw.{IsClosed}
+use Rattle.plan_model.specs.Runs.Textbook.{Setup}
 use Rattle.step_core.specs.PackedRuns.{state_of_lists}
 
 pub IsClosed-same_lists :

@@ -2,9 +2,9 @@
 use Rattle.std.proofs.Common.{◌≡◌, ℕ, ◌+◌, ◌<◌, Bool, true, false, Some, None, refl, arith, sym, ap, ◌∙◌, subst, inl, inr}
 use Rattle.std.specs.Prelude.{◌≢◌, ◌⊎◌, is_some, IsSome}
 use Rattle.std.proofs.lemmas.Bool.{cases_eq}
-use Rattle.plan_model.specs.PointsByNumber.{point_of, IsPresent}
-use Rattle.plan_model.specs.SeenTrees.{SeenTree, IsSeen, IsRooted, HasSeenAtLeast}
-use Rattle.plan_model.specs.Sights.{IsLaterMoment}
+use Rattle.plan_model.specs.Trees.PointsByNumber.{point_of, IsPresent}
+use Rattle.plan_model.specs.Seen.SeenTrees.{SeenTree, IsSeen, IsRooted, HasSeenAtLeast}
+use Rattle.plan_model.specs.Seen.Sights.{IsLaterMoment}
 use Rattle.plan_model.proofs.NewNodes.{IsPresent-stands, StandsAt-present}
 use Rattle.plan_model.proofs.SeenTreeLaws.{IsSeen-more}
 use Rattle.step_core.specs.GrownWords.{child_of_word}

@@ -3,9 +3,9 @@ use Rattle.std.proofs.Common.{◌≡◌, ℕ, zero, suc, ◌<◌, ◌≤◌, ◌
 use Rattle.std.specs.Prelude.{◌≢◌}
 use Rattle.std.proofs.lemmas.Bool.{cases_eq}
 use Rattle.plan_model.specs.declared.tasks.Task.{Task}
-use Rattle.plan_model.specs.PointsByNumber.{point_at, node_count}
-use Rattle.plan_model.specs.Textbook.{setup_of}
-use Rattle.plan_model.specs.TreeStates.{recorded_or, first_cost_of}
+use Rattle.plan_model.specs.Trees.PointsByNumber.{point_at, node_count}
+use Rattle.plan_model.specs.Runs.Textbook.{setup_of}
+use Rattle.plan_model.specs.Trees.TreeStates.{recorded_or, first_cost_of}
 use Rattle.plan_model.proofs.ClosedLaws.{IsClosed-lowered}
 use Rattle.plan_model.proofs.LoweredCosts.{StandsStill, LowersNode, LowersCosts-lowers}
 use Rattle.plan_model.proofs.WayLinks.{FollowWays-same}

@@ -6,8 +6,8 @@ use mathlib.Core.Option.{some}
 use lib.ListN.{get_elem?}
 use Rattle.std.proofs.lemmas.Bool.{cases_eq, eq-eqb, ne_eqb, ltb-true}
 use Rattle.std.proofs.lemmas.Nat.{div-add-mod', mod_below}
-use Rattle.plan_model.specs.MarkPoints.{is_claimed}
-use Rattle.plan_model.specs.Turns.{once_if}
+use Rattle.plan_model.specs.Scenes.MarkPoints.{is_claimed}
+use Rattle.plan_model.specs.Runs.Turns.{once_if}
 use Rattle.plan_model.specs.declared.records.Record.{Record}
 use Rattle.plan_model.proofs.QuotaLaws.{IsCutAt-quota}
 use Rattle.plan_model.proofs.StripMarks.{is_claimed-now, is_claimed-other, not_claimed-yet}

@@ -6,19 +6,19 @@ use Rattle.std.proofs.lemmas.Option.{slice_get_within}
 use Rattle.plan_model.specs.declared.records.Record.{Record}
 use Rattle.plan_model.specs.declared.tasks.Task.{Task}
 use Rattle.plan_model.specs.declared.trees.Knot.{Knot}
-use Rattle.plan_model.specs.ClosedLaw.{IsClosed}
-use Rattle.plan_model.specs.PointsByNumber.{point_at, node_count}
-use Rattle.plan_model.specs.Textbook.{setup_of}
-use Rattle.plan_model.specs.Trees.{points_of, without_costs}
+use Rattle.plan_model.specs.Runs.ClosedLaw.{IsClosed}
+use Rattle.plan_model.specs.Trees.PointsByNumber.{point_at, node_count}
+use Rattle.plan_model.specs.Runs.Textbook.{setup_of}
+use Rattle.plan_model.specs.Trees.NodeLists.{points_of, without_costs}
 use Rattle.plan_model.proofs.ChainLaws.{node_count-cons}
-use Rattle.plan_model.specs.Ways.{FollowWays}
+use Rattle.plan_model.specs.Seen.Ways.{FollowWays}
 use Rattle.step_core.specs.WordNames.{Word, Words, WritesWord}
 use Rattle.step_core.specs.WordNames.Word.{Count, Counter, PointOf, ChildOf, TreeOf, FirstOf, RecordOf}
 use Rattle.step_core.specs.WordPlaces.{Sizes, word_at}
 use Rattle.step_core.specs.Words.{tree_word}
 use Rattle.step_core.specs.GrownWords.{run_words, sizes_of, points_of_words, state_of_words, child_of_word, children_of_words, HoldRun}
 use Rattle.step_core.specs.KdLinks.{AreUnlinked, ChangesChildren}
-use Rattle.plan_model.specs.TreeStates.{AreSameRuns}
+use Rattle.plan_model.specs.Trees.TreeStates.{AreSameRuns}
 use Rattle.step_core.specs.PackedRuns.{state_of_lists, FitWords, HoldsNode, HoldsRecord, WritesNodes, WritesRecords, CountsMarks, HoldLists}
 use Rattle.step_core.proofs.PackedStates.{point_at-lists, points-packed, AreSameRuns-packed, HoldRun-packed}
 

@@ -6,7 +6,7 @@ use Rattle.std.proofs.lemmas.Option.{same_Some}
 use Rattle.plan_model.specs.declared.records.Outcome.{Outcome}
 use Rattle.plan_model.specs.declared.records.Outcome.TheVariants.{Placed, Same, Blocked}
 use Rattle.plan_model.specs.declared.records.Record.{Record}
-use Rattle.plan_model.specs.Outcomes.{is_zero_unless_placed}
+use Rattle.plan_model.specs.Runs.Outcomes.{is_zero_unless_placed}
 use Rattle.plan_model.proofs.UniqueRuns.{Record-from_fields}
 use Rattle.step_core.specs.Words.{number_of_outcome, parent_in, cost_in, last_field, record_word, FitsWord, IsFirstWord, worker_in, turn_in}
 use Rattle.step_core.specs.Words.{nearest_in, outcome_in, last_in, placed_in, same_in, blocked_in, record_in, record_of_word}

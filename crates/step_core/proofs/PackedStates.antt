@@ -10,13 +10,13 @@ use Rattle.plan_model.specs.declared.records.Record.{Record}
 use Rattle.plan_model.specs.declared.tasks.Task.{Task}
 use Rattle.plan_model.specs.declared.trees.Knot.{Knot}
 use Rattle.plan_model.specs.declared.trees.Twig.{Twig}
-use Rattle.plan_model.specs.ClosedLaw.{IsClosed}
-use Rattle.plan_model.specs.PointsByNumber.{point_at, IsPresent}
-use Rattle.plan_model.specs.Outcomes.{is_placed}
-use Rattle.plan_model.specs.Textbook.{setup_of}
-use Rattle.plan_model.specs.Trees.{points_of, parent_of, parent_or_zero, without_costs}
-use Rattle.plan_model.specs.TreeStates.{AreSameRuns}
-use Rattle.plan_model.specs.Ways.{FollowWays}
+use Rattle.plan_model.specs.Runs.ClosedLaw.{IsClosed}
+use Rattle.plan_model.specs.Trees.PointsByNumber.{point_at, IsPresent}
+use Rattle.plan_model.specs.Runs.Outcomes.{is_placed}
+use Rattle.plan_model.specs.Runs.Textbook.{setup_of}
+use Rattle.plan_model.specs.Trees.NodeLists.{points_of, parent_of, parent_or_zero, without_costs}
+use Rattle.plan_model.specs.Trees.TreeStates.{AreSameRuns}
+use Rattle.plan_model.specs.Seen.Ways.{FollowWays}
 use Rattle.plan_model.proofs.PlacedNodes.{is_placed-true}
 use Rattle.plan_model.proofs.NewNodes.{IsPresent-stands}
 use Rattle.plan_model.proofs.NodeCounts.{node_count-same}

@@ -1,7 +1,7 @@
 -- Packed points, and packed parents with their costs, are read again; a lower cost has a lower word.
 use Rattle.std.proofs.Common.{◌≡◌, ℕ, ◌<◌, ◌/◌, ◌%◌, ◌^◌, Some, sym, ◌∙◌, arith}
 use Rattle.plan_model.specs.declared.geometry.Point.{Point}
-use Rattle.plan_model.specs.Bounds.{IsBounded}
+use Rattle.plan_model.specs.Geometry.Bounds.{IsBounded}
 use Rattle.step_core.specs.GrownWords.{IsPointWord}
 use Rattle.step_core.specs.Words.{point_word, point_of_word, tree_word, tree_of_word, parent_in, cost_in}
 use Rattle.step_core.proofs.ReadWords.{if_written-set}

@@ -10,7 +10,7 @@ use Rattle.std.proofs.lemmas.Option.{same_Some}
 use Rattle.plan_model.specs.declared.records.Outcome.TheVariants.{Placed}
 use Rattle.plan_model.specs.declared.records.Record.{Record}
 use Rattle.plan_model.specs.declared.trees.Knot.{Knot}
-use Rattle.plan_model.specs.MarkPoints.{quota_of}
+use Rattle.plan_model.specs.Scenes.MarkPoints.{quota_of}
 use Rattle.plan_model.proofs.CountsBelow.{count-more}
 use Rattle.step_core.specs.WordNames.{Word, Words, WritesWord, IsCounter, IsKnotWord}
 use Rattle.step_core.specs.WordNames.Word.{Counter, PointOf, TreeOf, FirstOf, RecordOf}

@@ -1,7 +1,7 @@
 -- Whether a mark was placed is said by its record's own word.
 use Rattle.std.proofs.Common.{◌≡◌, ℕ, zero, suc, ◌≤◌, ◌^◌, Bool, true, false, Some, None, refl, ap, ◌∙◌, arith}
 use Rattle.std.specs.Prelude.{cond, nat_lt}
-use Rattle.plan_model.specs.Outcomes.{is_placed}
+use Rattle.plan_model.specs.Runs.Outcomes.{is_placed}
 use Rattle.plan_model.specs.declared.records.Outcome.{Outcome}
 use Rattle.plan_model.specs.declared.records.Outcome.TheVariants.{Placed, Same, Blocked}
 use Rattle.plan_model.specs.declared.records.Record.{Record}

@@ -4,9 +4,9 @@ use Rattle.std.specs.Prelude.{IsSome, is_some}
 use Rattle.std.proofs.lemmas.Bool.{cases_Bool}
 use Rattle.plan_model.specs.declared.geometry.Point.{Point}
 use Rattle.plan_model.specs.declared.tasks.Task.{Task}
-use Rattle.plan_model.specs.PointsByNumber.{IsPresent, point_of}
-use Rattle.plan_model.specs.SeenTrees.{IsRooted, IsSeen, SeenTree}
-use Rattle.plan_model.specs.Ways.{IsOnWay, goes_right}
+use Rattle.plan_model.specs.Trees.PointsByNumber.{IsPresent, point_of}
+use Rattle.plan_model.specs.Seen.SeenTrees.{IsRooted, IsSeen, SeenTree}
+use Rattle.plan_model.specs.Seen.Ways.{IsOnWay, goes_right}
 use Rattle.plan_model.proofs.NewNodes.{StandsAt-present}
 use Rattle.plan_model.proofs.WayLaws.{last_step, not_empty, way_start}
 use Rattle.step_core.specs.GrownWords.{HoldRun, children_of_words, has_node, points_of_words, run_words, sizes_of}

@@ -1,10 +1,10 @@
 -- What a view has seen of the tree, a later view of the same run has seen too.
 use Rattle.std.proofs.Common.{◌≡◌, ℕ, suc, ◌≤◌, ◌^◌, refl, sym, ap, ◌∙◌, subst, inl, inr, arith}
-use Rattle.plan_model.specs.ClosedLaw.{mark_at}
+use Rattle.plan_model.specs.Runs.ClosedLaw.{mark_at}
 use Rattle.plan_model.specs.declared.geometry.Point.{Point}
-use Rattle.plan_model.specs.PointsByNumber.{IsPresent, point_of}
-use Rattle.plan_model.specs.SeenTrees.{HasSeenAtLeast, IsRooted}
-use Rattle.plan_model.specs.Steering.{steered}
+use Rattle.plan_model.specs.Trees.PointsByNumber.{IsPresent, point_of}
+use Rattle.plan_model.specs.Seen.SeenTrees.{HasSeenAtLeast, IsRooted}
+use Rattle.plan_model.specs.Geometry.Steering.{steered}
 use Rattle.plan_model.proofs.NewNodes.{IsPresent-stands, StandsAt-present}
 use Rattle.step_core.specs.SeenWords.{LooksAt, MayLookAt, SeenWords, seen_tree_of_words}
 use Rattle.step_core.specs.ViewTrees.{SeesHand, IsSteered, SeesPoint}

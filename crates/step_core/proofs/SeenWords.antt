@@ -6,9 +6,9 @@ use Rattle.std.proofs.lemmas.List.{get_or_past}
 use Rattle.std.proofs.lemmas.List.FromFn.{get_or-map-range_with_len, length-map-range_with_len}
 use Rattle.plan_model.specs.declared.geometry.Point.{Point}
 use Rattle.plan_model.specs.declared.records.Record.{Record}
-use Rattle.plan_model.specs.Outcomes.{is_placed}
-use Rattle.plan_model.specs.PointsByNumber.{point_at, StandsAt, IsPresent}
-use Rattle.plan_model.specs.SeenTrees.{HasSeenAtLeast, KeepsOrLowers}
+use Rattle.plan_model.specs.Runs.Outcomes.{is_placed}
+use Rattle.plan_model.specs.Trees.PointsByNumber.{point_at, StandsAt, IsPresent}
+use Rattle.plan_model.specs.Seen.SeenTrees.{HasSeenAtLeast, KeepsOrLowers}
 use Rattle.step_core.specs.GrownWords.{has_placed, child_of_word, children_of_words}
 use Rattle.step_core.specs.SeenWords.{seen_point, whole_record, seen_tree_of_words}
 use Rattle.step_core.specs.WordKinds.{MayBecome, AreBehind}

@@ -6,14 +6,14 @@ use Rattle.std.proofs.lemmas.List.{get_or-replicate, get_or_past, length-replica
 use Rattle.std.proofs.Math.ListN.{length-set}
 use Rattle.plan_model.specs.declared.geometry.Point.{Point}
 use Rattle.plan_model.specs.declared.tasks.Task.{Task}
-use Rattle.plan_model.specs.Bounds.{IsBounded}
-use Rattle.plan_model.specs.Clearance.{ClearAt}
-use Rattle.plan_model.specs.ConfigurationSpace.{space_of}
-use Rattle.plan_model.specs.PointsByNumber.{point_at, StandsAt, IsPresent}
-use Rattle.plan_model.specs.Textbook.{setup_of, start_alone}
-use Rattle.plan_model.specs.Trees.{points_of, parent_of, sum_of}
-use Rattle.plan_model.specs.TreeStates.{state_of, AreSameRuns}
-use Rattle.plan_model.specs.Ways.{FollowWays}
+use Rattle.plan_model.specs.Geometry.Bounds.{IsBounded}
+use Rattle.plan_model.specs.Spaces.Clearance.{ClearAt}
+use Rattle.plan_model.specs.Spaces.ConfigurationSpace.{space_of}
+use Rattle.plan_model.specs.Trees.PointsByNumber.{point_at, StandsAt, IsPresent}
+use Rattle.plan_model.specs.Runs.Textbook.{setup_of, start_alone}
+use Rattle.plan_model.specs.Trees.NodeLists.{points_of, parent_of, sum_of}
+use Rattle.plan_model.specs.Trees.TreeStates.{state_of, AreSameRuns}
+use Rattle.plan_model.specs.Seen.Ways.{FollowWays}
 use Rattle.plan_model.proofs.NewNodes.{IsPresent-stands, not_present, point_at-absent as tree-absent}
 use Rattle.plan_model.proofs.NodeCounts.{node_count-same}
 use Rattle.plan_model.proofs.SameTrees.{IsClosed-same_run}

@@ -7,9 +7,9 @@ use Rattle.std.proofs.lemmas.List.{get_or_past}
 use Rattle.std.proofs.lemmas.List.Folds.{list_any_at}
 use Rattle.std.proofs.lemmas.List.FromFn.{get_or-range_with_len, length-range_with_len, get_or-map-range_with_len, length-map-range_with_len}
 use Rattle.plan_model.specs.declared.geometry.Point.{Point}
-use Rattle.plan_model.specs.PointsByNumber.{point_of, StandsAt, IsPresent}
-use Rattle.plan_model.specs.SeenTrees.{IsSeen, IsRooted, KeepsOrLowers, seen_whole, IsTrueOf}
-use Rattle.plan_model.specs.Ways.{FollowWays}
+use Rattle.plan_model.specs.Trees.PointsByNumber.{point_of, StandsAt, IsPresent}
+use Rattle.plan_model.specs.Seen.SeenTrees.{IsSeen, IsRooted, KeepsOrLowers, seen_whole, IsTrueOf}
+use Rattle.plan_model.specs.Seen.Ways.{FollowWays}
 use Rattle.plan_model.proofs.NewNodes.{IsPresent-stands, StandsAt-present}
 use Rattle.plan_model.proofs.TrueSights.{whole_pair}
 use Rattle.plan_model.proofs.WayLaws.{not_empty}

@@ -6,9 +6,9 @@ use Rattle.std.specs.List.{range_with_len}
 use mathlib.Core.Option.{some, some-injective}
 use lib.ListN.{get_elem?}
 use Rattle.std.proofs.lemmas.Bool.{cases_Bool, cases_eq, cases_lt}
-use Rattle.plan_model.specs.PointsByNumber.{node_count}
-use Rattle.plan_model.specs.Turns.{once_if}
-use Rattle.plan_model.specs.Ways.{FollowWays}
+use Rattle.plan_model.specs.Trees.PointsByNumber.{node_count}
+use Rattle.plan_model.specs.Runs.Turns.{once_if}
+use Rattle.plan_model.specs.Seen.Ways.{FollowWays}
 use Rattle.plan_model.specs.declared.records.Record.{Record}
 use Rattle.step_core.specs.GrownWords.{child_of_word, children_of_words, has_node, is_linked, record_at}
 use Rattle.step_core.specs.SeenWords.{seen_point}

@@ -5,8 +5,8 @@ use Rattle.std.specs.List.{count_by, range_with_len}
 use mathlib.Core.Option.{some, some-injective}
 use lib.ListN.{get_elem?}
 use Rattle.std.proofs.lemmas.Bool.{cases_eq, eq-eqb, ltb-true, ne_eqb}
-use Rattle.plan_model.specs.MarkPoints.{is_claimed}
-use Rattle.plan_model.specs.Turns.{is_of_worker, once_if, turns_of}
+use Rattle.plan_model.specs.Scenes.MarkPoints.{is_claimed}
+use Rattle.plan_model.specs.Runs.Turns.{is_of_worker, once_if, turns_of}
 use Rattle.plan_model.proofs.CountsBelow.{count-all, count-one_more, count-wider}
 use Rattle.step_core.specs.GrownWords.{record_at}
 use Rattle.step_core.specs.Views.{holds, share, times}

@@ -6,9 +6,9 @@ use Rattle.std.specs.List.{range_with_len, list_any}
 use lib.ListN.{get_elem?}
 use mathlib.Core.Option.{some}
 use Rattle.std.proofs.lemmas.Bool.{cases_Bool}
-use Rattle.plan_model.specs.OrderLaw.{KeepsOrder}
-use Rattle.plan_model.specs.PointsByNumber.{IsPresent, point_at}
-use Rattle.plan_model.specs.TreeStates.{first_cost_of, recorded_or}
+use Rattle.plan_model.specs.Runs.OrderLaw.{KeepsOrder}
+use Rattle.plan_model.specs.Trees.PointsByNumber.{IsPresent, point_at}
+use Rattle.plan_model.specs.Trees.TreeStates.{first_cost_of, recorded_or}
 use Rattle.plan_model.proofs.LoweredCosts.{HaveSameTree, KeepsOrder-lowered, LowersCosts-same}
 use Rattle.step_core.specs.GrownWords.{is_linked, record_at}
 use Rattle.step_core.specs.SharedWords.{linked_point, linked_points, state_of_links}

@@ -4,7 +4,7 @@ use Rattle.std.proofs.lemmas.Bool.{cases_eq, eq-eqb}
 use Rattle.std.proofs.lemmas.Option.{same_Some}
 use mathlib.Core.Option.{some}
 use lib.ListN.{get_elem?}
-use Rattle.plan_model.specs.Turns.{once_if}
+use Rattle.plan_model.specs.Runs.Turns.{once_if}
 use Rattle.step_core.specs.Stages.{has_point, holds_at}
 use Rattle.step_core.specs.Views.{holds}
 use Rattle.step_core.specs.WordNames.{Words, WritesWord}

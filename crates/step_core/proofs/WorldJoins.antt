@@ -6,8 +6,8 @@ use Rattle.std.proofs.lemmas.Bool.{cases_eq, eqb-true, eqb-false, ne_eqb}
 use Rattle.std.proofs.lemmas.List.Sums.{sum_by-append}
 use mathlib.Core.Option.{some, some-ne-none, some-injective}
 use lib.ListN.{get_elem?}
-use Rattle.plan_model.specs.Turns.{once_if}
-use Rattle.plan_model.specs.SeenParents.{AreSeenLawfully}
+use Rattle.plan_model.specs.Runs.Turns.{once_if}
+use Rattle.plan_model.specs.Seen.SeenParents.{AreSeenLawfully}
 use Rattle.plan_model.proofs.SeenParentLaws.{AreSeenLawfully-either}
 use Rattle.step_core.specs.Stages.{has_count, has_first, has_link, has_point, has_tree, holds_at}
 use Rattle.step_core.specs.ViewSteps.{joined}

@@ -8,10 +8,10 @@ use Rattle.std.proofs.lemmas.List.{get_or_past}
 use Rattle.std.proofs.lemmas.List.FromFn.{get_or-map-range_with_len, length-map-range_with_len}
 use mathlib.Core.Option.{some}
 use lib.ListN.{get_elem?}
-use Rattle.plan_model.specs.Outcomes.{is_placed}
-use Rattle.plan_model.specs.PointsByNumber.{IsPresent, StandsAt, point_at}
-use Rattle.plan_model.specs.Turns.{once_if}
-use Rattle.plan_model.specs.Ways.{EndsBelow, FollowWays, goes_right}
+use Rattle.plan_model.specs.Runs.Outcomes.{is_placed}
+use Rattle.plan_model.specs.Trees.PointsByNumber.{IsPresent, StandsAt, point_at}
+use Rattle.plan_model.specs.Runs.Turns.{once_if}
+use Rattle.plan_model.specs.Seen.Ways.{EndsBelow, FollowWays, goes_right}
 use Rattle.plan_model.specs.declared.geometry.Point.{Point}
 use Rattle.plan_model.specs.declared.records.Record.{Record}
 use Rattle.plan_model.proofs.WayLinks.{AddsPoint-stands, FollowWays-links}

@@ -6,12 +6,12 @@ use Rattle.std.specs.Prelude.{◌⊎◌, ◌==◌, is_some, nat_lt}
 use Rattle.std.proofs.lemmas.Option.{same_Some}
 use mathlib.Core.Option.{some}
 use lib.ListN.{get_elem?}
-use Rattle.plan_model.specs.Bounds.{IsBounded}
-use Rattle.plan_model.specs.ClosedLaw.{mark_at}
-use Rattle.plan_model.specs.MarkPoints.{is_claimed}
-use Rattle.plan_model.specs.TreeStates.{GrowsInto}
-use Rattle.plan_model.specs.Turns.{once_if}
-use Rattle.plan_model.specs.Ways.{EndsBelow, goes_right}
+use Rattle.plan_model.specs.Geometry.Bounds.{IsBounded}
+use Rattle.plan_model.specs.Runs.ClosedLaw.{mark_at}
+use Rattle.plan_model.specs.Scenes.MarkPoints.{is_claimed}
+use Rattle.plan_model.specs.Trees.TreeStates.{GrowsInto}
+use Rattle.plan_model.specs.Runs.Turns.{once_if}
+use Rattle.plan_model.specs.Seen.Ways.{EndsBelow, goes_right}
 use Rattle.plan_model.specs.declared.geometry.Point.{Point}
 use Rattle.plan_model.proofs.TreeStateLaws.{GrowsInto-refl}
 use Rattle.step_core.specs.GrownWords.{children_of_words, is_linked}

@@ -6,10 +6,10 @@ use Rattle.std.proofs.lemmas.List.Sums.{sum_by-cons}
 use Rattle.std.proofs.lemmas.Option.{same_Some}
 use mathlib.Core.Option.{some}
 use lib.ListN.{get_elem?}
-use Rattle.plan_model.specs.Cost.{cost_of}
-use Rattle.plan_model.specs.PointsByNumber.{node_count}
-use Rattle.plan_model.specs.TreeStates.{GrowsInto, TreeState}
-use Rattle.plan_model.specs.Turns.{once_if}
+use Rattle.plan_model.specs.Geometry.Cost.{cost_of}
+use Rattle.plan_model.specs.Trees.PointsByNumber.{node_count}
+use Rattle.plan_model.specs.Trees.TreeStates.{GrowsInto, TreeState}
+use Rattle.plan_model.specs.Runs.Turns.{once_if}
 use Rattle.plan_model.proofs.OrderLaws.{Hangs-grows, most_cost_of-le}
 use Rattle.plan_model.proofs.TreeStateLaws.{IsPresent-grows, node_count-grows, point_of-grows}
 use Rattle.step_core.specs.GrownWords.{is_linked}

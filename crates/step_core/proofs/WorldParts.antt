@@ -5,8 +5,8 @@ use Rattle.std.specs.Prelude.{◌⊎◌, ◌==◌, nat_lt, cond, is_some}
 use mathlib.Core.Option.{some}
 use lib.ListN.{get_elem?}
 use Rattle.std.proofs.lemmas.Bool.{cases_lt, le-ltb}
-use Rattle.plan_model.specs.MarkPoints.{is_claimed, quota_of}
-use Rattle.plan_model.specs.Turns.{AreTurns, is_of_turn, is_of_worker, once_if, turns_of}
+use Rattle.plan_model.specs.Scenes.MarkPoints.{is_claimed, quota_of}
+use Rattle.plan_model.specs.Runs.Turns.{AreTurns, is_of_turn, is_of_worker, once_if, turns_of}
 use Rattle.plan_model.proofs.CountsBelow.{count-all, count-same, count-wider}
 use Rattle.plan_model.proofs.QuotaLaws.{IsCutAt-quota}
 use Rattle.step_core.specs.GrownWords.{record_at}

@@ -1,12 +1,12 @@
 -- The part of the law of worlds on the parents and the costs that views have seen, after each kind of step.
 use Rattle.std.proofs.Common.{◌≡◌, ℕ, ◌^◌, Bool, true, false, List, set, Some, None, refl, sym, ap, ◌∙◌, subst, inl, inr}
 use Rattle.std.specs.Prelude.{cond, is_some, nat_lt, option_map, Option}
-use Rattle.plan_model.specs.PointsByNumber.{IsPresent, point_at}
-use Rattle.plan_model.specs.SeenParents.{AreSeenLawfully}
-use Rattle.plan_model.specs.SeenTrees.{SeenTree, seen_whole}
-use Rattle.plan_model.specs.Textbook.{Setup}
-use Rattle.plan_model.specs.TreeStates.{GrowsInto, TreeState}
-use Rattle.plan_model.specs.Ways.{FollowWays}
+use Rattle.plan_model.specs.Trees.PointsByNumber.{IsPresent, point_at}
+use Rattle.plan_model.specs.Seen.SeenParents.{AreSeenLawfully}
+use Rattle.plan_model.specs.Seen.SeenTrees.{SeenTree, seen_whole}
+use Rattle.plan_model.specs.Runs.Textbook.{Setup}
+use Rattle.plan_model.specs.Trees.TreeStates.{GrowsInto, TreeState}
+use Rattle.plan_model.specs.Seen.Ways.{FollowWays}
 use Rattle.plan_model.specs.declared.geometry.Point.{Point}
 use Rattle.plan_model.proofs.SeenParentLaws.{AreSeenLawfully-either, AreSeenLawfully-grows, AreSeenLawfully-whole}
 use Rattle.step_core.specs.GrownWords.{children_of_words}

@@ -7,8 +7,8 @@ use Rattle.std.proofs.lemmas.List.{length-replicate}
 use Rattle.std.proofs.lemmas.List.Sums.{sum_by_push}
 use mathlib.Core.Option.{some, some-ne-none}
 use lib.ListN.{get_elem?}
-use Rattle.plan_model.specs.Turns.{once_if}
-use Rattle.plan_model.specs.SeenParents.{AreSeenLawfully}
+use Rattle.plan_model.specs.Runs.Turns.{once_if}
+use Rattle.plan_model.specs.Seen.SeenParents.{AreSeenLawfully}
 use Rattle.step_core.specs.Stages.{has_count, has_first, has_link, has_point, has_tree, holds_at}
 use Rattle.step_core.specs.ViewSteps.{found_none, looker, parted, second_alone, stepped, without_second, worker_apart}
 use Rattle.step_core.specs.ViewTrees.{SeesTree}

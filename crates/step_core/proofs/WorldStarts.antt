@@ -11,11 +11,11 @@ use Rattle.std.proofs.lemmas.List.FromFn.{length-range_with_len}
 use Rattle.std.proofs.lemmas.Nat.{mod_below}
 use Rattle.std.proofs.lemmas.Option.{same_Some}
 use Rattle.std.proofs.lemmas.List.Sums.{sum_by-cons}
-use Rattle.plan_model.specs.MarkPoints.{is_claimed}
-use Rattle.plan_model.specs.OrderLaw.{KeepsFirstCosts, KeepsOrder}
-use Rattle.plan_model.specs.SeenParents.{AreSeenLawfully}
-use Rattle.plan_model.specs.Textbook.{setup_of}
-use Rattle.plan_model.specs.Turns.{once_if, turns_of}
+use Rattle.plan_model.specs.Scenes.MarkPoints.{is_claimed}
+use Rattle.plan_model.specs.Runs.OrderLaw.{KeepsFirstCosts, KeepsOrder}
+use Rattle.plan_model.specs.Seen.SeenParents.{AreSeenLawfully}
+use Rattle.plan_model.specs.Runs.Textbook.{setup_of}
+use Rattle.plan_model.specs.Runs.Turns.{once_if, turns_of}
 use Rattle.plan_model.specs.declared.records.Record.{Record}
 use Rattle.plan_model.specs.declared.tasks.Task.{Task}
 use Rattle.plan_model.specs.declared.limits.TheConstants.{MOST_WORKERS}

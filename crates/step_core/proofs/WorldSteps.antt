@@ -5,12 +5,12 @@ use Rattle.std.specs.Prelude.{◌≢◌, ◌⊎◌, ◌==◌, cond}
 use mathlib.Core.Option.{some}
 use lib.ListN.{get_elem?}
 use Rattle.std.proofs.lemmas.Bool.{cases_eq, eqb-true}
-use Rattle.plan_model.specs.MarkPoints.{is_claimed, quota_of}
-use Rattle.plan_model.specs.Turns.{once_if}
+use Rattle.plan_model.specs.Scenes.MarkPoints.{is_claimed, quota_of}
+use Rattle.plan_model.specs.Runs.Turns.{once_if}
 use Rattle.plan_model.proofs.QuotaLaws.{IsCutAt-quota}
 use Rattle.plan_model.proofs.TreeStateLaws.{GrowsInto-refl}
 use Rattle.std.proofs.lemmas.Option.{same_Some}
-use Rattle.plan_model.specs.Ways.{FollowWays}
+use Rattle.plan_model.specs.Seen.Ways.{FollowWays}
 use Rattle.step_core.specs.GrownWords.{children_of_words}
 use Rattle.step_core.specs.SharedWords.{linked_points}
 use Rattle.step_core.specs.Stages.{has_count, has_first, has_link, has_point, has_tree, holds_at}

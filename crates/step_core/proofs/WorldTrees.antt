@@ -1,11 +1,11 @@
 -- The part of the law of worlds on the order law of the linked nodes, after each kind of step.
 use Rattle.std.proofs.Common.{◌≡◌, ◌≢◌, ℕ, suc, ◌<◌, ◌≤◌, ◌^◌, true, false, List, Some, refl, sym, ap, ◌∙◌, subst, inl, inr, arith}
 use Rattle.std.proofs.lemmas.Bool.{cases_eq}
-use Rattle.plan_model.specs.Bounds.{IsBounded}
-use Rattle.plan_model.specs.OrderLaw.{Hangs, most_cost_of}
-use Rattle.plan_model.specs.PointsByNumber.{IsPresent, StandsAt, node_count, point_at, point_of}
-use Rattle.plan_model.specs.TreeStates.{GrowsInto, TreeState, first_cost_of}
-use Rattle.plan_model.specs.Ways.{EndsBelow, goes_right}
+use Rattle.plan_model.specs.Geometry.Bounds.{IsBounded}
+use Rattle.plan_model.specs.Runs.OrderLaw.{Hangs, most_cost_of}
+use Rattle.plan_model.specs.Trees.PointsByNumber.{IsPresent, StandsAt, node_count, point_at, point_of}
+use Rattle.plan_model.specs.Trees.TreeStates.{GrowsInto, TreeState, first_cost_of}
+use Rattle.plan_model.specs.Seen.Ways.{EndsBelow, goes_right}
 use Rattle.plan_model.specs.declared.geometry.Point.{Point}
 use Rattle.plan_model.proofs.AddedNodes.{AddsNode, KeepsFirstCosts-adds, KeepsOrder-adds}
 use Rattle.plan_model.proofs.LoweredCosts.{KeepsFirstCosts-lowered, KeepsOrder-lowered, LowersCosts, LowersCosts-rewires, StandsStill}

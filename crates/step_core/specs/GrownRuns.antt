@@ -1,9 +1,9 @@
 -- What a closed run shows of its words, and how one lowered cost changes it.
 use Rattle.std.specs.Prelude.{◌≡◌, ◌≢◌, ℕ, ◌+◌, ◌≤◌}
-use Rattle.plan_model.specs.Cost.{cost_of}
-use Rattle.plan_model.specs.PointsByNumber.{point_of}
-use Rattle.plan_model.specs.TreeStates.{TreeState}
-use Rattle.plan_model.specs.Ways.{Children}
+use Rattle.plan_model.specs.Geometry.Cost.{cost_of}
+use Rattle.plan_model.specs.Trees.PointsByNumber.{point_of}
+use Rattle.plan_model.specs.Trees.TreeStates.{TreeState}
+use Rattle.plan_model.specs.Seen.Ways.{Children}
 use Rattle.step_core.specs.declared.grown.Grown.{Grown}
 use Rattle.step_core.specs.GrownWords.{run_words, sizes_of, state_of_words, children_of_words}
 use Rattle.step_core.specs.WordNames.{Words}

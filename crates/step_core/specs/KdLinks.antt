@@ -2,8 +2,8 @@
 use Rattle.std.specs.Prelude.{◌≡◌, ℕ, ◌+◌, ◌<◌, ◌≤◌, nat_lt, is_some, Bool, Option, Some, None, List, map, if◌then◌else◌}
 use Rattle.std.specs.List.{range_with_len}
 use Rattle.plan_model.specs.declared.geometry.Point.{Point}
-use Rattle.plan_model.specs.PointsByNumber.{point_at, StandsAt, IsPresent, AreDistinct}
-use Rattle.plan_model.specs.Ways.{goes_right, Children, EndsBelow, FollowWays}
+use Rattle.plan_model.specs.Trees.PointsByNumber.{point_at, StandsAt, IsPresent, AreDistinct}
+use Rattle.plan_model.specs.Seen.Ways.{goes_right, Children, EndsBelow, FollowWays}
 use Rattle.step_core.specs.WordNames.{Words, ChangesOnly, IsChildWord}
 use Rattle.step_core.specs.WordNames.Word.{ChildOf}
 use Rattle.step_core.specs.WordPlaces.{Sizes, place_of}

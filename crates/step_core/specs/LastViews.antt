@@ -1,8 +1,8 @@
 -- What a view has seen, in the run that the words have come to.
 use Rattle.std.specs.Prelude.{◌≡◌, ◌⊎◌, ℕ, ◌^◌, ◌<◌, ◌≤◌, Some}
-use Rattle.plan_model.specs.MarkPoints.{quota_of}
-use Rattle.plan_model.specs.PointsByNumber.{IsPresent, StandsAt}
-use Rattle.plan_model.specs.TreeStates.{TreeState}
+use Rattle.plan_model.specs.Scenes.MarkPoints.{quota_of}
+use Rattle.plan_model.specs.Trees.PointsByNumber.{IsPresent, StandsAt}
+use Rattle.plan_model.specs.Trees.TreeStates.{TreeState}
 use Rattle.plan_model.specs.declared.geometry.Point.{Point}
 use Rattle.plan_model.specs.declared.records.Record.{Record}
 use Rattle.step_core.specs.GrownWords.{record_at}

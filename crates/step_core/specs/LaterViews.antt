@@ -2,10 +2,10 @@
 use Rattle.std.specs.Prelude.{◌≡◌, ℕ, suc, ◌+◌, ◌^◌, ◌<◌, ◌≤◌, ◌⊎◌, true, false, Some, None, length}
 use lib.ListN.{get_elem?}
 use mathlib.Core.Option.{some}
-use Rattle.plan_model.specs.OrderLaw.{KeepsOrder}
-use Rattle.plan_model.specs.PointsByNumber.{AreDistinct}
-use Rattle.plan_model.specs.SeenTrees.{FollowSeenWays}
-use Rattle.plan_model.specs.Turns.{turns_of}
+use Rattle.plan_model.specs.Runs.OrderLaw.{KeepsOrder}
+use Rattle.plan_model.specs.Trees.PointsByNumber.{AreDistinct}
+use Rattle.plan_model.specs.Seen.SeenTrees.{FollowSeenWays}
+use Rattle.plan_model.specs.Runs.Turns.{turns_of}
 use Rattle.step_core.specs.GrownWords.{record_at}
 use Rattle.step_core.specs.SharedWords.{state_of_links}
 use Rattle.step_core.specs.Stages.{has_first, has_link}

@@ -3,11 +3,11 @@ use Rattle.std.specs.Prelude.{◌≡◌, ℕ, zero, suc, ◌+◌, ◌<◌, ◌�
 use Rattle.plan_model.specs.declared.records.Outcome.TheVariants.{Placed}
 use Rattle.plan_model.specs.declared.records.Record.{Record}
 use Rattle.plan_model.specs.declared.trees.Knot.{Knot}
-use Rattle.plan_model.specs.Bounds.{IsBounded}
-use Rattle.plan_model.specs.MarkPoints.{quota_of}
-use Rattle.plan_model.specs.PointsByNumber.{node_count}
-use Rattle.plan_model.specs.Trees.{points_of, parent_of, without_costs}
-use Rattle.plan_model.specs.TreeStates.{TreeState}
+use Rattle.plan_model.specs.Geometry.Bounds.{IsBounded}
+use Rattle.plan_model.specs.Scenes.MarkPoints.{quota_of}
+use Rattle.plan_model.specs.Trees.PointsByNumber.{node_count}
+use Rattle.plan_model.specs.Trees.NodeLists.{points_of, parent_of, without_costs}
+use Rattle.plan_model.specs.Trees.TreeStates.{TreeState}
 use Rattle.step_core.specs.WordNames.{Word, Words, ChangesOnly, IsCounter, IsKnotWord}
 use Rattle.step_core.specs.WordNames.Word.{Count, Counter, PointOf, TreeOf, FirstOf, RecordOf}
 use Rattle.step_core.specs.WordPlaces.{Sizes}

@@ -1,15 +1,15 @@
 -- What a pass may record of the mark in its hand, by what it has seen: each fact of the record law is one of the view alone.
 use Rattle.std.specs.Prelude.{◌≡◌, ℕ, zero, suc, ◌+◌, ◌^◌, ◌≤◌, Bool, true, IsTrue, length, filter}
 use Rattle.std.specs.List.{range_with_len}
-use Rattle.plan_model.specs.Clearance.{Clear}
-use Rattle.plan_model.specs.ClosedLaw.{mark_at}
-use Rattle.plan_model.specs.Cost.{cost_of}
-use Rattle.plan_model.specs.LeastPairs.{IsNotAbove}
-use Rattle.plan_model.specs.Nearness.{distance_to, is_within}
-use Rattle.plan_model.specs.PointsByNumber.{IsPresent, point_at, point_of}
-use Rattle.plan_model.specs.Radius.{class_of, radius_of_class}
-use Rattle.plan_model.specs.RecordLaw.{is_earlier_record}
-use Rattle.plan_model.specs.Steering.{steered}
+use Rattle.plan_model.specs.Spaces.Clearance.{Clear}
+use Rattle.plan_model.specs.Runs.ClosedLaw.{mark_at}
+use Rattle.plan_model.specs.Geometry.Cost.{cost_of}
+use Rattle.plan_model.specs.Trees.LeastPairs.{IsNotAbove}
+use Rattle.plan_model.specs.Trees.Nearness.{distance_to, is_within}
+use Rattle.plan_model.specs.Trees.PointsByNumber.{IsPresent, point_at, point_of}
+use Rattle.plan_model.specs.Geometry.Radius.{class_of, radius_of_class}
+use Rattle.plan_model.specs.Runs.RecordLaw.{is_earlier_record}
+use Rattle.plan_model.specs.Geometry.Steering.{steered}
 use Rattle.plan_model.specs.declared.geometry.Point.{Point}
 use Rattle.plan_model.specs.declared.records.Outcome.{Outcome}
 use Rattle.plan_model.specs.declared.records.Outcome.TheVariants.{Blocked, Placed, Same}

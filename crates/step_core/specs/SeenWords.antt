@@ -3,8 +3,8 @@ use Rattle.std.specs.Prelude.{◌≡◌, ℕ, suc, ◌+◌, ◌^◌, ◌&&◌, n
 use Rattle.std.specs.List.{range_with_len}
 use Rattle.plan_model.specs.declared.geometry.Point.{Point}
 use Rattle.plan_model.specs.declared.records.Record.{Record}
-use Rattle.plan_model.specs.SeenTrees.{SeenTree, IsSeen}
-use Rattle.plan_model.specs.Sights.{Sight}
+use Rattle.plan_model.specs.Seen.SeenTrees.{SeenTree, IsSeen}
+use Rattle.plan_model.specs.Seen.Sights.{Sight}
 use Rattle.step_core.specs.GrownWords.{has_placed, children_of_words}
 use Rattle.step_core.specs.WordNames.{Word, Words, WritesWord}
 use Rattle.step_core.specs.WordNames.Word.{Count, Counter, PointOf, ChildOf, TreeOf, FirstOf, RecordOf}

@@ -1,8 +1,8 @@
 -- The tree in the words of a run to which several add: a node is present once it is linked, whatever its mark's record says.
 use Rattle.std.specs.Prelude.{ℕ, Option, List}
 use Rattle.plan_model.specs.declared.geometry.Point.{Point}
-use Rattle.plan_model.specs.SeenTrees.{SharedTree}
-use Rattle.plan_model.specs.TreeStates.{TreeState}
+use Rattle.plan_model.specs.Seen.SeenTrees.{SharedTree}
+use Rattle.plan_model.specs.Trees.TreeStates.{TreeState}
 use Rattle.step_core.specs.GrownWords.{is_linked, node_point_by, points_by, state_by, children_of_words}
 use Rattle.step_core.specs.WordNames.{Words}
 use Rattle.step_core.specs.WordNames.Word.{Count, Counter}

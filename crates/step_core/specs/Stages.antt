@@ -1,6 +1,6 @@
 -- How far a mark in hand has come, and which records it may get there.
 use Rattle.std.specs.Prelude.{◌≡◌, ℕ, ◌==◌, ◌&&◌, Bool, true, false, Option, Some, None}
-use Rattle.plan_model.specs.Outcomes.{is_placed}
+use Rattle.plan_model.specs.Runs.Outcomes.{is_placed}
 use Rattle.plan_model.specs.declared.records.Outcome.{Outcome}
 use Rattle.step_core.specs.declared.views.Hand.{Hand}
 use Rattle.step_core.specs.declared.views.Stage.{Stage}

@@ -1,7 +1,7 @@
 -- How a shared run begins: with one view, which has the share of all workers and has seen all words.
 use Rattle.std.specs.Prelude.{ℕ, None, List, [], length, map, replicate}
 use Rattle.std.specs.List.{range_with_len}
-use Rattle.plan_model.specs.Turns.{turns_of}
+use Rattle.plan_model.specs.Runs.Turns.{turns_of}
 use Rattle.step_core.specs.GrownWords.{record_at}
 use Rattle.step_core.specs.Views.{words_of_run}
 use Rattle.step_core.specs.WordNames.{Words}

@@ -1,14 +1,14 @@
 -- What a view has seen of the tree, and which steps on nodes that allows it.
 use Rattle.std.specs.Prelude.{◌≡◌, ◌≢◌, ℕ, suc, ◌+◌, ◌^◌, ◌<◌, ◌≤◌, Bool, true, Some, length}
 use Rattle.plan_model.specs.declared.geometry.Point.{Point}
-use Rattle.plan_model.specs.ClosedLaw.{mark_at}
-use Rattle.plan_model.specs.Cost.{cost_of}
-use Rattle.plan_model.specs.OrderLaw.{IsAllowedEdge}
-use Rattle.plan_model.specs.PointsByNumber.{IsPresent, StandsAt}
-use Rattle.plan_model.specs.SeenTrees.{IsRooted, IsSeen}
-use Rattle.plan_model.specs.Sights.{Sight}
-use Rattle.plan_model.specs.Steering.{steered}
-use Rattle.plan_model.specs.Ways.{IsOnWay, goes_right}
+use Rattle.plan_model.specs.Runs.ClosedLaw.{mark_at}
+use Rattle.plan_model.specs.Geometry.Cost.{cost_of}
+use Rattle.plan_model.specs.Runs.OrderLaw.{IsAllowedEdge}
+use Rattle.plan_model.specs.Trees.PointsByNumber.{IsPresent, StandsAt}
+use Rattle.plan_model.specs.Seen.SeenTrees.{IsRooted, IsSeen}
+use Rattle.plan_model.specs.Seen.Sights.{Sight}
+use Rattle.plan_model.specs.Geometry.Steering.{steered}
+use Rattle.plan_model.specs.Seen.Ways.{IsOnWay, goes_right}
 use Rattle.step_core.specs.GrownWords.{has_node}
 use Rattle.step_core.specs.SeenWords.{sight_of_words}
 use Rattle.step_core.specs.Stages.{has_link, has_point}

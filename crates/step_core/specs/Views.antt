@@ -1,10 +1,10 @@
 -- What the view of a pass says: its share, its hand, and the words that it has seen. The words are read by their names.
 use Rattle.std.specs.Prelude.{◌≡◌, ℕ, ◌<◌, ◌≤◌, ◌==◌, Bool, false, Option, Some, None, List, [], count_by, length}
-use Rattle.plan_model.specs.Bounds.{IsBounded}
-use Rattle.plan_model.specs.ClosedLaw.{mark_at}
-use Rattle.plan_model.specs.ConfigurationSpace.{space_among, space_of}
-use Rattle.plan_model.specs.SeenTrees.{SeenTree}
-use Rattle.plan_model.specs.Textbook.{Setup, skipping_goals}
+use Rattle.plan_model.specs.Geometry.Bounds.{IsBounded}
+use Rattle.plan_model.specs.Runs.ClosedLaw.{mark_at}
+use Rattle.plan_model.specs.Spaces.ConfigurationSpace.{space_among, space_of}
+use Rattle.plan_model.specs.Seen.SeenTrees.{SeenTree}
+use Rattle.plan_model.specs.Runs.Textbook.{Setup, skipping_goals}
 use Rattle.plan_model.specs.declared.limits.TheConstants.{MOST_MARKS, MOST_STEERING_STEP, MOST_STRIPS, MOST_WORKERS}
 use Rattle.plan_model.specs.declared.tasks.Task.{Task}
 use Rattle.step_core.specs.SeenWords.{SeenWords, seen_tree_of_words}

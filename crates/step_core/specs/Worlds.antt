@@ -5,17 +5,17 @@ use Rattle.std.specs.Prelude.{Some, None, List, [], ◌∷◌, length, map, slic
 use Rattle.std.specs.List.{range_with_len, sum_by}
 use lib.ListN.{get_elem?}
 use mathlib.Core.Option.{some}
-use Rattle.plan_model.specs.ClosedLaw.{mark_at}
-use Rattle.plan_model.specs.MarkPoints.{quota_of, is_claimed}
+use Rattle.plan_model.specs.Runs.ClosedLaw.{mark_at}
+use Rattle.plan_model.specs.Scenes.MarkPoints.{quota_of, is_claimed}
 use Rattle.plan_model.specs.declared.limits.TheConstants.{MOST_WORKERS}
 use Rattle.plan_model.specs.declared.records.Record.{Record}
-use Rattle.plan_model.specs.Turns.{AreTurns, is_of_worker, once_if, turns_of}
-use Rattle.plan_model.specs.OrderLaw.{Hangs, KeepsFirstCosts, KeepsOrder, most_cost_of}
-use Rattle.plan_model.specs.PointsByNumber.{IsPresent, node_count}
-use Rattle.plan_model.specs.RecordLaw.{IsLawfulRecord, first_cost_through}
-use Rattle.plan_model.specs.SeenParents.{AreSeenLawfully}
-use Rattle.plan_model.specs.TreeStates.{TreeState}
-use Rattle.plan_model.specs.Ways.{FollowWays}
+use Rattle.plan_model.specs.Runs.Turns.{AreTurns, is_of_worker, once_if, turns_of}
+use Rattle.plan_model.specs.Runs.OrderLaw.{Hangs, KeepsFirstCosts, KeepsOrder, most_cost_of}
+use Rattle.plan_model.specs.Trees.PointsByNumber.{IsPresent, node_count}
+use Rattle.plan_model.specs.Runs.RecordLaw.{IsLawfulRecord, first_cost_through}
+use Rattle.plan_model.specs.Seen.SeenParents.{AreSeenLawfully}
+use Rattle.plan_model.specs.Trees.TreeStates.{TreeState}
+use Rattle.plan_model.specs.Seen.Ways.{FollowWays}
 use Rattle.step_core.specs.GrownWords.{IsWritten, children_of_words, has_node, is_linked, record_at}
 use Rattle.step_core.specs.SharedWords.{linked_points, state_of_links}
 use Rattle.step_core.specs.Stages.{has_count, has_first, has_link, has_point, has_tree, holds_at}

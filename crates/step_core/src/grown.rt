@@ -1,14 +1,14 @@
 //! A closed run: a task, a limit, and the words of the tree and the records that its marks below the limit have led to.
 
 ghost use Rattle.std.specs.Prelude.{◌≡◌, ◌<◌, ◌≤◌, ℕ, Bool, [], length, IfOk, IsTrue, Some};
-ghost use Rattle.plan_model.specs.Clearance.{ClearAt};
-ghost use Rattle.plan_model.specs.ClosedLaw.{IsClosed};
-ghost use Rattle.plan_model.specs.ConfigurationSpace.{space_of};
-ghost use Rattle.plan_model.specs.PointsByNumber.{IsPresent, node_count, point_at};
-ghost use Rattle.plan_model.specs.Textbook.{setup_of, start_alone};
+ghost use Rattle.plan_model.specs.Spaces.Clearance.{ClearAt};
+ghost use Rattle.plan_model.specs.Runs.ClosedLaw.{IsClosed};
+ghost use Rattle.plan_model.specs.Spaces.ConfigurationSpace.{space_of};
+ghost use Rattle.plan_model.specs.Trees.PointsByNumber.{IsPresent, node_count, point_at};
+ghost use Rattle.plan_model.specs.Runs.Textbook.{setup_of, start_alone};
 ghost use Rattle.step_core.specs.HoldRunProps.{HoldRun-prop};
 ghost use Rattle.step_core.specs.GrownWords.{HoldRun, cleared, has_node, record_at, run_words, sizes_of};
-ghost use Rattle.plan_model.specs.TreeStates.{AreSameRuns, state_of};
+ghost use Rattle.plan_model.specs.Trees.TreeStates.{AreSameRuns, state_of};
 ghost use Rattle.step_core.specs.KdLinks.{LinksRise};
 ghost use Rattle.step_core.specs.PackedRuns.{state_of_lists};
 ghost use Rattle.step_core.specs.WordNames.Word.{TreeOf};

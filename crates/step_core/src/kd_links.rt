@@ -2,7 +2,7 @@
 //! point, which goes to the left at even depth if its column is lesser, and at odd depth if its row is.
 
 ghost use Rattle.std.specs.Prelude.{◌≡◌, ◌≤◌, ◌+◌, None, is_some, length, slice_index_or};
-ghost use Rattle.plan_model.specs.Ways.{FollowWays, goes_right};
+ghost use Rattle.plan_model.specs.Seen.Ways.{FollowWays, goes_right};
 ghost use Rattle.step_core.specs.GrownWords.{children_of_words, points_of_words};
 ghost use Rattle.step_core.specs.KdLinks.{AreLinkedBelow, AreUnlinked, ChangesChildren, EndsAt, IsFreeBelow, LinksRise, MayLink};
 ghost use Rattle.step_core.specs.PlacesOfWords.{sizes_in, words_in};

@@ -2,10 +2,10 @@
 
 ghost use Rattle.std.specs.Prelude.{◌≡◌, ℕ, ◌<◌, ◌^◌, ◌↔◌, Bool, false, List, Option, Some, None, length};
 ghost use Rattle.std.specs.Int.{bit_at};
-ghost use Rattle.plan_model.specs.Bounds.{IsBounded};
-ghost use Rattle.plan_model.specs.ClosedLaw.{IsClosed};
-ghost use Rattle.plan_model.specs.Textbook.{setup_of};
-ghost use Rattle.plan_model.specs.TreeStates.{AreSameRuns};
+ghost use Rattle.plan_model.specs.Geometry.Bounds.{IsBounded};
+ghost use Rattle.plan_model.specs.Runs.ClosedLaw.{IsClosed};
+ghost use Rattle.plan_model.specs.Runs.Textbook.{setup_of};
+ghost use Rattle.plan_model.specs.Trees.TreeStates.{AreSameRuns};
 ghost use Rattle.plan_model.specs.declared.geometry.Point.{Point};
 ghost use Rattle.plan_model.specs.declared.records.Record.{Record};
 ghost use Rattle.plan_model.specs.declared.trees.Knot.{Knot};

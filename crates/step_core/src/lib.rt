@@ -5,7 +5,7 @@
 //! say what a word is as a number: a sum of products for what is packed, quotients and remainders for what is read.
 //!
 //! [`Grown`] is a closed run: a task, and a table of such words with the count of nodes, a counter for each strip, the
-//! nodes, and a record for each mark. Its type keeps the closed law (`plan_model/specs/ClosedLaw`), and its nodes are linked
+//! nodes, and a record for each mark. Its type keeps the closed law (`plan_model/specs/Runs/ClosedLaw`), and its nodes are linked
 //! to a kd-tree. `word_places` alone knows the order of the words; contracts call them by their names
 //! (`specs/WordNames`), and `specs/GrownWords` says what tree they stand for.
 //!

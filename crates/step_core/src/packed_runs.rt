@@ -1,13 +1,13 @@
 //! The words of a run that is given by lists: nodes, records and counters are written one after another.
 
 ghost use Rattle.std.specs.Prelude.{◌≡◌, ◌≤◌, ◌<◌, ◌+◌, ℕ, Bool, Some, count_by, is_some, length, slice_get};
-ghost use Rattle.plan_model.specs.ClosedLaw.{IsClosed};
-ghost use Rattle.plan_model.specs.Textbook.{setup_of};
+ghost use Rattle.plan_model.specs.Runs.ClosedLaw.{IsClosed};
+ghost use Rattle.plan_model.specs.Runs.Textbook.{setup_of};
 ghost use Rattle.plan_model.specs.declared.trees.Knot.{Knot};
 ghost use Rattle.plan_model.specs.declared.records.Record.{Record};
 ghost use Rattle.step_core.specs.GrownWords.{HoldRun, children_of_words, run_words, sizes_of, state_of_words};
 ghost use Rattle.step_core.specs.KdLinks.{LinksRise};
-ghost use Rattle.plan_model.specs.TreeStates.{AreSameRuns};
+ghost use Rattle.plan_model.specs.Trees.TreeStates.{AreSameRuns};
 ghost use Rattle.step_core.specs.PackedRuns.{CountsMarks, FitWords, FitsNode, FitsRecord, HoldLists};
 ghost use Rattle.step_core.specs.PackedRuns.{IsKnot, WritesNodes, WritesRecords, state_of_lists};
 ghost use Rattle.step_core.specs.PlacesOfWords.{sizes_in, words_in};

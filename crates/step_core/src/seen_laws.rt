@@ -1,8 +1,8 @@
 //! Laws of what workers have seen of a run in words, each the contract of a function that does nothing.
 
-ghost use Rattle.plan_model.specs.SeenTrees.{HasSeenAtLeast, IsRooted, IsTrueOf};
-ghost use Rattle.plan_model.specs.Sights.{IsLaterMoment};
-ghost use Rattle.plan_model.specs.Ways.{FollowWays};
+ghost use Rattle.plan_model.specs.Seen.SeenTrees.{HasSeenAtLeast, IsRooted, IsTrueOf};
+ghost use Rattle.plan_model.specs.Seen.Sights.{IsLaterMoment};
+ghost use Rattle.plan_model.specs.Seen.Ways.{FollowWays};
 ghost use Rattle.step_core.specs.GrownWords.{children_of_words};
 ghost use Rattle.step_core.specs.SeenWords.{LooksAt, MayLookAt, SeenWords, seen_tree_of_words, sight_of_words};
 ghost use Rattle.step_core.specs.SharedWords.{linked_points, shared_tree_of_words};

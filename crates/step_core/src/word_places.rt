@@ -7,7 +7,7 @@
 
 ghost use Rattle.std.specs.Prelude.{◌≡◌, ◌≤◌, ◌<◌};
 ghost use Rattle.plan_model.specs.declared.limits.TheConstants.{MOST_MARKS, MOST_STRIPS};
-ghost use Rattle.plan_model.specs.MarkPoints.{strip_of_mark};
+ghost use Rattle.plan_model.specs.Scenes.MarkPoints.{strip_of_mark};
 ghost use Rattle.step_core.specs.WordNames.Word.{ChildOf, Count, Counter, FirstOf, PointOf, RecordOf, TreeOf};
 ghost use Rattle.step_core.specs.WordPlaces.{place_of, word_count};
 

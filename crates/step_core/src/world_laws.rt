@@ -5,10 +5,10 @@
 ghost use Rattle.std.specs.Prelude.{◌≡◌, ◌≢◌, ◌↔◌, ℕ, suc, ◌+◌, ◌<◌, ◌≤◌, ◌^◌, Bool, true, List, [], ◌∷◌, ◌++◌, length, slice_set, IsSome, Some, None};
 ghost use lib.ListN.{get_elem?};
 ghost use mathlib.Core.Option.{some};
-ghost use Rattle.plan_model.specs.MarkPoints.{is_claimed, quota_of};
-ghost use Rattle.plan_model.specs.PointsByNumber.{IsFree, node_count};
-ghost use Rattle.plan_model.specs.Sights.{EndsSince, IsLaterMoment, KeepsSight};
-ghost use Rattle.plan_model.specs.TreeStates.{TreeState};
+ghost use Rattle.plan_model.specs.Scenes.MarkPoints.{is_claimed, quota_of};
+ghost use Rattle.plan_model.specs.Trees.PointsByNumber.{IsFree, node_count};
+ghost use Rattle.plan_model.specs.Seen.Sights.{EndsSince, IsLaterMoment, KeepsSight};
+ghost use Rattle.plan_model.specs.Trees.TreeStates.{TreeState};
 ghost use Rattle.plan_model.specs.declared.geometry.Point.{Point};
 ghost use Rattle.plan_model.specs.declared.limits.TheConstants.{MOST_WORKERS};
 ghost use Rattle.plan_model.specs.declared.records.Record.{Record};
@@ -367,7 +367,7 @@ pub fn views_of_worlds_are_lawful()
         → view.run ≡ run → IsLawfulView view }
 {}
 
-/// A lawful view keeps to what is said of sights (`plan_model/specs/Sights`), and a later view of the same pass is a later moment
+/// A lawful view keeps to what is said of sights (`plan_model/specs/Seen/Sights`), and a later view of the same pass is a later moment
 /// of its sight. So what a pass has swept stays swept, and a way that it found to end misses no node.
 pub fn lawful_views_are_sights()
     ensures keeps { (view : View) → IsLawfulView view → KeepsSight (sight_in view) }

@@ -1,12 +1,12 @@
 //! Runs that are packed and read back.
 
 ghost use Rattle.std.specs.Prelude.{◌≡◌, ◌∷◌, ◌≤◌, [], IfOk, IsTrue, None, Ok, Some, length};
-ghost use Rattle.plan_model.specs.Clearance.{ClearAt};
-ghost use Rattle.plan_model.specs.ClosedLaw.{IsClosed};
-ghost use Rattle.plan_model.specs.ConfigurationSpace.{space_of};
-ghost use Rattle.plan_model.specs.Limits.{is_plan};
-ghost use Rattle.plan_model.specs.EmptyRooms.{empty_room};
-ghost use Rattle.plan_model.specs.Textbook.{blocked_record, placed_record, same_record, setup_of};
+ghost use Rattle.plan_model.specs.Spaces.Clearance.{ClearAt};
+ghost use Rattle.plan_model.specs.Runs.ClosedLaw.{IsClosed};
+ghost use Rattle.plan_model.specs.Spaces.ConfigurationSpace.{space_of};
+ghost use Rattle.plan_model.specs.Scenes.Limits.{is_plan};
+ghost use Rattle.plan_model.specs.Spaces.EmptyRooms.{empty_room};
+ghost use Rattle.plan_model.specs.Runs.Textbook.{blocked_record, placed_record, same_record, setup_of};
 ghost use Rattle.plan_model.specs.Vectors.Runs.{rewired_records};
 ghost use Rattle.plan_model.specs.Vectors.Shapes.{at};
 ghost use Rattle.plan_model.specs.declared.limits.TheConstants.{MOST_MARKS};

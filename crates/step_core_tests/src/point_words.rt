@@ -1,6 +1,6 @@
 //! Points that are packed and read.
 
-ghost use Rattle.plan_model.specs.Bounds.{IsBounded};
+ghost use Rattle.plan_model.specs.Geometry.Bounds.{IsBounded};
 
 use plan_model::{MOST_COORDINATE, Point};
 use std::process::Abort;

@@ -5,7 +5,7 @@ use Rattle.std.proofs.lemmas.Nat.{from_le_bytes-to_le_bytes_8}
 use Rattle.rand_core.specs.Stream.{Stream, next_u64}
 use Rattle.rand_core.specs.Steps.{stream_of}
 use Rattle.rand_xoshiro.specs.SplitMix64.{splitmix_steps}
-use Rattle.plan_model.specs.MarkPoints.{first_word, second_word}
+use Rattle.plan_model.specs.Scenes.MarkPoints.{first_word, second_word}
 
 -- the generator with a state
 abbrev pub generator : ℕ → Stream

@@ -3,7 +3,7 @@ use Rattle.std.proofs.Common.{◌≡◌, ℕ, ◌+◌, ◌*◌, ◌/◌, ◌%◌
 use Rattle.std.proofs.lemmas.Nat.{mul-le, div-add-mod', mod_below}
 use Rattle.std.proofs.lemmas.Bool.{cases_lt, ltb-true, ltb-false}
 use mir.Val.{bool_byte}
-use Rattle.plan_model.specs.MarkPoints.{quota_of}
+use Rattle.plan_model.specs.Scenes.MarkPoints.{quota_of}
 use Rattle.plan_model.proofs.QuotaLaws.{IsCutAt, IsCutAt-quota}
 
 -- only one number cuts the marks of a strip at a limit

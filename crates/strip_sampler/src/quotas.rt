@@ -1,7 +1,7 @@
 //! How many marks a strip has.
 
 ghost use Rattle.std.specs.Prelude.{◌≡◌, ◌<◌};
-ghost use Rattle.plan_model.specs.MarkPoints.{quota_of};
+ghost use Rattle.plan_model.specs.Scenes.MarkPoints.{quota_of};
 
 /// How many of the marks below `limit` belong to a strip, which is below `strips`; none if the limit is 0. The strips take
 /// turns: strip 0 has the first mark of each round, so its quota is never below that of another strip. O(1); no memory.

@@ -1,7 +1,7 @@
 //! The strips that the columns of a room of configurations are cut into.
 
 ghost use Rattle.std.specs.Prelude.{◌≡◌, ◌+◌, ◌<◌, ◌≤◌};
-ghost use Rattle.plan_model.specs.MarkPoints as marks;
+ghost use Rattle.plan_model.specs.Scenes.MarkPoints as marks;
 ghost use Rattle.plan_model.specs.declared.limits.TheConstants.{MOST_COORDINATE, MOST_STRIPS};
 
 use plan_model::Span;

@@ -4,7 +4,7 @@ use Rattle.std.specs.Prelude.{ℤ, pos, ◌+ℤ◌, ◌-ℤ◌, ◌*ℤ◌, ◌�
 use Rattle.std.proofs.lemmas.Int.{ints}
 use Rattle.plan_model.specs.declared.geometry.Point.{Point}
 use Rattle.plan_model.specs.declared.geometry.Vertex.{Vertex}
-use Rattle.plan_model.specs.Clearance.{on_the_way}
+use Rattle.plan_model.specs.Spaces.Clearance.{on_the_way}
 use Rattle.convex_sets.specs.declared.boxes.BoundingBox.{BoundingBox}
 use Rattle.convex_sets.specs.Boxes.{IsBoundingBox}
 use Rattle.convex_sets.proofs.BoxLaws.{in_range}

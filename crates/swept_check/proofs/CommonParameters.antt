@@ -4,10 +4,10 @@ use Rattle.std.specs.Prelude.{ℤ, ◌↔◌}
 use borrow.Author.Count.{below_more}
 use Rattle.plan_model.specs.declared.geometry.Point.{Point}
 use Rattle.plan_model.specs.declared.geometry.Vertex.{Vertex}
-use Rattle.plan_model.specs.Convexity.{corner_at, next_corner}
-use Rattle.plan_model.specs.Geometry.{orientation}
-use Rattle.plan_model.specs.Clearance.{on_the_way}
-use Rattle.plan_model.specs.HalfPlanes.{IsInside}
+use Rattle.plan_model.specs.Geometry.Convexity.{corner_at, next_corner}
+use Rattle.plan_model.specs.Geometry.Plane.{orientation}
+use Rattle.plan_model.specs.Spaces.Clearance.{on_the_way}
+use Rattle.plan_model.specs.Spaces.HalfPlanes.{IsInside}
 use Rattle.swept_check.specs.declared.fractions.Fraction.{Fraction}
 use Rattle.swept_check.specs.Clipping.{IsAdmitted, IsBetweenFractions}
 use Rattle.swept_check.specs.Crossings.{Crosses}

@@ -4,9 +4,9 @@ use Rattle.std.proofs.lemmas.List.Elements.{All-get_or, All-from_get_or}
 use Rattle.plan_model.specs.declared.geometry.Point.{Point}
 use Rattle.plan_model.specs.declared.geometry.Vertex.{Vertex}
 use Rattle.plan_model.specs.declared.configuration_spaces.ConfigurationSpace.{ConfigurationSpace}
-use Rattle.plan_model.specs.RoomOfConfigurations.{InRoom, at_lattice}
-use Rattle.plan_model.specs.Clearance.{on_the_way, Clear}
-use Rattle.plan_model.specs.Meeting.{Meets}
+use Rattle.plan_model.specs.Spaces.RoomOfConfigurations.{InRoom, at_lattice}
+use Rattle.plan_model.specs.Spaces.Clearance.{on_the_way, Clear}
+use Rattle.plan_model.specs.Spaces.Meeting.{Meets}
 use Rattle.plan_model.proofs.SegmentLaws.{Clear-first, Clear-last}
 use Rattle.swept_check.specs.Crossings.{Crosses}
 use Rattle.swept_check.specs.Halls.{AreZonesOf}

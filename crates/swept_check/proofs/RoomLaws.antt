@@ -4,12 +4,12 @@ use Rattle.std.specs.Prelude.{ℤ, pos, ◌+ℤ◌, ◌-ℤ◌, ◌*ℤ◌, ◌�
 use Rattle.std.proofs.lemmas.Int.{ints}
 use Rattle.plan_model.specs.declared.geometry.Point.{Point}
 use Rattle.plan_model.specs.declared.configuration_spaces.ConfigurationSpace.{ConfigurationSpace}
-use Rattle.plan_model.specs.RoomOfConfigurations.{InRoom, at_lattice}
-use Rattle.plan_model.specs.Clearance.{on_the_way}
-use Rattle.plan_model.specs.MarkPoints.{IsInSpan}
+use Rattle.plan_model.specs.Spaces.RoomOfConfigurations.{InRoom, at_lattice}
+use Rattle.plan_model.specs.Spaces.Clearance.{on_the_way}
+use Rattle.plan_model.specs.Scenes.MarkPoints.{IsInSpan}
 use Rattle.plan_model.proofs.SpanLaws.{IsInSpans-from_in_room, InRoom-from_spans}
 use Rattle.plan_model.specs.declared.spans.RoomSpans.{RoomSpans}
-use Rattle.plan_model.specs.SpansOfRooms.{AreSpansOf}
+use Rattle.plan_model.specs.Scenes.SpansOfRooms.{AreSpansOf}
 use Rattle.swept_check.proofs.LinearValues.{IsAdmitted-inside}
 use Rattle.convex_sets.proofs.Ring.{var, plus, minus, times, same}
 

@@ -6,9 +6,9 @@ use Rattle.std.proofs.lemmas.Bool.{and_parts}
 use borrow.Author.Count.{below_more}
 use Rattle.plan_model.specs.declared.configuration_spaces.ConfigurationSpace.{ConfigurationSpace}
 use Rattle.plan_model.specs.declared.geometry.Vertex.{Vertex}
-use Rattle.plan_model.specs.Limits.{is_corner_between, is_obstacle, are_obstacles}
+use Rattle.plan_model.specs.Scenes.Limits.{is_corner_between, is_obstacle, are_obstacles}
 use Rattle.plan_model.specs.declared.limits.TheConstants.{LEAST_SUMMAND_COORDINATE, MOST_OBSTACLES, MOST_SUMMAND_COORDINATE}
-use Rattle.plan_model.specs.Zones.{IsZoneOf}
+use Rattle.plan_model.specs.Spaces.Zones.{IsZoneOf}
 use Rattle.plan_model.proofs.SceneBounds.{corners-summands}
 use Rattle.convex_sets.proofs.Tests.{true_at}
 

@@ -3,9 +3,9 @@ use Rattle.std.proofs.Common.{◌≡◌, ℕ, ◌<◌, arith}
 use Rattle.std.specs.Prelude.{ℤ, pos, ◌+ℤ◌, ◌-ℤ◌, ◌*ℤ◌}
 use Rattle.plan_model.specs.declared.geometry.Point.{Point}
 use Rattle.plan_model.specs.declared.geometry.Vertex.{Vertex}
-use Rattle.plan_model.specs.Geometry.{orientation}
-use Rattle.plan_model.specs.Clearance.{on_the_way}
-use Rattle.plan_model.specs.HalfPlanes.{side_of}
+use Rattle.plan_model.specs.Geometry.Plane.{orientation}
+use Rattle.plan_model.specs.Spaces.Clearance.{on_the_way}
+use Rattle.plan_model.specs.Spaces.HalfPlanes.{side_of}
 use Rattle.swept_check.specs.Clipping.{value_at}
 use Rattle.convex_sets.specs.Boxes.{corner_of}
 use Rattle.convex_sets.proofs.Ring.{var, plus, minus, times, same}

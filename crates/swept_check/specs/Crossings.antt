@@ -2,8 +2,8 @@
 use Rattle.std.specs.Prelude.{ℕ, ◌<◌, ◌≤◌, List}
 use Rattle.plan_model.specs.declared.geometry.Point.{Point}
 use Rattle.plan_model.specs.declared.geometry.Vertex.{Vertex}
-use Rattle.plan_model.specs.Clearance.{on_the_way}
-use Rattle.plan_model.specs.HalfPlanes.{IsInside}
+use Rattle.plan_model.specs.Spaces.Clearance.{on_the_way}
+use Rattle.plan_model.specs.Spaces.HalfPlanes.{IsInside}
 
 -- the point s / d of the way from a to b lies in the polygon, or on its edge
 pub record Crosses (corners : List Vertex) (a b : Point) : Type 0 where

@@ -1,9 +1,9 @@
 //! Collision checkers, as a planner sees them.
 
 ghost use Rattle.std.specs.Prelude.{◌↔◌, IsTrue};
-ghost use Rattle.plan_model.specs.Bounds.{IsBounded};
+ghost use Rattle.plan_model.specs.Geometry.Bounds.{IsBounded};
 ghost use Rattle.plan_model.specs.declared.configuration_spaces.ConfigurationSpace.{ConfigurationSpace};
-ghost use Rattle.plan_model.specs.Clearance.{Clear};
+ghost use Rattle.plan_model.specs.Spaces.Clearance.{Clear};
 
 use plan_model::Point;
 

@@ -2,7 +2,7 @@
 
 ghost use Rattle.std.specs.Prelude.{◌↔◌, ℕ, ◌<◌, ◌≤◌, pos, IsTrue, MatchOption, length};
 ghost use Rattle.convex_sets.specs.Bounds.{AreBoundedCorners};
-ghost use Rattle.plan_model.specs.Bounds.{IsBounded};
+ghost use Rattle.plan_model.specs.Geometry.Bounds.{IsBounded};
 ghost use Rattle.swept_check.specs.Clipping.{IsBetweenFractions, IsAdmitted};
 ghost use Rattle.swept_check.specs.Crossings.{Crosses};
 

@@ -1,8 +1,8 @@
 //! The exact collision checker of a scene.
 
 ghost use Rattle.std.specs.Prelude.{◌≡◌, ◌↔◌, IfOk, IsTrue};
-ghost use Rattle.plan_model.specs.ConfigurationSpace.{space_of};
-ghost use Rattle.plan_model.specs.RoomOfConfigurations.{InRoom, at_lattice};
+ghost use Rattle.plan_model.specs.Spaces.ConfigurationSpace.{space_of};
+ghost use Rattle.plan_model.specs.Spaces.RoomOfConfigurations.{InRoom, at_lattice};
 
 use crate::clearing::Clearing;
 use crate::zone_crossings::crosses_none;
@@ -36,7 +36,7 @@ impl Model for Hall {
     ghost use Rattle.plan_model.specs.declared.configuration_spaces.ConfigurationSpace.{ConfigurationSpace};
     ghost use Rattle.plan_model.specs.declared.limits.TheConstants.{MOST_COORDINATE};
     ghost use Rattle.swept_check.specs.Halls.{AreZonesOf};
-    ghost use Rattle.plan_model.specs.SpansOfRooms.{AreSpansOf};
+    ghost use Rattle.plan_model.specs.Scenes.SpansOfRooms.{AreSpansOf};
     ghost use Rattle.std.specs.Prelude.{◌≤◌};
 
     ghost Value = { ConfigurationSpace };
@@ -52,8 +52,8 @@ impl Model for Hall {
 }
 
 impl Hall {
-    ghost use Rattle.plan_model.specs.Bounds.{IsBounded};
-    ghost use Rattle.plan_model.specs.Clearance.{ClearAt};
+    ghost use Rattle.plan_model.specs.Geometry.Bounds.{IsBounded};
+    ghost use Rattle.plan_model.specs.Spaces.Clearance.{ClearAt};
     ghost use Rattle.swept_check.specs.Halls.{AreZonesOf};
 
     /// The collision checker of a scene's room, body and obstacles, for a scene without a clearance; without an obstacle the

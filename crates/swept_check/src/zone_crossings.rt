@@ -1,7 +1,7 @@
 //! Whether a segment crosses zones, by their bounding boxes first.
 
 ghost use Rattle.std.specs.Prelude.{◌↔◌, All, IsTrue};
-ghost use Rattle.plan_model.specs.Bounds.{IsBounded};
+ghost use Rattle.plan_model.specs.Geometry.Bounds.{IsBounded};
 ghost use Rattle.swept_check.specs.Apart.{IsBeside, IsReachOf};
 ghost use Rattle.swept_check.specs.Crossings.{Crosses};
 

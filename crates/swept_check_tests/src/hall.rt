@@ -1,7 +1,7 @@
 //! Segments that touch zones, and segments that just miss them.
 
 ghost use Rattle.std.specs.Prelude.{◌≡◌, IfOk, IsTrue};
-ghost use Rattle.plan_model.specs.Limits.{are_obstacles, is_body, is_obstacle};
+ghost use Rattle.plan_model.specs.Scenes.Limits.{are_obstacles, is_body, is_obstacle};
 
 use crate::memory::sure;
 use plan_model::{Goal, Marks, Memory, Point, Polys, Scene, Sequence, SmallScene, Vertex};

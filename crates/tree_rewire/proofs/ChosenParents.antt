@@ -7,14 +7,14 @@ use Rattle.std.proofs.lemmas.Option.{get_or_from_slice_get, slice_get_within}
 use Rattle.edge_cost.specs.LeastParents.{IsLeastParent}
 use Rattle.edge_cost.specs.declared.parents.Parent.{Parent}
 use Rattle.plan_model.specs.declared.geometry.Point.{Point}
-use Rattle.plan_model.specs.Clearance.{Clear}
+use Rattle.plan_model.specs.Spaces.Clearance.{Clear}
 use Rattle.plan_model.specs.declared.configuration_spaces.ConfigurationSpace.{ConfigurationSpace}
-use Rattle.plan_model.specs.ConfigurationSpace.{space_of}
-use Rattle.plan_model.specs.Cost.{cost_of}
-use Rattle.plan_model.specs.Geometry.{squared_distance}
-use Rattle.plan_model.specs.LeastPairs.{IsFirstLeast, IsNotAbove}
-use Rattle.plan_model.specs.OpenNodes.{IsOpenTo}
-use Rattle.plan_model.specs.PointsByNumber.{IsPresent, point_of}
+use Rattle.plan_model.specs.Spaces.ConfigurationSpace.{space_of}
+use Rattle.plan_model.specs.Geometry.Cost.{cost_of}
+use Rattle.plan_model.specs.Geometry.Plane.{squared_distance}
+use Rattle.plan_model.specs.Trees.LeastPairs.{IsFirstLeast, IsNotAbove}
+use Rattle.plan_model.specs.Trees.OpenNodes.{IsOpenTo}
+use Rattle.plan_model.specs.Trees.PointsByNumber.{IsPresent, point_of}
 use Rattle.plan_model.proofs.NewNodes.{StandsAt-present}
 use Rattle.plan_model.proofs.ParentChoices.{IsFirstLeast-keeps, IsFirstLeast-takes}
 use Rattle.plan_words.specs.States.{GoesOn, SharedState, run_in}

@@ -2,8 +2,8 @@
 use Rattle.std.proofs.Common.{◌≡◌, ℕ, refl, sym, ap, ◌∙◌, subst, arith}
 use Rattle.std.specs.Prelude.{Err, IfErr, IfOk, Ok, Result, unwrap_or}
 use Rattle.plan_model.specs.declared.geometry.Point.{Point}
-use Rattle.plan_model.specs.Cost.{cost_of}
-use Rattle.plan_model.specs.PointsByNumber.{IsPresent, point_of}
+use Rattle.plan_model.specs.Geometry.Cost.{cost_of}
+use Rattle.plan_model.specs.Trees.PointsByNumber.{IsPresent, point_of}
 use Rattle.plan_words.specs.States.{BelongsTo, GoesOn, PassState, SharedState, with_view}
 use Rattle.plan_words.proofs.Claiming.{KeepsHand-trans}
 use Rattle.plan_words.proofs.GoingOn.{GoesOn-refl, GoesOn-trans}

@@ -1,12 +1,12 @@
 -- A tree of the textbook that a view with the whole share sees: its costs are exact, and exact costs are sums.
 use Rattle.std.proofs.Common.{◌≡◌, ℕ, zero, suc, ◌+◌, ◌<◌, is_some, arith, refl, sym, ap, ◌∙◌, subst}
 use Rattle.std.specs.Prelude.{unwrap_or}
-use Rattle.plan_model.specs.Cost.{cost_of}
-use Rattle.plan_model.specs.OrderLaw.{KeepsOrder}
-use Rattle.plan_model.specs.PointsByNumber.{IsPresent, point_at, point_of}
-use Rattle.plan_model.specs.Textbook.{Nodes}
-use Rattle.plan_model.specs.Trees.{AreTight, CostsFall, edge_of, parent_of, points_of}
-use Rattle.plan_model.specs.TreeStates.{TreeState}
+use Rattle.plan_model.specs.Geometry.Cost.{cost_of}
+use Rattle.plan_model.specs.Runs.OrderLaw.{KeepsOrder}
+use Rattle.plan_model.specs.Trees.PointsByNumber.{IsPresent, point_at, point_of}
+use Rattle.plan_model.specs.Runs.Textbook.{Nodes}
+use Rattle.plan_model.specs.Trees.NodeLists.{AreTight, CostsFall, edge_of, parent_of, points_of}
+use Rattle.plan_model.specs.Trees.TreeStates.{TreeState}
 use Rattle.plan_model.proofs.ChainLaws.{sum-parent, sums-tight}
 use Rattle.plan_model.proofs.OrderLaws.{KeepsOrder-falls}
 use Rattle.plan_words.specs.Claims.{SeesAsBefore}

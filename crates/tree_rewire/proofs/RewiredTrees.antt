@@ -3,12 +3,12 @@ use Rattle.std.proofs.Common.{◌≡◌, ◌≢◌, ℕ, ◌+◌, ◌-◌, ◌<�
 use Rattle.std.specs.Prelude.{unwrap_or}
 use Rattle.std.proofs.lemmas.Bool.{cases_eq}
 use Rattle.plan_model.specs.declared.geometry.Point.{Point}
-use Rattle.plan_model.specs.Clearance.{Clear}
+use Rattle.plan_model.specs.Spaces.Clearance.{Clear}
 use Rattle.plan_model.specs.declared.configuration_spaces.ConfigurationSpace.{ConfigurationSpace}
-use Rattle.plan_model.specs.Cost.{cost_of}
-use Rattle.plan_model.specs.PointsByNumber.{IsPresent, point_at, point_of}
-use Rattle.plan_model.specs.Textbook.{IsCheaperThrough, Nodes, RewiresOne, Rewires, with_parent}
-use Rattle.plan_model.specs.Trees.{parent_of, points_of}
+use Rattle.plan_model.specs.Geometry.Cost.{cost_of}
+use Rattle.plan_model.specs.Trees.PointsByNumber.{IsPresent, point_at, point_of}
+use Rattle.plan_model.specs.Runs.Textbook.{IsCheaperThrough, Nodes, RewiresOne, Rewires, with_parent}
+use Rattle.plan_model.specs.Trees.NodeLists.{parent_of, points_of}
 use Rattle.plan_model.proofs.NewNodes.{point_of-stands}
 use Rattle.plan_model.proofs.ParentChanges.{HasCheaperParent, parent_kept, parent_new, points_of-cheaper_parent}
 use Rattle.plan_words.specs.States.{GoesOn, HasWholeShare}

@@ -1,7 +1,7 @@
 -- What a lawful view has seen of nodes, and what stays of it.
 use Rattle.std.proofs.Common.{◌≡◌, ℕ, ◌≤◌, is_some, length, arith, sym, ap, ◌∙◌, inl, inr}
 use Rattle.plan_model.specs.declared.geometry.Point.{Point}
-use Rattle.plan_model.specs.PointsByNumber.{IsPresent, point_of}
+use Rattle.plan_model.specs.Trees.PointsByNumber.{IsPresent, point_of}
 use Rattle.plan_model.proofs.NewNodes.{StandsAt-present, StandsAt-unique}
 use Rattle.plan_words.specs.States.{GoesOn}
 use Rattle.step_core.specs.LaterViews.{IsLawfulView}

@@ -1,8 +1,8 @@
 -- Costs that fall come to the nodes below.
 use Rattle.std.proofs.Common.{◌≡◌, ◌≢◌, ◌⊎◌, ℕ, zero, suc, ◌+◌, ◌<◌, ◌≤◌, ◌^◌, List, [], Some, is_some, arith, inl, inr, refl, sym, ap, ◌∙◌, subst}
 use Rattle.std.proofs.lemmas.Bool.{cases_eq}
-use Rattle.plan_model.specs.Cost.{cost_of}
-use Rattle.plan_model.specs.PointsByNumber.{IsPresent, point_of}
+use Rattle.plan_model.specs.Geometry.Cost.{cost_of}
+use Rattle.plan_model.specs.Trees.PointsByNumber.{IsPresent, point_of}
 use Rattle.plan_words.specs.States.{GoesOn, PassState}
 use Rattle.plan_words.specs.Waiting.{HasSeenParent, IsOn}
 use Rattle.plan_words.proofs.GoingOn.{GoesOn-trans}

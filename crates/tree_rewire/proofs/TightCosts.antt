@@ -2,9 +2,9 @@
 use Rattle.std.proofs.Common.{◌≡◌, ◌≢◌, ℕ, zero, suc, ◌<◌, ◌≤◌, is_some, arith, inl, inr, sym, ap, ◌∙◌, subst}
 use Rattle.std.specs.Prelude.{unwrap_or}
 use Rattle.std.proofs.lemmas.Bool.{cases_eq, cases_lt}
-use Rattle.plan_model.specs.Cost.{cost_of}
-use Rattle.plan_model.specs.OrderLaw.{KeepsOrder}
-use Rattle.plan_model.specs.PointsByNumber.{IsPresent, point_at, point_of}
+use Rattle.plan_model.specs.Geometry.Cost.{cost_of}
+use Rattle.plan_model.specs.Runs.OrderLaw.{KeepsOrder}
+use Rattle.plan_model.specs.Trees.PointsByNumber.{IsPresent, point_at, point_of}
 use Rattle.step_core.specs.LaterViews.{IsLater, IsLawfulView}
 use Rattle.step_core.specs.SharedWords.{linked_points, state_of_links}
 use Rattle.step_core.specs.Views.{run_sizes, sees, setup_in, tree_seen}

@@ -1,8 +1,8 @@
 -- What a pass with the share of all workers sees: a tree of the textbook.
 use Rattle.std.specs.Prelude.{◌≡◌, ℕ}
-use Rattle.plan_model.specs.PointsByNumber.{IsPresent, point_at}
-use Rattle.plan_model.specs.Textbook.{Nodes}
-use Rattle.plan_model.specs.Trees.{parent_of, points_of, sum_of}
+use Rattle.plan_model.specs.Trees.PointsByNumber.{IsPresent, point_at}
+use Rattle.plan_model.specs.Runs.Textbook.{Nodes}
+use Rattle.plan_model.specs.Trees.NodeLists.{parent_of, points_of, sum_of}
 use Rattle.step_core.specs.Views.{tree_seen}
 use Rattle.step_core.specs.declared.views.View.{View}
 use Rattle.tree_rewire.specs.SeenCosts.{SeesPair, cost_seen, parent_seen}

@@ -1,8 +1,8 @@
 -- When near nodes may be rewired, and what is seen then of the nodes whose costs fell and of those below them.
 use Rattle.std.specs.Prelude.{◌≡◌, ◌⊎◌, ℕ, suc, ◌<◌}
-use Rattle.plan_model.specs.Clearance.{Clear}
+use Rattle.plan_model.specs.Spaces.Clearance.{Clear}
 use Rattle.plan_model.specs.declared.configuration_spaces.ConfigurationSpace.{ConfigurationSpace}
-use Rattle.plan_model.specs.PointsByNumber.{point_of}
+use Rattle.plan_model.specs.Trees.PointsByNumber.{point_of}
 use Rattle.step_core.specs.ViewSteps.{pair_in_hand}
 use Rattle.step_core.specs.ViewTrees.{SeesPoint}
 use Rattle.step_core.specs.Views.{sees, tree_seen}

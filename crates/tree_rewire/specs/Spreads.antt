@@ -1,6 +1,6 @@
 -- What is seen of a subtree after a cost was lowered: costs fall along parents, as far as the subtree was seen.
 use Rattle.std.specs.Prelude.{◌≡◌, ◌≢◌, ◌⊎◌, ℕ, ◌<◌, ◌≤◌}
-use Rattle.plan_model.specs.PointsByNumber.{IsPresent, point_of}
+use Rattle.plan_model.specs.Trees.PointsByNumber.{IsPresent, point_of}
 use Rattle.plan_words.specs.States.{PassState}
 use Rattle.plan_words.specs.Waiting.{IsOn}
 use Rattle.step_core.specs.Views.{sees, tree_seen}

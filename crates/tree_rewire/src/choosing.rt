@@ -2,12 +2,12 @@
 
 ghost use Rattle.std.specs.Prelude.{◌≡◌, ◌∷◌, All, length};
 ghost use Rattle.edge_cost.specs.LeastParents.{IsLeastParent};
-ghost use Rattle.plan_model.specs.Bounds.{IsBounded};
-ghost use Rattle.plan_model.specs.Clearance.{Clear};
-ghost use Rattle.plan_model.specs.ConfigurationSpace.{space_of};
-ghost use Rattle.plan_model.specs.LeastPairs.{IsFirstLeast};
-ghost use Rattle.plan_model.specs.OpenNodes.{IsOpenTo};
-ghost use Rattle.plan_model.specs.PointsByNumber.{IsPresent, point_of};
+ghost use Rattle.plan_model.specs.Geometry.Bounds.{IsBounded};
+ghost use Rattle.plan_model.specs.Spaces.Clearance.{Clear};
+ghost use Rattle.plan_model.specs.Spaces.ConfigurationSpace.{space_of};
+ghost use Rattle.plan_model.specs.Trees.LeastPairs.{IsFirstLeast};
+ghost use Rattle.plan_model.specs.Trees.OpenNodes.{IsOpenTo};
+ghost use Rattle.plan_model.specs.Trees.PointsByNumber.{IsPresent, point_of};
 ghost use Rattle.plan_words.specs.Claims.{SeesAsBefore};
 ghost use Rattle.plan_words.specs.States.{BelongsTo, HasWholeShare, with_view};
 ghost use Rattle.step_core.specs.LaterViews.{IsLawfulView};

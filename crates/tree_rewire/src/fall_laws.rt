@@ -2,8 +2,8 @@
 
 ghost use Rattle.std.specs.Prelude.{◌≡◌, ℕ, ◌+◌, ◌<◌, ◌≤◌, Contains, List};
 ghost use Rattle.plan_model.specs.declared.configuration_spaces.ConfigurationSpace.{ConfigurationSpace};
-ghost use Rattle.plan_model.specs.Cost.{cost_of};
-ghost use Rattle.plan_model.specs.PointsByNumber.{point_of};
+ghost use Rattle.plan_model.specs.Geometry.Cost.{cost_of};
+ghost use Rattle.plan_model.specs.Trees.PointsByNumber.{point_of};
 ghost use Rattle.step_core.specs.Views.{tree_seen};
 ghost use Rattle.step_core.specs.declared.views.View.{View};
 ghost use Rattle.tree_rewire.specs.Rewirings.{CostsLess, HasSpreadFalls, IsShortcut};

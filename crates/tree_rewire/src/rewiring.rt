@@ -1,13 +1,13 @@
 //! The rewiring of nodes near a new one.
 
 ghost use Rattle.std.specs.Prelude.{◌≡◌, ◌≢◌, ℕ, suc, ◌+◌, ◌<◌, ◌≤◌, All, Contains, IfSome, IsSome};
-ghost use Rattle.plan_model.specs.Bounds.{IsBounded};
-ghost use Rattle.plan_model.specs.Clearance.{Clear};
-ghost use Rattle.plan_model.specs.ConfigurationSpace.{space_of};
-ghost use Rattle.plan_model.specs.Cost.{cost_of};
-ghost use Rattle.plan_model.specs.OrderLaw.{IsAllowedEdge};
-ghost use Rattle.plan_model.specs.PointsByNumber.{IsPresent, point_of};
-ghost use Rattle.plan_model.specs.Textbook.{Nodes, Rewires, RewiresOne};
+ghost use Rattle.plan_model.specs.Geometry.Bounds.{IsBounded};
+ghost use Rattle.plan_model.specs.Spaces.Clearance.{Clear};
+ghost use Rattle.plan_model.specs.Spaces.ConfigurationSpace.{space_of};
+ghost use Rattle.plan_model.specs.Geometry.Cost.{cost_of};
+ghost use Rattle.plan_model.specs.Runs.OrderLaw.{IsAllowedEdge};
+ghost use Rattle.plan_model.specs.Trees.PointsByNumber.{IsPresent, point_of};
+ghost use Rattle.plan_model.specs.Runs.Textbook.{Nodes, Rewires, RewiresOne};
 ghost use Rattle.plan_words.specs.Claims.{SeesAsBefore};
 ghost use Rattle.plan_words.specs.States.{BelongsTo, HasWholeShare};
 ghost use Rattle.step_core.specs.LaterViews.{IsLawfulView};

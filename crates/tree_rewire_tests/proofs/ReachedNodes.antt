@@ -4,15 +4,15 @@ use Rattle.std.specs.Prelude.{All, Contains}
 use Rattle.std.proofs.lemmas.List.Elements.{Contains-get_or}
 use Rattle.std.proofs.lemmas.Nat.{mul-le}
 use Rattle.plan_model.specs.declared.geometry.Point.{Point}
-use Rattle.plan_model.specs.Clearance.{Clear}
-use Rattle.plan_model.specs.ClosedLaw.{mark_at}
+use Rattle.plan_model.specs.Spaces.Clearance.{Clear}
+use Rattle.plan_model.specs.Runs.ClosedLaw.{mark_at}
 use Rattle.plan_model.specs.declared.configuration_spaces.ConfigurationSpace.{ConfigurationSpace}
-use Rattle.plan_model.specs.Cost.{cost_of}
-use Rattle.plan_model.specs.Geometry.{squared_distance}
-use Rattle.plan_model.specs.LeastPairs.{IsFirstLeast}
-use Rattle.plan_model.specs.OpenNodes.{IsOpenTo}
-use Rattle.plan_model.specs.PointsByNumber.{IsPresent, point_of}
-use Rattle.plan_model.specs.Sights.{Sight}
+use Rattle.plan_model.specs.Geometry.Cost.{cost_of}
+use Rattle.plan_model.specs.Geometry.Plane.{squared_distance}
+use Rattle.plan_model.specs.Trees.LeastPairs.{IsFirstLeast}
+use Rattle.plan_model.specs.Trees.OpenNodes.{IsOpenTo}
+use Rattle.plan_model.specs.Trees.PointsByNumber.{IsPresent, point_of}
+use Rattle.plan_model.specs.Seen.Sights.{Sight}
 use Rattle.plan_model.proofs.NewNodes.{StandsAt-present, point_of-stands}
 use Rattle.plan_model.proofs.SteeringLaws.{IsStep-steered}
 use Rattle.kd_shared.specs.Searches.{AreNearSeen}

@@ -1,7 +1,7 @@
 //! A mark whose node becomes the parent of a near one.
 
 ghost use Rattle.std.specs.Prelude.{◌≡◌, ◌≤◌, IfSome, length};
-ghost use Rattle.plan_model.specs.ConfigurationSpace.{space_of};
+ghost use Rattle.plan_model.specs.Spaces.ConfigurationSpace.{space_of};
 ghost use Rattle.plan_words.specs.States.{MayClaim};
 ghost use Rattle.step_core.specs.declared.views.Stage.TheVariants.{Claimed, Pointed, Treed};
 ghost use Rattle.tree_rewire_tests.specs.HeldMarks.{HasNearInReach, HoldsMark, IfPlaced, IsAtWork, MayRewire};

@@ -1,7 +1,7 @@
 //! A node that is lowered, and what hangs below it.
 
 ghost use Rattle.std.specs.Prelude.{◌≡◌};
-ghost use Rattle.plan_model.specs.ConfigurationSpace.{space_of};
+ghost use Rattle.plan_model.specs.Spaces.ConfigurationSpace.{space_of};
 ghost use Rattle.tree_rewire_tests.specs.HeldMarks.{IsAtWork};
 
 use crate::lowering::{expect_pairs, lower_and_spread};

@@ -1,7 +1,7 @@
 -- Choices from a path of three points.
 use Rattle.std.specs.Prelude.{◌≡◌, List, [], ◌∷◌}
 use Rattle.plan_model.specs.declared.geometry.Point.{Point}
-use Rattle.plan_model.specs.PathChoices.{IsChoice, cost_of_choice, kept_points}
+use Rattle.plan_model.specs.Spaces.PathChoices.{IsChoice, cost_of_choice, kept_points}
 use Rattle.plan_model.specs.Vectors.Shapes.{at}
 
 -- two sides of a right triangle

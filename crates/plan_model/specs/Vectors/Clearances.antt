@@ -2,8 +2,8 @@
 use Rattle.std.specs.Prelude.{List, [], ◌∷◌}
 use Rattle.plan_model.specs.declared.geometry.Vertex.{Vertex}
 use Rattle.plan_model.specs.declared.configuration_spaces.ConfigurationSpace.{ConfigurationSpace}
-use Rattle.plan_model.specs.ConfigurationSpace.{space_among}
-use Rattle.plan_model.specs.Clearance.{ClearAt, Clear}
+use Rattle.plan_model.specs.Spaces.ConfigurationSpace.{space_among}
+use Rattle.plan_model.specs.Spaces.Clearance.{ClearAt, Clear}
 use Rattle.plan_model.specs.Vectors.Shapes.{at, corner}
 use Rattle.plan_model.specs.Vectors.Meetings.{point_body, pillar}
 

@@ -1,6 +1,6 @@
 -- Costs of edges.
 use Rattle.std.specs.Prelude.{◌≡◌}
-use Rattle.plan_model.specs.Cost.{cost_of}
+use Rattle.plan_model.specs.Geometry.Cost.{cost_of}
 use Rattle.plan_model.specs.Vectors.Shapes.{at}
 
 pub record CostVectors : Type 0 where

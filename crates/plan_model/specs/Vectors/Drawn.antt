@@ -3,7 +3,7 @@ use Rattle.std.specs.Prelude.{◌≡◌, List, [], ◌∷◌}
 use Rattle.plan_model.specs.declared.geometry.Point.{Point}
 use Rattle.plan_model.specs.declared.scenes.Scene.{Scene}
 use Rattle.plan_model.specs.declared.scenes.Marks.TheVariants.{Drawn, Listed}
-use Rattle.plan_model.specs.MarkPoints.{picked, first_word, second_word, drawn_mark, mark_points}
+use Rattle.plan_model.specs.Scenes.MarkPoints.{picked, first_word, second_word, drawn_mark, mark_points}
 use Rattle.plan_model.specs.Vectors.Shapes.{at, corner}
 
 pub record DrawnVectors : Type 0 where

@@ -10,10 +10,10 @@ use Rattle.plan_model.specs.declared.limits.TheConstants.{MOST_COORDINATE, MOST_
 use Rattle.plan_model.specs.declared.limits.TheConstants.{MOST_OBSTACLE_COORDINATE, MOST_OBSTACLE_COORDINATE_OF_VERSION_2, MOST_OBSTACLE_CORNERS}
 use Rattle.plan_model.specs.declared.limits.TheConstants.{MOST_OBSTACLES, MOST_SEED, MOST_SIDE, MOST_SIDE_OF_VERSION_2, MOST_STEERING_STEP, MOST_STEP}
 use Rattle.plan_model.specs.declared.limits.TheConstants.{MOST_STEP_OF_VERSION_2, MOST_STRIPS, MOST_SUMMAND_COORDINATE, MOST_TEXT_BYTES, MOST_WORKERS}
-use Rattle.plan_model.specs.TextLines.{words_of}
-use Rattle.plan_model.specs.Keys.{most_lines}
-use Rattle.plan_model.specs.LineChecks.{given_by, fault_of_statement, is_repeated, is_too_many}
-use Rattle.plan_model.specs.SceneGrammar.{is_supported}
+use Rattle.plan_model.specs.Texts.TextLines.{words_of}
+use Rattle.plan_model.specs.Texts.Keys.{most_lines}
+use Rattle.plan_model.specs.Texts.LineChecks.{given_by, fault_of_statement, is_repeated, is_too_many}
+use Rattle.plan_model.specs.Texts.SceneGrammar.{is_supported}
 
 -- each limit as a number, so that a constant cannot change without its value here
 pub record ConstantVectors : Type 0 where

@@ -1,8 +1,8 @@
 -- Bodies that touch an obstacle or come as close as the clearance, and bodies that lie beside it.
 use Rattle.std.specs.Prelude.{pos, List, [], ◌∷◌}
 use Rattle.plan_model.specs.declared.geometry.Vertex.{Vertex}
-use Rattle.plan_model.specs.RoomOfConfigurations.{at_lattice}
-use Rattle.plan_model.specs.Meeting.{Meets}
+use Rattle.plan_model.specs.Spaces.RoomOfConfigurations.{at_lattice}
+use Rattle.plan_model.specs.Spaces.Meeting.{Meets}
 use Rattle.plan_model.specs.Vectors.Shapes.{at, corner, halves}
 
 abbrev pub small_triangle : List Vertex

@@ -1,10 +1,10 @@
 -- Two workers whose first marks overlap: a closed run that no order of whole marks gives.
 use Rattle.std.specs.Prelude.{◌≡◌, ℕ, refl, Some, List, [], ◌∷◌, slice_get, slice_index_or}
 use Rattle.plan_model.specs.declared.records.Record.{Record}
-use Rattle.plan_model.specs.ClosedLaw.{IsClosed}
+use Rattle.plan_model.specs.Runs.ClosedLaw.{IsClosed}
 use Rattle.plan_model.specs.declared.records.Outcome.TheVariants.{Placed}
-use Rattle.plan_model.specs.TreeStates.{TreeState}
-use Rattle.plan_model.specs.Turns.{turns_of}
+use Rattle.plan_model.specs.Trees.TreeStates.{TreeState}
+use Rattle.plan_model.specs.Runs.Turns.{turns_of}
 use Rattle.plan_model.specs.Vectors.Runs.{open_setup, marks_to_rewire}
 use Rattle.plan_model.specs.Vectors.Shapes.{at}
 

@@ -1,6 +1,6 @@
 -- Lists of corners that are strictly convex, and lists that are not.
 use Rattle.std.specs.Prelude.{◌≡◌, true, false, [], ◌∷◌}
-use Rattle.plan_model.specs.Convexity.{is_strictly_convex}
+use Rattle.plan_model.specs.Geometry.Convexity.{is_strictly_convex}
 use Rattle.plan_model.specs.Vectors.Shapes.{corner}
 
 pub record ConvexityVectors : Type 0 where

@@ -1,6 +1,6 @@
 -- The classes of numbers of nodes, and the radii of the first ten classes.
 use Rattle.std.specs.Prelude.{◌≡◌, ℕ, List, [], ◌∷◌, map}
-use Rattle.plan_model.specs.Radius.{class_of, radius_of_class, radius_of}
+use Rattle.plan_model.specs.Geometry.Radius.{class_of, radius_of_class, radius_of}
 
 abbrev pub first_classes : List ℕ
 first_classes = 1 ∷ 2 ∷ 3 ∷ 4 ∷ 5 ∷ 6 ∷ 7 ∷ 8 ∷ 9 ∷ 10 ∷ []

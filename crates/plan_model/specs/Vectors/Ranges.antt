@@ -2,7 +2,7 @@
 use Rattle.std.specs.Prelude.{◌≡◌, true, false, [], ◌∷◌, replicate}
 use Rattle.plan_model.specs.declared.geometry.Goal.{Goal}
 use Rattle.plan_model.specs.declared.scenes.Marks.TheVariants.{Drawn, Listed}
-use Rattle.plan_model.specs.Limits.{is_body, is_obstacle, are_obstacles, is_goal, are_goals, may_be_informed, is_mark, is_plan}
+use Rattle.plan_model.specs.Scenes.Limits.{is_body, is_obstacle, are_obstacles, is_goal, are_goals, may_be_informed, is_mark, is_plan}
 use Rattle.plan_model.specs.Vectors.Shapes.{at, corner, corner_below}
 
 -- a goal of either version

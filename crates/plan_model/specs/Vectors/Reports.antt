@@ -4,10 +4,10 @@ use Rattle.plan_model.specs.declared.geometry.Goal.{Goal}
 use Rattle.plan_model.specs.declared.scenes.Scene.{Scene}
 use Rattle.plan_model.specs.declared.trees.Twig.{Twig}
 use Rattle.plan_model.specs.declared.records.Record.{Record}
-use Rattle.plan_model.specs.TreeStates.{state_of}
-use Rattle.plan_model.specs.Textbook.{same_record, blocked_record, placed_record}
-use Rattle.plan_model.specs.BestNode.{is_in_goal, lies_in_goals, goals_of, best_node}
-use Rattle.plan_model.specs.ReportText.{short_report, full_report}
+use Rattle.plan_model.specs.Trees.TreeStates.{state_of}
+use Rattle.plan_model.specs.Runs.Textbook.{same_record, blocked_record, placed_record}
+use Rattle.plan_model.specs.Trees.BestNode.{is_in_goal, lies_in_goals, goals_of, best_node}
+use Rattle.plan_model.specs.Reports.ReportText.{short_report, full_report}
 use Rattle.plan_model.specs.Vectors.Shapes.{at}
 
 -- the start, and a node that has it as its parent

@@ -3,9 +3,9 @@ use Rattle.std.specs.Prelude.{◌≡◌, List, pos, neg_ℤ, [], ◌∷◌}
 use Rattle.std.proofs.Math.Nat.{le_refl}
 use Rattle.plan_model.specs.declared.geometry.Vertex.{Vertex}
 use Rattle.plan_model.specs.declared.configuration_spaces.ConfigurationSpace.{ConfigurationSpace}
-use Rattle.plan_model.specs.ConfigurationSpace.{space_among}
-use Rattle.plan_model.specs.RoomOfConfigurations.{at_lattice, InRoom, scaled}
-use Rattle.plan_model.specs.Clearance.{on_the_way}
+use Rattle.plan_model.specs.Spaces.ConfigurationSpace.{space_among}
+use Rattle.plan_model.specs.Spaces.RoomOfConfigurations.{at_lattice, InRoom, scaled}
+use Rattle.plan_model.specs.Spaces.Clearance.{on_the_way}
 use Rattle.plan_model.specs.Vectors.Shapes.{at, corner, corner_below, two_is_positive, halves}
 
 abbrev pub triangle : List Vertex

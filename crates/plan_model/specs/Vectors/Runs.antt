@@ -4,11 +4,11 @@ use Rattle.plan_model.specs.declared.geometry.Point.{Point}
 use Rattle.plan_model.specs.declared.scenes.Scene.{Scene}
 use Rattle.plan_model.specs.declared.trees.Twig.{Twig}
 use Rattle.plan_model.specs.declared.records.Record.{Record}
-use Rattle.plan_model.specs.EmptyRooms.{empty_room}
-use Rattle.plan_model.specs.Trees.{sum_of}
-use Rattle.plan_model.specs.TreeStates.{state_of}
-use Rattle.plan_model.specs.Textbook.{Nodes, Setup, placed_record, IsTextbookRun}
-use Rattle.plan_model.specs.ReportText.{short_report, full_report}
+use Rattle.plan_model.specs.Spaces.EmptyRooms.{empty_room}
+use Rattle.plan_model.specs.Trees.NodeLists.{sum_of}
+use Rattle.plan_model.specs.Trees.TreeStates.{state_of}
+use Rattle.plan_model.specs.Runs.Textbook.{Nodes, Setup, placed_record, IsTextbookRun}
+use Rattle.plan_model.specs.Reports.ReportText.{short_report, full_report}
 use Rattle.plan_model.specs.Vectors.Shapes.{at}
 use Rattle.plan_model.specs.Vectors.Reports.{box}
 

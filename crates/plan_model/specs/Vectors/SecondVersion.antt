@@ -3,9 +3,9 @@ use Rattle.std.specs.Prelude.{◌≡◌, true, false, List, ℕ, [], ◌∷◌, 
 use Rattle.std.specs.List.{concat}
 use Rattle.plan_model.specs.declared.scenes.Scene.{Scene}
 use Rattle.plan_model.specs.declared.text_terms.Kind.TheVariants as kinds
-use Rattle.plan_model.specs.LineChecks.{Format}
-use Rattle.plan_model.specs.SceneGrammar.{is_supported, supported, whole_format, Refused, Spells}
-use Rattle.plan_model.specs.CanonicalText.{canonical_text}
+use Rattle.plan_model.specs.Texts.LineChecks.{Format}
+use Rattle.plan_model.specs.Texts.SceneGrammar.{is_supported, supported, whole_format, Refused, Spells}
+use Rattle.plan_model.specs.Texts.CanonicalText.{canonical_text}
 use Rattle.plan_model.specs.Vectors.Shapes.{at}
 
 -- both versions, with the keys that are supported

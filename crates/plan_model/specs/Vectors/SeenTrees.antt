@@ -2,9 +2,9 @@
 -- after 7 steps; and what the first has seen when it has taken over what the other has.
 use Rattle.std.specs.Prelude.{ℕ, zero, suc, Bool, true, false, Option, Some, None, List, [], ◌∷◌}
 use Rattle.plan_model.specs.declared.geometry.Point.{Point}
-use Rattle.plan_model.specs.PointsByNumber.{IsPresent}
-use Rattle.plan_model.specs.SeenTrees.{IsSeen, HasSeenAtLeast, SharedTree, IsTrueOf}
-use Rattle.plan_model.specs.Sights.{Sight, KeepsSight, IsLaterMoment, TakesOver, IsSwept}
+use Rattle.plan_model.specs.Trees.PointsByNumber.{IsPresent}
+use Rattle.plan_model.specs.Seen.SeenTrees.{IsSeen, HasSeenAtLeast, SharedTree, IsTrueOf}
+use Rattle.plan_model.specs.Seen.Sights.{Sight, KeepsSight, IsLaterMoment, TakesOver, IsSwept}
 use Rattle.plan_model.specs.Vectors.Shapes.{at}
 use Rattle.plan_model.specs.Vectors.Ways.{three_points, three_children}
 

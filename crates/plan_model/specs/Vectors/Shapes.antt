@@ -3,7 +3,7 @@ use Rattle.std.specs.Prelude.{ℕ, ◌<◌, ℤ, pos, neg_ℤ}
 use Rattle.std.proofs.Math.Nat.{le-suc}
 use Rattle.plan_model.specs.declared.geometry.Point.{Point}
 use Rattle.plan_model.specs.declared.geometry.Vertex.{Vertex}
-use Rattle.plan_model.specs.RoomOfConfigurations.{Rational}
+use Rattle.plan_model.specs.Spaces.RoomOfConfigurations.{Rational}
 
 abbrev pub at : ℕ → ℕ → Point
 at x y = record { x = x; y = y }

@@ -1,6 +1,6 @@
 -- Steering by a step of 50, and by the shortest and the longest step.
 use Rattle.std.specs.Prelude.{◌≡◌}
-use Rattle.plan_model.specs.Steering.{steered}
+use Rattle.plan_model.specs.Geometry.Steering.{steered}
 use Rattle.plan_model.specs.Vectors.Shapes.{at}
 
 pub record SteeringVectors : Type 0 where

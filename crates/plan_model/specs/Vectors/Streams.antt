@@ -1,7 +1,7 @@
 -- Counts of faults, and calls on streams in memory.
 use Rattle.std.specs.Prelude.{◌≡◌, ℕ, true, false, List, [], ◌∷◌, Ok, Err}
-use Rattle.plan_model.specs.Streams.{FaultsRose, MemSinkState, MemSourceState, ended_after, counted}
-use Rattle.plan_model.specs.Streams.{write_result, after_write, read_result, after_read, read_into}
+use Rattle.plan_model.specs.Texts.Streams.{FaultsRose, MemSinkState, MemSourceState, ended_after, counted}
+use Rattle.plan_model.specs.Texts.Streams.{write_result, after_write, read_result, after_read, read_into}
 
 -- room for so many bytes, of which one is taken; the third call fails
 abbrev pub sink_with : ℕ → ℕ → MemSinkState

@@ -1,6 +1,6 @@
 -- Columns cut into three strips, the quotas of three strips, and the columns in which a body fits.
 use Rattle.std.specs.Prelude.{◌≡◌, true, false, List, [], ◌∷◌, map, slice_index_or}
-use Rattle.plan_model.specs.MarkPoints.{IsInSpan, strip, strip_of_mark, quota_of, is_claimed, span_within, columns, rows, reach, below_zero, above_zero}
+use Rattle.plan_model.specs.Scenes.MarkPoints.{IsInSpan, strip, strip_of_mark, quota_of, is_claimed, span_within, columns, rows, reach, below_zero, above_zero}
 use Rattle.plan_model.specs.declared.geometry.Vertex.{Vertex}
 use Rattle.plan_model.specs.declared.spans.Span.{Span}
 use Rattle.plan_model.specs.Vectors.Shapes.{at, corner, corner_below}

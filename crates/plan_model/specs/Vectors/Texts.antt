@@ -3,9 +3,9 @@ use Rattle.std.specs.Prelude.{◌≡◌, ◌==◌, false, List, ℕ, [], ◌∷�
 use Rattle.plan_model.specs.declared.scenes.Scene.{Scene}
 use Rattle.plan_model.specs.declared.scenes.Marks.TheVariants.{Drawn, Listed}
 use Rattle.plan_model.specs.declared.text_terms.Kind.TheVariants as kinds
-use Rattle.plan_model.specs.LineChecks.{Format}
-use Rattle.plan_model.specs.SceneGrammar.{supported, Refused, Spells}
-use Rattle.plan_model.specs.CanonicalText.{canonical_text}
+use Rattle.plan_model.specs.Texts.LineChecks.{Format}
+use Rattle.plan_model.specs.Texts.SceneGrammar.{supported, Refused, Spells}
+use Rattle.plan_model.specs.Texts.CanonicalText.{canonical_text}
 use Rattle.plan_model.specs.Vectors.Shapes.{at, corner, corner_below}
 
 -- version 1 without its keys

@@ -1,9 +1,9 @@
 -- Chains, sums and near nodes of small trees.
 use Rattle.std.specs.Prelude.{◌≡◌, Option, Some, None, List, [], ◌∷◌, ◌++◌}
 use Rattle.plan_model.specs.declared.trees.Twig.{Twig}
-use Rattle.plan_model.specs.PointsByNumber.{point_of}
-use Rattle.plan_model.specs.Trees.{points_of, chain, sum_of}
-use Rattle.plan_model.specs.Nearness.{near}
+use Rattle.plan_model.specs.Trees.PointsByNumber.{point_of}
+use Rattle.plan_model.specs.Trees.NodeLists.{points_of, chain, sum_of}
+use Rattle.plan_model.specs.Trees.Nearness.{near}
 use Rattle.plan_model.specs.Vectors.Shapes.{at}
 
 -- the start, an absent node, and a node below the start

@@ -1,7 +1,7 @@
 -- Ways through a kd-tree of three nodes.
 use Rattle.std.specs.Prelude.{◌≡◌, ℕ, zero, suc, Bool, true, false, Option, Some, None, List, [], ◌∷◌}
 use Rattle.plan_model.specs.declared.geometry.Point.{Point}
-use Rattle.plan_model.specs.Ways.{goes_right, IsOnWay, EndsBelow}
+use Rattle.plan_model.specs.Seen.Ways.{goes_right, IsOnWay, EndsBelow}
 use Rattle.plan_model.specs.Vectors.Shapes.{at}
 
 abbrev pub three_points : List (Option Point)

@@ -1,7 +1,7 @@
 -- Lines, words and numbers of the grammar.
 use Rattle.std.specs.Prelude.{◌≡◌, true, false, pos, negsuc, [], ◌∷◌, codes}
-use Rattle.plan_model.specs.TextLines.{lines_of, words_of, is_skipped}
-use Rattle.plan_model.specs.TextNumbers.{is_number, value_of}
+use Rattle.plan_model.specs.Texts.TextLines.{lines_of, words_of, is_skipped}
+use Rattle.plan_model.specs.Texts.TextNumbers.{is_number, value_of}
 
 pub record LineVectors : Type 0 where
   pub unended : lines_of (codes "one\ntwo") ≡ codes "one" ∷ codes "two" ∷ []

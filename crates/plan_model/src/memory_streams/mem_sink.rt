@@ -2,7 +2,7 @@
 
 ghost use Rattle.std.specs.Prelude.{◌≡◌, ◌+◌, ◌++◌, ◌≤◌, ◌<◌, true, [], length, Some, IfOk, OnOk, OnErr, Ok, vec_len, vec_capacity};
 ghost use Rattle.std.specs.Io.KnownBytes.{WriteAppends};
-ghost use Rattle.plan_model.specs.Streams.{FaultsRose, MemSinkState, after_write, counted, write_result};
+ghost use Rattle.plan_model.specs.Texts.Streams.{FaultsRose, MemSinkState, after_write, counted, write_result};
 
 use super::numbered_calls::is_failing_call;
 use crate::errors::{Failed, Memory};
@@ -24,7 +24,7 @@ pub struct MemSink {
 
 impl Model for MemSink {
     ghost use Rattle.std.specs.Prelude.{◌≡◌, ◌≤◌, length, vec_capacity};
-    ghost use Rattle.plan_model.specs.Streams.{MemSinkState};
+    ghost use Rattle.plan_model.specs.Texts.Streams.{MemSinkState};
 
     ghost Value = { MemSinkState };
 

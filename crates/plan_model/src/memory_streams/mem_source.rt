@@ -2,7 +2,7 @@
 
 ghost use Rattle.std.specs.Prelude.{◌≡◌, ◌≤◌, ◌<◌, ◌^◌, true, false, length, Some, IfOk, OnOk, OnErr, Ok};
 ghost use Rattle.std.specs.Io.KnownBytes.{Keeps, ReadConsumes};
-ghost use Rattle.plan_model.specs.Streams.{FaultsRose, MemSourceState, after_read, counted, ended_after, read_into, read_result};
+ghost use Rattle.plan_model.specs.Texts.Streams.{FaultsRose, MemSourceState, after_read, counted, ended_after, read_into, read_result};
 
 use super::numbered_calls::is_failing_call;
 use super::unread::Unread;
@@ -25,7 +25,7 @@ pub struct MemSource {
 
 impl Model for MemSource {
     ghost use Rattle.std.specs.Prelude.{◌≤◌, ◌<◌, ◌^◌};
-    ghost use Rattle.plan_model.specs.Streams.{MemSourceState};
+    ghost use Rattle.plan_model.specs.Texts.Streams.{MemSourceState};
 
     ghost Value = { MemSourceState };
 

@@ -1,7 +1,7 @@
 //! A source in memory that never fails.
 
 ghost use Rattle.std.specs.Prelude.{◌≡◌, ◌++◌, true, false, length, min, Some, take, drop, IfOk, Ok};
-ghost use Rattle.plan_model.specs.Streams.{Stream, ended_after};
+ghost use Rattle.plan_model.specs.Texts.Streams.{Stream, ended_after};
 
 use super::unread::Unread;
 use crate::errors::{Failed, Memory};
@@ -17,7 +17,7 @@ pub struct SureSource {
 }
 
 impl Model for SureSource {
-    ghost use Rattle.plan_model.specs.Streams.{Stream};
+    ghost use Rattle.plan_model.specs.Texts.Streams.{Stream};
 
     ghost Value = { Stream };
 

@@ -1,7 +1,7 @@
 //! Marks that are listed, and marks that are drawn. What is drawn was worked out apart from the planner.
 
 ghost use Rattle.std.specs.Prelude.{◌≡◌, ◌≤◌, IsTrue, Ok};
-ghost use Rattle.plan_model.specs.Limits.{IsBetween, is_body, is_plan};
+ghost use Rattle.plan_model.specs.Scenes.Limits.{IsBetween, is_body, is_plan};
 ghost use Rattle.plan_model.specs.declared.scenes.Marks.TheVariants.{Drawn};
 ghost use Rattle.plan_model.specs.declared.limits.TheConstants.{LEAST_SIDE, LEAST_STRIPS, MOST_SIDE, MOST_STRIPS};
 

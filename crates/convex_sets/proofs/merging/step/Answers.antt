@@ -2,7 +2,7 @@ use Rattle.std.proofs.Common.{◌≡◌, ◌+◌, inl, inr, refl, suc, arith}
 use Rattle.std.proofs.lemmas.Int.{ints}
 use Rattle.plan_model.specs.declared.geometry.Vertex.{Vertex}
 use Rattle.std.specs.Prelude.{ℕ, List, ℤ}
-use Rattle.plan_model.specs.Convexity.{corner_at}
+use Rattle.plan_model.specs.Geometry.Convexity.{corner_at}
 use Rattle.convex_sets.specs.Edges.{cross, from_to}
 use Rattle.convex_sets.specs.Outlines.{edge_at}
 use Rattle.convex_sets.proofs.Crosses.{cross_opposite}

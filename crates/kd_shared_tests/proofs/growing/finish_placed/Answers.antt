@@ -1,5 +1,5 @@
 use Rattle.std.proofs.Common.{◌≡◌, ◌+◌, ◌∙◌, ap, arith, refl, sym, true}
-use Rattle.plan_model.specs.Radius.{class_of}
+use Rattle.plan_model.specs.Geometry.Radius.{class_of}
 use Rattle.step_core.specs.Stages.{has_link}
 use Rattle.step_core.specs.WordNames.Word.{RecordOf}
 use Rattle.kd_shared_tests.proofs.SteeredMarks.{HangsBelow-kept}

@@ -1,5 +1,5 @@
 use Rattle.std.proofs.Common.{◌≡◌, ◌∙◌, ap, sym}
-use Rattle.plan_model.specs.ClosedLaw.{mark_at}
+use Rattle.plan_model.specs.Runs.ClosedLaw.{mark_at}
 use Rattle.plan_words.specs.States.{with_view}
 use Rattle.plan_words.proofs.HandSteps.{at_hand}
 use Rattle.step_core.specs.ViewSteps.{pointed}

@@ -1,5 +1,5 @@
 use Rattle.std.proofs.Common.{◌≤◌, ◌^◌, arith}
-use Rattle.plan_model.specs.TextNumbers.{magnitude}
+use Rattle.plan_model.specs.Texts.TextNumbers.{magnitude}
 use Rattle.plan_model.proofs.DigitNumbers.{magnitude_after-next, IfNone-fact}
 use Rattle.plan_model.proofs.number_words.decimal.Goals as goal
 

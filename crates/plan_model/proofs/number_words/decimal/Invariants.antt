@@ -1,5 +1,5 @@
 use Rattle.std.proofs.Common.{◌≡◌, drop}
-use Rattle.plan_model.specs.TextNumbers.{magnitude}
+use Rattle.plan_model.specs.Texts.TextNumbers.{magnitude}
 use Rattle.plan_model.proofs.DigitNumbers.{magnitude_after}
 use Rattle.plan_model.proofs.number_words.decimal.Given as goal
 

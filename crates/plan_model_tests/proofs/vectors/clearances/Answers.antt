@@ -6,9 +6,9 @@ use Rattle.std.proofs.lemmas.List.Elements.{All-cons, All-nil}
 use Rattle.plan_model.specs.declared.geometry.Vertex.{Vertex}
 use Rattle.plan_model.specs.declared.geometry.Point.{Point}
 use Rattle.plan_model.specs.declared.configuration_spaces.ConfigurationSpace.{ConfigurationSpace}
-use Rattle.plan_model.specs.RoomOfConfigurations.{Rational, IsSamePoint, at_lattice, moved_by, IsBetweenWalls}
-use Rattle.plan_model.specs.Meeting.{weighted, Meets}
-use Rattle.plan_model.specs.Clearance.{IsClear, on_the_way, Clear}
+use Rattle.plan_model.specs.Spaces.RoomOfConfigurations.{Rational, IsSamePoint, at_lattice, moved_by, IsBetweenWalls}
+use Rattle.plan_model.specs.Spaces.Meeting.{weighted, Meets}
+use Rattle.plan_model.specs.Spaces.Clearance.{IsClear, on_the_way, Clear}
 use Rattle.plan_model.specs.Vectors.Shapes.{at, corner, two_is_positive}
 use Rattle.plan_model.specs.Vectors.Meetings.{point_body, pillar}
 use Rattle.plan_model.specs.Vectors.Clearances.{square, beside_square, apart_from_pillar}

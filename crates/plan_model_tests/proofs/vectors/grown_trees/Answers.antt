@@ -2,9 +2,9 @@ use Rattle.std.proofs.Common.{◌≡◌, ℕ, zero, suc, ◌≤◌, ◌<◌, Som
 use Rattle.std.specs.Prelude.{◌⊎◌, unwrap_or}
 use Rattle.plan_model.specs.declared.geometry.Point.{Point}
 use Rattle.plan_model.specs.declared.records.Record.{Record}
-use Rattle.plan_model.specs.OrderLaw.{most_cost_of}
-use Rattle.plan_model.specs.PointsByNumber.{StandsAt, IsPresent, node_count, point_at}
-use Rattle.plan_model.specs.TreeStates.{first_cost_of, KeepsOrFalls, TreeState}
+use Rattle.plan_model.specs.Runs.OrderLaw.{most_cost_of}
+use Rattle.plan_model.specs.Trees.PointsByNumber.{StandsAt, IsPresent, node_count, point_at}
+use Rattle.plan_model.specs.Trees.TreeStates.{first_cost_of, KeepsOrFalls, TreeState}
 use Rattle.plan_model.specs.Vectors.Shapes.{at}
 use Rattle.plan_model.proofs.OpenRoomMarks.{same_y}
 use Rattle.plan_model_tests.specs.GrownTrees.{before, after_with, both_records, first_by, four_points, moment_of}

@@ -1,8 +1,8 @@
 use Rattle.std.proofs.Common.{◌≡◌, ℕ, ◌<◌, [], ◌∷◌, arith, refl}
 use Rattle.std.specs.Prelude.{pos, ◌-ℤ◌, ◌*ℤ◌, sum}
 use Rattle.std.proofs.lemmas.Int.{ints}
-use Rattle.plan_model.specs.RoomOfConfigurations.{at_lattice}
-use Rattle.plan_model.specs.Meeting.{weighted}
+use Rattle.plan_model.specs.Spaces.RoomOfConfigurations.{at_lattice}
+use Rattle.plan_model.specs.Spaces.Meeting.{weighted}
 use Rattle.plan_model.specs.Vectors.Shapes.{at, halves}
 use Rattle.plan_model.specs.Vectors.Meetings.{small_triangle, great_triangle, small_square, great_square, far_square, point_body, pillar}
 use Rattle.plan_model.proofs.MeetingLaws.{SharesPoint-meets, Meets-shares_point}

@@ -1,6 +1,6 @@
 use Rattle.std.proofs.Common.{◌≡◌, arith, refl}
 use Rattle.std.specs.Fmt.{digits}
-use Rattle.plan_model.specs.Roots.{root_ceiling}
+use Rattle.plan_model.specs.Geometry.Roots.{root_ceiling}
 use Rattle.plan_model.proofs.RootLaws.{root_ceiling-from_squares}
 use Rattle.plan_model_tests.proofs.vectors.reports.Goals as goal
 

@@ -4,7 +4,7 @@ use Rattle.std.proofs.Math.Bridge.{le_prop}
 use Rattle.std.proofs.lemmas.Int.{ints}
 use Rattle.std.proofs.lemmas.List.Elements.{All-cons, All-nil}
 use Rattle.plan_model.specs.declared.geometry.Vertex.{Vertex}
-use Rattle.plan_model.specs.RoomOfConfigurations.{Rational, at_lattice, moved_by, IsBetweenWalls, InRoom}
+use Rattle.plan_model.specs.Spaces.RoomOfConfigurations.{Rational, at_lattice, moved_by, IsBetweenWalls, InRoom}
 use Rattle.plan_model.specs.Vectors.Rooms.{triangle, ten_by_ten}
 use Rattle.plan_model.specs.Vectors.Shapes.{at, corner, halves}
 use Rattle.plan_model_tests.proofs.vectors.rooms.Goals as goal

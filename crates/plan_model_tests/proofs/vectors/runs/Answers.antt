@@ -3,9 +3,9 @@ use Rattle.std.proofs.Common.{◌≡◌, ℕ, List, [], ◌∷◌, ◌++◌, Opt
 use Rattle.std.specs.Prelude.{codes}
 use Rattle.std.specs.Fmt.{digits}
 use Rattle.plan_model.specs.declared.scenes.Scene.{Scene}
-use Rattle.plan_model.specs.TreeStates.{TreeState, state_of}
-use Rattle.plan_model.specs.BestNode.{best_node, goals_of}
-use Rattle.plan_model.specs.ReportText.{head_line, best_path, point_lines, counts_line, node_lines, mark_lines}
+use Rattle.plan_model.specs.Trees.TreeStates.{TreeState, state_of}
+use Rattle.plan_model.specs.Trees.BestNode.{best_node, goals_of}
+use Rattle.plan_model.specs.Reports.ReportText.{head_line, best_path, point_lines, counts_line, node_lines, mark_lines}
 use Rattle.plan_model.specs.Vectors.Reports.{box}
 use Rattle.plan_model.specs.Vectors.Runs.{rewired_tree, rewired_records, rewired_text, kept_tree, kept_records, kept_text}
 use Rattle.plan_model.proofs.OpenRoomMarks.{cost_2500, cost_2401}

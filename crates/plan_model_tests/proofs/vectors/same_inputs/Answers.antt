@@ -2,7 +2,7 @@ use Rattle.std.proofs.Common.{◌≡◌, ℕ, List, [], cond, refl, sym, ap, ◌
 use Rattle.plan_model.specs.declared.geometry.Point.{Point}
 use Rattle.plan_model.specs.declared.geometry.Vertex.{Vertex}
 use Rattle.plan_model.specs.declared.configuration_spaces.ConfigurationSpace.{ConfigurationSpace}
-use Rattle.plan_model.specs.MarkPoints.{points_of_marks}
+use Rattle.plan_model.specs.Scenes.MarkPoints.{points_of_marks}
 use Rattle.plan_model.proofs.RewiredRun.{rewired_run}
 use Rattle.plan_model.specs.Vectors.Runs.{rewired_records, rewired_tree}
 use Rattle.plan_model_tests.proofs.vectors.same_inputs.Goals as goal

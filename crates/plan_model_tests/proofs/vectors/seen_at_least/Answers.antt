@@ -1,8 +1,8 @@
 use Rattle.std.proofs.Common.{◌≡◌, ℕ, zero, suc, ◌+◌, ◌<◌, ◌≤◌, false, Some, arith, refl, ap, inl, inr}
 use Rattle.std.specs.Prelude.{unwrap_or}
-use Rattle.plan_model.specs.PointsByNumber.{IsPresent}
-use Rattle.plan_model.specs.SeenTrees.{KeepsOrLowers}
-use Rattle.plan_model.specs.TreeStates.{first_cost_of, KeepsOrFalls}
+use Rattle.plan_model.specs.Trees.PointsByNumber.{IsPresent}
+use Rattle.plan_model.specs.Seen.SeenTrees.{KeepsOrLowers}
+use Rattle.plan_model.specs.Trees.TreeStates.{first_cost_of, KeepsOrFalls}
 use Rattle.plan_model.specs.Vectors.Overlaps.{placed_by}
 use Rattle.plan_model.specs.Vectors.SeenTrees.{at_entry, at_return, five_points, tree_before, tree_now}
 use Rattle.plan_model.specs.Vectors.Shapes.{at}

@@ -1,6 +1,6 @@
 use Rattle.std.proofs.Common.{◌≡◌, ap, arith, refl}
-use Rattle.plan_model.specs.Roots.{root_ceiling}
-use Rattle.plan_model.specs.Steering.{advanced}
+use Rattle.plan_model.specs.Geometry.Roots.{root_ceiling}
+use Rattle.plan_model.specs.Geometry.Steering.{advanced}
 use Rattle.plan_model.specs.Vectors.Shapes.{at}
 use Rattle.plan_model.proofs.RootLaws.{root_ceiling-from_squares}
 use Rattle.plan_model_tests.proofs.vectors.steps.Goals as goal

@@ -1,8 +1,8 @@
 use Rattle.std.proofs.Common.{◌≡◌, Some, arith, refl, ap}
 use Rattle.std.specs.Prelude.{◌≢◌}
 use Rattle.plan_model.specs.declared.geometry.Point.{Point}
-use Rattle.plan_model.specs.Ways.{goes_right, IsOnWay}
-use Rattle.plan_model.specs.Ways.IsOnWay.{begins, goes_on}
+use Rattle.plan_model.specs.Seen.Ways.{goes_right, IsOnWay}
+use Rattle.plan_model.specs.Seen.Ways.IsOnWay.{begins, goes_on}
 use Rattle.plan_model.specs.Vectors.Shapes.{at}
 use Rattle.plan_model.specs.Vectors.Ways.{three_points, three_children}
 use Rattle.plan_model.proofs.WayLaws.{way_stops}

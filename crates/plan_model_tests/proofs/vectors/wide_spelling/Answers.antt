@@ -2,8 +2,8 @@ use Rattle.std.proofs.Common.{true, [], ◌∷◌, arith, refl}
 use Rattle.std.specs.Fmt.{digits}
 use Rattle.plan_model.specs.declared.scenes.Scene.{Scene}
 use Rattle.plan_model.specs.declared.scenes.Marks.TheVariants.{Drawn}
-use Rattle.plan_model.specs.TextLines.{lines_of}
-use Rattle.plan_model.specs.SceneGrammar.{whole_format}
+use Rattle.plan_model.specs.Texts.TextLines.{lines_of}
+use Rattle.plan_model.specs.Texts.SceneGrammar.{whole_format}
 use Rattle.plan_model.specs.Vectors.Shapes.{at, corner}
 use Rattle.plan_model.specs.Vectors.SecondVersion.{wide_text}
 use Rattle.plan_model.proofs.Soundness.{are_sound, IsSoundBelow-from_test}

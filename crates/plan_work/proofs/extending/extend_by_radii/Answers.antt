@@ -1,6 +1,6 @@
 use Rattle.std.proofs.Common.{◌≡◌, refl, sym, ap, ◌∙◌, subst}
-use Rattle.plan_model.specs.Clearance.{Clear}
-use Rattle.plan_model.specs.PointsByNumber.{point_of}
+use Rattle.plan_model.specs.Spaces.Clearance.{Clear}
+use Rattle.plan_model.specs.Trees.PointsByNumber.{point_of}
 use Rattle.plan_words.specs.States.{PassState, with_view}
 use Rattle.step_core.specs.ViewSteps.{pointed}
 use Rattle.step_core.specs.ViewTrees.{SeesPoint}

@@ -1,6 +1,6 @@
 use Rattle.std.proofs.Common.{sym, ap, ◌∙◌, subst, arith}
-use Rattle.plan_model.specs.Clearance.{Clear}
-use Rattle.plan_model.specs.ConfigurationSpace.{space_of}
+use Rattle.plan_model.specs.Spaces.Clearance.{Clear}
+use Rattle.plan_model.specs.Spaces.ConfigurationSpace.{space_of}
 use Rattle.plan_words.specs.States.{PassState}
 use Rattle.plan_work.proofs.HeldMarks.{holding, if_held, of_held}
 use Rattle.plan_work.proofs.HungMarks.{IsHung-written, KeepsRecords-written, MayHang-chosen, chosen_near}

@@ -5,7 +5,7 @@ use Rattle.plan_work.proofs.HeldMarks.{if_held, of_held}
 use Rattle.plan_work.proofs.KeptRecords.{KeepsRecords-anew, KeepsRecords-trans}
 use Rattle.plan_work.proofs.PlacedMarks.{IsPlacedAt-recorded, MayRecord-placed, MayRecord-same, Rewired-hand}
 use Rattle.plan_work.proofs.RecordedMarks.{HandlesMark-recorded}
-use Rattle.plan_model.specs.ConfigurationSpace.{space_of}
+use Rattle.plan_model.specs.Spaces.ConfigurationSpace.{space_of}
 use Rattle.plan_work.proofs.PlacedAlone.{AloneNext-placed, AloneNext-same, Mirrors-tried}
 use Rattle.plan_work.proofs.WholeLists.{HasWholeShare-kept}
 use Rattle.plan_work.specs.WholeShares.{IsFilledWhole, IsTriedWhole}

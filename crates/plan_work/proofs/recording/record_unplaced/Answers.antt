@@ -1,5 +1,5 @@
 use Rattle.std.proofs.Common.{◌≡◌, refl, ◌∙◌}
-use Rattle.plan_model.specs.Textbook.{unplaced_record}
+use Rattle.plan_model.specs.Runs.Textbook.{unplaced_record}
 use Rattle.plan_work.proofs.RecordedMarks.{HasRecorded-finished, IsFirstWord-unplaced}
 use Rattle.plan_work.proofs.recording.record_unplaced.Goals as goal
 use Rattle.plan_work.specs.Extensions.{own_unplaced}

@@ -1,12 +1,12 @@
 use Rattle.std.proofs.Common.{sym, ap, ◌∙◌, subst, arith}
 use Rattle.kd_shared.specs.Searches.{AreNearSeen}
-use Rattle.plan_model.specs.Radius.{class_of, radius_of_class}
-use Rattle.plan_model.specs.Textbook.{unplaced_record}
+use Rattle.plan_model.specs.Geometry.Radius.{class_of, radius_of_class}
+use Rattle.plan_model.specs.Runs.Textbook.{unplaced_record}
 use Rattle.plan_model.specs.declared.records.Outcome.TheVariants.{Blocked}
 use Rattle.plan_work.proofs.FilledNear.{HasFilledNear-found, looks_at_count, own_count-some}
 use Rattle.plan_work.proofs.KeptRecords.{KeepsRecords-looks, KeepsRecords-number, KeepsRecords-trans}
-use Rattle.plan_model.specs.Nearness.{near}
-use Rattle.plan_model.specs.PointsByNumber.{node_count}
+use Rattle.plan_model.specs.Trees.Nearness.{near}
+use Rattle.plan_model.specs.Trees.PointsByNumber.{node_count}
 use Rattle.plan_work.proofs.MirroredTrees.{points_still}
 use Rattle.plan_work.proofs.WholeLists.{HasWholeShare-kept, IsFilledWhole-found, SeesButCount-all, SeesButCount-trans}
 use Rattle.plan_work.specs.WholeShares.{SeesButCount}

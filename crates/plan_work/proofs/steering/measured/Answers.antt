@@ -1,5 +1,5 @@
 use Rattle.std.proofs.Common.{ap, ◌∙◌}
-use Rattle.plan_model.specs.Geometry.{squared_distance}
+use Rattle.plan_model.specs.Geometry.Plane.{squared_distance}
 use Rattle.tree_rewire.proofs.CostSteps.{PassSees-point}
 use Rattle.tree_rewire.proofs.SeenCosts.{point_later}
 use Rattle.plan_work.proofs.steering.measured.Goals as goal

@@ -2,13 +2,13 @@ use Rattle.std.proofs.Common.{◌+◌, ap, arith, refl, subst, take, ◌∙◌}
 use Rattle.std.specs.Prelude.{Contains}
 use Rattle.std.proofs.lemmas.List.{take_all}
 use Rattle.std.proofs.lemmas.List.Elements.{All-contains_itself}
-use Rattle.plan_model.specs.PointsByNumber.{IsPresent}
+use Rattle.plan_model.specs.Trees.PointsByNumber.{IsPresent}
 use Rattle.step_core.specs.Views.{tree_seen}
 use Rattle.step_core.proofs.SeenViews.{IsPresent-later}
 use Rattle.tree_rewire.proofs.ChosenParents.{near_read, take_read}
 use Rattle.tree_rewire.proofs.CostSteps.{PassSees-trans, point_of-same}
 use Rattle.tree_rewire.specs.SeenCosts.{NamesNothing}
-use Rattle.plan_model.specs.Geometry.{squared_distance}
+use Rattle.plan_model.specs.Geometry.Plane.{squared_distance}
 use Rattle.plan_work.proofs.NearestListed.{IsBestOf-alone, IsBestOf-more}
 use Rattle.plan_work.specs.Extensions.{IsNearestOf}
 use Rattle.plan_work.proofs.steering.nearest_listed.Goals as goal

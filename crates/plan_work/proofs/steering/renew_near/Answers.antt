@@ -1,6 +1,6 @@
 use Rattle.std.proofs.Common.{◌≡◌, sym, ap, ◌∙◌, subst, arith}
-use Rattle.plan_model.specs.Radius.{class_of}
-use Rattle.plan_model.specs.Textbook.{unplaced_record}
+use Rattle.plan_model.specs.Geometry.Radius.{class_of}
+use Rattle.plan_model.specs.Runs.Textbook.{unplaced_record}
 use Rattle.plan_model.specs.declared.records.Outcome.TheVariants.{Blocked}
 use Rattle.plan_words.specs.States.{PassState}
 use Rattle.plan_work.proofs.FilledNear.{HasFilledNear-begun, own_count-some}

@@ -1,10 +1,10 @@
 use Rattle.std.proofs.Common.{length, sym, ap, ◌∙◌, subst, arith}
 use Rattle.kd_shared.proofs.Looking.{OnlyLooks-trans}
 use Rattle.kd_shared.proofs.PassLooks.{PassLooks-load}
-use Rattle.plan_model.specs.Bounds.{IsBounded}
+use Rattle.plan_model.specs.Geometry.Bounds.{IsBounded}
 use Rattle.kd_shared.specs.Searches.{IsNearestSeen}
-use Rattle.plan_model.specs.ClosedLaw.{mark_at}
-use Rattle.plan_model.specs.Steering.{steered}
+use Rattle.plan_model.specs.Runs.ClosedLaw.{mark_at}
+use Rattle.plan_model.specs.Geometry.Steering.{steered}
 use Rattle.plan_model.specs.declared.tasks.Task.{Task}
 use Rattle.step_core.specs.ViewTrees.{sight_in}
 use Rattle.step_core.specs.declared.views.SharedRun.{SharedRun}

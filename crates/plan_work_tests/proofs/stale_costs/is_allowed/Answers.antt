@@ -1,6 +1,6 @@
 use Rattle.std.proofs.Common.{◌*◌, ap, arith, subst}
 use Rattle.std.proofs.lemmas.Bool.{leb-true}
-use Rattle.plan_model.specs.Clearance.{Clear}
+use Rattle.plan_model.specs.Spaces.Clearance.{Clear}
 use Rattle.plan_model.specs.declared.tasks.Task.{Task}
 use Rattle.plan_work_tests.proofs.stale_costs.is_allowed.Goals as goal
 

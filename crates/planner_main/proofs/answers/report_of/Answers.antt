@@ -1,6 +1,6 @@
 use Rattle.std.proofs.Common.{ap, ◌∙◌}
 use Rattle.std.specs.Prelude.{is_some}
-use Rattle.plan_model.specs.ReportText.{report_text}
+use Rattle.plan_model.specs.Reports.ReportText.{report_text}
 use Rattle.planner_main.specs.Conclusions.{status_of_report}
 use Rattle.planner_main.proofs.Successes.{ReportsGrown-answer}
 use Rattle.planner_main.proofs.answers.report_of.Goals as goal

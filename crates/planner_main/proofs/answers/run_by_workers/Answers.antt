@@ -1,9 +1,9 @@
 use Rattle.std.proofs.Common.{length, ap, sym, ◌∙◌, arith}
 use Rattle.plan_model.proofs.MarkBounds.{length-points_of_marks}
 use Rattle.plan_model.proofs.SpanLaws.{BodyFits-from_in_room}
-use Rattle.plan_model.specs.ConfigurationSpace.{space_of}
-use Rattle.plan_model.specs.MarkPoints.{mark_points}
-use Rattle.plan_model.specs.Textbook.{setup_of}
+use Rattle.plan_model.specs.Spaces.ConfigurationSpace.{space_of}
+use Rattle.plan_model.specs.Scenes.MarkPoints.{mark_points}
+use Rattle.plan_model.specs.Runs.Textbook.{setup_of}
 use Rattle.plan_model.specs.declared.tasks.Task.{Task}
 use Rattle.plan_model.proofs.SettledRuns.{IsOfTextbookRun-settled}
 use Rattle.plan_work.proofs.TextbookEnds.{IsOfTextbook-new, IsOfTextbookRun-whole}

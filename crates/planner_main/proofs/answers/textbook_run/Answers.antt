@@ -1,5 +1,5 @@
 use Rattle.plan_model.proofs.SpanLaws.{BodyFits-from_in_room}
-use Rattle.plan_model.specs.ConfigurationSpace.{space_of}
+use Rattle.plan_model.specs.Spaces.ConfigurationSpace.{space_of}
 use Rattle.planner_main.proofs.answers.textbook_run.Goals as goal
 
 -- the start is in the room of configurations, so the body fits into the room

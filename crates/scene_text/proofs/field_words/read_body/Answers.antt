@@ -1,7 +1,7 @@
 use Rattle.std.proofs.Common.{◌≡◌, map, ◌∙◌, sym, false, true, rules, arith}
 use Rattle.std.proofs.lemmas.Int.{ints}
-use Rattle.plan_model.specs.TextLines.{words_of}
-use Rattle.plan_model.specs.TextNumbers.{value_of}
+use Rattle.plan_model.specs.Texts.TextLines.{words_of}
+use Rattle.plan_model.specs.Texts.TextNumbers.{value_of}
 use Rattle.plan_model.specs.declared.limits.TheConstants.{LEAST_BODY_COORDINATE, MOST_BODY_COORDINATE}
 use Rattle.scene_text.proofs.PolygonLemmas.{bounded-given, has_corners-body, checks-pass, checks-corners}
 use Rattle.scene_text.proofs.field_words.read_body.Goals as goal

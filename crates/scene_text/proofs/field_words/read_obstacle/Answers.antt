@@ -1,9 +1,9 @@
 use Rattle.std.proofs.Common.{◌≡◌, ◌≤ℤ◌, map, ◌∙◌, sym, false, true, rules, arith}
 use Rattle.std.proofs.lemmas.Int.{ints}
-use Rattle.plan_model.specs.TextLines.{words_of}
-use Rattle.plan_model.specs.TextNumbers.{value_of}
+use Rattle.plan_model.specs.Texts.TextLines.{words_of}
+use Rattle.plan_model.specs.Texts.TextNumbers.{value_of}
 use Rattle.plan_model.specs.declared.limits.TheConstants.{LEAST_CORNER_COORDINATE, MOST_CORNER_COORDINATE}
-use Rattle.plan_model.specs.Limits.{least_obstacle_coordinate, most_obstacle_coordinate}
+use Rattle.plan_model.specs.Scenes.Limits.{least_obstacle_coordinate, most_obstacle_coordinate}
 use Rattle.plan_model.proofs.SceneBounds.{least_obstacle-counted, most_obstacle-counted}
 use Rattle.scene_text.proofs.PolygonLemmas.{bounded-given, has_corners-obstacle, checks-pass, checks-corners}
 use Rattle.scene_text.proofs.field_words.read_obstacle.Goals as goal

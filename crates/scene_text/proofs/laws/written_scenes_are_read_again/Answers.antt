@@ -1,6 +1,6 @@
 use Rattle.std.proofs.Common.{refl}
-use Rattle.plan_model.specs.CanonicalText.{canonical_text}
-use Rattle.plan_model.specs.SceneGrammar.{whole_format}
+use Rattle.plan_model.specs.Texts.CanonicalText.{canonical_text}
+use Rattle.plan_model.specs.Texts.SceneGrammar.{whole_format}
 use Rattle.plan_model.proofs.SameScenes.{Spells-one_scene}
 use Rattle.plan_model.proofs.Soundness.{Spells-not_refused}
 use Rattle.scene_text.proofs.CoveredScenes.{Covers-whole}

@@ -1,7 +1,7 @@
 use Rattle.std.proofs.Common.{◌≡◌, ◌∷◌, ◌++◌, take, string_bytes}
 use Rattle.std.specs.Fmt.{signed_decimal}
 use Rattle.std.specs.List.{flat_map}
-use Rattle.plan_model.specs.CanonicalText.{corner_numbers}
+use Rattle.plan_model.specs.Texts.CanonicalText.{corner_numbers}
 use Rattle.scene_text.proofs.scene_writer.push_corners.Given as goal
 
 abbrev pub invariant-loop-corner : goal.invariant-loop-corner

@@ -1,4 +1,4 @@
-use Rattle.plan_model.specs.CanonicalText.{corner_numbers}
+use Rattle.plan_model.specs.Texts.CanonicalText.{corner_numbers}
 use Rattle.scene_text.proofs.TextLemmas.{line-pushed}
 use Rattle.scene_text.proofs.scene_writer.push_polygon.Goals as goal
 

@@ -1,10 +1,10 @@
 use Rattle.std.proofs.Common.{[], ◌∷◌, ◌++◌, map, string_bytes, sym, ap, ◌∙◌}
 use Rattle.std.specs.List.{flat_map}
 use Rattle.plan_model.specs.declared.text_terms.Key.TheVariants as keys
-use Rattle.plan_model.specs.ReportText.{line}
-use Rattle.plan_model.specs.CanonicalText.{point_numbers, corner_numbers, statement, version_statement, obstacle_statement, task_statements}
-use Rattle.plan_model.specs.CanonicalText.{plan_statements}
-use Rattle.plan_model.specs.SceneGrammar.{supported}
+use Rattle.plan_model.specs.Reports.ReportText.{line}
+use Rattle.plan_model.specs.Texts.CanonicalText.{point_numbers, corner_numbers, statement, version_statement, obstacle_statement, task_statements}
+use Rattle.plan_model.specs.Texts.CanonicalText.{plan_statements}
+use Rattle.plan_model.specs.Texts.SceneGrammar.{supported}
 use Rattle.scene_text.proofs.CoveredScenes.{canonical-first, Covers-supported}
 use Rattle.scene_text.proofs.TextLemmas.{lines-written}
 use Rattle.scene_text.proofs.CanonicalFields.{Spells-canonical}

@@ -1,6 +1,6 @@
 use Rattle.std.proofs.Common.{◌≡◌, ◌≤◌, true, length}
 use Rattle.std.specs.List.{list_all}
-use Rattle.plan_model.specs.Limits.{is_obstacle}
+use Rattle.plan_model.specs.Scenes.Limits.{is_obstacle}
 use Rattle.scene_text_tests.proofs.scene_writer.most_obstacles.Given as goal
 
 abbrev pub invariant-loop-number : goal.invariant-loop-number

@@ -1,5 +1,5 @@
 use Rattle.std.proofs.Common.{◌≡◌, subst, rules}
-use Rattle.plan_model.specs.SceneGrammar.{Spells, supported}
+use Rattle.plan_model.specs.Texts.SceneGrammar.{Spells, supported}
 use Rattle.plan_model.proofs.SameScenes.{Spells-one_scene}
 use Rattle.scene_text_tests.proofs.scene_writer.read_again.Goals as goal
 

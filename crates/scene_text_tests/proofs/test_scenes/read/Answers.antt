@@ -1,6 +1,6 @@
 use Rattle.std.proofs.Common.{◌≡◌, ℕ, List, Result, Ok, Err, IfOk}
 use Rattle.plan_model.specs.declared.scenes.Scene.{Scene}
-use Rattle.plan_model.specs.SceneGrammar.{Spells, supported}
+use Rattle.plan_model.specs.Texts.SceneGrammar.{Spells, supported}
 use Rattle.scene_text.proofs.CoveredScenes.{first-spelled}
 use Rattle.scene_text_tests.proofs.test_scenes.read.Goals as goal
 

@@ -1,7 +1,7 @@
 use Rattle.std.proofs.Common.{◌≡◌, ℕ, ◌+◌, ◌-◌, Some, arith, sym, ap, ◌∙◌}
-use Rattle.plan_model.specs.BestNode.{goals_of}
-use Rattle.plan_model.specs.LeastPairs.{lesser}
-use Rattle.plan_model.specs.TreeStates.{sum_in}
+use Rattle.plan_model.specs.Trees.BestNode.{goals_of}
+use Rattle.plan_model.specs.Trees.LeastPairs.{lesser}
+use Rattle.plan_model.specs.Trees.TreeStates.{sum_in}
 use Rattle.plan_model.proofs.MarkBounds.{length-marks}
 use Rattle.step_core.specs.GrownRuns.{state_of_grown}
 use Rattle.settle_report.proofs.GoalNodes.{best_of, best_of-goal_node, best_of-other, best_of-all}

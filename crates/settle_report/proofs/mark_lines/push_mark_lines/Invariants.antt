@@ -1,5 +1,5 @@
 use Rattle.std.proofs.Common.{◌≡◌, ◌++◌, string_bytes}
-use Rattle.plan_model.specs.ReportText.{mark_lines}
+use Rattle.plan_model.specs.Reports.ReportText.{mark_lines}
 use Rattle.step_core.specs.GrownRuns.{state_of_grown}
 use Rattle.settle_report.proofs.mark_lines.push_mark_lines.Given as goal
 

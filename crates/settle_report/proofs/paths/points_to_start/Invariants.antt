@@ -1,5 +1,5 @@
 use Rattle.std.proofs.Common.{◌≡◌, ◌++◌}
-use Rattle.plan_model.specs.PointsByNumber.{IsPresent}
+use Rattle.plan_model.specs.Trees.PointsByNumber.{IsPresent}
 use Rattle.step_core.specs.GrownRuns.{state_of_grown}
 use Rattle.settle_report.proofs.GrownPaths.{points_up}
 use Rattle.settle_report.proofs.paths.points_to_start.Given as goal

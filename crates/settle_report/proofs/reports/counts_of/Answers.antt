@@ -1,6 +1,6 @@
 use Rattle.std.proofs.Common.{refl, arith, ap, ◌∙◌}
 use Rattle.plan_model.specs.declared.records.Outcome.TheVariants.{Placed, Same, Blocked}
-use Rattle.plan_model.specs.Outcomes.{is_placed, is_same, is_blocked}
+use Rattle.plan_model.specs.Runs.Outcomes.{is_placed, is_same, is_blocked}
 use Rattle.step_core.specs.GrownRuns.{state_of_grown}
 use Rattle.settle_report.proofs.CountedMarks.{counted-here, counted-elsewhere}
 use Rattle.settle_report.proofs.reports.counts_of.Goals as goal

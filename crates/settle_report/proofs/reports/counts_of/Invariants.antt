@@ -1,6 +1,6 @@
 use Rattle.std.proofs.Common.{◌≡◌, ◌+◌}
-use Rattle.plan_model.specs.ClosedLaw.{outcome_count}
-use Rattle.plan_model.specs.Outcomes.{is_placed, is_same, is_blocked}
+use Rattle.plan_model.specs.Runs.ClosedLaw.{outcome_count}
+use Rattle.plan_model.specs.Runs.Outcomes.{is_placed, is_same, is_blocked}
 use Rattle.step_core.specs.GrownRuns.{state_of_grown}
 use Rattle.settle_report.proofs.reports.counts_of.Given as goal
 

@@ -1,5 +1,5 @@
 use Rattle.std.proofs.Common.{◌≡◌, ◌++◌, take, string_bytes}
-use Rattle.plan_model.specs.ReportText.{point_lines}
+use Rattle.plan_model.specs.Reports.ReportText.{point_lines}
 use Rattle.settle_report.proofs.reports.push_point_lines.Given as goal
 
 abbrev pub invariant-loop-point : goal.invariant-loop-point

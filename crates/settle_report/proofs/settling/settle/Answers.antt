@@ -1,5 +1,5 @@
 use Rattle.std.proofs.Common.{arith, sym, subst}
-use Rattle.plan_model.specs.PointsByNumber.{IsPresent}
+use Rattle.plan_model.specs.Trees.PointsByNumber.{IsPresent}
 use Rattle.step_core.specs.GrownRuns.{state_of_grown, words_of_grown}
 use Rattle.settle_report.proofs.HeldOrders.{sum-held}
 use Rattle.settle_report.proofs.SettlingSteps.{GrowsInto-cheaper, sum_in-changed}

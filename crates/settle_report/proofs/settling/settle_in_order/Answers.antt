@@ -1,6 +1,6 @@
 use Rattle.std.proofs.Common.{◌≡◌, ℕ, length, sym, ◌∙◌, subst, refl, arith}
-use Rattle.plan_model.specs.PointsByNumber.{IsPresent}
-use Rattle.plan_model.specs.Textbook.{setup_of}
+use Rattle.plan_model.specs.Trees.PointsByNumber.{IsPresent}
+use Rattle.plan_model.specs.Runs.Textbook.{setup_of}
 use Rattle.step_core.specs.GrownRuns.{state_of_grown}
 use Rattle.settle_report.proofs.SettlingSteps.{AreSettledBelow, AreSettledBelow-more, ChangesCosts-more, all-settled, sum_in-changed}
 use Rattle.settle_report.proofs.settling.settle_in_order.Goals as goal

@@ -1,6 +1,6 @@
 use Rattle.std.proofs.Common.{◌≡◌, ℕ, ◌<◌, Bool}
 use Rattle.std.specs.Prelude.{slice_index_or}
-use Rattle.plan_model.specs.TreeStates.{ChangesCosts, sum_in}
+use Rattle.plan_model.specs.Trees.TreeStates.{ChangesCosts, sum_in}
 use Rattle.step_core.specs.GrownRuns.{children_of_grown, state_of_grown}
 use Rattle.settle_report.proofs.settling.settle_in_order.Given as goal
 

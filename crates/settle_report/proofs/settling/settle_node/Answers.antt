@@ -1,7 +1,7 @@
 use Rattle.std.proofs.Common.{arith, ap, sym, ◌∙◌, subst}
 use Rattle.std.specs.Prelude.{is_some}
-use Rattle.plan_model.specs.Cost.{cost_of}
-use Rattle.plan_model.specs.PointsByNumber.{IsPresent, point_of}
+use Rattle.plan_model.specs.Geometry.Cost.{cost_of}
+use Rattle.plan_model.specs.Trees.PointsByNumber.{IsPresent, point_of}
 use Rattle.plan_model.proofs.NewNodes.{point_of-stands}
 use Rattle.step_core.specs.GrownRuns.{state_of_grown, words_of_grown}
 use Rattle.step_core.specs.GrownWords.{sizes_of}

@@ -1,7 +1,7 @@
 -- The run is closed.
 use Rattle.std.proofs.Common.{subst}
-use Rattle.plan_model.specs.Clearance.{ClearAt}
-use Rattle.plan_model.specs.Textbook.{setup_of}
+use Rattle.plan_model.specs.Spaces.Clearance.{ClearAt}
+use Rattle.plan_model.specs.Runs.Textbook.{setup_of}
 use Rattle.plan_model.specs.Vectors.Runs.{marks_to_rewire}
 use Rattle.step_core.proofs.ListedRuns.{IsClosed-same_lists}
 use Rattle.settle_report_tests.proofs.UnsettledRun.{IsClosed-unsettled, rrt_setup, unsettled_knots, unsettled_records}

@@ -2,7 +2,7 @@ use Rattle.std.proofs.Common.{arith, ap, ◌∙◌}
 use Rattle.step_core.specs.PlacesOfWords.{sizes_in, words_in}
 use Rattle.step_core.specs.WordNames.Word.{PointOf, ChildOf}
 use Rattle.step_core.specs.WordPlaces.{place_of}
-use Rattle.plan_model.specs.Ways.{goes_right}
+use Rattle.plan_model.specs.Seen.Ways.{goes_right}
 use Rattle.step_core.specs.Words.{point_in}
 use Rattle.step_core.proofs.KdWays.{here_within, IsReached-start, IsReached-child, less_left, EndsAt-here}
 use Rattle.step_core.proofs.WordReads.{place_of-within, word-found}

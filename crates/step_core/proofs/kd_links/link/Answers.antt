@@ -1,5 +1,5 @@
 use Rattle.std.proofs.Common.{arith, refl, ap, ◌∙◌}
-use Rattle.plan_model.specs.Ways.{goes_right}
+use Rattle.plan_model.specs.Seen.Ways.{goes_right}
 use Rattle.step_core.specs.PlacesOfWords.{sizes_in, words_in}
 use Rattle.step_core.specs.WordNames.Word.{PointOf, ChildOf}
 use Rattle.step_core.specs.Words.{point_in}

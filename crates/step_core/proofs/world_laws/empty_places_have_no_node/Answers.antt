@@ -1,5 +1,5 @@
 use Rattle.std.proofs.Common.{subst}
-use Rattle.plan_model.specs.PointsByNumber.{IsFree}
+use Rattle.plan_model.specs.Trees.PointsByNumber.{IsFree}
 use Rattle.step_core.specs.SharedWords.{linked_points}
 use Rattle.step_core.specs.Views.{run_sizes}
 use Rattle.step_core.proofs.LawfulSights.{IsFree-leads}

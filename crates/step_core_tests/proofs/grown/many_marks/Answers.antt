@@ -7,7 +7,7 @@ use Rattle.std.proofs.lemmas.List.{length-replicate}
 use Rattle.plan_model.specs.declared.geometry.Point.{Point}
 use Rattle.plan_model.specs.declared.limits.TheConstants.{MOST_MARKS}
 use Rattle.plan_model.specs.declared.scenes.Marks.TheVariants.{Listed}
-use Rattle.plan_model.specs.Limits.{is_mark, is_plan}
+use Rattle.plan_model.specs.Scenes.Limits.{is_mark, is_plan}
 use Rattle.plan_model.specs.Vectors.Shapes.{at}
 use Rattle.step_core_tests.proofs.grown.many_marks.Goals as goal
 

@@ -3,15 +3,15 @@ use Rattle.std.proofs.Common.{◌≡◌, ℕ, zero, suc, Option, Some, None, Lis
 use Rattle.plan_model.specs.declared.geometry.Point.{Point}
 use Rattle.plan_model.specs.declared.records.Record.{Record}
 use Rattle.plan_model.specs.declared.trees.Knot.{Knot}
-use Rattle.plan_model.specs.Clearance.{Clear, ClearAt}
-use Rattle.plan_model.specs.ClosedLaw.{IsClosed}
-use Rattle.plan_model.specs.EmptyRooms.{empty_room}
-use Rattle.plan_model.specs.LeastPairs.{IsNotAbove}
-use Rattle.plan_model.specs.Nearness.{distance_to, IsNearest}
-use Rattle.plan_model.specs.PointsByNumber.{IsFree, IsPresent}
-use Rattle.plan_model.specs.Textbook.{Nodes, Setup, IsTextbookRun, blocked_record, same_record, setup_of}
-use Rattle.plan_model.specs.Trees.{points_of}
-use Rattle.plan_model.specs.TreeStates.{AreSameRuns, state_of}
+use Rattle.plan_model.specs.Spaces.Clearance.{Clear, ClearAt}
+use Rattle.plan_model.specs.Runs.ClosedLaw.{IsClosed}
+use Rattle.plan_model.specs.Spaces.EmptyRooms.{empty_room}
+use Rattle.plan_model.specs.Trees.LeastPairs.{IsNotAbove}
+use Rattle.plan_model.specs.Trees.Nearness.{distance_to, IsNearest}
+use Rattle.plan_model.specs.Trees.PointsByNumber.{IsFree, IsPresent}
+use Rattle.plan_model.specs.Runs.Textbook.{Nodes, Setup, IsTextbookRun, blocked_record, same_record, setup_of}
+use Rattle.plan_model.specs.Trees.NodeLists.{points_of}
+use Rattle.plan_model.specs.Trees.TreeStates.{AreSameRuns, state_of}
 use Rattle.plan_model.specs.Vectors.Runs.{node}
 use Rattle.plan_model.specs.Vectors.Shapes.{at}
 use Rattle.plan_model.proofs.EmptyRoomClearance.{AreInRoom-from_clear}

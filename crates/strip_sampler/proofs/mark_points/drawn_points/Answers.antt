@@ -1,6 +1,6 @@
 use Rattle.std.proofs.Common.{◌≡◌, arith, refl}
 use Rattle.std.proofs.lemmas.List.FromFn.{map-range_with_len_more}
-use Rattle.plan_model.specs.MarkPoints.{drawn_mark}
+use Rattle.plan_model.specs.Scenes.MarkPoints.{drawn_mark}
 use Rattle.strip_sampler.proofs.DrawnPoints.{All-drawn_in_room}
 use Rattle.strip_sampler.proofs.mark_points.drawn_points.Goals as goal
 

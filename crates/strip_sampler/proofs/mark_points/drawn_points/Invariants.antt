@@ -1,6 +1,6 @@
 use Rattle.std.proofs.Common.{◌≡◌, map}
 use Rattle.std.specs.List.{range_with_len}
-use Rattle.plan_model.specs.MarkPoints.{drawn_mark}
+use Rattle.plan_model.specs.Scenes.MarkPoints.{drawn_mark}
 use Rattle.strip_sampler.proofs.mark_points.drawn_points.Given as goal
 
 abbrev pub invariant-loop-k : goal.invariant-loop-k

@@ -1,6 +1,6 @@
 use Rattle.std.proofs.Common.{◌≡◌, ◌+◌, ◌∙◌, inl, inr, refl, subst, sym}
-use Rattle.plan_model.specs.Clearance.{Clear}
-use Rattle.plan_model.specs.Cost.{cost_of}
+use Rattle.plan_model.specs.Spaces.Clearance.{Clear}
+use Rattle.plan_model.specs.Geometry.Cost.{cost_of}
 use Rattle.tree_rewire.specs.SeenCosts.{cost_through}
 use Rattle.tree_rewire.proofs.ChosenParents.{read_through}
 use Rattle.tree_rewire.proofs.CostSteps.{PassSees-point}

@@ -1,11 +1,11 @@
 use Rattle.std.proofs.Common.{◌∷◌, ap, subst, sym, ◌∙◌}
 use Rattle.std.specs.Prelude.{All}
 use Rattle.std.proofs.lemmas.List.Elements.{All-cons}
-use Rattle.plan_model.specs.Clearance.{Clear}
-use Rattle.plan_model.specs.ConfigurationSpace.{space_of}
-use Rattle.plan_model.specs.LeastPairs.{IsFirstLeast}
-use Rattle.plan_model.specs.OpenNodes.{IsOpenTo}
-use Rattle.plan_model.specs.PointsByNumber.{IsPresent, point_of}
+use Rattle.plan_model.specs.Spaces.Clearance.{Clear}
+use Rattle.plan_model.specs.Spaces.ConfigurationSpace.{space_of}
+use Rattle.plan_model.specs.Trees.LeastPairs.{IsFirstLeast}
+use Rattle.plan_model.specs.Trees.OpenNodes.{IsOpenTo}
+use Rattle.plan_model.specs.Trees.PointsByNumber.{IsPresent, point_of}
 use Rattle.plan_words.proofs.GoingOn.{GoesOn-trans}
 use Rattle.step_core.specs.Views.{tree_seen}
 use Rattle.step_core.proofs.SeenViews.{IsPresent-later}

@@ -2,9 +2,9 @@ use Rattle.std.proofs.Common.{◌∷◌, [], ap, arith, subst, sym, take, ◌∙
 use Rattle.std.proofs.lemmas.List.{take_all}
 use Rattle.std.proofs.lemmas.List.Elements.{All-tail}
 use Rattle.edge_cost.specs.LeastParents.{IsLeastParent}
-use Rattle.plan_model.specs.LeastPairs.{IsFirstLeast}
-use Rattle.plan_model.specs.OpenNodes.{IsOpenTo}
-use Rattle.plan_model.specs.PointsByNumber.{IsPresent}
+use Rattle.plan_model.specs.Trees.LeastPairs.{IsFirstLeast}
+use Rattle.plan_model.specs.Trees.OpenNodes.{IsOpenTo}
+use Rattle.plan_model.specs.Trees.PointsByNumber.{IsPresent}
 use Rattle.plan_model.proofs.ParentChoices.{IsFirstLeast-alone}
 use Rattle.step_core.specs.Views.{tree_seen}
 use Rattle.step_core.proofs.SeenViews.{IsPresent-later}

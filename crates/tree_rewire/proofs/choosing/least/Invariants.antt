@@ -1,6 +1,6 @@
 use Rattle.std.proofs.Common.{◌∷◌, take}
 use Rattle.edge_cost.specs.LeastParents.{IsLeastParent}
-use Rattle.plan_model.specs.OpenNodes.{IsOpenTo}
+use Rattle.plan_model.specs.Trees.OpenNodes.{IsOpenTo}
 use Rattle.step_core.specs.Views.{tree_seen}
 use Rattle.tree_rewire.specs.SeenCosts.{NamesNothing, PassSees, cost_through}
 use Rattle.tree_rewire.proofs.choosing.least.Given as goal

@@ -2,7 +2,7 @@ use Rattle.std.proofs.Common.{arith, ap, subst, take}
 use Rattle.std.specs.Prelude.{All}
 use Rattle.std.proofs.lemmas.List.{take_all}
 use Rattle.std.proofs.lemmas.List.Elements.{All-cons, All-nil}
-use Rattle.plan_model.specs.PointsByNumber.{IsPresent}
+use Rattle.plan_model.specs.Trees.PointsByNumber.{IsPresent}
 use Rattle.step_core.specs.Views.{tree_seen}
 use Rattle.step_core.specs.WordNames.Word.{TreeOf}
 use Rattle.step_core.proofs.SeenViews.{IsPresent-later}

@@ -1,5 +1,5 @@
 use Rattle.std.proofs.Common.{◌≤◌, inl, inr, subst, sym}
-use Rattle.plan_model.specs.PointsByNumber.{point_of}
+use Rattle.plan_model.specs.Trees.PointsByNumber.{point_of}
 use Rattle.step_core.specs.Views.{tree_seen}
 use Rattle.tree_rewire.specs.Rewirings.{CostsLess}
 use Rattle.tree_rewire.specs.SeenCosts.{SeesPair, cost_seen, cost_through}

@@ -1,5 +1,5 @@
 use Rattle.std.proofs.Common.{◌≡◌, ℕ, ◌<◌, ◌≤◌, arith, inl, inr, subst, sym}
-use Rattle.plan_model.specs.PointsByNumber.{point_of}
+use Rattle.plan_model.specs.Trees.PointsByNumber.{point_of}
 use Rattle.step_core.specs.Views.{tree_seen}
 use Rattle.step_core.specs.declared.views.View.{View}
 use Rattle.tree_rewire.specs.SeenCosts.{cost_seen, cost_through}

@@ -1,6 +1,6 @@
 use Rattle.std.proofs.Common.{◌≡◌, ◌+◌, ◌<◌, ◌≤◌, ◌^◌, ℕ, ap, arith, inl, inr, refl, subst, sym, ◌∙◌}
-use Rattle.plan_model.specs.Cost.{cost_of}
-use Rattle.plan_model.specs.OrderLaw.{IsAllowedEdge}
+use Rattle.plan_model.specs.Geometry.Cost.{cost_of}
+use Rattle.plan_model.specs.Runs.OrderLaw.{IsAllowedEdge}
 use Rattle.plan_words.specs.States.{PassState, with_view}
 use Rattle.step_core.specs.ViewSteps.{lowered}
 use Rattle.step_core.specs.Views.{setup_in}

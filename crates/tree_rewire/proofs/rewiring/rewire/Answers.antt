@@ -2,8 +2,8 @@ use Rattle.std.proofs.Common.{◌+◌, ◌≡◌, ℕ, List, [], ap, arith, drop
 use Rattle.std.specs.Prelude.{All, Contains}
 use Rattle.std.proofs.lemmas.List.{drop_all, take_all}
 use Rattle.std.proofs.lemmas.List.Elements.{All-contains_itself, All-nil}
-use Rattle.plan_model.specs.ConfigurationSpace.{space_of}
-use Rattle.plan_model.specs.Textbook.{Rewires}
+use Rattle.plan_model.specs.Spaces.ConfigurationSpace.{space_of}
+use Rattle.plan_model.specs.Runs.Textbook.{Rewires}
 use Rattle.plan_words.proofs.HandSteps.{some_hand}
 use Rattle.tree_rewire.specs.Rewirings.{HasSpreadFalls}
 use Rattle.tree_rewire.specs.SeenCosts.{IsInReach, NamesTreeOrPoint, SeesPair, cost_seen}

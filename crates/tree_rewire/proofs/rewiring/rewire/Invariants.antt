@@ -1,6 +1,6 @@
 use Rattle.std.proofs.Common.{◌+◌, All, drop, take}
 use Rattle.std.specs.Prelude.{Contains}
-use Rattle.plan_model.specs.Textbook.{Nodes}
+use Rattle.plan_model.specs.Runs.Textbook.{Nodes}
 use Rattle.plan_words.specs.States.{HasWholeShare}
 use Rattle.tree_rewire.specs.Mirrors.{Mirrors}
 use Rattle.tree_rewire.specs.Rewirings.{HasSpreadFalls}

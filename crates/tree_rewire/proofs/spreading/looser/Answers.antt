@@ -1,7 +1,7 @@
 use Rattle.std.proofs.Common.{◌+◌, arith, inl, inr, subst}
 use Rattle.std.specs.Prelude.{IfSome}
 use Rattle.std.proofs.lemmas.Bool.{cases_lt}
-use Rattle.plan_model.specs.Cost.{cost_of}
+use Rattle.plan_model.specs.Geometry.Cost.{cost_of}
 use Rattle.plan_words.specs.Claims.{SeesAsBefore}
 use Rattle.plan_words.specs.Parents.{IsPairIn}
 use Rattle.plan_words.specs.States.{HasWholeShare}

@@ -1,5 +1,5 @@
 use Rattle.std.proofs.Common.{◌≡◌, ◌+◌, length, ap, arith, subst, sym, ◌∙◌}
-use Rattle.plan_model.specs.OrderLaw.{IsAllowedEdge}
+use Rattle.plan_model.specs.Runs.OrderLaw.{IsAllowedEdge}
 use Rattle.plan_words.proofs.GoingOn.{GoesOn-trans}
 use Rattle.step_core.specs.Views.{setup_in}
 use Rattle.step_core.specs.WordNames.Word.{TreeOf}

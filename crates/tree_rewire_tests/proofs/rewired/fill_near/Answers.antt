@@ -1,6 +1,6 @@
 use Rattle.std.proofs.Common.{◌≡◌, ap, arith, subst, sym, ◌∙◌}
 use Rattle.std.specs.Prelude.{All}
-use Rattle.plan_model.specs.Bounds.{IsBounded}
+use Rattle.plan_model.specs.Geometry.Bounds.{IsBounded}
 use Rattle.plan_words.proofs.HandSteps.{at_hand}
 use Rattle.plan_words.proofs.KeptPairs.{if_hand}
 use Rattle.plan_words.proofs.NearestParents.{IsBounded-hand}

@@ -1,5 +1,5 @@
 use Rattle.std.proofs.Common.{refl}
-use Rattle.plan_model.specs.RoomOfConfigurations.{InRoom, at_lattice}
+use Rattle.plan_model.specs.Spaces.RoomOfConfigurations.{InRoom, at_lattice}
 use Rattle.swept_check.proofs.HallLaws.{crosses_none, clear_of, first_in_room, last_in_room}
 use Rattle.obstacle_boxes.proofs.ZoneTrees.{leaves-among, CrossesNone-leaves, leaves_met-near, true_unless, not_none}
 use Rattle.obstacle_boxes.proofs.boxes.Boxes.tests.Goals as goal

@@ -1,5 +1,5 @@
 use Rattle.std.proofs.Common.{◌↔◌, IsTrue, subst}
-use Rattle.plan_model.specs.Clearance.{Clear}
+use Rattle.plan_model.specs.Spaces.Clearance.{Clear}
 use Rattle.obstacle_boxes.proofs.boxes.BoxesClearing.clear.Goals as goal
 
 pub returns-then-zones-le-MOST_WITHOUT_TREE : goal.returns-then-zones-le-MOST_WITHOUT_TREE

@@ -1,5 +1,5 @@
 use Rattle.std.proofs.Common.{◌≡◌, take}
-use Rattle.plan_model.specs.MarkPoints.{above_zero, below_zero, reach}
+use Rattle.plan_model.specs.Scenes.MarkPoints.{above_zero, below_zero, reach}
 use Rattle.plan_model.proofs.spans.Reach.of.Given as goal
 
 abbrev pub invariant-loop-corner : goal.invariant-loop-corner

@@ -1,5 +1,5 @@
 use Rattle.std.proofs.Common.{◌∙◌, ◌<◌, ap, length, subst, sym}
-use Rattle.plan_model.specs.Turns.{turns_of}
+use Rattle.plan_model.specs.Runs.Turns.{turns_of}
 use Rattle.plan_words.proofs.shared.Shared.deal.Goals as goal
 use Rattle.plan_words.specs.Dealt.{IsPassOf}
 use Rattle.step_core.specs.GrownWords.{record_at}

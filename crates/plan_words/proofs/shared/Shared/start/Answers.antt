@@ -1,7 +1,7 @@
 use Rattle.std.proofs.Common.{◌∙◌, ◌<◌, ap, length, subst}
 use Rattle.std.specs.Prelude.{slice_index}
 use Rattle.std.proofs.lemmas.Result.{IfOk-weaker}
-use Rattle.plan_model.specs.Turns.{turns_of}
+use Rattle.plan_model.specs.Runs.Turns.{turns_of}
 use Rattle.plan_words.proofs.Dealing.{MayClaim-starts, StartsAs-pass}
 use Rattle.plan_words.proofs.shared.Shared.start.Goals as goal
 use Rattle.plan_words.specs.States.{first_view, new_pass}

@@ -1,7 +1,7 @@
 use Rattle.std.proofs.Common.{◌≤◌, length, refl, ◌∙◌, arith}
 use Rattle.std.proofs.lemmas.Grind.{common_steps}
-use Rattle.plan_model.specs.SceneGrammar.{point_from, number_or}
-use Rattle.plan_model.specs.CanonicalText.{point_numbers}
+use Rattle.plan_model.specs.Texts.SceneGrammar.{point_from, number_or}
+use Rattle.plan_model.specs.Texts.CanonicalText.{point_numbers}
 use Rattle.scene_text.specs.Drafts.{amount_numbers}
 use Rattle.scene_text.proofs.DraftScenes.{AreWithin-draft, known-given, default-given, goals-given, polygons-given, whole-draft}
 use Rattle.scene_text.proofs.drafts.Draft.into_scene.Goals as goal

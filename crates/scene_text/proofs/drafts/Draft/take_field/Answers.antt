@@ -1,4 +1,4 @@
-use Rattle.plan_model.specs.TextLines.{words_of}
+use Rattle.plan_model.specs.Texts.TextLines.{words_of}
 use Rattle.scene_text.proofs.DraftLemmas.{given-obstacle, given-goal, given-mark}
 use Rattle.scene_text.proofs.drafts.Draft.take_field.Goals as goal
 

@@ -1,7 +1,7 @@
 use Rattle.std.proofs.Common.{◌≡◌, ◌∷◌, true, false, Some, None, refl, rules, ap, ◌∙◌}
-use Rattle.plan_model.specs.TextLines.{words_of, is_skipped}
-use Rattle.plan_model.specs.LineChecks.{version_of}
-use Rattle.plan_model.specs.SceneGrammar.{supported}
+use Rattle.plan_model.specs.Texts.TextLines.{words_of, is_skipped}
+use Rattle.plan_model.specs.Texts.LineChecks.{version_of}
+use Rattle.plan_model.specs.Texts.SceneGrammar.{supported}
 use Rattle.scene_text.proofs.DraftLemmas.{given-version, TakesLine-skipped, TakesLine-version, TakesLine-statement, OnOk-three}
 use Rattle.scene_text.proofs.drafts.Draft.take_line.Goals as goal
 

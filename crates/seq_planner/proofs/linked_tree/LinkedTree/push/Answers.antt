@@ -1,7 +1,7 @@
 -- The child lists are right for the nodes so far at each step, and the new node then joins its parent's list.
 use Rattle.std.proofs.Common.{◌≡◌, ◌<◌, length, sym, ap, subst, arith}
-use Rattle.plan_model.specs.PointsByNumber.{IsPresent}
-use Rattle.plan_model.specs.Trees.{points_of}
+use Rattle.plan_model.specs.Trees.PointsByNumber.{IsPresent}
+use Rattle.plan_model.specs.Trees.NodeLists.{points_of}
 use Rattle.seq_planner.specs.LinkedTrees.{MayJoin, parent_if_child}
 use Rattle.seq_planner.proofs.ChangedLinks.{AreLinked-push_absent, MayBecomeChild-push, ChangesOne-push, AreLinked-push, HaveSlots-present}
 use Rattle.seq_planner.proofs.linked_tree.LinkedTree.push.Goals as goal

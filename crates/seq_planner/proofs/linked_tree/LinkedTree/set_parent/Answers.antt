@@ -2,8 +2,8 @@
 use Rattle.std.proofs.Common.{◌≡◌, ◌<◌, ℕ, Some, None, true, length, get_or, sym, subst, ◌∙◌}
 use Rattle.std.proofs.lemmas.List.{get_or_read}
 use Rattle.plan_model.specs.declared.trees.Twig.{Twig}
-use Rattle.plan_model.specs.PointsByNumber.{IsPresent}
-use Rattle.plan_model.specs.Trees.{points_of}
+use Rattle.plan_model.specs.Trees.PointsByNumber.{IsPresent}
+use Rattle.plan_model.specs.Trees.NodeLists.{points_of}
 use Rattle.plan_model.proofs.NewNodes.{present_below}
 use Rattle.seq_planner.specs.LinkedTrees.{parent_if_child, is_child_of}
 use Rattle.seq_planner.proofs.ChangedLinks.{without, MayBecomeChild-unlinked, ChangesOne-replace, AreLinked-replace, HaveSlots-present}

@@ -1,6 +1,6 @@
 use Rattle.std.proofs.Common.{◌≡◌, ◌*◌, ◌<◌, [], ◌∷◌, ◌++◌, length, get_or, ap, sym, ◌∙◌, arith}
-use Rattle.plan_model.specs.Geometry.{squared_distance}
-use Rattle.plan_model.specs.Nearness.{near}
+use Rattle.plan_model.specs.Geometry.Plane.{squared_distance}
+use Rattle.plan_model.specs.Trees.Nearness.{near}
 use Rattle.plan_model.specs.declared.geometry.Point.{Point}
 use Rattle.seq_planner.proofs.ScannedLists.{near_more_inside, near_more_outside, near-all, near-none}
 use Rattle.seq_planner.proofs.placed_points.PlacedPoints.near.Goals as goal

@@ -1,6 +1,6 @@
 use Rattle.std.proofs.Common.{◌≡◌, ◌+◌, ◌<◌, ◌≤◌, length, get_or, sym, ap, ◌∙◌, rules, subst, arith}
 use Rattle.std.proofs.lemmas.List.{get_or_read}
-use Rattle.plan_model.specs.Nearness.{IsNearest}
+use Rattle.plan_model.specs.Trees.Nearness.{IsNearest}
 use Rattle.plan_model.proofs.LeastScans.{IsFirstLeastBelow-keeps, IsFirstLeastBelow-takes}
 use Rattle.seq_planner.proofs.ScannedLists.{IsNearest-all, IsNearestIndex, distance_at}
 use Rattle.seq_planner.proofs.placed_points.PlacedPoints.nearest.Goals as goal

@@ -2,15 +2,15 @@ use Rattle.std.proofs.Common.{◌≡◌, ℕ, List, ◌∷◌, true, arith, rule
 use Rattle.std.specs.Prelude.{All}
 use Rattle.plan_model.specs.declared.geometry.Point.{Point}
 use Rattle.plan_model.specs.declared.configuration_spaces.ConfigurationSpace.{ConfigurationSpace}
-use Rattle.plan_model.specs.ConfigurationSpace.{space_of}
-use Rattle.plan_model.specs.Clearance.{Clear}
+use Rattle.plan_model.specs.Spaces.ConfigurationSpace.{space_of}
+use Rattle.plan_model.specs.Spaces.Clearance.{Clear}
 use Rattle.edge_cost.specs.LeastParents.{IsLeastParent}
-use Rattle.plan_model.specs.Nearness.{near}
-use Rattle.plan_model.specs.OpenNodes.{IsOpenTo}
-use Rattle.plan_model.specs.PointsByNumber.{IsPresent, node_count}
-use Rattle.plan_model.specs.Radius.{class_of, radius_of}
-use Rattle.plan_model.specs.Textbook.{setup_of, near_new, cost_through}
-use Rattle.plan_model.specs.Trees.{points_of}
+use Rattle.plan_model.specs.Trees.Nearness.{near}
+use Rattle.plan_model.specs.Trees.OpenNodes.{IsOpenTo}
+use Rattle.plan_model.specs.Trees.PointsByNumber.{IsPresent, node_count}
+use Rattle.plan_model.specs.Geometry.Radius.{class_of, radius_of}
+use Rattle.plan_model.specs.Runs.Textbook.{setup_of, near_new, cost_through}
+use Rattle.plan_model.specs.Trees.NodeLists.{points_of}
 use Rattle.plan_model.proofs.DistinctPoints.{near-present}
 use Rattle.plan_model.proofs.SamePoints.{same_point-true, same_point-false}
 use Rattle.seq_planner.proofs.PresentNumbers.{ArePlaced-bounded, ArePlaced-count, ArePlaced-numbered}

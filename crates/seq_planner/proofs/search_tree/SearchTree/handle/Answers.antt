@@ -1,10 +1,10 @@
 use Rattle.std.proofs.Common.{◌≡◌, ℕ, List, [], ◌∷◌, ◌++◌, length, length-append, get_or, arith, sym, ap, ◌∙◌, subst}
 use Rattle.std.specs.Prelude.{All}
 use Rattle.plan_model.specs.declared.configuration_spaces.ConfigurationSpace.{ConfigurationSpace}
-use Rattle.plan_model.specs.ConfigurationSpace.{space_of}
-use Rattle.plan_model.specs.PointsByNumber.{IsPresent}
-use Rattle.plan_model.specs.Trees.{points_of}
-use Rattle.plan_model.specs.Textbook.{Nodes, Rewires}
+use Rattle.plan_model.specs.Spaces.ConfigurationSpace.{space_of}
+use Rattle.plan_model.specs.Trees.PointsByNumber.{IsPresent}
+use Rattle.plan_model.specs.Trees.NodeLists.{points_of}
+use Rattle.plan_model.specs.Runs.Textbook.{Nodes, Rewires}
 use Rattle.seq_planner.proofs.PutNodes.{present-put, no_child-put, none-put, GrowsByMark-put}
 use Rattle.seq_planner.proofs.search_tree.SearchTree.handle.Goals as goal
 

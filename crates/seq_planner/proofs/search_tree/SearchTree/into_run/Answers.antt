@@ -2,9 +2,9 @@ use Rattle.std.proofs.Common.{List, Option, length, sym, ap, ◌∙◌, subst}
 use Rattle.std.proofs.lemmas.Result.{IfOk-weaker}
 use Rattle.plan_model.specs.declared.records.Record.{Record}
 use Rattle.plan_model.specs.declared.trees.Knot.{Knot}
-use Rattle.plan_model.specs.ClosedLaw.{IsClosed}
-use Rattle.plan_model.specs.Textbook.{setup_of, start_alone}
-use Rattle.plan_model.specs.TreeStates.{TreeState, AreSameRuns}
+use Rattle.plan_model.specs.Runs.ClosedLaw.{IsClosed}
+use Rattle.plan_model.specs.Runs.Textbook.{setup_of, start_alone}
+use Rattle.plan_model.specs.Trees.TreeStates.{TreeState, AreSameRuns}
 use Rattle.plan_model.proofs.RunLaws.{HandlesAll-length}
 use Rattle.plan_model.proofs.SameTrees.{IsSettled-of_textbook}
 use Rattle.seq_planner.specs.SearchTrees.{with_costs}

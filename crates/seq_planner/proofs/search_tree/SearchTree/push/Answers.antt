@@ -3,7 +3,7 @@ use Rattle.std.specs.Prelude.{option_map}
 use Rattle.std.proofs.lemmas.List.{length-map}
 use Rattle.plan_model.specs.declared.geometry.Point.{Point}
 use Rattle.plan_model.specs.declared.trees.Twig.{Twig}
-use Rattle.plan_model.specs.Trees.{points_of}
+use Rattle.plan_model.specs.Trees.NodeLists.{points_of}
 use Rattle.plan_model.proofs.TreeChanges.{points_of-push}
 use Rattle.seq_planner.specs.PlacedLists.{ArePlaced}
 use Rattle.seq_planner.proofs.PresentNumbers.{ArePlaced-absent}

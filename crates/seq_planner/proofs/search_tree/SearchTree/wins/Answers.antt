@@ -1,8 +1,8 @@
 use Rattle.std.proofs.Common.{◌≡◌, ◌+◌, sym, subst}
 use Rattle.plan_model.specs.declared.geometry.Point.{Point}
-use Rattle.plan_model.specs.Clearance.{Clear}
-use Rattle.plan_model.specs.Cost.{cost_of}
-use Rattle.plan_model.specs.Textbook.{cost_through}
+use Rattle.plan_model.specs.Spaces.Clearance.{Clear}
+use Rattle.plan_model.specs.Geometry.Cost.{cost_of}
+use Rattle.plan_model.specs.Runs.Textbook.{cost_through}
 use Rattle.seq_planner.proofs.ReadCosts.{through-read}
 use Rattle.seq_planner.proofs.search_tree.SearchTree.wins.Given.{Over}
 use Rattle.seq_planner.proofs.search_tree.SearchTree.wins.Goals as goal

@@ -3,7 +3,7 @@ use Rattle.std.proofs.lemmas.List.{with_items_is}
 use Rattle.step_core.specs.GrownWords.{HoldRun, children_of_words, run_words, sizes_of, state_of_words}
 use Rattle.step_core.specs.KdLinks.{LinksRise}
 use Rattle.step_core.specs.WordPlaces.{word_count}
-use Rattle.plan_model.specs.TreeStates.{AreSameRuns}
+use Rattle.plan_model.specs.Trees.TreeStates.{AreSameRuns}
 use Rattle.step_core.specs.PackedRuns.{state_of_lists}
 use Rattle.step_core.proofs.StartWords.{word_at-zeros}
 use Rattle.step_core.proofs.grown.Grown.pack.Goals as goal

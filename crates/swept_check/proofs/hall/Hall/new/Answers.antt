@@ -1,6 +1,6 @@
 use Rattle.std.proofs.Common.{◌≡◌, ◌<◌, [], length, get_or, refl, arith, ◌∙◌}
 use Rattle.std.proofs.lemmas.List.{get_or_default}
-use Rattle.plan_model.specs.ConfigurationSpace.{space_of}
+use Rattle.plan_model.specs.Spaces.ConfigurationSpace.{space_of}
 use Rattle.swept_check.proofs.SceneSummands.{obstacle_within, AreFirstZones-more}
 use Rattle.swept_check.proofs.hall.Hall.new.Goals as goal
 

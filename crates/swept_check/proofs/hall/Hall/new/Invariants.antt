@@ -1,4 +1,4 @@
-use Rattle.plan_model.specs.ConfigurationSpace.{space_of}
+use Rattle.plan_model.specs.Spaces.ConfigurationSpace.{space_of}
 use Rattle.swept_check.proofs.SceneSummands.{AreFirstZones}
 use Rattle.swept_check.proofs.hall.Hall.new.Given as goal
 

@@ -1,5 +1,0 @@
-use Rattle.plan_model.proofs.ClosedProps.{IsClosed-prop}
-use Rattle.plan_model.proofs.closed_laws.closed_law_has_one_proof.Goals as goal
-
-pub returns : goal.returns
-returns c = IsClosed-prop

@@ -1,5 +1,0 @@
-use Rattle.plan_model.proofs.GivenScenes.{decided}
-use Rattle.plan_model.proofs.laws.each_text_is_decided.Goals as goal
-
-pub returns : goal.returns
-returns c = decided

@@ -1,5 +1,0 @@
-use Rattle.plan_model.proofs.RootLaws.{root_ceiling-is}
-use Rattle.plan_model.proofs.laws.root_is_least.Goals as goal
-
-pub returns : goal.returns
-returns c = root_ceiling-is

@@ -1,5 +1,0 @@
-use Rattle.plan_model.proofs.DistinctPoints.{AreDistinct-textbook}
-use Rattle.plan_model.proofs.run_laws.nodes_stand_apart.Goals as goal
-
-pub returns : goal.returns
-returns c = λ setup marks tree records run. AreDistinct-textbook setup marks tree records run

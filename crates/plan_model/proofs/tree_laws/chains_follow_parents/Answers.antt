@@ -1,8 +1,0 @@
-use Rattle.plan_model.proofs.ChainLaws.{chain-start, chain-parent}
-use Rattle.plan_model.proofs.tree_laws.chains_follow_parents.Goals as goal
-
-pub returns-clause-start : goal.returns-clause-start
-returns-clause-start c = chain-start
-
-pub returns-clause-parent : goal.returns-clause-parent
-returns-clause-parent c = chain-parent

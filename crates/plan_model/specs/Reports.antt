@@ -1,0 +1,2 @@
+-- Reports of runs.
+pub mod ReportText
