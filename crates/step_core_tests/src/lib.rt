@@ -9,3 +9,5 @@ mod point_words;
 mod record_words;
 #[cfg(test)]
 mod tree_words;
+#[cfg(test)]
+mod vectors;

@@ -1,0 +1,203 @@
+-- Words of a small shared run with the views of two passes, and worlds that differ from a lawful one in one thing.
+use Rattle.std.specs.Prelude.{ℕ, ◌+◌, ◌^◌, Option, Some, None, List, [], ◌∷◌, ◌++◌, replicate}
+use Rattle.plan_model.specs.declared.records.Record.{Record}
+use Rattle.plan_model.specs.Spaces.EmptyRooms.{empty_room}
+use Rattle.plan_model.specs.Vectors.Overlaps.{placed_by}
+use Rattle.plan_model.specs.Vectors.Shapes.{at}
+use Rattle.step_core.specs.Views.{words_of_run}
+use Rattle.step_core.specs.ViewSteps.{new_hand}
+use Rattle.step_core.specs.Words.{point_word, record_word, tree_word}
+use Rattle.step_core.specs.Worlds.{IsWorld}
+use Rattle.step_core.specs.declared.views.Fill.{Fill}
+use Rattle.step_core.specs.declared.views.Hand.{Hand}
+use Rattle.step_core.specs.declared.views.Member.{Member}
+use Rattle.step_core.specs.declared.views.SharedRun.{SharedRun}
+use Rattle.step_core.specs.declared.views.Stage.{Stage}
+use Rattle.step_core.specs.declared.views.Stage.TheVariants.{Claimed, Counted, Half, Linked, Pointed, Treed}
+use Rattle.step_core.specs.declared.views.View.{View}
+
+-- ---- the run
+
+-- a run of two workers from limit 0: a point body that starts at (5, 5) in an empty room, and one mark at (8, 9), whose edge costs 1280
+abbrev pub small_run : SharedRun
+small_run =
+    record {
+      space = empty_room (at 100 100);
+      start = at 5 5;
+      step = 50;
+      gamma = 50;
+      goals = [];
+      strips = 1;
+      marks = at 8 9 ∷ [];
+      workers = 2;
+      opening = 0;
+    }
+
+-- ---- its words
+
+-- the words of a node: its point, its left and its right child, its tree word and its first word
+abbrev pub node_by : ℕ → ℕ → ℕ → ℕ → List ℕ
+node_by point right tree first = point ∷ 0 ∷ right ∷ tree ∷ first ∷ []
+
+-- the count, the counter, the words of nodes 0 and 1, and of the record of mark 0
+abbrev pub row : ℕ → ℕ → List ℕ → List ℕ → ℕ → List ℕ
+row count counter start node entry = count ∷ counter ∷ start ++ node ++ entry ∷ []
+
+-- the start, with this node to its right, and 0 for none
+abbrev pub start_above : ℕ → List ℕ
+start_above right = node_by (point_word (at 5 5)) right (tree_word 0 0) (tree_word 0 0)
+
+-- node 1 at the mark, below the start
+abbrev pub mark_node : List ℕ
+mark_node = node_by (point_word (at 8 9)) 0 (tree_word 0 1280) (tree_word 0 1280)
+
+-- no word of a node is written
+abbrev pub no_node : List ℕ
+no_node = replicate 5 0
+
+-- the mark is claimed
+abbrev pub claimed_row : List ℕ
+claimed_row = row 1 1 (start_above 0) no_node 0
+
+-- it is linked, and not counted
+abbrev pub linked_row : List ℕ
+linked_row = row 1 1 (start_above 1) mark_node 0
+
+-- it is recorded by this worker
+abbrev pub recorded_row : ℕ → List ℕ
+recorded_row worker = row 2 1 (start_above 1) mark_node (record_word (placed_by worker 0 0 0 1280 1))
+
+-- ---- views
+
+-- the mark in hand at this stage, steered from the start, with this parent and this cost
+abbrev pub hand_at : Stage → ℕ → ℕ → Hand
+hand_at stage parent cost = record { mark = 0; stage = stage; nearest = 0; point = at 8 9; parent = parent; cost = cost }
+
+-- no steps
+abbrev pub never : List ℕ
+never = replicate 13 0
+
+abbrev pub view_with : List Member → ℕ → Option Hand → List ℕ → List ℕ → List Fill → View
+view_with crew most hand seen found_zero fills =
+    record {
+      run = small_run;
+      crew = crew;
+      most = most;
+      hand = hand;
+      seen = seen;
+      took = [];
+      steps = 3;
+      looked = never;
+      found_zero = found_zero;
+      fills = fills;
+    }
+
+abbrev pub worker_at : ℕ → ℕ → List Member
+worker_at worker turn = record { worker = worker; turn = turn } ∷ []
+
+-- worker 0 has the mark in hand, and made three steps
+abbrev pub handling : Hand → List ℕ → View
+handling hand seen = view_with (worker_at 0 0) 1 (Some hand) seen never []
+
+-- worker 1 has nothing in hand
+abbrev pub idle : List ℕ → View
+idle seen = view_with (worker_at 1 0) 0 None seen never []
+
+-- ---- worlds
+
+abbrev pub AreLawful : List ℕ → View → View → Type 0
+AreLawful items one other = IsWorld small_run (words_of_run small_run items) (one ∷ other ∷ [])
+
+-- the mark is claimed by worker 0; a world that both see as it is
+abbrev pub claimer : View
+claimer = handling (new_hand 0) claimed_row
+
+-- all is as it is but the words of the run, which both see
+abbrev pub AreLawfulWords : List ℕ → Type 0
+AreLawfulWords items = AreLawful items (handling (new_hand 0) items) (idle items)
+
+-- the hand of worker 0 holds this, and both see the words
+abbrev pub AreLawfulInHand : Hand → List ℕ → Type 0
+AreLawfulInHand hand items = AreLawful items (handling hand items) (idle items)
+
+-- worker 0 filled the place to the right of node 0 when the views had made so many steps
+abbrev pub filled_at : List ℕ → List Fill
+filled_at steps = record { place = 4; steps = steps } ∷ []
+
+-- the step that found this place empty
+abbrev pub found_right : ℕ → List ℕ
+found_right step = 0 ∷ 0 ∷ 0 ∷ 0 ∷ step ∷ replicate 8 0
+
+pub record UnlawfulWorldVectors : Type 0 where
+  -- marks
+  pub counter_above_quota : ¬ AreLawful claimed_row (view_with (worker_at 0 0) 0 (Some (new_hand 0)) claimed_row never []) (idle claimed_row)
+  pub in_two_hands : ¬ AreLawful claimed_row claimer (view_with (worker_at 1 0) 0 (Some (new_hand 0)) claimed_row never [])
+  pub in_no_hand : ¬ AreLawful claimed_row (view_with (worker_at 0 0) 1 None claimed_row never []) (idle claimed_row)
+  pub not_claimed : ¬ AreLawfulWords (row 1 0 (start_above 0) no_node 0)
+  pub limit_past_marks : ¬ AreLawful claimed_row claimer (view_with (worker_at 1 0) 2 None claimed_row never [])
+  pub record_not_packed : ¬ AreLawfulWords (row 1 1 (start_above 0) no_node 5)
+  pub recorded_in_hand : ¬ AreLawful (recorded_row 0) (handling (hand_at Counted 0 1280) (recorded_row 0)) (idle (recorded_row 0))
+  -- links
+  pub start_elsewhere : ¬ AreLawfulWords (row 1 1 (node_by (point_word (at 6 5)) 0 (tree_word 0 0) (tree_word 0 0)) no_node 0)
+  pub child_of_no_node : ¬ AreLawfulWords (row 1 1 (start_above 0) (node_by 0 2 0 0) 0)
+  pub linked_too_early : ¬ AreLawfulInHand (hand_at Treed 0 1280) linked_row
+  pub not_linked : ¬ AreLawfulInHand (hand_at Linked 0 1280) (row 1 1 (start_above 0) mark_node 0)
+  pub counted_too_early : ¬ AreLawfulInHand (hand_at Linked 0 1280) (row 2 1 (start_above 1) mark_node 0)
+  pub not_counted : ¬ AreLawfulInHand (hand_at Counted 0 1280) linked_row
+  -- the words of the node in hand
+  pub point_not_written : ¬ AreLawfulInHand (hand_at Pointed 0 0) claimed_row
+  pub point_elsewhere : ¬ AreLawfulInHand (hand_at Pointed 0 0) (row 1 1 (start_above 0) (node_by (point_word (at 9 8)) 0 0 0) 0)
+  pub point_too_early : ¬ AreLawfulWords (row 1 1 (start_above 0) (node_by (point_word (at 8 9)) 0 0 0) 0)
+  pub first_not_written : ¬ AreLawfulInHand (hand_at Half 0 1280) (row 1 1 (start_above 0) (node_by (point_word (at 8 9)) 0 0 0) 0)
+  pub first_too_early :
+      ¬ AreLawfulInHand (hand_at Pointed 0 0) (row 1 1 (start_above 0) (node_by (point_word (at 8 9)) 0 0 (tree_word 0 1280)) 0)
+  pub tree_not_written :
+      ¬ AreLawfulInHand (hand_at Treed 0 1280) (row 1 1 (start_above 0) (node_by (point_word (at 8 9)) 0 0 (tree_word 0 1280)) 0)
+  pub tree_too_early : ¬ AreLawfulInHand (hand_at Half 0 1280) (row 1 1 (start_above 0) mark_node 0)
+  pub cost_below_the_edge :
+      ¬ AreLawfulInHand (hand_at Half 0 1279) (row 1 1 (start_above 0) (node_by (point_word (at 8 9)) 0 0 (tree_word 0 1279)) 0)
+  pub cost_above_the_edge :
+      ¬ AreLawfulInHand (hand_at Half 0 1281) (row 1 1 (start_above 0) (node_by (point_word (at 8 9)) 0 0 (tree_word 0 1281)) 0)
+  pub below_itself :
+      ¬ AreLawfulInHand (hand_at Half 1 1280) (row 1 1 (start_above 0) (node_by (point_word (at 8 9)) 0 0 (tree_word 1 1280)) 0)
+  -- parents and costs
+  pub start_costs : ¬ AreLawfulWords (row 1 1 (node_by (point_word (at 5 5)) 0 (tree_word 0 5) (tree_word 0 0)) no_node 0)
+  pub start_below_another : ¬ AreLawfulWords (row 1 1 (node_by (point_word (at 5 5)) 0 (tree_word 1 0) (tree_word 0 0)) no_node 0)
+  pub other_bit_set : ¬ AreLawfulWords (row 1 1 (node_by (point_word (at 5 5)) 0 (tree_word 0 0 + 2 ^ 62) (tree_word 0 0)) no_node 0)
+  pub no_first_word_of_start : ¬ AreLawfulWords (row 1 1 (node_by (point_word (at 5 5)) 0 (tree_word 0 0) 0) no_node 0)
+  pub costs_less_than_its_edge :
+      ¬ AreLawfulInHand (hand_at Linked 0 1280)
+      (row 1 1 (start_above 1) (node_by (point_word (at 8 9)) 0 (tree_word 0 1279) (tree_word 0 1280)) 0)
+  pub costs_more_than_at_first :
+      ¬ AreLawfulInHand (hand_at Linked 0 1280)
+      (row 1 1 (start_above 1) (node_by (point_word (at 8 9)) 0 (tree_word 0 1281) (tree_word 0 1280)) 0)
+  -- turns and shares
+  pub turn_ahead : ¬ AreLawful claimed_row claimer (view_with (worker_at 1 1) 0 None claimed_row never [])
+  pub worker_twice : ¬ AreLawful claimed_row claimer (view_with (worker_at 0 0) 0 None claimed_row never [])
+  pub worker_of_no_run : ¬ AreLawful claimed_row claimer (view_with (worker_at 2 0) 0 None claimed_row never [])
+  pub share_lost : ¬ AreLawful claimed_row claimer (view_with [] 0 None claimed_row never [])
+  pub share_too_many : ¬ AreLawful claimed_row claimer (view_with (worker_at 1 0 ++ worker_at 2 0) 0 None claimed_row never [])
+  pub hand_without_share :
+      ¬ AreLawful claimed_row (view_with [] 1 (Some (new_hand 0)) claimed_row never [])
+      (view_with (worker_at 0 0 ++ worker_at 1 0) 1 None claimed_row never [])
+  -- what was seen
+  pub saw_a_greater_count : ¬ AreLawful claimed_row claimer (idle (row 2 1 (start_above 0) no_node 0))
+  pub saw_no_such_child : ¬ AreLawful claimed_row claimer (idle (row 1 1 (start_above 1) no_node 0))
+  pub saw_no_start : ¬ AreLawful claimed_row claimer (idle (row 1 1 (node_by 0 0 (tree_word 0 0) (tree_word 0 0)) no_node 0))
+  pub saw_start_at_a_cost :
+      ¬ AreLawful claimed_row claimer (idle (row 1 1 (node_by (point_word (at 5 5)) 0 (tree_word 0 5) (tree_word 0 0)) no_node 0))
+  pub took_more_than_it_sees : ¬ AreLawful claimed_row claimer (record (idle claimed_row) { took = row 1 2 (start_above 0) no_node 0 })
+  pub counter_seen_by_none :
+      ¬ AreLawful claimed_row (handling (new_hand 0) (row 1 0 (start_above 0) no_node 0)) (idle (row 1 0 (start_above 0) no_node 0))
+  pub looked_later : ¬ AreLawful claimed_row claimer (record (idle claimed_row) { looked = 4 ∷ replicate 12 0 })
+  pub found_zero_later : ¬ AreLawful claimed_row claimer (view_with (worker_at 1 0) 0 None claimed_row (found_right 4) [])
+  pub too_few_words : ¬ AreLawful claimed_row claimer (record (idle claimed_row) { looked = replicate 12 0 })
+  -- empty places, and records
+  pub found_empty_when_filled :
+      ¬ AreLawful linked_row (view_with (worker_at 0 0) 1 (Some (hand_at Linked 0 1280)) linked_row never (filled_at (3 ∷ 2 ∷ [])))
+      (view_with (worker_at 1 0) 0 None linked_row (found_right 3) [])
+  pub noted_too_many_steps :
+      ¬ AreLawful linked_row (view_with (worker_at 0 0) 1 (Some (hand_at Linked 0 1280)) linked_row never (filled_at (3 ∷ 4 ∷ [])))
+      (idle linked_row)
+  pub recorded_by_no_worker :
+      ¬ AreLawful (recorded_row 2) (view_with (worker_at 0 0) 1 None (recorded_row 2) never []) (idle (recorded_row 2))
