@@ -1,1 +1,2 @@
 pub mod SmallWorlds
+pub mod SmallViews

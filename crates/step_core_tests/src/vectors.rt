@@ -1,8 +1,34 @@
 //! Worked examples of the definitions, each the contract of a function that does nothing.
 
+ghost use Rattle.step_core_tests.specs.SmallViews.{AllowedStepVectors, LastViewVectors, LaterViewVectors, StepVectors, UnlawfulViewVectors};
 ghost use Rattle.step_core_tests.specs.SmallWorlds.{UnlawfulWorldVectors};
 
 /// Words of a run and views that are no lawful world, each for one thing.
 pub fn unlawful_worlds()
     ensures { UnlawfulWorldVectors }
+{}
+
+/// What a pass may load, steer to, hang, lower, link and record by what it has seen.
+pub fn allowed_steps()
+    ensures { AllowedStepVectors }
+{}
+
+/// What a load, a claim, a join and a split leave of a view, and the first view of a run.
+pub fn steps()
+    ensures { StepVectors }
+{}
+
+/// A later view, and views that are none.
+pub fn later_views()
+    ensures { LaterViewVectors }
+{}
+
+/// Views that are not lawful, each for one thing.
+pub fn unlawful_views()
+    ensures { UnlawfulViewVectors }
+{}
+
+/// Runs in which what a view has seen does not stand, each for one thing.
+pub fn last_views()
+    ensures { LastViewVectors }
 {}

@@ -1,0 +1,85 @@
+use Rattle.std.proofs.Common.{◌≡◌, ℕ, ◌<◌, ◌≤◌, ◌+◌, true, false, arith, refl, ap, inl, inr}
+use Rattle.std.specs.Prelude.{◌≢◌}
+use Rattle.plan_model.specs.Geometry.Roots.{root_ceiling}
+use Rattle.plan_model.specs.Runs.OrderLaw.{IsAllowedEdge}
+use Rattle.plan_model.specs.Seen.Ways.IsOnWay.{begins, goes_on}
+use Rattle.plan_model.specs.Vectors.Shapes.{at}
+use Rattle.plan_model.specs.declared.geometry.Point.{Point}
+use Rattle.plan_model.proofs.EmptyRoomClearance.{Clear-empty_room}
+use Rattle.plan_model.proofs.RootLaws.{root_ceiling-from_squares}
+use Rattle.step_core.specs.ViewTrees.{IsCostBelow, SeesCost}
+use Rattle.step_core.specs.Views.{setup_in}
+use Rattle.step_core.specs.WordPlaces.{word_at}
+use Rattle.step_core_tests.specs.SmallViews.{dearer_row}
+use Rattle.step_core_tests.specs.SmallWorlds.{claimed_row, hand_at, handling, idle, small_run}
+use Rattle.step_core_tests.proofs.vectors.allowed_steps.Goals as goal
+
+edge : root_ceiling 1638400 ≡ 1280
+edge = root_ceiling-from_squares 1638400 1280 (omega arith) (omega arith)
+
+other_row : (p q : Point) → p.y ≢ q.y → p ≢ q
+other_row p q apart e = apart (ap (λ (r : Point). r.y) e)
+
+allowed : IsAllowedEdge (setup_in small_run) (at 5 5) (at 8 9)
+allowed = record {
+  clear = Clear-empty_room (at 100 100) (at 5 5) (at 8 9) (record { horizontal = omega arith; vertical = omega arith })
+      (record { horizontal = omega arith; vertical = omega arith });
+  short = omega arith;
+}
+
+pub returns : goal.returns
+unfolding word_at
+returns c = record {
+  loads_the_count = tt;
+  loads_a_counter = omega arith;
+  loads_a_point = inr (0, true, refl);
+  loads_a_child = inr (0, true, refl);
+  loads_the_other_child = inr (0, true, refl);
+  loads_a_tree_word = inr (0, true, refl);
+  steers_to_the_mark = record { from = at 5 5; seen = refl; reached = refl };
+  hangs_below_the_start = record {
+    below = record {
+      from = at 5 5;
+      parent_cost = 0;
+      seen = record { stands = refl; written = omega arith; cost_is = refl };
+      edge = allowed;
+      cost_is = omega (arith, edge);
+    };
+    nearest_at = at 5 5;
+    nearest_cost = 0;
+    nearest = record { stands = refl; written = omega arith; cost_is = refl };
+    chosen = omega (arith, edge);
+  };
+  lowers_by_one = record {
+    at = at 8 9;
+    old_cost = 1281;
+    seen = record { stands = refl; written = omega arith; cost_is = refl };
+    below = record {
+      from = at 5 5;
+      parent_cost = 0;
+      seen = record { stands = refl; written = omega arith; cost_is = refl };
+      edge = allowed;
+      cost_is = omega (arith, edge);
+    };
+    cheaper = omega arith;
+  };
+  leads_to_the_right = record {
+    depth = 0;
+    at = at 5 5;
+    on_way = begins;
+    stands = refl;
+    apart = other_row (at 5 5) (at 8 9) (λ e. omega (arith, e));
+    side_is = refl;
+  };
+  leads_to_a_place_below = record {
+    depth = 1;
+    at = at 8 9;
+    on_way = goes_on 0 0 1 (at 5 5) begins refl (other_row (at 5 5) (at 5 9) (λ e. omega (arith, e))) refl;
+    stands = refl;
+    apart = λ e. (let x : 8 ≡ 5 = ap (λ (r : Point). r.x) e in omega (arith, x));
+    side_is = refl;
+  };
+  placed_when_counted = record { linked = refl; counted = refl };
+  blocked_when_claimed = record { linked = refl; counted = refl };
+  same_when_treed = record { linked = refl; counted = refl };
+}

@@ -1,0 +1,7 @@
+use Rattle.std.proofs.Common.{refl}
+use Rattle.step_core.specs.WordPlaces.{word_at}
+use Rattle.step_core_tests.proofs.vectors.steps.Goals as goal
+
+pub returns : goal.returns
+unfolding word_at
+returns c = record { load_of_a_child = refl; load_of_no_child = refl; claim = refl; join = refl; new_looker = refl; first_view = refl }
