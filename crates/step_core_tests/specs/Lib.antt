@@ -1,2 +1,3 @@
 pub mod SmallWorlds
 pub mod SmallViews
+pub mod SmallRecords

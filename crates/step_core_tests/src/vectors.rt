@@ -1,5 +1,6 @@
 //! Worked examples of the definitions, each the contract of a function that does nothing.
 
+ghost use Rattle.step_core_tests.specs.SmallRecords.{AllowedRecordVectors, FreePointVectors, LoweredCostVectors};
 ghost use Rattle.step_core_tests.specs.SmallViews.{AllowedStepVectors, LastViewVectors, LaterViewVectors, StepVectors, UnlawfulViewVectors};
 ghost use Rattle.step_core_tests.specs.SmallWorlds.{UnlawfulWorldVectors};
 
@@ -31,4 +32,19 @@ pub fn unlawful_views()
 /// Runs in which what a view has seen does not stand, each for one thing.
 pub fn last_views()
     ensures { LastViewVectors }
+{}
+
+/// Records of a placed mark, of a blocked one and of one at a node, which a pass may make by what it has seen.
+pub fn allowed_records()
+    ensures { AllowedRecordVectors }
+{}
+
+/// A node that costs less, and changes that are no such change, each for one thing.
+pub fn lowered_costs()
+    ensures { LoweredCostVectors }
+{}
+
+/// Points that were not free at any moment of a time.
+pub fn free_points()
+    ensures { FreePointVectors }
 {}
