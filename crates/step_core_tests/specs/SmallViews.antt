@@ -1,15 +1,14 @@
 -- What a pass may do by what it has seen, in the run of SmallWorlds; views that are not lawful or later, and runs that are not as was seen,
 -- for one thing each.
-use Rattle.std.specs.Prelude.{◌≡◌, ℕ, ◌+◌, ◌^◌, true, false, Some, None, List, [], ◌∷◌, ◌++◌, replicate}
+use Rattle.std.specs.Prelude.{◌≡◌, ℕ, ◌^◌, true, false, Some, None, List, [], ◌∷◌, ◌++◌, replicate}
 use Rattle.plan_model.specs.declared.records.Outcome.TheVariants.{Blocked, Placed, Same}
 use Rattle.plan_model.specs.Vectors.Overlaps.{placed_by}
 use Rattle.plan_model.specs.Vectors.Shapes.{at}
 use Rattle.step_core.specs.LastViews.{HasOrFell, StandsAsSeen}
 use Rattle.step_core.specs.LaterViews.{IsLater, IsLawfulView}
-use Rattle.step_core.specs.SeenRecords.{MayRecord}
 use Rattle.step_core.specs.SharedWords.{state_of_links}
 use Rattle.step_core.specs.Stages.{MayBeRecorded}
-use Rattle.step_core.specs.ViewSteps.{claimed, joined, loaded, looker, new_hand, worker_apart}
+use Rattle.step_core.specs.ViewSteps.{claimed, joined, loaded, looker, new_hand}
 use Rattle.step_core.specs.ViewStarts.{newcomer}
 use Rattle.step_core.specs.ViewTrees.{IsSteered, LeadsTo, MayHang, MayLoad, MayLower}
 use Rattle.step_core.specs.Views.{run_sizes, words_of_run}
@@ -17,8 +16,8 @@ use Rattle.step_core.specs.WordNames.Word.{ChildOf, Count, Counter, PointOf, Tre
 use Rattle.step_core.specs.Words.{point_word, record_word, tree_word}
 use Rattle.step_core.specs.declared.views.Stage.TheVariants.{Claimed, Counted, Half, Linked, Pointed, Treed}
 use Rattle.step_core.specs.declared.views.View.{View}
-use Rattle.step_core_tests.specs.SmallWorlds.{claimed_row, hand_at, handling, idle, linked_row, mark_node, never, no_node, node_by, recorded_row, row, small_run}
-use Rattle.step_core_tests.specs.SmallWorlds.{start_above, view_with, worker_at}
+use Rattle.step_core_tests.specs.SmallWorlds.{claimed_row, hand_at, handling, idle, linked_row, mark_node, never, no_node, node_by, recorded_row}
+use Rattle.step_core_tests.specs.SmallWorlds.{row, small_run, start_above, view_with, worker_at}
 
 -- ---- what a pass may do
 

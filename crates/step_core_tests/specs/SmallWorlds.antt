@@ -1,6 +1,5 @@
 -- Words of a small shared run with the views of two passes, and worlds that differ from a lawful one in one thing.
 use Rattle.std.specs.Prelude.{ℕ, ◌+◌, ◌^◌, Option, Some, None, List, [], ◌∷◌, ◌++◌, replicate}
-use Rattle.plan_model.specs.declared.records.Record.{Record}
 use Rattle.plan_model.specs.Spaces.EmptyRooms.{empty_room}
 use Rattle.plan_model.specs.Vectors.Overlaps.{placed_by}
 use Rattle.plan_model.specs.Vectors.Shapes.{at}
@@ -13,7 +12,7 @@ use Rattle.step_core.specs.declared.views.Hand.{Hand}
 use Rattle.step_core.specs.declared.views.Member.{Member}
 use Rattle.step_core.specs.declared.views.SharedRun.{SharedRun}
 use Rattle.step_core.specs.declared.views.Stage.{Stage}
-use Rattle.step_core.specs.declared.views.Stage.TheVariants.{Claimed, Counted, Half, Linked, Pointed, Treed}
+use Rattle.step_core.specs.declared.views.Stage.TheVariants.{Counted, Half, Linked, Pointed, Treed}
 use Rattle.step_core.specs.declared.views.View.{View}
 
 -- ---- the run
@@ -54,6 +53,10 @@ mark_node = node_by (point_word (at 8 9)) 0 (tree_word 0 1280) (tree_word 0 1280
 -- no word of a node is written
 abbrev pub no_node : List ℕ
 no_node = replicate 5 0
+
+-- nothing is claimed
+abbrev pub start_row : List ℕ
+start_row = row 1 0 (start_above 0) no_node 0
 
 -- the mark is claimed
 abbrev pub claimed_row : List ℕ

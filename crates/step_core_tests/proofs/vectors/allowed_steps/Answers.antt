@@ -1,4 +1,4 @@
-use Rattle.std.proofs.Common.{◌≡◌, ℕ, ◌<◌, ◌≤◌, ◌+◌, true, false, arith, refl, ap, inl, inr}
+use Rattle.std.proofs.Common.{◌≡◌, true, arith, refl, ap, inr}
 use Rattle.std.specs.Prelude.{◌≢◌}
 use Rattle.plan_model.specs.Geometry.Roots.{root_ceiling}
 use Rattle.plan_model.specs.Runs.OrderLaw.{IsAllowedEdge}
@@ -7,11 +7,9 @@ use Rattle.plan_model.specs.Vectors.Shapes.{at}
 use Rattle.plan_model.specs.declared.geometry.Point.{Point}
 use Rattle.plan_model.proofs.EmptyRoomClearance.{Clear-empty_room}
 use Rattle.plan_model.proofs.RootLaws.{root_ceiling-from_squares}
-use Rattle.step_core.specs.ViewTrees.{IsCostBelow, SeesCost}
 use Rattle.step_core.specs.Views.{setup_in}
 use Rattle.step_core.specs.WordPlaces.{word_at}
-use Rattle.step_core_tests.specs.SmallViews.{dearer_row}
-use Rattle.step_core_tests.specs.SmallWorlds.{claimed_row, hand_at, handling, idle, small_run}
+use Rattle.step_core_tests.specs.SmallWorlds.{small_run}
 use Rattle.step_core_tests.proofs.vectors.allowed_steps.Goals as goal
 
 edge : root_ceiling 1638400 ≡ 1280

@@ -13,7 +13,7 @@ use Rattle.step_core.specs.WordNames.Word.{ChildOf, Count, Counter}
 use Rattle.step_core.specs.WordPlaces.{word_at}
 use Rattle.step_core.specs.Words.{point_word, tree_word}
 use Rattle.step_core.specs.Worlds.{HasCopy, HasMade, IsRecordWord}
-use Rattle.step_core.specs.declared.views.Stage.TheVariants.{Counted, Half, Linked, Pointed, Treed}
+use Rattle.step_core.specs.declared.views.Stage.TheVariants.{Half, Linked, Pointed, Treed}
 use Rattle.step_core.specs.declared.views.View.{View}
 use Rattle.step_core_tests.specs.SmallWorlds.{filled_at, hand_at, idle, linked_row, never, small_run, view_with, worker_at}
 use Rattle.step_core_tests.proofs.vectors.unlawful_worlds.Goals as goal
@@ -103,6 +103,8 @@ returns c = record {
   found_zero_later = λ h. (let e : 4 ≤ 3 = (of_run _ refl (h.of_run 1 _ refl)).zero_looks (ChildOf 0 true) in omega (arith, e));
   too_few_words = λ h. (let e : 12 ≡ 13 = (of_run _ refl (h.of_run 1 _ refl)).looked in omega (arith, e));
   found_empty_when_filled = λ h. (let e : 3 ≤ 2 = h.empties.filled 0 true (λ zero. omega (arith, zero)) 1 _ refl in omega (arith, e));
-  noted_too_many_steps = λ h. made_four (view_with (worker_at 0 0) 1 (Some (hand_at Linked 0 1280)) linked_row never (filled_at (3 ∷ 4 ∷ []))) (idle linked_row) refl refl (h.empties.made 4 1);
+  noted_too_many_steps =
+      λ h. made_four (view_with (worker_at 0 0) 1 (Some (hand_at Linked 0 1280)) linked_row never (filled_at (3 ∷ 4 ∷ []))) (idle linked_row)
+      refl refl (h.empties.made 4 1);
   recorded_by_no_worker = λ h. (let e : 2 < 2 = h.records.own_workers 0 (placed_by 2 0 0 0 1280 1) refl (omega arith) in omega (arith, e));
 }
