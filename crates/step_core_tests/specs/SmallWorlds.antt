@@ -131,6 +131,9 @@ filled_at steps = record { place = 4; steps = steps } ∷ []
 abbrev pub found_right : ℕ → List ℕ
 found_right step = 0 ∷ 0 ∷ 0 ∷ 0 ∷ step ∷ replicate 8 0
 
+pub record LawfulWorldVectors : Type 0 where
+  pub nothing_claimed : AreLawful start_row (view_with (worker_at 0 0) 0 None start_row never []) (idle start_row)
+
 pub record UnlawfulWorldVectors : Type 0 where
   -- marks
   pub counter_above_quota : ¬ AreLawful claimed_row (view_with (worker_at 0 0) 0 (Some (new_hand 0)) claimed_row never []) (idle claimed_row)

@@ -2,7 +2,12 @@
 
 ghost use Rattle.step_core_tests.specs.SmallRecords.{AllowedRecordVectors, FreePointVectors, LoweredCostVectors};
 ghost use Rattle.step_core_tests.specs.SmallViews.{AllowedStepVectors, LastViewVectors, LaterViewVectors, StepVectors, UnlawfulViewVectors};
-ghost use Rattle.step_core_tests.specs.SmallWorlds.{UnlawfulWorldVectors};
+ghost use Rattle.step_core_tests.specs.SmallWorlds.{LawfulWorldVectors, UnlawfulWorldVectors};
+
+/// Words of a run and two views that are a lawful world.
+pub fn lawful_worlds()
+    ensures { LawfulWorldVectors }
+{}
 
 /// Words of a run and views that are no lawful world, each for one thing.
 pub fn unlawful_worlds()
