@@ -103,7 +103,7 @@ pub record UnlawfulViewVectors : Type 0 where
   pub no_such_mark : ¬ IsLawfulView (handling (new_hand 1) claimed_row)
   pub no_such_worker : ¬ IsLawfulView (view_with (worker_at 2 0) 0 None claimed_row never [])
   -- worker 0 has seen its record of the only mark, and has another in hand
-  pub no_turn_left : ¬ IsLawfulView (view_with (worker_at 0 1) 1 (Some (new_hand 0)) (recorded_row 0) never [])
+  pub no_turn_left : ¬ IsLawfulView (view_with (worker_at 0 1) 1 (Some (hand_at Linked 0 1280)) (recorded_row 0) never [])
   pub turn_not_seen : ¬ IsLawfulView (view_with (worker_at 0 1) 0 None claimed_row never [])
   pub turn_of_another : ¬ IsLawfulView (view_with (worker_at 1 1) 0 None (recorded_row 0) never [])
   pub took_more_than_it_sees : ¬ IsLawfulView (record (idle claimed_row) { took = linked_row })
@@ -122,7 +122,7 @@ pub record UnlawfulViewVectors : Type 0 where
   -- its hand
   pub not_steered_there : ¬ IsLawfulView (handling (record (hand_at Pointed 0 0) { point = at 9 8 }) claimed_row)
   pub steered_from_itself : ¬ IsLawfulView (handling (record (hand_at Linked 0 1280) { nearest = 1 }) linked_row)
-  pub linked_not_seen : ¬ IsLawfulView (handling (hand_at Linked 0 1280) claimed_row)
+  pub linked_not_seen : ¬ IsLawfulView (handling (hand_at Linked 0 1280) (row 1 1 (start_above 0) (node_by 0 0 0 (tree_word 0 1280)) 0))
   pub linked_without_first_word :
       ¬ IsLawfulView (handling (hand_at Linked 0 1280) (row 1 1 (start_above 1) (node_by (point_word (at 8 9)) 0 (tree_word 0 1280) 0) 0))
   pub seen_before_it_is_linked : ¬ IsLawfulView (handling (hand_at Treed 0 1280) linked_row)

@@ -32,7 +32,7 @@ returns c = record {
   hand_without_share = λ h. (let e : Some (new_hand 0) ≡ None = h.idle refl in cc);
   no_such_mark = λ h. (let e : 1 < 1 = h.mark (new_hand 1) refl in omega (arith, e));
   no_such_worker = λ h. (let e : 2 < 2 = h.worker 0 _ refl in omega (arith, e));
-  no_turn_left = λ h. (let e : 1 < 1 = h.turn (new_hand 0) 0 _ refl refl in omega (arith, e));
+  no_turn_left = λ h. (let e : 1 < 1 = h.turn (hand_at Linked 0 1280) 0 _ refl refl in omega (arith, e));
   turn_not_seen = λ h. (let e : 1 ≡ 0 = h.own_turn 0 _ refl in omega (arith, e));
   turn_of_another = λ h. (let e : 1 ≡ 0 = h.own_turn 0 _ refl in omega (arith, e));
   took_more_than_it_sees = λ h. neither 1 0 (λ e. omega (arith, e)) (h.took (ChildOf 0 true));
