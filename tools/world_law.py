@@ -61,7 +61,7 @@ def of_run(run, words, views, tree):
             yield "looks"
 
 
-def numbers(run, words, views, tree):
+def claimed_marks(run, words, views, tree):
     """Claimed marks are recorded or in one hand, once, and no others."""
     most = max((view.most for view in views if view.crew), default=0)
     if any(words[run.counter(g)] > quota(run.strips, g, most) for g in range(run.strips)):
@@ -108,7 +108,7 @@ def turns(run, words, views, tree):
 def shares(run, words, views, tree):
     """The shares add up to the number of workers, and a view without one has nothing in hand."""
     if sum(len(view.crew) for view in views) != run.workers:
-        yield "whole"
+        yield "add_up"
     if any(not view.crew and view.hand for view in views):
         yield "idle"
 
@@ -116,7 +116,7 @@ def shares(run, words, views, tree):
 # ---- what was seen
 
 
-def seen(run, words, views, tree):
+def seen_behind(run, words, views, tree):
     """What was seen may become what the words are."""
     if any(0 < words[place] < WRITTEN for place in run.tree_places):
         yield "pairs"
@@ -128,7 +128,7 @@ def seen(run, words, views, tree):
         if len(view.took) == run.size and not keep(run, ("behind", view.took, table), lambda: are_behind(run, view.took, table)):
             yield "took"
         if any(0 < table[place] < WRITTEN for place in run.tree_places):
-            yield "whole"
+            yield "pairs_seen"
         for place in run.tree_places:
             if table[place] >= WRITTEN and at_cost.setdefault((place, cost_in(table[place])), table[place]) != table[place]:
                 yield "agree"
@@ -142,7 +142,7 @@ def is_rooted(tree):
     return tree.points[0] is not None and all(n in found for n in chain(parents, tree.present, pairs))
 
 
-def sights(run, words, views, tree):
+def trees_seen(run, words, views, tree):
     """A view sees its tree from node 0 on, the nodes of placed records, and what its hand came from."""
     for view in live(run, views):
         yield from keep(run, ("sights", view.seen, view.hand), lambda: list(sights_of(run, view)))
@@ -224,7 +224,7 @@ def follows_ways(tree):
         yield "ways.empty"
 
 
-def links(run, words, views, tree):
+def linked_tree(run, words, views, tree):
     """Linked are the nodes of placed marks, and those that a hand has linked; counted are those that are placed or counted."""
     if words[run.point(0)] != point_word(run.start):
         yield "start"
@@ -404,7 +404,9 @@ def records(run, words, views, tree):
 
 # ---- the law
 
-PARTS = (of_run, numbers, turns, shares, seen, links, trees, hands, pairs, seen_pairs, records, sights, copies, empties)
+PARTS = (
+    of_run, claimed_marks, turns, shares, linked_tree, hands, trees, pairs, records, seen_pairs, trees_seen, seen_behind, copies, empties,
+)
 
 
 def broken_parts(world):

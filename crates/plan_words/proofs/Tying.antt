@@ -150,7 +150,7 @@ IsLawfulView-stepped view lawful = record {
   pairs = λ n written. IsSeenPair-again view (stepped view) n refl (lawful.pairs n written);
   count = lawful.count;
   counter = lawful.counter;
-  whole = lawful.whole;
+  order = lawful.order;
 }
 
 -- a split leaves the pass as it is, one step later
@@ -187,7 +187,7 @@ IsLawfulView-looker view lawful = record {
   pairs = λ n written. IsSeenPair-again view (looker view) n refl (lawful.pairs n written);
   count = lawful.count;
   counter = lawful.counter;
-  whole = λ all. absurd (omega (arith, all, lawful.run.workers.0));
+  order = λ all. absurd (omega (arith, all, lawful.run.workers.0));
 }
 
 pub IsTied-looker : (view : View) → IsLawfulView view → IsTied (looker view) None None
@@ -251,7 +251,7 @@ IsTied-parted view member hand tied =
         pairs = λ n written. IsSeenPair-again view (parted view) n refl (lawful.pairs n written);
         count = lawful.count;
         counter = lawful.counter;
-        whole = λ all. lawful.whole (omega (arith, all, fewer_left view.crew, lawful.crew));
+        order = λ all. lawful.order (omega (arith, all, fewer_left view.crew, lawful.crew));
       };
     }
 
@@ -287,6 +287,6 @@ IsTied-apart view member lawful second = record {
     pairs = λ n written. IsSeenPair-again view (worker_apart view) n refl (lawful.pairs n written);
     count = lawful.count;
     counter = lawful.counter;
-    whole = λ all. absurd (omega (arith, all, ap (λ l. length l) second, two_at_least view.crew member second, lawful.crew));
+    order = λ all. absurd (omega (arith, all, ap (λ l. length l) second, two_at_least view.crew member second, lawful.crew));
   };
 }

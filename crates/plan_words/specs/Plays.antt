@@ -29,7 +29,7 @@ pub record Tells (before : Me Aim View) (view : View) (after : Me Aim View) : Ty
 abbrev pub TellsHand : Me Aim View → (Hand → View) → Me Aim View → Type 0
 TellsHand before view after = (hand : Hand) → before.0.hand ≡ Some hand → Tells before (view hand) after
 
--- ---- loads
+-- ---- what a step finds
 
 -- if the word is the point of a seen node, it was found written
 abbrev pub FindsPoint : View → ℕ → ℕ → Type 0
@@ -53,16 +53,7 @@ FindsWholeCount view place found =
     HasWholeShare view → ((hand : Hand) → view.hand ≡ Some hand → hand.stage ≢ Linked) → place ≡ place_in view Count
     → found ≡ node_count (tree_seen view).points
 
--- the view sees the word as it was found
-pub record Loads (step : Step Aim) (before : Me Aim View) (found : ℕ) (after : Me Aim View) : Type 0 where
-  pub told : Tells before (saw_at before.0 step.word found found) after
-  pub point : FindsPoint before.0 step.word found
-  pub tree : FindsTree before.0 step.word found
-  pub count : FindsCount before.0 step.word found
-  pub whole : FindsAsSeen before.0 step.word found
-  pub whole_count : FindsWholeCount before.0 step.word found
-
--- ---- claims and records
+-- ---- claims and loads
 
 -- what a claim asked for
 abbrev pub aim_of : Option Aim → Aim
@@ -76,11 +67,16 @@ pub record Claims (step : Step Aim) (before : Me Aim View) (found : ℕ) (after 
       after
   pub whole : FindsAsSeen before.0 step.word found
 
--- the record is stored, and the hand is empty
-abbrev pub Finishes : Step Aim → Me Aim View → ℕ → Me Aim View → Type 0
-Finishes step before found after = Tells before (finished_at before.0 step.word step.first) after
+-- the view sees the word as it was found
+pub record Loads (step : Step Aim) (before : Me Aim View) (found : ℕ) (after : Me Aim View) : Type 0 where
+  pub told : Tells before (saw_at before.0 step.word found found) after
+  pub point : FindsPoint before.0 step.word found
+  pub tree : FindsTree before.0 step.word found
+  pub count : FindsCount before.0 step.word found
+  pub whole : FindsAsSeen before.0 step.word found
+  pub whole_count : FindsWholeCount before.0 step.word found
 
--- ---- nodes
+-- ---- the node in hand
 
 -- the point p of the node in hand is written, steered from node m
 abbrev pub WritesPoint : ℕ → Point → Step Aim → Me Aim View → ℕ → Me Aim View → Type 0
@@ -94,12 +90,6 @@ WritesFirst step before found after = TellsHand before (λ hand. half before.0 h
 abbrev pub WritesTree : Step Aim → Me Aim View → ℕ → Me Aim View → Type 0
 WritesTree step before found after = TellsHand before (λ hand. treed before.0 hand) after
 
--- a tree word that was as it was seen last gave way to another, or was found otherwise, of a lower cost
-pub record Lowers (step : Step Aim) (before : Me Aim View) (found : ℕ) (after : Me Aim View) : Type 0 where
-  pub told : Tells before (saw_at before.0 step.word found (if found == step.first then step.second else found)) after
-  pub fell : found ≢ step.first → FindsLess step.first found
-  pub whole : HasWholeShare before.0 → found ≡ step.first
-
 -- The node in hand is linked, or a child was found there. Which steps the view notes by a link no view before tells.
 pub record Links (step : Step Aim) (before : Me Aim View) (found : ℕ) (after : Me Aim View) : Type 0 where
   pub told : TellsHand before
@@ -109,3 +99,15 @@ pub record Links (step : Step Aim) (before : Me Aim View) (found : ℕ) (after :
 -- the node in hand is counted
 abbrev pub Counts : Step Aim → Me Aim View → ℕ → Me Aim View → Type 0
 Counts step before found after = TellsHand before (λ hand. counted before.0 hand) after
+
+-- ---- costs and records
+
+-- a tree word that was as it was seen last gave way to another, or was found otherwise, of a lower cost
+pub record Lowers (step : Step Aim) (before : Me Aim View) (found : ℕ) (after : Me Aim View) : Type 0 where
+  pub told : Tells before (saw_at before.0 step.word found (if found == step.first then step.second else found)) after
+  pub fell : found ≢ step.first → FindsLess step.first found
+  pub whole : HasWholeShare before.0 → found ≡ step.first
+
+-- the record is stored, and the hand is empty
+abbrev pub Finishes : Step Aim → Me Aim View → ℕ → Me Aim View → Type 0
+Finishes step before found after = Tells before (finished_at before.0 step.word step.first) after

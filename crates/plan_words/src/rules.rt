@@ -16,15 +16,6 @@ impl TableRule<Aim, View, Opening> for WorldLaw {
     ghost first = { first_view };
 }
 
-/// A load.
-pub(crate) struct Load;
-
-impl Play<Aim, View> for Load {
-    ghost use Rattle.plan_words.specs.Plays.{Loads};
-
-    ghost then = { Loads };
-}
-
 /// An exchange of a counter.
 pub(crate) struct Claim;
 
@@ -34,13 +25,13 @@ impl Play<Aim, View> for Claim {
     ghost then = { Claims };
 }
 
-/// A store of a record.
-pub(crate) struct Finish;
+/// A load.
+pub(crate) struct Load;
 
-impl Play<Aim, View> for Finish {
-    ghost use Rattle.plan_words.specs.Plays.{Finishes};
+impl Play<Aim, View> for Load {
+    ghost use Rattle.plan_words.specs.Plays.{Loads};
 
-    ghost then = { Finishes };
+    ghost then = { Loads };
 }
 
 /// A point of a node in hand, and the node that it is steered from, which no word tells.
@@ -89,15 +80,6 @@ impl Play<Aim, View> for WriteTree {
     ghost then = { WritesTree };
 }
 
-/// An exchange of a tree word for one of lower cost.
-pub(crate) struct Lower;
-
-impl Play<Aim, View> for Lower {
-    ghost use Rattle.plan_words.specs.Plays.{Lowers};
-
-    ghost then = { Lowers };
-}
-
 /// An exchange of an empty child word.
 pub(crate) struct Link;
 
@@ -114,6 +96,24 @@ impl Play<Aim, View> for Count {
     ghost use Rattle.plan_words.specs.Plays.{Counts};
 
     ghost then = { Counts };
+}
+
+/// An exchange of a tree word for one of lower cost.
+pub(crate) struct Lower;
+
+impl Play<Aim, View> for Lower {
+    ghost use Rattle.plan_words.specs.Plays.{Lowers};
+
+    ghost then = { Lowers };
+}
+
+/// A store of a record.
+pub(crate) struct Finish;
+
+impl Play<Aim, View> for Finish {
+    ghost use Rattle.plan_words.specs.Plays.{Finishes};
+
+    ghost then = { Finishes };
 }
 
 /// A split that gives the second worker a seat of its own.

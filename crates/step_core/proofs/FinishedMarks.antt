@@ -41,11 +41,11 @@ use Rattle.step_core.proofs.WordKinds.{AreBehind-trans}
 use Rattle.step_core.proofs.WorldEmpties.{Empties-kept, last_zero-saw}
 use Rattle.step_core.proofs.WorldHands.{Hands-recorded}
 use Rattle.step_core.proofs.WorldCopies.{Copies-seen}
-use Rattle.step_core.proofs.WorldLinks.{KeepsLinks, Links-recorded}
+use Rattle.step_core.proofs.WorldLinks.{KeepsLinks, LinkedTree-recorded}
 use Rattle.step_core.proofs.WorldPairs.{Pairs-recorded}
-use Rattle.step_core.proofs.WorldParts.{Numbers-step, record_word-none, Seen-step, Shares-step, limit_of-up, of_run-step, quotas-kept}
+use Rattle.step_core.proofs.WorldParts.{ClaimedMarks-step, record_word-none, SeenBehind-step, Shares-step, limit_of-up, of_run-step, quotas-kept}
 use Rattle.step_core.proofs.WorldSeenPairs.{AreSeenLawfully-own, SeenPairs-set}
-use Rattle.step_core.proofs.WorldSteps.{Sights-set, live, tree}
+use Rattle.step_core.proofs.WorldSteps.{TreesSeen-set, live, tree}
 use Rattle.step_core.proofs.WholeShares.{worker-below}
 use Rattle.step_core.proofs.WorldRecords.{Records-recorded}
 use Rattle.step_core.proofs.WorldTrees.{Trees-kept}
@@ -123,11 +123,11 @@ module _ (run : SharedRun) (words after : Words) (views : List View) (id : ℕ) 
       let saw_it = WritesWord-saw run view of_run (RecordOf k) here x x in
       let behind = AreBehind-trans (sees view) words after (world.seen.behind id view at) go in
       let seen = AreBehind-seen (RecordOf k) x (sees view) (sees then) after saw_it writes.here behind in
-      let numbers = Numbers-step run words after views id view then at world.numbers
+      let numbers = ClaimedMarks-step run words after views id view then at world.numbers
       (quotas-kept run words after views (set views id then) world.numbers (λ g within. writes.others (Counter g) (λ e. cc))
       (greatest-set limit_of views id view then at (limit_of-up view then same_share (le_refl view.most))))
       balance (world.numbers.limits id view at) packed in
-      let links = Links-recorded run words after views id view then at world.numbers world.links hand held x placed reads linked counted writes refl in
+      let links = LinkedTree-recorded run words after views id view then at world.numbers world.links hand held x placed reads linked counted writes refl in
       let grows = GrowsInto-behind run words after views (set views id then) world.numbers world.links numbers links world.trees go in
       let trees = Trees-kept run words after views (set views id then) world.numbers world.links numbers links world.trees go record {
         links = record { children = λ n side. writes.others (ChildOf n side) (λ e. cc); points = λ n h. writes.others (PointOf n) (λ e. cc) };
@@ -140,10 +140,10 @@ module _ (run : SharedRun) (words after : Words) (views : List View) (id : ℕ) 
         numbers = numbers;
         turns = Turns-finished run words after views id view member crew k x world.turns at crew_is mark.low mark.absent writes written worker turn saw_it;
         shares = Shares-step run words after views id view then at world.shares same_share (λ none. refl);
-        seen = Seen-step words after views id view then at world.seen go
+        seen = SeenBehind-step words after views id view then at world.seen go
             (AreBehind-saw (RecordOf k) x (sees view) (sees then) after saw_it writes.here behind)
             (AreBehind-trans _ (sees view) (sees then) (world.seen.took id view at) seen) pairs
-            (HaveWholePairs-saw (RecordOf k) x (sees view) (sees then) after saw_it writes.here behind (world.seen.whole id view at) pairs)
+            (HaveWholePairs-saw (RecordOf k) x (sees view) (sees then) after saw_it writes.here behind (world.seen.pairs_seen id view at) pairs)
             (IsFair-saw (RecordOf k) x (sees view) (sees then) after saw_it writes.here behind);
         links = links;
         trees = trees;
@@ -155,7 +155,7 @@ module _ (run : SharedRun) (words after : Words) (views : List View) (id : ℕ) 
             (AreBehind-saw (RecordOf k) x (sees view) (sees then) after saw_it writes.here behind) tree_then
             (IsFair-saw (RecordOf k) x (sees view) (sees then) after saw_it writes.here behind));
         records = records_then grows;
-        sights = Sights-set run words views id view world at own then (λ of. tree_then);
+        sights = TreesSeen-set run words views id view world at own then (λ of. tree_then);
         copies = Copies-seen run words after views id view then at own world.copies seen
             (AreBehind-saw (RecordOf k) x (sees view) (sees then) after saw_it writes.here behind) (λ part. omega (arith, part, same_share))
             (RecordOf k) x writes

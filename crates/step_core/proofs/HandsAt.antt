@@ -11,7 +11,7 @@ use Rattle.step_core.specs.Stages.{holds_at}
 use Rattle.step_core.specs.ViewSteps.{new_hand}
 use Rattle.step_core.specs.Views.{holds}
 use Rattle.step_core.specs.WordNames.{Words}
-use Rattle.step_core.specs.Worlds.{Numbers, counters, hands_at, holders, is_recorded}
+use Rattle.step_core.specs.Worlds.{ClaimedMarks, counters, hands_at, holders, is_recorded}
 use Rattle.step_core.specs.declared.views.Hand.{Hand}
 use Rattle.step_core.specs.declared.views.SharedRun.{SharedRun}
 use Rattle.step_core.specs.declared.views.Stage.{Stage}
@@ -69,7 +69,7 @@ hands_at-most test k (view ∷ views) =
       sum_by-cons (λ u. once_if (holds k u.hand)) view views,
     )
 
-module _ (run : SharedRun) (words : Words) (views : List View) (numbers : Numbers run words views) where
+module _ (run : SharedRun) (words : Words) (views : List View) (numbers : ClaimedMarks run words views) where
   -- a mark is in one hand at most, and then it is not recorded
   pub holders-most : (k : ℕ) → once_if (is_recorded words k) + holders k views ≤ 1
   holders-most k = omega (arith, numbers.each_once k, once_if-most (is_claimed run.strips (counters words) k))

@@ -196,7 +196,7 @@ module _ (run : SharedRun) (words : Words) (views : List View) (id : ℕ) (view 
     run = subst IsSharedRun (sym own) world.run_is;
     of_run = subst (λ r. IsViewOf r view) (sym own) of_run;
     most = subst (λ r. view.most ≤ length r.marks) (sym own) (world.numbers.limits id view at);
-    crew = omega (arith, sum-one share views id view at, here.shares.whole);
+    crew = omega (arith, sum-one share views id view at, here.shares.add_up);
     idle = world.shares.idle id view at;
     mark = λ hand held. subst (λ r. hand.mark < length r.marks) (sym own) (in_hand run words views id view world at hand held).low;
     worker = λ i member e. subst (λ r. member.worker < r.workers) (sym own) (worker-below run words views id view world at i member e);
@@ -222,7 +222,7 @@ module _ (run : SharedRun) (words : Words) (views : List View) (id : ℕ) (view 
         (le_trans (world.seen.behind id view at Count) (count-most run words views world.numbers world.links));
     counter = λ g strip. subst (λ r. sees view (Counter g) ≤ length r.marks) (sym own)
         (counter_within g (subst (λ r. g < r.strips) own strip));
-    whole = λ all. KeepsOrder-whole view.run words views id view here at all;
+    order = λ all. KeepsOrder-whole view.run words views id view here at all;
   }
     where
       sees_tree : SeesTree view

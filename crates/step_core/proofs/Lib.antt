@@ -41,6 +41,7 @@ pub mod WorldRecords
 pub mod LawfulRecords
 pub mod LawfulSights
 pub mod LaterSteps
+pub mod SteppedWorlds
 pub mod SeenTreesOfViews
 pub mod SeenTreesTogether
 pub mod SeenTreesAtStart

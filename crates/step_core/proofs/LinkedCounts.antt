@@ -16,7 +16,7 @@ use Rattle.step_core.specs.Stages.{has_count, has_link, holds_at}
 use Rattle.step_core.specs.Views.{run_sizes}
 use Rattle.step_core.specs.WordNames.{Words}
 use Rattle.step_core.specs.WordNames.Word.{Count}
-use Rattle.step_core.specs.Worlds.{Links, Trees, counted_once, hands_at}
+use Rattle.step_core.specs.Worlds.{LinkedTree, Trees, counted_once, hands_at}
 use Rattle.step_core.specs.declared.views.Hand.{Hand}
 use Rattle.step_core.specs.declared.views.SharedRun.{SharedRun}
 use Rattle.step_core.specs.declared.views.Stage.{Stage}
@@ -63,7 +63,7 @@ hands-counted k (view ∷ views) =
 
 -- ---- nodes
 
-module _ (run : SharedRun) (words : Words) (views : List View) (links : Links run words views) (trees : Trees run words) where
+module _ (run : SharedRun) (words : Words) (views : List View) (links : LinkedTree run words views) (trees : Trees run words) where
   -- a linked node is present
   pub present-linked : (n : ℕ) → is_linked (run_sizes run) words n ≡ true → IsPresent (linked_points (run_sizes run) words) n
   present-linked zero linked = IsPresent-stands (linked_points (run_sizes run) words) 0 run.start trees.order.start_stands

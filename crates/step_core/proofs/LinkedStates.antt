@@ -20,7 +20,7 @@ use Rattle.step_core.specs.WordNames.{Words}
 use Rattle.step_core.specs.WordNames.Word.{ChildOf, FirstOf, PointOf, RecordOf, TreeOf}
 use Rattle.step_core.specs.WordPlaces.{Sizes}
 use Rattle.step_core.specs.Words.{cost_in, fourth_in, outcome_in, parent_in, point_of_word, record_in, record_of_word, tree_word}
-use Rattle.step_core.specs.Worlds.{Links, Numbers, Trees, is_recorded, state_in}
+use Rattle.step_core.specs.Worlds.{LinkedTree, ClaimedMarks, Trees, is_recorded, state_in}
 use Rattle.step_core.specs.declared.views.SharedRun.{SharedRun}
 use Rattle.step_core.specs.declared.views.View.{View}
 use Rattle.step_core.proofs.HandsAt.{hands_at-most, holders-most}
@@ -57,7 +57,7 @@ module _ (sizes : Sizes) (words : Words) where
 
 -- a number that is not linked has no child
 pub unlinked-childless :
-    (run : SharedRun) (words : Words) (views : List View) → Links run words views → (n : ℕ) → is_linked (run_sizes run) words n ≡ false → (side : Bool)
+    (run : SharedRun) (words : Words) (views : List View) → LinkedTree run words views → (n : ℕ) → is_linked (run_sizes run) words n ≡ false → (side : Bool)
     → words (ChildOf n side) ≡ 0
 unlinked-childless run words views links n unlinked side =
     no_child (words (ChildOf n side))
@@ -112,7 +112,7 @@ pub record-written : (word first : ℕ) (entry : Record) → record_of_word word
 record-written zero first entry e = cc
 record-written (suc n) first entry e = omega arith
 
-module _ (run : SharedRun) (words : Words) (views : List View) (numbers : Numbers run words views) (links : Links run words views) where
+module _ (run : SharedRun) (words : Words) (views : List View) (numbers : ClaimedMarks run words views) (links : LinkedTree run words views) where
   -- the node of a mark that is recorded as placed is linked
   pub placed-linked : (k : ℕ) → has_node words (suc k) ≡ true → is_linked (run_sizes run) words (suc k) ≡ true
   placed-linked k placed = once_if-true (is_linked (run_sizes run) words (suc k)) (omega (arith, links.linked k, ap once_if placed))
@@ -145,8 +145,8 @@ module _ (run : SharedRun) (words : Words) (views : List View) (numbers : Number
 
 -- ---- the words go on
 
-module _ (run : SharedRun) (before after : Words) (views later : List View) (numbers : Numbers run before views) (links : Links run before views)
-    (numbers_then : Numbers run after later) (links_then : Links run after later) (trees : Trees run before) (go : AreBehind before after) where
+module _ (run : SharedRun) (before after : Words) (views later : List View) (numbers : ClaimedMarks run before views) (links : LinkedTree run before views)
+    (numbers_then : ClaimedMarks run after later) (links_then : LinkedTree run after later) (trees : Trees run before) (go : AreBehind before after) where
   abbrev sizes : Sizes
   sizes = run_sizes run
 

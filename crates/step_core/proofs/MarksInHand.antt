@@ -15,7 +15,7 @@ use Rattle.step_core.specs.GrownWords.{record_at}
 use Rattle.step_core.specs.Views.{holds, share}
 use Rattle.step_core.specs.WordNames.{Words}
 use Rattle.step_core.specs.WordNames.Word.{Counter}
-use Rattle.step_core.specs.Worlds.{Numbers, counters, greatest_limit, holders, is_recorded, limit_of}
+use Rattle.step_core.specs.Worlds.{ClaimedMarks, counters, greatest_limit, holders, is_recorded, limit_of}
 use Rattle.step_core.specs.declared.views.SharedRun.{SharedRun}
 use Rattle.step_core.specs.declared.views.View.{View}
 use Rattle.step_core.proofs.ViewLists.{greatest-most, sum-one}
@@ -70,7 +70,7 @@ limit_of-most view = by_test (share view == 0)
     by_test true = omega arith
     by_test false = omega arith
 
-module _ (run : SharedRun) (words : Words) (views : List View) (some_strip : 0 < run.strips) (numbers : Numbers run words views) where
+module _ (run : SharedRun) (words : Words) (views : List View) (some_strip : 0 < run.strips) (numbers : ClaimedMarks run words views) where
   pub greatest_limit-most : greatest_limit views ≤ length run.marks
   greatest_limit-most = greatest-most limit_of views (length run.marks) (λ i view e. omega (arith, limit_of-most view, numbers.limits i view e))
 

@@ -57,7 +57,7 @@ module _ (run : SharedRun) (words : Words) (views : List View) (id : ℕ) (view 
   module _ (whole : share view ≡ run.workers) where
     -- no other view has a share,
     pub others_shareless : (i : ℕ) (u : View) → i ≢ id → get_elem? views i ≡ some u → share u ≡ 0
-    others_shareless i u apart e = omega (arith, sum-two share views i id u view apart e at, world.shares.whole, whole)
+    others_shareless i u apart e = omega (arith, sum-two share views i id u view apart e at, world.shares.add_up, whole)
 
     -- and so none has a mark in hand
     pub others_idle : (i : ℕ) (u : View) → i ≢ id → get_elem? views i ≡ some u → u.hand ≡ None

@@ -10,7 +10,7 @@ use Rattle.step_core.specs.Views.{holds}
 use Rattle.step_core.specs.WordNames.{Words, WritesWord}
 use Rattle.step_core.specs.WordNames.Word.{PointOf}
 use Rattle.step_core.specs.Words.{point_word}
-use Rattle.step_core.specs.Worlds.{EachView, Hands, Numbers, hands_at, is_recorded}
+use Rattle.step_core.specs.Worlds.{EachView, Hands, ClaimedMarks, hands_at, is_recorded}
 use Rattle.step_core.specs.declared.views.Hand.{Hand}
 use Rattle.step_core.specs.declared.views.SharedRun.{SharedRun}
 use Rattle.step_core.specs.declared.views.View.{View}
@@ -68,7 +68,7 @@ module _ (before after : Words) (views : List View) (id : ℕ) (view then : View
   }
 
   -- the point of the node in hand
-  module _ (run : SharedRun) (numbers : Numbers run before views) (hand : Hand) (held : view.hand ≡ Some hand) where
+  module _ (run : SharedRun) (numbers : ClaimedMarks run before views) (hand : Hand) (held : view.hand ≡ Some hand) where
     -- nobody else has the mark in hand
     held_alone : (i : ℕ) (other : View) (own : Hand) → i ≢ id → get_elem? views i ≡ some other → other.hand ≡ Some own → own.mark ≢ hand.mark
     held_alone i other own apart e has same =

@@ -30,7 +30,7 @@ use Rattle.step_core.proofs.SeenTreesTogether.{SeesTree-joined}
 use Rattle.step_core.proofs.WorldCopies.{same-later}
 use Rattle.step_core.proofs.WorldEmpties.{Empties-joined, zero-read}
 use Rattle.step_core.proofs.WorldHands.{Hands-views, IsWrittenFor}
-use Rattle.step_core.proofs.WorldLinks.{Links-views}
+use Rattle.step_core.proofs.WorldLinks.{LinkedTree-views}
 use Rattle.step_core.proofs.WorldPairs.{HasFirst, HasFirst-none, HasTree, HasTree-none, Pairs-views}
 use Rattle.step_core.proofs.WorldParts.{agree-set, quotas-kept}
 use Rattle.step_core.proofs.WorldSteps.{live}
@@ -120,7 +120,7 @@ module _ (run : SharedRun) (words : Words) (views : List View) (id : ℕ) (view 
   whole_both : HaveWholePairs (sees both)
   whole_both n =
       subst (λ w. (w ≡ 0) ⊎ (2 ^ 63 ≤ w)) (sym (sees_both (TreeOf n)))
-      (IsWholePair-later (sees view (TreeOf n)) (sees other (TreeOf n)) (world.seen.whole id view at n) (world.seen.whole j other was n))
+      (IsWholePair-later (sees view (TreeOf n)) (sees other (TreeOf n)) (world.seen.pairs_seen id view at n) (world.seen.pairs_seen j other was n))
 
   -- what the other had seen may become what both see
   plain :
@@ -132,8 +132,8 @@ module _ (run : SharedRun) (words : Words) (views : List View) (id : ℕ) (view 
   to_later : (name : Word) → MayBecome (kind_of name) (sees other name) (later_word (kind_of name) (sees view name) (sees other name))
   to_later (TreeOf n) =
       MayBecome-other_to_later Falling (sees view (TreeOf n)) (sees other (TreeOf n)) (words (TreeOf n)) (world.seen.behind id view at (TreeOf n))
-      (world.seen.behind j other was (TreeOf n)) (λ e. world.seen.whole id view at n)
-      (λ e written also same. world.seen.agree id view at j other was n written also same) (λ e. world.seen.whole j other was n)
+      (world.seen.behind j other was (TreeOf n)) (λ e. world.seen.pairs_seen id view at n)
+      (λ e written also same. world.seen.agree id view at j other was n written also same) (λ e. world.seen.pairs_seen j other was n)
   to_later Count = plain Count (λ e. cc)
   to_later (Counter g) = plain (Counter g) (λ e. cc)
   to_later (PointOf n) = plain (PointOf n) (λ e. cc)
@@ -277,9 +277,9 @@ module _ (run : SharedRun) (words : Words) (views : List View) (id : ℕ) (view 
         );
       };
       shares = record {
-        whole = omega (
+        add_up = omega (
           arith,
-          world.shares.whole,
+          world.shares.add_up,
           sum-set share views id view both at,
           sum-set share middle j other spent there,
           length-append view.crew other.crew,
@@ -291,10 +291,10 @@ module _ (run : SharedRun) (words : Words) (views : List View) (id : ℕ) (view 
         behind = each (λ u. AreBehind (sees u) words) world.seen.behind behind_both (AreBehind-spent words);
         took = each (λ u. AreBehind (took_over u) (sees u)) world.seen.took took_both (AreBehind-spent (sees spent));
         pairs = world.seen.pairs;
-        whole = each (λ u. HaveWholePairs (sees u)) world.seen.whole whole_both (λ n. inl (sees-spent (TreeOf n)));
+        pairs_seen = each (λ u. HaveWholePairs (sees u)) world.seen.pairs_seen whole_both (λ n. inl (sees-spent (TreeOf n)));
         agree = agree-set middle j spent (agree-set views id both world.seen.agree (λ i u off e. agree_both i u e)) (λ i u off e. Agree-spent (sees u));
       };
-      links = Links-views run words views after world.links (hands_both has_link) (hands_both has_count);
+      links = LinkedTree-views run words views after world.links (hands_both has_link) (hands_both has_count);
       hands = Hands-views words views after world.hands
           (each (IsWrittenFor words) world.hands.written (λ hand held. world.hands.written id view at hand held) (λ hand held. cc)) (hands_both has_point);
       trees = world.trees;

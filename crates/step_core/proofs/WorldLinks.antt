@@ -23,7 +23,7 @@ use Rattle.step_core.specs.WordNames.{Words, WritesWord}
 use Rattle.step_core.specs.WordNames.Word.{ChildOf, Count, FirstOf, PointOf, RecordOf}
 use Rattle.step_core.specs.WordPlaces.{Sizes}
 use Rattle.step_core.specs.Words.{point_of_word, record_of_word}
-use Rattle.step_core.specs.Worlds.{Links, Numbers, counted_once, hands_at, holders, is_recorded}
+use Rattle.step_core.specs.Worlds.{LinkedTree, ClaimedMarks, counted_once, hands_at, holders, is_recorded}
 use Rattle.step_core.specs.declared.views.Hand.{Hand}
 use Rattle.step_core.specs.declared.views.SharedRun.{SharedRun}
 use Rattle.step_core.specs.declared.views.Stage.{Stage}
@@ -57,7 +57,8 @@ has_node-recorded words k = by_record (record_at words k)
         by_test false = omega arith
 
 -- no more nodes are counted than there may be
-pub count-most : (run : SharedRun) (words : Words) (views : List View) → Numbers run words views → Links run words views → words Count ≤ length run.marks + 1
+pub count-most : (run : SharedRun) (words : Words) (views : List View) → ClaimedMarks run words views → LinkedTree run words views
+    → words Count ≤ length run.marks + 1
 count-most run words views numbers links =
     let top = sum-most (counted_once words views) (length run.marks) (λ k low. omega (
       arith,
@@ -98,12 +99,12 @@ module _ (sizes : Sizes) (before after : Words) (keeps : KeepsLinks sizes before
 
 -- Of any step but a link and a count it is asked that links stay, and that at each mark what is recorded as placed, or in a hand that has come
 -- so far, does.
-pub Links-step :
-    (run : SharedRun) (before after : Words) (views later : List View) → Links run before views → KeepsLinks (run_sizes run) before after
+pub LinkedTree-step :
+    (run : SharedRun) (before after : Words) (views later : List View) → LinkedTree run before views → KeepsLinks (run_sizes run) before after
     → after Count ≡ before Count
     → ((k : ℕ) → once_if (has_node after (suc k)) + hands_at has_link k later ≡ once_if (has_node before (suc k)) + hands_at has_link k views)
-    → ((k : ℕ) → counted_once after later k ≡ counted_once before views k) → Links run after later
-Links-step run before after views later links keeps count linked counted = record {
+    → ((k : ℕ) → counted_once after later k ≡ counted_once before views k) → LinkedTree run after later
+LinkedTree-step run before after views later links keeps count linked counted = record {
   start = keeps.points 0 (is_linked-start (run_sizes run) before) ∙ links.start;
   ways = FollowWays-kept (run_sizes run) before after keeps links.ways;
   linked = λ k. omega (arith, ap once_if (is_linked-kept (run_sizes run) before after keeps (suc k)), links.linked k, linked k);
@@ -116,21 +117,21 @@ Links-step run before after views later links keeps count linked counted = recor
 }
 
 -- views in whose hands as much is linked and counted
-pub Links-views :
-    (run : SharedRun) (words : Words) (views later : List View) → Links run words views → ((k : ℕ) → hands_at has_link k later ≡ hands_at has_link k views)
-    → ((k : ℕ) → hands_at has_count k later ≡ hands_at has_count k views) → Links run words later
-Links-views run words views later links linked counted =
-    Links-step run words words views later links (record { children = λ n side. refl; points = λ n h. refl }) refl (λ k. omega (arith, linked k))
+pub LinkedTree-views :
+    (run : SharedRun) (words : Words) (views later : List View) → LinkedTree run words views → ((k : ℕ) → hands_at has_link k later ≡ hands_at has_link k views)
+    → ((k : ℕ) → hands_at has_count k later ≡ hands_at has_count k views) → LinkedTree run words later
+LinkedTree-views run words views later links linked counted =
+    LinkedTree-step run words words views later links (record { children = λ n side. refl; points = λ n h. refl }) refl (λ k. omega (arith, linked k))
     (λ k. omega (arith, counted k))
 
 -- a step of one view that leaves links, records and the count, and as much of its hand as says that it is linked and counted
-pub Links-kept :
-    (run : SharedRun) (before after : Words) (views : List View) (id : ℕ) (view newer : View) → get_elem? views id ≡ some view → Links run before views
+pub LinkedTree-kept :
+    (run : SharedRun) (before after : Words) (views : List View) (id : ℕ) (view newer : View) → get_elem? views id ≡ some view → LinkedTree run before views
     → KeepsLinks (run_sizes run) before after → KeepsRecords before after → after Count ≡ before Count
     → ((k : ℕ) → holds_at has_link k newer.hand ≡ holds_at has_link k view.hand) → ((k : ℕ) → holds_at has_count k newer.hand ≡ holds_at has_count k view.hand)
-    → Links run after (set views id newer)
-Links-kept run before after views id view newer at links keeps kept count same_links same_counts =
-    Links-step run before after views (set views id newer) links keeps count (λ k. omega (arith, nodes k, hands has_link same_links k))
+    → LinkedTree run after (set views id newer)
+LinkedTree-kept run before after views id view newer at links keeps kept count same_links same_counts =
+    LinkedTree-step run before after views (set views id newer) links keeps count (λ k. omega (arith, nodes k, hands has_link same_links k))
     (λ k. omega (arith, nodes k, hands has_count same_counts k))
   where
     nodes : (k : ℕ) → once_if (has_node after (suc k)) ≡ once_if (has_node before (suc k))
@@ -260,7 +261,7 @@ module _ (sizes : Sizes) (before after : Words) (ways : FollowWays (children_of_
 -- ---- the mark in hand
 
 module _ (run : SharedRun) (before after : Words) (views : List View) (id : ℕ) (view newer : View) (at : get_elem? views id ≡ some view)
-    (numbers : Numbers run before views) (links : Links run before views) (hand : Hand) (held : view.hand ≡ Some hand) where
+    (numbers : ClaimedMarks run before views) (links : LinkedTree run before views) (hand : Hand) (held : view.hand ≡ Some hand) where
   -- hands that have come so far, at each mark, after the hand of this view has changed
   hands_other :
       (test : Stage → Bool) → ((k : ℕ) → k ≢ hand.mark → holds_at test k newer.hand ≡ false) → (k : ℕ) → k ≢ hand.mark
@@ -307,11 +308,11 @@ module _ (run : SharedRun) (before after : Words) (views : List View) (id : ℕ)
   -- ---- the steps of its own node
 
   -- A record leaves what is linked: what was in hand as linked is recorded as placed.
-  pub Links-recorded :
+  pub LinkedTree-recorded :
       (x : ℕ) → (placed : Bool) → ((first : ℕ) → has_placed (record_of_word x first) ≡ placed) → placed ≡ has_link hand.stage → placed ≡ has_count hand.stage
-      → WritesWord (RecordOf hand.mark) x before after → newer.hand ≡ None → Links run after (set views id newer)
-  Links-recorded x placed reads linked counted writes idle =
-      Links-step run before after views (set views id newer) links keeps (writes.others Count (λ e. cc)) (each has_link linked) (each has_count counted)
+      → WritesWord (RecordOf hand.mark) x before after → newer.hand ≡ None → LinkedTree run after (set views id newer)
+  LinkedTree-recorded x placed reads linked counted writes idle =
+      LinkedTree-step run before after views (set views id newer) links keeps (writes.others Count (λ e. cc)) (each has_link linked) (each has_count counted)
     where
       keeps : KeepsLinks (run_sizes run) before after
       keeps = record { children = λ n side. writes.others (ChildOf n side) (λ e. cc); points = λ n h. writes.others (PointOf n) (λ e. cc) }
@@ -379,11 +380,11 @@ module _ (run : SharedRun) (before after : Words) (views : List View) (id : ℕ)
         ]
 
     -- the point of a node that is not linked is written
-    pub Links-pointed :
+    pub LinkedTree-pointed :
         (x : ℕ) → has_link hand.stage ≡ false → has_link next.stage ≡ has_link hand.stage → has_count next.stage ≡ has_count hand.stage
-        → WritesWord (PointOf (suc hand.mark)) x before after → Links run after (set views id newer)
-    Links-pointed x not_yet link count writes =
-        Links-step run before after views (set views id newer) links keeps (writes.others Count (λ e. cc))
+        → WritesWord (PointOf (suc hand.mark)) x before after → LinkedTree run after (set views id newer)
+    LinkedTree-pointed x not_yet link count writes =
+        LinkedTree-step run before after views (set views id newer) links keeps (writes.others Count (λ e. cc))
         (λ k. omega (arith, ap once_if (nodes k), stage_kept has_link link k)) (λ k. omega (arith, ap once_if (nodes k), stage_kept has_count count k))
       where
         nodes : (k : ℕ) → has_node after (suc k) ≡ has_node before (suc k)
@@ -399,12 +400,12 @@ module _ (run : SharedRun) (before after : Words) (views : List View) (id : ℕ)
         }
 
     -- it is put into an empty child word at the end of the way of its point
-    pub Links-linked :
+    pub LinkedTree-linked :
         (p above : Point) (n depth : ℕ) → EndsBelow (children_of_words before) (linked_points (run_sizes run) before) p depth n above
         → hand.mark < length run.marks → point_of_word (before (PointOf (suc hand.mark))) ≡ Some p → before (ChildOf n (goes_right depth above p)) ≡ 0
         → has_link hand.stage ≡ false → has_link next.stage ≡ true → has_count next.stage ≡ has_count hand.stage
-        → WritesWord (ChildOf n (goes_right depth above p)) (suc hand.mark) before after → Links run after (set views id newer)
-    Links-linked p above n depth ends low written empty not_yet link count writes = record {
+        → WritesWord (ChildOf n (goes_right depth above p)) (suc hand.mark) before after → LinkedTree run after (set views id newer)
+    LinkedTree-linked p above n depth ends low written empty not_yet link count writes = record {
       start = writes.others (PointOf 0) (λ e. cc) ∙ links.start;
       ways =
           FollowWays-linked (run_sizes run) before after links.ways p above hand.mark n depth ends low (unlinked-held not_yet) written empty writes;
@@ -446,10 +447,10 @@ module _ (run : SharedRun) (before after : Words) (views : List View) (id : ℕ)
             ]
 
     -- it is counted
-    pub Links-counted :
+    pub LinkedTree-counted :
         hand.mark < length run.marks → has_link next.stage ≡ has_link hand.stage → has_count hand.stage ≡ false → has_count next.stage ≡ true
-        → WritesWord Count (before Count + 1) before after → Links run after (set views id newer)
-    Links-counted low link not_yet count writes = record {
+        → WritesWord Count (before Count + 1) before after → LinkedTree run after (set views id newer)
+    LinkedTree-counted low link not_yet count writes = record {
       start = writes.others (PointOf 0) (λ e. cc) ∙ links.start;
       ways = FollowWays-kept (run_sizes run) before after keeps links.ways;
       linked = λ k. omega (

@@ -34,7 +34,7 @@ use Rattle.step_core.proofs.WordKinds.{AreBehind-trans}
 use Rattle.step_core.proofs.WorldCopies.{Copies-seen}
 use Rattle.step_core.proofs.WorldEmpties.{Empties-kept, last_zero-saw}
 use Rattle.step_core.proofs.WorldHands.{Hands-step}
-use Rattle.step_core.proofs.WorldLinks.{KeepsLinks, Links-kept}
+use Rattle.step_core.proofs.WorldLinks.{KeepsLinks, LinkedTree-kept}
 use Rattle.step_core.proofs.WorldNodes.{IsWorld-kept, KeepsMarks, grows_kept, numbers_kept}
 use Rattle.step_core.proofs.WorldPairs.{Pairs-same}
 use Rattle.step_core.proofs.WorldParts.{is_recorded-kept}
@@ -144,12 +144,12 @@ module _ (run : SharedRun) (words : Words) (views : List View) (id : ℕ) (view 
           most = refl;
           holds = λ k. refl;
           seen_records = λ k. saw_it.others (RecordOf k) (λ e. cc);
-          whole = HaveWholePairs-saw (TreeOf n) x (sees view) (sees then) after saw_it writes.here behind (world.seen.whole id view at) whole_after;
+          whole = HaveWholePairs-saw (TreeOf n) x (sees view) (sees then) after saw_it writes.here behind (world.seen.pairs_seen id view at) whole_after;
           fair = IsFair-saw (TreeOf n) x (sees view) (sees then) after saw_it writes.here behind;
         } in
         let keeps_links : KeepsLinks (run_sizes run) words after =
         record { children = λ m side. writes.others (ChildOf m side) (λ e. cc); points = λ m h. writes.others (PointOf m) (λ e. cc) } in
-        let links = Links-kept run words after views id view then at world.links keeps_links keeps.records (writes.others Count (λ e. cc)) (λ k. refl)
+        let links = LinkedTree-kept run words after views id view then at world.links keeps_links keeps.records (writes.others Count (λ e. cc)) (λ k. refl)
         (λ k. refl) in
         let numbers = numbers_kept run words after views id view then world at own keeps in
         let grows = grows_kept run words after views id view then world at own keeps AreBehind-lowered links in

@@ -26,7 +26,7 @@ use Rattle.step_core.specs.WordNames.{Words, WritesWord}
 use Rattle.step_core.specs.WordNames.Word.{ChildOf, Count, Counter, FirstOf, PointOf, RecordOf, TreeOf}
 use Rattle.step_core.specs.WordPlaces.{place_of}
 use Rattle.step_core.specs.Words.{point_of_word, point_word, tree_word}
-use Rattle.step_core.specs.Worlds.{Copies, Empties, Hands, IsFirstOf, IsWorld, Links, Numbers, Pairs, Trees, counters, limit_of, state_in}
+use Rattle.step_core.specs.Worlds.{Copies, Empties, Hands, IsFirstOf, IsWorld, LinkedTree, ClaimedMarks, Pairs, Trees, counters, limit_of, state_in}
 use Rattle.step_core.specs.declared.views.Hand.{Hand}
 use Rattle.step_core.specs.declared.views.SharedRun.{SharedRun}
 use Rattle.step_core.specs.declared.views.Stage.TheVariants.{Claimed, Counted, Half, Linked, Pointed, Treed}
@@ -48,13 +48,14 @@ use Rattle.step_core.proofs.WordKinds.{AreBehind-refl, AreBehind-trans}
 use Rattle.step_core.proofs.WorldCopies.{Copies-linked, Copies-untold}
 use Rattle.step_core.proofs.WorldEmpties.{Empties-kept, Empties-linked}
 use Rattle.step_core.proofs.WorldHands.{Hands-pointed, Hands-step, blank-held}
-use Rattle.step_core.proofs.WorldLinks.{KeepsLinks, Links-counted, Links-kept, Links-linked, Links-pointed, is_linked-others, unlinked-held}
+use Rattle.step_core.proofs.WorldLinks.{KeepsLinks, LinkedTree-counted, LinkedTree-kept, LinkedTree-linked, LinkedTree-pointed, is_linked-others, unlinked-held}
 use Rattle.step_core.proofs.WorldPairs.{IsFirstOf-grows, IsFirstOf-stage, Pairs-hand, first-held, tree-held}
-use Rattle.step_core.proofs.WorldParts.{IsFair, KeepsRecords, Numbers-step, Seen-step, Shares-step, Turns-step, is_recorded-kept, limit_of-up, of_run-step}
+use Rattle.step_core.proofs.WorldParts.{IsFair, KeepsRecords, ClaimedMarks-step, SeenBehind-step, Shares-step, Turns-step, is_recorded-kept, limit_of-up}
+use Rattle.step_core.proofs.WorldParts.{of_run-step}
 use Rattle.step_core.proofs.WorldParts.{packed-kept, quotas-kept}
 use Rattle.step_core.proofs.WorldRecords.{Records-kept}
 use Rattle.step_core.proofs.WorldSeenPairs.{AreSeenLawfully-own, SeenPairs-set}
-use Rattle.step_core.proofs.WorldSteps.{Sights-set, follow, live, seen_within, tree}
+use Rattle.step_core.proofs.WorldSteps.{TreesSeen-set, follow, live, seen_within, tree}
 use Rattle.step_core.proofs.WorldTrees.{Trees-kept, Trees-linked}
 
 -- ---- a step that leaves marks
@@ -74,9 +75,9 @@ pub record KeepsMarks (before after : Words) (view then : View) : Type 0 where
 
 module _ (run : SharedRun) (words after : Words) (views : List View) (id : ℕ) (view then : View) (world : IsWorld run words views)
     (at : get_elem? views id ≡ some view) (own : view.run ≡ run) (keeps : KeepsMarks words after view then) where
-  pub numbers_kept : Numbers run after (set views id then)
+  pub numbers_kept : ClaimedMarks run after (set views id then)
   numbers_kept =
-      Numbers-step run words after views id view then at world.numbers
+      ClaimedMarks-step run words after views id view then at world.numbers
       (quotas-kept run words after views (set views id then) world.numbers (λ g within. keeps.counters g)
       (greatest-set limit_of views id view then at (limit_of-up view then (ap (λ l. length l) keeps.crew) (omega (arith, keeps.most)))))
       (λ k. omega (arith, ap once_if (is_recorded-kept words after keeps.records k), ap once_if (keeps.holds k), claims k))
@@ -86,14 +87,14 @@ module _ (run : SharedRun) (words after : Words) (views : List View) (id : ℕ) 
       claims k = ap (λ n. once_if (nat_lt (k / run.strips) n)) (keeps.counters (k % run.strips))
 
   -- the tree grows, by what may become of its words
-  pub grows_kept : AreBehind words after → Links run after (set views id then) → GrowsInto (state_in run words) (state_in run after)
+  pub grows_kept : AreBehind words after → LinkedTree run after (set views id then) → GrowsInto (state_in run words) (state_in run after)
   grows_kept go links =
       GrowsInto-behind run words after views (set views id then) world.numbers world.links numbers_kept links world.trees go
 
   -- it keeps the law if it leaves the other parts as they must be
   pub IsWorld-kept :
       IsViewOf run then → AreBehind words after → AreBehind (sees then) after → AreBehind (sees view) (sees then) → took_over then ≡ took_over view
-      → (share then ≡ 0 → then.hand ≡ None) → (links : Links run after (set views id then)) → Trees run after → Hands after (set views id then)
+      → (share then ≡ 0 → then.hand ≡ None) → (links : LinkedTree run after (set views id then)) → Trees run after → Hands after (set views id then)
       → Pairs run after (set views id then) → SeesTree then → Copies run after (set views id then) → Empties run after (set views id then)
       → IsWorld run after (set views id then)
   IsWorld-kept of_run go behind more took idle links trees hands pairs tree_then copies empties = record {
@@ -102,7 +103,7 @@ module _ (run : SharedRun) (words after : Words) (views : List View) (id : ℕ) 
     numbers = numbers_kept;
     turns = Turns-step run words after views id view then at world.turns keeps.records keeps.crew (λ k same. keeps.seen_records k ∙ same);
     shares = Shares-step run words after views id view then at world.shares (ap (λ l. length l) keeps.crew) idle;
-    seen = Seen-step words after views id view then at world.seen go behind
+    seen = SeenBehind-step words after views id view then at world.seen go behind
         (subst (λ t. AreBehind t (sees then)) (sym took) (AreBehind-trans (took_over view) (sees view) (sees then) (world.seen.took id view at) more))
         keeps.pairs keeps.whole keeps.fair;
     links = links;
@@ -113,7 +114,7 @@ module _ (run : SharedRun) (words after : Words) (views : List View) (id : ℕ) 
         (λ of. AreSeenLawfully-own run words after view then trees links.ways of (grows_kept go links) own (world.seen_pairs id view at own) behind tree_then
         keeps.fair);
     records = Records-kept run words after views world.numbers world.links world.trees (grows_kept go links) world.records keeps.records;
-    sights = Sights-set run words views id view world at own then (λ of. tree_then);
+    sights = TreesSeen-set run words views id view world at own then (λ of. tree_then);
     copies = copies;
     empties = empties;
   }
@@ -213,14 +214,15 @@ module _ (run : SharedRun) (words after : Words) (views : List View) (id : ℕ) 
             most = refl;
             holds = same_hold next refl;
             seen_records = λ k. refl;
-            whole = world.seen.whole id view at;
+            whole = world.seen.pairs_seen id view at;
             fair = λ n. inl refl;
           } in
           let keeps_links : KeepsLinks (run_sizes run) words after = record {
             children = λ n side. writes.others (ChildOf n side) (λ e. cc);
             points = λ n linked. writes.others (PointOf n) (λ e. apart (ap has_link stage) n linked cc);
           } in
-          let links = Links-pointed run words after views id view then at world.numbers world.links hand held next refl refl (point_word p) (ap has_link stage)
+          let links = LinkedTree-pointed run words after views id view then at world.numbers world.links hand held next refl refl (point_word p)
+          (ap has_link stage)
           (sym (ap has_link stage)) (sym (ap has_count stage)) writes in
           let recorded = is_recorded-kept words after keeps.records in
           let grows = grows_kept run words after views id view then world at own keeps go_pointed links in
@@ -265,13 +267,13 @@ module _ (run : SharedRun) (words after : Words) (views : List View) (id : ℕ) 
           most = refl;
           holds = same_hold next refl;
           seen_records = λ k. refl;
-          whole = world.seen.whole id view at;
+          whole = world.seen.pairs_seen id view at;
           fair = λ n. inl refl;
         } in
         let points : (n : ℕ) → after (PointOf n) ≡ words (PointOf n) = λ n. writes.others (PointOf n) (λ e. cc) in
         let keeps_links : KeepsLinks (run_sizes run) words after =
         record { children = λ n side. writes.others (ChildOf n side) (λ e. cc); points = λ n linked. points n } in
-        let links = Links-kept run words after views id view then at world.links keeps_links keeps.records (writes.others Count (λ e. cc))
+        let links = LinkedTree-kept run words after views id view then at world.links keeps_links keeps.records (writes.others Count (λ e. cc))
         (holds_at-stays has_link view.hand hand next held refl (sym (ap has_link stage)))
         (holds_at-stays has_count view.hand hand next held refl (sym (ap has_count stage))) in
         let recorded = is_recorded-kept words after keeps.records in
@@ -329,13 +331,13 @@ module _ (run : SharedRun) (words after : Words) (views : List View) (id : ℕ) 
           most = refl;
           holds = same_hold next refl;
           seen_records = λ k. refl;
-          whole = world.seen.whole id view at;
+          whole = world.seen.pairs_seen id view at;
           fair = λ n. inl refl;
         } in
         let points : (n : ℕ) → after (PointOf n) ≡ words (PointOf n) = λ n. writes.others (PointOf n) (λ e. cc) in
         let keeps_links : KeepsLinks (run_sizes run) words after =
         record { children = λ n side. writes.others (ChildOf n side) (λ e. cc); points = λ n linked. points n } in
-        let links = Links-kept run words after views id view then at world.links keeps_links keeps.records (writes.others Count (λ e. cc))
+        let links = LinkedTree-kept run words after views id view then at world.links keeps_links keeps.records (writes.others Count (λ e. cc))
         (holds_at-stays has_link view.hand hand next held refl (sym (ap has_link stage)))
         (holds_at-stays has_count view.hand hand next held refl (sym (ap has_count stage))) in
         let recorded = is_recorded-kept words after keeps.records in
@@ -430,7 +432,7 @@ module _ (run : SharedRun) (words after : Words) (views : List View) (id : ℕ) 
             most = refl;
             holds = same_hold next refl;
             seen_records = λ k. shows.others (RecordOf k) (λ e. cc) (λ e. cc) (λ e. cc) (λ e. cc);
-            whole = HaveWholePairs-linked n side hand (sees view) (sees then) shows (world.seen.whole id view at);
+            whole = HaveWholePairs-linked n side hand (sees view) (sees then) shows (world.seen.pairs_seen id view at);
             fair = IsFair-linked n side hand (sees view) (sees then) shows after own_after.tree;
           } in
           let behind =
@@ -443,7 +445,7 @@ module _ (run : SharedRun) (words after : Words) (views : List View) (id : ℕ) 
           let none : words (ChildOf n (goes_right leads.depth leads.at hand.point)) ≡ 0 = ap (λ s. words (ChildOf n s)) leads.side_is ∙ empty in
           let puts : WritesWord (ChildOf n (goes_right leads.depth leads.at hand.point)) node words after =
           subst (λ s. WritesWord (ChildOf n s) node words after) (sym leads.side_is) writes in
-          let links = Links-linked run words after views id view then at world.numbers world.links hand held next refl refl hand.point leads.at n
+          let links = LinkedTree-linked run words after views id view then at world.numbers world.links hand held next refl refl hand.point leads.at n
           leads.depth ends low
           written none (ap has_link stage) refl (sym (ap has_count stage)) puts in
           let recorded = is_recorded-kept words after keeps.records in
@@ -489,12 +491,12 @@ module _ (run : SharedRun) (words after : Words) (views : List View) (id : ℕ) 
           most = refl;
           holds = same_hold next refl;
           seen_records = λ k. refl;
-          whole = world.seen.whole id view at;
+          whole = world.seen.pairs_seen id view at;
           fair = λ n. inl refl;
         } in
         let keeps_links : KeepsLinks (run_sizes run) words after =
         record { children = λ n side. writes.others (ChildOf n side) (λ e. cc); points = λ n linked. writes.others (PointOf n) (λ e. cc) } in
-        let links = Links-counted run words after views id view then at world.numbers world.links hand held next refl refl low (sym (ap has_link stage))
+        let links = LinkedTree-counted run words after views id view then at world.numbers world.links hand held next refl refl low (sym (ap has_link stage))
         (ap has_count stage) refl writes in
         let recorded = is_recorded-kept words after keeps.records in
         let grows = grows_kept run words after views id view then world at own keeps AreBehind-counted links in

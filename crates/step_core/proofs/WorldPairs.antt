@@ -18,7 +18,7 @@ use Rattle.step_core.specs.ViewSteps.{pair_in_hand}
 use Rattle.step_core.specs.Views.{holds, run_sizes, setup_in}
 use Rattle.step_core.specs.WordNames.{Words}
 use Rattle.step_core.specs.WordNames.Word.{FirstOf, TreeOf}
-use Rattle.step_core.specs.Worlds.{EachView, IsFirstOf, Links, Numbers, Pairs, hands_at, is_recorded, state_in}
+use Rattle.step_core.specs.Worlds.{EachView, IsFirstOf, LinkedTree, ClaimedMarks, Pairs, hands_at, is_recorded, state_in}
 use Rattle.step_core.specs.declared.views.Hand.{Hand}
 use Rattle.step_core.specs.declared.views.SharedRun.{SharedRun}
 use Rattle.step_core.specs.declared.views.Stage.{Stage}
@@ -138,7 +138,7 @@ linked_hands k (view ∷ views) =
     )
 
 module _ (run : SharedRun) (before after : Words) (views : List View) (id : ℕ) (view then : View) (at : get_elem? views id ≡ some view)
-    (numbers : Numbers run before views) (links : Links run before views) (pairs : Pairs run before views)
+    (numbers : ClaimedMarks run before views) (links : LinkedTree run before views) (pairs : Pairs run before views)
     (grows : GrowsInto (state_in run before) (state_in run after)) where
   -- a node in no hand that has its tree word, and of a mark without a record, is not linked
   not_linked : (k : ℕ) → is_recorded before k ≡ false → hands_at has_tree k views ≡ 0 → is_linked (run_sizes run) before (suc k) ≡ false

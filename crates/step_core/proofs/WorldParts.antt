@@ -15,7 +15,8 @@ use Rattle.step_core.specs.WordKinds.{AreBehind, HaveWholePairs}
 use Rattle.step_core.specs.WordNames.{Words}
 use Rattle.step_core.specs.WordNames.Word.{Counter, FirstOf, RecordOf, TreeOf}
 use Rattle.step_core.specs.Words.{cost_in, outcome_in, record_in, record_of_word}
-use Rattle.step_core.specs.Worlds.{Agree, EachView, IsMember, IsRecordWord, Numbers, Seen, Shares, Turns, counters, greatest_limit, is_recorded, limit_of}
+use Rattle.step_core.specs.Worlds.{Agree, EachView, IsMember, IsRecordWord, ClaimedMarks, SeenBehind, Shares, Turns, counters, greatest_limit, is_recorded}
+use Rattle.step_core.specs.Worlds.{limit_of}
 use Rattle.step_core.specs.declared.views.Member.{Member}
 use Rattle.step_core.specs.declared.views.SharedRun.{SharedRun}
 use Rattle.step_core.specs.declared.views.View.{View}
@@ -138,12 +139,12 @@ quota-up strips g low high within order =
 module _ (run : SharedRun) (before after : Words) (views : List View) (id : ℕ) (view then : View) (at : get_elem? views id ≡ some view) where
   -- Of a step of one view it is asked that the quotas still bind, and that at each mark what is recorded or in its hand changes as what is
   -- claimed.
-  pub Numbers-step :
-      Numbers run before views → ((g : ℕ) → g < run.strips → after (Counter g) ≤ quota_of run.strips g (greatest_limit (set views id then)))
+  pub ClaimedMarks-step :
+      ClaimedMarks run before views → ((g : ℕ) → g < run.strips → after (Counter g) ≤ quota_of run.strips g (greatest_limit (set views id then)))
       → ((k : ℕ) → once_if (is_recorded after k) + once_if (holds k then.hand) + once_if (is_claimed run.strips (counters before) k)
       ≡ once_if (is_recorded before k) + once_if (holds k view.hand) + once_if (is_claimed run.strips (counters after) k))
-      → then.most ≤ length run.marks → ((k : ℕ) → IsRecordWord (after (RecordOf k))) → Numbers run after (set views id then)
-  Numbers-step numbers quotas balance most packed = record {
+      → then.most ≤ length run.marks → ((k : ℕ) → IsRecordWord (after (RecordOf k))) → ClaimedMarks run after (set views id then)
+  ClaimedMarks-step numbers quotas balance most packed = record {
     quotas = quotas;
     each_once = λ k. omega (arith, balance k, numbers.each_once k, sum-set (λ u. once_if (holds k u.hand)) views id view then at);
     limits = each-set views id then (λ u. u.most ≤ length run.marks) (λ i u apart e. numbers.limits i u e) most;
@@ -165,13 +166,13 @@ module _ (run : SharedRun) (before after : Words) (views : List View) (id : ℕ)
 
   pub Shares-step : Shares run views → share then ≡ share view → (share then ≡ 0 → then.hand ≡ None) → Shares run (set views id then)
   Shares-step shares same idle = record {
-    whole = omega (arith, shares.whole, sum-set share views id view then at, same);
+    add_up = omega (arith, shares.add_up, sum-set share views id view then at, same);
     idle = each-set views id then (λ u. share u ≡ 0 → u.hand ≡ None) (λ i u apart e. shares.idle i u e) idle;
   }
 
 -- the quotas still bind where the counters stay and the limit does not fall
 pub quotas-kept :
-    (run : SharedRun) (before after : Words) (views later : List View) → Numbers run before views
+    (run : SharedRun) (before after : Words) (views later : List View) → ClaimedMarks run before views
     → ((g : ℕ) → g < run.strips → after (Counter g) ≡ before (Counter g)) → greatest_limit views ≤ greatest_limit later
     → (g : ℕ) → g < run.strips → after (Counter g) ≤ quota_of run.strips g (greatest_limit later)
 quotas-kept run before after views later numbers same up g within =
@@ -224,18 +225,18 @@ agree-set views id then agree own =
     (Agree-sym (sees then) (sees one) (own i one apart e)))
     (each-set views id then (λ other. Agree (sees then) (sees other)) own (λ n written also same. refl))
 
-pub Seen-step :
-    (before after : Words) (views : List View) (id : ℕ) (view then : View) → get_elem? views id ≡ some view → Seen before views → AreBehind before after
+pub SeenBehind-step :
+    (before after : Words) (views : List View) (id : ℕ) (view then : View) → get_elem? views id ≡ some view → SeenBehind before views → AreBehind before after
     → AreBehind (sees then) after → AreBehind (took_over then) (sees then) → HaveWholePairs after → HaveWholePairs (sees then)
-    → IsFair (sees view) after (sees then) → Seen after (set views id then)
-Seen-step before after views id view then at seen go own took pairs whole fair =
+    → IsFair (sees view) after (sees then) → SeenBehind after (set views id then)
+SeenBehind-step before after views id view then at seen go own took pairs whole fair =
     let behind : (i : ℕ) (u : View) → get_elem? views i ≡ some u → AreBehind (sees u) after =
     λ i u e. AreBehind-trans (sees u) before after (seen.behind i u e) go in
     record {
       behind = each-set views id then (λ u. AreBehind (sees u) after) (λ i u apart e. behind i u e) own;
       took = each-set views id then (λ u. AreBehind (took_over u) (sees u)) (λ i u apart e. seen.took i u e) took;
       pairs = pairs;
-      whole = each-set views id then (λ u. HaveWholePairs (sees u)) (λ i u apart e. seen.whole i u e) whole;
+      pairs_seen = each-set views id then (λ u. HaveWholePairs (sees u)) (λ i u apart e. seen.pairs_seen i u e) whole;
       agree = agree-set views id then seen.agree
           (λ i other apart e. Agree-fair (sees view) after (sees then) (sees other) (behind i other e) (seen.agree id view at i other e) fair);
     }

@@ -19,7 +19,7 @@ use Rattle.plan_model.proofs.WorkerTurns.{turn-below}
 use Rattle.step_core.specs.GrownWords.{HoldRun, has_placed, record_at}
 use Rattle.step_core.specs.Views.{run_of, setup_in}
 use Rattle.step_core.specs.WordNames.{Words}
-use Rattle.step_core.specs.Worlds.{Links, Numbers, Records, Trees, state_in}
+use Rattle.step_core.specs.Worlds.{LinkedTree, ClaimedMarks, Records, Trees, state_in}
 use Rattle.step_core.specs.declared.views.SharedRun.{SharedRun}
 use Rattle.step_core.specs.declared.views.View.{View}
 use Rattle.step_core.proofs.LinkedCounts.{present-linked}
@@ -40,7 +40,7 @@ none_there : (o : Option Record) → is_some o ≡ false → o ≡ None
 none_there None e = refl
 none_there (Some entry) e = cc
 
-module _ (run : SharedRun) (words : Words) (views : List View) (numbers : Numbers run words views) (links : Links run words views)
+module _ (run : SharedRun) (words : Words) (views : List View) (numbers : ClaimedMarks run words views) (links : LinkedTree run words views)
     (trees : Trees run words) where
   -- the nodes that a worker had placed earlier are present
   pub earlier-linked : (entry : Record) (n : ℕ) → IsEarlier (state_in run words) entry n → IsPresent (state_in run words).points n
@@ -49,7 +49,7 @@ module _ (run : SharedRun) (words : Words) (views : List View) (numbers : Number
       present-linked run words views links trees (suc k)
       (placed-linked run words views numbers links k (earlier-placed entry (record_at words k) h))
 
-module _ (run : SharedRun) (before after : Words) (views : List View) (numbers : Numbers run before views) (links : Links run before views)
+module _ (run : SharedRun) (before after : Words) (views : List View) (numbers : ClaimedMarks run before views) (links : LinkedTree run before views)
     (trees : Trees run before) (grows : GrowsInto (state_in run before) (state_in run after)) (records : Records run before) where
   abbrev was : TreeState
   was = state_in run before

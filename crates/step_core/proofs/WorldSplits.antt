@@ -29,7 +29,7 @@ use Rattle.step_core.proofs.WordKinds.{AreBehind-refl}
 use Rattle.step_core.proofs.WorldCopies.{Copies-push, Copies-step}
 use Rattle.step_core.proofs.WorldEmpties.{Empties-push, Empties-step, zero-read}
 use Rattle.step_core.proofs.WorldHands.{Hands-views, IsWrittenFor}
-use Rattle.step_core.proofs.WorldLinks.{Links-views}
+use Rattle.step_core.proofs.WorldLinks.{LinkedTree-views}
 use Rattle.step_core.proofs.WorldPairs.{HasFirst, HasFirst-none, HasTree, HasTree-none, Pairs-views}
 use Rattle.step_core.proofs.WorldParts.{Agree-sym, agree-set, quotas-kept}
 use Rattle.step_core.proofs.WorldSeenPairs.{AreSeenLawfully-same}
@@ -162,7 +162,7 @@ module _ (run : SharedRun) (words : Words) (views : List View) (id : ℕ) (view 
           );
         };
         shares = record {
-          whole = omega (arith, world.shares.whole, sum-set share views id view left at, sum_by_push share rest right, cut.shares);
+          add_up = omega (arith, world.shares.add_up, sum-set share views id view left at, sum_by_push share rest right, cut.shares);
           idle = each-push rest right (λ u. share u ≡ 0 → u.hand ≡ None)
               (each-set views id left (λ u. share u ≡ 0 → u.hand ≡ None) (λ i u apart e. world.shares.idle i u e) (λ none. cut.hand
               ∙ world.shares.idle id view at (cut.stays none)))
@@ -177,16 +177,16 @@ module _ (run : SharedRun) (words : Words) (views : List View) (id : ℕ) (view 
               (each-set views id left (λ u. AreBehind (took_over u) (sees u)) (λ i u apart e. world.seen.took i u e) (took_as_much left cut.tables_left))
               (took_as_much right cut.tables_right);
           pairs = world.seen.pairs;
-          whole = each-push rest right (λ u. HaveWholePairs (sees u))
-              (each-set views id left (λ u. HaveWholePairs (sees u)) (λ i u apart e. world.seen.whole i u e)
-              (subst HaveWholePairs (sym (sees-same view left cut.tables_left)) (world.seen.whole id view at)))
-              (subst HaveWholePairs (sym (sees-same view right cut.tables_right)) (world.seen.whole id view at));
+          pairs_seen = each-push rest right (λ u. HaveWholePairs (sees u))
+              (each-set views id left (λ u. HaveWholePairs (sees u)) (λ i u apart e. world.seen.pairs_seen i u e)
+              (subst HaveWholePairs (sym (sees-same view left cut.tables_left)) (world.seen.pairs_seen id view at)))
+              (subst HaveWholePairs (sym (sees-same view right cut.tables_right)) (world.seen.pairs_seen id view at));
           agree = each-push rest right (λ one. EachView (rest ++ right ∷ []) (λ other. Agree (sees one) (sees other)))
               (λ i one e. each-push rest right (λ other. Agree (sees one) (sees other)) (with_left i one e)
               (Agree-sym (sees right) (sees one) (right_with i one e)))
               (each-push rest right (λ other. Agree (sees right) (sees other)) right_with (λ n written also same. refl));
         };
-        links = Links-views run words views (rest ++ right ∷ []) world.links (hands_cut has_link) (hands_cut has_count);
+        links = LinkedTree-views run words views (rest ++ right ∷ []) world.links (hands_cut has_link) (hands_cut has_count);
         hands = Hands-views words views (rest ++ right ∷ []) world.hands
             (each-push rest right (IsWrittenFor words)
             (each-set views id left (IsWrittenFor words) (λ i u apart e. world.hands.written i u e)

@@ -237,14 +237,14 @@ IsWorld-started task limit workers items sized held some_worker few =
         in_one_crew = λ w. omega (arith, times-all run words w);
       };
       shares = record {
-        whole = omega (arith, all);
+        add_up = omega (arith, all);
         idle = only first (λ u. share u ≡ 0 → u.hand ≡ None) (λ none. refl);
       };
       seen = record {
         behind = only first (λ u. AreBehind (sees u) words) (AreBehind-refl words);
         took = only first (λ u. AreBehind (took_over u) (sees u)) (AreBehind-nothing (run_sizes run) words);
         pairs = HaveWholePairs-held task limit words held;
-        whole = only first (λ u. HaveWholePairs (sees u)) (HaveWholePairs-held task limit words held);
+        pairs_seen = only first (λ u. HaveWholePairs (sees u)) (HaveWholePairs-held task limit words held);
         agree = only first (λ one. EachView (first ∷ []) (λ other. Agree (sees one) (sees other)))
             (only first (λ other. Agree (sees first) (sees other)) (λ n written also same. refl));
       };

@@ -21,7 +21,7 @@ use Rattle.step_core.specs.WordKinds.{AreBehind}
 use Rattle.step_core.specs.WordNames.{Word, Words, WritesWord}
 use Rattle.step_core.specs.WordNames.Word.{ChildOf, Count, Counter, FirstOf, PointOf, RecordOf, TreeOf}
 use Rattle.step_core.specs.WordPlaces.{HasWord}
-use Rattle.step_core.specs.Worlds.{IsWorld, Sights, counters, greatest_limit, is_recorded, limit_of, state_in}
+use Rattle.step_core.specs.Worlds.{IsWorld, TreesSeen, counters, greatest_limit, is_recorded, limit_of, state_in}
 use Rattle.step_core.specs.declared.views.SharedRun.{SharedRun}
 use Rattle.step_core.specs.declared.views.Stage.{Stage}
 use Rattle.step_core.specs.declared.views.Stage.TheVariants.{Claimed}
@@ -38,9 +38,9 @@ use Rattle.step_core.proofs.WordKinds.{AreBehind-refl, AreBehind-trans}
 use Rattle.step_core.proofs.WorldCopies.{Copies-seen, Copies-step}
 use Rattle.step_core.proofs.WorldEmpties.{Empties-kept, Empties-step, last_zero-saw}
 use Rattle.step_core.proofs.WorldHands.{Hands-step}
-use Rattle.step_core.proofs.WorldLinks.{KeepsLinks, Links-kept}
+use Rattle.step_core.proofs.WorldLinks.{KeepsLinks, LinkedTree-kept}
 use Rattle.step_core.proofs.WorldPairs.{Pairs-same, Pairs-step}
-use Rattle.step_core.proofs.WorldParts.{KeepsRecords, Numbers-step, Seen-step, Shares-step, Turns-step}
+use Rattle.step_core.proofs.WorldParts.{KeepsRecords, ClaimedMarks-step, SeenBehind-step, Shares-step, Turns-step}
 use Rattle.step_core.proofs.WorldParts.{packed-kept, is_recorded-kept, limit_of-up, of_run-step, quota-up, quotas-kept}
 use Rattle.step_core.proofs.WorldSeenPairs.{AreSeenLawfully-own, SeenPairs-set}
 use Rattle.step_core.proofs.WorldRecords.{Records-kept}
@@ -79,8 +79,8 @@ module _ (run : SharedRun) (words : Words) (views : List View) (id : ℕ) (view 
   HasWord-load (RecordOf k) may = absurd may
 
   -- all other views see their trees as before
-  pub Sights-set : (then : View) → (then.run ≡ run → SeesTree then) → Sights run (set views id then)
-  Sights-set then = each-set views id then (λ u. u.run ≡ run → SeesTree u) (λ i u apart e. world.sights i u e)
+  pub TreesSeen-set : (then : View) → (then.run ≡ run → SeesTree then) → TreesSeen run (set views id then)
+  TreesSeen-set then = each-set views id then (λ u. u.run ≡ run → SeesTree u) (λ i u apart e. world.sights i u e)
 
   -- what was seen may become what is seen after a load
   pub AreBehind-loaded : (name : Word) → MayLoad view name → AreBehind (sees view) (sees (loaded view name (words name)))
@@ -102,19 +102,19 @@ module _ (run : SharedRun) (words : Words) (views : List View) (id : ℕ) (view 
       record {
         run_is = world.run_is;
         of_run = of_run-step run views id then world.of_run (IsViewOf-saw run view live name here x x);
-        numbers = Numbers-step run words words views id view then at world.numbers
+        numbers = ClaimedMarks-step run words words views id view then at world.numbers
             (quotas-kept run words words views (set views id then) world.numbers (λ g within. refl)
             (greatest-set limit_of views id view then at (limit_of-up view then refl (le_refl view.most))))
             (λ k. refl) (world.numbers.limits id view at) world.numbers.packed;
         turns = Turns-step run words words views id view then at world.turns (λ k. refl) refl
             (λ k. same-saw name x (sees view) (sees then) words writes refl behind (RecordOf k));
         shares = Shares-step run words words views id view then at world.shares refl (world.shares.idle id view at);
-        seen = Seen-step words words views id view then at world.seen (AreBehind-refl words)
+        seen = SeenBehind-step words words views id view then at world.seen (AreBehind-refl words)
             (AreBehind-saw name x (sees view) (sees then) words writes refl behind)
             (AreBehind-trans _ (sees view) (sees then) (world.seen.took id view at) seen) world.seen.pairs
-            (HaveWholePairs-saw name x (sees view) (sees then) words writes refl behind (world.seen.whole id view at) world.seen.pairs)
+            (HaveWholePairs-saw name x (sees view) (sees then) words writes refl behind (world.seen.pairs_seen id view at) world.seen.pairs)
             (IsFair-saw name x (sees view) (sees then) words writes refl behind);
-        links = Links-kept run words words views id view then at world.links (record { children = λ n side. refl; points = λ n h. refl }) (λ k. refl) refl
+        links = LinkedTree-kept run words words views id view then at world.links (record { children = λ n side. refl; points = λ n h. refl }) (λ k. refl) refl
             (λ k. refl) (λ k. refl);
         trees = world.trees;
         hands = Hands-step words words views id view then at world.hands (λ n. refl) (λ k. refl) (world.hands.written id view at) (λ k. refl);
@@ -125,7 +125,7 @@ module _ (run : SharedRun) (words : Words) (views : List View) (id : ℕ) (view 
             (world.seen_pairs id view at own) (AreBehind-saw name x (sees view) (sees then) words writes refl behind) sees_tree
             (IsFair-saw name x (sees view) (sees then) words writes refl behind));
         records = world.records;
-        sights = Sights-set then (λ of. sees_tree);
+        sights = TreesSeen-set then (λ of. sees_tree);
         copies = Copies-step run words words views id view then at own world.copies seen
             (AreBehind-saw name x (sees view) (sees then) words writes refl behind) (λ part. part) (λ other told. inl (refl, told));
         empties = Empties-step run words words views id view then at world.empties refl (omega arith) refl (λ n side some_child. (
@@ -192,9 +192,9 @@ module _ (run : SharedRun) (words : Words) (views : List View) (id : ℕ) (view 
         let behind = AreBehind-trans (sees view) words after (world.seen.behind id view at) go in
         let seen = AreBehind-seen (Counter g) (c + 1) (sees view) (sees then) after writes counts.here behind in
         let sees_tree = SeesTree-claimed run view words live (world.seen.behind id view at) tree g c limit strip is in
-        let numbers = Numbers-step run words after views id view then at world.numbers quotas balance
+        let numbers = ClaimedMarks-step run words after views id view then at world.numbers quotas balance
         (omega (arith, world.numbers.limits id view at, most)) (packed-kept words after records world.numbers.packed) in
-        let links = Links-kept run words after views id view then at world.links keeps records (counts.others Count (λ e. cc)) (none has_link refl)
+        let links = LinkedTree-kept run words after views id view then at world.links keeps records (counts.others Count (λ e. cc)) (none has_link refl)
         (none has_count refl) in
         let grows = GrowsInto-behind run words after views (set views id then) world.numbers world.links numbers links world.trees go in
         let trees = Trees-kept run words after views (set views id then) world.numbers world.links numbers links world.trees go record {
@@ -209,10 +209,10 @@ module _ (run : SharedRun) (words : Words) (views : List View) (id : ℕ) (view 
           turns = Turns-step run words after views id view then at world.turns records refl
               (λ k same. writes.others (RecordOf k) (λ e. cc) ∙ same);
           shares = Shares-step run words after views id view then at world.shares refl (λ none. absurd (omega (arith, none, part)));
-          seen = Seen-step words after views id view then at world.seen go
+          seen = SeenBehind-step words after views id view then at world.seen go
               (AreBehind-saw (Counter g) (c + 1) (sees view) (sees then) after writes counts.here behind)
               (AreBehind-trans _ (sees view) (sees then) (world.seen.took id view at) seen) pairs
-              (HaveWholePairs-saw (Counter g) (c + 1) (sees view) (sees then) after writes counts.here behind (world.seen.whole id view at) pairs)
+              (HaveWholePairs-saw (Counter g) (c + 1) (sees view) (sees then) after writes counts.here behind (world.seen.pairs_seen id view at) pairs)
               (IsFair-saw (Counter g) (c + 1) (sees view) (sees then) after writes counts.here behind);
           links = links;
           trees = trees;
@@ -230,7 +230,7 @@ module _ (run : SharedRun) (words : Words) (views : List View) (id : ℕ) (view 
               (AreBehind-saw (Counter g) (c + 1) (sees view) (sees then) after writes counts.here behind) sees_tree
               (IsFair-saw (Counter g) (c + 1) (sees view) (sees then) after writes counts.here behind));
           records = Records-kept run words after views world.numbers world.links world.trees grows world.records records;
-          sights = Sights-set then (λ of. sees_tree);
+          sights = TreesSeen-set then (λ of. sees_tree);
           copies = Copies-seen run words after views id view then at own world.copies seen
               (AreBehind-saw (Counter g) (c + 1) (sees view) (sees then) after writes counts.here behind) (λ had. had) (Counter g) (c + 1) counts keeps part
               writes.here;

@@ -18,7 +18,7 @@ use Rattle.step_core.specs.WordNames.{Words, WritesWord}
 use Rattle.step_core.specs.WordNames.Word.{ChildOf, FirstOf, PointOf, TreeOf}
 use Rattle.step_core.specs.WordPlaces.{Sizes}
 use Rattle.step_core.specs.Words.{cost_in, parent_in, point_of_word, point_word, tree_word}
-use Rattle.step_core.specs.Worlds.{Links, Numbers, Trees, state_in}
+use Rattle.step_core.specs.Worlds.{LinkedTree, ClaimedMarks, Trees, state_in}
 use Rattle.step_core.specs.declared.views.SharedRun.{SharedRun}
 use Rattle.step_core.specs.declared.views.View.{View}
 use Rattle.step_core.proofs.LinkedStates.{GrowsInto-behind, first_cost-linked, linked-present}
@@ -34,8 +34,8 @@ pub record KeepsNodes (sizes : Sizes) (before after : Words) : Type 0 where
   pub trees : (n : ℕ) → is_linked sizes before n ≡ true → after (TreeOf n) ≡ before (TreeOf n)
   pub firsts : (n : ℕ) → is_linked sizes before n ≡ true → after (FirstOf n) ≡ before (FirstOf n)
 
-module _ (run : SharedRun) (before after : Words) (views later : List View) (numbers : Numbers run before views) (links : Links run before views)
-    (numbers_then : Numbers run after later) (links_then : Links run after later) (trees : Trees run before) (go : AreBehind before after) where
+module _ (run : SharedRun) (before after : Words) (views later : List View) (numbers : ClaimedMarks run before views) (links : LinkedTree run before views)
+    (numbers_then : ClaimedMarks run after later) (links_then : LinkedTree run after later) (trees : Trees run before) (go : AreBehind before after) where
   abbrev sizes : Sizes
   sizes = run_sizes run
 

@@ -27,32 +27,47 @@ pub record IsLater (before after : View) : Type 0 where
   pub looked : (name : Word) → (last_look after name ≡ last_look before name) ⊎ (before.steps < last_look after name)
   pub zero_found : (name : Word) → (last_zero after name ≡ last_zero before name) ⊎ ((before.steps < last_zero after name) × (sees before name ≡ 0))
 
--- What the law says of one view alone. Its greatest limit, its workers and its mark in hand are within their limits, and so are the numbers
--- that it has seen, and a worker's next turn while a mark is in hand. Its share is at most that of all workers. Without a share nothing is in
--- hand. Its workers' turns are the numbers of their records seen. It has seen at least what the pass had that it last took over. It sees its
--- tree from node 0 on: each node is where its way leads, no two are at one point, no number is past the last mark's, and none is that of the
--- node in hand before it is linked. The parents and the costs that it has seen are those of a tree within the limits, and those in hand fit a
--- word. With the share of all workers, the tree in the words that it sees keeps the order law.
+-- What the law says of one view alone.
 pub record IsLawfulView (view : View) : Type 0 where
+  -- the numbers of its run are within their limits
   pub run : IsSharedRun view.run
+  -- its tables have a place for each word, and its looks are by steps that it has made
   pub of_run : IsViewOf view.run view
+  -- its greatest limit is at most the number of marks
   pub most : view.most ≤ length view.run.marks
+  -- its share is at most that of all workers
   pub crew : share view ≤ view.run.workers
+  -- without a share nothing is in hand
   pub idle : share view ≡ 0 → view.hand ≡ None
+  -- the mark in hand is one of the marks
   pub mark : (hand : Hand) → view.hand ≡ Some hand → hand.mark < length view.run.marks
+  -- its workers are those of the run
   pub worker : (i : ℕ) (member : Member) → get_elem? view.crew i ≡ some member → member.worker < view.run.workers
+  -- while a mark is in hand, the next turn of a worker is below the number of marks
   pub turn : (hand : Hand) (i : ℕ) (member : Member) → view.hand ≡ Some hand → get_elem? view.crew i ≡ some member → member.turn < length view.run.marks
+  -- the next turn of a worker is the number of its records that were seen
   pub own_turn : (i : ℕ) (member : Member) → get_elem? view.crew i ≡ some member
       → member.turn ≡ turns_of (record_at (sees view)) (length view.run.marks) member.worker
+  -- it has seen at least what the pass had that it last took over
   pub took : AreBehind (took_over view) (sees view)
+  -- it sees its tree from node 0 on,
   pub tree : SeesTree view
+  -- each node where its way leads,
   pub ways : FollowSeenWays (tree_seen view)
+  -- no two at one point,
   pub distinct : AreDistinct (tree_seen view).points
+  -- none past the number of marks,
   pub within : (n : ℕ) → SeesNode view n → n ≤ length view.run.marks
+  -- and not the node in hand before that is linked
   pub unseen : (hand : Hand) → view.hand ≡ Some hand → has_link hand.stage ≡ false → ¬ SeesNode view (suc hand.mark)
+  -- the start is seen where it is
   pub start : SeesPoint view 0 view.run.start
+  -- the parent and the cost in hand fit a word
   pub pair_fits : (hand : Hand) → view.hand ≡ Some hand → has_first hand.stage ≡ true → (hand.parent < 2 ^ 18) × (hand.cost < 2 ^ 44)
+  -- the parents and the costs that were seen are those of a tree within the limits
   pub pairs : (n : ℕ) → 2 ^ 63 ≤ sees view (TreeOf n) → IsSeenPair view n
+  -- the count seen is within its limit, and so is each counter
   pub count : sees view Count ≤ length view.run.marks + 1
   pub counter : (g : ℕ) → g < view.run.strips → sees view (Counter g) ≤ length view.run.marks
-  pub whole : share view ≡ view.run.workers → KeepsOrder (setup_in view.run) (state_of_links (run_sizes view.run) (sees view))
+  -- with the share of all workers, the tree in the words seen keeps the order law
+  pub order : share view ≡ view.run.workers → KeepsOrder (setup_in view.run) (state_of_links (run_sizes view.run) (sees view))

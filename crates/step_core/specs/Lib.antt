@@ -21,3 +21,4 @@ pub mod ViewStarts
 pub mod LaterViews
 pub mod LastViews
 pub mod Histories
+pub mod Steps

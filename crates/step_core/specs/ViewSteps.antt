@@ -39,7 +39,7 @@ saw view name found left = saw_at view (place_in view name) found left
 abbrev pub loaded : View → Word → ℕ → View
 loaded view name word = saw view name word word
 
--- ---- claims and records
+-- ---- claims
 
 -- mark number c of strip g
 abbrev pub mark_of : SharedRun → ℕ → ℕ → ℕ
@@ -53,19 +53,6 @@ new_hand k = record { mark = k; stage = Claimed; nearest = 0; point = record { x
 abbrev pub claimed : View → ℕ → ℕ → ℕ → View
 claimed view g c limit =
     record (saw view (Counter g) c (c + 1)) { hand = Some (new_hand (mark_of view.run g c)); most = max view.most limit }
-
--- the first of a crew has made its turn
-abbrev pub one_turn_more : List Member → List Member
-one_turn_more [] = []
-one_turn_more (member ∷ crew) = record member { turn = member.turn + 1 } ∷ crew
-
--- a record is stored at this place, and the hand is empty
-abbrev pub finished_at : View → ℕ → ℕ → View
-finished_at view place word = record (saw_at view place word word) { hand = None; crew = one_turn_more view.crew }
-
--- the record of mark k
-abbrev pub finished : View → ℕ → ℕ → View
-finished view k word = finished_at view (place_in view (RecordOf k)) word
 
 -- ---- points, parents, links and counts
 
@@ -128,13 +115,28 @@ steps_at_last (fill ∷ fills) = fill.steps
 abbrev pub last_fill : View → List ℕ
 last_fill view = steps_at_last view.fills
 
+-- The node in hand is counted. How many there are, the step does not tell: the class of a mark is that of the count loaded last.
+abbrev pub counted : View → Hand → View
+counted view hand = record (stepped view) { hand = Some (record hand { stage = Counted }) }
+
+-- ---- costs and records
+
 -- The tree word of node n was the one seen last, and has this parent and this cost now.
 abbrev pub lowered : View → ℕ → ℕ → ℕ → View
 lowered view n parent cost = saw view (TreeOf n) (sees view (TreeOf n)) (tree_word parent cost)
 
--- The node in hand is counted. How many there are, the step does not tell: the class of a mark is that of the count loaded last.
-abbrev pub counted : View → Hand → View
-counted view hand = record (stepped view) { hand = Some (record hand { stage = Counted }) }
+-- the first of a crew has made its turn
+abbrev pub one_turn_more : List Member → List Member
+one_turn_more [] = []
+one_turn_more (member ∷ crew) = record member { turn = member.turn + 1 } ∷ crew
+
+-- a record is stored at this place, and the hand is empty
+abbrev pub finished_at : View → ℕ → ℕ → View
+finished_at view place word = record (saw_at view place word word) { hand = None; crew = one_turn_more view.crew }
+
+-- the record of mark k
+abbrev pub finished : View → ℕ → ℕ → View
+finished view k word = finished_at view (place_in view (RecordOf k)) word
 
 -- ---- splits
 

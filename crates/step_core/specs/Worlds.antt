@@ -57,7 +57,7 @@ limit_of view = if share view == 0 then 0 else view.most
 abbrev pub greatest_limit : List View → ℕ
 greatest_limit views = greatest (map limit_of views)
 
--- ---- numbers
+-- ---- claimed marks
 
 -- how many marks of each strip are claimed
 abbrev pub counters : Words → ℕ → ℕ
@@ -73,13 +73,33 @@ is_recorded words k = is_some (record_at words k)
 
 -- No counter is above its strip's quota below the greatest limit used. Each mark below the counters is recorded or in one hand, once, and
 -- no other mark is. No limit is above the number of marks. A record word is 0, or packed.
-pub record Numbers (run : SharedRun) (words : Words) (views : List View) : Type 0 where
+pub record ClaimedMarks (run : SharedRun) (words : Words) (views : List View) : Type 0 where
   pub quotas : (g : ℕ) → g < run.strips → words (Counter g) ≤ quota_of run.strips g (greatest_limit views)
   pub each_once : (k : ℕ) → once_if (is_recorded words k) + holders k views ≡ once_if (is_claimed run.strips (counters words) k)
   pub limits : EachView views (λ view. view.most ≤ length run.marks)
   pub packed : (k : ℕ) → IsRecordWord (words (RecordOf k))
 
--- ---- links
+-- ---- turns
+
+-- The member's next turn is the number of its worker's records, and the view has seen them all.
+pub record IsMember (run : SharedRun) (words : Words) (view : View) (member : Member) : Type 0 where
+  pub turn : member.turn ≡ turns_of (record_at words) (length run.marks) member.worker
+  pub own : (k : ℕ) → is_of_worker member.worker (record_at words k) ≡ true → sees view (RecordOf k) ≡ words (RecordOf k)
+
+-- The turns of each worker run from 0, with no gap and none twice. Each worker of the run is in one crew, and no other is in any.
+pub record Turns (run : SharedRun) (words : Words) (views : List View) : Type 0 where
+  pub workers : AreTurns (length run.marks) (record_at words)
+  pub members : EachView views (λ view. (i : ℕ) (member : Member) → get_elem? view.crew i ≡ some member → IsMember run words view member)
+  pub in_one_crew : (w : ℕ) → sum_by (λ view. times w view.crew) views ≡ once_if (nat_lt w run.workers)
+
+-- ---- shares
+
+-- The shares add up to the number of workers, and a view without a share has nothing in hand.
+pub record Shares (run : SharedRun) (views : List View) : Type 0 where
+  pub add_up : sum_by share views ≡ run.workers
+  pub idle : EachView views (λ view. share view ≡ 0 → view.hand ≡ None)
+
+-- ---- the linked tree
 
 -- how many views have mark k in hand, at a stage that passes the test
 abbrev pub hands_at : (Stage → Bool) → ℕ → List View → ℕ
@@ -92,7 +112,7 @@ counted_once words views k = once_if (has_node words (suc k)) + hands_at has_cou
 -- The way of a linked node's point leads to one child word, which names the node, and no other word does; node 0 is in none. A number that
 -- is not linked has no child. Beside node 0 those are linked whose marks are recorded as placed, or are in a hand that has linked them. The
 -- count is 1, and 1 for each mark that is recorded as placed, or is in a hand that has counted its node.
-pub record Links (run : SharedRun) (words : Words) (views : List View) : Type 0 where
+pub record LinkedTree (run : SharedRun) (words : Words) (views : List View) : Type 0 where
   pub start : words (PointOf 0) ≡ point_word run.start
   pub ways : FollowWays (children_of_words words) (linked_points (run_sizes run) words)
   pub linked : (k : ℕ) → once_if (is_linked (run_sizes run) words (suc k)) ≡ once_if (has_node words (suc k)) + hands_at has_link k views
@@ -139,31 +159,25 @@ pub record Pairs (run : SharedRun) (words : Words) (views : List View) : Type 0 
   pub no_first : (k : ℕ) → is_recorded words k ≡ false → hands_at has_first k views ≡ 0 → words (FirstOf (suc k)) ≡ 0
   pub no_tree : (k : ℕ) → is_recorded words k ≡ false → hands_at has_tree k views ≡ 0 → words (TreeOf (suc k)) ≡ 0
 
+-- ---- records
+
+-- Each record is borne out by the linked nodes. Its worker is one of the run's, if it was made in this run, or else within the limit.
+pub record Records (run : SharedRun) (words : Words) : Type 0 where
+  pub lawful : (k : ℕ) (entry : Record) → record_at words k ≡ Some entry
+      → IsLawfulRecord (setup_in run) (state_in run words) k (mark_at run.marks k) entry
+  pub workers : (k : ℕ) (entry : Record) → record_at words k ≡ Some entry → entry.worker < MOST_WORKERS
+  pub own_workers : (k : ℕ) (entry : Record) → record_at words k ≡ Some entry → run.opening ≤ k → entry.worker < run.workers
+
+-- ---- what was seen
+
 -- Each node may hang below the parent that a view has seen of it, at the cost that was seen, and cost no less than that when it was placed.
 abbrev pub SeenPairs : SharedRun → Words → List View → Type 0
 SeenPairs run words views = EachView views (λ view. view.run ≡ run → AreSeenLawfully (setup_in run) (tree_seen view) (state_in run words))
 
--- ---- turns
-
--- The member's next turn is the number of its worker's records, and the view has seen them all.
-pub record IsMember (run : SharedRun) (words : Words) (view : View) (member : Member) : Type 0 where
-  pub turn : member.turn ≡ turns_of (record_at words) (length run.marks) member.worker
-  pub own : (k : ℕ) → is_of_worker member.worker (record_at words k) ≡ true → sees view (RecordOf k) ≡ words (RecordOf k)
-
--- The turns of each worker run from 0, with no gap and none twice. Each worker of the run is in one crew, and no other is in any.
-pub record Turns (run : SharedRun) (words : Words) (views : List View) : Type 0 where
-  pub workers : AreTurns (length run.marks) (record_at words)
-  pub members : EachView views (λ view. (i : ℕ) (member : Member) → get_elem? view.crew i ≡ some member → IsMember run words view member)
-  pub in_one_crew : (w : ℕ) → sum_by (λ view. times w view.crew) views ≡ once_if (nat_lt w run.workers)
-
--- ---- shares
-
--- The shares add up to the number of workers, and a view without a share has nothing in hand.
-pub record Shares (run : SharedRun) (views : List View) : Type 0 where
-  pub whole : sum_by share views ≡ run.workers
-  pub idle : EachView views (λ view. share view ≡ 0 → view.hand ≡ None)
-
--- ---- seen
+-- Each view that is not spent sees its tree from node 0 on, and with their points and first words the nodes that it has seen recorded as
+-- placed.
+abbrev pub TreesSeen : SharedRun → List View → Type 0
+TreesSeen run views = EachView views (λ view. view.run ≡ run → SeesTree view)
 
 -- Two that saw a node at one cost saw one tree word, and so one parent.
 abbrev pub Agree : Words → Words → Type 0
@@ -172,17 +186,12 @@ Agree one other =
 
 -- What each view has seen of a word may become what the word is now. It has seen at least what the pass had that it last took over. Tree
 -- words are 0 or written, now and as they were seen, and two views that saw a node at one cost agree.
-pub record Seen (words : Words) (views : List View) : Type 0 where
+pub record SeenBehind (words : Words) (views : List View) : Type 0 where
   pub behind : EachView views (λ view. AreBehind (sees view) words)
   pub took : EachView views (λ view. AreBehind (took_over view) (sees view))
   pub pairs : HaveWholePairs words
-  pub whole : EachView views (λ view. HaveWholePairs (sees view))
+  pub pairs_seen : EachView views (λ view. HaveWholePairs (sees view))
   pub agree : EachView views (λ one. EachView views (λ other. Agree (sees one) (sees other)))
-
--- Each view that is not spent sees its tree from node 0 on, and with their points and first words the nodes that it has seen recorded as
--- placed.
-abbrev pub Sights : SharedRun → List View → Type 0
-Sights run views = EachView views (λ view. view.run ≡ run → SeesTree view)
 
 -- ---- copies
 
@@ -234,31 +243,22 @@ pub record Empties (run : SharedRun) (words : Words) (views : List View) : Type 
   pub filled : (n : ℕ) (side : Bool) → words (ChildOf n side) ≢ 0 → (i : ℕ) (view : View) → get_elem? views i ≡ some view
       → last_zero view (ChildOf n side) ≤ noted views (place_of (run_sizes run) (ChildOf n side)) i
 
--- ---- records
-
--- Each record is borne out by the linked nodes. Its worker is one of the run's, if it was made in this run, or else within the limit.
-pub record Records (run : SharedRun) (words : Words) : Type 0 where
-  pub lawful : (k : ℕ) (entry : Record) → record_at words k ≡ Some entry
-      → IsLawfulRecord (setup_in run) (state_in run words) k (mark_at run.marks k) entry
-  pub workers : (k : ℕ) (entry : Record) → record_at words k ≡ Some entry → entry.worker < MOST_WORKERS
-  pub own_workers : (k : ℕ) (entry : Record) → record_at words k ≡ Some entry → run.opening ≤ k → entry.worker < run.workers
-
 -- ---- the law
 
 -- All parts. A view is spent once its pass was taken over: it has no share, no hand, and has seen nothing.
 pub record IsWorld (run : SharedRun) (words : Words) (views : List View) : Type 0 where
   pub run_is : IsSharedRun run
   pub of_run : EachView views (λ view. (view ≡ spent) ⊎ IsViewOf run view)
-  pub numbers : Numbers run words views
+  pub numbers : ClaimedMarks run words views
   pub turns : Turns run words views
   pub shares : Shares run views
-  pub seen : Seen words views
-  pub links : Links run words views
-  pub trees : Trees run words
+  pub links : LinkedTree run words views
   pub hands : Hands words views
+  pub trees : Trees run words
   pub pairs : Pairs run words views
-  pub seen_pairs : SeenPairs run words views
   pub records : Records run words
-  pub sights : Sights run views
+  pub seen_pairs : SeenPairs run words views
+  pub sights : TreesSeen run views
+  pub seen : SeenBehind words views
   pub copies : Copies run words views
   pub empties : Empties run words views

@@ -1,6 +1,6 @@
-//! The law of worlds: how a world begins, that each kind of step keeps it, and what it says of marks, workers, links and what was
-//! seen. Each law is the contract of a function that does nothing. A step is made by the view at index `id`; the words after it
-//! are those before it, but for the word that it writes.
+//! The law of worlds: how a world begins, that each step keeps it, and what it says of marks, workers, links and what was seen. Each law
+//! is the contract of a function that does nothing. It speaks of a moment between two steps (`specs/Steps`): the words of the run, the
+//! views of its passes, and the one that steps next.
 
 ghost use Rattle.std.specs.Prelude.{◌≡◌, ◌≢◌, ◌↔◌, ℕ, suc, ◌+◌, ◌<◌, ◌≤◌, ◌^◌, Bool, true, List, [], ◌∷◌, ◌++◌, length, slice_set, IsSome, Some, None};
 ghost use lib.ListN.{get_elem?};
@@ -18,21 +18,20 @@ ghost use Rattle.step_core.specs.Histories.{HasCome, WasFree};
 ghost use Rattle.step_core.specs.LastViews.{StandsAsSeen};
 ghost use Rattle.step_core.specs.LaterViews.{IsLater, IsLawfulView};
 ghost use Rattle.step_core.specs.ViewStarts.{newcomer};
-ghost use Rattle.step_core.specs.SeenRecords.{MayRecord, own_count};
+ghost use Rattle.step_core.specs.SeenRecords.{own_count};
 ghost use Rattle.step_core.specs.SharedWords.{linked_points};
-ghost use Rattle.step_core.specs.Stages.{MayBeRecorded};
-ghost use Rattle.step_core.specs.ViewSteps.{claimed, counted, finished, half, joined, linked, loaded, looker, lowered, mark_of, pair_in_hand, parted};
+ghost use Rattle.step_core.specs.Steps.{Holds, IsMoment, MayCheapen, MayClaim, MayFinish, MayJoin, MayLink, Moment, Step, Steps, view_after, views_after};
+ghost use Rattle.step_core.specs.ViewSteps.{claimed, counted, finished, half, joined, linked, loaded, looker, lowered, pair_in_hand, parted};
 ghost use Rattle.step_core.specs.ViewSteps.{pointed, stepped, steps_then, treed, worker_apart};
-ghost use Rattle.step_core.specs.ViewTrees.{IsOnWayOf, IsSteered, LeadsTo, MayHang, MayLoad, MayLower, SeesNode, sight_in};
+ghost use Rattle.step_core.specs.ViewTrees.{IsOnWayOf, IsSteered, LeadsTo, MayHang, MayLoad, SeesNode, sight_in};
 ghost use Rattle.step_core.specs.Views.{holds, last_look, last_zero, run_of, run_sizes, sees, share, spent, tree_seen};
 ghost use Rattle.step_core.specs.WordKinds.{AreBehind, MayBecome, kind_of};
 ghost use Rattle.step_core.specs.WordNames.{Word, Words, WritesWord};
 ghost use Rattle.step_core.specs.WordNames.Word.{ChildOf, Count, Counter, FirstOf, PointOf, RecordOf, TreeOf};
 ghost use Rattle.step_core.specs.WordPlaces.{word_count};
-ghost use Rattle.step_core.specs.Words.{FitsWord, cost_in, parent_in, point_of_word, point_word, record_word, tree_of_word, tree_word};
+ghost use Rattle.step_core.specs.Words.{cost_in, parent_in, point_of_word, point_word, record_word, tree_of_word, tree_word};
 ghost use Rattle.step_core.specs.Worlds.{IsTold, IsWorld, counters, is_recorded};
 ghost use Rattle.step_core.specs.declared.views.Hand.{Hand};
-ghost use Rattle.step_core.specs.declared.views.Member.{Member};
 ghost use Rattle.step_core.specs.declared.views.SharedRun.{SharedRun};
 ghost use Rattle.step_core.specs.declared.views.Stage.TheVariants.{Claimed, Half, Linked, Pointed, Treed};
 ghost use Rattle.step_core.specs.declared.views.View.{View};
@@ -44,91 +43,64 @@ pub fn closed_runs_begin_worlds()
         → IsWorld (run_of task workers limit) (run_words task items) (newcomer (run_of task workers limit) items ∷ []) }
 {}
 
+/// Each step keeps the law, of whichever kind it is and whichever view makes it. What each word was may become what it is then, so no cost
+/// rises, and the view that stepped is a later one. The laws that follow say it of each kind.
+pub fn steps_keep_the_law()
+    ensures law { (now : Moment) → IsMoment now → (step : Step) (after : Words) → Steps now step after → IsWorld now.run after (views_after now step) }
+    ensures words { (now : Moment) → IsMoment now → (step : Step) (after : Words) → Steps now step after → AreBehind now.words after }
+    ensures view { (now : Moment) → IsMoment now → (step : Step) (after : Words) → Steps now step after → IsLater now.view (view_after now step) }
+{}
+
+/// A claim keeps the law: the counter of a strip goes up by one, and the mark of that number in the strip is in hand.
+pub fn claims_keep_the_law()
+    ensures law { (now : Moment) → IsMoment now → (strip limit : ℕ) → MayClaim now strip limit → (after : Words)
+        → WritesWord (Counter strip) (now.words (Counter strip) + 1) now.words after
+        → IsWorld now.run after (slice_set now.views now.id (claimed now.view strip (now.words (Counter strip)) limit)) }
+    // a claim that finds another number than was seen finds a higher one
+    ensures failed { (now : Moment) → IsMoment now → (strip : ℕ) → now.words (Counter strip) ≢ sees now.view (Counter strip)
+        → sees now.view (Counter strip) < now.words (Counter strip) }
+{}
+
 /// A load keeps the law. It is of the count, of a counter, or of a seen node's point, child or tree word. What was seen may
 /// become what is seen then.
 pub fn loads_keep_the_law()
-    ensures law { (run : SharedRun) (words : Words) (views : List View) (id : ℕ) (view : View) → IsWorld run words views → get_elem? views id ≡ some view
-        → view.run ≡ run → (name : Word) → MayLoad view name → IsWorld run words (slice_set views id (loaded view name (words name))) }
-    ensures seen { (run : SharedRun) (words : Words) (views : List View) (id : ℕ) (view : View) → IsWorld run words views → get_elem? views id ≡ some view
-        → view.run ≡ run → (name : Word) → MayLoad view name → AreBehind (sees view) (sees (loaded view name (words name))) }
+    ensures law { (now : Moment) → IsMoment now → (name : Word) → MayLoad now.view name
+        → IsWorld now.run now.words (slice_set now.views now.id (loaded now.view name (now.words name))) }
+    ensures seen { (now : Moment) → IsMoment now → (name : Word) → MayLoad now.view name
+        → AreBehind (sees now.view) (sees (loaded now.view name (now.words name))) }
     // the point of a seen node is written
-    ensures written { (run : SharedRun) (words : Words) (views : List View) (id : ℕ) (view : View) → IsWorld run words views
-        → get_elem? views id ≡ some view → view.run ≡ run → (n : ℕ) → SeesNode view n → IsSome (point_of_word (words (PointOf n))) }
+    ensures written { (now : Moment) → IsMoment now → (n : ℕ) → SeesNode now.view n → IsSome (point_of_word (now.words (PointOf n))) }
     // and so are its parent and its cost
-    ensures written_trees { (run : SharedRun) (words : Words) (views : List View) (id : ℕ) (view : View) → IsWorld run words views
-        → get_elem? views id ≡ some view → view.run ≡ run → (n : ℕ) → SeesNode view n → IsSome (tree_of_word (words (TreeOf n))) }
-{}
-
-/// A claim keeps the law: the counter of strip `g` goes up from `c`, and the mark of that number in the strip is in hand. It is
-/// made by a view with a share and nothing in hand, below a limit that is at most the number of marks.
-pub fn claims_keep_the_law()
-    ensures law { (run : SharedRun) (words : Words) (views : List View) (id : ℕ) (view : View) → IsWorld run words views → get_elem? views id ≡ some view
-        → view.run ≡ run → (after : Words) (g c limit : ℕ) → 0 < share view → view.hand ≡ None → g < run.strips → words (Counter g) ≡ c
-        → mark_of run g c < limit → limit ≤ length run.marks → WritesWord (Counter g) (c + 1) words after
-        → IsWorld run after (slice_set views id (claimed view g c limit)) }
-    ensures words { (words after : Words) (g c : ℕ) → words (Counter g) ≡ c → WritesWord (Counter g) (c + 1) words after → AreBehind words after }
-    // a claim that finds another number than was seen finds a higher one
-    ensures failed { (run : SharedRun) (words : Words) (views : List View) (id : ℕ) (view : View) → IsWorld run words views
-        → get_elem? views id ≡ some view → (g : ℕ) → words (Counter g) ≢ sees view (Counter g) → sees view (Counter g) < words (Counter g) }
+    ensures written_trees { (now : Moment) → IsMoment now → (n : ℕ) → SeesNode now.view n → IsSome (tree_of_word (now.words (TreeOf n))) }
 {}
 
 /// Writing the point of the node in hand keeps the law. Nothing was written for the mark, and the point is a step from a seen
 /// node towards it.
 pub fn points_keep_the_law()
-    ensures law { (run : SharedRun) (words after : Words) (views : List View) (id : ℕ) (view : View) → IsWorld run words views
-        → get_elem? views id ≡ some view → view.run ≡ run → (hand : Hand) → view.hand ≡ Some hand → hand.stage ≡ Claimed → (m : ℕ) (p : Point)
-        → IsSteered view hand.mark m p → WritesWord (PointOf (suc hand.mark)) (point_word p) words after
-        → IsWorld run after (slice_set views id (pointed view hand m p)) }
-    ensures words { (run : SharedRun) (words after : Words) (views : List View) (id : ℕ) (view : View) → IsWorld run words views
-        → get_elem? views id ≡ some view → (hand : Hand) → view.hand ≡ Some hand → hand.stage ≡ Claimed → (p : Point)
-        → WritesWord (PointOf (suc hand.mark)) (point_word p) words after → AreBehind words after }
+    ensures { (now : Moment) → IsMoment now → (hand : Hand) → Holds now.view hand Claimed → (m : ℕ) (p : Point) → IsSteered now.view hand.mark m p
+        → (after : Words) → WritesWord (PointOf (suc hand.mark)) (point_word p) now.words after
+        → IsWorld now.run after (slice_set now.views now.id (pointed now.view hand m p)) }
 {}
 
 /// Writing the first word and then the tree word of the node in hand keeps the law. Both hold the parent and the cost that the
 /// node is placed with. The parent is seen, with an edge that is allowed; the cost is what the parent was seen to cost and the
 /// edge, and is no more than below the nearest node.
 pub fn trees_keep_the_law()
-    ensures first { (run : SharedRun) (words after : Words) (views : List View) (id : ℕ) (view : View) → IsWorld run words views
-        → get_elem? views id ≡ some view → view.run ≡ run → (hand : Hand) → view.hand ≡ Some hand → hand.stage ≡ Pointed → (parent cost : ℕ)
-        → MayHang view hand parent cost → WritesWord (FirstOf (suc hand.mark)) (tree_word parent cost) words after
-        → IsWorld run after (slice_set views id (half view hand parent cost)) }
-    ensures tree { (run : SharedRun) (words after : Words) (views : List View) (id : ℕ) (view : View) → IsWorld run words views
-        → get_elem? views id ≡ some view → view.run ≡ run → (hand : Hand) → view.hand ≡ Some hand → hand.stage ≡ Half
-        → WritesWord (TreeOf (suc hand.mark)) (pair_in_hand hand) words after → IsWorld run after (slice_set views id (treed view hand)) }
-    ensures first_words { (run : SharedRun) (words after : Words) (views : List View) (id : ℕ) (view : View) → IsWorld run words views
-        → get_elem? views id ≡ some view → view.run ≡ run → (hand : Hand) → view.hand ≡ Some hand → hand.stage ≡ Pointed → (word : ℕ)
-        → WritesWord (FirstOf (suc hand.mark)) word words after → AreBehind words after }
-    ensures tree_words { (run : SharedRun) (words after : Words) (views : List View) (id : ℕ) (view : View) → IsWorld run words views
-        → get_elem? views id ≡ some view → view.run ≡ run → (hand : Hand) → view.hand ≡ Some hand → hand.stage ≡ Half → (word : ℕ)
-        → WritesWord (TreeOf (suc hand.mark)) word words after → AreBehind words after }
-{}
-
-/// Lowering the cost of a node keeps the law. The tree word that was seen last gives way to one of strictly lower cost: that of
-/// a seen parent and the edge, which is allowed. Whatever the parent costs by now, it is no more than what was seen.
-pub fn lowers_keep_the_law()
-    ensures law { (run : SharedRun) (words after : Words) (views : List View) (id : ℕ) (view : View) → IsWorld run words views
-        → get_elem? views id ≡ some view → view.run ≡ run → 0 < share view → (n parent cost : ℕ) → MayLower view n parent cost
-        → words (TreeOf n) ≡ sees view (TreeOf n) → WritesWord (TreeOf n) (tree_word parent cost) words after
-        → IsWorld run after (slice_set views id (lowered view n parent cost)) }
-    ensures words { (run : SharedRun) (words after : Words) (views : List View) (id : ℕ) (view : View) → IsWorld run words views
-        → get_elem? views id ≡ some view → view.run ≡ run → (n parent cost : ℕ) → MayLower view n parent cost
-        → words (TreeOf n) ≡ sees view (TreeOf n) → WritesWord (TreeOf n) (tree_word parent cost) words after → AreBehind words after }
-    // one that finds another word than was seen finds a lower cost
-    ensures failed { (run : SharedRun) (words : Words) (views : List View) (id : ℕ) (view : View) → IsWorld run words views
-        → get_elem? views id ≡ some view → (n : ℕ) → 2 ^ 63 ≤ sees view (TreeOf n) → words (TreeOf n) ≢ sees view (TreeOf n)
-        → (2 ^ 63 ≤ words (TreeOf n)) × (cost_in (words (TreeOf n)) < cost_in (sees view (TreeOf n))) }
+    ensures first { (now : Moment) → IsMoment now → (hand : Hand) → Holds now.view hand Pointed → (parent cost : ℕ) → MayHang now.view hand parent cost
+        → (after : Words) → WritesWord (FirstOf (suc hand.mark)) (tree_word parent cost) now.words after
+        → IsWorld now.run after (slice_set now.views now.id (half now.view hand parent cost)) }
+    ensures tree { (now : Moment) → IsMoment now → (hand : Hand) → Holds now.view hand Half → (after : Words)
+        → WritesWord (TreeOf (suc hand.mark)) (pair_in_hand hand) now.words after
+        → IsWorld now.run after (slice_set now.views now.id (treed now.view hand)) }
 {}
 
 /// A link keeps the law. It puts the node in hand, whose words are written, into an empty child word, to which the way of the
 /// point leads over what the view has seen. If that word is not 0, the step only loads it. The view notes how many steps each view
 /// has made by then.
 pub fn links_keep_the_law()
-    ensures law { (run : SharedRun) (words after : Words) (views : List View) (id : ℕ) (view : View) → IsWorld run words views
-        → get_elem? views id ≡ some view → view.run ≡ run → (hand : Hand) → view.hand ≡ Some hand → hand.stage ≡ Treed → (n : ℕ) (side : Bool)
-        → LeadsTo view hand.point n side → words (ChildOf n side) ≡ 0 → WritesWord (ChildOf n side) (suc hand.mark) words after
-        → IsWorld run after (slice_set views id (linked view hand n side (steps_then views id view))) }
-    ensures words { (words after : Words) (n m : ℕ) (side : Bool) → words (ChildOf n side) ≡ 0 → WritesWord (ChildOf n side) m words after
-        → AreBehind words after }
+    ensures law { (now : Moment) → IsMoment now → (hand : Hand) (n : ℕ) (side : Bool) → MayLink now hand n side → (after : Words)
+        → WritesWord (ChildOf n side) (suc hand.mark) now.words after
+        → IsWorld now.run after (slice_set now.views now.id (linked now.view hand n side (steps_then now.views now.id now.view))) }
     // a link that finds a child takes the way a step deeper, to that child
     ensures failed { (before after : View) → IsLater before after → (p : Point) (n c : ℕ) (side : Bool) (leads : LeadsTo before p n side)
         → (tree_seen after).child n side ≡ Some c → IsOnWayOf after p (suc leads.depth) c }
@@ -137,30 +109,73 @@ pub fn links_keep_the_law()
         → is_linked (run_sizes run) words n ≡ true ↔ IsLinked words n }
 {}
 
+/// Counting the linked node in hand keeps the law.
+pub fn counts_keep_the_law()
+    ensures law { (now : Moment) → IsMoment now → (hand : Hand) → Holds now.view hand Linked → (after : Words)
+        → WritesWord Count (now.words Count + 1) now.words after → IsWorld now.run after (slice_set now.views now.id (counted now.view hand)) }
+    // no more nodes are counted than there may be
+    ensures most { (run : SharedRun) (words : Words) (views : List View) → IsWorld run words views → words Count ≤ length run.marks + 1 }
+    // and no fewer than a worker has placed, by the records that a view has seen
+    ensures own { (now : Moment) → IsMoment now → (entry : Record) → own_count now.view entry ≤ now.words Count }
+{}
+
+/// Lowering the cost of a node keeps the law. The tree word that was seen last gives way to one of strictly lower cost: that of
+/// a seen parent and the edge, which is allowed. Whatever the parent costs by now, it is no more than what was seen.
+pub fn lowers_keep_the_law()
+    ensures law { (now : Moment) → IsMoment now → (n parent cost : ℕ) → MayCheapen now n parent cost → (after : Words)
+        → WritesWord (TreeOf n) (tree_word parent cost) now.words after
+        → IsWorld now.run after (slice_set now.views now.id (lowered now.view n parent cost)) }
+    // one that finds another word than was seen finds a lower cost
+    ensures failed { (now : Moment) → IsMoment now → (n : ℕ) → 2 ^ 63 ≤ sees now.view (TreeOf n) → now.words (TreeOf n) ≢ sees now.view (TreeOf n)
+        → (2 ^ 63 ≤ now.words (TreeOf n)) × (cost_in (now.words (TreeOf n)) < cost_in (sees now.view (TreeOf n))) }
+{}
+
+/// A record of the mark in hand keeps the law. It is of the first worker of the view's crew, and of its next turn. It says that
+/// the mark was placed if its node is counted, and anything else only if its node is not linked. What it says is borne out by what
+/// the view has seen.
+pub fn records_keep_the_law()
+    ensures { (now : Moment) → IsMoment now → (hand : Hand) (entry : Record) → MayFinish now.view hand entry → (after : Words)
+        → WritesWord (RecordOf hand.mark) (record_word entry) now.words after
+        → IsWorld now.run after (slice_set now.views now.id (finished now.view hand.mark (record_word entry))) }
+{}
+
+/// A split keeps the law: one without a share for the new view, and one that gives it the second worker of the crew.
+pub fn splits_keep_the_law()
+    ensures worker { (now : Moment) → IsMoment now
+        → IsWorld now.run now.words (slice_set now.views now.id (parted now.view) ++ worker_apart now.view ∷ []) }
+    ensures looker { (now : Moment) → IsMoment now → IsWorld now.run now.words (slice_set now.views now.id (stepped now.view) ++ looker now.view ∷ []) }
+{}
+
+/// A join keeps the law, if neither view has a mark in hand. What either had seen may become what is seen then.
+pub fn joins_keep_the_law()
+    ensures law { (now : Moment) → IsMoment now → (j : ℕ) (other : View) → MayJoin now j other
+        → IsWorld now.run now.words (slice_set (slice_set now.views now.id (joined now.view other)) j spent) }
+    ensures seen { (view other : View) → AreBehind (sees view) (sees (joined view other)) }
+    ensures others_seen { (now : Moment) → IsMoment now → (j : ℕ) (other : View) → other.run ≡ now.run → get_elem? now.views j ≡ some other
+        → AreBehind (sees other) (sees (joined now.view other)) }
+{}
+
 /// A place of a child that is empty has no node beyond it: if the way of a point over what a view has seen leads to the place, and its
 /// word is 0, no linked node stands at that point. So a pass that finds the place empty has missed none, and whoever comes to that
 /// point is linked later.
 pub fn empty_places_have_no_node()
-    ensures { (run : SharedRun) (words : Words) (views : List View) (id : ℕ) (view : View) → IsWorld run words views → get_elem? views id ≡ some view
-        → view.run ≡ run → (q : Point) (n : ℕ) (side : Bool) → LeadsTo view q n side → words (ChildOf n side) ≡ 0
-        → IsFree (linked_points (run_sizes run) words) q }
+    ensures { (now : Moment) → IsMoment now → (q : Point) (n : ℕ) (side : Bool) → LeadsTo now.view q n side → now.words (ChildOf n side) ≡ 0
+        → IsFree (linked_points (run_sizes now.run) now.words) q }
 {}
 
 /// A place of a child that a step says to have found empty was empty. That holds of a step of any kind which keeps the law, leaves a
 /// later view and notes no fill: a view cannot have found a place empty by it that was filled before. So no node stood then at a point
 /// whose way leads to that place by what the view sees at that moment, or at any later one.
 pub fn what_was_found_empty_was_empty()
-    ensures before { (run : SharedRun) (words after : Words) (views : List View) (id : ℕ) (view then : View) → IsWorld run words views
-        → get_elem? views id ≡ some view → IsWorld run after (slice_set views id then) → IsLater view then → view.run ≡ run → then.fills ≡ view.fills
-        → (n : ℕ) (side : Bool) → view.steps < last_zero then (ChildOf n side) → words (ChildOf n side) ≡ 0 }
+    ensures before { (now : Moment) → IsMoment now → (after : Words) (then : View) → IsWorld now.run after (slice_set now.views now.id then)
+        → IsLater now.view then → then.fills ≡ now.view.fills → (n : ℕ) (side : Bool) → now.view.steps < last_zero then (ChildOf n side)
+        → now.words (ChildOf n side) ≡ 0 }
     // and the step left it empty
-    ensures after { (run : SharedRun) (words after : Words) (views : List View) (id : ℕ) (view then : View) → IsWorld run words views
-        → get_elem? views id ≡ some view → IsWorld run after (slice_set views id then) → view.run ≡ run → then.fills ≡ view.fills
-        → (n : ℕ) (side : Bool) → view.steps < last_zero then (ChildOf n side) → after (ChildOf n side) ≡ 0 }
+    ensures after { (now : Moment) → IsMoment now → (after : Words) (then : View) → IsWorld now.run after (slice_set now.views now.id then)
+        → then.fills ≡ now.view.fills → (n : ℕ) (side : Bool) → now.view.steps < last_zero then (ChildOf n side) → after (ChildOf n side) ≡ 0 }
     // so a load may not tell of a filled place that it was found empty, whatever the view had seen there
-    ensures stale { (run : SharedRun) (words : Words) (views : List View) (id : ℕ) (view : View) → IsWorld run words views → get_elem? views id ≡ some view
-        → view.run ≡ run → (n : ℕ) (side : Bool) → n ≤ length run.marks → words (ChildOf n side) ≢ 0
-        → ¬ IsWorld run words (slice_set views id (loaded view (ChildOf n side) 0)) }
+    ensures stale { (now : Moment) → IsMoment now → (n : ℕ) (side : Bool) → n ≤ length now.run.marks → now.words (ChildOf n side) ≢ 0
+        → ¬ IsWorld now.run now.words (slice_set now.views now.id (loaded now.view (ChildOf n side) 0)) }
     // If the way of a point leads, by what a view sees in the same world or a later one, to a place that is empty now, no node stands
     // there now.
     ensures no_node { (run : SharedRun) (words later : Words) (views lasts : List View) (id : ℕ) (view : View) → IsWorld run words views
@@ -197,75 +212,23 @@ pub fn swept_points_were_free()
 /// No word that tells of the run goes back, and so no cost rises. That holds of a step of any kind which keeps the law and leaves a
 /// later view: each such word was seen as it is by some view with a share, and what that has seen may become the word after.
 pub fn no_cost_rises()
-    ensures told { (run : SharedRun) (words after : Words) (views : List View) (id : ℕ) (view then : View) → IsWorld run words views
-        → get_elem? views id ≡ some view → IsWorld run after (slice_set views id then) → IsLater view then → (name : Word) → IsTold run words name
-        → MayBecome (kind_of name) (words name) (after name) }
-    ensures costs { (run : SharedRun) (words after : Words) (views : List View) (id : ℕ) (view then : View) → IsWorld run words views
-        → get_elem? views id ≡ some view → IsWorld run after (slice_set views id then) → IsLater view then → (n : ℕ)
-        → is_linked (run_sizes run) words n ≡ true → cost_in (after (TreeOf n)) ≤ cost_in (words (TreeOf n)) }
+    ensures told { (now : Moment) → IsMoment now → (after : Words) (then : View) → IsWorld now.run after (slice_set now.views now.id then)
+        → IsLater now.view then → (name : Word) → IsTold now.run now.words name → MayBecome (kind_of name) (now.words name) (after name) }
+    ensures costs { (now : Moment) → IsMoment now → (after : Words) (then : View) → IsWorld now.run after (slice_set now.views now.id then)
+        → IsLater now.view then → (n : ℕ) → is_linked (run_sizes now.run) now.words n ≡ true → cost_in (after (TreeOf n)) ≤ cost_in (now.words (TreeOf n)) }
 {}
 
 /// A view looks at words, and finds them 0, by steps that it has made. So where a look at a word is later than a moment, the view has
 /// stepped since: what is told of words that were loaded after a moment speaks of loads after it.
 pub fn looks_are_by_steps_made()
-    ensures looked { (run : SharedRun) (words : Words) (views : List View) (id : ℕ) (view : View) → IsWorld run words views
-        → get_elem? views id ≡ some view → view.run ≡ run → (name : Word) (moment : ℕ) → moment < last_look view name → moment < view.steps }
-    ensures found_zero { (run : SharedRun) (words : Words) (views : List View) (id : ℕ) (view : View) → IsWorld run words views
-        → get_elem? views id ≡ some view → view.run ≡ run → (name : Word) (moment : ℕ) → moment < last_zero view name → moment < view.steps }
-{}
-
-/// Counting the linked node in hand keeps the law.
-pub fn counts_keep_the_law()
-    ensures law { (run : SharedRun) (words after : Words) (views : List View) (id : ℕ) (view : View) → IsWorld run words views
-        → get_elem? views id ≡ some view → view.run ≡ run → (hand : Hand) → view.hand ≡ Some hand → hand.stage ≡ Linked
-        → WritesWord Count (words Count + 1) words after → IsWorld run after (slice_set views id (counted view hand)) }
-    ensures words { (words after : Words) → WritesWord Count (words Count + 1) words after → AreBehind words after }
-    // no more nodes are counted than there may be
-    ensures most { (run : SharedRun) (words : Words) (views : List View) → IsWorld run words views → words Count ≤ length run.marks + 1 }
-    // and no fewer than a worker has placed, by the records that a view has seen
-    ensures own { (run : SharedRun) (words : Words) (views : List View) (id : ℕ) (view : View) → IsWorld run words views → get_elem? views id ≡ some view
-        → view.run ≡ run → (entry : Record) → own_count view entry ≤ words Count }
-{}
-
-/// A record of the mark in hand keeps the law. It is of the first worker of the view's crew, and of its next turn. It says that
-/// the mark was placed if its node is counted, and anything else only if its node is not linked. What it says is borne out by what
-/// the view has seen.
-pub fn records_keep_the_law()
-    ensures law { (run : SharedRun) (words after : Words) (views : List View) (id : ℕ) (view : View) → IsWorld run words views
-        → get_elem? views id ≡ some view → view.run ≡ run → (hand : Hand) → view.hand ≡ Some hand → (member : Member) (crew : List Member)
-        → view.crew ≡ member ∷ crew → (entry : Record) → FitsWord entry → entry.worker ≡ member.worker → entry.turn ≡ member.turn
-        → MayBeRecorded hand.stage entry.outcome → MayRecord view hand entry → WritesWord (RecordOf hand.mark) (record_word entry) words after
-        → IsWorld run after (slice_set views id (finished view hand.mark (record_word entry))) }
-    ensures words { (run : SharedRun) (words after : Words) (views : List View) (id : ℕ) (view : View) → IsWorld run words views
-        → get_elem? views id ≡ some view → (hand : Hand) → view.hand ≡ Some hand → (word : ℕ) → WritesWord (RecordOf hand.mark) word words after
-        → AreBehind words after }
-{}
-
-/// A split keeps the law: one without a share for the new view, and one that gives it the second worker of the crew.
-pub fn splits_keep_the_law()
-    ensures looker { (run : SharedRun) (words : Words) (views : List View) (id : ℕ) (view : View) → IsWorld run words views → get_elem? views id ≡ some view
-        → view.run ≡ run → IsWorld run words (slice_set views id (stepped view) ++ looker view ∷ []) }
-    ensures worker { (run : SharedRun) (words : Words) (views : List View) (id : ℕ) (view : View) → IsWorld run words views → get_elem? views id ≡ some view
-        → view.run ≡ run → IsWorld run words (slice_set views id (parted view) ++ worker_apart view ∷ []) }
-{}
-
-/// A join keeps the law, if neither view has a mark in hand. What either had seen may become what is seen then.
-pub fn joins_keep_the_law()
-    ensures law { (run : SharedRun) (words : Words) (views : List View) (id : ℕ) (view : View) (j : ℕ) (other : View) → IsWorld run words views
-        → get_elem? views id ≡ some view → view.run ≡ run → other.run ≡ run → j ≢ id → get_elem? (slice_set views id (joined view other)) j ≡ some other
-        → view.hand ≡ None → other.hand ≡ None → IsWorld run words (slice_set (slice_set views id (joined view other)) j spent) }
-    ensures seen { (view other : View) → AreBehind (sees view) (sees (joined view other)) }
-    ensures others_seen { (run : SharedRun) (words : Words) (views : List View) (id : ℕ) (view : View) (j : ℕ) (other : View) → IsWorld run words views
-        → get_elem? views id ≡ some view → view.run ≡ run → other.run ≡ run → get_elem? views j ≡ some other
-        → AreBehind (sees other) (sees (joined view other)) }
+    ensures looked { (now : Moment) → IsMoment now → (name : Word) (moment : ℕ) → moment < last_look now.view name → moment < now.view.steps }
+    ensures found_zero { (now : Moment) → IsMoment now → (name : Word) (moment : ℕ) → moment < last_zero now.view name → moment < now.view.steps }
 {}
 
 /// A mark in hand has no record yet, is one of the marks, and is in no other hand.
 pub fn marks_in_hand_are_in_one_hand()
-    ensures no_record { (run : SharedRun) (words : Words) (views : List View) (id : ℕ) (view : View) → IsWorld run words views
-        → get_elem? views id ≡ some view → (hand : Hand) → view.hand ≡ Some hand → record_at words hand.mark ≡ None }
-    ensures within { (run : SharedRun) (words : Words) (views : List View) (id : ℕ) (view : View) → IsWorld run words views
-        → get_elem? views id ≡ some view → (hand : Hand) → view.hand ≡ Some hand → hand.mark < length run.marks }
+    ensures no_record { (now : Moment) → IsMoment now → (hand : Hand) → now.view.hand ≡ Some hand → record_at now.words hand.mark ≡ None }
+    ensures within { (now : Moment) → IsMoment now → (hand : Hand) → now.view.hand ≡ Some hand → hand.mark < length now.run.marks }
     ensures alone { (run : SharedRun) (words : Words) (views : List View) (i j : ℕ) (one other : View) → IsWorld run words views
         → get_elem? views i ≡ some one → get_elem? views j ≡ some other → (k : ℕ) → holds k one.hand ≡ true → holds k other.hand ≡ true → i ≡ j }
 {}
@@ -273,38 +236,35 @@ pub fn marks_in_hand_are_in_one_hand()
 /// If one view has the whole share, it sees each word that tells of the run as it is: the counters, the records, and the words of
 /// the linked nodes.
 pub fn whole_shares_see_all_words()
-    ensures words { (run : SharedRun) (words : Words) (views : List View) (id : ℕ) (view : View) → IsWorld run words views → get_elem? views id ≡ some view
-        → share view ≡ run.workers → (name : Word) → IsTold run words name → sees view name ≡ words name }
+    ensures words { (now : Moment) → IsMoment now → share now.view ≡ now.run.workers → (name : Word) → IsTold now.run now.words name
+        → sees now.view name ≡ now.words name }
     // it sees each record that there is, and no other
-    ensures records { (run : SharedRun) (words : Words) (views : List View) (id : ℕ) (view : View) → IsWorld run words views → get_elem? views id ≡ some view
-        → share view ≡ run.workers → (k : ℕ) → record_at (sees view) k ≡ record_at words k }
+    ensures records { (now : Moment) → IsMoment now → share now.view ≡ now.run.workers → (k : ℕ) → record_at (sees now.view) k ≡ record_at now.words k }
 {}
 
 /// If one view has the whole share, the tree that it has seen is that of the linked nodes.
 pub fn whole_shares_see_all_nodes()
     // it sees the linked nodes, and no others
-    ensures nodes { (run : SharedRun) (words : Words) (views : List View) (id : ℕ) (view : View) → IsWorld run words views → get_elem? views id ≡ some view
-        → share view ≡ run.workers → (n : ℕ) → SeesNode view n ↔ is_linked (run_sizes run) words n ≡ true }
+    ensures nodes { (now : Moment) → IsMoment now → share now.view ≡ now.run.workers → (n : ℕ)
+        → SeesNode now.view n ↔ is_linked (run_sizes now.run) now.words n ≡ true }
     // with the points where they stand,
-    ensures points { (run : SharedRun) (words : Words) (views : List View) (id : ℕ) (view : View) → IsWorld run words views → get_elem? views id ≡ some view
-        → share view ≡ run.workers → (tree_seen view).points ≡ linked_points (run_sizes run) words }
+    ensures points { (now : Moment) → IsMoment now → share now.view ≡ now.run.workers
+        → (tree_seen now.view).points ≡ linked_points (run_sizes now.run) now.words }
     // with their children,
-    ensures children { (run : SharedRun) (words : Words) (views : List View) (id : ℕ) (view : View) → IsWorld run words views → get_elem? views id ≡ some view
-        → share view ≡ run.workers → (n : ℕ) (side : Bool) → (tree_seen view).child n side ≡ children_of_words words n side }
+    ensures children { (now : Moment) → IsMoment now → share now.view ≡ now.run.workers → (n : ℕ) (side : Bool)
+        → (tree_seen now.view).child n side ≡ children_of_words now.words n side }
     // with their parents and costs,
-    ensures trees { (run : SharedRun) (words : Words) (views : List View) (id : ℕ) (view : View) → IsWorld run words views → get_elem? views id ≡ some view
-        → share view ≡ run.workers → (n : ℕ) → is_linked (run_sizes run) words n ≡ true
-        → (tree_seen view).parent_and_cost n ≡ Some (parent_in (words (TreeOf n)), cost_in (words (TreeOf n))) }
+    ensures trees { (now : Moment) → IsMoment now → share now.view ≡ now.run.workers → (n : ℕ) → is_linked (run_sizes now.run) now.words n ≡ true
+        → (tree_seen now.view).parent_and_cost n ≡ Some (parent_in (now.words (TreeOf n)), cost_in (now.words (TreeOf n))) }
     // if all that it has linked is counted, the count is the number of nodes that it sees
-    ensures count { (run : SharedRun) (words : Words) (views : List View) (id : ℕ) (view : View) → IsWorld run words views → get_elem? views id ≡ some view
-        → share view ≡ run.workers → ((hand : Hand) → view.hand ≡ Some hand → hand.stage ≢ Linked)
-        → words Count ≡ node_count (tree_seen view).points }
+    ensures count { (now : Moment) → IsMoment now → share now.view ≡ now.run.workers → ((hand : Hand) → now.view.hand ≡ Some hand → hand.stage ≢ Linked)
+        → now.words Count ≡ node_count (tree_seen now.view).points }
 {}
 
 /// If one view has the whole share and nothing in hand, exactly the marks below the counters are recorded.
 pub fn whole_shares_have_all_recorded()
-    ensures { (run : SharedRun) (words : Words) (views : List View) (id : ℕ) (view : View) → IsWorld run words views → get_elem? views id ≡ some view
-        → share view ≡ run.workers → view.hand ≡ None → (k : ℕ) → is_recorded words k ≡ is_claimed run.strips (counters words) k }
+    ensures { (now : Moment) → IsMoment now → share now.view ≡ now.run.workers → now.view.hand ≡ None → (k : ℕ)
+        → is_recorded now.words k ≡ is_claimed now.run.strips (counters now.words) k }
 {}
 
 /// If one view has the whole share and nothing in hand, and has seen each counter at or above its quota below a limit no less than
@@ -333,38 +293,18 @@ pub fn seen_claims_are_below_the_limit()
         → is_claimed view.run.strips (counters (sees view)) k ≡ true → k < view.most }
 {}
 
-/// A view after steps of its own is a later one: what was seen may become what is seen, and the numbers of steps go on.
+/// A view after steps of its own is a later one: what was seen may become what is seen, and the numbers of steps go on. That one step leads
+/// to such a view is in `steps_keep_the_law`.
 pub fn steps_lead_to_later_views()
     ensures stay { (view : View) → IsLater view view }
     ensures go_on { (before mid after : View) → IsLater before mid → IsLater mid after → IsLater before after }
-    ensures load { (run : SharedRun) (words : Words) (views : List View) (id : ℕ) (view : View) → IsWorld run words views → get_elem? views id ≡ some view
-        → view.run ≡ run → (name : Word) → MayLoad view name → IsLater view (loaded view name (words name)) }
-    ensures claim { (run : SharedRun) (words : Words) (views : List View) (id : ℕ) (view : View) → IsWorld run words views → get_elem? views id ≡ some view
-        → view.run ≡ run → (g c limit : ℕ) → g < run.strips → words (Counter g) ≡ c → IsLater view (claimed view g c limit) }
-    ensures record_stored { (run : SharedRun) (words : Words) (views : List View) (id : ℕ) (view : View) → IsWorld run words views
-        → get_elem? views id ≡ some view → view.run ≡ run → (hand : Hand) → view.hand ≡ Some hand → (word : ℕ) → 2 ^ 63 ≤ word
-        → IsLater view (finished view hand.mark word) }
-    ensures point { (view : View) (hand : Hand) (m : ℕ) (p : Point) → IsLater view (pointed view hand m p) }
-    ensures first { (view : View) (hand : Hand) (parent cost : ℕ) → IsLater view (half view hand parent cost) }
-    ensures tree { (view : View) (hand : Hand) → IsLater view (treed view hand) }
-    ensures lower { (run : SharedRun) (words : Words) (views : List View) (id : ℕ) (view : View) → IsWorld run words views → get_elem? views id ≡ some view
-        → view.run ≡ run → (n parent cost : ℕ) → MayLower view n parent cost → words (TreeOf n) ≡ sees view (TreeOf n)
-        → IsLater view (lowered view n parent cost) }
-    ensures link { (run : SharedRun) (words : Words) (views : List View) (id : ℕ) (view : View) → IsWorld run words views → get_elem? views id ≡ some view
-        → view.run ≡ run → (hand : Hand) → view.hand ≡ Some hand → hand.stage ≡ Treed → (n : ℕ) (side : Bool)
-        → LeadsTo view hand.point n side → words (ChildOf n side) ≡ 0 → (steps : List ℕ) → IsLater view (linked view hand n side steps) }
-    ensures count { (view : View) (hand : Hand) → IsLater view (counted view hand) }
-    ensures split { (view : View) → IsLater view (stepped view) }
-    ensures worker_split { (view : View) → IsLater view (parted view) }
-    ensures join { (view other : View) → IsLater view (joined view other) }
 {}
 
 /// What the law says of each view alone: its worker, its turn, its mark in hand and the numbers that it has seen are within their
 /// limits, and it has seen at least what the pass had that it last took over. Of the tree it has seen each node where its way
 /// leads, no two at one point, and not the node in its hand before that is linked.
 pub fn views_of_worlds_are_lawful()
-    ensures { (run : SharedRun) (words : Words) (views : List View) (id : ℕ) (view : View) → IsWorld run words views → get_elem? views id ≡ some view
-        → view.run ≡ run → IsLawfulView view }
+    ensures { (now : Moment) → IsMoment now → IsLawfulView now.view }
 {}
 
 /// A lawful view keeps to what is said of sights (`plan_model/specs/Seen/Sights`), and a later view of the same pass is a later moment

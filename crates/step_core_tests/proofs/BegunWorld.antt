@@ -272,12 +272,12 @@ IsWorld-begun = record {
     members = both (λ u. (i : ℕ) (member : Member) → get_elem? u.crew i ≡ some member → IsMember small_run words u member) members_one members_other;
     in_one_crew = crew;
   };
-  shares = record { whole = refl; idle = both (λ u. share u ≡ 0 → u.hand ≡ None) (λ e. refl) (λ e. refl) };
+  shares = record { add_up = refl; idle = both (λ u. share u ≡ 0 → u.hand ≡ None) (λ e. refl) (λ e. refl) };
   seen = record {
     behind = both (λ u. AreBehind (sees u) words) (AreBehind-refl words) (AreBehind-refl words);
     took = both (λ u. AreBehind (took_over u) (sees u)) (AreBehind-nothing sizes words) (AreBehind-nothing sizes words);
     pairs = whole_pairs;
-    whole = both (λ u. HaveWholePairs (sees u)) whole_pairs whole_pairs;
+    pairs_seen = both (λ u. HaveWholePairs (sees u)) whole_pairs whole_pairs;
     agree = both (λ u. EachView (one ∷ other ∷ []) (λ v. Agree (sees u) (sees v)))
         (both (λ v. Agree (sees one) (sees v)) (λ n a b e. refl) (λ n a b e. refl))
         (both (λ v. Agree (sees other) (sees v)) (λ n a b e. refl) (λ n a b e. refl));

@@ -40,7 +40,7 @@ module _ (view : View) (tree : Nodes) (lawful : IsLawfulView view) (whole : HasW
   state = state_of_links (run_sizes view.run) (sees view)
 
   order : KeepsOrder (setup_in view.run) state
-  order = lawful.whole whole
+  order = lawful.order whole
 
   pub is_seen : (n : ℕ) → IsPresent (points_of tree) n → IsPresent (tree_seen view).points n
   is_seen n here = ap is_some (points n) ∙ here

@@ -158,7 +158,7 @@ returns-in-Placed-clause-textbook g c = λ steers filled alone book.
     (c.choose_and_place-placing.ensures.whole alone.whole) in
     let reach = c.requires.filled.1.filled.in_reach in
     let filled_class = subst (λ n. IsFilledWhole before.view p n before.near) (sym c.choose_and_place-placing.ensures.class) filled in
-    let start_clear = (keeps.goes_on.was_lawful.whole alone.whole).start_clear in
+    let start_clear = (keeps.goes_on.was_lawful.order alone.whole).start_clear in
     let mirrors = Mirrors-tried shared before after c.args.k m p hanging may keeps placed whole reach steers filled_class book start_clear in
     let rewired = c.rewire.ensures.whole (HasWholeShare-kept shared before after keeps alone.whole) _ mirrors in
     AloneNext-placed shared before after c.args.k m p hanging may keeps placed whole reach steers filled_class book start_clear c.rewire.new.pass

@@ -41,7 +41,8 @@ loop-node-preserved c =
       least =
           c.loop-node.invariant.least
           ∙ sym (best_of-other (goals_of grown.task.scene) (state_of_grown grown) (next - 1) next (all - (next - 1)) (all - next) (omega arith)
-          (omega (arith, c.limit-node.ensures)) (sym (rw (c.as_slice-goals.ensures, c.task.ensures) at c.is_goal_node.ensures.value) ∙ c.if-is_goal_node.false));
+          (omega (arith, c.limit-node.ensures))
+          (sym (rw (c.as_slice-goals.ensures, c.task.ensures) at c.is_goal_node.ensures.value) ∙ c.if-is_goal_node.false));
       present = c.loop-node.invariant.present;
     }
 

@@ -8,7 +8,7 @@ use Rattle.step_core.proofs.world_laws.empty_places_have_no_node.Goals as goal
 
 pub returns : goal.returns
 returns c =
-    λ run words views id view world at own q n side leads empty.
-    subst (λ r. IsFree (linked_points (run_sizes r) words) q) own
-    (IsFree-leads view words (world.seen.behind id view at) (tree run words views id view world at own) (follow run words views id view world at own)
-    q n side leads empty)
+    λ now is q n side leads empty.
+    subst (λ r. IsFree (linked_points (run_sizes r) now.words) q) is.own
+    (IsFree-leads now.view now.words (is.world.seen.behind now.id now.view is.at) (tree now.run now.words now.views now.id now.view is.world is.at is.own)
+    (follow now.run now.words now.views now.id now.view is.world is.at is.own) q n side leads empty)

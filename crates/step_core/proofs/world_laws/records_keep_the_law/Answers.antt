@@ -1,8 +1,7 @@
-use Rattle.step_core.proofs.FinishedMarks.{AreBehind-finished, IsWorld-recorded}
+use Rattle.step_core.proofs.SteppedWorlds.{IsWorld-stepped}
+use Rattle.step_core.specs.Steps.{Step}
 use Rattle.step_core.proofs.world_laws.records_keep_the_law.Goals as goal
 
-pub returns-clause-law : goal.returns-clause-law
-returns-clause-law c = IsWorld-recorded
-
-pub returns-clause-words : goal.returns-clause-words
-returns-clause-words c = AreBehind-finished
+pub returns : goal.returns
+returns c =
+    λ now is hand entry may after writes. IsWorld-stepped now is (Step.Finish hand entry) after (record { may = may; leaves = writes })

@@ -2,4 +2,4 @@ use Rattle.step_core.proofs.WholeShares.{is_recorded-whole}
 use Rattle.step_core.proofs.world_laws.whole_shares_have_all_recorded.Goals as goal
 
 pub returns : goal.returns
-returns c = is_recorded-whole
+returns c = λ now is. is_recorded-whole now.run now.words now.views now.id now.view is.world is.at

@@ -64,5 +64,5 @@ returns c = record {
   above_its_first_cost = λ h. (let e : 1281 ≤ 1280 = (h.pairs 1 (omega arith)).first (omega arith) in omega (arith, e));
   count_past_the_marks = λ h. (let e : 3 ≤ 2 = h.count in omega (arith, e));
   counter_past_the_marks = λ h. (let e : 2 ≤ 1 = h.counter 0 (omega arith) in omega (arith, e));
-  whole_below_its_edge = λ h. (let e : 0 + root_ceiling 1638400 ≤ 1279 = ((h.whole refl).hangs 0 refl).above in omega (arith, e, edge));
+  whole_below_its_edge = λ h. (let e : 0 + root_ceiling 1638400 ≤ 1279 = ((h.order refl).hangs 0 refl).above in omega (arith, e, edge));
 }

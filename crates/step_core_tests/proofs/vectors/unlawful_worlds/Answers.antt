@@ -90,8 +90,8 @@ returns c = record {
   turn_ahead = λ h. (let e : 1 ≡ 0 = (h.turns.members 1 _ refl 0 _ refl).turn in omega (arith, e));
   worker_twice = λ h. (let e : 2 ≡ 1 = h.turns.in_one_crew 0 in omega (arith, e));
   worker_of_no_run = λ h. (let e : 1 ≡ 0 = h.turns.in_one_crew 2 in omega (arith, e));
-  share_lost = λ h. (let e : 1 ≡ 2 = h.shares.whole in omega (arith, e));
-  share_too_many = λ h. (let e : 3 ≡ 2 = h.shares.whole in omega (arith, e));
+  share_lost = λ h. (let e : 1 ≡ 2 = h.shares.add_up in omega (arith, e));
+  share_too_many = λ h. (let e : 3 ≡ 2 = h.shares.add_up in omega (arith, e));
   hand_without_share = λ h. (let e : Some (new_hand 0) ≡ None = h.shares.idle 0 _ refl refl in cc);
   saw_a_greater_count = λ h. (let e : 2 ≤ 1 = h.seen.behind 1 _ refl Count in omega (arith, e));
   saw_no_such_child = λ h. neither 1 0 (λ e. omega (arith, e)) (h.seen.behind 1 _ refl (ChildOf 0 true));

@@ -114,5 +114,5 @@ returns-clause-whole_tight c =
     c.next_fallen.ensures.steps.sees_anew.goes_on c.in_default.ensures.none c.falls.invariant.spreads in
     λ all tight.
     AllTight-spread c.args.node old.view new.view goes_on.lawful
-    (goes_on.lawful.whole (HasWholeShare-later NamesTreeOrPoint old.view new.view steps.sees_anew all)) goes_on.later
+    (goes_on.lawful.order (HasWholeShare-later NamesTreeOrPoint old.view new.view steps.sees_anew all)) goes_on.later
     (falls_whole (goal.at.returns-clause-whole_tight c).After-next_fallen all) spread tight
