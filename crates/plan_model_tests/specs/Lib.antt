@@ -8,3 +8,4 @@ pub mod UnclosedRuns
 pub mod GrownTrees
 pub mod LesserSights
 pub mod OpenPaths
+pub mod Coverings

@@ -32,6 +32,7 @@ ghost use Rattle.plan_model_tests.specs.OpenPaths.{OpenPathVectors, SameInputVec
 ghost use Rattle.plan_model_tests.specs.UnclosedRuns.{UnclosedRunVectors};
 ghost use Rattle.plan_model_tests.specs.UnlawfulRecords.{UnlawfulRecordVectors, UnplacedRecordVectors};
 ghost use Rattle.plan_model_tests.specs.UnlawfulTrees.{CostBoundVectors, UnlawfulTreeVectors};
+ghost use Rattle.plan_model_tests.specs.Coverings.{CoveringVectors};
 
 /// What edges cost.
 pub fn costs()
@@ -263,4 +264,9 @@ pub fn open_paths()
 /// Scenes that have the same run, and a tree that is that of a run.
 pub fn same_inputs()
     ensures { SameInputVectors }
+{}
+
+/// Formats that cover the canonical text of a scene, and formats that leave out its version or a key.
+pub fn coverings()
+    ensures { CoveringVectors }
 {}

@@ -49,16 +49,16 @@ use Rattle.step_core.proofs.WorldHands.{IsWrittenFor}
 use Rattle.step_core.proofs.WorldJoins.{AreBehind-nothing}
 use Rattle.step_core.proofs.WorldPairs.{HasFirst, HasTree}
 use Rattle.step_core.proofs.WorldSeenPairs.{AreSeenLawfully-all}
-use Rattle.step_core_tests.specs.SmallWorlds.{idle, never, small_run, start_row, view_with, worker_at}
+use Rattle.step_core_tests.specs.SmallWorlds.{idle, never, small_run, start_table, view_with, worker_at}
 
 abbrev sizes : Sizes
 sizes = run_sizes small_run
 
 abbrev words : Words
-words = word_at sizes start_row
+words = word_at sizes start_table
 
 past : (name : Word) → ¬ HasWord sizes name → words name ≡ 0
-past name none = word_at-none sizes start_row name none
+past name none = word_at-none sizes start_table name none
 
 -- only the words of the start are written
 pub blank : (name : Word) → ¬ IsStartWord name → words name ≡ 0
@@ -109,10 +109,10 @@ ways = FollowWays-start (children_of_words words) (linked_points sizes words) (�
 -- ---- the two views
 
 abbrev one : View
-one = view_with (worker_at 0 0) 0 None start_row never []
+one = view_with (worker_at 0 0) 0 None start_table never []
 
 abbrev other : View
-other = idle start_row
+other = idle start_table
 
 both : (has : View → Type 0) → has one → has other → EachView (one ∷ other ∷ []) has
 both has a b zero u e = subst has (some-injective one u e) a

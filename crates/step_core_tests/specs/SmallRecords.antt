@@ -16,21 +16,21 @@ use Rattle.step_core.specs.ViewSteps.{new_hand}
 use Rattle.step_core.specs.Views.{words_of_run}
 use Rattle.step_core.specs.declared.views.Stage.TheVariants.{Counted}
 use Rattle.step_core.specs.declared.views.View.{View}
-use Rattle.step_core_tests.specs.SmallWorlds.{claimed_row, hand_at, handling, linked_row, mark_node, never, row, small_run, start_above}
+use Rattle.step_core_tests.specs.SmallWorlds.{claimed_table, hand_at, handling, linked_table, mark_node, never, table, small_run, start_above}
 
 -- ---- records
 
 -- a view that has counted its node, and has seen so many nodes
 abbrev pub counter_of : ℕ → ℕ → View
-counter_of cost count = handling (hand_at Counted 0 cost) (row count 1 (start_above 1) mark_node 0)
+counter_of cost count = handling (hand_at Counted 0 cost) (table count 1 (start_above 1) mark_node 0)
 
 -- the mark is claimed, in a room so high
 abbrev pub claimer_in : ℕ → View
-claimer_in height = record (handling (new_hand 0) claimed_row) { run = record small_run { space = empty_room (at 100 height) } }
+claimer_in height = record (handling (new_hand 0) claimed_table) { run = record small_run { space = empty_room (at 100 height) } }
 
 -- the mark is at the start
 abbrev pub claimer_at_start : View
-claimer_at_start = record (handling (new_hand 0) claimed_row) { run = record small_run { marks = at 5 5 ∷ [] } }
+claimer_at_start = record (handling (new_hand 0) claimed_table) { run = record small_run { marks = at 5 5 ∷ [] } }
 
 pub record AllowedRecordVectors : Type 0 where
   pub placed : MayRecord (counter_of 1280 1) (hand_at Counted 0 1280) (placed_by 0 0 0 0 1280 1)
@@ -75,6 +75,6 @@ pub record LoweredCostVectors : Type 0 where
 
 pub record FreePointVectors : Type 0 where
   -- node 1 stood there already
-  pub not_free_since : ¬ WasFree small_run (words_of_run small_run linked_row) (words_of_run small_run linked_row) (at 8 9)
+  pub not_free_since : ¬ WasFree small_run (words_of_run small_run linked_table) (words_of_run small_run linked_table) (at 8 9)
   -- in a world node 0 is counted
   pub no_world_before : ¬ WasFree small_run (words_of_run small_run never) (words_of_run small_run never) (at 8 9)

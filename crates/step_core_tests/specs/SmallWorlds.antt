@@ -39,8 +39,8 @@ abbrev pub node_by : ℕ → ℕ → ℕ → ℕ → List ℕ
 node_by point right tree first = point ∷ 0 ∷ right ∷ tree ∷ first ∷ []
 
 -- the count, the counter, the words of nodes 0 and 1, and of the record of mark 0
-abbrev pub row : ℕ → ℕ → List ℕ → List ℕ → ℕ → List ℕ
-row count counter start node entry = count ∷ counter ∷ start ++ node ++ entry ∷ []
+abbrev pub table : ℕ → ℕ → List ℕ → List ℕ → ℕ → List ℕ
+table count counter start node entry = count ∷ counter ∷ start ++ node ++ entry ∷ []
 
 -- the start, with this node to its right, and 0 for none
 abbrev pub start_above : ℕ → List ℕ
@@ -55,20 +55,20 @@ abbrev pub no_node : List ℕ
 no_node = replicate 5 0
 
 -- nothing is claimed
-abbrev pub start_row : List ℕ
-start_row = row 1 0 (start_above 0) no_node 0
+abbrev pub start_table : List ℕ
+start_table = table 1 0 (start_above 0) no_node 0
 
 -- the mark is claimed
-abbrev pub claimed_row : List ℕ
-claimed_row = row 1 1 (start_above 0) no_node 0
+abbrev pub claimed_table : List ℕ
+claimed_table = table 1 1 (start_above 0) no_node 0
 
 -- it is linked, and not counted
-abbrev pub linked_row : List ℕ
-linked_row = row 1 1 (start_above 1) mark_node 0
+abbrev pub linked_table : List ℕ
+linked_table = table 1 1 (start_above 1) mark_node 0
 
 -- it is recorded by this worker
-abbrev pub recorded_row : ℕ → List ℕ
-recorded_row worker = row 2 1 (start_above 1) mark_node (record_word (placed_by worker 0 0 0 1280 1))
+abbrev pub recorded_table : ℕ → List ℕ
+recorded_table worker = table 2 1 (start_above 1) mark_node (record_word (placed_by worker 0 0 0 1280 1))
 
 -- ---- views
 
@@ -113,7 +113,7 @@ AreLawful items one other = IsWorld small_run (words_of_run small_run items) (on
 
 -- the mark is claimed by worker 0; a world that both see as it is
 abbrev pub claimer : View
-claimer = handling (new_hand 0) claimed_row
+claimer = handling (new_hand 0) claimed_table
 
 -- all is as it is but the words of the run, which both see
 abbrev pub AreLawfulWords : List ℕ → Type 0
@@ -132,78 +132,78 @@ abbrev pub found_right : ℕ → List ℕ
 found_right step = 0 ∷ 0 ∷ 0 ∷ 0 ∷ step ∷ replicate 8 0
 
 pub record LawfulWorldVectors : Type 0 where
-  pub nothing_claimed : AreLawful start_row (view_with (worker_at 0 0) 0 None start_row never []) (idle start_row)
+  pub nothing_claimed : AreLawful start_table (view_with (worker_at 0 0) 0 None start_table never []) (idle start_table)
 
 pub record UnlawfulWorldVectors : Type 0 where
   -- marks
-  pub counter_above_quota : ¬ AreLawful claimed_row (view_with (worker_at 0 0) 0 (Some (new_hand 0)) claimed_row never []) (idle claimed_row)
-  pub in_two_hands : ¬ AreLawful claimed_row claimer (view_with (worker_at 1 0) 0 (Some (new_hand 0)) claimed_row never [])
-  pub in_no_hand : ¬ AreLawful claimed_row (view_with (worker_at 0 0) 1 None claimed_row never []) (idle claimed_row)
-  pub not_claimed : ¬ AreLawfulWords (row 1 0 (start_above 0) no_node 0)
-  pub limit_past_marks : ¬ AreLawful claimed_row claimer (view_with (worker_at 1 0) 2 None claimed_row never [])
-  pub record_not_packed : ¬ AreLawfulWords (row 1 1 (start_above 0) no_node 5)
-  pub recorded_in_hand : ¬ AreLawful (recorded_row 0) (handling (hand_at Counted 0 1280) (recorded_row 0)) (idle (recorded_row 0))
+  pub counter_above_quota : ¬ AreLawful claimed_table (view_with (worker_at 0 0) 0 (Some (new_hand 0)) claimed_table never []) (idle claimed_table)
+  pub in_two_hands : ¬ AreLawful claimed_table claimer (view_with (worker_at 1 0) 0 (Some (new_hand 0)) claimed_table never [])
+  pub in_no_hand : ¬ AreLawful claimed_table (view_with (worker_at 0 0) 1 None claimed_table never []) (idle claimed_table)
+  pub not_claimed : ¬ AreLawfulWords (table 1 0 (start_above 0) no_node 0)
+  pub limit_past_marks : ¬ AreLawful claimed_table claimer (view_with (worker_at 1 0) 2 None claimed_table never [])
+  pub record_not_packed : ¬ AreLawfulWords (table 1 1 (start_above 0) no_node 5)
+  pub recorded_in_hand : ¬ AreLawful (recorded_table 0) (handling (hand_at Counted 0 1280) (recorded_table 0)) (idle (recorded_table 0))
   -- links
-  pub start_elsewhere : ¬ AreLawfulWords (row 1 1 (node_by (point_word (at 6 5)) 0 (tree_word 0 0) (tree_word 0 0)) no_node 0)
-  pub child_of_no_node : ¬ AreLawfulWords (row 1 1 (start_above 0) (node_by 0 2 0 0) 0)
-  pub linked_too_early : ¬ AreLawfulInHand (hand_at Treed 0 1280) linked_row
-  pub not_linked : ¬ AreLawfulInHand (hand_at Linked 0 1280) (row 1 1 (start_above 0) mark_node 0)
-  pub counted_too_early : ¬ AreLawfulInHand (hand_at Linked 0 1280) (row 2 1 (start_above 1) mark_node 0)
-  pub not_counted : ¬ AreLawfulInHand (hand_at Counted 0 1280) linked_row
+  pub start_elsewhere : ¬ AreLawfulWords (table 1 1 (node_by (point_word (at 6 5)) 0 (tree_word 0 0) (tree_word 0 0)) no_node 0)
+  pub child_of_no_node : ¬ AreLawfulWords (table 1 1 (start_above 0) (node_by 0 2 0 0) 0)
+  pub linked_too_early : ¬ AreLawfulInHand (hand_at Treed 0 1280) linked_table
+  pub not_linked : ¬ AreLawfulInHand (hand_at Linked 0 1280) (table 1 1 (start_above 0) mark_node 0)
+  pub counted_too_early : ¬ AreLawfulInHand (hand_at Linked 0 1280) (table 2 1 (start_above 1) mark_node 0)
+  pub not_counted : ¬ AreLawfulInHand (hand_at Counted 0 1280) linked_table
   -- the words of the node in hand
-  pub point_not_written : ¬ AreLawfulInHand (hand_at Pointed 0 0) claimed_row
-  pub point_elsewhere : ¬ AreLawfulInHand (hand_at Pointed 0 0) (row 1 1 (start_above 0) (node_by (point_word (at 9 8)) 0 0 0) 0)
-  pub point_too_early : ¬ AreLawfulWords (row 1 1 (start_above 0) (node_by (point_word (at 8 9)) 0 0 0) 0)
-  pub first_not_written : ¬ AreLawfulInHand (hand_at Half 0 1280) (row 1 1 (start_above 0) (node_by (point_word (at 8 9)) 0 0 0) 0)
+  pub point_not_written : ¬ AreLawfulInHand (hand_at Pointed 0 0) claimed_table
+  pub point_elsewhere : ¬ AreLawfulInHand (hand_at Pointed 0 0) (table 1 1 (start_above 0) (node_by (point_word (at 9 8)) 0 0 0) 0)
+  pub point_too_early : ¬ AreLawfulWords (table 1 1 (start_above 0) (node_by (point_word (at 8 9)) 0 0 0) 0)
+  pub first_not_written : ¬ AreLawfulInHand (hand_at Half 0 1280) (table 1 1 (start_above 0) (node_by (point_word (at 8 9)) 0 0 0) 0)
   pub first_too_early :
-      ¬ AreLawfulInHand (hand_at Pointed 0 0) (row 1 1 (start_above 0) (node_by (point_word (at 8 9)) 0 0 (tree_word 0 1280)) 0)
+      ¬ AreLawfulInHand (hand_at Pointed 0 0) (table 1 1 (start_above 0) (node_by (point_word (at 8 9)) 0 0 (tree_word 0 1280)) 0)
   pub tree_not_written :
-      ¬ AreLawfulInHand (hand_at Treed 0 1280) (row 1 1 (start_above 0) (node_by (point_word (at 8 9)) 0 0 (tree_word 0 1280)) 0)
-  pub tree_too_early : ¬ AreLawfulInHand (hand_at Half 0 1280) (row 1 1 (start_above 0) mark_node 0)
+      ¬ AreLawfulInHand (hand_at Treed 0 1280) (table 1 1 (start_above 0) (node_by (point_word (at 8 9)) 0 0 (tree_word 0 1280)) 0)
+  pub tree_too_early : ¬ AreLawfulInHand (hand_at Half 0 1280) (table 1 1 (start_above 0) mark_node 0)
   pub cost_below_the_edge :
-      ¬ AreLawfulInHand (hand_at Half 0 1279) (row 1 1 (start_above 0) (node_by (point_word (at 8 9)) 0 0 (tree_word 0 1279)) 0)
+      ¬ AreLawfulInHand (hand_at Half 0 1279) (table 1 1 (start_above 0) (node_by (point_word (at 8 9)) 0 0 (tree_word 0 1279)) 0)
   pub cost_above_the_edge :
-      ¬ AreLawfulInHand (hand_at Half 0 1281) (row 1 1 (start_above 0) (node_by (point_word (at 8 9)) 0 0 (tree_word 0 1281)) 0)
+      ¬ AreLawfulInHand (hand_at Half 0 1281) (table 1 1 (start_above 0) (node_by (point_word (at 8 9)) 0 0 (tree_word 0 1281)) 0)
   pub below_itself :
-      ¬ AreLawfulInHand (hand_at Half 1 1280) (row 1 1 (start_above 0) (node_by (point_word (at 8 9)) 0 0 (tree_word 1 1280)) 0)
+      ¬ AreLawfulInHand (hand_at Half 1 1280) (table 1 1 (start_above 0) (node_by (point_word (at 8 9)) 0 0 (tree_word 1 1280)) 0)
   -- parents and costs
-  pub start_costs : ¬ AreLawfulWords (row 1 1 (node_by (point_word (at 5 5)) 0 (tree_word 0 5) (tree_word 0 0)) no_node 0)
-  pub start_below_another : ¬ AreLawfulWords (row 1 1 (node_by (point_word (at 5 5)) 0 (tree_word 1 0) (tree_word 0 0)) no_node 0)
-  pub other_bit_set : ¬ AreLawfulWords (row 1 1 (node_by (point_word (at 5 5)) 0 (tree_word 0 0 + 2 ^ 62) (tree_word 0 0)) no_node 0)
-  pub no_first_word_of_start : ¬ AreLawfulWords (row 1 1 (node_by (point_word (at 5 5)) 0 (tree_word 0 0) 0) no_node 0)
+  pub start_costs : ¬ AreLawfulWords (table 1 1 (node_by (point_word (at 5 5)) 0 (tree_word 0 5) (tree_word 0 0)) no_node 0)
+  pub start_below_another : ¬ AreLawfulWords (table 1 1 (node_by (point_word (at 5 5)) 0 (tree_word 1 0) (tree_word 0 0)) no_node 0)
+  pub other_bit_set : ¬ AreLawfulWords (table 1 1 (node_by (point_word (at 5 5)) 0 (tree_word 0 0 + 2 ^ 62) (tree_word 0 0)) no_node 0)
+  pub no_first_word_of_start : ¬ AreLawfulWords (table 1 1 (node_by (point_word (at 5 5)) 0 (tree_word 0 0) 0) no_node 0)
   pub costs_less_than_its_edge :
       ¬ AreLawfulInHand (hand_at Linked 0 1280)
-      (row 1 1 (start_above 1) (node_by (point_word (at 8 9)) 0 (tree_word 0 1279) (tree_word 0 1280)) 0)
+      (table 1 1 (start_above 1) (node_by (point_word (at 8 9)) 0 (tree_word 0 1279) (tree_word 0 1280)) 0)
   pub costs_more_than_at_first :
       ¬ AreLawfulInHand (hand_at Linked 0 1280)
-      (row 1 1 (start_above 1) (node_by (point_word (at 8 9)) 0 (tree_word 0 1281) (tree_word 0 1280)) 0)
+      (table 1 1 (start_above 1) (node_by (point_word (at 8 9)) 0 (tree_word 0 1281) (tree_word 0 1280)) 0)
   -- turns and shares
-  pub turn_ahead : ¬ AreLawful claimed_row claimer (view_with (worker_at 1 1) 0 None claimed_row never [])
-  pub worker_twice : ¬ AreLawful claimed_row claimer (view_with (worker_at 0 0) 0 None claimed_row never [])
-  pub worker_of_no_run : ¬ AreLawful claimed_row claimer (view_with (worker_at 2 0) 0 None claimed_row never [])
-  pub share_lost : ¬ AreLawful claimed_row claimer (view_with [] 0 None claimed_row never [])
-  pub share_too_many : ¬ AreLawful claimed_row claimer (view_with (worker_at 1 0 ++ worker_at 2 0) 0 None claimed_row never [])
+  pub turn_ahead : ¬ AreLawful claimed_table claimer (view_with (worker_at 1 1) 0 None claimed_table never [])
+  pub worker_twice : ¬ AreLawful claimed_table claimer (view_with (worker_at 0 0) 0 None claimed_table never [])
+  pub worker_of_no_run : ¬ AreLawful claimed_table claimer (view_with (worker_at 2 0) 0 None claimed_table never [])
+  pub share_lost : ¬ AreLawful claimed_table claimer (view_with [] 0 None claimed_table never [])
+  pub share_too_many : ¬ AreLawful claimed_table claimer (view_with (worker_at 1 0 ++ worker_at 2 0) 0 None claimed_table never [])
   pub hand_without_share :
-      ¬ AreLawful claimed_row (view_with [] 1 (Some (new_hand 0)) claimed_row never [])
-      (view_with (worker_at 0 0 ++ worker_at 1 0) 1 None claimed_row never [])
+      ¬ AreLawful claimed_table (view_with [] 1 (Some (new_hand 0)) claimed_table never [])
+      (view_with (worker_at 0 0 ++ worker_at 1 0) 1 None claimed_table never [])
   -- what was seen
-  pub saw_a_greater_count : ¬ AreLawful claimed_row claimer (idle (row 2 1 (start_above 0) no_node 0))
-  pub saw_no_such_child : ¬ AreLawful claimed_row claimer (idle (row 1 1 (start_above 1) no_node 0))
-  pub saw_no_start : ¬ AreLawful claimed_row claimer (idle (row 1 1 (node_by 0 0 (tree_word 0 0) (tree_word 0 0)) no_node 0))
+  pub saw_a_greater_count : ¬ AreLawful claimed_table claimer (idle (table 2 1 (start_above 0) no_node 0))
+  pub saw_no_such_child : ¬ AreLawful claimed_table claimer (idle (table 1 1 (start_above 1) no_node 0))
+  pub saw_no_start : ¬ AreLawful claimed_table claimer (idle (table 1 1 (node_by 0 0 (tree_word 0 0) (tree_word 0 0)) no_node 0))
   pub saw_start_at_a_cost :
-      ¬ AreLawful claimed_row claimer (idle (row 1 1 (node_by (point_word (at 5 5)) 0 (tree_word 0 5) (tree_word 0 0)) no_node 0))
-  pub took_more_than_it_sees : ¬ AreLawful claimed_row claimer (record (idle claimed_row) { took = row 1 2 (start_above 0) no_node 0 })
+      ¬ AreLawful claimed_table claimer (idle (table 1 1 (node_by (point_word (at 5 5)) 0 (tree_word 0 5) (tree_word 0 0)) no_node 0))
+  pub took_more_than_it_sees : ¬ AreLawful claimed_table claimer (record (idle claimed_table) { took = table 1 2 (start_above 0) no_node 0 })
   pub counter_seen_by_none :
-      ¬ AreLawful claimed_row (handling (new_hand 0) (row 1 0 (start_above 0) no_node 0)) (idle (row 1 0 (start_above 0) no_node 0))
-  pub looked_later : ¬ AreLawful claimed_row claimer (record (idle claimed_row) { looked = 4 ∷ replicate 12 0 })
-  pub found_zero_later : ¬ AreLawful claimed_row claimer (view_with (worker_at 1 0) 0 None claimed_row (found_right 4) [])
-  pub too_few_words : ¬ AreLawful claimed_row claimer (record (idle claimed_row) { looked = replicate 12 0 })
+      ¬ AreLawful claimed_table (handling (new_hand 0) (table 1 0 (start_above 0) no_node 0)) (idle (table 1 0 (start_above 0) no_node 0))
+  pub looked_later : ¬ AreLawful claimed_table claimer (record (idle claimed_table) { looked = 4 ∷ replicate 12 0 })
+  pub found_zero_later : ¬ AreLawful claimed_table claimer (view_with (worker_at 1 0) 0 None claimed_table (found_right 4) [])
+  pub too_few_words : ¬ AreLawful claimed_table claimer (record (idle claimed_table) { looked = replicate 12 0 })
   -- empty places, and records
   pub found_empty_when_filled :
-      ¬ AreLawful linked_row (view_with (worker_at 0 0) 1 (Some (hand_at Linked 0 1280)) linked_row never (filled_at (3 ∷ 2 ∷ [])))
-      (view_with (worker_at 1 0) 0 None linked_row (found_right 3) [])
+      ¬ AreLawful linked_table (view_with (worker_at 0 0) 1 (Some (hand_at Linked 0 1280)) linked_table never (filled_at (3 ∷ 2 ∷ [])))
+      (view_with (worker_at 1 0) 0 None linked_table (found_right 3) [])
   pub noted_too_many_steps :
-      ¬ AreLawful linked_row (view_with (worker_at 0 0) 1 (Some (hand_at Linked 0 1280)) linked_row never (filled_at (3 ∷ 4 ∷ [])))
-      (idle linked_row)
+      ¬ AreLawful linked_table (view_with (worker_at 0 0) 1 (Some (hand_at Linked 0 1280)) linked_table never (filled_at (3 ∷ 4 ∷ [])))
+      (idle linked_table)
   pub recorded_by_no_worker :
-      ¬ AreLawful (recorded_row 2) (view_with (worker_at 0 0) 1 None (recorded_row 2) never []) (idle (recorded_row 2))
+      ¬ AreLawful (recorded_table 2) (view_with (worker_at 0 0) 1 None (recorded_table 2) never []) (idle (recorded_table 2))

@@ -15,8 +15,8 @@ use Rattle.step_core_tests.proofs.vectors.allowed_steps.Goals as goal
 edge : root_ceiling 1638400 ≡ 1280
 edge = root_ceiling-from_squares 1638400 1280 (omega arith) (omega arith)
 
-other_row : (p q : Point) → p.y ≢ q.y → p ≢ q
-other_row p q apart e = apart (ap (λ (r : Point). r.y) e)
+other_table : (p q : Point) → p.y ≢ q.y → p ≢ q
+other_table p q apart e = apart (ap (λ (r : Point). r.y) e)
 
 allowed : IsAllowedEdge (setup_in small_run) (at 5 5) (at 8 9)
 allowed = record {
@@ -66,13 +66,13 @@ returns c = record {
     at = at 5 5;
     on_way = begins;
     stands = refl;
-    apart = other_row (at 5 5) (at 8 9) (λ e. omega (arith, e));
+    apart = other_table (at 5 5) (at 8 9) (λ e. omega (arith, e));
     side_is = refl;
   };
   leads_to_a_place_below = record {
     depth = 1;
     at = at 8 9;
-    on_way = goes_on 0 0 1 (at 5 5) begins refl (other_row (at 5 5) (at 5 9) (λ e. omega (arith, e))) refl;
+    on_way = goes_on 0 0 1 (at 5 5) begins refl (other_table (at 5 5) (at 5 9) (λ e. omega (arith, e))) refl;
     stands = refl;
     apart = λ e. (let x : 8 ≡ 5 = ap (λ (r : Point). r.x) e in omega (arith, x));
     side_is = refl;

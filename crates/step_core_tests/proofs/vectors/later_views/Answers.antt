@@ -8,14 +8,14 @@ use Rattle.step_core.specs.declared.views.SharedRun.{SharedRun}
 use Rattle.step_core.proofs.WordKinds.{AreBehind-refl}
 use Rattle.step_core.proofs.WordReads.{WritesWord-set}
 use Rattle.step_core_tests.specs.SmallViews.{waited}
-use Rattle.step_core_tests.specs.SmallWorlds.{claimed_row, idle, never, small_run}
+use Rattle.step_core_tests.specs.SmallWorlds.{claimed_table, idle, never, small_run}
 use Rattle.step_core_tests.proofs.vectors.later_views.Goals as goal
 
 -- one word of each table of steps is another
-count_alone : WritesWord Count 4 (last_look (idle claimed_row)) (last_look waited)
+count_alone : WritesWord Count 4 (last_look (idle claimed_table)) (last_look waited)
 count_alone = WritesWord-set (run_sizes small_run) never 0 4 4 Count refl tt refl refl
 
-child_alone : WritesWord (ChildOf 0 true) 5 (last_zero (idle claimed_row)) (last_zero waited)
+child_alone : WritesWord (ChildOf 0 true) 5 (last_zero (idle claimed_table)) (last_zero waited)
 child_alone = WritesWord-set (run_sizes small_run) never 4 5 5 (ChildOf 0 true) refl (omega arith) refl refl
 
 not_since : (now before steps : ℕ) → ¬ (now ≡ before) → ¬ (steps < now) → ¬ ((now ≡ before) ⊎ (steps < now))
@@ -27,7 +27,7 @@ not_found now before steps seen other found (inl e) = other e
 not_found now before steps seen other found (inr e) = found e
 
 -- the last look at the count alone is another
-looked : (name : Word) → (last_look waited name ≡ last_look (idle claimed_row) name) ⊎ (3 < last_look waited name)
+looked : (name : Word) → (last_look waited name ≡ last_look (idle claimed_table) name) ⊎ (3 < last_look waited name)
 unfolding word_at
 looked Count = inr (omega arith)
 looked (Counter g) = inl (count_alone.others (Counter g) (λ e. cc))
@@ -39,7 +39,7 @@ looked (RecordOf k) = inl (count_alone.others (RecordOf k) (λ e. cc))
 
 abbrev FindsZero : Word → Type 0
 FindsZero name =
-    (last_zero waited name ≡ last_zero (idle claimed_row) name) ⊎ ((3 < last_zero waited name) × (sees (idle claimed_row) name ≡ 0))
+    (last_zero waited name ≡ last_zero (idle claimed_table) name) ⊎ ((3 < last_zero waited name) × (sees (idle claimed_table) name ≡ 0))
 
 found : (name : Word) → FindsZero name
 unfolding word_at
@@ -56,7 +56,7 @@ found (RecordOf k) = inl (child_alone.others (RecordOf k) (λ e. cc))
 pub returns : goal.returns
 unfolding word_at
 returns c = record {
-  looked_and_found = record { run = refl; seen = AreBehind-refl (sees (idle claimed_row)); steps = omega arith; looked = looked; zero_found = found };
+  looked_and_found = record { run = refl; seen = AreBehind-refl (sees (idle claimed_table)); steps = omega arith; looked = looked; zero_found = found };
   other_run = λ h. (let e : 1 ≡ 0 = ap (λ (r : SharedRun). r.opening) h.run in omega (arith, e));
   less_seen = λ h. (let e : 1 ≤ 0 = h.seen (Counter 0) in omega (arith, e));
   fewer_steps = λ h. (let e : 5 ≤ 4 = h.steps in omega (arith, e));

@@ -15,7 +15,7 @@ use Rattle.step_core.specs.Words.{point_word, tree_word}
 use Rattle.step_core.specs.Worlds.{HasCopy, HasMade, IsRecordWord}
 use Rattle.step_core.specs.declared.views.Stage.TheVariants.{Half, Linked, Pointed, Treed}
 use Rattle.step_core.specs.declared.views.View.{View}
-use Rattle.step_core_tests.specs.SmallWorlds.{filled_at, hand_at, idle, linked_row, never, small_run, view_with, worker_at}
+use Rattle.step_core_tests.specs.SmallWorlds.{filled_at, hand_at, idle, linked_table, never, small_run, view_with, worker_at}
 use Rattle.step_core_tests.proofs.vectors.unlawful_worlds.Goals as goal
 
 edge : root_ceiling 1638400 ≡ 1280
@@ -104,7 +104,7 @@ returns c = record {
   too_few_words = λ h. (let e : 12 ≡ 13 = (of_run _ refl (h.of_run 1 _ refl)).looked in omega (arith, e));
   found_empty_when_filled = λ h. (let e : 3 ≤ 2 = h.empties.filled 0 true (λ zero. omega (arith, zero)) 1 _ refl in omega (arith, e));
   noted_too_many_steps =
-      λ h. made_four (view_with (worker_at 0 0) 1 (Some (hand_at Linked 0 1280)) linked_row never (filled_at (3 ∷ 4 ∷ []))) (idle linked_row)
+      λ h. made_four (view_with (worker_at 0 0) 1 (Some (hand_at Linked 0 1280)) linked_table never (filled_at (3 ∷ 4 ∷ []))) (idle linked_table)
       refl refl (h.empties.made 4 1);
   recorded_by_no_worker = λ h. (let e : 2 < 2 = h.records.own_workers 0 (placed_by 2 0 0 0 1280 1) refl (omega arith) in omega (arith, e));
 }
