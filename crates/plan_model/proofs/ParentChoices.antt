@@ -15,28 +15,28 @@ module _ (space : ConfigurationSpace) (points : List (Option Point)) (p : Point)
   -- an open node of one number more was open before, or has that number
   open_cases :
       (among more : List ℕ) (n i : ℕ) → more ≡ among ++ n ∷ [] → IsOpenTo space points p more i → IsOpenTo space points p among i ⊎ (n ≡ i)
-  open_cases among more n i e h = elim (Contains-push_cases among n i (subst (λ ns. Contains ns i) e h.one_of)) [
-    | inl before ↦ inl (record { one_of = before; clear = h.clear })
+  open_cases among more n i e h = elim (Contains-push_cases among n i (subst (λ ns. Contains ns i) e h.among)) [
+    | inl before ↦ inl (record { among = before; clear = h.clear })
     | inr last ↦ inr last
   ]
 
   -- what was open before is so still
   still_open : (among more : List ℕ) (n i : ℕ) → more ≡ among ++ n ∷ [] → IsOpenTo space points p among i → IsOpenTo space points p more i
   still_open among more n i e h = record {
-    one_of = subst (λ ns. Contains ns i) (sym e) (Contains-append_left among (n ∷ []) i h.one_of);
+    among = subst (λ ns. Contains ns i) (sym e) (Contains-append_left among (n ∷ []) i h.among);
     clear = h.clear;
   }
 
   -- the last number is open if its edge is clear
   last_open : (among more : List ℕ) (n : ℕ) → more ≡ among ++ n ∷ [] → Clear space (point_of points n) p → IsOpenTo space points p more n
-  last_open among more n e h = record { one_of = subst (λ ns. Contains ns n) (sym e) (Contains-push among n); clear = h }
+  last_open among more n e h = record { among = subst (λ ns. Contains ns n) (sym e) (Contains-push among n); clear = h }
 
   -- one node alone is the best
   pub IsFirstLeast-alone : (key : ℕ → ℕ) (n : ℕ) → Clear space (point_of points n) p → IsFirstLeast key (IsOpenTo space points p (n ∷ [])) n
   IsFirstLeast-alone key n h = record {
     member = last_open [] (n ∷ []) n refl h;
     not_above = λ i own. elim (open_cases [] (n ∷ []) n i refl own) [
-      | inl none ↦ absurd (omega (arith, none.one_of.1))
+      | inl none ↦ absurd (omega (arith, none.among.1))
       | inr last ↦ subst (IsNotAbove key n) last (IsNotAbove-refl key n)
     ];
   }

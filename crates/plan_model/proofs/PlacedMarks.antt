@@ -8,6 +8,7 @@ use Rattle.plan_model.specs.Spaces.Clearance.{Clear}
 use Rattle.plan_model.specs.Geometry.Cost.{cost_of}
 use Rattle.plan_model.specs.Trees.LeastPairs.{IsFirstLeast}
 use Rattle.plan_model.specs.Trees.Nearness.{is_within}
+use Rattle.plan_model.specs.Trees.NodeLists.{cost_through_by}
 use Rattle.plan_model.specs.Trees.PointsByNumber.{point_at, StandsAt, IsPresent, point_of, node_count}
 use Rattle.plan_model.specs.Geometry.Radius.{class_of, radius_of, radius_of_class}
 use Rattle.plan_model.specs.Trees.TreeStates.{TreeState, recorded_or, first_cost_of, GrowsInto}
@@ -27,7 +28,7 @@ use Rattle.plan_model.proofs.NextMarks.{EndsLawfully, node-absent, early-present
 
 -- the cost of reaching p by way of node i, by its kept cost
 abbrev pub kept_cost_through : TreeState → Point → ℕ → ℕ
-kept_cost_through state p i = state.cost i + cost_of (point_of state.points i) p
+kept_cost_through state p i = cost_through_by state.cost state.points p i
 
 -- A parent for a new node at p is chosen by kept costs: the candidate with the least pair of cost through it and number.
 pub record ChoosesParent (setup : Setup) (before : TreeState) (mark : Point) (entry : Record) (p : Point) : Type 0 where

@@ -12,6 +12,6 @@ mod scene_texts;
 mod scenes;
 mod seen_trees;
 mod settled_runs;
-mod steering;
+mod steered_points;
 mod trees;
 mod ways;

@@ -2,7 +2,7 @@
 
 ghost use Rattle.std.specs.Prelude.{◌≡◌, ◌≤◌, ◌<◌, IsTrue, length, IfOk, OnOk, OnErr, Ok};
 ghost use Rattle.std.specs.Io.KnownBytes.{WriteAppends};
-ghost use Rattle.plan_model.specs.Texts.Streams.{SinkState, FaultsRose, counted};
+ghost use Rattle.plan_model.specs.Texts.Streams.{SinkState, FaultsRose, counted_up};
 
 use crate::errors::Failed;
 
@@ -29,7 +29,7 @@ pub trait Sink {
         ensures no_fault { IsTrue (state self.old).counts_failures_alone
             → OnOk result ((state self.new).fault_count ≡ (state self.old).fault_count) }
         ensures one_fault { IsTrue (state self.old).counts_failures_alone
-            → OnErr result ((state self.new).fault_count ≡ counted (state self.old).fault_count) }
+            → OnErr result ((state self.new).fault_count ≡ counted_up (state self.old).fault_count) }
         ensures counting { (state self.new).counts_failures_alone ≡ (state self.old).counts_failures_alone }
         ensures empty { length bytes.now ≡ 0 → (result ≡ Ok 0) × ((state self.new).fault_count ≡ (state self.old).fault_count) };
 }

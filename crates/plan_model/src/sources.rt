@@ -2,7 +2,7 @@
 
 ghost use Rattle.std.specs.Prelude.{◌≡◌, ◌≤◌, IsTrue, length, IfOk, OnOk, OnErr, Ok};
 ghost use Rattle.std.specs.Io.KnownBytes.{Keeps, ReadConsumes};
-ghost use Rattle.plan_model.specs.Texts.Streams.{SourceState, FaultsRose, counted, ended_after};
+ghost use Rattle.plan_model.specs.Texts.Streams.{SourceState, FaultsRose, counted_up, ended_after};
 
 use crate::errors::Failed;
 
@@ -32,7 +32,7 @@ pub trait Source {
         ensures no_fault { IsTrue (state self.old).counts_failures_alone
             → OnOk result ((state self.new).fault_count ≡ (state self.old).fault_count) }
         ensures one_fault { IsTrue (state self.old).counts_failures_alone
-            → OnErr result ((state self.new).fault_count ≡ counted (state self.old).fault_count) }
+            → OnErr result ((state self.new).fault_count ≡ counted_up (state self.old).fault_count) }
         ensures counting { (state self.new).counts_failures_alone ≡ (state self.old).counts_failures_alone }
         ensures empty { length into.old ≡ 0 → (result ≡ Ok 0) × Keeps (state self.old).bytes_left (state self.new).bytes_left
             × ((state self.new).fault_count ≡ (state self.old).fault_count) };

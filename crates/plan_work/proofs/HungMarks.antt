@@ -37,7 +37,7 @@ module _ (space : ConfigurationSpace) (view : View) (hand : Hand) (p : Point) (n
       → IsCostBelow view p parent cost → MayHang view hand parent cost
   MayHang-chosen present pair clear below =
       let points = (tree_seen view).points in
-      let not_above = least.not_above nearest record { one_of = Contains-first nearest near; clear = clear } in
+      let not_above = least.not_above nearest record { among = Contains-first nearest near; clear = clear } in
       record {
         below = subst (λ q. IsCostBelow view q parent cost) (sym pointed.point) below;
         nearest_at = point_of points nearest;
@@ -54,7 +54,7 @@ module _ (space : ConfigurationSpace) (view : View) (hand : Hand) (p : Point) (n
   -- and costs no more than through any near node
   pub chosen_near : (i : ℕ) → Contains near i → Clear space (point_of (tree_seen view).points i) p → cost ≤ cost_through view p i
   chosen_near i among clear =
-      omega (arith, cost_is, (least.not_above i record { one_of = Contains-rest nearest near i among; clear = clear }).least)
+      omega (arith, cost_is, (least.not_above i record { among = Contains-rest nearest near i among; clear = clear }).least)
 
 -- After both words are written the node hangs.
 pub IsHung-written :

@@ -79,15 +79,15 @@ module _ (view : View) (tree : Nodes) (mirrors : Mirrors view tree) where
       → IsBestParent (setup_in view.run) tree nearest p f
   IsBestParent-mirrored p nearest f near is present best = record {
     member = record {
-      among = subst (λ ns. Contains (nearest ∷ ns) f) is best.member.one_of;
+      among = subst (λ ns. Contains (nearest ∷ ns) f) is best.member.among;
       clear = subst (λ a. Clear (setup_in view.run).space a p) (point_of-mirrored f) best.member.clear;
     };
     not_above = λ i h.
         let among : Contains (nearest ∷ near) i = subst (λ ns. Contains (nearest ∷ ns) i) (sym is) h.among in
-        IsNotAbove-keys (cost_through view p) (textbook_cost tree p) f i (cost_through-mirrored p f (stands f best.member.one_of))
+        IsNotAbove-keys (cost_through view p) (textbook_cost tree p) f i (cost_through-mirrored p f (stands f best.member.among))
         (cost_through-mirrored p i (stands i among))
         (best.not_above i record {
-          one_of = among;
+          among = among;
           clear = subst (λ a. Clear (setup_in view.run).space a p) (sym (point_of-mirrored i)) h.clear;
         });
   }

@@ -5,7 +5,7 @@ use Rattle.plan_model.specs.declared.limits.TheConstants.{MOST_TEXT_BYTES}
 use Rattle.plan_model.specs.declared.scenes.Scene.{Scene}
 use Rattle.plan_model.specs.Spaces.Clearance.{ClearAt}
 use Rattle.plan_model.specs.Spaces.ConfigurationSpace.{space_of}
-use Rattle.plan_model.specs.Texts.Streams.{SourceState, counted}
+use Rattle.plan_model.specs.Texts.Streams.{SourceState, counted_up}
 use Rattle.scene_text.specs.declared.fetching.FetchFault.{FetchFault}
 use Rattle.scene_text.specs.declared.fetching.FetchFault.TheVariants as fetching
 use Rattle.scene_text.specs.Fetching.{Fetches}
@@ -40,7 +40,7 @@ module _ {Z : Type 0} where
   pub fetch-caused : (command : Command) (before now : SourceState) (result : Result (Vec ℕ Z) FetchFault) (fault : FetchFault) →
       result ≡ Err fault → IsTrue (reads_text command) → now.has_ended ≡ false → Fetches before.bytes_left now.bytes_left result →
       (IsErrOf result fetching.Read → ReadFailed before now) →
-      (IsTrue before.counts_failures_alone → IsErrOf result fetching.Read → now.fault_count ≡ counted before.fault_count) →
+      (IsTrue before.counts_failures_alone → IsErrOf result fetching.Read → now.fault_count ≡ counted_up before.fault_count) →
       (IsTrue before.counts_failures_alone → ¬ IsErrOf result fetching.Read → now.fault_count ≡ before.fault_count) →
       IsCaused (Some command) before now (refusal_of_fetch fault)
   fetch-caused command before now result fetching.Read is reads no_end fetched rose one none =

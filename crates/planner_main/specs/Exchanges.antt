@@ -2,7 +2,7 @@
 use Rattle.std.specs.Prelude.{◌≡◌, ℕ, ◌≤◌, true, false, IsTrue, Option, List, length}
 use Rattle.std.specs.Io.KnownBytes.{Appends, Consumes, IsAtEnd, Keeps}
 use Rattle.plan_model.specs.declared.limits.TheConstants.{MOST_TEXT_BYTES}
-use Rattle.plan_model.specs.Texts.Streams.{SourceState, SinkState, FaultsRose, counted}
+use Rattle.plan_model.specs.Texts.Streams.{SourceState, SinkState, FaultsRose, counted_up}
 use Rattle.scene_text.specs.Fetching.{CameTooLong, IsAllOf}
 use Rattle.settle_report.specs.Delivery.{AppendsPrefix}
 
@@ -46,7 +46,7 @@ pub record IsReadFault (before now : SourceState) : Type 0 where
   pub rose : ReadFailed before now
   pub no_end : now.has_ended ≡ false
   pub came : CameShort before.bytes_left now.bytes_left
-  pub one_fault : IsTrue before.counts_failures_alone → now.fault_count ≡ counted before.fault_count
+  pub one_fault : IsTrue before.counts_failures_alone → now.fault_count ≡ counted_up before.fault_count
 
 -- nothing was written
 pub record IsUnwritten (before now : SinkState) : Type 0 where
@@ -62,4 +62,4 @@ pub record IsWrittenWhole (before now : SinkState) (text : List ℕ) : Type 0 wh
 pub record IsCutShort (before now : SinkState) (text : List ℕ) : Type 0 where
   pub rose : WriteFailed before now
   pub part : AppendsPrefix before.bytes_taken now.bytes_taken text
-  pub one_fault : IsTrue before.counts_failures_alone → now.fault_count ≡ counted before.fault_count
+  pub one_fault : IsTrue before.counts_failures_alone → now.fault_count ≡ counted_up before.fault_count

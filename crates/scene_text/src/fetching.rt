@@ -2,7 +2,7 @@
 
 ghost use Rattle.std.specs.Prelude.{◌≡◌, ◌≤◌, length, true, false, IsTrue, IfOk, OnOk, OnErr, IsErrOf};
 ghost use Rattle.std.specs.Io.KnownBytes.{IsAtEnd};
-ghost use Rattle.plan_model.specs.Texts.Streams.{FaultsRose, counted};
+ghost use Rattle.plan_model.specs.Texts.Streams.{FaultsRose, counted_up};
 ghost use Rattle.plan_model.specs.declared.limits.TheConstants.{MOST_TEXT_BYTES};
 ghost use Rattle.scene_text.specs.Fetching.{CameTooLong, Fetches, IsAllOf, ReadsWithin};
 ghost use Rattle.scene_text.specs.declared.fetching.FetchFault.TheVariants as faults;
@@ -68,7 +68,7 @@ pub fn fetch<S: Source>(alloc: Global, source: &mut S) -> Result<Vec<u8>, FetchF
     ensures later { (S.state source.old).fault_count ≤ (S.state source.new).fault_count }
     // if the source counts failures alone, a read failed exactly if the result says so, and none was tried again
     ensures one_fault { IsTrue (S.state source.old).counts_failures_alone → IsErrOf result FetchFault.Read
-        → (S.state source.new).fault_count ≡ counted (S.state source.old).fault_count }
+        → (S.state source.new).fault_count ≡ counted_up (S.state source.old).fault_count }
     ensures no_fault { IsTrue (S.state source.old).counts_failures_alone → ¬ IsErrOf result FetchFault.Read
         → (S.state source.new).fault_count ≡ (S.state source.old).fault_count }
 {

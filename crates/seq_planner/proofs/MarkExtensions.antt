@@ -153,7 +153,7 @@ module _ {scene : Scene} {tree : SearchTree} {mark : Point} {k nearest : ℕ} {f
       let L : List ℕ → Type 0 = λ is. IsFirstLeast (cost_through tree.nodes point) (among (nearest ∷ is)) parent.node in
       IsFirstLeast-among (cost_through tree.nodes point) (among (nearest ∷ near_new (setup_of scene) (points_of tree.nodes) point))
       (IsCandidate (setup_of scene) (points_of tree.nodes) nearest point) parent.node
-      (λ i o. record { among = o.one_of; clear = o.clear }) (λ i o. record { one_of = o.among; clear = o.clear })
+      (λ i o. record { among = o.among; clear = o.clear }) (λ i o. record { among = o.among; clear = o.clear })
       (subst L own.are_near own.best.least)
 
   -- the record that the definition gives is that of the extension
@@ -190,7 +190,7 @@ module _ {scene : Scene} {tree : SearchTree} {mark : Point} {k nearest : ℕ} {f
       let near_ones : All (IsPresent points) ns =
       subst (All (IsPresent points)) (sym own.are_near) (near-present points point (radius_of scene.step scene.gamma (node_count points))) in
       All-contains (IsPresent points) (nearest ∷ ns) parent.node (All-cons (IsPresent points) nearest ns h.is_nearest.member near_ones)
-      own.best.least.member.one_of
+      own.best.least.member.among
 
   fits_new : Fits tree.nodes (Some new_node) extension.cost
   fits_new =

@@ -2,7 +2,7 @@
 
 ghost use Rattle.std.specs.Prelude.{◌≡◌, ◌≤◌, IsTrue, OnOk, OnErr};
 ghost use Rattle.std.specs.Io.KnownBytes.{Appends};
-ghost use Rattle.plan_model.specs.Texts.Streams.{FaultsRose, counted};
+ghost use Rattle.plan_model.specs.Texts.Streams.{FaultsRose, counted_up};
 ghost use Rattle.settle_report.specs.Delivery.{AppendsPrefix};
 
 use plan_model::{Failed, Sink};
@@ -22,7 +22,7 @@ pub fn deliver<K: Sink>(sink: &mut K, text: &[u8]) -> Result<(), Failed>
     ensures no_fault { IsTrue (K.state sink.old).counts_failures_alone
         → OnOk result ((K.state sink.new).fault_count ≡ (K.state sink.old).fault_count) }
     ensures one_fault { IsTrue (K.state sink.old).counts_failures_alone
-        → OnErr result ((K.state sink.new).fault_count ≡ counted (K.state sink.old).fault_count) }
+        → OnErr result ((K.state sink.new).fault_count ≡ counted_up (K.state sink.old).fault_count) }
 {
     let mut written = 0;
     while written < text.len() {

@@ -97,8 +97,8 @@ module _ (space : ConfigurationSpace) (before after : View) (same : SeesAnew Nam
   pub IsFirstLeast-after : (among : List ℕ) (m : ℕ) → IsFirstLeast (cost_through before p) (IsOpenTo space (tree_seen before).points p among) m
       → IsFirstLeast (cost_through after p) (IsOpenTo space (tree_seen after).points p among) m
   IsFirstLeast-after among m h = record {
-    member = record { one_of = h.member.one_of; clear = clear_after m h.member.clear };
-    not_above = λ i own. IsNotAbove-after m i (h.not_above i (record { one_of = own.one_of; clear = clear_before i own.clear }));
+    member = record { among = h.member.among; clear = clear_after m h.member.clear };
+    not_above = λ i own. IsNotAbove-after m i (h.not_above i (record { among = own.among; clear = clear_before i own.clear }));
   }
 
   -- the better of the best so far and one node more is the best of all these
@@ -144,13 +144,13 @@ pub IsCostBelow-best : (shared : SharedState) (before after : View) (p : Point) 
     → GoesOn before after → All (IsInReach before p) among → All (SeesPair after) among
     → IsOpenTo (space_of shared.task.scene) (tree_seen after).points p among m → cost ≡ cost_through after p m → IsCostBelow after p m cost
 IsCostBelow-best shared before after p among m cost own goes_on reach pairs is_open cost_is =
-    let here = IsInReach-later before after p m goes_on (All-contains (IsInReach before p) among m reach is_open.one_of) in
+    let here = IsInReach-later before after p m goes_on (All-contains (IsInReach before p) among m reach is_open.among) in
     record {
       from = point_of (tree_seen after).points m;
       parent_cost = cost_seen after m;
       seen = record {
         stands = StandsAt-present (tree_seen after).points m here.present;
-        written = All-contains (SeesPair after) among m pairs is_open.one_of;
+        written = All-contains (SeesPair after) among m pairs is_open.among;
         cost_is = refl;
       };
       edge = record {

@@ -80,7 +80,7 @@ MayHang-chosen view space hand p n near parent cost p_is n_is present pair clear
           omega (
             arith,
             cost_is,
-            (least.not_above n (record { one_of = here; clear = clear })).least,
+            (least.not_above n (record { among = here; clear = clear })).least,
             ap (cost_of (point_of points n)) p_is,
           );
     }

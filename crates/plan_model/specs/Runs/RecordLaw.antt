@@ -9,6 +9,7 @@ use Rattle.plan_model.specs.Spaces.Clearance.{Clear}
 use Rattle.plan_model.specs.Geometry.Cost.{cost_of}
 use Rattle.plan_model.specs.Trees.LeastPairs.{IsNotAbove}
 use Rattle.plan_model.specs.Trees.Nearness.{distance_to, is_within}
+use Rattle.plan_model.specs.Trees.NodeLists.{cost_through_by}
 use Rattle.plan_model.specs.Trees.PointsByNumber.{StandsAt, IsPresent, point_at, point_of, node_count}
 use Rattle.plan_model.specs.Geometry.Radius.{class_of, radius_of_class}
 use Rattle.plan_model.specs.Geometry.Steering.{steered}
@@ -48,7 +49,7 @@ pub record IsNeighbour (setup : Setup) (state : TreeState) (entry : Record) (p :
 
 -- the cost of reaching p by way of node i, by the cost that node i was placed at
 abbrev pub first_cost_through : TreeState → Point → ℕ → ℕ
-first_cost_through state p i = first_cost_of state i + cost_of (point_of state.points i) p
+first_cost_through state p i = cost_through_by (first_cost_of state) state.points p i
 
 -- The class is that of a number of nodes between the earlier nodes and so many nodes.
 pub record HasClass (state : TreeState) (entry : Record) (nodes : ℕ) : Type 0 where

@@ -1,5 +1,5 @@
 -- The textbook run: RRT* as in Karaman and Frazzoli, IJRR 2011, algorithm 6, one mark after another.
-use Rattle.std.specs.Prelude.{◌≡◌, ℕ, suc, ◌+◌, ◌<◌, ◌⊎◌, refl, IsTrue, Contains, Option, Some, None, List, [], ◌∷◌, ◌++◌, slice_set, if◌then◌else◌}
+use Rattle.std.specs.Prelude.{◌≡◌, ℕ, suc, ◌+◌, ◌<◌, ◌⊎◌, refl, IsTrue, Option, Some, None, List, [], ◌∷◌, ◌++◌, slice_set, if◌then◌else◌}
 use Rattle.plan_model.specs.declared.geometry.Goal.{Goal}
 use Rattle.plan_model.specs.declared.geometry.Point.{Point}
 use Rattle.plan_model.specs.declared.trees.Twig.{Twig}
@@ -11,13 +11,13 @@ use Rattle.plan_model.specs.Runs.Outcomes.{is_zero_unless_placed}
 use Rattle.plan_model.specs.declared.configuration_spaces.ConfigurationSpace.{ConfigurationSpace}
 use Rattle.plan_model.specs.Spaces.ConfigurationSpace.{space_of}
 use Rattle.plan_model.specs.Spaces.Clearance.{Clear}
-use Rattle.plan_model.specs.Geometry.Cost.{cost_of}
 use Rattle.plan_model.specs.Geometry.Steering.{steered}
 use Rattle.plan_model.specs.Geometry.Radius.{class_of, radius_of}
 use Rattle.plan_model.specs.Trees.PointsByNumber.{StandsAt, IsFree, point_of, node_count}
 use Rattle.plan_model.specs.Trees.LeastPairs.{IsFirstLeast}
 use Rattle.plan_model.specs.Trees.Nearness.{IsNearest, near}
-use Rattle.plan_model.specs.Trees.NodeLists.{points_of, sum_of}
+use Rattle.plan_model.specs.Trees.NodeLists.{cost_through_by, points_of, sum_of}
+use Rattle.plan_model.specs.Trees.OpenNodes.{IsOpenTo}
 
 -- a tree as a list: the nodes by number, absent if the mark was not placed
 abbrev pub Nodes : Type 0
@@ -49,16 +49,15 @@ start_alone start = Some (record { point = start; parent = 0 }) ∷ []
 
 -- the cost of reaching p through node i
 abbrev pub cost_through : Nodes → Point → ℕ → ℕ
-cost_through tree p i = sum_of tree i + cost_of (point_of (points_of tree) i) p
+cost_through tree p i = cost_through_by (sum_of tree) (points_of tree) p i
 
 -- the nodes within the radius of a new node at p
 abbrev pub near_new : Setup → List (Option Point) → Point → List ℕ
 near_new setup points p = near points p (radius_of setup.step setup.gamma (node_count points))
 
 -- a parent that may be chosen: the nearest node or a near one, with a clear edge
-pub record IsCandidate (setup : Setup) (points : List (Option Point)) (nearest : ℕ) (p : Point) (i : ℕ) : Type 0 where
-  pub among : Contains (nearest ∷ near_new setup points p) i
-  pub clear : Clear setup.space (point_of points i) p
+abbrev pub IsCandidate : Setup → List (Option Point) → ℕ → Point → ℕ → Type 0
+IsCandidate setup points nearest p i = IsOpenTo setup.space points p (nearest ∷ near_new setup points p) i
 
 -- f is the candidate with the least pair of cost through it and number
 abbrev pub IsBestParent : Setup → Nodes → ℕ → Point → ℕ → Type 0

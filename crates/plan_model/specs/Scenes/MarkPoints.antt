@@ -103,11 +103,15 @@ mark_points scene = points_of_marks scene scene.plan
 abbrev pub quota_of : ℕ → ℕ → ℕ → ℕ
 quota_of strips g limit = count_by (λ k. strip_of_mark strips k == g) (range_with_len 0 limit)
 
--- Mark k is number c * strips + g, which is the c-th of strip g, and c is below the quota of the strip.
+-- the c-th mark of strip g
+abbrev pub mark_of : ℕ → ℕ → ℕ → ℕ
+mark_of strips g c = c * strips + g
+
+-- Mark k is the c-th of strip g, and c is below the quota of the strip.
 pub record IsMarkOf (strips limit k g c : ℕ) : Type 0 where
   pub strip : g < strips
   pub below : c < quota_of strips g limit
-  pub number : k ≡ c * strips + g
+  pub number : k ≡ mark_of strips g c
 
 -- mark k is claimed where each strip has a counter of those of its marks that are
 abbrev pub is_claimed : ℕ → (ℕ → ℕ) → ℕ → Bool

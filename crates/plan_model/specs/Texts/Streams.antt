@@ -51,13 +51,13 @@ pub record MemSinkState : Type 0 where
   pub faults : ℕ
 
 -- one more, up to the last value of a count
-abbrev pub counted : ℕ → ℕ
-counted n = min (n + 1) (2 ^ 64 - 1)
+abbrev pub counted_up : ℕ → ℕ
+counted_up n = min (n + 1) (2 ^ 64 - 1)
 
 -- the next write of at least one byte fails: its number is listed, or the room is full
 abbrev pub is_refused : MemSinkState → Bool
 is_refused sink =
-    list_any (λ number. number == counted sink.calls) sink.fails || sink.room == length sink.bytes
+    list_any (λ number. number == counted_up sink.calls) sink.fails || sink.room == length sink.bytes
 
 -- how many bytes a write takes that does not fail
 abbrev pub taken_count : MemSinkState → List ℕ → ℕ
@@ -72,8 +72,8 @@ write_result sink piece =
 abbrev pub after_write : MemSinkState → List ℕ → MemSinkState
 after_write sink piece =
     if length piece == 0 then sink else
-    (if is_refused sink then record sink { calls = counted sink.calls; faults = counted sink.faults } else
-    record sink { bytes = sink.bytes ++ take (taken_count sink piece) piece; calls = counted sink.calls })
+    (if is_refused sink then record sink { calls = counted_up sink.calls; faults = counted_up sink.faults } else
+    record sink { bytes = sink.bytes ++ take (taken_count sink piece) piece; calls = counted_up sink.calls })
 
 -- Bytes that are given in pieces: those that are left, whether their end was given, at most so many bytes in one call,
 -- and the calls with these numbers fail.
@@ -87,7 +87,7 @@ pub record MemSourceState : Type 0 where
 
 -- the next read into a slice that is not empty fails: its number is listed
 abbrev pub is_failing : MemSourceState → Bool
-is_failing source = list_any (λ number. number == counted source.calls) source.fails
+is_failing source = list_any (λ number. number == counted_up source.calls) source.fails
 
 -- how many bytes a read gives that does not fail, into a slice of so many places
 abbrev pub given_count : MemSourceState → ℕ → ℕ
@@ -102,11 +102,11 @@ read_result source len =
 abbrev pub after_read : MemSourceState → ℕ → MemSourceState
 after_read source len =
     if len == 0 then source else
-    (if is_failing source then record source { calls = counted source.calls; faults = counted source.faults } else
+    (if is_failing source then record source { calls = counted_up source.calls; faults = counted_up source.faults } else
     record source {
       left = drop (given_count source len) source.left;
       ended = ended_after source.ended len (given_count source len);
-      calls = counted source.calls;
+      calls = counted_up source.calls;
     })
 
 -- what the slice holds after a read into it

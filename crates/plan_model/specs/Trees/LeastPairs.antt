@@ -2,10 +2,14 @@
 -- key, and of equal keys the lesser number.
 use Rattle.std.specs.Prelude.{◌≡◌, ℕ, ◌≤◌, nat_lt, Option, Some, None, List, [], ◌∷◌, if◌then◌else◌}
 
+-- a pair is not above another one
+pub record IsPairNotAbove (key number other_key other : ℕ) : Type 0 where
+  pub least : key ≤ other_key
+  pub first : other_key ≡ key → number ≤ other
+
 -- the pair of m is not above the pair of i
-pub record IsNotAbove (key : ℕ → ℕ) (m i : ℕ) : Type 0 where
-  pub least : key m ≤ key i
-  pub first : key i ≡ key m → m ≤ i
+abbrev pub IsNotAbove : (ℕ → ℕ) → ℕ → ℕ → Type 0
+IsNotAbove key m i = IsPairNotAbove (key m) m (key i) i
 
 -- m has the least pair among these numbers
 pub record IsFirstLeast (key : ℕ → ℕ) (among : ℕ → Type 0) (m : ℕ) : Type 0 where

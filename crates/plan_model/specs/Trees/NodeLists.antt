@@ -48,6 +48,10 @@ sum_by points parents n = length_of_path (map (point_of points) (chain_by points
 abbrev pub edge_by : List (Option Point) → (ℕ → ℕ) → ℕ → ℕ
 edge_by points parents n = cost_of (point_of points (parents n)) (point_of points n)
 
+-- the cost of reaching p through node i, by the costs of nodes
+abbrev pub cost_through_by : (ℕ → ℕ) → List (Option Point) → Point → ℕ → ℕ
+cost_through_by costs points p i = costs i + cost_of (point_of points i) p
+
 -- the chain of a node of a tree that is a list
 abbrev pub chain : List (Option Twig) → ℕ → List ℕ
 chain tree n = chain_by (points_of tree) (parent_of tree) n

@@ -6,6 +6,6 @@ use Rattle.plan_model.specs.declared.configuration_spaces.ConfigurationSpace.{Co
 use Rattle.plan_model.specs.Trees.PointsByNumber.{point_of}
 
 -- one of some nodes with a clear edge to p
-pub record IsOpenTo (space : ConfigurationSpace) (points : List (Option Point)) (p : Point) (among : List ℕ) (i : ℕ) : Type 0 where
-  pub one_of : Contains among i
+pub record IsOpenTo (space : ConfigurationSpace) (points : List (Option Point)) (p : Point) (candidates : List ℕ) (i : ℕ) : Type 0 where
+  pub among : Contains candidates i
   pub clear : Clear space (point_of points i) p

@@ -1,6 +1,6 @@
 -- Counts of faults, and calls on streams in memory.
 use Rattle.std.specs.Prelude.{◌≡◌, ℕ, true, false, List, [], ◌∷◌, Ok, Err}
-use Rattle.plan_model.specs.Texts.Streams.{FaultsRose, MemSinkState, MemSourceState, ended_after, counted}
+use Rattle.plan_model.specs.Texts.Streams.{FaultsRose, MemSinkState, MemSourceState, ended_after, counted_up}
 use Rattle.plan_model.specs.Texts.Streams.{write_result, after_write, read_result, after_read, read_into}
 
 -- room for so many bytes, of which one is taken; the third call fails
@@ -19,7 +19,7 @@ pub record StreamVectors : Type 0 where
   -- a count at the last value of a u64 counts as risen
   pub at_last_value : FaultsRose 18446744073709551615 18446744073709551615
   pub before_last_value : ¬ FaultsRose 18446744073709551614 18446744073709551614
-  pub stops : counted 18446744073709551615 ≡ 18446744073709551615
+  pub stops : counted_up 18446744073709551615 ≡ 18446744073709551615
   -- the end is given by a read of no byte into a place, and stays given
   pub end : ended_after false 5 0 ≡ true
   pub no_place : ended_after false 0 0 ≡ false

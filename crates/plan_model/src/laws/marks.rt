@@ -3,7 +3,7 @@
 ghost use Rattle.std.specs.Prelude.{◌≡◌, ℕ, ◌+◌, ◌*◌, ◌/◌, ◌<◌, ◌≤◌, ◌↔◌};
 ghost use Rattle.std.specs.List.{range_with_len, sum_by};
 ghost use Rattle.plan_model.specs.Spaces.ConfigurationSpace.{space_of};
-ghost use Rattle.plan_model.specs.Scenes.MarkPoints.{BodyFits, IsInSpan, IsMarkOf, columns, drawn_mark, quota_of, rows, strip, strip_of_mark};
+ghost use Rattle.plan_model.specs.Scenes.MarkPoints.{BodyFits, IsInSpan, IsMarkOf, columns, drawn_mark, mark_of, quota_of, rows, strip, strip_of_mark};
 ghost use Rattle.plan_model.specs.declared.spans.Span.{Span};
 ghost use Rattle.plan_model.specs.Spaces.RoomOfConfigurations.{InRoom, at_lattice};
 ghost use Rattle.plan_model.specs.declared.scenes.Scene.{Scene};
@@ -32,10 +32,10 @@ pub fn marks_are_drawn_in_the_room()
 
 /// The c-th mark of a strip is below a limit exactly if c is below the quota of the strip.
 pub fn quotas_count_the_marks_of_a_strip()
-    ensures { (strips g limit c : ℕ) → g < strips → (c * strips + g < limit) ↔ (c < quota_of strips g limit) }
+    ensures { (strips g limit c : ℕ) → g < strips → (mark_of strips g c < limit) ↔ (c < quota_of strips g limit) }
 {}
 
-/// Each mark below a limit is number c * strips + g, for one strip g and one c, which is below the quota of the strip; and
+/// Each mark below a limit is the c-th of one strip, for one c, which is below the quota of the strip; and
 /// each such number is below the limit.
 pub fn marks_are_in_one_strip_each()
     ensures some { (strips limit k : ℕ) → 0 < strips → k < limit → IsMarkOf strips limit k (strip_of_mark strips k) (k / strips) }

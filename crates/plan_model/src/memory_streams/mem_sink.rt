@@ -2,7 +2,7 @@
 
 ghost use Rattle.std.specs.Prelude.{◌≡◌, ◌+◌, ◌++◌, ◌≤◌, ◌<◌, true, [], length, Some, IfOk, OnOk, OnErr, Ok, vec_len, vec_capacity};
 ghost use Rattle.std.specs.Io.KnownBytes.{WriteAppends};
-ghost use Rattle.plan_model.specs.Texts.Streams.{FaultsRose, MemSinkState, after_write, counted, write_result};
+ghost use Rattle.plan_model.specs.Texts.Streams.{FaultsRose, MemSinkState, after_write, counted_up, write_result};
 
 use super::numbered_calls::is_failing_call;
 use crate::errors::{Failed, Memory};
@@ -77,7 +77,7 @@ impl Sink for MemSink {
         ensures failed { OnErr result (FaultsRose self.old.faults self.new.faults) }
         ensures later { self.old.faults ≤ self.new.faults }
         ensures no_fault { OnOk result (self.new.faults ≡ self.old.faults) }
-        ensures one_fault { OnErr result (self.new.faults ≡ counted self.old.faults) }
+        ensures one_fault { OnErr result (self.new.faults ≡ counted_up self.old.faults) }
         ensures empty { length bytes.now ≡ 0 → (result ≡ Ok 0) × (self.new.faults ≡ self.old.faults) }
         // which calls fail, and what is taken
         ensures answer { result ≡ write_result self.old bytes.now }

@@ -2,7 +2,7 @@
 
 ghost use Rattle.std.specs.Prelude.{◌≡◌, ◌≤◌, ◌<◌, ◌^◌, true, false, length, Some, IfOk, OnOk, OnErr, Ok};
 ghost use Rattle.std.specs.Io.KnownBytes.{Keeps, ReadConsumes};
-ghost use Rattle.plan_model.specs.Texts.Streams.{FaultsRose, MemSourceState, after_read, counted, ended_after, read_into, read_result};
+ghost use Rattle.plan_model.specs.Texts.Streams.{FaultsRose, MemSourceState, after_read, counted_up, ended_after, read_into, read_result};
 
 use super::numbered_calls::is_failing_call;
 use super::unread::Unread;
@@ -76,7 +76,7 @@ impl Source for MemSource {
         ensures failed { OnErr result (FaultsRose self.old.faults self.new.faults) }
         ensures later { self.old.faults ≤ self.new.faults }
         ensures no_fault { OnOk result (self.new.faults ≡ self.old.faults) }
-        ensures one_fault { OnErr result (self.new.faults ≡ counted self.old.faults) }
+        ensures one_fault { OnErr result (self.new.faults ≡ counted_up self.old.faults) }
         ensures empty { length into.old ≡ 0 → (result ≡ Ok 0) × Keeps (Some self.old.left) (Some self.new.left)
             × (self.new.faults ≡ self.old.faults) }
         // which calls fail, and what is moved

@@ -24,12 +24,12 @@ not_in_1 (suc i, h, e) = omega (arith, h)
 pub returns : goal.returns
 returns c = record {
   from_start = record {
-    one_of = (1, omega arith, refl);
+    among = (1, omega arith, refl);
     clear =
         Clear-empty_room (at 100 50) (at 0 0) (at 10 50) (record { horizontal = omega arith; vertical = omega arith })
         (record { horizontal = omega arith; vertical = omega arith });
   };
-  none_of_them = λ h. not_in_1 h.one_of;
+  none_of_them = λ h. not_in_1 h.among;
   begins_outside = λ h. omega (arith, (AreInRoom-from_clear low_room (at 0 51) (at 10 50) h.clear).first.vertical);
   leads_outside = λ h. omega (arith, (AreInRoom-from_clear low_room (at 0 0) (at 10 51) h.clear).last.vertical);
   clear = record { clear = clear_edges };

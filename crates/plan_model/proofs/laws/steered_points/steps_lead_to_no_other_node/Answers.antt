@@ -1,7 +1,7 @@
 use Rattle.plan_model.specs.Trees.PointsByNumber.{point_of}
 use Rattle.plan_model.proofs.SteeringLaws.{steered-moves}
 use Rattle.plan_model.proofs.SteeredNodes.{steered-is_nearest}
-use Rattle.plan_model.proofs.laws.steering.steps_lead_to_no_other_node.Goals as goal
+use Rattle.plan_model.proofs.laws.steered_points.steps_lead_to_no_other_node.Goals as goal
 
 pub returns-clause-stays : goal.returns-clause-stays
 returns-clause-stays c = steered-is_nearest

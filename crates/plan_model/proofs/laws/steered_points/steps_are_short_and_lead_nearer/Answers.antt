@@ -1,5 +1,5 @@
 use Rattle.plan_model.proofs.SteeringLaws.{IsStep-steered, steered-near, near-from_steered, steered-moves, steered-nearer}
-use Rattle.plan_model.proofs.laws.steering.steps_are_short_and_lead_nearer.Goals as goal
+use Rattle.plan_model.proofs.laws.steered_points.steps_are_short_and_lead_nearer.Goals as goal
 
 pub returns-clause-steps : goal.returns-clause-steps
 returns-clause-steps c = IsStep-steered

@@ -1,5 +1,5 @@
 use Rattle.plan_model.proofs.SteeringLaws.{advanced-forwards, advanced-backwards}
-use Rattle.plan_model.proofs.laws.steering.steering_rounds_to_start.Goals as goal
+use Rattle.plan_model.proofs.laws.steered_points.steering_rounds_to_start.Goals as goal
 
 pub returns-clause-forwards : goal.returns-clause-forwards
 returns-clause-forwards c = advanced-forwards
