@@ -11,7 +11,7 @@ mod drafts;
 mod fetching;
 mod field_words;
 mod key_words;
-pub mod laws;
+pub mod text_laws;
 mod line_words;
 mod refusals;
 mod scene_reader;

@@ -2,12 +2,12 @@
 #![tactic(auto)]
 
 #[cfg(test)]
-mod fetching;
+mod fetch;
+#[cfg(test)]
+mod read_scene;
 #[cfg(test)]
 mod refusals;
 #[cfg(test)]
-mod scene_reader;
+mod support;
 #[cfg(test)]
-mod scene_writer;
-#[cfg(test)]
-mod test_scenes;
+mod write_scene;

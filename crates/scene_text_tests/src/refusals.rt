@@ -1,23 +1,10 @@
 //! How faults and refusals of scene texts are shown.
 
-use crate::test_scenes::sure;
+use crate::support::assert_shown;
 use plan_model::Kind;
 use scene_text::{SceneFault, SceneRefusal};
 use std::alloc::Global;
-use std::fmt;
 use std::process::Abort;
-
-// Asserts how a fault or a refusal is shown.
-pub(crate) fn assert_shown<R: Abort, T: fmt::Display>(
-    rt: &R,
-    alloc: Global,
-    value: &T,
-    want: &str,
-) {
-    let shown = sure(rt, value.to_string(alloc));
-    assert!(rt; shown.as_str() == want);
-    drop(shown);
-}
 
 static FAULTS: [(SceneFault, &str); 2] = [
     (

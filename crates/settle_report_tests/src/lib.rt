@@ -2,18 +2,18 @@
 #![tactic(auto)]
 
 #[cfg(test)]
-mod best_node;
+mod best;
 #[cfg(test)]
-mod delivery;
+mod deliver;
 #[cfg(test)]
-mod mark_lines;
+mod path_to;
 #[cfg(test)]
-mod node_lines;
+mod push_mark_line;
 #[cfg(test)]
-mod paths;
+mod push_node_line;
 #[cfg(test)]
 mod reports;
 #[cfg(test)]
-mod settling;
+mod settle;
 #[cfg(test)]
-mod test_runs;
+mod support;

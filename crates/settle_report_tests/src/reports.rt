@@ -3,7 +3,7 @@
 ghost use Rattle.std.specs.Prelude.{◌≤◌, IsTrue};
 ghost use Rattle.plan_model.specs.Scenes.Limits.{is_goal};
 
-use crate::test_runs::{settle_run, start_alone, sure, unsettled_run};
+use crate::support::{settle_run, start_alone, sure, unsettled_run};
 use plan_model::{Goal, Point};
 use settle_report::{report, summary};
 use std::alloc::Global;

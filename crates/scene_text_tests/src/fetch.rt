@@ -2,8 +2,7 @@
 
 ghost use Rattle.std.specs.Prelude.{◌≡◌, false};
 
-use crate::refusals::assert_shown;
-use crate::test_scenes::sure;
+use crate::support::{assert_shown, sure};
 use plan_model::{MOST_TEXT_BYTES, MemSource, Source, SureSource};
 use scene_text::{FetchFault, fetch};
 use std::alloc::Global;

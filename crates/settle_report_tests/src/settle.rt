@@ -1,6 +1,6 @@
 //! Parents and kept costs before a run is settled, and then.
 
-use crate::test_runs::{settle_run, start_alone, unsettled_run};
+use crate::support::{settle_run, start_alone, unsettled_run};
 use plan_model::{Goal, Point};
 use std::process::Abort;
 use step_core::Grown;

@@ -5,7 +5,7 @@ use Rattle.plan_model.specs.Runs.Textbook.{setup_of}
 use Rattle.plan_model.specs.Vectors.Runs.{marks_to_rewire}
 use Rattle.step_core.proofs.ListedRuns.{IsClosed-same_lists}
 use Rattle.settle_report_tests.proofs.UnsettledRun.{IsClosed-unsettled, rrt_setup, unsettled_knots, unsettled_records}
-use Rattle.settle_report_tests.proofs.test_runs.unsettled_run.Goals as goal
+use Rattle.settle_report_tests.proofs.support.unsettled_run.Goals as goal
 
 pub packed-requires : goal.packed-requires
 packed-requires g c =

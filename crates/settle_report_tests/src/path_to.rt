@@ -1,6 +1,6 @@
 //! Paths from the start to the nodes of a run of three marks.
 
-use crate::test_runs::{start_alone, sure, unsettled_run};
+use crate::support::{start_alone, sure, unsettled_run};
 use plan_model::{Goal, Point};
 use settle_report::path_to;
 use std::alloc::Global;

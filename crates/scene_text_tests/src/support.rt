@@ -1,4 +1,5 @@
-//! Values that memory lasts for, and texts with their scenes, for the tests of the reader and the writer.
+//! What the tests of the reader and the writer share: values that memory lasts for, texts with their scenes, and how a refusal is
+//! shown.
 
 ghost use Rattle.std.specs.Prelude.{◌≡◌, IfOk, Ok};
 
@@ -35,4 +36,16 @@ pub(crate) fn scene_of(rt: &impl Abort, alloc: Global, text: &str) -> Scene
     ensures { result.version ≡ 1 }
 {
     sure(rt, read(rt, alloc, text))
+}
+
+/// Asserts how a fault or a refusal is shown.
+pub(crate) fn assert_shown<R: Abort, T: fmt::Display>(
+    rt: &R,
+    alloc: Global,
+    value: &T,
+    want: &str,
+) {
+    let shown = sure(rt, value.to_string(alloc));
+    assert!(rt; shown.as_str() == want);
+    drop(shown);
 }

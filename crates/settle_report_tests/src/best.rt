@@ -4,7 +4,7 @@ ghost use Rattle.std.specs.Prelude.{◌≡◌, IsTrue};
 ghost use Rattle.plan_model.specs.Scenes.Limits.{is_goal};
 ghost use Rattle.plan_model.specs.Vectors.Reports.{box};
 
-use crate::test_runs::{settle_run, start_alone, unsettled_run};
+use crate::support::{settle_run, start_alone, unsettled_run};
 use plan_model::{Goal, Point};
 use settle_report::best;
 use std::alloc::Global;

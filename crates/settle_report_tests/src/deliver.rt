@@ -1,6 +1,6 @@
 //! Texts written to sinks in memory, whole or up to a write that fails.
 
-use crate::test_runs::sure;
+use crate::support::sure;
 use plan_model::{Failed, MemSink, Sink};
 use settle_report::deliver;
 use std::process::Abort;

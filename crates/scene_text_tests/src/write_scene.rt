@@ -3,7 +3,7 @@
 ghost use Rattle.std.specs.Prelude.{◌≡◌, IfOk, IsTrue};
 ghost use Rattle.plan_model.specs.Scenes.Limits.{is_obstacle, are_obstacles};
 
-use crate::test_scenes::{POLYGONS, scene_of, sure};
+use crate::support::{POLYGONS, scene_of, sure};
 use plan_model::{MOST_OBSTACLES, Poly, Polys, Scene, Vertex};
 use scene_text::{read_scene, write_scene};
 use std::alloc::{AllocError, Global};

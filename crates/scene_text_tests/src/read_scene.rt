@@ -1,6 +1,6 @@
 //! Scenes that are read, and texts that are refused.
 
-use crate::test_scenes::{POLYGONS, read, scene_of, sure};
+use crate::support::{POLYGONS, read, scene_of, sure};
 use plan_model::{Goal, Kind, Marks, Point, Scene, Vertex};
 use scene_text::{SceneFault, SceneRefusal};
 use std::alloc::Global;

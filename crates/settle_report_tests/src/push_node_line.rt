@@ -1,6 +1,6 @@
 //! The lines of single nodes.
 
-use crate::test_runs::sure;
+use crate::support::sure;
 use plan_model::{Knot, Memory, Point};
 use settle_report::push_node_line;
 use std::alloc::Global;

@@ -2,7 +2,7 @@ use Rattle.std.proofs.Common.{◌≡◌, ℕ, List, Result, Ok, Err, IfOk}
 use Rattle.plan_model.specs.declared.scenes.Scene.{Scene}
 use Rattle.plan_model.specs.Texts.SceneGrammar.{Spells, supported}
 use Rattle.scene_text.proofs.CoveredScenes.{first-spelled}
-use Rattle.scene_text_tests.proofs.test_scenes.read.Goals as goal
+use Rattle.scene_text_tests.proofs.support.read.Goals as goal
 
 first-read : {E : Type 0} (result : Result Scene E) (text : List ℕ) → IfOk result (λ scene. Spells supported text scene)
     → IfOk result (λ scene. scene.version ≡ 1)

@@ -6,7 +6,7 @@ use Rattle.plan_model.proofs.Soundness.{Spells-not_refused}
 use Rattle.scene_text.proofs.CoveredScenes.{Covers-whole}
 use Rattle.scene_text.proofs.CanonicalFields.{Spells-canonical}
 use Rattle.scene_text.proofs.CanonicalLengths.{length-canonical}
-use Rattle.scene_text.proofs.laws.written_scenes_are_read_again.Goals as goal
+use Rattle.scene_text.proofs.text_laws.written_scenes_are_read_again.Goals as goal
 
 pub returns-clause-spells : goal.returns-clause-spells
 returns-clause-spells c = λ format scene covers. Spells-canonical format scene (canonical_text scene) covers refl

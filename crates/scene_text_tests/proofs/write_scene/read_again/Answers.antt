@@ -1,7 +1,7 @@
 use Rattle.std.proofs.Common.{◌≡◌, subst, rules}
 use Rattle.plan_model.specs.Texts.SceneGrammar.{Spells, supported}
 use Rattle.plan_model.proofs.SameScenes.{Spells-one_scene}
-use Rattle.scene_text_tests.proofs.scene_writer.read_again.Goals as goal
+use Rattle.scene_text_tests.proofs.write_scene.read_again.Goals as goal
 
 pub returns : goal.returns
 returns c =

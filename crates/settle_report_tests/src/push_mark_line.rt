@@ -1,6 +1,6 @@
 //! The lines of single marks.
 
-use crate::test_runs::sure;
+use crate::support::sure;
 use plan_model::{Memory, Outcome, Record};
 use settle_report::push_mark_line;
 use std::alloc::Global;
