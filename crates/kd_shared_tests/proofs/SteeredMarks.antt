@@ -30,14 +30,9 @@ use Rattle.step_core.specs.declared.views.Hand.{Hand}
 use Rattle.step_core.specs.declared.views.Stage.{Stage}
 use Rattle.step_core.specs.declared.views.Stage.TheVariants.{Counted, Pointed, Treed}
 use Rattle.step_core.specs.declared.views.View.{View}
-use Rattle.step_core.proofs.PlacedWords.{has_node-same}
+use Rattle.step_core.proofs.RecordedNodes.{has_node-recorded, present_recorded}
 use Rattle.step_core.proofs.SeenViews.{SeesPoint-later}
 use Rattle.kd_shared_tests.specs.HeldMarks.{HangsBelow, IsNearestRecorded, SteersFrom}
-
--- a node whose record is seen is seen with its point
-pub present_recorded : (view : View) → IsLawfulView view → (n : ℕ) → has_node (sees view) n ≡ true → IsPresent (tree_seen view).points n
-present_recorded view lawful zero here = lawful.tree.rooted.start
-present_recorded view lawful (suc k) here = lawful.tree.placed k here
 
 -- what a search for the nearest node finds
 pub IsNearestRecorded-found :
@@ -66,10 +61,6 @@ unrecorded-hand view hand lawful held unlinked = by_test (has_node (sees view) (
 
 module _ (before after : View) (later : IsLater before after) (lawful : IsLawfulView before)
     (records : (k : ℕ) → sees after (RecordOf k) ≡ sees before (RecordOf k)) where
-  has_node-kept : (n : ℕ) → has_node (sees after) n ≡ has_node (sees before) n
-  has_node-kept zero = refl
-  has_node-kept (suc k) = has_node-same (sees before) (sees after) k (records k)
-
   point_of-kept : (n : ℕ) → IsPresent (tree_seen before).points n → point_of (tree_seen after).points n ≡ point_of (tree_seen before).points n
   point_of-kept n here =
       point_of-stands (tree_seen after).points n (point_of (tree_seen before).points n)
@@ -78,7 +69,7 @@ module _ (before after : View) (later : IsLater before after) (lawful : IsLawful
   pub IsNearestRecorded-later :
       (q : Point) (m : ℕ) → IsPresent (tree_seen before).points m → IsNearestRecorded before q m → IsNearestRecorded after q m
   IsNearestRecorded-later q m present not_above n here =
-      let was : has_node (sees before) n ≡ true = sym (has_node-kept n) ∙ here in
+      let was : has_node (sees before) n ≡ true = sym (has_node-recorded before after records n) ∙ here in
       let best = ap (λ p. squared_distance p q) (point_of-kept m present) in
       let other = ap (λ p. squared_distance p q) (point_of-kept n (present_recorded before lawful n was)) in
       let order = not_above n was in

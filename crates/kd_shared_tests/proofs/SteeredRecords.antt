@@ -24,14 +24,16 @@ use Rattle.plan_model.specs.declared.records.Outcome.{Outcome}
 use Rattle.plan_model.specs.declared.records.Outcome.TheVariants.{Placed, Same}
 use Rattle.plan_model.specs.declared.records.Record.{Record}
 use Rattle.plan_model.proofs.ClassLaws.{below_digits}
-use Rattle.plan_model.proofs.CountsBelow.{count-more, count-wider}
+use Rattle.plan_model.proofs.CountsBelow.{count-first, count-wider}
 use Rattle.plan_model.proofs.FreePoints.{same-from_distance}
 use Rattle.plan_model.proofs.NewNodes.{point_of-stands}
 use Rattle.plan_model.proofs.RadiusLaws.{greatest-passes}
+use Rattle.plan_model.proofs.RecordLaws.{class_of-le}
 use Rattle.plan_words.specs.States.{turn_of, worker_of}
 use Rattle.plan_words.proofs.KeptPairs.{if_hand}
 use Rattle.plan_words.proofs.Tying.{HasMember-held}
-use Rattle.step_core.specs.GrownWords.{has_node, has_placed, record_at}
+use Rattle.step_core.proofs.RecordedNodes.{own_recorded}
+use Rattle.step_core.specs.GrownWords.{record_at}
 use Rattle.step_core.specs.LaterViews.{IsLawfulView}
 use Rattle.step_core.specs.SeenRecords.{IsOwnNeighbour, MayBePlaced, MayEnd, MayRecord, MaySteer, is_own_node, own_count}
 use Rattle.step_core.specs.Stages.{has_link}
@@ -48,9 +50,6 @@ use lib.ListN.{get_elem?}
 
 pub class_of-below : (n k : ℕ) → n < 2 ^ k → class_of n ≤ k
 class_of-below n k fits = length-digits_of-le 2 k n (omega arith) fits
-
-class_of-le : (n m : ℕ) → n ≤ m → class_of n ≤ class_of m
-class_of-le n m order = class_of-below n (class_of m) (omega (arith, order, below_digits m))
 
 radius-zero : (step gamma class : ℕ) → gamma ≡ 0 → radius_of_class step gamma class ≡ 0
 radius-zero step gamma class none = ap (λ g. radius_of_class step g class) none ∙ by_test (cases_lt 0 (radius_of_class step 0 class))
@@ -78,27 +77,12 @@ within_zero p (Some q) near = ap Some (same-from_distance q p (omega (arith, leb
 
 -- ---- a worker's own nodes
 
--- the record of each is seen
-own_recorded : (view : View) (entry : Record) (n : ℕ) → IsTrue (is_own_node view entry n) → has_node (sees view) n ≡ true
-own_recorded view entry zero own = refl
-own_recorded view entry (suc k) own = by_record (record_at (sees view) k) own
-  where
-    by_record : (o : Option Record) → is_earlier_record entry o ≡ true → has_placed o ≡ true
-    by_record None h = h
-    by_record (Some other) h = (and_parts (is_placed other.outcome) (other.worker == entry.worker && nat_lt other.turn entry.turn) h).0
-
--- and is of the worker
+-- the record of each is of the worker
 own_of_worker : (entry : Record) (o : Option Record) → is_earlier_record entry o ≡ true → is_of_worker entry.worker o ≡ true
 own_of_worker entry None h = h
 own_of_worker entry (Some other) h =
     let parts = and_parts (is_placed other.outcome) (other.worker == entry.worker && nat_lt other.turn entry.turn) h in
     (and_parts (other.worker == entry.worker) (nat_lt other.turn entry.turn) parts.1).0
-
--- the first number apart
-count-first :
-    (test : ℕ → Bool) (n : ℕ) → count_by test (range_with_len 0 (suc n)) ≡ cond (test 0) 1 0 + count_by (λ k. test (suc k)) (range_with_len 0 n)
-count-first test zero = omega (arith, count-more test 0)
-count-first test (suc n) = omega (arith, count-more test (suc n), count-first test n, count-more (λ k. test (suc k)) n)
 
 -- they are no more than the start and the marks that the worker has handled
 own_count-turns :

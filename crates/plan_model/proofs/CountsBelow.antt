@@ -20,6 +20,12 @@ count-more test n =
     let next : suc n ≡ n + 1 = omega arith in
     ap (λ m. count_by test (range_with_len 0 m)) next ∙ ap (sum_by own) (range-more n) ∙ sum_by_push own (range_with_len 0 n) n
 
+-- the first number and the others
+pub count-first : (test : ℕ → Bool) (n : ℕ)
+    → count_by test (range_with_len 0 (suc n)) ≡ cond (test 0) 1 0 + count_by (λ k. test (suc k)) (range_with_len 0 n)
+count-first test zero = omega (arith, count-more test 0)
+count-first test (suc n) = omega (arith, count-more test (suc n), count-first test n, count-more (λ k. test (suc k)) n)
+
 -- as many as the limit if all below pass
 pub count-all : (test : ℕ → Bool) (n : ℕ) → ((i : ℕ) → i < n → test i ≡ true) → count_by test (range_with_len 0 n) ≡ n
 count-all test zero all = refl

@@ -39,6 +39,8 @@ pub mod MeetingLaws
 pub mod SegmentLaws
 pub mod SpanLaws
 pub mod CountsBelow
+pub mod SumsBelow
+pub mod ListMembers
 pub mod QuotaLaws
 pub mod StripMarks
 pub mod DrawnMarks

@@ -99,7 +99,3 @@ Contains-near points p r i h =
     let itself : get_or (range_with_len 0 (length points)) i i ≡ i = omega (arith, get_or-range_with_len 0 (length points) i i below) in
     Contains-filter (λ n. is_within p r (point_at points n)) (range_with_len 0 (length points)) i h
     (i, omega (arith, below, length-range_with_len 0 (length points)), itself)
-
--- a near node is a candidate after the nearest one
-pub Contains-after : (m : ℕ) (ns : List ℕ) (i : ℕ) → Contains ns i → Contains (m ∷ ns) i
-Contains-after m ns i (k, l, is) = (suc k, omega (arith, l), is)

@@ -22,7 +22,8 @@ use Rattle.plan_model.proofs.OrderLaws.{Hangs-grows}
 use Rattle.plan_model.proofs.TreeStateLaws.{point_at-grows, point_of-grows, node_count-grows}
 use Rattle.plan_model.proofs.ClosedLaws.{KeepsFirstCosts-closed}
 use Rattle.plan_model.proofs.RecordLaws.{class_of-le}
-use Rattle.plan_model.proofs.NearNodes.{IsReachable, candidate-reachable, Contains-near, Contains-after}
+use Rattle.plan_model.proofs.ListMembers.{Contains-after}
+use Rattle.plan_model.proofs.NearNodes.{IsReachable, candidate-reachable, Contains-near}
 use Rattle.plan_model.proofs.NextRecords.{RecordsMark}
 use Rattle.plan_model.proofs.NextMarks.{EndsLawfully, node-absent, early-present, earlier_count-le, IsSteeredLawfully-steers}
 

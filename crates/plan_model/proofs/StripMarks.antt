@@ -4,13 +4,13 @@ use Rattle.std.proofs.Common.{cond, eqb, ltb, Option, Some, None, arith, refl, s
 use Rattle.std.specs.Prelude.{◌≢◌, count_by, is_some}
 use Rattle.std.specs.List.{range_with_len, sum_by}
 use Rattle.std.proofs.lemmas.Bool.{cases_eq, cases_lt, eq-eqb, ne_eqb, lt-ltb, le-ltb}
-use Rattle.std.proofs.lemmas.List.Sums.{sum_by_push}
 use Rattle.std.proofs.lemmas.Nat.{div-add-mod', div-mul-add, mod-mul-add}
 use Rattle.plan_model.specs.declared.records.Record.{Record}
 use Rattle.plan_model.specs.Runs.ClosedLaw.{AreRecordedBelow}
 use Rattle.plan_model.specs.Scenes.MarkPoints.{quota_of, IsMarkOf, is_claimed}
-use Rattle.plan_model.proofs.CountsBelow.{range-more, count-more, count-single}
+use Rattle.plan_model.proofs.CountsBelow.{count-more, count-single}
 use Rattle.plan_model.proofs.QuotaLaws.{IsCutAt-quota}
+use Rattle.plan_model.proofs.SumsBelow.{sum-more}
 use Rattle.plan_model.proofs.WorkerTurns.{ltb-next}
 
 -- ---- the strip of a mark
@@ -41,11 +41,6 @@ pub IsMarkOf-below : (strips limit k g c : ℕ) → IsMarkOf strips limit k g c 
 IsMarkOf-below strips limit k g c h = omega (arith, h.number, (IsCutAt-quota strips g limit h.strip).below_limit c h.below)
 
 -- ---- the quotas of all strips
-
-sum-more : (f : ℕ → ℕ) (n : ℕ) → sum_by f (range_with_len 0 (suc n)) ≡ sum_by f (range_with_len 0 n) + f n
-sum-more f n =
-    let next : suc n ≡ n + 1 = omega arith in
-    ap (λ m. sum_by f (range_with_len 0 m)) next ∙ ap (sum_by f) (range-more n) ∙ sum_by_push f (range_with_len 0 n) n
 
 -- a sum of sums is the sums' sum
 sum-plus :

@@ -4,6 +4,7 @@ use Rattle.std.proofs.Common.{Option, Some, None, refl, sym, ap, ◌∙◌, subs
 use Rattle.std.specs.Prelude.{◌==◌, cond, MatchOption, IfNone, IfSome}
 use Rattle.std.proofs.lemmas.Bool.{cases_eq, eq-eqb, ne_eqb}
 use Rattle.std.proofs.lemmas.Nat.{mod-mul-add, mul-le}
+use Rattle.plan_model.proofs.SumsBelow.{sum-le}
 use Rattle.plan_words.specs.Claims.{AllFull, AllLoaded, GoesBefore, IsClaimed, IsFirst, IsOpen, KeepsHand, better_of, next_mark}
 use Rattle.plan_words.specs.States.{BelongsTo, PassState, SharedState, with_view, worker_of}
 use Rattle.plan_words.specs.declared.claims.Choice.{Choice}
@@ -15,7 +16,7 @@ use Rattle.step_core.specs.WordNames.{ChangesOnly, IsCounter, Words, WritesWord}
 use Rattle.step_core.specs.WordNames.Word.{Counter}
 use Rattle.step_core.specs.declared.views.SharedRun.{SharedRun}
 use Rattle.step_core.specs.declared.views.View.{View}
-use Rattle.plan_words.proofs.Scanning.{Scanned, Scanned-all, Scanned-more, left_over, sum_down, sum_less}
+use Rattle.plan_words.proofs.Scanning.{Scanned, Scanned-all, Scanned-more, left_over, sum_less}
 
 -- ---- one load of the scan
 
@@ -171,7 +172,7 @@ claim_nearer limit g c x first mid after some_strip to_mid to_after open_g other
     let rows : c * 1 ≤ c * G = mul-le c 1 c G (omega arith) (omega (arith, some_strip)) in
     let low : c < limit = omega (arith, rows, open_g.low) in
     let down : left_over G limit (λ h. sees mid.view (Counter h)) ≤ left_over G limit (λ h. sees first (Counter h)) =
-    sum_down (λ h. limit - sees mid.view (Counter h)) (λ h. limit - sees first (Counter h)) G (λ h strip. omega (arith, to_mid.seen (Counter h))) in
+    sum-le (λ h. limit - sees mid.view (Counter h)) (λ h. limit - sees first (Counter h)) G (λ h strip. omega (arith, to_mid.seen (Counter h))) in
     let less : left_over G limit (λ h. sees after.view (Counter h)) < left_over G limit (λ h. sees mid.view (Counter h)) =
     sum_less (λ h. limit - sees after.view (Counter h)) (λ h. limit - sees mid.view (Counter h)) G g open_g.strip
     (λ h strip. omega (arith, to_after.seen (Counter h))) (omega (arith, here, open_g.round, other, to_after.seen (Counter g), low)) in

@@ -4,10 +4,9 @@ use Rattle.std.proofs.Common.{false, Option, Some, None, refl, sym, ap, ◌∙�
 use Rattle.std.specs.Prelude.{◌==◌, nat_lt, cond, MatchOption}
 use Rattle.std.specs.List.{range_with_len, sum_by}
 use Rattle.std.proofs.lemmas.Bool.{cases_Bool, cases_eq, cases_lt, le-ltb, lt-ltb, ltb-true}
-use Rattle.std.proofs.lemmas.List.Sums.{sum_by_push}
 use Rattle.plan_model.specs.Scenes.MarkPoints.{quota_of}
-use Rattle.plan_model.proofs.CountsBelow.{range-more}
 use Rattle.plan_model.proofs.QuotaLaws.{IsCutAt-quota}
+use Rattle.plan_model.proofs.SumsBelow.{sum-le, sum-more}
 use Rattle.plan_words.specs.Claims.{AllFull, GoesBefore, IsOpen, better_of, better_open, goes_first, is_own, mark_in, owns}
 use Rattle.plan_words.specs.declared.claims.Choice.{Choice}
 use Rattle.plan_words.specs.declared.claims.Next.{Next}
@@ -215,25 +214,16 @@ Scanned-all view w limit (Some b) best =
 abbrev pub left_over : ℕ → ℕ → (ℕ → ℕ) → ℕ
 left_over strips limit counters = sum_by (λ g. limit - counters g) (range_with_len 0 strips)
 
-sum_more : (f : ℕ → ℕ) (n : ℕ) → sum_by f (range_with_len 0 (suc n)) ≡ sum_by f (range_with_len 0 n) + f n
-sum_more f n =
-    let next : suc n ≡ n + 1 = omega arith in
-    ap (λ m. sum_by f (range_with_len 0 m)) next ∙ ap (sum_by f) (range-more n) ∙ sum_by_push f (range_with_len 0 n) n
-
-pub sum_down : (f h : ℕ → ℕ) (n : ℕ) → ((k : ℕ) → k < n → f k ≤ h k) → sum_by f (range_with_len 0 n) ≤ sum_by h (range_with_len 0 n)
-sum_down f h zero le = omega arith
-sum_down f h (suc n) le = omega (arith, sum_more f n, sum_more h n, sum_down f h n (λ k low. le k (omega (arith, low))), le n (omega arith))
-
 pub sum_less : (f h : ℕ → ℕ) (n k : ℕ) → k < n → ((j : ℕ) → j < n → f j ≤ h j) → f k < h k → sum_by f (range_with_len 0 n) < sum_by h (range_with_len 0 n)
 sum_less f h zero k low le less = absurd (omega (arith, low))
 sum_less f h (suc n) k low le less =
     elim (cases_eq n k) [
-      | inl e ↦ omega (arith, sum_more f n, sum_more h n, sum_down f h n (λ j under. le j (omega (arith, under))), ap f e, ap h e, less)
+      | inl e ↦ omega (arith, sum-more f n, sum-more h n, sum-le f h n (λ j under. le j (omega (arith, under))), ap f e, ap h e, less)
       | inr apart ↦
           omega (
             arith,
-            sum_more f n,
-            sum_more h n,
+            sum-more f n,
+            sum-more h n,
             sum_less f h n k (omega (arith, low, apart)) (λ j under. le j (omega (arith, under))) less,
             le n (omega arith),
           )

@@ -27,10 +27,11 @@ use Rattle.step_core.specs.declared.views.Stage.TheVariants.{Pointed}
 use Rattle.step_core.specs.declared.views.View.{View}
 use Rattle.tree_rewire.proofs.SeenCosts.{stands_later}
 use Rattle.kd_shared.specs.Looking.{OnlyLooks}
+use Rattle.step_core.proofs.RecordedNodes.{has_node-recorded, present_recorded}
 use Rattle.plan_work.proofs.HeldMarks.{holding, if_held}
 use Rattle.plan_work.proofs.KeptRecords.{KeepsRecords-looks, KeepsRecords-trans}
 use Rattle.plan_work.proofs.KeptSights.{HasSteered-still}
-use Rattle.plan_work.proofs.RecordedMarks.{HandlesMark-recorded, IsSteeredTo-still, MaySteer-steered, has_node-kept, others_still, present_recorded}
+use Rattle.plan_work.proofs.RecordedMarks.{HandlesMark-recorded, IsSteeredTo-still, MaySteer-steered, others_still}
 use Rattle.plan_work.proofs.SteeredOutcomes.{EndsAsSeen-written, WasSteered-to}
 use Rattle.plan_work.proofs.TriedMarks.{HasFilledNear-still}
 use Rattle.plan_work.specs.Extensions.{EndsAsSeen, EndsWritten, HandlesMark, HasFilledNear, HasRecorded, HasSteered, IsBlockedAt, IsExtended}
@@ -75,7 +76,7 @@ IsSteeredTo-found shared before after k m from p keeps h = record {
   point_is = h.point_is;
   not_above = λ n there.
       h.not_above n
-      (present_recorded before.view keeps.goes_on.was_lawful n (sym (has_node-kept before.view after.view keeps.records n) ∙ there));
+      (present_recorded before.view keeps.goes_on.was_lawful n (sym (has_node-recorded before.view after.view keeps.records n) ∙ there));
 }
 
 -- A search has found a node that steers mark k, which is in this hand, to p, and another has looked for p.

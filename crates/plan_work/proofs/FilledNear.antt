@@ -11,6 +11,7 @@ use Rattle.plan_model.specs.Geometry.Plane.{squared_distance}
 use Rattle.plan_model.specs.Geometry.Radius.{class_of, greatest, radius_of_class}
 use Rattle.plan_model.specs.declared.geometry.Point.{Point}
 use Rattle.plan_model.specs.declared.records.Record.{Record}
+use Rattle.plan_model.proofs.RadiusLaws.{greatest-le}
 use Rattle.plan_model.proofs.CountsBelow.{count-some}
 use Rattle.plan_model.proofs.NewNodes.{IsPresent-stands, point_of-stands}
 use Rattle.plan_words.specs.States.{GoesOn, PassState, with_view}
@@ -36,17 +37,9 @@ own_count-some view entry =
       count-some (is_own_node view entry) (length view.run.marks + 1) 0 (omega arith) refl,
     )
 
-greatest-most : (test : ℕ → Bool) (n : ℕ) → greatest test n ≤ n
-greatest-most test zero = omega arith
-greatest-most test (suc n) = by_test (test (suc n)) (greatest-most test n)
-  where
-    by_test : (b : Bool) → greatest test n ≤ n → cond b (suc n) (greatest test n) ≤ suc n
-    by_test true less = omega arith
-    by_test false less = omega (arith, less)
-
 -- a radius is at most the step
 pub radius-most : (step gamma b : ℕ) → radius_of_class step gamma b ≤ step
-radius-most step gamma b = greatest-most (λ r. nat_le (r * r * 2 ^ (b - 1)) (gamma * gamma * b)) step
+radius-most step gamma b = greatest-le (λ r. nat_le (r * r * 2 ^ (b - 1)) (gamma * gamma * b)) step
 
 square-le : (a b : ℕ) → a ≤ b → a * a ≤ b * b
 square-le a b h = mul-le a a b b h h

@@ -1,7 +1,7 @@
 -- The node in hand gets its parent and its cost.
 use Rattle.std.proofs.Common.{◌≡◌, ℕ, ◌≤◌, [], ◌∷◌, List, refl, sym, ap, ◌∙◌, subst, arith}
 use Rattle.std.specs.Prelude.{All, Contains, slice_index_or}
-use Rattle.std.proofs.lemmas.List.Elements.{All-contains, Contains-append_left, Contains-append_right, Contains-get_or, Contains-push}
+use Rattle.std.proofs.lemmas.List.Elements.{All-contains, Contains-get_or}
 use Rattle.plan_model.specs.Spaces.Clearance.{Clear}
 use Rattle.plan_model.specs.declared.configuration_spaces.ConfigurationSpace.{ConfigurationSpace}
 use Rattle.plan_model.specs.Geometry.Cost.{cost_of}
@@ -9,6 +9,7 @@ use Rattle.plan_model.specs.Trees.LeastPairs.{IsFirstLeast}
 use Rattle.plan_model.specs.Trees.OpenNodes.{IsOpenTo}
 use Rattle.plan_model.specs.Trees.PointsByNumber.{IsPresent, point_at, point_of}
 use Rattle.plan_model.specs.declared.geometry.Point.{Point}
+use Rattle.plan_model.proofs.ListMembers.{Contains-after, Contains-first}
 use Rattle.plan_model.proofs.NewNodes.{StandsAt-present}
 use Rattle.plan_words.specs.States.{BelongsTo, GoesOn, PassState, SharedState, with_view}
 use Rattle.plan_work.specs.Extensions.{IsHung, IsPointed, KeepsRecords}
@@ -21,13 +22,6 @@ use Rattle.step_core.specs.declared.views.Stage.TheVariants.{Half}
 use Rattle.step_core.specs.declared.views.View.{View}
 use Rattle.tree_rewire.specs.SeenCosts.{IsLoadedSince, SeesPair, cost_seen, cost_through}
 use Rattle.plan_work.proofs.FilledNear.{looked_since}
-
--- the first of a list, and the others
-Contains-first : (x : ℕ) (xs : List ℕ) → Contains (x ∷ xs) x
-Contains-first x xs = Contains-append_left (x ∷ []) xs x (Contains-push [] x)
-
-Contains-rest : (x : ℕ) (xs : List ℕ) (y : ℕ) → Contains xs y → Contains (x ∷ xs) y
-Contains-rest x xs y h = Contains-append_right (x ∷ []) xs y h
 
 module _ (space : ConfigurationSpace) (view : View) (hand : Hand) (p : Point) (nearest parent cost : ℕ) (near : List ℕ) (pointed : IsPointed hand nearest p)
     (least : IsFirstLeast (cost_through view p) (IsOpenTo space (tree_seen view).points p (nearest ∷ near)) parent)
@@ -54,7 +48,7 @@ module _ (space : ConfigurationSpace) (view : View) (hand : Hand) (p : Point) (n
   -- and costs no more than through any near node
   pub chosen_near : (i : ℕ) → Contains near i → Clear space (point_of (tree_seen view).points i) p → cost ≤ cost_through view p i
   chosen_near i among clear =
-      omega (arith, cost_is, (least.not_above i record { among = Contains-rest nearest near i among; clear = clear }).least)
+      omega (arith, cost_is, (least.not_above i record { among = Contains-after nearest near i among; clear = clear }).least)
 
 -- After both words are written the node hangs.
 pub IsHung-written :
@@ -66,12 +60,12 @@ pub IsHung-written :
 IsHung-written space view own m p pair near then pointed is same pairs steps loaded goes_on chosen =
     subst (λ v. IsHung steps v own pair near) (sym is) record {
       held = refl;
-      pairs = λ k d below. All-contains (SeesPair view) (m ∷ near) _ pairs (Contains-rest m near _ (Contains-get_or near k d below));
+      pairs = λ k d below. All-contains (SeesPair view) (m ∷ near) _ pairs (Contains-after m near _ (Contains-get_or near k d below));
       loaded = λ k d below.
           let n : ℕ = slice_index_or near k d in
           subst (λ v. IsLoadedSince steps v n) is
           (looked_since (TreeOf n) steps view then goes_on
-          (All-contains (IsLoadedSince steps view) (m ∷ near) n loaded (Contains-rest m near n (Contains-get_or near k d below))));
+          (All-contains (IsLoadedSince steps view) (m ∷ near) n loaded (Contains-after m near n (Contains-get_or near k d below))));
       chosen = λ i among clear.
           omega (
             arith,

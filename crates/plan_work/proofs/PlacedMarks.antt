@@ -35,10 +35,11 @@ use Rattle.tree_rewire.proofs.SeenCosts.{SeesPair-later, cost_seen-later, stands
 use Rattle.tree_rewire.proofs.SpreadFalls.{HasSpreadFalls-still}
 use Rattle.tree_rewire.specs.Rewirings.{HasSpreadFalls}
 use Rattle.tree_rewire.specs.SeenCosts.{IsLoadedSince, NamesTreeOrPoint, SeesAnew, SeesPair, cost_seen}
+use Rattle.step_core.proofs.RecordedNodes.{has_node-recorded, own_recorded, present_recorded}
 use Rattle.plan_work.proofs.FilledNear.{looked_still}
 use Rattle.plan_work.proofs.KeptSights.{SweepsWithin-still}
 use Rattle.plan_work.proofs.HeldMarks.{if_held, of_held}
-use Rattle.plan_work.proofs.RecordedMarks.{IsSteeredTo-still, MaySteer-steered, has_node-kept, others_still, own_count-same, own_recorded, present_recorded}
+use Rattle.plan_work.proofs.RecordedMarks.{IsSteeredTo-still, MaySteer-steered, others_still, own_count-same}
 use Rattle.plan_work.proofs.TriedMarks.{HasFilledNear-still, clear_of-may}
 use Rattle.plan_work.specs.Extensions.{HasFilledNear, HasRecorded, IsFilledSince, IsPlacedAt, IsTried, KeepsRecords}
 use Rattle.plan_work.specs.Extensions.{IsWithinRadius, MayPlace, WasChosen, WasNeighbour, WasRewired, hung_by, own_placed, own_unplaced, radius_in}
@@ -60,7 +61,7 @@ cost-first before mid after one other entry records zero own pair = omega (arith
 cost-first before mid after one other entry records (suc k) own pair = omega (arith, (one.lawful.pairs (suc k) pair).first there, ap cost_in kept)
   where
     was : 2 ^ 63 ≤ sees before (FirstOf (suc k))
-    was = one.was_lawful.tree.placed_first k (sym (has_node-kept before after records (suc k)) ∙ own_recorded after entry (suc k) own)
+    was = one.was_lawful.tree.placed_first k (sym (has_node-recorded before after records (suc k)) ∙ own_recorded after entry (suc k) own)
 
     there : 2 ^ 63 ≤ sees mid (FirstOf (suc k))
     there = omega (arith, was, first_kept before mid one (suc k) was)
@@ -197,7 +198,7 @@ module _
   stood_first i own =
       StandsAt-present (tree_seen first.view).points i
       (present_recorded first.view since.keeps.goes_on.was_lawful i
-      (sym (has_node-kept first.view after.view first_records i) ∙ own_recorded after.view entry i own))
+      (sym (has_node-recorded first.view after.view first_records i) ∙ own_recorded after.view entry i own))
 
   close_own : (i : ℕ) → IsOwnNeighbour after.view entry may.hand.point i → IsCloseBy i (point_of (tree_seen after.view).points i)
   close_own i h =

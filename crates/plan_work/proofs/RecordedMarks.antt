@@ -21,7 +21,7 @@ use Rattle.plan_words.proofs.GoingOn.{GoesOn-trans}
 use Rattle.plan_words.proofs.Tying.{entry_fits}
 use Rattle.step_core.proofs.LawfulRecords.{is_own_node-earlier}
 use Rattle.step_core.proofs.PackedRecords.{record_of_word-packed}
-use Rattle.step_core.proofs.PlacedWords.{has_node-same}
+use Rattle.step_core.proofs.RecordedNodes.{has_node-recorded, own_recorded, present_recorded}
 use Rattle.step_core.proofs.SeenByViews.{WritesWord-saw}
 use Rattle.step_core.specs.GrownWords.{has_node, has_placed, record_at}
 use Rattle.step_core.specs.LaterViews.{IsLawfulView}
@@ -40,27 +40,6 @@ use Rattle.tree_rewire.proofs.SeenCosts.{stands_later}
 use Rattle.plan_work.proofs.HeldMarks.{of_held}
 use Rattle.plan_work.proofs.KeptSights.{IsNotAbove-still}
 use Rattle.plan_work.specs.Extensions.{HandlesMark, HasRecorded, IsSteeredTo, KeepsRecords, own_unplaced}
-
--- ---- nodes whose records are seen
-
--- a node whose record is seen is seen with its point
-pub present_recorded : (view : View) → IsLawfulView view → (n : ℕ) → has_node (sees view) n ≡ true → IsPresent (tree_seen view).points n
-present_recorded view lawful zero here = lawful.tree.rooted.start
-present_recorded view lawful (suc k) here = lawful.tree.placed k here
-
--- the record of each own node is seen
-pub own_recorded : (view : View) (entry : Record) (n : ℕ) → IsTrue (is_own_node view entry n) → has_node (sees view) n ≡ true
-own_recorded view entry zero own = refl
-own_recorded view entry (suc k) own = by_record (record_at (sees view) k) own
-  where
-    by_record : (o : Option Record) → is_earlier_record entry o ≡ true → has_placed o ≡ true
-    by_record None h = h
-    by_record (Some other) h = (and_parts (is_placed other.outcome) (other.worker == entry.worker && nat_lt other.turn entry.turn) h).0
-
-pub has_node-kept : (before after : View) → ((k : ℕ) → sees after (RecordOf k) ≡ sees before (RecordOf k)) → (n : ℕ)
-    → has_node (sees after) n ≡ has_node (sees before) n
-has_node-kept before after records zero = refl
-has_node-kept before after records (suc k) = has_node-same (sees before) (sees after) k (records k)
 
 -- a worker has as many own nodes while no record is seen anew
 pub own_count-same : (before after : View) (entry : Record) → GoesOn before after → ((k : ℕ) → sees after (RecordOf k) ≡ sees before (RecordOf k))
@@ -87,7 +66,7 @@ IsSteeredTo-still before after k m p goes_on records h =
       stands = stands_later before after goes_on m h.from h.stands;
       point_is = h.point_is ∙ ap (λ r. steered h.from (mark_at r.marks k) r.step) (sym run);
       not_above = λ n there.
-          let was : has_node (sees before) n ≡ true = sym (has_node-kept before after records n) ∙ there in
+          let was : has_node (sees before) n ≡ true = sym (has_node-recorded before after records n) ∙ there in
           subst (λ r. IsNotAbove (distance_to (mark_at r.marks k) (tree_seen after).points) m n) (sym run)
           (IsNotAbove-still before after goes_on (mark_at before.run.marks k) m n here (present_recorded before goes_on.was_lawful n was)
           (h.not_above n was));

@@ -9,7 +9,7 @@ use Rattle.plan_words.specs.Claims.{AllFull, HasNoneLeft}
 use Rattle.plan_words.specs.States.{MayClaim, PassState, SharedState, StartsAs}
 use Rattle.step_core.proofs.WordKinds.{AreBehind-trans}
 use Rattle.step_core.specs.Views.{run_of, sees, share}
-use Rattle.step_core.proofs.LinkedCounts.{sum-le}
+use Rattle.plan_model.proofs.SumsBelow.{sum-le}
 use Rattle.step_core.specs.WordKinds.{AreBehind}
 use Rattle.step_core.specs.WordNames.Word.{Counter}
 use Rattle.step_core.specs.GrownRuns.{state_of_grown, words_of_grown}

@@ -10,21 +10,13 @@ use Rattle.plan_model.specs.declared.records.Outcome.{Outcome}
 use Rattle.plan_model.specs.declared.records.Outcome.TheVariants.{Blocked, Placed, Same}
 use Rattle.plan_model.specs.declared.records.Record.{Record}
 use Rattle.plan_model.proofs.CountsBelow.{count-all, count-longer, count-same}
+use Rattle.plan_model.proofs.RunLaws.{HandlesAll-length}
 
 worker-ends : (setup : Setup) (tree : Nodes) (k : ℕ) (mark : Point) (outcome : Outcome) (entry : Record) (after : Nodes)
     → Ends setup tree k mark outcome entry after → entry.worker ≡ 0
 worker-ends setup tree k mark Placed entry after ends = ap (λ (e : Record). e.worker) ends.recorded
 worker-ends setup tree k mark (Same j) entry after ends = ap (λ (e : Record). e.worker) ends.recorded
 worker-ends setup tree k mark Blocked entry after ends = ap (λ (e : Record). e.worker) ends.recorded
-
--- as many records as marks
-pub records-textbook : (setup : Setup) (k : ℕ) (tree : Nodes) (marks : List Point) (entries : List Record) (after : Nodes)
-    → HandlesAll setup k tree marks entries after → length entries ≡ length marks
-records-textbook setup k tree [] [] after run = refl
-records-textbook setup k tree [] (entry ∷ entries) after run = absurd run
-records-textbook setup k tree (mark ∷ marks) [] after run = absurd run
-records-textbook setup k tree (mark ∷ marks) (entry ∷ entries) after run =
-    ap suc (records-textbook setup (k + 1) run.0 marks entries after run.2)
 
 -- each of worker 0
 worker-textbook : (setup : Setup) (k : ℕ) (tree : Nodes) (marks : List Point) (entries : List Record) (after : Nodes)
@@ -43,7 +35,7 @@ pub turns-textbook :
     → HandlesAll setup k tree marks entries after → ((j : ℕ) → record_of j ≡ slice_get entries j) → length marks ≤ most
     → turns_of record_of most 0 ≡ length marks
 turns-textbook setup k tree marks entries after record_of most run same within =
-    let many = records-textbook setup k tree marks entries after run in
+    let many = HandlesAll-length setup k tree marks entries after run in
     count-same (λ j. is_of_worker 0 (record_of j)) (λ j. is_of_worker 0 (slice_get entries j)) most (λ j low. ap (is_of_worker 0) (same j))
     ∙ count-longer (λ j. is_of_worker 0 (slice_get entries j)) (length marks) most within below
     ∙ count-all (λ j. is_of_worker 0 (slice_get entries j)) (length marks)
@@ -54,7 +46,7 @@ turns-textbook setup k tree marks entries after record_of most run same within =
         elim (cases_lt j (length marks)) [
           | inl low ↦ low
           | inr past ↦ (
-              let many = records-textbook setup k tree marks entries after run in
+              let many = HandlesAll-length setup k tree marks entries after run in
               let none = ap (is_of_worker 0) (slice_get_past entries j (omega (arith, past, many))) in
               let no = sym own ∙ none in
               cc)

@@ -41,7 +41,7 @@ use Rattle.step_core.proofs.LinkedCounts.{node_count-linked, present-linked}
 use Rattle.step_core.proofs.LinkedStates.{linked-present, record-unplaced, record-written}
 use Rattle.step_core.proofs.PackedRecords.{record_word-again}
 use Rattle.step_core.proofs.ReadWords.{if_written-set}
-use Rattle.step_core.proofs.SumsBelow.{sum-same}
+use Rattle.plan_model.proofs.SumsBelow.{sum-same}
 use Rattle.step_core.proofs.ViewLists.{greatest-one, greatest-most, sum-zero}
 use Rattle.step_core.proofs.WholeShares.{is_recorded-whole, others_idle, others_shareless}
 use Rattle.step_core.proofs.WorldParts.{quota-up, record_word-none}

@@ -26,7 +26,8 @@ use Rattle.plan_model.specs.declared.geometry.Point.{Point}
 use Rattle.plan_model.specs.declared.records.Outcome.{Outcome}
 use Rattle.plan_model.specs.declared.records.Outcome.TheVariants.{Blocked, Placed, Same}
 use Rattle.plan_model.specs.declared.records.Record.{Record}
-use Rattle.plan_model.proofs.CountsBelow.{count-more, count-same}
+use Rattle.plan_model.proofs.CountsBelow.{count-first, count-same}
+use Rattle.plan_model.proofs.SumsBelow.{sum-le}
 use Rattle.plan_model.proofs.NewNodes.{IsPresent-stands, StandsAt-present}
 use Rattle.plan_model.proofs.RecordLaws.{class_of-le}
 use Rattle.step_core.specs.GrownWords.{has_node, has_placed, record_at}
@@ -47,7 +48,7 @@ use Rattle.step_core.specs.declared.views.Stage.{Stage}
 use Rattle.step_core.specs.declared.views.Stage.TheVariants.{Claimed, Counted, Half, Linked, Pointed, Treed}
 use Rattle.step_core.specs.declared.views.View.{View}
 use Rattle.step_core.proofs.LawfulSights.{IsTrueOf-seen}
-use Rattle.step_core.proofs.LinkedCounts.{count-most, sum-le}
+use Rattle.step_core.proofs.LinkedCounts.{count-most}
 use Rattle.step_core.proofs.LinkedStates.{first_cost-linked, linked-present, placed-linked}
 use Rattle.step_core.proofs.PackedRecords.{unplaced_at, zeros}
 use Rattle.step_core.proofs.PackedWords.{cost_in-tree_word}
@@ -107,12 +108,6 @@ module _ (view : View) (words : Words) (entry : Record) (behind : AreBehind (see
   is_own_node-earlier (suc k) = sym (earlier_seen k)
 
 -- ---- as many nodes
-
--- the first of some numbers and the rest
-count-first : (test : ℕ → Bool) (n : ℕ)
-    → count_by test (range_with_len 0 (suc n)) ≡ once_if (test 0) + count_by (λ k. test (suc k)) (range_with_len 0 n)
-count-first test zero = omega (arith, count-more test 0)
-count-first test (suc n) = omega (arith, count-more test (suc n), count-first test n, count-more (λ k. test (suc k)) n)
 
 -- There are no fewer nodes than those that a worker has placed, by the records that a view has seen.
 pub own_count-most :

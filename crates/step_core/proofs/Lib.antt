@@ -46,7 +46,6 @@ pub mod SeenTreesOfViews
 pub mod SeenTreesTogether
 pub mod SeenTreesAtStart
 pub mod MarksInHand
-pub mod SumsBelow
 pub mod HandsAt
 pub mod WorldLinks
 pub mod WorldCopies
@@ -72,3 +71,4 @@ pub mod FoundEmpty
 pub mod Histories
 pub mod LaterViews
 pub mod GrownFromWords
+pub mod RecordedNodes

@@ -1,5 +1,5 @@
 -- How many nodes are linked, by the count that is kept of them.
-use Rattle.std.proofs.Common.{◌≡◌, ℕ, zero, suc, ◌+◌, ◌<◌, ◌≤◌, Bool, true, false, List, [], ◌∷◌}
+use Rattle.std.proofs.Common.{◌≡◌, ℕ, zero, suc, ◌+◌, ◌≤◌, Bool, true, false, List, [], ◌∷◌}
 use Rattle.std.proofs.Common.{length, Some, None, Option, refl, sym, ap, ◌∙◌, inl, inr, arith}
 use Rattle.std.specs.Prelude.{◌==◌, ◌&&◌, is_some}
 use Rattle.std.specs.List.{range_with_len, sum_by}
@@ -10,6 +10,7 @@ use Rattle.plan_model.specs.Trees.PointsByNumber.{IsPresent, node_count, point_a
 use Rattle.plan_model.specs.Runs.Turns.{once_if}
 use Rattle.plan_model.proofs.NewNodes.{IsPresent-stands}
 use Rattle.plan_model.proofs.NodeCounts.{count-next}
+use Rattle.plan_model.proofs.SumsBelow.{sum-le}
 use Rattle.step_core.specs.GrownWords.{child_of_word, is_linked}
 use Rattle.step_core.specs.SharedWords.{linked_point, linked_points}
 use Rattle.step_core.specs.Stages.{has_count, has_link, holds_at}
@@ -24,12 +25,6 @@ use Rattle.step_core.specs.declared.views.Stage.TheVariants.{Claimed, Counted, H
 use Rattle.step_core.specs.declared.views.View.{View}
 use Rattle.step_core.proofs.LinkedPresence.{in_child}
 use Rattle.step_core.proofs.LinkedStates.{linked-present}
-use Rattle.step_core.proofs.SumsBelow.{sum-more}
-
--- sums of no more are no more
-pub sum-le : (f g : ℕ → ℕ) (n : ℕ) → ((k : ℕ) → k < n → f k ≤ g k) → sum_by f (range_with_len 0 n) ≤ sum_by g (range_with_len 0 n)
-sum-le f g zero less = omega arith
-sum-le f g (suc n) less = omega (arith, sum-more f n, sum-more g n, sum-le f g n (λ k low. less k (omega arith)), less n (omega arith))
 
 -- ---- hands
 

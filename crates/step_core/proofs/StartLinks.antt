@@ -28,7 +28,7 @@ use Rattle.step_core.proofs.GrownPoints.{IsBounded-stands, point_at-words}
 use Rattle.step_core.proofs.HeldNodes.{start_present-held, start_stands-held}
 use Rattle.step_core.proofs.KdWays.{point_in-stands}
 use Rattle.step_core.proofs.LinkedPresence.{state_by-closed}
-use Rattle.step_core.proofs.SumsBelow.{sum-more, sum-same}
+use Rattle.plan_model.proofs.SumsBelow.{sum-more, sum-same}
 
 -- ---- marks
 

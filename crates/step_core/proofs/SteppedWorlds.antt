@@ -1,5 +1,5 @@
 -- Each step keeps the law of worlds: the lemma of its kind, at a moment.
-use Rattle.std.proofs.Common.{◌≡◌, ℕ, ◌≤◌, ◌^◌, refl, sym, subst, set, ◌∙◌, inl, arith}
+use Rattle.std.proofs.Common.{refl, sym, subst, ◌∙◌, inl, arith}
 use Rattle.step_core.specs.LaterViews.{IsLater}
 use Rattle.step_core.specs.Steps.{IsMoment, Moment, Step, Steps, view_after, views_after}
 use Rattle.step_core.specs.ViewSteps.{joined, looker, parted, stepped, steps_then, worker_apart}

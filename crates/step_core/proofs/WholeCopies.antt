@@ -36,7 +36,7 @@ use Rattle.step_core.proofs.LinkedPresence.{in_child}
 use Rattle.step_core.proofs.LinkedStates.{record-unplaced, unlinked-childless}
 use Rattle.step_core.proofs.MarksInHand.{once_if-true}
 use Rattle.step_core.proofs.SeenWords.{point_at-seen}
-use Rattle.step_core.proofs.SumsBelow.{sum-same}
+use Rattle.plan_model.proofs.SumsBelow.{sum-same}
 use Rattle.step_core.proofs.ViewLists.{sum-each}
 use Rattle.step_core.proofs.WholeShares.{others_idle, others_shareless}
 use Rattle.step_core.proofs.WordReads.{word_at-none}

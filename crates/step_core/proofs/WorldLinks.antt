@@ -33,7 +33,7 @@ use Rattle.step_core.proofs.LinkedPresence.{in_child}
 use Rattle.step_core.proofs.Looks.{same_name}
 use Rattle.step_core.proofs.MarksInHand.{once_if-false}
 use Rattle.step_core.proofs.PlacedWords.{has_node-same}
-use Rattle.step_core.proofs.SumsBelow.{sum-most, sum-same, sum-up}
+use Rattle.plan_model.proofs.SumsBelow.{sum-most, sum-same, sum-up}
 use Rattle.step_core.proofs.TrueWords.{is_linked-child, is_linked-start, linked-within}
 use Rattle.step_core.proofs.ViewLists.{sum-one, sum-set}
 use Rattle.step_core.proofs.WorldParts.{KeepsRecords}

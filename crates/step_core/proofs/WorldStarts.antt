@@ -44,7 +44,7 @@ use Rattle.step_core.proofs.LawfulSights.{IsPresent-seen}
 use Rattle.step_core.proofs.MarksInHand.{once_if-false}
 use Rattle.step_core.proofs.SeenTreesAtStart.{SeesTree-started}
 use Rattle.step_core.proofs.StartLinks.{FollowWays-held, IsBounded-mark, IsBounded-start, blank-held, count-held, start-held}
-use Rattle.step_core.proofs.SumsBelow.{sum-same}
+use Rattle.plan_model.proofs.SumsBelow.{sum-same}
 use Rattle.step_core.proofs.WordKinds.{AreBehind-refl}
 use Rattle.step_core.proofs.WorldEmpties.{zero-read}
 use Rattle.step_core.proofs.WorldHands.{IsWrittenFor}

@@ -16,6 +16,11 @@ pub sum-same : (f g : ℕ → ℕ) (n : ℕ) → ((k : ℕ) → k < n → f k �
 sum-same f g zero same = refl
 sum-same f g (suc n) same = omega (arith, sum-more f n, sum-more g n, sum-same f g n (λ k low. same k (omega arith)), same n (omega arith))
 
+-- sums of no more are no more
+pub sum-le : (f g : ℕ → ℕ) (n : ℕ) → ((k : ℕ) → k < n → f k ≤ g k) → sum_by f (range_with_len 0 n) ≤ sum_by g (range_with_len 0 n)
+sum-le f g zero less = omega arith
+sum-le f g (suc n) less = omega (arith, sum-more f n, sum-more g n, sum-le f g n (λ k low. less k (omega arith)), less n (omega arith))
+
 -- one is more by 1
 pub sum-up :
     (f g : ℕ → ℕ) (n k : ℕ) → k < n → g k ≡ f k + 1 → ((i : ℕ) → i ≢ k → g i ≡ f i)

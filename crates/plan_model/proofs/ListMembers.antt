@@ -1,0 +1,9 @@
+-- Members of a list with one more in front.
+use Rattle.std.proofs.Common.{suc, ◌∷◌, List, arith, refl}
+use Rattle.std.specs.Prelude.{Contains}
+
+pub Contains-first : {A : Type 0} → (x : A) (xs : List A) → Contains (x ∷ xs) x
+Contains-first x xs = (0, omega arith, refl)
+
+pub Contains-after : {A : Type 0} → (x : A) (xs : List A) (y : A) → Contains xs y → Contains (x ∷ xs) y
+Contains-after x xs y (k, l, is) = (suc k, omega (arith, l), is)
