@@ -47,7 +47,7 @@ fn partway(a: Point, b: Point, step: u32, length: u64) -> Point
     requires low { LEAST_STEP ≤ step }
     requires high { step ≤ MOST_STEERING_STEP }
     requires beyond { step ≤ length }
-    requires whole { squared_distance a b ≤ length * length }
+    requires bound { squared_distance a b ≤ length * length }
     ensures horizontal { result.x ≡ advanced a.x b.x step length }
     ensures vertical { result.y ≡ advanced a.y b.y step length }
     ensures steps { IsStep a b step result }

@@ -178,14 +178,14 @@ Stopped format text =
 
 spelled : (format : Format) (text : List ℕ) → IsSoundBelow format (lines_of text) (length (lines_of text))
     → fault_of_end format (statements_of (lines_of text)) ≡ None → Spelled format text
-spelled format text sound whole =
+spelled format text sound complete =
     let statements = statements_of (lines_of text) in
     let given = given_after_version statements in
-    let version = version-end (version_given format.reads statements) given whole in
+    let version = version-end (version_given format.reads statements) given complete in
     let known = IsReadVersion-given format.reads statements version.0 version.1 in
     let scene = scene-given version.0 given known.low known.high (IsSoundGiven-text format text version.0 sound version.1).stand
-    (AreGiven-end (version_given format.reads statements) given whole) in
-    (scene.0, record { sound = sound; whole = whole; fields = subst (λ read. HasFields read given scene.0) (sym version.1) scene.1 })
+    (AreGiven-end (version_given format.reads statements) given complete) in
+    (scene.0, record { sound = sound; complete = complete; fields = subst (λ read. HasFields read given scene.0) (sym version.1) scene.1 })
 
 -- what is missing after the last line decides, if no line has a fault
 at_end : (format : Format) (text : List ℕ) (fault : Option Kind) → fault_of_end format (statements_of (lines_of text)) ≡ fault

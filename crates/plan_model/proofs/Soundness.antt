@@ -74,7 +74,7 @@ Refused-one_kind format text m n one other p q =
 
 no_stop : (format : Format) (text : List ℕ) (scene : Scene) (i : ℕ) (kind : Kind) → Spells format text scene → FailsAt format (lines_of text) i kind → ⊥
 no_stop format text scene i kind h (inl here) = let e = h.sound i here.0 in let f = here.1 in cc
-no_stop format text scene i kind h (inr end) = let e = h.whole in let f = end.1 in cc
+no_stop format text scene i kind h (inr end) = let e = h.complete in let f = end.1 in cc
 
 pub Spells-not_refused : (format : Format) (text : List ℕ) (scene : Scene) (n : ℕ) (kind : Kind) → Spells format text scene → Refused format text n kind → ⊥
 Spells-not_refused format text scene n kind h r = no_stop format text scene r.0 kind h r.3

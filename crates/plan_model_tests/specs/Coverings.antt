@@ -10,6 +10,6 @@ abbrev pub without_informed : Format
 without_informed = record { reads = λ version. true; built = is_supported }
 
 pub record CoveringVectors : Type 0 where
-  pub whole : (scene : Scene) → Covers whole_format scene
+  pub all : (scene : Scene) → Covers whole_format scene
   pub key_left_out : (scene : Scene) → scene.informed ≡ true → ¬ Covers without_informed scene
   pub version_left_out : (scene : Scene) → scene.version ≡ 2 → ¬ Covers supported scene

@@ -241,8 +241,8 @@ stands-goal scene =
     let some = (and_parts (leb 1 (length scene.goals)) _ (and_parts (leb 1 (length scene.goals) && _) _ scene.goals_within).0).0 in
     sym (inhabited-mapped goal_from (given_by (obstacles_on scene) keys.Goal) scene.goals (goals-again scene)) ∙ inhabited_by scene.goals some
 
-whole-canonical : (format : Format) (scene : Scene) → Covers format scene → fault_of_end format (canonical_statements scene) ≡ None
-whole-canonical format scene covers =
+complete-canonical : (format : Format) (scene : Scene) → Covers format scene → fault_of_end format (canonical_statements scene) ≡ None
+complete-canonical format scene covers =
     let start : stands (given_by (obstacles_on scene)) keys.Start ≡ true = ap is_inhabited (given-task keys.Start scene refl refl) in
     let step : stands (given_by (obstacles_on scene)) keys.Step ≡ true = ap is_inhabited (given-search keys.Step scene refl refl refl refl) in
     ap (λ read. fault_at_end read (given_after_version (canonical_statements scene))) (version_of-statement format scene covers)
@@ -260,7 +260,7 @@ Spells-canonical format scene text covers same =
     let statements = statements-canonical scene in
     subst (λ t. Spells format t scene) (sym same) (record {
       sound = IsSoundBelow-text format (canonical_statements scene) (clean-canonical scene) (sound-canonical format scene covers);
-      whole = ap (fault_of_end format) statements ∙ whole-canonical format scene covers;
+      complete = ap (fault_of_end format) statements ∙ complete-canonical format scene covers;
       fields = subst (λ sts. HasFields (version_given format.reads sts) (given_after_version sts) scene) (sym statements)
           (HasFields-canonical format scene covers);
     })

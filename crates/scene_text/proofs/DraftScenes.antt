@@ -82,9 +82,9 @@ stands-goals [] some = absurd (omega arith)
 stands-goals (goal ∷ goals) some = refl
 
 -- nothing is missing if the version and what each scene needs are known
-pub whole-draft : (draft : Draft) (version : ℕ) (room start : Point) (step : ℕ) → draft.version ≡ Some version → draft.room ≡ Some room
+pub complete-draft : (draft : Draft) (version : ℕ) (room start : Point) (step : ℕ) → draft.version ≡ Some version → draft.room ≡ Some room
     → draft.start ≡ Some start → draft.step ≡ Some step → 1 ≤ length draft.goals.items → fault_at_end draft.version (given_by_draft draft) ≡ None
-whole-draft draft version room start step v r s t some = rw (v, r, s, stands-goals draft.goals.items some, t) refl
+complete-draft draft version room start step v r s t some = rw (v, r, s, stands-goals draft.goals.items some, t) refl
 
 -- ---- the fields of a draft
 

@@ -193,11 +193,11 @@ Reads-missing text number draft line_refusal.Memory h fault = tt
 pub Reads-all : (text : List ℕ) (number : ℕ) (draft : Draft) (scene : Scene) → Reads text number [] draft
     → fault_at_end draft.version (given_by_draft draft) ≡ None → HasFields draft.version (given_by_draft draft) scene
     → Spells supported text scene
-Reads-all text number draft scene h whole fields =
+Reads-all text number draft scene h complete fields =
     let all = ReadsAll-from_end text number draft h in
     record {
       sound = all.sound;
-      whole = fault_of_end-draft draft (statements_of (lines_of text)) all.stands ∙ whole;
+      complete = fault_of_end-draft draft (statements_of (lines_of text)) all.stands ∙ complete;
       fields = subst (λ read. HasFields read (given_after_version (statements_of (lines_of text))) scene) all.stands.version
           (subst (λ given. HasFields draft.version given scene) all.stands.given fields);
     }

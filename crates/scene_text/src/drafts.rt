@@ -275,7 +275,7 @@ impl Draft {
     /// The scene that the lines give, or what is missing.
     pub(crate) fn into_scene(self, alloc: Global) -> Result<Scene, LineRefusal>
         requires { IsSoundDraft self }
-        ensures whole { OnOk result (fault_at_end self.version (given_by_draft self) ≡ None) }
+        ensures complete { OnOk result (fault_at_end self.version (given_by_draft self) ≡ None) }
         ensures fields { IfOk result (HasFields self.version (given_by_draft self)) }
         ensures refused { IfErr result (IsLineRefusal (fault_at_end self.version (given_by_draft self))) }
     {

@@ -50,7 +50,7 @@ fn read_natural(words: &[u8], version: u8, key: Key) -> Option<(u32, &[u8])>
 }
 
 /// The point that the first two of the numbers give, if they may stand after the key, and the words after them.
-fn read_place(words: &[u8], version: u8, key: Key) -> Option<(Point, &[u8])>
+fn read_coordinates(words: &[u8], version: u8, key: Key) -> Option<(Point, &[u8])>
     requires numbers { IsTrue (list_all is_number (words_of words.now)) }
     requires two { 1 < length (words_of words.now) }
     requires natural { pos 0 ≤ℤ least_of version key }
@@ -78,7 +78,7 @@ pub(crate) fn read_point(words: &[u8], version: u8, key: Key) -> Result<Point, K
     ensures inside { is_ok result ≡ are_between (least_of version key) (most_of version key) (map value_of (words_of words.now)) }
     ensures outside { IfErr result (λ kind. kind ≡ kinds.Range) }
 {
-    let (point, _) = read_place(words, version, key).ok_or(Kind::Range)?;
+    let (point, _) = read_coordinates(words, version, key).ok_or(Kind::Range)?;
     Ok(point)
 }
 
@@ -92,8 +92,8 @@ pub(crate) fn read_goal(words: &[u8], version: u8) -> Result<Goal, Kind>
     ensures inside { is_ok result ≡ is_in_range version keys.Goal (map value_of (words_of words.now)) }
     ensures outside { IfErr result (λ kind. kind ≡ kinds.Range) }
 {
-    let (low, rest) = read_place(words, version, Key::Goal).ok_or(Kind::Range)?;
-    let (high, _) = read_place(rest, version, Key::Goal).ok_or(Kind::Range)?;
+    let (low, rest) = read_coordinates(words, version, Key::Goal).ok_or(Kind::Range)?;
+    let (high, _) = read_coordinates(rest, version, Key::Goal).ok_or(Kind::Range)?;
     if high.x < low.x || high.y < low.y {
         return Err(Kind::Range);
     }

@@ -16,19 +16,19 @@ use Rattle.settle_report.specs.CostOrders.{AreKeptCosts, IsCostOrder, IsKeptCost
 -- The pairs are the nodes below a number, but the start, each with its kept cost.
 pub record AreKeptCostsBelow (state : TreeState) (pairs : List (ℕ × ℕ)) (number : ℕ) : Type 0 where
   pub kept : All (IsKeptCost state) pairs
-  pub whole : (n : ℕ) → suc n < number → IsPresent state.points (suc n) → Contains pairs (state.cost (suc n), suc n)
+  pub each : (n : ℕ) → suc n < number → IsPresent state.points (suc n) → Contains pairs (state.cost (suc n), suc n)
 
 module _ (state : TreeState) (pairs : List (ℕ × ℕ)) (number : ℕ) (below : AreKeptCostsBelow state pairs number) where
   -- one more node with its kept cost
   pub AreKeptCostsBelow-push : IsKeptCost state (state.cost number, number) → AreKeptCostsBelow state (pairs ++ (state.cost number, number) ∷ []) (number + 1)
   AreKeptCostsBelow-push pair = record {
     kept = All-push (IsKeptCost state) pairs (state.cost number, number) below.kept pair;
-    whole = λ n l here.
+    each = λ n l here.
         elim (cases_eq (suc n) number) [
           | inl same ↦ (
               subst (λ m. Contains (pairs ++ (state.cost number, number) ∷ []) (state.cost m, m)) (sym same)
               (Contains-push pairs (state.cost number, number)))
-          | inr other ↦ Contains-append_left pairs ((state.cost number, number) ∷ []) (state.cost (suc n), suc n) (below.whole n (omega (arith, l, other)) here)
+          | inr other ↦ Contains-append_left pairs ((state.cost number, number) ∷ []) (state.cost (suc n), suc n) (below.each n (omega (arith, l, other)) here)
         ];
   }
 
@@ -36,16 +36,16 @@ module _ (state : TreeState) (pairs : List (ℕ × ℕ)) (number : ℕ) (below :
   pub AreKeptCostsBelow-skip : ¬ IsPresent state.points number → AreKeptCostsBelow state pairs (number + 1)
   AreKeptCostsBelow-skip absent = record {
     kept = below.kept;
-    whole = λ n l here.
+    each = λ n l here.
         elim (cases_eq (suc n) number) [
           | inl same ↦ absurd (absent (subst (IsPresent state.points) same here))
-          | inr other ↦ below.whole n (omega (arith, l, other)) here
+          | inr other ↦ below.each n (omega (arith, l, other)) here
         ];
   }
 
   -- the pairs below a number that is above all nodes
   pub AreKeptCosts-below : ((n : ℕ) → IsPresent state.points n → n < number) → AreKeptCosts state pairs
-  AreKeptCosts-below all = record { kept = below.kept; whole = λ n here. below.whole n (all (suc n) here) here }
+  AreKeptCosts-below all = record { kept = below.kept; each = λ n here. below.each n (all (suc n) here) here }
 
 -- ---- in order
 
@@ -64,7 +64,7 @@ pub IsCostOrder-sorted :
 IsCostOrder-sorted state pairs sorted costs same up = record {
   costs = record {
     kept = All-permutation (IsKeptCost state) pairs sorted same costs.kept;
-    whole = λ n here. Contains-permutation pairs sorted _ same (costs.whole n here);
+    each = λ n here. Contains-permutation pairs sorted _ same (costs.each n here);
   };
   rises = IsNonDecreasingBy-from_all_adjacent (λ pair. pair.0) sorted (λ k d below.
       rises-sorted (slice_index_or sorted k d) (slice_index_or sorted (k + 1) d) (up k d (omega arith) below));

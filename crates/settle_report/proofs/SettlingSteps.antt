@@ -62,7 +62,7 @@ module _
       → ((k : ℕ) → k < length pairs → slice_index_or pairs k (before.cost (suc n), suc n) ≡ (before.cost (suc n), suc n) → k < i)
       → now.cost (suc n) ≡ sum_in before (suc n)
   settled-found i n settled here early =
-      let found = order.costs.whole n here in
+      let found = order.costs.each n here in
       subst (λ pair. now.cost pair.1 ≡ sum_in before pair.1) found.2
       (settled found.0 (before.cost (suc n), suc n) (early found.0 found.1 found.2))
 

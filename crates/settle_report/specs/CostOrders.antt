@@ -15,7 +15,7 @@ pub record IsKeptCost (state : TreeState) (pair : ℕ × ℕ) : Type 0 where
 -- The pairs are the nodes but the start, each with its kept cost.
 pub record AreKeptCosts (state : TreeState) (pairs : List (ℕ × ℕ)) : Type 0 where
   pub kept : All (IsKeptCost state) pairs
-  pub whole : (n : ℕ) → IsPresent state.points (suc n) → Contains pairs (state.cost (suc n), suc n)
+  pub each : (n : ℕ) → IsPresent state.points (suc n) → Contains pairs (state.cost (suc n), suc n)
 
 -- And they stand by rising cost.
 pub record IsCostOrder (state : TreeState) (pairs : List (ℕ × ℕ)) : Type 0 where

@@ -14,7 +14,7 @@ use plan_model::{Failed, Sink};
 ///
 /// `Failed` if a write failed, so only if the sink's count of faults rose. The sink then took a proper prefix of the text.
 pub fn deliver<K: Sink>(sink: &mut K, text: &[u8]) -> Result<(), Failed>
-    ensures whole { OnOk result (Appends (K.state sink.old).bytes_taken (K.state sink.new).bytes_taken text.now) }
+    ensures all { OnOk result (Appends (K.state sink.old).bytes_taken (K.state sink.new).bytes_taken text.now) }
     ensures prefix { OnErr result (AppendsPrefix (K.state sink.old).bytes_taken (K.state sink.new).bytes_taken text.now) }
     ensures failed { OnErr result (FaultsRose (K.state sink.old).fault_count (K.state sink.new).fault_count) }
     ensures later { (K.state sink.old).fault_count ≤ (K.state sink.new).fault_count }

@@ -89,7 +89,7 @@ IsSoundBelow format lines n = (i : ℕ) → i < n → fault_of_line format lines
 -- The text spells the scene: no line has a fault, nothing is missing, and the fields are those of the lines.
 pub record Spells (format : Format) (text : List ℕ) (scene : Scene) : Type 0 where
   pub sound : IsSoundBelow format (lines_of text) (length (lines_of text))
-  pub whole : fault_of_end format (statements_of (lines_of text)) ≡ None
+  pub complete : fault_of_end format (statements_of (lines_of text)) ≡ None
   pub fields : HasFields (version_given format.reads (statements_of (lines_of text))) (given_after_version (statements_of (lines_of text))) scene
 
 -- the check that line i fails, counted from 0, or what is missing after the last line

@@ -9,7 +9,7 @@ abbrev pub two_sides : List Point
 two_sides = at 0 0 ∷ at 30 0 ∷ at 30 40 ∷ []
 
 pub record ChoiceVectors : Type 0 where
-  pub whole : IsChoice two_sides (0 ∷ 1 ∷ 2 ∷ [])
+  pub all : IsChoice two_sides (0 ∷ 1 ∷ 2 ∷ [])
   pub ends : IsChoice two_sides (0 ∷ 2 ∷ [])
   pub single : IsChoice (at 5 5 ∷ []) (0 ∷ [])
   -- not without an end, no position twice or past the last, none of no points

@@ -8,7 +8,7 @@ pub record CostVectors : Type 0 where
   pub straight : cost_of (at 0 0) (at 1 0) ≡ 256
   pub diagonal : cost_of (at 0 0) (at 1 1) ≡ 363
   pub slanted : cost_of (at 0 0) (at 2 1) ≡ 573
-  pub whole : cost_of (at 0 0) (at 30 40) ≡ 12800
+  pub exact : cost_of (at 0 0) (at 30 40) ≡ 12800
   pub long_diagonal : cost_of (at 0 0) (at 35 35) ≡ 12672
   pub vertical : cost_of (at 0 50) (at 40 79) ≡ 12649
   pub horizontal : cost_of (at 20 20) (at 75 65) ≡ 18193

@@ -72,7 +72,7 @@ pub fn what_is_taken_over_is_seen()
 /// Parents and costs that are seen of a tree which keeps the order law are lawful. They stay so while the tree grows, and
 /// if a worker takes over what another has seen.
 pub fn seen_parents_stay_lawful()
-    ensures whole { (setup : Setup) (tree : SharedTree) → KeepsOrder setup tree.state → KeepsFirstCosts setup tree.state
+    ensures of_tree { (setup : Setup) (tree : SharedTree) → KeepsOrder setup tree.state → KeepsFirstCosts setup tree.state
         → AreSeenLawfully setup (seen_whole tree) tree.state }
     ensures grows { (setup : Setup) (seen : SeenTree) (before after : TreeState) → GrowsInto before after
         → AreSeenLawfully setup seen before → AreSeenLawfully setup seen after }

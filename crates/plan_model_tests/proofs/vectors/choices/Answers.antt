@@ -14,7 +14,7 @@ edge_50 = root_ceiling-from_squares 163840000 12800 (omega arith) (omega arith)
 
 pub returns : goal.returns
 returns c = record {
-  whole = (refl, (omega arith, (omega arith, refl)));
+  all = (refl, (omega arith, (omega arith, refl)));
   ends = (refl, (omega arith, refl));
   single = (refl, refl);
   no_first = λ h. absurd (omega (arith, h.0));

@@ -4,7 +4,7 @@ use Rattle.plan_model_tests.proofs.vectors.coverings.Goals as goal
 
 pub returns : goal.returns
 returns c = record {
-  whole = λ scene. record { version = refl; keys = λ key has. refl };
+  all = λ scene. record { version = refl; keys = λ key has. refl };
   key_left_out = λ scene informed covers. (let no = covers.keys keys.Informed informed in cc);
   version_left_out = λ scene second covers. (let no = subst (λ version. eqb version 1 ≡ true) second covers.version in cc);
 }

@@ -33,8 +33,8 @@ pub returns-clause-scene : goal.returns-clause-scene
 returns-clause-scene c =
     let all = subst (λ (rest : List ℕ). Reads c.args.text.now c.loop-line.number rest c.loop-line.draft) c.in_default.ensures.none c.loop-line.invariant in
     IfOk-map_err c.into_scene.result c.map_err-2.result _ _ c.map_err-2.ensures.cases
-    (IfOk-two c.into_scene.result (λ scene whole fields. Reads-all c.args.text.now c.loop-line.number c.loop-line.draft scene all whole fields)
-    c.into_scene.ensures.whole c.into_scene.ensures.fields)
+    (IfOk-two c.into_scene.result (λ scene complete fields. Reads-all c.args.text.now c.loop-line.number c.loop-line.draft scene all complete fields)
+    c.into_scene.ensures.complete c.into_scene.ensures.fields)
 
 pub returns-clause-fault : goal.returns-clause-fault
 returns-clause-fault c =

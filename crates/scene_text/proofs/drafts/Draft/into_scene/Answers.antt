@@ -3,7 +3,7 @@ use Rattle.std.proofs.lemmas.Grind.{common_steps}
 use Rattle.plan_model.specs.Texts.SceneGrammar.{point_from, number_or}
 use Rattle.plan_model.specs.Texts.CanonicalText.{point_numbers}
 use Rattle.scene_text.specs.Drafts.{amount_numbers}
-use Rattle.scene_text.proofs.DraftScenes.{AreWithin-draft, known-given, default-given, goals-given, polygons-given, whole-draft}
+use Rattle.scene_text.proofs.DraftScenes.{AreWithin-draft, known-given, default-given, goals-given, polygons-given, complete-draft}
 use Rattle.scene_text.proofs.drafts.Draft.into_scene.Goals as goal
 
 pub invariant_of-result-clause-room_within : goal.invariant_of-result-clause-room_within
@@ -59,11 +59,11 @@ pub invariant_of-result-clause-plan_within : goal.invariant_of-result-clause-pla
 invariant_of-result-clause-plan_within c =
     rw c.plan_of.ensures (AreWithin-draft c.in-Some.version c.args.self (c.requires.stand c.in-Some.version c.in-Some.is)).plan
 
-pub returns-clause-whole : goal.returns-clause-whole
-returns-clause-whole c =
+pub returns-clause-complete : goal.returns-clause-complete
+returns-clause-complete c =
     let known = c.in-Some-Some-Some in
     let some : 1 ≤ length c.args.self.goals.items = grind (arith, common_steps) in
-    whole-draft c.args.self c.in-Some.version known.room known.start known.step c.in-Some.is known.is-0 known.is-1 known.is-2 some
+    complete-draft c.args.self c.in-Some.version known.room known.start known.step c.in-Some.is known.is-0 known.is-1 known.is-2 some
 
 pub returns-clause-fields : goal.returns-clause-fields
 returns-clause-fields c =
