@@ -14,9 +14,9 @@ use Rattle.plan_model.proofs.ChainLaws.{node_count-cons}
 use Rattle.plan_model.specs.Seen.Ways.{FollowWays}
 use Rattle.step_core.specs.WordNames.{Word, Words, WritesWord}
 use Rattle.step_core.specs.WordNames.Word.{Count, Counter, PointOf, ChildOf, TreeOf, FirstOf, RecordOf}
-use Rattle.step_core.specs.WordPlaces.{Sizes, word_at}
+use Rattle.step_core.specs.WordPlaces.{Sizes}
 use Rattle.step_core.specs.Words.{tree_word}
-use Rattle.step_core.specs.GrownWords.{run_words, sizes_of, points_of_words, state_of_words, child_of_word, children_of_words, HoldRun}
+use Rattle.step_core.specs.GrownWords.{sizes_of, points_of_words, state_of_words, child_of_word, children_of_words, HoldRun}
 use Rattle.step_core.specs.KdLinks.{AreUnlinked, ChangesChildren}
 use Rattle.plan_model.specs.Trees.TreeStates.{AreSameRuns}
 use Rattle.step_core.specs.PackedRuns.{state_of_lists, FitWords, HoldsNode, HoldsRecord, WritesNodes, WritesRecords, CountsMarks, HoldLists}
@@ -147,20 +147,16 @@ module _
       subst (λ s. AreUnlinked s before (λ n. is_some (slice_index_or knots n None))) (sym same)
       (AreUnlinked-packed task knots records before closed fit held_of_task empty)
 
-  module _ (items : List ℕ) (change : ChangesChildren before (word_at sizes items)) where
-    held_after : HoldLists (sizes_of task) knots records (word_at sizes items)
-    held_after = HoldLists-linked (sizes_of task) knots records before (word_at sizes items) change held_of_task
+  module _ (after : Words) (change : ChangesChildren before after) where
+    held_after : HoldLists (sizes_of task) knots records after
+    held_after = HoldLists-linked (sizes_of task) knots records before after change held_of_task
 
     -- with the links it is closed
-    pub HoldRun-linked : FollowWays (children_of_words (word_at sizes items)) (points_of_words sizes (word_at sizes items))
-        → HoldRun task (length records) (run_words task items)
+    pub HoldRun-linked : FollowWays (children_of_words after) (points_of_words sizes after) → HoldRun task (length records) after
     HoldRun-linked ways =
-        subst (λ s. HoldRun task (length records) (word_at s items)) same
-        (HoldRun-packed task knots records (word_at sizes items) closed fit held_after
-        (subst (λ s. FollowWays (children_of_words (word_at sizes items)) (points_of_words s (word_at sizes items))) same ways))
+        HoldRun-packed task knots records after closed fit held_after
+        (subst (λ s. FollowWays (children_of_words after) (points_of_words s after)) same ways)
 
     -- and has the tree and the records of the lists
-    pub AreSameRuns-linked : AreSameRuns (state_of_lists knots records) (state_of_words (sizes_of task) (run_words task items))
-    AreSameRuns-linked =
-        subst (λ s. AreSameRuns (state_of_lists knots records) (state_of_words (sizes_of task) (word_at s items))) same
-        (AreSameRuns-packed task knots records (word_at sizes items) closed fit held_after)
+    pub AreSameRuns-linked : AreSameRuns (state_of_lists knots records) (state_of_words (sizes_of task) after)
+    AreSameRuns-linked = AreSameRuns-packed task knots records after closed fit held_after

@@ -1,9 +1,8 @@
 -- The words of the start alone are those of a closed run at limit 0.
 use Rattle.std.proofs.Common.{◌≡◌, ℕ, zero, suc, Bool, Some, None, List, [], length, get_or, arith, refl, sym, ap, ◌∙◌, subst, inl, inr, false}
-use Rattle.std.specs.Prelude.{is_some, slice_set, replicate}
+use Rattle.std.specs.Prelude.{is_some, replicate}
 use Rattle.std.proofs.lemmas.Bool.{cases_lt, cases_Bool}
 use Rattle.std.proofs.lemmas.List.{get_or-replicate, get_or_past, length-replicate}
-use Rattle.std.proofs.Math.ListN.{length-set}
 use Rattle.plan_model.specs.declared.geometry.Point.{Point}
 use Rattle.plan_model.specs.declared.tasks.Task.{Task}
 use Rattle.plan_model.specs.Geometry.Bounds.{IsBounded}
@@ -23,13 +22,13 @@ use Rattle.plan_model.proofs.TreeChanges.{node_at-past}
 use Rattle.plan_model.proofs.WayLinks.{FollowWays-start}
 use Rattle.step_core.specs.WordNames.{Word, Words, WritesWord}
 use Rattle.step_core.specs.WordNames.Word.{Count, Counter, PointOf, ChildOf, TreeOf, FirstOf, RecordOf}
-use Rattle.step_core.specs.WordPlaces.{Sizes, place_of, word_count, has_word, word_at}
+use Rattle.step_core.specs.WordPlaces.{Sizes, place_of, has_word, word_at}
 use Rattle.step_core.specs.Words.{parent_in, cost_in, tree_word, point_word, point_of_word}
 use Rattle.step_core.specs.GrownWords.{record_at, has_placed, has_node, points_of_words, state_of_words}
 use Rattle.step_core.specs.GrownWords.{child_of_word, children_of_words, IsPointWord, IsTreeWord, IsWritten, IsBlank, sizes_of, HoldRun}
 use Rattle.step_core.proofs.GrownPoints.{record_at-unwritten, point_at-absent, point_at-words}
 use Rattle.step_core.proofs.PackedWords.{parent_in-tree_word, cost_in-tree_word, point_of_word-packed, IsPointWord-packed}
-use Rattle.step_core.proofs.WordReads.{HasWord-true, word_at-has, word_at-false, WritesWord-set}
+use Rattle.step_core.proofs.WordReads.{HasWord-true, word_at-has, word_at-false}
 
 -- the words that are written for the start: the count, and those of node 0 but its children
 abbrev pub IsStartWord : Word → Type 0
@@ -149,16 +148,6 @@ HoldRun-start task words clear held = record {
     bounded : IsBounded task.scene.start
     bounded = IsBounded-start task
 
--- ---- in a list
-
--- the places of the words of the start, in a list of zeros
-pub record HasStartPlaces (sizes : Sizes) (items : List ℕ) (count point tree first : ℕ) : Type 0 where
-  pub zeros : items ≡ replicate (word_count sizes) 0
-  pub at_count : count ≡ place_of sizes Count
-  pub at_point : point ≡ place_of sizes (PointOf 0)
-  pub at_tree : tree ≡ place_of sizes (TreeOf 0)
-  pub at_first : first ≡ place_of sizes (FirstOf 0)
-
 -- a list of zeros has no other word
 pub word_at-zeros : (sizes : Sizes) (items : List ℕ) (length : ℕ) → items ≡ replicate length 0 → (name : Word) → word_at sizes items name ≡ 0
 word_at-zeros sizes items length zeros name =
@@ -175,59 +164,19 @@ word_at-zeros sizes items length zeros name =
           | inr past ↦ get_or_past (replicate n 0) i 0 (omega (arith, past, length-replicate {A = ℕ} n 0))
         ]
 
-module _
-    (sizes : Sizes) (items : List ℕ) (count point tree first a b e d : ℕ) (places : HasStartPlaces sizes items count point tree first) where
-  abbrev one : List ℕ
-  one = slice_set items count a
-
-  abbrev two : List ℕ
-  two = slice_set one point b
-
-  abbrev three : List ℕ
-  three = slice_set two tree e
-
-  abbrev all : List ℕ
-  all = slice_set three first d
-
-  length-items : length items ≡ word_count sizes
-  length-items = ap length places.zeros ∙ length-replicate (word_count sizes) 0
-
-  length-one : length one ≡ word_count sizes
-  length-one = length-set items count a ∙ length-items
-
-  length-two : length two ≡ word_count sizes
-  length-two = length-set one point b ∙ length-one
-
-  length-three : length three ≡ word_count sizes
-  length-three = length-set two tree e ∙ length-two
-
-  pub length-start_words : length (slice_set (slice_set (slice_set (slice_set items count a) point b) tree e) first d) ≡ word_count sizes
-  length-start_words = length-set three first d ∙ length-three
-
-  counts : WritesWord Count a (word_at sizes items) (word_at sizes one)
-  counts = WritesWord-set sizes items count a a Count length-items tt places.at_count refl
-
-  points : WritesWord (PointOf 0) b (word_at sizes one) (word_at sizes two)
-  points = WritesWord-set sizes one point b b (PointOf 0) length-one (omega arith) places.at_point refl
-
-  trees : WritesWord (TreeOf 0) e (word_at sizes two) (word_at sizes three)
-  trees = WritesWord-set sizes two tree e e (TreeOf 0) length-two (omega arith) places.at_tree refl
-
-  firsts : WritesWord (FirstOf 0) d (word_at sizes three) (word_at sizes all)
-  firsts = WritesWord-set sizes three first d d (FirstOf 0) length-three (omega arith) places.at_first refl
-
-  -- The words of the start alone are written into a list of zeros.
-  pub HoldStart-set :
-      (start : Point) → a ≡ 1 → b ≡ point_word start → e ≡ tree_word 0 0 → d ≡ tree_word 0 0
-      → HoldStart start (word_at sizes (slice_set (slice_set (slice_set (slice_set items count a) point b) tree e) first d))
-  HoldStart-set start counted packed tree_packed first_packed = record {
-    count = firsts.others Count (λ h. cc) ∙ trees.others Count (λ h. cc) ∙ points.others Count (λ h. cc) ∙ counts.here ∙ counted;
-    point = firsts.others (PointOf 0) (λ h. cc) ∙ trees.others (PointOf 0) (λ h. cc) ∙ points.here ∙ packed;
-    tree = firsts.others (TreeOf 0) (λ h. cc) ∙ trees.here ∙ tree_packed;
-    first = firsts.here ∙ first_packed;
-    others = λ name other.
-        firsts.others name (λ same. other (subst IsStartWord (sym same) refl))
-        ∙ trees.others name (λ same. other (subst IsStartWord (sym same) refl))
-        ∙ points.others name (λ same. other (subst IsStartWord (sym same) refl))
-        ∙ counts.others name (λ same. other (subst IsStartWord (sym same) tt)) ∙ word_at-zeros sizes items (word_count sizes) places.zeros name;
-  }
+-- The words of the start alone are written where all were 0.
+pub HoldStart-written :
+    (start : Point) (none one two three all : Words) → ((name : Word) → none name ≡ 0) → WritesWord Count 1 none one
+    → WritesWord (PointOf 0) (point_word start) one two → WritesWord (TreeOf 0) (tree_word 0 0) two three
+    → WritesWord (FirstOf 0) (tree_word 0 0) three all → HoldStart start all
+HoldStart-written start none one two three all zeros counts points trees firsts = record {
+  count = firsts.others Count (λ h. cc) ∙ trees.others Count (λ h. cc) ∙ points.others Count (λ h. cc) ∙ counts.here;
+  point = firsts.others (PointOf 0) (λ h. cc) ∙ trees.others (PointOf 0) (λ h. cc) ∙ points.here;
+  tree = firsts.others (TreeOf 0) (λ h. cc) ∙ trees.here;
+  first = firsts.here;
+  others = λ name other.
+      firsts.others name (λ same. other (subst IsStartWord (sym same) refl))
+      ∙ trees.others name (λ same. other (subst IsStartWord (sym same) refl))
+      ∙ points.others name (λ same. other (subst IsStartWord (sym same) refl))
+      ∙ counts.others name (λ same. other (subst IsStartWord (sym same) tt)) ∙ zeros name;
+}

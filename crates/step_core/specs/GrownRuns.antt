@@ -5,12 +5,13 @@ use Rattle.plan_model.specs.Trees.PointsByNumber.{point_of}
 use Rattle.plan_model.specs.Trees.TreeStates.{TreeState}
 use Rattle.plan_model.specs.Seen.Ways.{Children}
 use Rattle.step_core.specs.declared.grown.Grown.{Grown}
-use Rattle.step_core.specs.GrownWords.{run_words, sizes_of, state_of_words, children_of_words}
+use Rattle.step_core.specs.GrownWords.{sizes_of, state_of_words, children_of_words}
+use Rattle.step_core.specs.RunWords.{words_in}
 use Rattle.step_core.specs.WordNames.{Words}
 
 -- its words by their names
 abbrev pub words_of_grown : Grown → Words
-words_of_grown grown = run_words grown.task grown.words.items
+words_of_grown grown = words_in grown.words
 
 -- the tree of a closed run, with its costs and its records
 abbrev pub state_of_grown : Grown → TreeState

@@ -7,6 +7,7 @@ pub mod HoldRunProps
 pub mod GrownRuns
 pub mod ClearedWords
 pub mod PlacesOfWords
+pub mod RunWords
 pub mod KdLinks
 pub mod PackedRuns
 pub mod SharedWords

@@ -1,26 +1,25 @@
 //! A closed run: a task, a limit, and the words of the tree and the records that its marks below the limit have led to.
 
-ghost use Rattle.std.specs.Prelude.{◌≡◌, ◌<◌, ◌≤◌, ℕ, Bool, [], length, IfOk, IsTrue, Some};
+ghost use Rattle.std.specs.Prelude.{◌≡◌, ◌<◌, ◌≤◌, ℕ, Bool, [], length, IfOk, Some};
 ghost use Rattle.plan_model.specs.Spaces.Clearance.{ClearAt};
 ghost use Rattle.plan_model.specs.Runs.ClosedLaw.{IsClosed};
 ghost use Rattle.plan_model.specs.Spaces.ConfigurationSpace.{space_of};
 ghost use Rattle.plan_model.specs.Trees.PointsByNumber.{IsPresent, node_count, point_at};
 ghost use Rattle.plan_model.specs.Runs.Textbook.{setup_of, start_alone};
-ghost use Rattle.step_core.specs.HoldRunProps.{HoldRun-prop};
-ghost use Rattle.step_core.specs.GrownWords.{HoldRun, cleared, has_node, record_at, run_words, sizes_of};
+ghost use Rattle.step_core.specs.HoldRunProps.{HoldRun-prop, Sizes-set};
+ghost use Rattle.step_core.specs.GrownWords.{HoldRun, cleared, sizes_of};
 ghost use Rattle.plan_model.specs.Trees.TreeStates.{AreSameRuns, state_of};
 ghost use Rattle.step_core.specs.KdLinks.{LinksRise};
 ghost use Rattle.step_core.specs.PackedRuns.{state_of_lists};
-ghost use Rattle.step_core.specs.WordNames.Word.{TreeOf};
-ghost use Rattle.step_core.specs.WordPlaces.{word_count};
+ghost use Rattle.step_core.specs.PlacesOfWords.{sizes_in};
+ghost use Rattle.step_core.specs.RunWords.{words_in};
 
 use crate::cleared_words::clear;
-use crate::packed_runs::write_run;
+use crate::packed_runs::packed_run;
 use crate::point_words::{pack_point, read_point};
-use crate::record_words::read_mark;
+use crate::run_words::RunWords;
 use crate::tree_words::{cost_in, pack_tree, parent_in};
-use crate::word_places::WordPlaces;
-use plan_model::{Knots, Memory, Outcome, Point, Record, Records, Task};
+use plan_model::{Knots, Memory, Point, Record, Records, Task};
 use std::alloc::Global;
 
 /// A run that has handled all marks below its limit, as a table of 64-bit words.
@@ -32,9 +31,9 @@ use std::alloc::Global;
 pub struct Grown {
     task: Task,
     limit: u32,
-    words: Vec<u64>,
-    ghost sized: { length words.items ≡ word_count (sizes_of task) },
-    ghost hold_run: { HoldRun task limit (run_words task words.items) } by { HoldRun-prop task limit (run_words task words.items) },
+    words: RunWords,
+    ghost of_task: { sizes_in words.places ≡ sizes_of task } by { Sizes-set (sizes_in words.places) (sizes_of task) },
+    ghost hold_run: { HoldRun task limit (words_in words) } by { HoldRun-prop task limit (words_in words) },
 }
 
 impl Grown {
@@ -51,12 +50,11 @@ impl Grown {
         ensures limit { IfOk result (λ grown. grown.limit ≡ 0) }
         ensures state { IfOk result (λ grown. AreSameRuns (state_of (start_alone task.scene.start) []) (state_of_grown grown)) }
     {
-        let places = WordPlaces::of(&task);
-        let mut words = vec![in alloc; 0; places.len()]?;
-        words[places.count()] = 1;
-        words[places.point(0)] = pack_point(task.scene.start);
-        words[places.tree(0)] = pack_tree(0, 0);
-        words[places.first(0)] = pack_tree(0, 0);
+        let mut words = RunWords::new(alloc, &task)?;
+        words.set_count(1);
+        words.set_point(0, pack_point(task.scene.start));
+        words.set_tree(0, pack_tree(0, 0));
+        words.set_first(0, pack_tree(0, 0));
         Ok(Grown {
             task,
             limit: 0,
@@ -83,8 +81,7 @@ impl Grown {
         ensures state { IfOk result (λ grown. AreSameRuns (state_of_lists knots.now records.now) (state_of_grown grown)) }
         ensures links { IfOk result (λ grown. LinksRise (children_of_grown grown)) }
     {
-        let mut words = vec![in alloc; 0; WordPlaces::of(&task).len()]?;
-        write_run(&mut words, &task, knots.as_slice(), records.as_slice());
+        let words = packed_run(alloc, &task, knots.as_slice(), records.as_slice())?;
         Ok(Grown {
             task,
             limit: records.len() as u32,
@@ -110,17 +107,18 @@ impl Grown {
     pub fn count(&self) -> u32
         ensures { result ≡ node_count (state_of_grown self.now).points }
     {
-        self.words[WordPlaces::of(&self.task).count()] as u32
+        self.words.count() as u32
     }
 
     /// Where a node stands; `None` exactly if it is absent, as each number past the limit is. O(1).
     pub fn point(&self, node: u32) -> Option<Point>
         ensures { result ≡ point_at (state_of_grown self.now).points node }
     {
-        if !self.has_node(node) {
+        let node = node as usize;
+        if !self.words.has_node(node) {
             return None;
         }
-        read_point(self.words[WordPlaces::of(&self.task).point(node as usize)])
+        read_point(self.words.point(node))
     }
 
     /// The parent of a node that is present; the start is its own. O(1).
@@ -128,7 +126,7 @@ impl Grown {
         requires { IsPresent (state_of_grown self.now).points node }
         ensures { result ≡ (state_of_grown self.now).parent node }
     {
-        parent_in(self.tree_word(node))
+        parent_in(self.words.tree(node as usize))
     }
 
     /// The kept cost of a node that is present, in 256ths of a lattice step; that of the start is 0. O(1).
@@ -136,7 +134,7 @@ impl Grown {
         requires { IsPresent (state_of_grown self.now).points node }
         ensures { result ≡ (state_of_grown self.now).cost node }
     {
-        cost_in(self.tree_word(node))
+        cost_in(self.words.tree(node as usize))
     }
 
     /// The record of a mark that was handled, so of one below the limit. O(1).
@@ -144,7 +142,7 @@ impl Grown {
         requires { mark < self.now.limit }
         ensures { (state_of_grown self.now).record_of mark ≡ Some result }
     {
-        self.record_at(mark).unwrap()
+        self.words.record_at(mark as usize).unwrap()
     }
 
     /// Lowers the kept cost of a node that is present, in 256ths of a lattice step, to no less than what its parent costs and
@@ -159,66 +157,37 @@ impl Grown {
         ensures children { (n : ℕ) (right : Bool) → children_of_grown self.new n right ≡ children_of_grown self.old n right }
     {
         let word = pack_tree(self.parent(node), cost);
-        self.words[WordPlaces::of(&self.task).tree(node as usize)] = word;
+        self.words.set_tree(node as usize, word);
     }
 
-    /// The task, the limit and the list of words of a run, which [`Grown::from_words`] takes back. Copies nothing; O(1).
-    pub fn into_words(self) -> (Task, u32, Vec<u64>)
+    /// The words of the run. O(1).
+    pub fn words(&self) -> &RunWords
+        ensures { result.now ≡ self.now.words }
+    {
+        &self.words
+    }
+
+    /// The task, the limit and the words of a run, which [`Grown::from_words`] takes back. Copies nothing; O(1).
+    pub fn into_words(self) -> (Task, u32, RunWords)
         ensures task { result.0 ≡ self.task }
         ensures limit { result.1 ≡ self.limit }
-        ensures sized { length result.2.items ≡ word_count (sizes_of result.0) }
-        ensures words { run_words result.0 result.2.items ≡ words_of_grown self }
-        ensures run { HoldRun result.0 result.1 (run_words result.0 result.2.items) }
+        ensures words { result.2 ≡ self.words }
     {
         (self.task, self.limit, self.words)
     }
 
-    /// The run whose words these are: as many as a run of the task has, and once they are cleared they hold a run at this
+    /// The run whose words these are: they have the sizes of the task, and once they are cleared they hold a run at this
     /// limit. A number without a node may have a point, a parent and a cost left over from a mark that came to nothing: they
     /// are cleared, in place. O(n) for n marks; no memory.
-    pub fn from_words(task: Task, limit: u32, words: Vec<u64>) -> Grown
-        requires sized { length words.items ≡ word_count (sizes_of task) }
-        requires run { HoldRun task limit (cleared (run_words task words.items)) }
+    pub fn from_words(task: Task, limit: u32, words: RunWords) -> Grown
+        requires sizes { sizes_in words.places ≡ sizes_of task }
+        requires run { HoldRun task limit (cleared (words_in words)) }
         ensures task { result.task ≡ task }
         ensures limit { result.limit ≡ limit }
-        ensures words { words_of_grown result ≡ cleared (run_words task words.items) }
+        ensures words { words_of_grown result ≡ cleared (words_in words) }
     {
         let mut words = words;
-        clear(&mut words, &task);
+        clear(&mut words);
         Grown { task, limit, words }
-    }
-
-    /// The word of a node's parent and kept cost.
-    fn tree_word(&self, node: u32) -> u64
-        requires { IsPresent (state_of_grown self.now).points node }
-        ensures { result ≡ words_of_grown self.now (TreeOf node) }
-    {
-        self.words[WordPlaces::of(&self.task).tree(node as usize)]
-    }
-
-    /// The record of a mark, if it was handled.
-    fn record_at(&self, mark: u32) -> Option<Record>
-        ensures { result ≡ record_at (words_of_grown self.now) mark }
-    {
-        let places = WordPlaces::of(&self.task);
-        let mark = mark as usize;
-        if mark >= places.marks() {
-            return None;
-        }
-        read_mark(
-            self.words[places.record(mark)],
-            self.words[places.first(mark + 1)],
-        )
-    }
-
-    /// Whether a node is present.
-    fn has_node(&self, node: u32) -> bool
-        ensures { result ≡ has_node (words_of_grown self.now) node }
-    {
-        if node == 0 {
-            return true;
-        }
-        let entry = self.record_at(node - 1);
-        matches!(entry, Some(entry) if entry.outcome == Outcome::Placed)
     }
 }

@@ -6,8 +6,8 @@
 //!
 //! [`Grown`] is a closed run: a task, and a table of such words with the count of nodes, a counter for each strip, the
 //! nodes, and a record for each mark. Its type keeps the closed law (`plan_model/specs/Runs/ClosedLaw`), and its nodes are linked
-//! to a kd-tree. `word_places` alone knows the order of the words; contracts call them by their names
-//! (`specs/WordNames`), and `specs/GrownWords` says what tree they stand for.
+//! to a kd-tree. `word_places` alone knows the order of the words; [`RunWords`] keeps them in one list, and reads and writes them by
+//! their names (`specs/WordNames`), as contracts call them, and `specs/GrownWords` says what tree they stand for.
 //!
 //! Several passes may step on the words of one run without a lock. What each knows is its [`View`], what holds between any two
 //! steps is the law of worlds (`specs/Worlds`), and each kind of step has a law that it keeps it (`world_laws`).
@@ -22,6 +22,7 @@ mod node_writes;
 mod packed_runs;
 mod point_words;
 mod record_words;
+mod run_words;
 mod seen_laws;
 mod tree_words;
 mod views;
@@ -31,6 +32,7 @@ pub mod world_laws;
 pub use grown::Grown;
 pub use point_words::{pack_point, point_in, read_point};
 pub use record_words::{pack_mark, read_mark};
+pub use run_words::RunWords;
 pub use tree_words::{pack_tree, pair_in, read_tree};
 pub use views::{Hand, Member, SharedRun, Stage, View};
 pub use word_places::WordPlaces;

@@ -1,12 +1,18 @@
-use Rattle.std.proofs.Common.{◌≡◌, arith, subst}
+use Rattle.std.proofs.Common.{◌≡◌, arith, sym, ap, subst}
+use Rattle.step_core.specs.ClearedWords.{ClearsNodes}
 use Rattle.step_core.specs.GrownWords.{cleared}
 use Rattle.step_core.specs.PlacesOfWords.{sizes_in}
+use Rattle.step_core.specs.RunWords.{words_in}
 use Rattle.step_core.specs.WordPlaces.{word_at}
 use Rattle.step_core.proofs.ClearedWords.{cleared-all}
 use Rattle.step_core.proofs.cleared_words.clear.Goals as goal
 
-pub returns : goal.returns
-returns c =
-    subst (λ s. word_at s c.loop-node.words ≡ cleared (word_at s c.args.words.now)) c.of-places.ensures
-    (cleared-all (sizes_in c.of-places.result) c.args.words.now c.loop-node.words c.loop-node.node
-    (omega (arith, c.loop-node-test.false, c.marks-node-end.ensures)) c.loop-node.invariant)
+pub returns-clause-words : goal.returns-clause-words
+returns-clause-words c =
+    let sizes = sizes_in c.args.words.now.places in
+    let last = c.loop-node.words in
+    let same = ap sizes_in c.loop-node.invariant.places in
+    subst (λ s. word_at s last.list.items ≡ cleared (words_in c.args.words.now)) (sym same)
+    (cleared-all sizes c.args.words.now.list.items last.list.items c.loop-node.node
+    (omega (arith, c.loop-node-test.false, c.marks-marks.ensures, ap (λ places. places.marks) c.places.ensures))
+    (subst (λ s. ClearsNodes c.loop-node.node (words_in c.args.words.now) (word_at s last.list.items)) same c.loop-node.invariant.words))

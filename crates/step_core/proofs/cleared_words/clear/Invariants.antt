@@ -1,7 +1,11 @@
+use Rattle.std.proofs.Common.{◌≡◌}
 use Rattle.step_core.specs.ClearedWords.{ClearsNodes}
-use Rattle.step_core.specs.PlacesOfWords.{words_in}
+use Rattle.step_core.specs.RunWords.{words_in}
 use Rattle.step_core.proofs.cleared_words.clear.Given as goal
 
 -- the numbers so far are cleared
 abbrev pub invariant-loop-node : goal.invariant-loop-node
-invariant-loop-node l = ClearsNodes l.node (words_in l.places l.fn.words) (words_in l.places l.words)
+invariant-loop-node l = record {
+  places : l.words.places ≡ l.fn.words.places;
+  words : ClearsNodes l.node (words_in l.fn.words) (words_in l.words);
+}

@@ -1,25 +1,21 @@
-use Rattle.std.proofs.Math.ListN.{length-set}
-use Rattle.std.specs.Prelude.{slice_set}
-use Rattle.std.proofs.Common.{◌∙◌}
-use Rattle.step_core.specs.PlacesOfWords.{sizes_in, words_in}
+use Rattle.std.proofs.Common.{◌∙◌, subst}
+use Rattle.step_core.specs.RunWords.{words_in}
+use Rattle.step_core.specs.WordNames.{WritesWord}
 use Rattle.step_core.specs.WordNames.Word.{PointOf, TreeOf}
-use Rattle.step_core.specs.Words.{point_word, tree_word}
 use Rattle.step_core.proofs.PackedWritings.{HoldsNode-written, ChangesNode-written}
-use Rattle.step_core.proofs.WordReads.{WritesWord-set}
 use Rattle.step_core.proofs.node_writes.write_node.Goals as goal
 
 pub returns : goal.returns
 returns c =
-    let sizes = sizes_in c.args.places in
-    let before = words_in c.args.places c.args.words.now in
+    let before = words_in c.args.words.now in
     let point =
-    WritesWord-set (sizes_in c.args.places) c.args.words.now c.point.result c.pack_point.result (point_word c.args.knot.point) (PointOf c.args.node)
-    c.requires.sized c.requires.fits.within c.point.ensures c.pack_point.ensures in
+    subst (λ word. WritesWord (PointOf c.args.node) word (words_in c.args.words.now) (words_in c.set_point.new.self)) c.pack_point.ensures
+    c.set_point.ensures.word in
     let tree =
-    WritesWord-set (sizes_in c.args.places) (slice_set c.args.words.now c.point.result c.pack_point.result) c.tree.result c.pack_tree.result
-    (tree_word c.args.knot.parent c.args.knot.cost) (TreeOf c.args.node)
-    (length-set c.args.words.now c.point.result c.pack_point.result ∙ c.requires.sized) c.requires.fits.within c.tree.ensures c.pack_tree.ensures in
+    subst (λ word. WritesWord (TreeOf c.args.node) word (words_in c.set_point.new.self) (words_in c.set_tree.new.self)) c.pack_tree.ensures
+    c.set_tree.ensures.word in
     record {
+      places = c.set_tree.ensures.places ∙ c.set_point.ensures.places;
       hold = HoldsNode-written c.args.node c.args.knot before _ _ point tree;
       others = ChangesNode-written c.args.node c.args.knot before _ _ point tree;
     }

@@ -1,27 +1,26 @@
-use Rattle.std.proofs.Common.{suc, arith, ◌∙◌}
-use Rattle.std.proofs.Math.ListN.{length-set}
-use Rattle.std.specs.Prelude.{slice_set}
-use Rattle.step_core.specs.PlacesOfWords.{sizes_in, words_in}
+use Rattle.std.proofs.Common.{◌≡◌, ◌+◌, suc, arith, ◌∙◌, subst}
+use Rattle.step_core.specs.RunWords.{words_in}
+use Rattle.step_core.specs.WordNames.{WritesWord}
 use Rattle.step_core.specs.WordNames.Word.{FirstOf, RecordOf}
-use Rattle.step_core.specs.Words.{record_word, tree_word}
+use Rattle.step_core.specs.Words.{tree_word}
 use Rattle.step_core.proofs.PackedWritings.{HoldsRecord-unplaced, HoldsRecord-placed, ChangesRecord-unplaced, ChangesRecord-placed}
-use Rattle.step_core.proofs.WordReads.{WritesWord-set}
 use Rattle.step_core.proofs.node_writes.write_record.Goals as goal
 
 pub returns-in-Placed : goal.returns-in-Placed
 returns-in-Placed c =
     let entry = c.args.entry.now in
     let k = c.args.mark in
-    let before = words_in c.args.places c.args.words.now in
+    let before = words_in c.args.words.now in
     let own =
-    WritesWord-set (sizes_in c.args.places) c.args.words.now c.record.result c.pack_mark.result (record_word c.args.entry.now) (RecordOf c.args.mark)
-    c.requires.sized c.requires.within c.record.ensures c.pack_mark.ensures in
+    subst (λ word. WritesWord (RecordOf c.args.mark) word (words_in c.args.words.now) (words_in c.set_record.new.self)) c.pack_mark.ensures
+    c.set_record.ensures.word in
+    let next : c.args.mark + 1 ≡ suc c.args.mark = omega arith in
     let first =
-    WritesWord-set (sizes_in c.args.places) (slice_set c.args.words.now c.record.result c.pack_mark.result) c.first.result c.pack_tree.result
-    (tree_word c.args.entry.now.first_parent c.args.entry.now.first_cost) (FirstOf (suc c.args.mark))
-    (length-set c.args.words.now c.record.result c.pack_mark.result ∙ c.requires.sized) (omega (arith, c.requires.within))
-    (omega (arith, c.first.ensures)) c.pack_tree.ensures in
+    subst (λ n. WritesWord (FirstOf n) (tree_word entry.first_parent entry.first_cost) (words_in c.set_record.new.self) (words_in c.set_first.new.self)) next
+    (subst (λ word. WritesWord (FirstOf (c.args.mark + 1)) word (words_in c.set_record.new.self) (words_in c.set_first.new.self)) c.pack_tree.ensures
+    c.set_first.ensures.word) in
     record {
+      places = c.set_first.ensures.places ∙ c.set_record.ensures.places;
       hold = HoldsRecord-placed k entry before _ own _ c.in-Placed.is first;
       others = ChangesRecord-placed k entry before _ own _ c.in-Placed.is first;
     }
@@ -30,11 +29,12 @@ pub returns-in_default : goal.returns-in_default
 returns-in_default c =
     let entry = c.args.entry.now in
     let k = c.args.mark in
-    let before = words_in c.args.places c.args.words.now in
+    let before = words_in c.args.words.now in
     let own =
-    WritesWord-set (sizes_in c.args.places) c.args.words.now c.record.result c.pack_mark.result (record_word c.args.entry.now) (RecordOf c.args.mark)
-    c.requires.sized c.requires.within c.record.ensures c.pack_mark.ensures in
+    subst (λ word. WritesWord (RecordOf c.args.mark) word (words_in c.args.words.now) (words_in c.set_record.new.self)) c.pack_mark.ensures
+    c.set_record.ensures.word in
     record {
+      places = c.set_record.ensures.places;
       hold = HoldsRecord-unplaced k entry before _ own c.in_default.not-Placed;
       others = ChangesRecord-unplaced k entry before _ own;
     }

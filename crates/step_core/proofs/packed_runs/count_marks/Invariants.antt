@@ -1,7 +1,12 @@
+use Rattle.std.proofs.Common.{◌≡◌}
 use Rattle.step_core.specs.PackedRuns.{CountsMarks}
-use Rattle.step_core.specs.PlacesOfWords.{sizes_in, words_in}
+use Rattle.step_core.specs.PlacesOfWords.{sizes_in}
+use Rattle.step_core.specs.RunWords.{words_in}
 use Rattle.step_core.proofs.packed_runs.count_marks.Given as goal
 
 -- the marks so far are counted
 abbrev pub invariant-loop-mark : goal.invariant-loop-mark
-invariant-loop-mark l = CountsMarks (sizes_in l.places) l.mark (words_in l.places l.fn.words) (words_in l.places l.words)
+invariant-loop-mark l = record {
+  places : l.words.places ≡ l.fn.words.places;
+  counted : CountsMarks (sizes_in l.fn.words.places) l.mark (words_in l.fn.words) (words_in l.words);
+}

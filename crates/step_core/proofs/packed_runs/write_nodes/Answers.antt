@@ -2,7 +2,7 @@ use Rattle.std.proofs.Common.{◌+◌, sym, ap, ◌∙◌, subst}
 use Rattle.std.specs.Prelude.{Some, None}
 use Rattle.std.proofs.lemmas.Option.{slice_get-get_or}
 use Rattle.step_core.specs.PackedRuns.{WritesNodes}
-use Rattle.step_core.specs.PlacesOfWords.{words_in}
+use Rattle.step_core.specs.RunWords.{words_in}
 use Rattle.step_core.proofs.PackedWritings.{WritesNodes-absent, WritesNodes-more}
 use Rattle.step_core.proofs.packed_runs.write_nodes.Goals as goal
 use Rattle.step_core.proofs.packed_runs.write_nodes.Goals.{in-Some, in_default}
@@ -11,20 +11,23 @@ pub loop-node-preserved : goal.loop-node-preserved
 loop-node-preserved c =
     let knots = c.args.knots.now in
     let m = c.loop-node.node in
+    let kept = c.loop-node.invariant in
     let read = slice_get-get_or c.args.knots.now c.loop-node.node None c.loop-node-test.true in
     elim c.match-knot.branch [
       | in-Some w ↦ (
           let own = read ∙ ap Some w.in-Some.is in
-          let more =
-          WritesNodes-more knots m (words_in c.args.places c.args.words.now) (words_in c.args.places c.loop-node.words) c.loop-node.invariant
-          (words_in c.args.places w.write_node.new.words)
-          w.in-Some.knot own w.write_node.ensures.hold w.write_node.ensures.others in
-          subst (λ words. WritesNodes c.args.knots.now (c.loop-node.node + 1) (words_in c.args.places c.args.words.now) (words_in c.args.places words))
-          (sym w.words-is) more)
-      | in_default w ↦ (
-          let more =
-          WritesNodes-absent knots m (words_in c.args.places c.args.words.now) (words_in c.args.places c.loop-node.words) c.loop-node.invariant
-          (read ∙ ap Some w.in_default.is) in
-          subst (λ words. WritesNodes c.args.knots.now (c.loop-node.node + 1) (words_in c.args.places c.args.words.now) (words_in c.args.places words))
-          (sym w.words-is) more)
+          record {
+            places = ap (λ words. words.places) w.words-is ∙ w.write_node.ensures.places ∙ kept.places;
+            nodes =
+                subst (λ words. WritesNodes c.args.knots.now (c.loop-node.node + 1) (words_in c.args.words.now) (words_in words)) (sym w.words-is)
+                (WritesNodes-more knots m (words_in c.args.words.now) (words_in c.loop-node.words) kept.nodes
+                (words_in w.write_node.new.words) w.in-Some.knot own w.write_node.ensures.hold w.write_node.ensures.others);
+          })
+      | in_default w ↦ record {
+        places = ap (λ words. words.places) w.words-is ∙ kept.places;
+        nodes =
+            subst (λ words. WritesNodes c.args.knots.now (c.loop-node.node + 1) (words_in c.args.words.now) (words_in words)) (sym w.words-is)
+            (WritesNodes-absent knots m (words_in c.args.words.now) (words_in c.loop-node.words) kept.nodes
+            (read ∙ ap Some w.in_default.is));
+      }
     ]

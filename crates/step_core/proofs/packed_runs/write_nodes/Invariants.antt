@@ -1,7 +1,11 @@
+use Rattle.std.proofs.Common.{◌≡◌}
 use Rattle.step_core.specs.PackedRuns.{WritesNodes}
-use Rattle.step_core.specs.PlacesOfWords.{words_in}
+use Rattle.step_core.specs.RunWords.{words_in}
 use Rattle.step_core.proofs.packed_runs.write_nodes.Given as goal
 
 -- the nodes so far are written
 abbrev pub invariant-loop-node : goal.invariant-loop-node
-invariant-loop-node l = WritesNodes l.knots l.node (words_in l.places l.fn.words) (words_in l.places l.words)
+invariant-loop-node l = record {
+  places : l.words.places ≡ l.fn.words.places;
+  nodes : WritesNodes l.knots l.node (words_in l.fn.words) (words_in l.words);
+}

@@ -1,7 +1,7 @@
-use Rattle.std.proofs.Common.{◌≡◌, length, refl, arith, subst}
+use Rattle.std.proofs.Common.{◌≡◌, length, refl, arith, ◌∙◌, subst}
 use Rattle.std.proofs.lemmas.Option.{slice_get_read}
 use Rattle.step_core.specs.PackedRuns.{WritesRecords}
-use Rattle.step_core.specs.PlacesOfWords.{words_in}
+use Rattle.step_core.specs.RunWords.{words_in}
 use Rattle.step_core.proofs.PackedWritings.{WritesRecords-more}
 use Rattle.step_core.proofs.packed_runs.write_records.Goals as goal
 
@@ -11,15 +11,17 @@ write_record-requires-clause-fits c = c.requires.fit c.loop-mark.mark c.index-re
     c.loop-mark-test.true c.index-records-mark.is)
 
 pub loop-mark-preserved : goal.loop-mark-preserved
-loop-mark-preserved c =
-    WritesRecords-more c.args.records.now c.loop-mark.mark (words_in c.args.places c.args.words.now) (words_in c.args.places c.loop-mark.words)
-    (words_in c.args.places c.write_record.new.words) c.loop-mark.invariant c.index-records-mark.result
-    (slice_get_read c.args.records.now (length c.args.records.now) c.loop-mark.mark c.index-records-mark.result refl
-    c.loop-mark-test.true c.index-records-mark.is)
-    c.write_record.ensures.hold c.write_record.ensures.others
+loop-mark-preserved c = record {
+  places = c.write_record.ensures.places ∙ c.loop-mark.invariant.places;
+  records =
+      WritesRecords-more c.args.records.now c.loop-mark.mark (words_in c.args.words.now) (words_in c.loop-mark.words)
+      (words_in c.write_record.new.words) c.loop-mark.invariant.records c.index-records-mark.result
+      (slice_get_read c.args.records.now (length c.args.records.now) c.loop-mark.mark c.index-records-mark.result refl
+      c.loop-mark-test.true c.index-records-mark.is)
+      c.write_record.ensures.hold c.write_record.ensures.others;
+}
 
-pub returns : goal.returns
-returns c =
+pub returns-clause-records : goal.returns-clause-records
+returns-clause-records c =
     let all : c.loop-mark.mark ≡ length c.args.records.now = omega (arith, c.loop-mark-test.false, c.loop-mark.auto.mark-end) in
-    subst (λ m. WritesRecords c.args.records.now m (words_in c.args.places c.args.words.now) (words_in c.args.places c.loop-mark.words)) all
-    c.loop-mark.invariant
+    subst (λ m. WritesRecords c.args.records.now m (words_in c.args.words.now) (words_in c.loop-mark.words)) all c.loop-mark.invariant.records

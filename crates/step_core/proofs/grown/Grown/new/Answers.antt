@@ -1,42 +1,48 @@
-use Rattle.std.proofs.Common.{refl, ap, ◌∙◌}
-use Rattle.std.specs.Prelude.{replicate}
+use Rattle.std.proofs.Common.{ap, ◌∙◌, subst}
 use Rattle.step_core.specs.GrownWords.{sizes_of}
-use Rattle.step_core.specs.WordNames.Word.{Count, PointOf, TreeOf, FirstOf}
-use Rattle.step_core.specs.WordPlaces.{place_of, word_count}
-use Rattle.step_core.proofs.StartWords.{AreSameRuns-start, HoldRun-start, IsBounded-start, HasStartPlaces, HoldStart-set, length-start_words}
+use Rattle.step_core.specs.PlacesOfWords.{sizes_in}
+use Rattle.step_core.specs.RunWords.{words_in}
+use Rattle.step_core.specs.WordNames.{WritesWord}
+use Rattle.step_core.specs.WordNames.Word.{PointOf, TreeOf, FirstOf}
+use Rattle.step_core.proofs.StartWords.{AreSameRuns-start, HoldRun-start, HoldStart-written, IsBounded-start}
 use Rattle.step_core.proofs.grown.Grown.new.Goals as goal
 
 pub invariant_of-result : goal.invariant_of-result
 invariant_of-result c =
-    let sizes = sizes_of c.args.task in
-    let same = c.of-places.ensures in
-    let places : HasStartPlaces (sizes_of c.args.task) c.in_ok-words.words.items c.count.result c.point.result c.tree.result c.first.result = record {
-      zeros = c.in_ok-words.ensures.items_if_clones_equal (λ y e. e) ∙ ap (λ n. replicate n 0) (c.len.ensures ∙ ap word_count c.of-places.ensures);
-      at_count = c.count.ensures ∙ ap (λ s. place_of s Count) c.of-places.ensures;
-      at_point = c.point.ensures ∙ ap (λ s. place_of s (PointOf 0)) c.of-places.ensures;
-      at_tree = c.tree.ensures ∙ ap (λ s. place_of s (TreeOf 0)) c.of-places.ensures;
-      at_first = c.first.ensures ∙ ap (λ s. place_of s (FirstOf 0)) c.of-places.ensures;
-    } in
+    let start = c.args.task.scene.start in
+    let none = words_in c.in_ok-words.words in
+    let one = words_in c.set_count.new.self in
+    let two = words_in c.set_point.new.self in
+    let three = words_in c.set_tree.new.self in
+    let all = words_in c.set_first.new.self in
     record {
-      sized =
-          length-start_words sizes c.in_ok-words.words.items c.count.result c.point.result c.tree.result c.first.result 1 c.pack_point.result
-          c.pack_tree.result c.pack_tree-2.result places;
+      of_task =
+          ap sizes_in (c.set_first.ensures.places ∙ c.set_tree.ensures.places ∙ c.set_point.ensures.places ∙ c.set_count.ensures.places)
+          ∙ c.in_ok-words.ensures.sizes;
       hold_run =
-          HoldRun-start c.args.task _ c.requires
-          (HoldStart-set sizes c.in_ok-words.words.items c.count.result c.point.result c.tree.result c.first.result 1 c.pack_point.result
-          c.pack_tree.result c.pack_tree-2.result places c.args.task.scene.start refl c.pack_point.ensures c.pack_tree.ensures c.pack_tree-2.ensures);
+          HoldRun-start c.args.task all c.requires
+          (HoldStart-written start none one two three all c.in_ok-words.ensures.zeros c.set_count.ensures.word
+          (subst (λ word. WritesWord (PointOf 0) word (words_in c.set_count.new.self) (words_in c.set_point.new.self)) c.pack_point.ensures
+          c.set_point.ensures.word)
+          (subst (λ word. WritesWord (TreeOf 0) word (words_in c.set_point.new.self) (words_in c.set_tree.new.self)) c.pack_tree.ensures
+          c.set_tree.ensures.word)
+          (subst (λ word. WritesWord (FirstOf 0) word (words_in c.set_tree.new.self) (words_in c.set_first.new.self)) c.pack_tree-2.ensures
+          c.set_first.ensures.word));
     }
 
 pub returns-clause-state : goal.returns-clause-state
 returns-clause-state c =
-    let sizes = sizes_of c.args.task in
-    let places : HasStartPlaces (sizes_of c.args.task) c.in_ok-words.words.items c.count.result c.point.result c.tree.result c.first.result = record {
-      zeros = c.in_ok-words.ensures.items_if_clones_equal (λ y e. e) ∙ ap (λ n. replicate n 0) (c.len.ensures ∙ ap word_count c.of-places.ensures);
-      at_count = c.count.ensures ∙ ap (λ s. place_of s Count) c.of-places.ensures;
-      at_point = c.point.ensures ∙ ap (λ s. place_of s (PointOf 0)) c.of-places.ensures;
-      at_tree = c.tree.ensures ∙ ap (λ s. place_of s (TreeOf 0)) c.of-places.ensures;
-      at_first = c.first.ensures ∙ ap (λ s. place_of s (FirstOf 0)) c.of-places.ensures;
-    } in
-    AreSameRuns-start sizes c.args.task.scene.start _ (IsBounded-start c.args.task)
-    (HoldStart-set sizes c.in_ok-words.words.items c.count.result c.point.result c.tree.result c.first.result 1 c.pack_point.result
-    c.pack_tree.result c.pack_tree-2.result places c.args.task.scene.start refl c.pack_point.ensures c.pack_tree.ensures c.pack_tree-2.ensures)
+    let start = c.args.task.scene.start in
+    let none = words_in c.in_ok-words.words in
+    let one = words_in c.set_count.new.self in
+    let two = words_in c.set_point.new.self in
+    let three = words_in c.set_tree.new.self in
+    let all = words_in c.set_first.new.self in
+    AreSameRuns-start (sizes_of c.args.task) start all (IsBounded-start c.args.task)
+    (HoldStart-written start none one two three all c.in_ok-words.ensures.zeros c.set_count.ensures.word
+    (subst (λ word. WritesWord (PointOf 0) word (words_in c.set_count.new.self) (words_in c.set_point.new.self)) c.pack_point.ensures
+    c.set_point.ensures.word)
+    (subst (λ word. WritesWord (TreeOf 0) word (words_in c.set_point.new.self) (words_in c.set_tree.new.self)) c.pack_tree.ensures
+    c.set_tree.ensures.word)
+    (subst (λ word. WritesWord (FirstOf 0) word (words_in c.set_tree.new.self) (words_in c.set_first.new.self)) c.pack_tree-2.ensures
+    c.set_first.ensures.word))
