@@ -7,7 +7,7 @@ use Rattle.std.proofs.lemmas.Nat.{mod-mul-add, mul-le}
 use Rattle.plan_model.proofs.SumsBelow.{sum-le}
 use Rattle.plan_words.specs.Claims.{AllFull, AllLoaded, GoesBefore, IsClaimed, IsFirst, IsOpen, KeepsHand, better_of, next_mark}
 use Rattle.plan_words.specs.States.{BelongsTo, PassState, SharedState, with_view, worker_of}
-use Rattle.plan_words.specs.declared.claims.Choice.{Choice}
+use Rattle.plan_words.specs.declared.claims.ClaimOrder.{ClaimOrder}
 use Rattle.plan_words.specs.declared.claims.Next.{Next}
 use Rattle.step_core.specs.LaterViews.{IsLater}
 use Rattle.step_core.specs.ViewSteps.{claimed, loaded, mark_of, new_hand}
@@ -66,11 +66,11 @@ pub scan_more :
     → then ≡ better_of (record { strips = strips; workers = workers; worker = worker; limit = limit }) best (record { strip = n; round = x })
     → Scanned after.view.run w limit (λ g. sees after.view (Counter g)) (n + 1) then
 scan_more shared strips workers worker limit n x w pass after best {then} belongs strips_are workers_are worker_is is seen scanned better =
-    let choice : Choice = record { strips = strips; workers = workers; worker = worker; limit = limit } in
+    let order : ClaimOrder = record { strips = strips; workers = workers; worker = worker; limit = limit } in
     let run : SharedRun = pass.view.run in
     let own = ap (λ r. r.strips) belongs.run in
     let crew = ap (λ r. r.workers) belongs.run in
-    let more = Scanned-more choice run w limit (record {
+    let more = Scanned-more order run w limit (record {
       strips = strips_are ∙ sym own;
       workers = workers_are
           ∙ sym crew;

@@ -8,13 +8,7 @@ use Rattle.std.proofs.lemmas.List.FromFn.{length-range_with_len}
 use Rattle.std.proofs.lemmas.List.Sums.{count_by-le-length}
 use Rattle.plan_model.specs.Runs.Turns.{is_of_worker, turns_of}
 use Rattle.plan_model.specs.declared.records.Record.{Record}
-use Rattle.plan_model.specs.declared.tasks.Task.{Task}
 use Rattle.plan_model.proofs.CountsBelow.{count-more}
-use Rattle.step_core.specs.GrownWords.{record_at, run_words, sizes_of}
-use Rattle.step_core.specs.WordNames.Word.{FirstOf, RecordOf}
-use Rattle.step_core.specs.WordPlaces.{Sizes, place_of}
-use Rattle.step_core.specs.Words.{record_of_word}
-use Rattle.step_core.proofs.WordReads.{word-found}
 
 -- a list says of each worker how many of the marks below the limit it has handled
 abbrev pub AreCounted : (ℕ → Option Record) → ℕ → ℕ → List ℕ → Type 0
@@ -66,17 +60,3 @@ module _ (record_of : ℕ → Option Record) (mark : ℕ) where
               ∙ sym (
               omega (arith, turns_of-more w false (ap (is_of_worker w) is ∙ ne_eqb entry.worker w (λ e. apart (sym e)))))
         ]
-
--- ---- reading
-
--- the record of a mark by the words at its places
-pub record_at-read :
-    (task : Task) (words : List ℕ) (sizes : Sizes) (mark p q : ℕ) → sizes ≡ sizes_of task → mark < length task.marks → p ≡ place_of sizes (RecordOf mark)
-    → q ≡ place_of sizes (FirstOf (mark + 1)) → record_of_word (slice_index words p) (slice_index words q) ≡ record_at (run_words task words) mark
-record_at-read task words sizes mark p q same low p_is q_is =
-    let next : mark + 1 ≡ suc mark = omega arith in
-    let at_record = word-found (sizes_of task) words p (RecordOf mark) low (p_is ∙ ap (λ s. place_of s (RecordOf mark)) same) in
-    let at_first =
-    word-found (sizes_of task) words q (FirstOf (suc mark)) (omega (arith, low))
-    (q_is ∙ ap (λ s. place_of s (FirstOf (mark + 1))) same ∙ ap (λ n. place_of (sizes_of task) (FirstOf n)) next) in
-    ap (λ word. record_of_word word (slice_index words q)) at_record ∙ ap (record_of_word (run_words task words (RecordOf mark))) at_first

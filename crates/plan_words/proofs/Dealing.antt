@@ -6,14 +6,13 @@ use lib.ListN.{get_elem?}
 use mathlib.Core.Option.{some, some-injective, some-ne-none}
 use Rattle.atomic_table.specs.Seated.{TableId}
 use Rattle.plan_model.specs.Runs.Turns.{turns_of}
-use Rattle.plan_model.specs.declared.limits.TheConstants.{MOST_WORKERS}
 use Rattle.plan_words.specs.Chains.{HasParentsWithin}
 use Rattle.plan_words.specs.Dealt.{IsPassOf, StandsFor, each_after}
 use Rattle.plan_words.specs.States.{BelongsTo, HoldsWorld, IsTableOf, IsTied, MayClaim, PassState, SharedState}
 use Rattle.plan_words.specs.States.{StartsAs, first_of, first_view, new_pass, run_in, run_of_opening, with_view}
 use Rattle.plan_words.specs.declared.openings.Opening.{Opening}
 use Rattle.step_core.specs.GrownRuns.{words_of_grown}
-use Rattle.step_core.specs.GrownWords.{HoldRun, record_at, run_words, sizes_of}
+use Rattle.step_core.specs.GrownWords.{HoldRun, record_at, sizes_of}
 use Rattle.step_core.specs.PlacesOfWords.{sizes_in}
 use Rattle.step_core.specs.ViewStarts.{crew_from, member_of}
 use Rattle.step_core.specs.ViewSteps.{parted, second_alone, without_second, worker_apart}
@@ -21,7 +20,7 @@ use Rattle.step_core.specs.Views.{sees}
 use Rattle.step_core.specs.LaterViews.{IsLawfulView}
 use Rattle.step_core.specs.WordNames.{Words}
 use Rattle.step_core.specs.WordNames.Word.{TreeOf}
-use Rattle.step_core.specs.WordPlaces.{word_count}
+use Rattle.step_core.specs.WordPlaces.{word_at, word_count}
 use Rattle.step_core.specs.declared.grown.Grown.{Grown}
 use Rattle.step_core.specs.declared.views.SharedRun.{SharedRun}
 use Rattle.step_core.specs.declared.word_places.WordPlaces.{WordPlaces}
@@ -37,50 +36,59 @@ crew-more run words w n low =
 
 -- ---- the first world
 
-module _
-    (opening : Opening) (sized : length opening.words.items ≡ word_count (sizes_of opening.task))
-    (held : HoldRun opening.task opening.limit (run_words opening.task opening.words.items)) (some_worker : 1 ≤ opening.workers)
-    (few : opening.workers ≤ MOST_WORKERS) where
-  pub HoldsWorld-started : HoldsWorld (run_of_opening opening) opening.words.items (first_view opening ∷ [])
+module _ (opening : Opening) where
+  sized : length opening.grown.words.list.items ≡ word_count (sizes_of opening.grown.task)
+  sized = opening.grown.words.sized ∙ ap word_count opening.grown.of_task
+
+  -- it has seen the words of the run
+  pub sees-started : sees (first_view opening) ≡ words_of_grown opening.grown
+  sees-started = ap (λ s. word_at s opening.grown.words.list.items) (sym opening.grown.of_task)
+
+  pub HoldsWorld-started : HoldsWorld (run_of_opening opening) opening.grown.words.list.items (first_view opening ∷ [])
   HoldsWorld-started = record {
     sized = sized;
-    world = IsWorld-started opening.task opening.limit opening.workers opening.words.items sized held some_worker few;
+    world =
+        IsWorld-started opening.grown.task opening.grown.limit opening.workers opening.grown.words.list.items sized
+        (subst (HoldRun opening.grown.task opening.grown.limit) (sym sees-started) opening.grown.hold_run) opening.some opening.few;
   }
 
   -- the law holds of the first view, and so parents are among the nodes
   IsLawfulView-started : IsLawfulView (first_view opening)
   IsLawfulView-started =
-      IsLawfulView-world (run_of_opening opening) (run_words opening.task opening.words.items) (first_view opening ∷ []) 0 (first_view opening)
+      IsLawfulView-world (run_of_opening opening) (sees (first_view opening)) (first_view opening ∷ []) 0 (first_view opening)
       HoldsWorld-started.world refl refl
 
-  pub HasParentsWithin-started : HasParentsWithin (length opening.task.marks) (λ n. run_words opening.task opening.words.items (TreeOf n))
-  HasParentsWithin-started n within written = (IsLawfulView-started.pairs n written).within
+  pub HasParentsWithin-started : HasParentsWithin (length opening.grown.task.marks) (λ n. words_of_grown opening.grown (TreeOf n))
+  HasParentsWithin-started =
+      subst (λ words. HasParentsWithin (length opening.grown.task.marks) (λ n. words (TreeOf n))) sees-started
+      (λ n within written. (IsLawfulView-started.pairs n written).within)
 
   -- the first pass works as worker 0
   pub IsTied-started :
-      (turn : ℕ) → turn ≡ turns_of (record_at (run_words opening.task opening.words.items)) (length opening.task.marks) 0
+      (turn : ℕ) → turn ≡ turns_of (record_at (words_of_grown opening.grown)) (length opening.grown.task.marks) 0
       → IsTied (first_view opening) (Some (record { worker = 0; turn = turn })) None
   IsTied-started turn is =
       let run = run_of_opening opening in
-      let words = run_words opening.task opening.words.items in
+      let words = sees (first_view opening) in
       let all : opening.workers ≡ opening.workers - 0 = omega arith in
       record {
         member_is =
-            ap (λ n. Some (record { worker = 0; turn = n })) is
-            ∙ sym (ap first_of (ap (crew_from run words 0) all ∙ crew-more run words 0 opening.workers some_worker));
+            ap (λ n. Some (record { worker = 0; turn = n }))
+            (is ∙ ap (λ names. turns_of (record_at names) (length opening.grown.task.marks) 0) (sym sees-started))
+            ∙ sym (ap first_of (ap (crew_from run words 0) all ∙ crew-more run words 0 opening.workers opening.some));
         hand_is = refl;
         lawful = IsLawfulView-started;
       }
 
   -- and the table is of this run
   pub IsTableOf-started :
-      (table : TableId) (key : Opening) (places : WordPlaces) (items : List ℕ) → items ≡ opening.words.items → table.words ≡ length items
-      → table.slots ≡ 0 → key ≡ opening → sizes_in places ≡ sizes_of opening.task → IsTableOf table key (run_of_opening opening) places
-  IsTableOf-started table key places items same words slots key_is places_are = record {
+      (table : TableId) (key : Opening) (places : WordPlaces) → table.words ≡ length opening.grown.words.list.items → table.slots ≡ 0 → key ≡ opening
+      → places ≡ opening.grown.words.places → IsTableOf table key (run_of_opening opening) places
+  IsTableOf-started table key places words slots key_is places_are = record {
     key_is = ap run_of_opening key_is;
-    words = words ∙ ap (λ l. length l) same ∙ sized;
+    words = words ∙ sized;
     slots = slots;
-    places_are = places_are;
+    places_are = ap sizes_in places_are ∙ opening.grown.of_task;
     run_is = HoldsWorld-started.world.run_is;
   }
 

@@ -16,6 +16,8 @@ use Rattle.plan_words.specs.States.{HoldsWorld, run_of_opening}
 use Rattle.step_core.specs.GrownWords.{HoldRun, cleared, record_at, run_words, sizes_of, state_of_words}
 use Rattle.step_core.specs.GrownRuns.{state_of_grown, words_of_grown}
 use Rattle.step_core.specs.LastViews.{StandsAsSeen}
+use Rattle.step_core.specs.PlacesOfWords.{sizes_in}
+use Rattle.step_core.specs.RunWords.{words_in}
 use Rattle.step_core.specs.SharedWords.{state_of_links}
 use Rattle.step_core.specs.Views.{run_of, run_sizes, sees, share, words_of_run}
 use Rattle.step_core.specs.WordNames.{Words}
@@ -24,6 +26,7 @@ use Rattle.step_core.specs.WordPlaces.{Sizes, word_at}
 use Rattle.step_core.specs.Words.{record_of_word}
 use Rattle.step_core.specs.Worlds.{IsWorld, state_in}
 use Rattle.step_core.specs.declared.grown.Grown.{Grown}
+use Rattle.step_core.specs.declared.run_words.RunWords.{RunWords}
 use Rattle.step_core.specs.declared.views.View.{View}
 use Rattle.step_core.proofs.ClosedWorlds.{AreSameRuns-cleared, HoldRun-whole, StandsAsSeen-whole, own_workers-whole}
 use Rattle.plan_model.proofs.SameTrees.{AreSameRuns-trans}
@@ -93,14 +96,19 @@ limit-ended task last limit words held before first most =
 
 -- the same by the words as they were looked at
 pub limit-found :
-    (task : Task) (last limit : ℕ) (sizes : Sizes) (shown items : List ℕ) → sizes ≡ sizes_of task → shown ≡ items
-    → HoldRun task last (cleared (run_words task items)) → ((k : ℕ) → k < limit → word_at sizes shown (RecordOf k) ≢ 0)
-    → (limit < sizes.marks → word_at sizes shown (RecordOf limit) ≡ 0) → limit ≤ sizes.marks → limit ≡ last
-limit-found task last limit sizes shown items of_task same held before first most =
-    let read : word_at sizes shown ≡ run_words task items = ap (λ s. word_at s shown) of_task ∙ ap (run_words task) same in
+    (task : Task) (last limit : ℕ) (sizes : Sizes) (shown words : Words) → sizes ≡ sizes_of task → shown ≡ words
+    → HoldRun task last (cleared words) → ((k : ℕ) → k < limit → shown (RecordOf k) ≢ 0)
+    → (limit < sizes.marks → shown (RecordOf limit) ≡ 0) → limit ≤ sizes.marks → limit ≡ last
+limit-found task last limit sizes shown words of_task same held before first most =
     let marks : sizes.marks ≡ length task.marks = ap (λ s. s.marks) of_task in
-    limit-ended task last limit (run_words task items) held (λ k low none. before k low (ap (λ w. w (RecordOf k)) read ∙ none))
-    (λ low. sym (ap (λ w. w (RecordOf limit)) read) ∙ first (omega (arith, low, marks))) (omega (arith, most, marks))
+    limit-ended task last limit words held (λ k low none. before k low (ap (λ w. w (RecordOf k)) same ∙ none))
+    (λ low. sym (ap (λ w. w (RecordOf limit)) same) ∙ first (omega (arith, low, marks))) (omega (arith, most, marks))
+
+-- words of the task that were copied are those of the table
+pub words-copied :
+    (task : Task) (words : RunWords) (items : List ℕ) → sizes_in words.places ≡ sizes_of task → words.list.items ≡ items
+    → words_in words ≡ run_words task items
+words-copied task words items of_task copied = ap (λ s. word_at s words.list.items) of_task ∙ ap (run_words task) copied
 
 -- what stands in the words stands in the run that is made of them
 pub stands_in_run :

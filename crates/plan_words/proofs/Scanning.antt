@@ -8,7 +8,7 @@ use Rattle.plan_model.specs.Scenes.MarkPoints.{quota_of}
 use Rattle.plan_model.proofs.QuotaLaws.{IsCutAt-quota}
 use Rattle.plan_model.proofs.SumsBelow.{sum-le, sum-more}
 use Rattle.plan_words.specs.Claims.{AllFull, GoesBefore, IsOpen, better_of, better_open, goes_first, is_own, mark_in, owns}
-use Rattle.plan_words.specs.declared.claims.Choice.{Choice}
+use Rattle.plan_words.specs.declared.claims.ClaimOrder.{ClaimOrder}
 use Rattle.plan_words.specs.declared.claims.Next.{Next}
 use Rattle.step_core.specs.ViewSteps.{mark_of}
 use Rattle.step_core.specs.Views.{sees}
@@ -25,57 +25,57 @@ GoesBefore-trans run w g k h m i p (inl first) (inr then) = inl (first.0, sym th
 GoesBefore-trans run w g k h m i p (inr first) (inl then) = inl (first.0 ∙ then.0, then.1)
 GoesBefore-trans run w g k h m i p (inr first) (inr then) = inr (first.0 ∙ then.0, omega (arith, first.1, then.1))
 
--- the choice is that of a worker of the run
-pub record IsChoiceOf (choice : Choice) (run : SharedRun) (w limit : ℕ) : Type 0 where
-  pub strips : choice.strips ≡ run.strips
-  pub workers : choice.workers ≡ run.workers
-  pub worker : choice.worker ≡ w
-  pub limit_is : choice.limit ≡ limit
+-- the order is that of a worker of the run
+pub record IsOrderOf (order : ClaimOrder) (run : SharedRun) (w limit : ℕ) : Type 0 where
+  pub strips : order.strips ≡ run.strips
+  pub workers : order.workers ≡ run.workers
+  pub worker : order.worker ≡ w
+  pub limit_is : order.limit ≡ limit
 
-module _ (choice : Choice) (run : SharedRun) (w limit : ℕ) (of_run : IsChoiceOf choice run w limit) where
-  mark_is : (next : Next) → mark_in choice next ≡ mark_of run next.strip next.round
+module _ (order : ClaimOrder) (run : SharedRun) (w limit : ℕ) (of_run : IsOrderOf order run w limit) where
+  mark_is : (next : Next) → mark_in order next ≡ mark_of run next.strip next.round
   mark_is next = ap (λ s. next.round * s + next.strip) of_run.strips
 
-  owns_is : (next : Next) → owns choice next ≡ is_own run w next.strip
-  owns_is next = ap (λ n. next.strip % n == choice.worker) of_run.workers ∙ ap (λ n. next.strip % run.workers == n) of_run.worker
+  owns_is : (next : Next) → owns order next ≡ is_own run w next.strip
+  owns_is next = ap (λ n. next.strip % n == order.worker) of_run.workers ∙ ap (λ n. next.strip % run.workers == n) of_run.worker
 
   -- what the test says
-  pub GoesBefore-first : (one other : Next) → goes_first choice one other ≡ true
+  pub GoesBefore-first : (one other : Next) → goes_first order one other ≡ true
       → GoesBefore run w one.strip (mark_of run one.strip one.round) other.strip (mark_of run other.strip other.round)
-  GoesBefore-first one other e = by_test (owns choice one) refl (owns choice other) refl e
+  GoesBefore-first one other e = by_test (owns order one) refl (owns order other) refl e
     where
       by_test :
-          (a : Bool) → owns choice one ≡ a → (b : Bool) → owns choice other ≡ b
-          → cond a (cond b (nat_lt (mark_in choice one) (mark_in choice other)) true)
-          (cond b false (nat_lt (mark_in choice one) (mark_in choice other))) ≡ true
+          (a : Bool) → owns order one ≡ a → (b : Bool) → owns order other ≡ b
+          → cond a (cond b (nat_lt (mark_in order one) (mark_in order other)) true)
+          (cond b false (nat_lt (mark_in order one) (mark_in order other))) ≡ true
           → GoesBefore run w one.strip (mark_of run one.strip one.round) other.strip (mark_of run other.strip other.round)
       by_test true p true q h =
           inr (
             sym (owns_is one) ∙ p ∙ sym q ∙ owns_is other,
-            omega (arith, ltb-true (mark_in choice one) (mark_in choice other) h, mark_is one, mark_is other),
+            omega (arith, ltb-true (mark_in order one) (mark_in order other) h, mark_is one, mark_is other),
           )
       by_test true p false q h = inl (sym (owns_is one) ∙ p, sym (owns_is other) ∙ q)
       by_test false p true q h = cc
       by_test false p false q h =
           inr (
             sym (owns_is one) ∙ p ∙ sym q ∙ owns_is other,
-            omega (arith, ltb-true (mark_in choice one) (mark_in choice other) h, mark_is one, mark_is other),
+            omega (arith, ltb-true (mark_in order one) (mark_in order other) h, mark_is one, mark_is other),
           )
 
-  pub GoesBefore-other : (one other : Next) → goes_first choice one other ≡ false
+  pub GoesBefore-other : (one other : Next) → goes_first order one other ≡ false
       → GoesBefore run w other.strip (mark_of run other.strip other.round) one.strip (mark_of run one.strip one.round)
-  GoesBefore-other one other e = by_test (owns choice one) refl (owns choice other) refl e
+  GoesBefore-other one other e = by_test (owns order one) refl (owns order other) refl e
     where
-      not_less : nat_lt (mark_in choice one) (mark_in choice other) ≡ false → mark_of run other.strip other.round ≤ mark_of run one.strip one.round
-      not_less h = elim (cases_lt (mark_in choice one) (mark_in choice other)) [
-        | inl less ↦ (let yes = sym (lt-ltb (mark_in choice one) (mark_in choice other) less) ∙ h in cc)
+      not_less : nat_lt (mark_in order one) (mark_in order other) ≡ false → mark_of run other.strip other.round ≤ mark_of run one.strip one.round
+      not_less h = elim (cases_lt (mark_in order one) (mark_in order other)) [
+        | inl less ↦ (let yes = sym (lt-ltb (mark_in order one) (mark_in order other) less) ∙ h in cc)
         | inr enough ↦ omega (arith, enough, mark_is one, mark_is other)
       ]
 
       by_test :
-          (a : Bool) → owns choice one ≡ a → (b : Bool) → owns choice other ≡ b
-          → cond a (cond b (nat_lt (mark_in choice one) (mark_in choice other)) true)
-          (cond b false (nat_lt (mark_in choice one) (mark_in choice other))) ≡ false
+          (a : Bool) → owns order one ≡ a → (b : Bool) → owns order other ≡ b
+          → cond a (cond b (nat_lt (mark_in order one) (mark_in order other)) true)
+          (cond b false (nat_lt (mark_in order one) (mark_in order other))) ≡ false
           → GoesBefore run w other.strip (mark_of run other.strip other.round) one.strip (mark_of run one.strip one.round)
       by_test true p true q h = inr (sym (owns_is other) ∙ q ∙ sym p ∙ owns_is one, not_less h)
       by_test true p false q h = cc
@@ -102,7 +102,7 @@ NoneOpen run limit counters n = (h : ℕ) → h < n → limit ≤ next_by run co
 abbrev pub Scanned : SharedRun → ℕ → ℕ → (ℕ → ℕ) → ℕ → Option Next → Type 0
 Scanned run w limit counters n best = MatchOption best (NoneOpen run limit counters n) (IsBest run w limit counters n)
 
-module _ (choice : Choice) (run : SharedRun) (w limit : ℕ) (of_run : IsChoiceOf choice run w limit) (before after : ℕ → ℕ) (n round : ℕ)
+module _ (order : ClaimOrder) (run : SharedRun) (w limit : ℕ) (of_run : IsOrderOf order run w limit) (before after : ℕ → ℕ) (n round : ℕ)
     (here : after n ≡ round) (others : (h : ℕ) → h ≢ n → after h ≡ before h) where
   abbrev next : Next
   next = record { strip = n; round = round }
@@ -161,18 +161,18 @@ module _ (choice : Choice) (run : SharedRun) (w limit : ℕ) (of_run : IsChoiceO
         | inr apart ↦ omega (arith, next_other h (omega (arith, low, apart)), none h (omega (arith, low, apart)))
       ]
 
-  pub Scanned-more : (best : Option Next) → Scanned run w limit before n best → Scanned run w limit after (n + 1) (better_of choice best next)
+  pub Scanned-more : (best : Option Next) → Scanned run w limit before n best → Scanned run w limit after (n + 1) (better_of order best next)
   Scanned-more best scanned =
-      let mark : mark_in choice next ≡ mark_of run n round = ap (λ s. round * s + n) of_run.strips in
+      let mark : mark_in order next ≡ mark_of run n round = ap (λ s. round * s + n) of_run.strips in
       elim (cases_lt (mark_of run n round) limit) [
         | inl low ↦ (
-            let test : nat_lt (mark_in choice next) choice.limit ≡ true =
-            lt-ltb (mark_in choice next) choice.limit (omega (arith, low, mark, of_run.limit_is)) in
-            subst (Scanned run w limit after (n + 1)) (sym (ap (λ b. cond b (better_open choice best next) best) test)) (open_more best scanned low))
+            let test : nat_lt (mark_in order next) order.limit ≡ true =
+            lt-ltb (mark_in order next) order.limit (omega (arith, low, mark, of_run.limit_is)) in
+            subst (Scanned run w limit after (n + 1)) (sym (ap (λ b. cond b (better_open order best next) best) test)) (open_more best scanned low))
         | inr high ↦ (
-            let test : nat_lt (mark_in choice next) choice.limit ≡ false =
-            le-ltb (mark_in choice next) choice.limit (omega (arith, high, mark, of_run.limit_is)) in
-            subst (Scanned run w limit after (n + 1)) (sym (ap (λ b. cond b (better_open choice best next) best) test)) (full_more best scanned high))
+            let test : nat_lt (mark_in order next) order.limit ≡ false =
+            le-ltb (mark_in order next) order.limit (omega (arith, high, mark, of_run.limit_is)) in
+            subst (Scanned run w limit after (n + 1)) (sym (ap (λ b. cond b (better_open order best next) best) test)) (full_more best scanned high))
       ]
     where
       full_more : (b : Option Next) → Scanned run w limit before n b → limit ≤ mark_of run n round → Scanned run w limit after (n + 1) b
@@ -180,17 +180,17 @@ module _ (choice : Choice) (run : SharedRun) (w limit : ℕ) (of_run : IsChoiceO
       full_more (Some b) best high = still_best b best (λ open_n. absurd (omega (arith, next_here, high, open_n)))
 
       open_more : (b : Option Next) → Scanned run w limit before n b → mark_of run n round < limit
-          → Scanned run w limit after (n + 1) (better_open choice b next)
+          → Scanned run w limit after (n + 1) (better_open order b next)
       open_more None none low = new_best low (λ h below open_h. absurd (omega (arith, none h below, open_h)))
       open_more (Some b) best low =
-          elim (cases_Bool (goes_first choice next b)) [
+          elim (cases_Bool (goes_first order next b)) [
             | inl e ↦ (
-                let over = GoesBefore-first choice run w limit of_run next b e in
+                let over = GoesBefore-first order run w limit of_run next b e in
                 subst (Scanned run w limit after (n + 1)) (sym (ap (λ t. cond t (Some next) (Some b)) e))
                 (new_best low (λ h below open_h. GoesBefore-trans run w n (mark_of run n round) b.strip (mark_of run b.strip b.round) h
                 (next_by run before h) over (best.first h below open_h))))
             | inr e ↦ (
-                let under = GoesBefore-other choice run w limit of_run next b e in
+                let under = GoesBefore-other order run w limit of_run next b e in
                 subst (Scanned run w limit after (n + 1)) (sym (ap (λ t. cond t (Some next) (Some b)) e))
                 (still_best b best (λ open_n. subst (λ m. GoesBefore run w b.strip (mark_of run b.strip b.round) n m) (sym next_here) under)))
           ]

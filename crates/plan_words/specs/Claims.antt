@@ -1,8 +1,8 @@
 -- Which mark a claim takes, by the counters that the pass has seen.
-use Rattle.std.specs.Prelude.{◌≡◌, ◌≢◌, ℕ, ◌+◌, ◌*◌, ◌%◌, ◌<◌, ◌≤◌, ◌⊎◌, ◌==◌, nat_lt, max, Bool, true, false, Option, Some, None, if◌then◌else◌}
-use Rattle.plan_model.specs.Scenes.MarkPoints.{is_claimed, quota_of, strip_of_mark}
+use Rattle.std.specs.Prelude.{◌≡◌, ◌≢◌, ℕ, ◌+◌, ◌%◌, ◌<◌, ◌≤◌, ◌⊎◌, ◌==◌, nat_lt, max, Bool, true, false, Option, Some, None, if◌then◌else◌}
+use Rattle.plan_model.specs.Scenes.MarkPoints.{is_claimed, mark_of as mark_by_strips, quota_of, strip_of_mark}
 use Rattle.plan_words.specs.States.{worker_of}
-use Rattle.plan_words.specs.declared.claims.Choice.{Choice}
+use Rattle.plan_words.specs.declared.claims.ClaimOrder.{ClaimOrder}
 use Rattle.plan_words.specs.declared.claims.Next.{Next}
 use Rattle.step_core.specs.ViewSteps.{mark_of, new_hand}
 use Rattle.step_core.specs.Views.{last_look, sees}
@@ -90,23 +90,23 @@ pub record IsLeastOpen (view : View) (k : ℕ) : Type 0 where
 
 -- ---- how a claim finds it
 
-abbrev pub mark_in : Choice → Next → ℕ
-mark_in choice next = next.round * choice.strips + next.strip
+abbrev pub mark_in : ClaimOrder → Next → ℕ
+mark_in order next = mark_by_strips order.strips next.strip next.round
 
-abbrev pub owns : Choice → Next → Bool
-owns choice next = next.strip % choice.workers == choice.worker
+abbrev pub owns : ClaimOrder → Next → Bool
+owns order next = next.strip % order.workers == order.worker
 
 -- the one mark goes strictly before the other
-abbrev pub goes_first : Choice → Next → Next → Bool
-goes_first choice one other =
-    if owns choice one then (if owns choice other then nat_lt (mark_in choice one) (mark_in choice other) else true) else
-    (if owns choice other then false else nat_lt (mark_in choice one) (mark_in choice other))
+abbrev pub goes_first : ClaimOrder → Next → Next → Bool
+goes_first order one other =
+    if owns order one then (if owns order other then nat_lt (mark_in order one) (mark_in order other) else true) else
+    (if owns order other then false else nat_lt (mark_in order one) (mark_in order other))
 
 -- the better of the best so far and one below the limit
-abbrev pub better_open : Choice → Option Next → Next → Option Next
-better_open choice None next = Some next
-better_open choice (Some first) next = if goes_first choice next first then Some next else Some first
+abbrev pub better_open : ClaimOrder → Option Next → Next → Option Next
+better_open order None next = Some next
+better_open order (Some first) next = if goes_first order next first then Some next else Some first
 
 -- the better of the best so far and one more
-abbrev pub better_of : Choice → Option Next → Next → Option Next
-better_of choice best next = if nat_lt (mark_in choice next) choice.limit then better_open choice best next else best
+abbrev pub better_of : ClaimOrder → Option Next → Next → Option Next
+better_of order best next = if nat_lt (mark_in order next) order.limit then better_open order best next else best

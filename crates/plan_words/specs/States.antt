@@ -72,10 +72,10 @@ pub record GoesOn (before after : View) : Type 0 where
 -- ---- what a table keeps
 
 abbrev pub run_of_opening : Opening → SharedRun
-run_of_opening opening = run_of opening.task opening.workers opening.limit
+run_of_opening opening = run_of opening.grown.task opening.workers opening.grown.limit
 
 abbrev pub first_view : Opening → View
-first_view opening = newcomer (run_of_opening opening) opening.words.items
+first_view opening = newcomer (run_of_opening opening) opening.grown.words.list.items
 
 -- the law of worlds holds of the words in the table
 pub record HoldsWorld (run : SharedRun) (items : List ℕ) (views : List View) : Type 0 where

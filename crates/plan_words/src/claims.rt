@@ -13,7 +13,7 @@ use crate::openings::Aim;
 use crate::passes::Pass;
 use crate::rules::Claim;
 use crate::shared::Shared;
-use plan_model::Point;
+use plan_model::{Point, mark_of};
 use step_core::{Hand, Stage};
 
 /// The next mark of a strip: how many of its marks come before it.
@@ -25,7 +25,7 @@ pub(crate) struct Next {
 
 /// Which of two next marks a worker takes.
 #[derive(Clone, Copy)]
-pub(crate) struct Choice {
+pub(crate) struct ClaimOrder {
     pub(crate) strips: u32,
     pub(crate) workers: u32,
     pub(crate) worker: u32,
@@ -64,7 +64,7 @@ impl Shared {
         'tries: loop {
             let next = self.first_open(pass, limit)?;
             if self.exchange(pass, next, limit) == u64::from(next.round) {
-                return Some(next.round * self.task.scene.strips + next.strip);
+                return Some(mark_of(self.task.scene.strips, next.strip, next.round) as u32);
             }
         }
     }
@@ -83,16 +83,16 @@ impl Shared {
             (λ next. IsOpen pass.new.view (worker_of pass.old.view.crew) limit next.strip next.round) }
         ensures whole { HasWholeShare pass.old.view → SeesAsBefore pass.old.view pass.new.view }
     {
-        let choice = Choice {
+        let order = ClaimOrder {
             strips: self.task.scene.strips,
             workers: self.workers,
             worker: pass.worker(),
             limit,
         };
         let mut best = None;
-        for strip in 0..choice.strips {
+        for strip in 0..order.strips {
             let round = self.taken(pass, strip);
-            best = choice.better(best, Next { strip, round });
+            best = order.better(best, Next { strip, round });
         }
         best
     }
@@ -123,7 +123,7 @@ impl Shared {
             .compare_exchange_with::<Claim>(&mut pass.seat, place, round, round + 1, &aim);
         if found == round {
             pass.hand = Some(Hand {
-                mark: next.round * self.task.scene.strips + next.strip,
+                mark: mark_of(self.task.scene.strips, next.strip, next.round) as u32,
                 stage: Stage::Claimed,
                 nearest: 0,
                 point: Point { x: 0, y: 0 },
@@ -135,7 +135,7 @@ impl Shared {
     }
 }
 
-impl Choice {
+impl ClaimOrder {
     ghost use Rattle.plan_model.specs.declared.limits.TheConstants.{MOST_STRIPS};
     ghost use Rattle.plan_words.specs.Claims.{mark_in, owns};
 
@@ -168,7 +168,7 @@ impl Choice {
         requires strip { next.strip < self.strips }
         ensures { result ≡ mark_in self next }
     {
-        u64::from(next.round) * u64::from(self.strips) + u64::from(next.strip)
+        mark_of(self.strips, next.strip, next.round)
     }
 
     /// Whether its strip is one of the worker's own.

@@ -1,6 +1,6 @@
 //! How a shared tree ends: with the closed run that its words have come to.
 
-ghost use Rattle.std.specs.Prelude.{◌≡◌, ◌≢◌, ℕ, ◌<◌, ◌≤◌, None, Some, length};
+ghost use Rattle.std.specs.Prelude.{◌≡◌, ◌≢◌, ℕ, ◌<◌, ◌≤◌, None, Some};
 ghost use Rattle.std.specs.Mem.Slots.{IsFull, slots_items, slots_len};
 ghost use Rattle.plan_model.specs.Trees.TreeStates.{AreSameRuns};
 ghost use Rattle.plan_model.specs.declared.records.Record.{Record};
@@ -8,7 +8,8 @@ ghost use Rattle.plan_words.specs.Claims.{HasNoneLeft};
 ghost use Rattle.plan_words.specs.States.{BelongsTo};
 ghost use Rattle.step_core.specs.GrownRuns.{state_of_grown};
 ghost use Rattle.step_core.specs.LastViews.{StandsAsSeen};
-ghost use Rattle.step_core.specs.PlacesOfWords.{sizes_in, words_in};
+ghost use Rattle.step_core.specs.PlacesOfWords.{sizes_in};
+ghost use Rattle.step_core.specs.RunWords.{words_in};
 ghost use Rattle.step_core.specs.SharedWords.{state_of_links};
 ghost use Rattle.step_core.specs.Views.{run_sizes, sees, share};
 ghost use Rattle.step_core.specs.WordNames.Word.{RecordOf};
@@ -19,7 +20,7 @@ use crate::passes::Pass;
 use crate::shared::Shared;
 use atomic_table::Closed;
 use std::alloc::Global;
-use step_core::{Grown, WordPlaces};
+use step_core::{Grown, RunWords};
 
 impl Shared {
     /// The closed run that the words have come to. Its limit is the greatest that the pass knows of: that of the opening run, of
@@ -44,7 +45,7 @@ impl Shared {
             task,
             workers: _,
             opening: _,
-            places,
+            places: _,
             alloc: _,
             spare,
         } = self;
@@ -59,33 +60,34 @@ impl Shared {
         let mut words = spare;
         copy_words(&closed, &mut words);
         closed.free();
-        let limit = first_unrecorded(words.as_slice(), places);
+        let limit = first_unrecorded(&words);
         Grown::from_words(task, limit, words)
     }
 }
 
-/// Copies the words of a table that is closed.
-fn copy_words(closed: &Closed<Aim, Global>, words: &mut [u64])
+/// Copies the words of a table that is closed, which has as many.
+fn copy_words(closed: &Closed<Aim, Global>, words: &mut RunWords)
     requires full { IsFull closed.now.words }
-    requires sized { length words.old ≡ slots_len closed.now.words }
-    ensures { words.new ≡ slots_items closed.now.words }
+    requires as_many { word_count (sizes_in words.old.places) ≡ slots_len closed.now.words }
+    ensures places { words.new.places ≡ words.old.places }
+    ensures items { words.new.list.items ≡ slots_items closed.now.words }
 {
-    for place in 0..words.len() {
-        words[place] = closed.word(place);
+    for place in 0..words.places().len() {
+        words.set(place, closed.word(place));
     }
 }
 
 /// The least mark without a record, or the number of marks.
-fn first_unrecorded(words: &[u64], places: WordPlaces) -> u32
-    requires { length words.now ≡ word_count (sizes_in places) }
-    ensures most { result ≤ (sizes_in places).marks }
-    ensures before { (k : ℕ) → k < result → words_in places words.now (RecordOf k) ≢ 0 }
-    ensures first { result < (sizes_in places).marks → words_in places words.now (RecordOf result) ≡ 0 }
+fn first_unrecorded(words: &RunWords) -> u32
+    ensures most { result ≤ (sizes_in words.now.places).marks }
+    ensures before { (k : ℕ) → k < result → words_in words.now (RecordOf k) ≢ 0 }
+    ensures first { result < (sizes_in words.now.places).marks → words_in words.now (RecordOf result) ≡ 0 }
 {
-    for mark in 0..places.marks() {
-        if words[places.record(mark)] == 0 {
+    let marks = words.places().marks();
+    for mark in 0..marks {
+        if words.record(mark) == 0 {
             return mark as u32;
         }
     }
-    places.marks() as u32
+    marks as u32
 }

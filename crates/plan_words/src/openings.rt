@@ -1,14 +1,17 @@
 //! What a table is told once, and what a claim tells with its exchange.
 
-use plan_model::Task;
+ghost use Rattle.std.specs.Prelude.{◌≤◌};
+ghost use Rattle.plan_model.specs.declared.limits.TheConstants.{MOST_WORKERS};
 
-/// A closed run that workers go on from: its task, its limit and its words, and how many workers there are.
+use step_core::Grown;
+
+/// A closed run that workers go on from, and how many workers there are.
 #[derive(Drop)]
 pub struct Opening {
-    pub(crate) task: Task,
+    pub(crate) grown: Grown,
     pub(crate) workers: u32,
-    pub(crate) limit: u32,
-    pub(crate) words: Vec<u64>,
+    ghost some: { 1 ≤ workers },
+    ghost few: { workers ≤ MOST_WORKERS },
 }
 
 /// What a claim asks for: the next mark of a strip, below a limit.

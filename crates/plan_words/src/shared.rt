@@ -6,6 +6,7 @@ ghost use Rattle.plan_model.specs.declared.limits.TheConstants.{MOST_MARKS};
 ghost use Rattle.plan_model.specs.declared.records.Record.{Record};
 ghost use Rattle.plan_words.specs.Chains.{HasParentsBelow};
 ghost use Rattle.plan_words.specs.States.{BelongsTo, GoesOn, HasWholeShare, MayClaim, new_pass, turn_of, turned, with_view, worker_of};
+ghost use Rattle.step_core.specs.HoldRunProps.{Sizes-set};
 ghost use Rattle.step_core.specs.PlacesOfWords.{sizes_in};
 ghost use Rattle.step_core.specs.SeenRecords.{MayRecord, own_count};
 ghost use Rattle.step_core.specs.Stages.{MayBeRecorded};
@@ -15,7 +16,6 @@ ghost use Rattle.step_core.specs.WordKinds.{AreBehind, later_word};
 ghost use Rattle.step_core.specs.WordKinds.WordKind.{Falling};
 ghost use Rattle.step_core.specs.WordNames.{WritesWord};
 ghost use Rattle.step_core.specs.WordNames.Word.{Count, Counter};
-ghost use Rattle.step_core.specs.WordPlaces.{word_count};
 ghost use Rattle.step_core.specs.Words.{record_word};
 ghost use Rattle.step_core.specs.declared.views.Hand.{Hand};
 ghost use Rattle.step_core.specs.declared.views.Stage.TheVariants.{Linked};
@@ -29,7 +29,7 @@ use atomic_table::Table;
 use plan_model::{Memory, Record, Task};
 use std::alloc::Global;
 use std::marker::Model;
-use step_core::{Member, View, WordPlaces, pack_mark, pair_in, read_tree};
+use step_core::{Member, RunWords, View, WordPlaces, pack_mark, pair_in, read_tree};
 
 /// The tree that several workers grow, as words of one table. Each pass that a call takes was made or split from this very
 /// tree. A call that is one step is O(1); no call but [`Shared::start`] and [`Shared::split`] can be out of memory, and none
@@ -42,9 +42,9 @@ pub struct Shared {
     pub(crate) opening: u32,
     pub(crate) places: WordPlaces,
     pub(crate) alloc: Global,
-    /// The list that the words came from; they go back into it when the tree ends.
-    pub(crate) spare: Vec<u64>,
-    ghost sized: { length spare.items ≡ word_count (sizes_in places) },
+    /// What the words came from; they go back into it when the tree ends.
+    pub(crate) spare: RunWords,
+    ghost own_places: { sizes_in spare.places ≡ sizes_in places } by { Sizes-set (sizes_in spare.places) (sizes_in places) },
 }
 
 impl Model for Shared {

@@ -5,16 +5,16 @@ ghost use lib.ListN.{get_elem?};
 ghost use mathlib.Core.Option.{some};
 ghost use Rattle.plan_model.specs.Runs.Turns.{turns_of};
 ghost use Rattle.plan_model.specs.declared.limits.TheConstants.{MOST_WORKERS};
-ghost use Rattle.plan_words.specs.Chains.{HasParentsWithin};
 ghost use Rattle.plan_words.specs.Dealt.{IsPassOf, StandsFor, each_after};
 ghost use Rattle.plan_words.specs.States.{BelongsTo, HasPairs, IsTied, MayClaim, PassState, StartsAs, first_view, new_pass, run_in, with_view};
 ghost use Rattle.step_core.specs.GrownRuns.{words_of_grown};
-ghost use Rattle.step_core.specs.GrownWords.{HoldRun, record_at, run_words, sizes_of};
+ghost use Rattle.step_core.specs.GrownWords.{record_at};
+ghost use Rattle.step_core.specs.PlacesOfWords.{sizes_in};
+ghost use Rattle.step_core.specs.RunWords.{words_in};
 ghost use Rattle.step_core.specs.ViewSteps.{parted, second_alone, worker_apart};
 ghost use Rattle.step_core.specs.ViewStarts.{crew_from};
 ghost use Rattle.step_core.specs.Views.{sees};
 ghost use Rattle.step_core.specs.WordNames.Word.{TreeOf};
-ghost use Rattle.step_core.specs.WordPlaces.{word_count};
 
 use crate::openings::{Aim, Opening};
 use crate::passes::Pass;
@@ -23,9 +23,9 @@ use crate::scratch::Scratch;
 use crate::seen_pairs::SeenPairs;
 use crate::shared::Shared;
 use atomic_table::{Seat, Table};
-use plan_model::{Memory, Task};
+use plan_model::Memory;
 use std::alloc::{AllocError, Global};
-use step_core::{Grown, Member, View, WordPlaces, read_mark};
+use step_core::{Grown, Member, RunWords, View};
 
 impl Shared {
     /// The words of a run in one table, and a pass for each of 1 to `MOST_WORKERS` workers, in the order of their numbers, each
@@ -46,23 +46,18 @@ impl Shared {
             → StartsAs started.0 grown w pass) }
         ensures may_claim { IfOk result (λ started. All (MayClaim started.0) started.1.items) }
     {
-        let opening = opening_of(grown, workers);
-        let turns = count_turns(alloc, &opening.task, opening.words.as_slice(), workers)?;
-        Shared::deal(alloc, opening, turns.as_slice())
+        let turns = count_turns(alloc, grown.words(), workers)?;
+        Shared::deal(alloc, Opening { grown, workers }, turns.as_slice())
     }
 
     /// The words of a run in one table, and a pass for each worker, whose next turns these are.
     fn deal(alloc: Global, opening: Opening, turns: &[u32]) -> Result<(Shared, Vec<Pass>), Memory>
-        requires sized { length opening.words.items ≡ word_count (sizes_of opening.task) }
-        requires run { HoldRun opening.task opening.limit (run_words opening.task opening.words.items) }
-        requires some { 1 ≤ opening.workers }
-        requires few { opening.workers ≤ MOST_WORKERS }
         requires counted { length turns.now ≡ opening.workers }
         requires turns { (w : ℕ) → w < opening.workers
-            → slice_index turns.now w ≡ turns_of (record_at (run_words opening.task opening.words.items)) (length opening.task.marks) w }
-        ensures task { IfOk result (λ dealt. dealt.0.task ≡ opening.task) }
+            → slice_index turns.now w ≡ turns_of (record_at (words_of_grown opening.grown)) (length opening.grown.task.marks) w }
+        ensures task { IfOk result (λ dealt. dealt.0.task ≡ opening.grown.task) }
         ensures workers { IfOk result (λ dealt. dealt.0.workers ≡ opening.workers) }
-        ensures opening { IfOk result (λ dealt. dealt.0.opening ≡ opening.limit) }
+        ensures opening { IfOk result (λ dealt. dealt.0.opening ≡ opening.grown.limit) }
         ensures count { IfOk result (λ dealt. length dealt.1.items ≡ opening.workers) }
         ensures passes { IfOk result (λ dealt. (w : ℕ) (pass : PassState) → get_elem? dealt.1.items w ≡ some pass
             → IsPassOf dealt.0 (new_pass dealt.0.table (first_view opening)) w pass) }
@@ -74,26 +69,24 @@ impl Shared {
 
     /// The words of a run in one table, and the pass that stands for all workers. It works as worker 0, whose next turn this is.
     fn open(alloc: Global, opening: Opening, turn: u32) -> Result<(Shared, Pass), Memory>
-        requires sized { length opening.words.items ≡ word_count (sizes_of opening.task) }
-        requires run { HoldRun opening.task opening.limit (run_words opening.task opening.words.items) }
-        requires some { 1 ≤ opening.workers }
-        requires few { opening.workers ≤ MOST_WORKERS }
-        requires turn { turn ≡ turns_of (record_at (run_words opening.task opening.words.items)) (length opening.task.marks) 0 }
-        ensures task { IfOk result (λ opened. opened.0.task ≡ opening.task) }
+        requires { turn ≡ turns_of (record_at (words_of_grown opening.grown)) (length opening.grown.task.marks) 0 }
+        ensures task { IfOk result (λ opened. opened.0.task ≡ opening.grown.task) }
         ensures workers { IfOk result (λ opened. opened.0.workers ≡ opening.workers) }
-        ensures opening { IfOk result (λ opened. opened.0.opening ≡ opening.limit) }
+        ensures opening { IfOk result (λ opened. opened.0.opening ≡ opening.grown.limit) }
         ensures first { IfOk result (λ opened. opened.1 ≡ new_pass opened.0.table (first_view opening)) }
     {
         let (table, first) = table_of(alloc, &opening, turn)?;
-        let places = WordPlaces::of(&opening.task);
+        let Opening { grown, workers } = opening;
+        let (task, opening, spare) = grown.into_words();
+        let places = spare.places();
         let shared = Shared {
             table,
-            task: opening.task,
-            workers: opening.workers,
-            opening: opening.limit,
+            task,
+            workers,
+            opening,
             places,
             alloc,
-            spare: opening.words,
+            spare,
         };
         Ok((shared, first))
     }
@@ -119,7 +112,6 @@ impl Shared {
 
     /// The passes of all workers but the first, made from the one that stands for them all, which is that of worker 0 then.
     fn hand_on_all(&self, first: &mut Pass, turns: &[u32]) -> Result<Vec<Pass>, AllocError>
-        requires some { 1 ≤ self.now.workers }
         requires stands { StandsFor self.now first.old 1 first.old }
         requires counted { length turns.now ≡ self.now.workers }
         requires turns { (w : ℕ) → w < self.now.workers
@@ -156,43 +148,20 @@ impl Shared {
     }
 }
 
-/// A closed run that so many workers go on from.
-fn opening_of(grown: Grown, workers: u32) -> Opening
-    ensures task { result.task ≡ grown.task }
-    ensures workers { result.workers ≡ workers }
-    ensures limit { result.limit ≡ grown.limit }
-    ensures sized { length result.words.items ≡ word_count (sizes_of result.task) }
-    ensures words { run_words result.task result.words.items ≡ words_of_grown grown }
-    ensures run { HoldRun result.task result.limit (run_words result.task result.words.items) }
-{
-    let (task, limit, words) = grown.into_words();
-    Opening {
-        task,
-        workers,
-        limit,
-        words,
-    }
-}
-
 /// The table of an opening, and the pass that stands for all workers. It works as worker 0, whose next turn this is.
 fn table_of(
     alloc: Global,
     opening: &Opening,
     turn: u32,
 ) -> Result<(Table<Aim, View, Opening, WorldLaw, Global>, Pass), AllocError>
-    requires sized { length opening.now.words.items ≡ word_count (sizes_of opening.now.task) }
-    requires run { HoldRun opening.now.task opening.now.limit (run_words opening.now.task opening.now.words.items) }
-    requires some { 1 ≤ opening.now.workers }
-    requires few { opening.now.workers ≤ MOST_WORKERS }
-    requires turn { turn ≡ turns_of (record_at (run_words opening.now.task opening.now.words.items)) (length opening.now.task.marks) 0 }
-    ensures words { IfOk result (λ laid. laid.0.shared.table_id.words ≡ length opening.now.words.items) }
+    requires { turn ≡ turns_of (record_at (words_of_grown opening.now.grown)) (length opening.now.grown.task.marks) 0 }
+    ensures words { IfOk result (λ laid. laid.0.shared.table_id.words ≡ length opening.now.grown.words.list.items) }
     ensures slots { IfOk result (λ laid. laid.0.shared.table_id.slots ≡ 0) }
     ensures key { IfOk result (λ laid. laid.0.shared.key ≡ opening.now) }
     ensures first { IfOk result (λ laid. laid.1 ≡ new_pass laid.0.shared.table_id (first_view opening.now)) }
 {
-    let words = opening.words.as_slice();
-    let pairs = tree_words(alloc, &opening.task, words)?;
-    let (table, seat) = Table::of_words(alloc, words, opening)?;
+    let pairs = tree_words(alloc, opening)?;
+    let (table, seat) = Table::of_words(alloc, opening.grown.words().as_slice(), opening)?;
     let first = first_pass(alloc, seat, turn, pairs)?;
     Ok((table, first))
 }
@@ -220,21 +189,14 @@ fn first_pass(
 }
 
 /// How many records each worker has in the words of a run. O(n) for n marks.
-fn count_turns(
-    alloc: Global,
-    task: &Task,
-    words: &[u64],
-    workers: u32,
-) -> Result<Vec<u32>, AllocError>
-    requires sized { length words.now ≡ word_count (sizes_of task.now) }
+fn count_turns(alloc: Global, words: &RunWords, workers: u32) -> Result<Vec<u32>, AllocError>
     ensures count { IfOk result (λ turns. length turns.items ≡ workers) }
     ensures each { IfOk result (λ turns. (w : ℕ) → w < workers
-        → slice_index turns.items w ≡ turns_of (record_at (run_words task.now words.now)) (length task.now.marks) w) }
+        → slice_index turns.items w ≡ turns_of (record_at (words_in words.now)) (sizes_in words.now.places).marks w) }
 {
-    let places = WordPlaces::of(task);
     let mut turns = Vec::from_elem(alloc, 0u32, workers as usize)?;
-    for mark in 0..places.marks() {
-        if let Some(entry) = read_mark(words[places.record(mark)], words[places.first(mark + 1)]) {
+    for mark in 0..words.places().marks() {
+        if let Some(entry) = words.record_at(mark) {
             if entry.worker < workers {
                 turns[entry.worker as usize] += 1;
             }
@@ -243,18 +205,16 @@ fn count_turns(
     Ok(turns)
 }
 
-/// The tree word of each number, in the words of a run. O(n) for n marks.
-fn tree_words(alloc: Global, task: &Task, words: &[u64]) -> Result<SeenPairs, AllocError>
-    requires sized { length words.now ≡ word_count (sizes_of task.now) }
-    requires parents { HasParentsWithin (length task.now.marks) (λ n. run_words task.now words.now (TreeOf n)) }
-    ensures count { IfOk result (λ pairs. length pairs ≡ length task.now.marks + 1) }
-    ensures each { IfOk result (λ pairs. (n : ℕ) → n ≤ length task.now.marks
-        → slice_index pairs n ≡ run_words task.now words.now (TreeOf n)) }
+/// The tree word of each number, in the words of an opening. O(n) for n marks.
+fn tree_words(alloc: Global, opening: &Opening) -> Result<SeenPairs, AllocError>
+    ensures count { IfOk result (λ pairs. length pairs ≡ length opening.now.grown.task.marks + 1) }
+    ensures each { IfOk result (λ pairs. (n : ℕ) → n ≤ length opening.now.grown.task.marks
+        → slice_index pairs n ≡ words_of_grown opening.now.grown (TreeOf n)) }
 {
-    let places = WordPlaces::of(task);
-    let mut pairs = SeenPairs::new(alloc, places.marks() + 1)?;
+    let words = opening.grown.words();
+    let mut pairs = SeenPairs::new(alloc, words.places().marks() + 1)?;
     for node in 0..pairs.len() {
-        pairs.set(node, words[places.tree(node as usize)]);
+        pairs.set(node, words.tree(node as usize));
     }
     Ok(pairs)
 }

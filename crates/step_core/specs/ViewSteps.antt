@@ -1,6 +1,7 @@
 -- What each kind of step makes of the view that makes it, as a function of the view before. The words are those of specs/WordNames.
-use Rattle.std.specs.Prelude.{ℕ, suc, Bool, ◌+◌, ◌*◌, ◌==◌, max, Some, None, List, [], ◌∷◌, ◌++◌, length, map, replicate, slice_index, slice_set, if◌then◌else◌}
+use Rattle.std.specs.Prelude.{ℕ, suc, Bool, ◌+◌, ◌==◌, max, Some, None, List, [], ◌∷◌, ◌++◌, length, map, replicate, slice_index, slice_set, if◌then◌else◌}
 use Rattle.std.specs.List.{range_with_len}
+use Rattle.plan_model.specs.Scenes.MarkPoints.{mark_of as mark_by_strips}
 use Rattle.plan_model.specs.declared.geometry.Point.{Point}
 use Rattle.step_core.specs.Views.{run_sizes, sees}
 use Rattle.step_core.specs.WordKinds.{kind_at, later_word}
@@ -41,9 +42,9 @@ loaded view name word = saw view name word word
 
 -- ---- claims
 
--- mark number c of strip g
+-- mark number c of strip g of a run
 abbrev pub mark_of : SharedRun → ℕ → ℕ → ℕ
-mark_of run g c = c * run.strips + g
+mark_of run g c = mark_by_strips run.strips g c
 
 -- a mark in hand for which nothing is written
 abbrev pub new_hand : ℕ → Hand

@@ -172,6 +172,8 @@ impl Grown {
         ensures task { result.0 ≡ self.task }
         ensures limit { result.1 ≡ self.limit }
         ensures words { result.2 ≡ self.words }
+        ensures sizes { sizes_in result.2.places ≡ sizes_of result.0 }
+        ensures run { HoldRun result.0 result.1 (words_in result.2) }
     {
         (self.task, self.limit, self.words)
     }

@@ -1,8 +1,8 @@
 use Rattle.std.proofs.Common.{◌≢◌, ℕ, ◌<◌}
 use Rattle.plan_words.proofs.ends.first_unrecorded.Given as goal
-use Rattle.step_core.specs.PlacesOfWords.{words_in}
+use Rattle.step_core.specs.RunWords.{words_in}
 use Rattle.step_core.specs.WordNames.Word.{RecordOf}
 
 -- the marks so far have records
 abbrev pub invariant-loop-mark : goal.invariant-loop-mark
-invariant-loop-mark l = (k : ℕ) → k < l.mark → words_in l.places l.words (RecordOf k) ≢ 0
+invariant-loop-mark l = (k : ℕ) → k < l.mark → words_in l.words (RecordOf k) ≢ 0

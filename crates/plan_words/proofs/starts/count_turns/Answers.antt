@@ -1,11 +1,10 @@
 use Rattle.std.proofs.Common.{rules, ◌≡◌, ◌+◌, ◌<◌, ◌≤◌, length, replicate, sym, ap, ◌∙◌, subst, arith}
 use Rattle.std.proofs.lemmas.List.{get_or_default, length-replicate, length-set}
-use Rattle.plan_model.proofs.MarkBounds.{length-marks}
-use Rattle.plan_words.proofs.CountedTurns.{AreCounted, AreCounted-blank, AreCounted-none, AreCounted-one, AreCounted-past, record_at-read, turns_of-few}
+use Rattle.plan_words.proofs.CountedTurns.{AreCounted, AreCounted-blank, AreCounted-none, AreCounted-one, AreCounted-past, turns_of-few}
 use Rattle.plan_words.proofs.starts.count_turns.Goals as goal
 use Rattle.plan_words.proofs.starts.count_turns.Goals.{in-Some+then-entry-workers, in-Some+else-entry-workers, in_default}
-use Rattle.step_core.specs.GrownWords.{record_at, run_words}
-use Rattle.step_core.specs.PlacesOfWords.{sizes_in}
+use Rattle.step_core.specs.GrownWords.{record_at}
+use Rattle.step_core.specs.RunWords.{words_in}
 
 pub loop-mark-init : goal.loop-mark-init
 loop-mark-init c =
@@ -13,8 +12,8 @@ loop-mark-init c =
     record {
       sized = ap (λ l. length l) none ∙ length-replicate c.args.workers 0;
       counted =
-          subst (AreCounted (record_at (run_words c.args.task.now c.args.words.now)) c.args.workers 0) (sym none)
-          (AreCounted-none (record_at (run_words c.args.task.now c.args.words.now)) c.args.workers);
+          subst (AreCounted (record_at (words_in c.args.words.now)) c.args.workers 0) (sym none)
+          (AreCounted-none (record_at (words_in c.args.words.now)) c.args.workers);
     }
 
 pub index_mut-requires : goal.index_mut-requires
@@ -26,7 +25,7 @@ overflow_add-index_mut c =
     let turns = c.loop-mark.turns.items in
     let within : worker < length turns = omega (arith, c.if-entry-workers.true, c.loop-mark.invariant.sized) in
     let was = c.index_mut.ensures.value ∙ get_or_default turns worker _ 0 within in
-    let few = turns_of-few (record_at (run_words c.args.task.now c.args.words.now)) c.loop-mark.mark worker in
+    let few = turns_of-few (record_at (words_in c.args.words.now)) c.loop-mark.mark worker in
     omega (
       arith,
       was,
@@ -34,23 +33,18 @@ overflow_add-index_mut c =
       few,
       c.loop-mark-test.true,
       c.marks-mark-end.ensures,
-      ap (λ s. s.marks) c.of-places.ensures,
-      length-marks c.args.task.now,
+      ap (λ places. places.marks) c.places.ensures,
+      c.args.words.now.places.few_marks,
     )
 
 pub loop-mark-preserved : goal.loop-mark-preserved
 loop-mark-preserved c =
     let kept = c.loop-mark.invariant in
-    let task = c.args.task.now in
-    let records = record_at (run_words task c.args.words.now) in
+    let records = record_at (words_in c.args.words.now) in
     let mark = c.loop-mark.mark in
     let turns = c.loop-mark.turns.items in
-    let low : mark < length task.marks = omega (arith, c.loop-mark-test.true, c.marks-mark-end.ensures, ap (λ s. s.marks) c.of-places.ensures) in
-    let read =
-    c.read_mark.ensures.read
-    ∙ (record_at-read task c.args.words.now (sizes_in c.of-places.result) mark c.record.result c.first.result c.of-places.ensures low c.record.ensures
-    c.first.ensures) in
-    elim c.match-read_mark.branch [
+    let low : mark < c.args.words.now.places.marks = omega (arith, c.loop-mark-test.true, c.marks-mark-end.ensures, ap (λ places. places.marks) c.places.ensures) in
+    elim c.match-record_at.branch [
       | in-Some+then-entry-workers w ↦ (
           let worker = w.in-Some.entry.worker in
           let within : worker < length turns = omega (arith, w.if-entry-workers.true, kept.sized) in
@@ -60,7 +54,7 @@ loop-mark-preserved c =
             sized = ap (λ l. length l) items ∙ length-set turns worker _ ∙ kept.sized;
             counted =
                 subst (AreCounted records c.args.workers (mark + 1)) (sym items)
-                (AreCounted-one records mark c.args.workers turns kept.counted w.in-Some.entry (sym read ∙ w.in-Some.is) w.if-entry-workers.true kept.sized
+                (AreCounted-one records mark c.args.workers turns kept.counted w.in-Some.entry (sym c.record_at.ensures ∙ w.in-Some.is) w.if-entry-workers.true kept.sized
                 w.index_mut.result.now was);
           })
       | in-Some+else-entry-workers w ↦ (
@@ -70,7 +64,7 @@ loop-mark-preserved c =
             sized = ap (λ l. length l) items ∙ kept.sized;
             counted =
                 subst (AreCounted records c.args.workers (mark + 1)) (sym items)
-                (AreCounted-past records mark c.args.workers turns kept.counted w.in-Some.entry (sym read ∙ w.in-Some.is) past);
+                (AreCounted-past records mark c.args.workers turns kept.counted w.in-Some.entry (sym c.record_at.ensures ∙ w.in-Some.is) past);
           })
       | in_default w ↦ (
           let items = ap (λ v. v.items) w.turns-is in
@@ -78,7 +72,7 @@ loop-mark-preserved c =
             sized = ap (λ l. length l) items ∙ kept.sized;
             counted =
                 subst (AreCounted records c.args.workers (mark + 1)) (sym items)
-                (AreCounted-blank records mark c.args.workers turns kept.counted (sym read ∙ w.in_default.is));
+                (AreCounted-blank records mark c.args.workers turns kept.counted (sym c.record_at.ensures ∙ w.in_default.is));
           })
     ]
 
@@ -87,7 +81,7 @@ returns-clause-count c = c.loop-mark.invariant.sized
 
 pub returns-clause-each : goal.returns-clause-each
 returns-clause-each c =
-    let records = record_at (run_words c.args.task.now c.args.words.now) in
-    let all : c.loop-mark.mark ≡ length c.args.task.now.marks =
-    omega (arith, c.loop-mark-test.false, c.loop-mark.auto.mark-end, c.marks-mark-end.ensures, ap (λ s. s.marks) c.of-places.ensures) in
+    let records = record_at (words_in c.args.words.now) in
+    let all : c.loop-mark.mark ≡ c.args.words.now.places.marks =
+    omega (arith, c.loop-mark-test.false, c.loop-mark.auto.mark-end, c.marks-mark-end.ensures, ap (λ places. places.marks) c.places.ensures) in
     subst (λ n. AreCounted records c.args.workers n c.loop-mark.turns.items) all c.loop-mark.invariant.counted

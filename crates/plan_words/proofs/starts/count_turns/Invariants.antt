@@ -1,11 +1,12 @@
 use Rattle.std.proofs.Common.{◌≡◌, length}
 use Rattle.plan_words.proofs.CountedTurns.{AreCounted}
 use Rattle.plan_words.proofs.starts.count_turns.Given as goal
-use Rattle.step_core.specs.GrownWords.{record_at, run_words}
+use Rattle.step_core.specs.GrownWords.{record_at}
+use Rattle.step_core.specs.RunWords.{words_in}
 
 -- the turns of the marks so far
 abbrev pub invariant-loop-mark : goal.invariant-loop-mark
 invariant-loop-mark l = record {
   sized : length l.turns.items ≡ l.workers;
-  counted : AreCounted (record_at (run_words l.task l.words)) l.workers l.mark l.turns.items;
+  counted : AreCounted (record_at (words_in l.words)) l.workers l.mark l.turns.items;
 }

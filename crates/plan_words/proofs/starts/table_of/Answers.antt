@@ -1,23 +1,15 @@
 use Rattle.std.proofs.Common.{◌∷◌, ◌+◌, ◌≤◌, [], length, None, Some, sym, ap, ◌∙◌, subst}
-use Rattle.plan_words.proofs.Dealing.{HasParentsWithin-started, HoldsWorld-started, IsTied-started}
+use Rattle.plan_words.proofs.Dealing.{HoldsWorld-started, IsTied-started, sees-started}
 use Rattle.plan_words.proofs.starts.table_of.Goals as goal
-use Rattle.plan_words.specs.Chains.{HasParentsWithin}
 use Rattle.plan_words.specs.States.{HoldsWorld, IsTied, first_view, new_pass, run_of_opening}
-use Rattle.step_core.specs.GrownWords.{run_words}
 use Rattle.step_core.specs.Views.{sees}
 use Rattle.step_core.specs.WordNames.Word.{TreeOf}
-
-pub tree_words-requires-clause-parents : goal.tree_words-requires-clause-parents
-tree_words-requires-clause-parents c =
-    let opening = c.args.opening.now in
-    subst (λ items. HasParentsWithin (length opening.task.marks) (λ n. run_words opening.task items (TreeOf n))) (sym c.as_slice-words.ensures.value)
-    (HasParentsWithin-started opening c.requires.sized c.requires.run c.requires.some c.requires.few)
 
 pub of_words-requires : goal.of_words-requires
 of_words-requires c =
     let opening = c.args.opening.now in
-    subst (λ items. HoldsWorld (run_of_opening opening) items (first_view opening ∷ [])) (sym c.as_slice-words.ensures.value)
-    (HoldsWorld-started opening c.requires.sized c.requires.run c.requires.some c.requires.few)
+    subst (λ items. HoldsWorld (run_of_opening opening) items (first_view opening ∷ []))
+    (sym (c.as_slice.ensures ∙ ap (λ words. words.list.items) c.words.ensures)) (HoldsWorld-started opening)
 
 pub first_pass-requires-clause-slots : goal.first_pass-requires-clause-slots
 first_pass-requires-clause-slots c = ap (λ m. m.1) c.in_ok-table.ensures.4
@@ -25,7 +17,7 @@ first_pass-requires-clause-slots c = ap (λ m. m.1) c.in_ok-table.ensures.4
 pub first_pass-requires-clause-tied : goal.first_pass-requires-clause-tied
 first_pass-requires-clause-tied c =
     subst (λ view. IsTied view (Some (record { worker = 0; turn = c.args.turn })) None) (sym (ap (λ m. m.0) c.in_ok-table.ensures.4))
-    (IsTied-started c.args.opening.now c.requires.sized c.requires.run c.requires.some c.requires.few c.args.turn c.requires.turn)
+    (IsTied-started c.args.opening.now c.args.turn c.requires)
 
 pub first_pass-requires-clause-pairs : goal.first_pass-requires-clause-pairs
 first_pass-requires-clause-pairs c =
@@ -34,11 +26,11 @@ first_pass-requires-clause-pairs c =
       for_each = c.in_ok-pairs.ensures.count ∙ sym (ap (λ m. length m.0.run.marks + 1) me);
       seen = λ n within.
           c.in_ok-pairs.ensures.each n (subst (λ m. n ≤ length m.0.run.marks) me within)
-          ∙ ap (λ items. run_words c.args.opening.now.task items (TreeOf n)) c.as_slice-words.ensures.value ∙ sym (ap (λ m. sees m.0 (TreeOf n)) me);
+          ∙ sym (ap (λ words. words (TreeOf n)) (sees-started c.args.opening.now)) ∙ sym (ap (λ m. sees m.0 (TreeOf n)) me);
     }
 
 pub returns-clause-words : goal.returns-clause-words
-returns-clause-words c = c.in_ok-table.ensures.0 ∙ ap (λ l. length l) c.as_slice-words.ensures.value
+returns-clause-words c = c.in_ok-table.ensures.0 ∙ ap (λ l. length l) (c.as_slice.ensures ∙ ap (λ words. words.list.items) c.words.ensures)
 
 pub returns-clause-first : goal.returns-clause-first
 returns-clause-first c =

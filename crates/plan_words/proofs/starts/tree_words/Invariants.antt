@@ -1,7 +1,7 @@
 use Rattle.std.proofs.Common.{◌≡◌, ℕ, ◌+◌, ◌<◌, List, length}
 use Rattle.std.specs.Prelude.{slice_index}
 use Rattle.plan_words.proofs.starts.tree_words.Given as goal
-use Rattle.step_core.specs.GrownWords.{run_words}
+use Rattle.step_core.specs.GrownRuns.{words_of_grown}
 use Rattle.step_core.specs.WordNames.Word.{TreeOf}
 
 -- the words of the numbers so far
@@ -10,4 +10,4 @@ pub record AreRead (words : ℕ → ℕ) (nodes : ℕ) (node : ℕ) (pairs : Lis
   pub read : (n : ℕ) → n < node → slice_index pairs n ≡ words n
 
 abbrev pub invariant-loop-node : goal.invariant-loop-node
-invariant-loop-node l = AreRead (λ n. run_words l.task l.words (TreeOf n)) (length l.task.marks + 1) l.node l.pairs
+invariant-loop-node l = AreRead (λ n. words_of_grown l.opening.grown (TreeOf n)) (length l.opening.grown.task.marks + 1) l.node l.pairs

@@ -4,7 +4,7 @@ use Rattle.plan_words.proofs.Claiming.{claim_nearer, kept_exchanged, loaded_befo
 use Rattle.plan_words.proofs.GoingOn.{GoesOn-more, GoesOn-trans}
 use Rattle.plan_words.proofs.WholeClaims.{HasWholeShare-kept, IsLeastOpen-first, RaisesCounter-exchanged, whole_twice}
 use Rattle.plan_words.proofs.shared.Shared.claim.Goals as goal
-use Rattle.plan_words.specs.Claims.{AllFull, IsOpen, KeepsHand, SeesAsBefore}
+use Rattle.plan_words.specs.Claims.{AllFull, IsClaimed, IsLeastOpen, IsOpen, KeepsHand, RaisesCounter, SeesAsBefore}
 use Rattle.plan_words.specs.States.{run_in, worker_of}
 use Rattle.step_core.specs.ViewSteps.{mark_of}
 use Rattle.step_core.proofs.LaterViews.{IsLater-refl, IsLater-trans}
@@ -61,9 +61,10 @@ returns-then-exchange-from-clause-some c =
     let scan = c.in_ok-next.ensures in
     let next = c.in_ok-next.next in
     let open_next = subst (λ crew. IsOpen c.first_open.new.pass.view (worker_of crew) c.args.limit next.strip next.round) kept.kept.crew scan.first in
-    IsClaimed-exchanged _ _ _ next.strip next.round c.exchange.result c.args.pass.now.view _ _ (ap (λ s. s.task.scene.strips) c.self.view_is)
+    subst (IsClaimed c.args.pass.now.view c.exchange.new.pass.view c.args.limit) (sym c.mark_of.ensures)
+    (IsClaimed-exchanged _ _ _ next.strip next.round c.exchange.result c.args.pass.now.view _ _ (ap (λ s. s.task.scene.strips) c.self.view_is)
     c.first_open.ensures.belongs (KeepsHand-trans _ _ _ kept.kept c.first_open.ensures.kept) (IsLater-trans _ _ _ kept.later c.first_open.ensures.goes_on.later)
-    open_next (c.if-exchange-from.true ∙ c.from.ensures) c.exchange.ensures.view c.exchange.ensures.seen
+    open_next (c.if-exchange-from.true ∙ c.from.ensures) c.exchange.ensures.view c.exchange.ensures.seen)
 
 pub tries-smaller : goal.tries-smaller
 tries-smaller c =
@@ -118,9 +119,10 @@ returns-then-exchange-from-clause-whole_some c all =
     let open_next = subst (λ crew. IsOpen c.first_open.new.pass.view (worker_of crew) c.args.limit next.strip next.round) kept.kept.crew scan.first in
     let as_before =
     whole_twice c.args.pass.now.view c.tries.pass.view c.first_open.new.pass.view kept.kept kept.later.run kept.whole c.first_open.ensures.whole all in
-    RaisesCounter-exchanged _ _ c.args.limit next.strip next.round c.args.pass.now.view c.first_open.new.pass (ap (λ s. s.task.scene.strips) c.self.view_is)
+    subst (RaisesCounter c.args.pass.now.view c.exchange.new.pass.view) (sym c.mark_of.ensures)
+    (RaisesCounter-exchanged _ _ c.args.limit next.strip next.round c.args.pass.now.view c.first_open.new.pass (ap (λ s. s.task.scene.strips) c.self.view_is)
     c.first_open.ensures.belongs (c.first_open.ensures.goes_on.later.run ∙ kept.later.run) as_before open_next c.exchange.result c.exchange.new.pass
-    (c.if-exchange-from.true ∙ c.from.ensures) c.exchange.ensures.seen
+    (c.if-exchange-from.true ∙ c.from.ensures) c.exchange.ensures.seen)
 
 pub returns-then-exchange-from-clause-least : goal.returns-then-exchange-from-clause-least
 returns-then-exchange-from-clause-least c all own =
@@ -130,8 +132,9 @@ returns-then-exchange-from-clause-least c all own =
     let open_next = subst (λ crew. IsOpen c.first_open.new.pass.view (worker_of crew) c.args.limit next.strip next.round) kept.kept.crew scan.first in
     let as_before =
     whole_twice c.args.pass.now.view c.tries.pass.view c.first_open.new.pass.view kept.kept kept.later.run kept.whole c.first_open.ensures.whole all in
-    IsLeastOpen-first _ _ c.args.limit next.strip next.round c.args.pass.now.view c.first_open.new.pass (ap (λ s. s.task.scene.strips) c.self.view_is)
-    c.first_open.ensures.belongs (c.first_open.ensures.goes_on.later.run ∙ kept.later.run) as_before open_next own
+    subst (IsLeastOpen c.args.pass.now.view) (sym c.mark_of.ensures)
+    (IsLeastOpen-first _ _ c.args.limit next.strip next.round c.args.pass.now.view c.first_open.new.pass (ap (λ s. s.task.scene.strips) c.self.view_is)
+    c.first_open.ensures.belongs (c.first_open.ensures.goes_on.later.run ∙ kept.later.run) as_before open_next own)
 
 pub returns-in_err-next-clause-view_alone : goal.returns-in_err-next-clause-view_alone
 returns-in_err-next-clause-view_alone c =
@@ -162,14 +165,13 @@ returns-then-exchange-from-clause-belongs c =
     let belongs = c.first_open.ensures.belongs in
     record { table = ap (λ p. p.table) c.exchange.ensures.view ∙ belongs.table; run = c.exchange.ensures.goes_on.later.run ∙ belongs.run }
 
-pub overflow_mul-result : goal.overflow_mul-result
-overflow_mul-result c =
-    let next = c.in_ok-next.next in
-    let low = subst (λ r. mark_of r next.strip next.round < c.args.limit) c.first_open.ensures.belongs.run c.in_ok-next.ensures.first.low in
-    omega (arith, subst (λ s. mark_of (run_in s) next.strip next.round < c.args.limit) (sym c.self.view_is) low, c.ranges.limit)
+pub mark_of-requires-clause-strip : goal.mark_of-requires-clause-strip
+mark_of-requires-clause-strip c =
+    subst (λ s. c.in_ok-next.next.strip < s.task.scene.strips) (sym c.self.view_is)
+    (subst (λ r. c.in_ok-next.next.strip < r.strips) c.first_open.ensures.belongs.run c.in_ok-next.ensures.first.strip)
 
-pub overflow_add-result : goal.overflow_add-result
-overflow_add-result c =
+pub overflow_cast-result : goal.overflow_cast-result
+overflow_cast-result c =
     let next = c.in_ok-next.next in
     let low = subst (λ r. mark_of r next.strip next.round < c.args.limit) c.first_open.ensures.belongs.run c.in_ok-next.ensures.first.low in
-    omega (arith, subst (λ s. mark_of (run_in s) next.strip next.round < c.args.limit) (sym c.self.view_is) low, c.ranges.limit)
+    omega (arith, c.mark_of.ensures, subst (λ s. mark_of (run_in s) next.strip next.round < c.args.limit) (sym c.self.view_is) low, c.ranges.limit)

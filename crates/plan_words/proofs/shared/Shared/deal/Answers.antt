@@ -1,18 +1,20 @@
-use Rattle.std.proofs.Common.{◌∙◌, ◌<◌, ap, length, subst, sym}
+use Rattle.std.proofs.Common.{◌∙◌, ◌<◌, ap, length, subst, sym, arith}
 use Rattle.plan_model.specs.Runs.Turns.{turns_of}
+use Rattle.plan_words.proofs.Dealing.{sees-started}
 use Rattle.plan_words.proofs.shared.Shared.deal.Goals as goal
 use Rattle.plan_words.specs.Dealt.{IsPassOf}
 use Rattle.step_core.specs.GrownWords.{record_at}
 use Rattle.step_core.specs.Views.{sees}
 
-pub open-requires-clause-turn : goal.open-requires-clause-turn
-open-requires-clause-turn c = c.requires.turns 0 c.requires.some
+pub open-requires : goal.open-requires
+open-requires c = c.requires.turns 0 (omega (arith, c.args.opening.some))
 
 pub hand_out-requires-clause-turns : goal.hand_out-requires-clause-turns
 hand_out-requires-clause-turns c w low =
     let opened = c.in_ok-shared.ensures in
     c.requires.turns w (subst (λ n. w < n) opened.workers low)
-    ∙ sym (ap (λ p. turns_of (record_at (sees p.view)) (length c.args.opening.task.marks) w) opened.first)
+    ∙ sym (ap (λ words. turns_of (record_at words) (length c.args.opening.grown.task.marks) w) (sees-started c.args.opening))
+    ∙ sym (ap (λ p. turns_of (record_at (sees p.view)) (length c.args.opening.grown.task.marks) w) opened.first)
     ∙ sym (ap (λ t. turns_of (record_at (sees c.in_ok-shared.first.view)) (length t.marks) w) opened.task)
 
 pub returns-clause-passes : goal.returns-clause-passes

@@ -1,13 +1,22 @@
-use Rattle.std.proofs.Common.{◌≡◌, length, sym, ap, ◌∙◌, subst, arith}
-use Rattle.std.proofs.lemmas.List.{with_items_is}
+use Rattle.std.proofs.Common.{sym, ap, ◌∙◌, subst, arith}
 use Rattle.std.specs.Mem.Slots.{slots_items}
-use Rattle.plan_words.proofs.Ending.{AreSameRuns-ended, HoldRun-ended, StandsAsSeen-ended, limit-found, own_workers-ended, same_in_run, stands_in_run}
+use Rattle.plan_words.proofs.Ending.{AreSameRuns-ended, HoldRun-ended, StandsAsSeen-ended, limit-found, own_workers-ended, same_in_run, stands_in_run, words-copied}
 use Rattle.plan_words.proofs.Owning.{same_run}
 use Rattle.plan_words.proofs.shared.Shared.end.Goals as goal
 use Rattle.plan_words.specs.Claims.{HasNoneLeft}
 use Rattle.step_core.specs.GrownWords.{HoldRun, cleared, record_at, run_words}
 use Rattle.step_core.specs.PlacesOfWords.{sizes_in}
+use Rattle.step_core.specs.RunWords.{words_in}
 use Rattle.step_core.specs.Views.{share}
+use Rattle.step_core.specs.WordPlaces.{word_count}
+
+pub copy_words-requires-clause-as_many : goal.copy_words-requires-clause-as_many
+copy_words-requires-clause-as_many c =
+    ap word_count (c.self.inside.own_places ∙ c.self.invariant.places_are) ∙ sym c.self.invariant.words ∙ sym c.close_with-closed.ensures.counts.0
+
+pub from_words-requires-clause-sizes : goal.from_words-requires-clause-sizes
+from_words-requires-clause-sizes c =
+    ap sizes_in c.copy_words.ensures.places ∙ c.self.inside.own_places ∙ c.self.invariant.places_are
 
 pub from_words-requires-clause-run : goal.from_words-requires-clause-run
 from_words-requires-clause-run c =
@@ -22,13 +31,13 @@ from_words-requires-clause-run c =
     let held =
     HoldRun-ended shared.task shared.workers shared.opening shared.table.shared.key view c.pass.inside.seat.id items _ c.self.invariant.key_is own
     c.close_with-closed.ensures.values.2 whole idle left in
-    let long : length c.copy_words.new.words ≡ shared.spare.len = c.copy_words.auto.words ∙ c.deref_mut.ensures.len in
-    let copied = with_items_is shared.spare c.copy_words.new.words long ∙ c.copy_words.ensures in
+    let of_task = ap sizes_in c.copy_words.ensures.places ∙ shared.own_places ∙ c.self.invariant.places_are in
+    let copied = words-copied shared.task c.copy_words.new.words items of_task c.copy_words.ensures.items in
     let found = c.first_unrecorded-limit.ensures in
     let last =
-    limit-found shared.task view.most c.first_unrecorded-limit.result (sizes_in shared.places) c.as_slice.result.now items c.self.invariant.places_are
-    (c.as_slice.ensures.value ∙ copied) held found.before found.first found.most in
-    subst (λ list. HoldRun shared.task c.first_unrecorded-limit.result (cleared (run_words shared.task list))) (sym copied)
+    limit-found shared.task view.most c.first_unrecorded-limit.result (sizes_in c.copy_words.new.words.places) (words_in c.copy_words.new.words)
+    (run_words shared.task items) of_task copied held found.before found.first found.most in
+    subst (λ words. HoldRun shared.task c.first_unrecorded-limit.result (cleared words)) (sym copied)
     (subst (λ n. HoldRun shared.task n (cleared (run_words shared.task items))) (sym last) held)
 
 pub returns-clause-limit : goal.returns-clause-limit
@@ -43,12 +52,12 @@ returns-clause-limit c =
     let held =
     HoldRun-ended shared.task shared.workers shared.opening shared.table.shared.key view c.pass.inside.seat.id items _ c.self.invariant.key_is own
     c.close_with-closed.ensures.values.2 whole idle left in
-    let long : length c.copy_words.new.words ≡ shared.spare.len = c.copy_words.auto.words ∙ c.deref_mut.ensures.len in
-    let copied = with_items_is shared.spare c.copy_words.new.words long ∙ c.copy_words.ensures in
+    let of_task = ap sizes_in c.copy_words.ensures.places ∙ shared.own_places ∙ c.self.invariant.places_are in
+    let copied = words-copied shared.task c.copy_words.new.words items of_task c.copy_words.ensures.items in
     let found = c.first_unrecorded-limit.ensures in
     c.from_words.ensures.limit
-    ∙ limit-found shared.task view.most c.first_unrecorded-limit.result (sizes_in shared.places) c.as_slice.result.now items c.self.invariant.places_are
-    (c.as_slice.ensures.value ∙ copied) held found.before found.first found.most
+    ∙ limit-found shared.task view.most c.first_unrecorded-limit.result (sizes_in c.copy_words.new.words.places) (words_in c.copy_words.new.words)
+    (run_words shared.task items) of_task copied held found.before found.first found.most
     ∙ ap (λ p. p.view.most) c.pass.view_is
 
 pub returns-clause-seen : goal.returns-clause-seen
@@ -63,10 +72,10 @@ returns-clause-seen c =
     let stands =
     StandsAsSeen-ended shared.task shared.workers shared.opening shared.table.shared.key view c.pass.inside.seat.id items _ c.self.invariant.key_is own
     c.close_with-closed.ensures.values.2 whole idle left in
-    let long : length c.copy_words.new.words ≡ shared.spare.len = c.copy_words.auto.words ∙ c.deref_mut.ensures.len in
-    let copied = with_items_is shared.spare c.copy_words.new.words long ∙ c.copy_words.ensures in
+    let of_task = ap sizes_in c.copy_words.ensures.places ∙ shared.own_places ∙ c.self.invariant.places_are in
+    let copied = words-copied shared.task c.copy_words.new.words items of_task c.copy_words.ensures.items in
     stands_in_run shared.task view items c.args.pass.view c.from_words.result (ap (λ p. p.view) c.pass.view_is) c.from_words.ensures.task
-    (c.from_words.ensures.words ∙ ap (λ list. cleared (run_words shared.task list)) copied) stands
+    (c.from_words.ensures.words ∙ ap cleared copied) stands
 
 pub returns-clause-workers : goal.returns-clause-workers
 returns-clause-workers c k entry past recorded =
@@ -77,9 +86,9 @@ returns-clause-workers c k entry past recorded =
     let whole = ap (λ p. share p.view) c.pass.view_is ∙ c.requires.whole ∙ sym (ap (λ s. s.workers) c.self.view_is) in
     let idle = ap (λ p. p.view.hand) c.pass.view_is ∙ c.requires.idle in
     let left = subst (λ p. HasNoneLeft p.view) (sym c.pass.view_is) c.requires.none_left in
-    let long : length c.copy_words.new.words ≡ shared.spare.len = c.copy_words.auto.words ∙ c.deref_mut.ensures.len in
-    let copied = with_items_is shared.spare c.copy_words.new.words long ∙ c.copy_words.ensures in
-    let words = c.from_words.ensures.words ∙ ap (λ list. cleared (run_words shared.task list)) copied in
+    let of_task = ap sizes_in c.copy_words.ensures.places ∙ shared.own_places ∙ c.self.invariant.places_are in
+    let copied = words-copied shared.task c.copy_words.new.words items of_task c.copy_words.ensures.items in
+    let words = c.from_words.ensures.words ∙ ap cleared copied in
     let opening = ap (λ s. s.opening) c.self.view_is in
     let low =
     own_workers-ended shared.task shared.workers shared.opening shared.table.shared.key view c.pass.inside.seat.id items _ c.self.invariant.key_is own
@@ -99,7 +108,7 @@ returns-clause-same c =
     let same =
     AreSameRuns-ended shared.task shared.workers shared.opening shared.table.shared.key view c.pass.inside.seat.id items _ c.self.invariant.key_is own
     c.close_with-closed.ensures.values.2 whole idle left in
-    let long : length c.copy_words.new.words ≡ shared.spare.len = c.copy_words.auto.words ∙ c.deref_mut.ensures.len in
-    let copied = with_items_is shared.spare c.copy_words.new.words long ∙ c.copy_words.ensures in
+    let of_task = ap sizes_in c.copy_words.ensures.places ∙ shared.own_places ∙ c.self.invariant.places_are in
+    let copied = words-copied shared.task c.copy_words.new.words items of_task c.copy_words.ensures.items in
     same_in_run shared.task view items c.args.pass.view c.from_words.result (ap (λ p. p.view) c.pass.view_is) c.from_words.ensures.task
-    (c.from_words.ensures.words ∙ ap (λ list. cleared (run_words shared.task list)) copied) same
+    (c.from_words.ensures.words ∙ ap cleared copied) same

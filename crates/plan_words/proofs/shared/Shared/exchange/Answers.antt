@@ -1,10 +1,11 @@
-use Rattle.std.proofs.Common.{◌≡◌, ℕ, ◌*◌, ◌+◌, ◌<◌, ◌≤◌, ◌==◌, None, Some, ap, cond, length, refl, subst, sym, ◌∙◌}
+use Rattle.std.proofs.Common.{◌≡◌, ℕ, ◌+◌, ◌<◌, ◌≤◌, ◌==◌, None, Some, ap, cond, length, refl, subst, sym, ◌∙◌}
 use Rattle.std.proofs.lemmas.Bool.{eq-eqb, ne_eqb}
 use Rattle.plan_words.proofs.KeptPairs.{HasPairs-claimed, keeps_saw, keeps_view}
 use Rattle.plan_words.proofs.Owning.{found_whole, may_claim_here, same_run, same_table, sees_exchanged, tells_on, with_view_told}
 use Rattle.plan_words.proofs.shared.Shared.exchange.Goals as goal
 use Rattle.plan_words.specs.Plays.{Tells}
 use Rattle.plan_words.specs.States.{run_in}
+use Rattle.plan_model.specs.Scenes.MarkPoints.{mark_of as mark_by_strips}
 use Rattle.step_core.specs.ViewSteps.{claimed, loaded, mark_of, new_hand, place_in, saw_at}
 use Rattle.step_core.specs.Views.{sees, share}
 use Rattle.step_core.specs.WordNames.{WritesWord}
@@ -68,8 +69,9 @@ invariant_of-pass c =
     let told = subst (λ b. Tells me (cond b then (saw_at me.0 c.counter-place.result x x)) after) (eq-eqb x c.from-round.result c.if-found-round.true)
     c.compare_exchange_with-found.ensures.2.told in
     keeps_view me after then _ _ _ _ _ _ _ c.pass.inside.pairs _ told c.pass.invariant refl c.pass.invariant.1.member_is
-    (ap (λ k. Some (new_hand k)) (ap (λ n. n * c.self.inside.task.scene.strips + c.args.next.strip) (sym c.from-round.ensures)
-    ∙ ap (λ r. c.from-round.result * r.strips + c.args.next.strip) (sym own)))
+    (ap (λ k. Some (new_hand k))
+    (c.mark_of.ensures ∙ ap (mark_by_strips c.self.inside.task.scene.strips c.args.next.strip) (sym c.from-round.ensures)
+    ∙ ap (λ r. mark_of r c.args.next.strip c.from-round.result) (sym own)))
     (HasPairs-claimed me.0 c.pass.inside.pairs c.args.next.strip c.from-round.result c.args.limit c.pass.invariant.1.lawful here)
 
 pub invariant_of-pass-else-found-round : goal.invariant_of-pass-else-found-round

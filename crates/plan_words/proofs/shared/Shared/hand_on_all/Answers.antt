@@ -54,7 +54,7 @@ returns-clause-count c =
       ap (λ s. s.workers) c.self.view_is,
       c.loop-worker-test.false,
       c.loop-worker.auto.worker-end,
-      c.requires.some,
+      c.self.invariant.run_is.workers.0,
     )
 
 pub returns-clause-passes : goal.returns-clause-passes

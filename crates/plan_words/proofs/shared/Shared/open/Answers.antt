@@ -1,9 +1,17 @@
-use Rattle.std.proofs.Common.{refl}
+use Rattle.std.proofs.Common.{◌∙◌, ap, subst, sym}
 use Rattle.plan_words.proofs.Dealing.{IsTableOf-started}
 use Rattle.plan_words.proofs.shared.Shared.open.Goals as goal
+use Rattle.plan_words.specs.States.{IsTableOf}
+use Rattle.step_core.specs.Views.{run_of}
 
 pub invariant_of-shared : goal.invariant_of-shared
 invariant_of-shared c =
     let laid = c.in_ok-table.ensures in
-    IsTableOf-started c.args.opening c.requires.sized c.requires.run c.requires.some c.requires.few
-    c.in_ok-table.table.shared.table_id c.in_ok-table.table.shared.key c.of-places.result _ refl laid.words laid.slots laid.key c.of-places.ensures
+    let given = c.into_words-task.ensures in
+    let table = c.in_ok-table.table.shared in
+    subst (λ task. IsTableOf table.table_id table.key (run_of task c.args.opening.workers c.into_words-task.result.1) c.places-places.result)
+    (sym given.task)
+    (subst (λ limit. IsTableOf table.table_id table.key (run_of c.args.opening.grown.task c.args.opening.workers limit) c.places-places.result)
+    (sym given.limit)
+    (IsTableOf-started c.args.opening table.table_id table.key c.places-places.result laid.words laid.slots laid.key
+    (c.places-places.ensures ∙ ap (λ words. words.places) given.words)))

@@ -1,26 +1,30 @@
-use Rattle.std.proofs.Common.{◌∙◌, ◌<◌, ap, length, subst}
+use Rattle.std.proofs.Common.{◌∙◌, ap, refl}
 use Rattle.std.specs.Prelude.{slice_index}
 use Rattle.std.proofs.lemmas.Result.{IfOk-weaker}
 use Rattle.plan_model.specs.Runs.Turns.{turns_of}
-use Rattle.plan_words.proofs.Dealing.{MayClaim-starts, StartsAs-pass}
+use Rattle.plan_words.proofs.Dealing.{MayClaim-starts, StartsAs-pass, sees-started}
 use Rattle.plan_words.proofs.shared.Shared.start.Goals as goal
 use Rattle.plan_words.specs.States.{first_view, new_pass}
-use Rattle.step_core.specs.GrownWords.{record_at, run_words}
+use Rattle.plan_words.specs.declared.openings.Opening.{Opening}
+use Rattle.step_core.specs.GrownRuns.{words_of_grown}
+use Rattle.step_core.specs.GrownWords.{record_at}
+use Rattle.step_core.specs.PlacesOfWords.{sizes_in}
+use Rattle.step_core.specs.RunWords.{words_in}
 
 pub deal-requires-clause-turns : goal.deal-requires-clause-turns
 deal-requires-clause-turns c w low =
-    let opening = c.opening_of-opening.result in
-    ap (λ l. slice_index l w) c.as_slice-2.ensures.value
-    ∙ c.in_ok-turns.ensures.each w (subst (λ n. w < n) c.opening_of-opening.ensures.workers low)
-    ∙ ap (λ items. turns_of (record_at (run_words opening.task items)) (length opening.task.marks) w) c.as_slice.ensures.value
+    let grown = c.args.grown in
+    ap (λ l. slice_index l w) c.as_slice.ensures.value
+    ∙ c.in_ok-turns.ensures.each w low
+    ∙ ap (λ words. turns_of (record_at (words_in words)) (sizes_in words.places).marks w) c.words.ensures
+    ∙ ap (λ s. turns_of (record_at (words_of_grown grown)) s.marks w) grown.of_task
 
 pub returns-clause-passes : goal.returns-clause-passes
 returns-clause-passes c =
-    let opening = c.opening_of-opening in
+    let opening : Opening = record { grown = c.args.grown; workers = c.args.workers; some = c.requires.some; few = c.requires.few } in
     IfOk-weaker c.deal.result _ _
     (λ started dealt w pass e.
-    StartsAs-pass started.0 c.args.grown (new_pass started.0.table (first_view opening.result)) w pass opening.ensures.words opening.ensures.limit
-    (dealt w pass e))
+    StartsAs-pass started.0 c.args.grown (new_pass started.0.table (first_view opening)) w pass (sees-started opening) refl (dealt w pass e))
     c.deal.ensures.passes
 
 pub returns-clause-may_claim : goal.returns-clause-may_claim
