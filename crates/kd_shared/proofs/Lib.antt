@@ -1,6 +1,3 @@
-pub mod DistinctNumbers
-pub mod Walking
-pub mod SplitSides
 pub mod Searching
 pub mod VisitedOnce
 pub mod LoadedChildren

@@ -19,43 +19,14 @@ use Rattle.step_core.specs.WordNames.Word.{ChildOf, PointOf}
 use Rattle.step_core.specs.WordPlaces.{Sizes}
 use Rattle.step_core.specs.Words.{point_of_word}
 use Rattle.step_core.specs.declared.views.View.{View}
-use Rattle.step_core.proofs.LaterViews.{IsLater-refl, IsLater-trans}
+use Rattle.step_core.proofs.LaterViews.{IsLater-refl}
 use Rattle.step_core.proofs.LawfulSights.{IsLaterMoment-later, KeepsSight-lawful}
 use Rattle.step_core.proofs.Looks.{same_name}
 use Rattle.step_core.proofs.SeenWords.{point_at-seen, seen-within}
 use Rattle.kd_shared.specs.Loads.{FindsChild, LoadsChild, LoadsPoint}
-use Rattle.kd_shared.specs.Looking.{GoesOnLooking, OnlyLooks}
+use Rattle.kd_shared.specs.Looking.{OnlyLooks}
 
 -- ---- one after another
-
-pub GoesOn-trans : (before mid after : View) → GoesOn before mid → GoesOn mid after → GoesOn before after
-GoesOn-trans before mid after one other = record {
-  was_lawful = one.was_lawful;
-  later = IsLater-trans before mid after one.later other.later;
-  lawful = other.lawful;
-}
-
-pub GoesOnLooking-trans : (before mid after : View) → GoesOnLooking before mid → GoesOnLooking mid after → GoesOnLooking before after
-GoesOnLooking-trans before mid after one other = record {
-  goes_on = GoesOn-trans before mid after one.goes_on other.goes_on;
-  others = λ name k. other.others name k ∙ one.others name k;
-}
-
--- the share of all workers stays
-pub HasWholeShare-looks : (before after : View) → OnlyLooks before after → HasWholeShare before → HasWholeShare after
-HasWholeShare-looks before after looks whole =
-    ap (λ crew. length crew) looks.kept.crew ∙ whole ∙ sym (ap (λ run. run.workers) looks.looks.goes_on.later.run)
-
-pub OnlyLooks-trans : (before mid after : View) → OnlyLooks before mid → OnlyLooks mid after → OnlyLooks before after
-OnlyLooks-trans before mid after one other = record {
-  looks = GoesOnLooking-trans before mid after one.looks other.looks;
-  kept = record {
-    crew = other.kept.crew ∙ one.kept.crew;
-    most = other.kept.most ∙ one.kept.most;
-    hand = other.kept.hand ∙ one.kept.hand;
-  };
-  whole = λ all name. other.whole (HasWholeShare-looks before mid one all) name ∙ one.whole all name;
-}
 
 pub OnlyLooks-refl : (view : View) → IsLawfulView view → OnlyLooks view view
 OnlyLooks-refl view lawful = record {
@@ -160,15 +131,6 @@ module _ (before after : View) (n : ℕ) (goes_on : GoesOn before after) where
 
       is_no_point : {m : ℕ} → PointOf m ≢ ChildOf n side
       is_no_point same = cc
-
--- a point that was seen before counts as loaded
-pub LoadsPoint-seen : (view : View) (n : ℕ) (p : Point) → IsLawfulView view → SeesPoint view n p → LoadsPoint (sight_in view) (sight_in view) n p
-LoadsPoint-seen view n p lawful stands = record {
-  later = IsLaterMoment-later view view (IsLater-refl view);
-  keeps = KeepsSight-lawful view lawful;
-  stands = stands;
-  others = λ m apart. refl;
-}
 
 -- no number of a seen node is above that of the last mark
 pub within_marks : (before after : View) → GoesOn before after → (n : ℕ) → SeesNode after n → n ≤ length before.run.marks

@@ -12,14 +12,14 @@ use Rattle.step_core.specs.LaterViews.{IsLawfulView}
 use Rattle.step_core.specs.ViewTrees.{SeesNode, sight_in}
 use Rattle.step_core.proofs.LawfulSights.{IsBounded-seen, KeepsSight-lawful}
 use Rattle.kd_shared.specs.Loads.{LoadsPoint}
-use Rattle.kd_shared.specs.Looking.{KeepsLists, OnlyLooks}
+use Rattle.kd_shared.specs.Looking.{KeepsLists, OnlyLooks, PassLooks}
 use Rattle.kd_shared.specs.Searches.{AreNearSeen}
-use Rattle.kd_shared.specs.Sides.{goes_right_by}
+use Rattle.step_core.specs.KdSides.{goes_right_by}
 use Rattle.kd_shared.specs.Spots.{HasRoomFor, Notes, QueuesChild, QueuesWithin}
-use Rattle.kd_shared.proofs.Looking.{OnlyLooks-trans, SeesNode-later}
+use Rattle.kd_shared.specs.LookLaws.{OnlyLooks-trans}
+use Rattle.kd_shared.proofs.Looking.{SeesNode-later}
 use Rattle.kd_shared.proofs.NearSearch.{IsGathering, IsGathering-all_visited, IsGathering-begins, IsGathering-ends, IsGathering-room, IsGathering-room_far}
 use Rattle.kd_shared.proofs.NearSearch.{IsGathering-room_near, IsGathering-seen, IsGathering-stands, IsGathering-visits, line_square}
-use Rattle.kd_shared.proofs.PassLooks.{PassLooks}
 
 -- The pass only looks, and its second list stays. So many spots of its queue were visited, and its near list has those that are near.
 pub record IsGatheringPass (shared : SharedState) (entry now : PassState) (p : Point) (r visits : ℕ) : Type 0 where
@@ -118,9 +118,6 @@ module _ (shared : SharedState) (entry now : PassState) (p : Point) (r visits : 
         notes_here : Notes now.near noted.near spot.node (squared_distance spot.point p) (r * r)
         notes_here =
             subst (λ (s : PassState). Notes s.near noted.near spot.node (squared_distance spot.point p) (r * r)) same notes
-
-        pub noted_belongs : BelongsTo noted shared
-        noted_belongs = subst (λ (s : PassState). BelongsTo s shared) (sym whole) (record { table = h.belongs.table; run = h.belongs.run })
 
         pub noted_looks : OnlyLooks entry.view noted.view
         noted_looks = subst (λ (s : PassState). OnlyLooks entry.view s.view) (sym whole) h.looks

@@ -16,11 +16,12 @@ use Rattle.plan_model.proofs.NewNodes.{IsPresent-stands, StandsAt-unique}
 use Rattle.plan_model.proofs.SightLaws.{IsFree-ends, IsLaterMoment-trans}
 use Rattle.kd_shared.specs.Loads.{KeepsPoints, LoadsPoint}
 use Rattle.kd_shared.specs.Searches.{AreNearSeen}
-use Rattle.kd_shared.specs.Sides.{goes_right_by, split_distance}
+use Rattle.step_core.specs.KdSides.{goes_right_by, split_distance}
 use Rattle.kd_shared.specs.Spots.{HasRoomFor, LeavesChild, Notes, Opens, QueuesChild, QueuesWithin}
 use Rattle.plan_words.specs.declared.scratch.Spot.{Spot}
-use Rattle.kd_shared.proofs.DistinctNumbers.{AreDifferent, AreDifferent-few, AreDifferent-within, Contains-cases, Contains-first, Contains-more}
-use Rattle.kd_shared.proofs.DistinctNumbers.{Contains-none, length-one_more}
+use Rattle.plan_model.proofs.ListMembers.{Contains-after, Contains-first}
+use Rattle.step_core.proofs.DistinctNumbers.{AreDifferent, AreDifferent-few, AreDifferent-within, Contains-cases}
+use Rattle.step_core.proofs.DistinctNumbers.{Contains-none, length-one_more}
 use Rattle.kd_shared.proofs.Searching.{GoesBelow, GoesTo, IsMet, IsSearch, IsSearch-begins, IsSearch-ends, IsSearch-leaves, IsSearch-opens_far}
 use Rattle.kd_shared.proofs.Searching.{IsSearch-opens_near, IsSearch-takes, IsSearch-visits, Nothing}
 use Rattle.kd_shared.proofs.SortedNear.{is_within-close, is_within-near, near-sorted}
@@ -240,7 +241,7 @@ module _ (before now : Sight) (target : Point) (r : ℕ) (queue : List Spot) (fo
           (IsSearch-takes before now target (r * r) (λ n q. Contains found n) spot queue rest first_waits h.search)
 
       stand_rest : AreSeenSpots now rest
-      stand_rest other k = h.stand other (subst (λ xs. Contains xs other) (sym first_waits) (Contains-more spot other rest k))
+      stand_rest other k = h.stand other (subst (λ xs. Contains xs other) (sym first_waits) (Contains-after spot rest other k))
 
       fresh_noted : AreFreshFound before now target (r * r) noted rest
       fresh_noted n q stands close =
@@ -301,9 +302,6 @@ module _ (before now : Sight) (target : Point) (r : ℕ) (queue : List Spot) (fo
             | inr queues ↦ half_way-queues queues
           ]
 
-      pub IsGathering-later_half : IsLaterMoment now half
-      IsGathering-later_half = half_way.later
-
       -- There is room for a child of the near side, too.
       pub IsGathering-room_near : (marks : ℕ) → HasRoomFor half marks spot right (length mid)
       IsGathering-room_near marks = HasRoomFor-near half spot done marks mid right half_way.few half_way.once
@@ -328,7 +326,7 @@ module _ (before now : Sight) (target : Point) (r : ℕ) (queue : List Spot) (fo
             stand = QueuesChild-stands half after mid put spot right near_side half_way.stand;
             different = Notes-different found noted spot.node distance (r * r) notes h.different not_found;
             among = λ n k. elim (Notes-cases found noted spot.node distance (r * r) notes n k) [
-              | inl old ↦ Contains-more spot.node n done (h.among n old)
+              | inl old ↦ Contains-after spot.node done n (h.among n old)
               | inr (same, near) ↦ (0, omega arith, same)
             ];
             only = λ n k. elim (Notes-cases found noted spot.node distance (r * r) notes n k) [

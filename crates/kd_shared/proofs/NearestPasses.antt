@@ -10,14 +10,13 @@ use Rattle.plan_words.specs.declared.scratch.Spot.{Spot}
 use Rattle.step_core.specs.ViewTrees.{SeesNode, sight_in}
 use Rattle.step_core.proofs.LawfulSights.{KeepsSight-lawful}
 use Rattle.kd_shared.specs.Loads.{LoadsPoint}
-use Rattle.kd_shared.specs.Looking.{KeepsLists, OnlyLooks}
+use Rattle.kd_shared.specs.Looking.{KeepsLists, OnlyLooks, PassLooks}
 use Rattle.kd_shared.specs.Searches.{IsNearestSeen}
-use Rattle.kd_shared.specs.Sides.{goes_right_by, split_distance}
+use Rattle.step_core.specs.KdSides.{goes_right_by, split_distance}
 use Rattle.kd_shared.specs.Spots.{HasRoomFor, IsNearer, StacksChild}
-use Rattle.kd_shared.proofs.Looking.{OnlyLooks-trans}
+use Rattle.kd_shared.specs.LookLaws.{OnlyLooks-trans}
 use Rattle.kd_shared.proofs.NearestSearch.{IsSeeking, IsSeeking-begins, IsSeeking-ends, IsSeeking-room_far, IsSeeking-room_near, IsSeeking-seen}
 use Rattle.kd_shared.proofs.NearestSearch.{IsSeeking-skips, IsSeeking-visits}
-use Rattle.kd_shared.proofs.PassLooks.{PassLooks}
 use Rattle.kd_shared.proofs.VisitedOnce.{IsVisiting-few}
 
 -- The pass only looks, and its lists of found nodes stay. The nearest node so far is at this squared distance.

@@ -15,7 +15,7 @@ use Rattle.plan_model.proofs.NewNodes.{IsPresent-stands, point_of-stands, Stands
 use Rattle.plan_model.proofs.SightLaws.{IsFree-ends}
 use Rattle.kd_shared.specs.Loads.{LoadsPoint}
 use Rattle.kd_shared.specs.Searches.{IsNearestSeen}
-use Rattle.kd_shared.specs.Sides.{goes_right_by, split_distance}
+use Rattle.step_core.specs.KdSides.{goes_right_by, split_distance}
 use Rattle.kd_shared.specs.Spots.{HasRoomFor, IsNearer, IsNotFurther, StacksChild}
 use Rattle.plan_words.specs.declared.scratch.Spot.{Spot}
 use Rattle.kd_shared.proofs.Searching.{GoesTo, IsMet, IsSearch, IsSearch-begins, IsSearch-ends, IsSearch-later, IsSearch-opens_far, IsSearch-opens_near}

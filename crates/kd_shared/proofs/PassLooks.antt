@@ -9,22 +9,8 @@ use Rattle.step_core.specs.Views.{sees}
 use Rattle.step_core.specs.WordNames.{ChangesOnly, Word, WritesWord}
 use Rattle.step_core.specs.WordNames.Word.{ChildOf}
 use Rattle.step_core.proofs.SeenByViews.{WritesWord-saw}
-use Rattle.kd_shared.specs.Looking.{OnlyLooks}
-use Rattle.kd_shared.proofs.Looking.{BelongsTo-later, OnlyLooks-loaded, OnlyLooks-trans, same_words}
-
--- A pass of this tree only looks, and nothing but its view changes.
-pub record PassLooks (shared : SharedState) (before after : PassState) : Type 0 where
-  pub belongs : BelongsTo after shared
-  pub looks : OnlyLooks before.view after.view
-  pub view_alone : after ≡ with_view before after.view
-
-pub PassLooks-trans : (shared : SharedState) (before mid after : PassState) → PassLooks shared before mid → PassLooks shared mid after
-    → PassLooks shared before after
-PassLooks-trans shared before mid after one other = record {
-  belongs = other.belongs;
-  looks = OnlyLooks-trans before.view mid.view after.view one.looks other.looks;
-  view_alone = other.view_alone ∙ ap (λ p. with_view p after.view) one.view_alone;
-}
+use Rattle.kd_shared.specs.Looking.{PassLooks}
+use Rattle.kd_shared.proofs.Looking.{BelongsTo-later, OnlyLooks-loaded, same_words}
 
 -- one step that shows no word but that of a child or of a point
 pub PassLooks-step : (shared : SharedState) (before after : PassState) (name : Word) (word : ℕ) → BelongsTo before shared

@@ -2,21 +2,19 @@
 use Rattle.std.proofs.Common.{◌≡◌, ℕ, suc, Bool, Option, Some, None, sym, ap, ◌∙◌, subst}
 use Rattle.std.specs.Prelude.{IfSome, IsSome}
 use Rattle.plan_model.specs.declared.geometry.Point.{Point}
-use Rattle.plan_words.specs.Nodes.{IsLinkedAt, NamesNode}
+use Rattle.plan_words.specs.Nodes.{IsLinkedAt, LeadsOn, NamesNode}
 use Rattle.plan_words.specs.States.{BelongsTo, GoesOn, PassState, SharedState, with_view}
 use Rattle.step_core.specs.ViewSteps.{counted, last_fill, linked}
-use Rattle.step_core.specs.ViewTrees.{LeadsTo, SeesPoint, sight_in}
-use Rattle.step_core.specs.Views.{sees, tree_seen}
+use Rattle.step_core.specs.ViewTrees.{LeadsTo, SeesPoint}
+use Rattle.step_core.specs.Views.{sees}
 use Rattle.step_core.specs.WordNames.{ChangesOnly}
 use Rattle.step_core.specs.declared.views.Hand.{Hand}
 use Rattle.step_core.specs.declared.views.View.{View}
-use Rattle.kd_shared.specs.Looking.{GoesOnLooking, OnlyLooks}
+use Rattle.kd_shared.specs.Looking.{GoesOnLooking, OnlyLooks, PassLooks}
 use Rattle.kd_shared.specs.Placings.{GoesOnPlacing, IsPlaced, IsSame, KeepsShare}
 use Rattle.kd_shared.proofs.Looking.{BelongsTo-later}
-use Rattle.kd_shared.proofs.PassLooks.{PassLooks}
 use Rattle.plan_words.proofs.GoingOn.{GoesOn-trans}
 use Rattle.plan_words.proofs.HandSteps.{NamesNode-child}
-use Rattle.kd_shared.proofs.Walking.{IsWalking}
 
 -- the hand of a pass that only looked
 pub IfSome-kept : (before after : View) (Holds : Hand → Type 0) → OnlyLooks before after → IfSome before.hand Holds → IfSome after.hand Holds
@@ -35,17 +33,17 @@ IfSome-same now p n None kept is stands = tt
 IfSome-same now p n (Some hand) kept is stands = record { stands = subst (SeesPoint now n) is stands; unchanged = kept }
 
 -- or the node in hand is linked
-pub IfSome-placed : (entry now after : View) (p : Point) (depth n : ℕ) (side : Bool) (held : Option Hand) → now.hand ≡ held
+pub IfSome-placed : (now after : View) (p : Point) (n : ℕ) (side : Bool) (held : Option Hand) → now.hand ≡ held
     → IfSome held (λ hand. p ≡ hand.point) → IfSome now.hand (λ hand. IsLinkedAt after n side hand)
-    → ((child : ℕ) → (tree_seen after).child n side ≡ Some child → IsWalking (sight_in entry) (sight_in after) p depth child)
-    → IfSome held (λ hand. IsPlaced after hand)
-IfSome-placed entry now after p depth n side None kept is links comes = tt
-IfSome-placed entry now after p depth n side (Some hand) kept is links comes =
+    → IfSome now.hand (λ hand. LeadsOn now after hand.point n side (suc hand.mark)) → LeadsTo now p n side → IfSome held (λ hand. IsPlaced after hand)
+IfSome-placed now after p n side None kept is links leads_on leads = tt
+IfSome-placed now after p n side (Some hand) kept is links leads_on leads =
     let link : IsLinkedAt after n side hand = subst (λ o. IfSome o (λ h. IsLinkedAt after n side h)) kept links in
-    let walk = comes (suc hand.mark) link.child in
+    let leads_own : LeadsTo now hand.point n side = subst (λ q. LeadsTo now q n side) is leads in
+    let on : LeadsOn now after hand.point n side (suc hand.mark) = subst (λ o. IfSome o (λ h. LeadsOn now after h.point n side (suc h.mark))) kept leads_on in
     record {
-      depth = depth;
-      on_way = (subst (λ q. IsWalking (sight_in entry) (sight_in after) q depth (suc hand.mark)) is walk).on_way;
+      depth = suc leads_own.depth;
+      on_way = on leads_own;
       stands = link.point;
       pair = link.pair;
       first = link.first;

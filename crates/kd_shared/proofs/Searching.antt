@@ -13,13 +13,14 @@ use Rattle.plan_model.specs.Seen.Ways.IsOnWay.{begins, goes_on}
 use Rattle.plan_model.proofs.SamePoints.{same_or_other}
 use Rattle.plan_model.proofs.SeenTreeLaws.{IsSeen-more}
 use Rattle.plan_model.proofs.SightLaws.{EndsSince-later, IsLaterMoment-trans}
-use Rattle.kd_shared.specs.Sides.{goes_right_by, is_by_rows, split_distance}
+use Rattle.step_core.specs.KdSides.{goes_right_by, is_by_rows, split_distance}
 use Rattle.kd_shared.specs.Loads.{FindsEmpty}
 use Rattle.kd_shared.specs.Spots.{Opens, Puts}
 use Rattle.plan_words.specs.declared.scratch.Spot.{Spot}
-use Rattle.kd_shared.proofs.DistinctNumbers.{Contains-cases, Contains-more, Contains-none}
-use Rattle.kd_shared.proofs.SplitSides.{goes_right-by, is_by_rows-next, split_distance-le, two_sides}
-use Rattle.kd_shared.proofs.Walking.{IsOnWay-later}
+use Rattle.plan_model.proofs.ListMembers.{Contains-after}
+use Rattle.step_core.proofs.DistinctNumbers.{Contains-cases, Contains-none}
+use Rattle.step_core.proofs.SplitSides.{goes_right-by, is_by_rows-next, split_distance-le, two_sides}
+use Rattle.step_core.proofs.SeenWays.{IsOnWay-later}
 
 -- ---- where a point is
 
@@ -133,7 +134,7 @@ module _ (before now : Sight) (target : Point) (bound : ℕ) (Taken : ℕ → Po
       → IsSearch before now target bound Taken rest (WaitsAt now target spot)
   IsSearch-takes spot spots rest is h = record {
     later = h.later;
-    seen = λ other k. h.seen other (subst (λ xs. Contains xs other) (sym is) (Contains-more spot other rest k));
+    seen = λ other k. h.seen other (subst (λ xs. Contains xs other) (sym is) (Contains-after spot rest other k));
     all = λ q close. elim (h.all q close) [
       | inl met ↦ inl met
       | inr (inl (other, k, waits)) ↦ elim (Contains-cases spot other rest (subst (λ xs. Contains xs other) is k)) [

@@ -18,7 +18,8 @@ use Rattle.plan_model.specs.Geometry.Plane.{squared_distance}
 use Rattle.plan_model.specs.Trees.Nearness.{is_within, near}
 use Rattle.plan_model.specs.Trees.PointsByNumber.{point_at}
 use Rattle.plan_model.proofs.NearNodes.{Contains-near}
-use Rattle.kd_shared.proofs.DistinctNumbers.{AreDifferent, Contains-cases, Contains-first, Contains-more, Contains-none, IsDistinct-from_different}
+use Rattle.plan_model.proofs.ListMembers.{Contains-after, Contains-first}
+use Rattle.step_core.proofs.DistinctNumbers.{AreDifferent, Contains-cases, Contains-none, IsDistinct-from_different}
 
 -- ---- lists in rising order
 
@@ -54,11 +55,11 @@ same_numbers (m ∷ ms) (n ∷ ns) one two to back =
     ] in
     let rest : ms ≡ ns =
     same_numbers ms ns (sorted_tail nat_cmp m ms one) (sorted_tail nat_cmp n ns two)
-    (λ k own. elim (Contains-cases n k ns (to k (Contains-more m k ms own))) [
+    (λ k own. elim (Contains-cases n k ns (to k (Contains-after m ms k own))) [
       | inl is ↦ absurd (omega (arith, below_others m ms one k own, first, is))
       | inr there ↦ there
     ])
-    (λ k own. elim (Contains-cases m k ms (back k (Contains-more n k ns own))) [
+    (λ k own. elim (Contains-cases m k ms (back k (Contains-after n ns k own))) [
       | inl is ↦ absurd (omega (arith, below_others n ns two k own, first, is))
       | inr there ↦ there
     ]) in

@@ -7,8 +7,10 @@ use Rattle.plan_model.specs.Seen.SeenTrees.{IsSeen}
 use Rattle.plan_model.specs.Seen.Sights.{IsLaterMoment, KeepsSight, Sight}
 use Rattle.kd_shared.specs.Spots.{HasRoomFor, Opens}
 use Rattle.plan_words.specs.declared.scratch.Spot.{Spot}
-use Rattle.kd_shared.proofs.DistinctNumbers.{AreDifferent, AreDifferent-after, AreDifferent-few, AreDifferent-within, Contains-cases, Contains-first}
-use Rattle.kd_shared.proofs.DistinctNumbers.{Contains-more, Contains-none, Contains-within, length-one_more}
+use Rattle.plan_model.proofs.ListMembers.{Contains-first}
+use Rattle.step_core.proofs.DistinctNumbers.{AreDifferent, AreDifferent-after, AreDifferent-few, AreDifferent-within, Contains-cases}
+use Rattle.plan_model.proofs.ListMembers.{Contains-after}
+use Rattle.step_core.proofs.DistinctNumbers.{Contains-none, Contains-within, length-one_more}
 
 -- ---- the nodes that wait
 
@@ -124,7 +126,7 @@ module _ (now : Sight) (spot : Spot) (spots rest : List Spot) (done : List ℕ) 
       at_front n k =
           elim (Contains-within spot.node n (nodes_of rest) done k) [
             | inl same ↦ (0, omega arith, same)
-            | inr old ↦ Contains-more spot.node n (nodes_of rest ++ done) old
+            | inr old ↦ Contains-after spot.node (nodes_of rest ++ done) n old
           ]
 
 -- a node that is visited was not done before
@@ -161,7 +163,7 @@ module _ (now after : Sight) (later : IsLaterMoment now after) (spots : List Spo
   AreOnce-opens_near keeps put right gap h opens =
       AreOnce-opens now after later (spot.node ∷ done) (IsDoneOrAt done spot.node (not right)) (IsDone (spot.node ∷ done))
       (λ a b used. elim used [
-        | inl old ↦ Contains-more spot.node a done old
+        | inl old ↦ Contains-after spot.node done a old
         | inr (same, side) ↦ (0, omega arith, sym same)
       ])
       spots h keeps spot.node right (is_other_side right h) spot put gap refl (Contains-first spot.node done) opens
@@ -220,15 +222,6 @@ IsVisiting-begins now spot node = record {
   };
 }
 
-pub IsVisiting-later : (now after : Sight) (spots : List Spot) (visits : ℕ) → IsLaterMoment now after → IsVisiting now spots visits
-    → IsVisiting after spots visits
-IsVisiting-later now after spots visits later h = record {
-  done = h.done;
-  count = h.count;
-  few = h.few;
-  once = AreOnce-later now after later h.done (IsDone h.done) (IsDone h.done) (λ a side used. used) spots h.once;
-}
-
 -- a spot of the stack is left out
 pub IsVisiting-skips : (now : Sight) (spot : Spot) (spots rest : List Spot) (visits next : ℕ) → spots ≡ rest ++ spot ∷ [] → next ≡ suc visits
     → IsVisiting now spots visits → IsVisiting now rest next
@@ -240,7 +233,7 @@ IsVisiting-skips now spot spots rest visits next is more h = record {
     different = (AreOnce-pops now spot spots rest h.done h.once is).different;
     known = λ n k. elim ((AreOnce-pops now spot spots rest h.done h.once is).known n k) [
       | inl start ↦ inl start
-      | inr (a, side, old, link) ↦ inr (a, side, Contains-more spot.node a h.done old, link)
+      | inr (a, side, old, link) ↦ inr (a, side, Contains-after spot.node h.done a old, link)
     ];
   };
 }

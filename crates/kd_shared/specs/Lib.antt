@@ -1,7 +1,6 @@
-pub mod Sides
 pub mod Loads
 pub mod Spots
 pub mod Searches
-pub mod Walks
 pub mod Looking
 pub mod Placings
+pub mod LookLaws

@@ -2,7 +2,7 @@
 use Rattle.std.specs.Prelude.{◌≡◌}
 use Rattle.plan_words.specs.Claims.{KeepsHand, SeesAsBefore}
 use Rattle.plan_words.specs.Nodes.{NamesChildOrPoint}
-use Rattle.plan_words.specs.States.{GoesOn, HasWholeShare, PassState}
+use Rattle.plan_words.specs.States.{BelongsTo, GoesOn, HasWholeShare, PassState, SharedState, with_view}
 use Rattle.step_core.specs.Views.{sees}
 use Rattle.step_core.specs.WordNames.{ChangesOnly}
 use Rattle.step_core.specs.declared.views.View.{View}
@@ -23,3 +23,9 @@ pub record KeepsLists (before after : PassState) : Type 0 where
   pub table : after.table ≡ before.table
   pub near : after.near ≡ before.near
   pub around : after.around ≡ before.around
+
+-- A pass of this tree only looks, and nothing but its view changes.
+pub record PassLooks (shared : SharedState) (before after : PassState) : Type 0 where
+  pub belongs : BelongsTo after shared
+  pub looks : OnlyLooks before.view after.view
+  pub view_alone : after ≡ with_view before after.view

@@ -1,17 +1,11 @@
 -- What a search over what is seen has found, from the moment at which it began to the moment at which it returns.
-use Rattle.std.specs.Prelude.{◌≡◌, ℕ, ◌*◌, ◌≤◌, Option, Some, None, List}
+use Rattle.std.specs.Prelude.{◌≡◌, ℕ, ◌*◌, ◌≤◌, List}
 use Rattle.plan_model.specs.declared.geometry.Point.{Point}
 use Rattle.plan_model.specs.Geometry.Plane.{squared_distance}
 use Rattle.plan_model.specs.Trees.LeastPairs.{IsNotAbove}
 use Rattle.plan_model.specs.Trees.Nearness.{distance_to, near, IsNearest}
-use Rattle.plan_model.specs.Trees.PointsByNumber.{IsFree, IsPresent, StandsAt}
-use Rattle.plan_model.specs.Seen.Sights.{EndsSince, IsSwept, Sight}
-
--- A search for a node at p finds one that is seen there, or none: then none was seen there before, and the way of p came to a place
--- that the search found empty.
-abbrev pub Finds : Sight → Sight → Point → Option ℕ → Type 0
-Finds before after p (Some n) = StandsAt after.seen.points n p
-Finds before after p None = IsFree before.seen.points p × EndsSince after before.steps p
+use Rattle.plan_model.specs.Trees.PointsByNumber.{IsPresent}
+use Rattle.plan_model.specs.Seen.Sights.{IsSwept, Sight}
 
 -- The search has swept all points whose squared distance to p is at most this.
 abbrev pub SweepsWithin : Sight → Sight → Point → ℕ → Type 0

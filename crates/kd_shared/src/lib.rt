@@ -29,9 +29,8 @@ mod nearest_search;
 mod placing;
 mod point_search;
 pub mod search_laws;
-mod sides;
+mod shared_looks;
 mod squares;
-mod walks;
 
 pub use near_search::{around, near};
 pub use nearest_search::nearest;

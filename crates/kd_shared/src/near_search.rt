@@ -9,10 +9,10 @@ ghost use Rattle.plan_words.specs.States.{BelongsTo};
 ghost use Rattle.step_core.specs.LaterViews.{IsLawfulView};
 ghost use Rattle.step_core.specs.ViewTrees.{SeesNode, sight_in};
 
-use crate::sides::{distance_to_split, goes_right};
 use crate::squares::square;
 use plan_model::{MOST_NODES, Point};
 use plan_words::{Pass, Shared, Spot};
+use step_core::{distance_to_split, goes_right};
 
 /// Fills the near list of the pass with exactly the nodes that it has seen by then with their points and that stand within a radius
 /// of a point, in rising number; with a radius of 0 with the node at the point, if one is seen. Each point within the radius is

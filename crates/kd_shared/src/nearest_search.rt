@@ -8,10 +8,10 @@ ghost use Rattle.plan_model.specs.Geometry.Bounds.{IsBounded};
 ghost use Rattle.plan_words.specs.States.{BelongsTo};
 ghost use Rattle.step_core.specs.ViewTrees.{SeesNode, sight_in};
 
-use crate::sides::{distance_to_split, goes_right};
 use crate::squares::square;
 use plan_model::{MOST_NODES, Point};
 use plan_words::{Pass, Shared, Spot};
+use step_core::{distance_to_split, goes_right};
 
 /// A node and its squared distance from the target.
 #[derive(Clone, Copy)]

@@ -8,10 +8,9 @@ ghost use Rattle.plan_words.specs.States.{BelongsTo, HasWholeShare, with_view};
 ghost use Rattle.step_core.specs.Views.{tree_seen};
 ghost use Rattle.step_core.specs.declared.views.Stage.TheVariants.{Treed};
 
-use crate::sides::goes_right;
-use crate::walks::walk;
-use plan_model::{MOST_NODES, Point};
+use crate::shared_looks::SharedTree;
 use plan_words::{Pass, Shared};
+use step_core::walk;
 
 /// Where the node of a mark came to.
 #[derive(Clone, Copy, Debug, PartialEq, Eq)]
@@ -42,20 +41,15 @@ pub fn place(shared: &Shared, pass: &mut Pass, _mark: u32) -> Placing
     ensures whole_seen { HasWholeShare pass.old.view → IfSome pass.old.view.hand (λ hand. SeesPlacing pass.old.view pass.new.view hand result) }
 {
     let p = pass.hand_point();
-    let stop = walk(shared, pass, p);
-    let mut node = stop.node;
-    let mut here = stop.here;
-    let mut by_rows = stop.by_rows;
-    'depths: for _depth in stop.depth..MOST_NODES {
-        if here == p {
-            return Placing::Same(node);
+    let mut stop = walk(&SharedTree { shared }, pass, p);
+    'depths: loop {
+        if stop.here == p {
+            return Placing::Same(stop.node);
         }
-        let Err(child) = shared.link(pass, node, goes_right(by_rows, here, p)) else {
+        let Err(child) = shared.link(pass, stop.node, stop.leads_right(p)) else {
             return Placing::Placed;
         };
-        node = child;
-        here = shared.point(pass, child);
-        by_rows = !by_rows;
+        let here = shared.point(pass, child);
+        stop = stop.next(child, here);
     }
-    unreachable!()
 }

@@ -8,9 +8,10 @@ ghost use Rattle.plan_words.specs.States.{BelongsTo, with_view};
 ghost use Rattle.step_core.specs.ViewTrees.{SeesPoint, sight_in};
 ghost use Rattle.step_core.specs.Views.{tree_seen};
 
-use crate::walks::walk;
+use crate::shared_looks::SharedTree;
 use plan_model::Point;
 use plan_words::{Pass, Shared};
+use step_core::walk;
 
 /// The node at a point, which may be any, and which is seen there then. `None` only if none was seen there before the call,
 /// and its way ended at a place that this call found empty. It walks that way from node 0, by one load of a point and one of a
@@ -27,7 +28,7 @@ pub fn find(shared: &Shared, pass: &mut Pass, p: Point) -> Option<u32>
     // nor is one seen there now
     ensures free { IfNone result (IsFree (tree_seen pass.new.view).points p) }
 {
-    let stop = walk(shared, pass, p);
+    let stop = walk(&SharedTree { shared }, pass, p);
     if stop.here == p {
         return Some(stop.node);
     }

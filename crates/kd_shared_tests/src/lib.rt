@@ -2,12 +2,12 @@
 #![tactic(auto)]
 
 #[cfg(test)]
-mod growing;
+mod place;
 #[cfg(test)]
-mod one_place;
+mod place_by_threads;
 #[cfg(test)]
 mod scans;
 #[cfg(test)]
 mod searches;
 #[cfg(test)]
-mod threads;
+mod support;

@@ -8,8 +8,8 @@ ghost use Rattle.plan_model.specs.declared.limits.TheConstants.{MOST_COORDINATE}
 ghost use Rattle.plan_model.specs.declared.scenes.Marks.TheVariants.{Listed};
 ghost use Rattle.plan_words.specs.States.{BelongsTo};
 
-use crate::growing::{end_tree, tree_of};
 use crate::scans::{is_scan_near, scan_find, scan_nearest};
+use crate::support::{end_tree, tree_of};
 use kd_shared::{around, find, near, nearest};
 use plan_model::Point;
 use plan_words::{Pass, Shared};

@@ -12,7 +12,11 @@ pub mod HeldNodes
 pub mod LoweredWords
 pub mod StartWords
 pub mod HungNodes
-pub mod KdWays
+pub mod SplitSides
+pub mod DistinctNumbers
+pub mod SeenWays
+pub mod WalkStops
+pub mod NodesBelow
 pub mod LinkedPresence
 pub mod LinkedStates
 pub mod LinkedWords

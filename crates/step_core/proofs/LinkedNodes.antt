@@ -12,7 +12,7 @@ use Rattle.step_core.specs.WordNames.{Words}
 use Rattle.step_core.specs.GrownWords.{points_of_words, children_of_words}
 use Rattle.step_core.specs.KdLinks.{points_below, AreLinkedBelow, AreUnlinked, ChangesChildren, LinksRise, MayLink}
 use Rattle.step_core.proofs.GrownPoints.{none_some}
-use Rattle.step_core.proofs.KdWays.{point_at-lesser, point_at-greater, present-lesser}
+use Rattle.step_core.proofs.NodesBelow.{point_at-lesser, point_at-greater, present-lesser}
 use Rattle.step_core.proofs.KeptWords.{KeepsNodes-children, point_at-kept}
 
 -- The nodes below number m are linked, each below one of a lesser number, and only child words changed so far.

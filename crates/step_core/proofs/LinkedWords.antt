@@ -1,10 +1,10 @@
 -- The words of a run in which a node is linked: one child word changes, and what the others say stays.
-use Rattle.std.proofs.Common.{◌≡◌, ℕ, ◌+◌, Bool, Some, arith, sym, ap, ◌∙◌, subst, inl, inr}
+use Rattle.std.proofs.Common.{◌≡◌, ℕ, ◌+◌, ◌<◌, Bool, Some, arith, sym, ap, ◌∙◌, subst, inl, inr}
 use Rattle.std.specs.Prelude.{◌≢◌, is_some}
 use Rattle.std.proofs.lemmas.Bool.{cases_lt}
 use Rattle.plan_model.specs.declared.geometry.Point.{Point}
-use Rattle.plan_model.specs.Trees.PointsByNumber.{point_at, StandsAt, point_of}
-use Rattle.plan_model.specs.Seen.Ways.{goes_right, AddsPoint, LinksAt}
+use Rattle.plan_model.specs.Trees.PointsByNumber.{IsFree, point_at, StandsAt, point_of}
+use Rattle.plan_model.specs.Seen.Ways.{goes_right, AddsPoint, EndsBelow, LinksAt}
 use Rattle.plan_model.proofs.NewNodes.{IsPresent-stands, StandsAt-present}
 use Rattle.plan_model.proofs.WayLinks.{AddsPoint-stands, FollowWays-links, new_or_old_child}
 use Rattle.step_core.specs.WordNames.{Words, WritesWord, IsChildWord}
@@ -12,8 +12,8 @@ use Rattle.step_core.specs.WordNames.Word.{PointOf, ChildOf}
 use Rattle.step_core.specs.WordPlaces.{Sizes}
 use Rattle.step_core.specs.Words.{point_in}
 use Rattle.step_core.specs.GrownWords.{points_of_words, child_of_word, children_of_words}
-use Rattle.step_core.specs.KdLinks.{points_below, AreLinkedBelow, LinksRise, IsFreeBelow, EndsAt, MayLink, ChangesChildren}
-use Rattle.step_core.proofs.KdWays.{child_of_word-some, point_in-stands, point_at-lesser, point_at-greater, present-lesser, stands-lesser}
+use Rattle.step_core.specs.KdLinks.{points_below, AreLinkedBelow, LinksRise, MayLink, ChangesChildren}
+use Rattle.step_core.proofs.NodesBelow.{child_of_word-some, point_in-stands, point_at-lesser, point_at-greater, present-lesser, stands-lesser}
 use Rattle.step_core.proofs.KeptWords.{KeepsNodes, KeepsNodes-children, point_at-kept}
 
 module _
@@ -25,19 +25,21 @@ module _
       stands ∙ ap Some (sym (point_in-stands sizes before m p stands) ∙ sym own)
 
   -- no node of a lesser number stands where it does
-  pub IsFreeBelow-own : IsFreeBelow sizes before m q
-  IsFreeBelow-own n h =
+  pub IsFree-own : IsFree (points_below sizes before m) q
+  IsFree-own n h =
       let same = may.distinct n m q (stands-lesser sizes before m n q h) stands_own in
       let less = present-lesser sizes before m n (IsPresent-stands (points_below sizes before m) n q h) in
       omega (arith, same, less)
 
-  module _ (after : Words) (place : ℕ) (ends : EndsAt sizes before m q place)
-      (writes : WritesWord (ChildOf ends.above (goes_right ends.depth ends.p q)) m before after) where
-    abbrev a : ℕ
-    a = ends.above
-
+  -- its way ended at node a, at p, and there it becomes a child
+  module _ (after : Words) (depth a : ℕ) (p : Point) (ends : EndsBelow (children_of_words before) (points_below sizes before m) q depth a p)
+      (writes : WritesWord (ChildOf a (goes_right depth p q)) m before after) where
     abbrev side : Bool
-    side = goes_right ends.depth ends.p q
+    side = goes_right depth p q
+
+    -- that node has a lesser number
+    pub above_lesser : a < m
+    above_lesser = present-lesser sizes before m a (IsPresent-stands (points_below sizes before m) a p ends.stands)
 
     -- no other word changes than one of a child
     pub ChangesChildren-written : ChangesChildren before after
@@ -63,15 +65,15 @@ module _
         (n : ℕ) (right : Bool) → ¬ ((n ≡ a) × (right ≡ side)) → children_of_words after n right ≡ children_of_words before n right
     other_child n right apart = ap child_of_word (writes.others (ChildOf n right) (λ e. apart (same_child n right e)))
       where
-        same_child : (n : ℕ) (right : Bool) → ChildOf n right ≡ ChildOf ends.above (goes_right ends.depth ends.p q)
+        same_child : (n : ℕ) (right : Bool) → ChildOf n right ≡ ChildOf a (goes_right depth p q)
             → (n ≡ a) × (right ≡ side)
         same_child n right e = (cc, cc)
 
-    new_child : children_of_words after ends.above (goes_right ends.depth ends.p q) ≡ Some m
+    new_child : children_of_words after a (goes_right depth p q) ≡ Some m
     new_child = ap child_of_word writes.here ∙ child_of_word-some m not_start
 
-    links : LinksAt (children_of_words before) (children_of_words after) ends.above (goes_right ends.depth ends.p q) m
-    links = record { was_empty = ends.ends.empty; linked = new_child; elsewhere = other_child }
+    links : LinksAt (children_of_words before) (children_of_words after) a (goes_right depth p q) m
+    links = record { was_empty = ends.empty; linked = new_child; elsewhere = other_child }
 
     adds : AddsPoint (points_below sizes before m) (points_below sizes after (m + 1)) m q
     adds =
@@ -84,7 +86,7 @@ module _
     AreLinkedBelow-more = record {
       ways =
           FollowWays-links (children_of_words before) (children_of_words after) (points_below sizes before m)
-          (points_below sizes after (m + 1)) q ends.depth ends.above m ends.p may.linked.ways ends.ends adds links;
+          (points_below sizes after (m + 1)) q depth a m p may.linked.ways ends adds links;
       start = ap is_some (kept 0 (λ e. not_start (sym e))) ∙ may.linked.start;
     }
 
@@ -92,8 +94,8 @@ module _
     pub LinksRise-more : LinksRise (children_of_words before) → LinksRise (children_of_words after)
     LinksRise-more rise n c right h =
         elim
-        (new_or_old_child (children_of_words before) (children_of_words after) ends.above (goes_right ends.depth ends.p q) m links n c right
+        (new_or_old_child (children_of_words before) (children_of_words after) a (goes_right depth p q) m links n c right
         h) [
-          | inl new ↦ omega (arith, new.0, new.2, ends.within)
+          | inl new ↦ omega (arith, new.0, new.2, above_lesser)
           | inr old ↦ rise n c right old
         ]

@@ -26,7 +26,7 @@ use Rattle.step_core.specs.Words.{point_word}
 use Rattle.step_core.specs.Worlds.{is_recorded}
 use Rattle.step_core.proofs.GrownPoints.{IsBounded-stands, point_at-words}
 use Rattle.step_core.proofs.HeldNodes.{start_present-held, start_stands-held}
-use Rattle.step_core.proofs.KdWays.{point_in-stands}
+use Rattle.step_core.proofs.NodesBelow.{point_in-stands}
 use Rattle.step_core.proofs.LinkedPresence.{state_by-closed}
 use Rattle.plan_model.proofs.SumsBelow.{sum-more, sum-same}
 

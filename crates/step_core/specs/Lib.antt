@@ -8,7 +8,10 @@ pub mod GrownRuns
 pub mod ClearedWords
 pub mod PlacesOfWords
 pub mod RunWords
+pub mod KdSides
+pub mod KdWalks
 pub mod KdLinks
+pub mod KdLinkLaws
 pub mod PackedRuns
 pub mod SharedWords
 pub mod SeenRecords

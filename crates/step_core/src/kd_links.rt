@@ -1,14 +1,16 @@
-//! The kd-tree (Bentley, CACM 1975) of a run's nodes, in their child words: a node is linked at the end of the way of its
-//! point, which goes to the left at even depth if its column is lesser, and at odd depth if its row is.
+//! The kd-tree (Bentley, CACM 1975) of a run's nodes, in their child words: a node is linked at the end of the way of its point.
 
-ghost use Rattle.std.specs.Prelude.{◌≡◌, ◌+◌, None, is_some, slice_index_or};
-ghost use Rattle.plan_model.specs.Seen.Ways.{FollowWays, goes_right};
+ghost use Rattle.std.specs.Prelude.{◌≡◌, ◌+◌, IfNone, None, is_some, slice_index_or};
+ghost use Rattle.plan_model.specs.Seen.Ways.{FollowWays};
+ghost use Rattle.plan_model.specs.Seen.SeenTrees.{IsSeen};
+ghost use Rattle.plan_model.specs.Trees.PointsByNumber.{StandsAt};
 ghost use Rattle.step_core.specs.GrownWords.{children_of_words, points_of_words};
-ghost use Rattle.step_core.specs.KdLinks.{AreLinkedBelow, AreUnlinked, ChangesChildren, EndsAt, IsFreeBelow, LinksRise, MayLink};
+ghost use Rattle.step_core.specs.KdLinks.{AreLinkedBelow, AreUnlinked, ChangesChildren, LinksRise, MayLink};
 ghost use Rattle.step_core.specs.PlacesOfWords.{sizes_in};
 ghost use Rattle.step_core.specs.RunWords.{words_in};
-ghost use Rattle.step_core.specs.Words.{point_in};
 
+use crate::kd_trees::KdTree;
+use crate::kd_walks::walk;
 use crate::point_words::point_in;
 use crate::run_words::RunWords;
 use plan_model::{Knot, Point};
@@ -37,37 +39,53 @@ fn link(words: &mut RunWords, node: usize)
     ensures others { ChangesChildren (words_in words.old) (words_in words.new) }
 {
     let point = point_in(words.point(node));
-    let place = end_of_way(words, node, point);
-    words.set(place, node as u64);
+    let linked = LinkedNodes { words, below: node };
+    let stop = walk(&linked, &mut (), point);
+    words.set_child(stop.node as usize, stop.leads_right(point), node as u64);
 }
 
-/// The place of the empty child word at which the way of a point ends.
-fn end_of_way(words: &RunWords, node: usize, point: Point) -> usize
-    requires linked { AreLinkedBelow (sizes_in words.now.places) (words_in words.now) node }
-    requires free { IsFreeBelow (sizes_in words.now.places) (words_in words.now) node point }
-    ensures { EndsAt (sizes_in words.now.places) (words_in words.now) node point result }
-{
-    let mut above = 0;
-    let mut depth = 0;
-    'way: loop {
-        let other = point_in(words.point(above));
-        let place = words.places().child(above, goes_right(depth, other, point));
-        let child = words.at(place);
+/// The nodes below a number, which are linked, as if there were no others. Nobody changes them meanwhile.
+#[derive(Clone, Copy)]
+struct LinkedNodes<'a> {
+    words: &'a RunWords,
+    below: usize,
+}
+
+impl KdTree for LinkedNodes<'_> {
+    ghost use Rattle.std.specs.Prelude.{◌≡◌, None};
+    ghost use Rattle.step_core.specs.KdLinks.{AreLinkedBelow, tree_below};
+    ghost use Rattle.step_core.specs.KdLinkLaws.{linked_ways_are_short};
+    ghost use Rattle.step_core.specs.PlacesOfWords.{sizes_in};
+    ghost use Rattle.step_core.specs.RunWords.{words_in};
+
+    type Looks = ();
+
+    ghost seen = { λ tree looks. tree_below (sizes_in tree.words.now.places) (words_in tree.words.now) tree.below };
+
+    ghost may_look = { λ tree looks. AreLinkedBelow (sizes_in tree.words.now.places) (words_in tree.words.now) tree.below };
+
+    ghost looked = { λ tree before after. AreLinkedBelow (sizes_in tree.words.now.places) (words_in tree.words.now) tree.below };
+
+    ghost found_empty = { λ tree before after n side. children_of_words (words_in tree.words.now) n side ≡ None };
+
+    fn point(&self, looks: &mut (), node: u32) -> Point {
+        point_in(self.words.point(node as usize))
+    }
+
+    fn child(&self, looks: &mut (), node: u32, right: bool) -> Option<u32> {
+        let child = self.words.child(node as usize, right);
         if child == 0 {
-            return place;
+            return None;
         }
-        above = child as usize;
-        depth += 1;
+        Some(child as u32)
     }
-}
 
-/// Whether a point goes to the right of a node at this depth.
-fn goes_right(depth: usize, node: Point, point: Point) -> bool
-    ensures { result ≡ goes_right depth node point }
-{
-    if depth % 2 == 0 {
-        node.x <= point.x
-    } else {
-        node.y <= point.y
-    }
+    ghost looks_on = { λ tree before mid after one other. other };
+
+    ghost keeps_seen = { λ tree before after linked. record { children = λ n m side link. link; nodes = λ n p stands. stands } };
+
+    ghost found_since = { λ tree before mid after n side linked empty. empty };
+
+    ghost ways_are_short = { λ tree before after q depth n linked. linked_ways_are_short (sizes_in tree.words.now.places) (words_in tree.words.now) tree.below
+        tree.words.now.places.few_marks linked q depth n };
 }

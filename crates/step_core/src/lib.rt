@@ -9,6 +9,9 @@
 //! to a kd-tree. `word_places` alone knows the order of the words; [`RunWords`] keeps them in one list, and reads and writes them by
 //! their names (`specs/WordNames`), as contracts call them, and `specs/GrownWords` says what tree they stand for.
 //!
+//! [`walk`] goes along the way of a point through a [`KdTree`], which is whatever looks up children and points by number: the nodes of
+//! a run while it is packed, or a tree to which others add.
+//!
 //! Several passes may step on the words of one run without a lock. What each knows is its [`View`], what holds between any two
 //! steps is the law of worlds (`specs/Worlds`), and each kind of step has a law that it keeps it (`world_laws`).
 #![tactic(auto)]
@@ -16,6 +19,9 @@
 mod cleared_words;
 mod grown;
 mod kd_links;
+mod kd_sides;
+mod kd_trees;
+mod kd_walks;
 mod laws;
 mod layout;
 mod node_writes;
@@ -30,6 +36,9 @@ mod word_places;
 pub mod world_laws;
 
 pub use grown::Grown;
+pub use kd_sides::{distance_to_split, goes_right};
+pub use kd_trees::KdTree;
+pub use kd_walks::{Stop, walk};
 pub use point_words::{pack_point, point_in, read_point};
 pub use record_words::{pack_mark, read_mark};
 pub use run_words::RunWords;

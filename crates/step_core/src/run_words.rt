@@ -67,6 +67,14 @@ impl RunWords {
         self.at(self.places.point(node))
     }
 
+    /// The word of a node's left or right child: its number, or 0 if it has none.
+    pub fn child(&self, node: usize, right: bool) -> u64
+        requires { node ≤ (sizes_in self.now.places).marks }
+        ensures { result ≡ words_in self.now (ChildOf node right) }
+    {
+        self.at(self.places.child(node, right))
+    }
+
     /// The word of a node's parent and kept cost.
     pub fn tree(&self, node: usize) -> u64
         requires { node ≤ (sizes_in self.now.places).marks }
@@ -132,6 +140,15 @@ impl RunWords {
         ensures word { WritesWord (PointOf node) word (words_in self.old) (words_in self.new) }
     {
         self.set(self.places.point(node), word);
+    }
+
+    /// Writes the word of a node's left or right child.
+    pub fn set_child(&mut self, node: usize, right: bool, word: u64)
+        requires { node ≤ (sizes_in self.old.places).marks }
+        ensures places { self.new.places ≡ self.old.places }
+        ensures word { WritesWord (ChildOf node right) word (words_in self.old) (words_in self.new) }
+    {
+        self.set(self.places.child(node, right), word);
     }
 
     /// Writes the word of a node's parent and kept cost.

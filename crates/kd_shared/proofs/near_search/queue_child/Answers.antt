@@ -7,7 +7,8 @@ use Rattle.kd_shared.specs.Looking.{OnlyLooks}
 use Rattle.kd_shared.specs.Spots.{QueuesChild}
 use Rattle.kd_shared.proofs.LoadedChildren.{QueuesChild-none, QueuesChild-some}
 use Rattle.kd_shared.proofs.Looking.{LoadsChild-child, LoadsPoint-point, keeps_sight, later_moment, within_marks}
-use Rattle.kd_shared.proofs.PassLooks.{PassLooks-load, PassLooks-trans}
+use Rattle.kd_shared.specs.LookLaws.{PassLooks-trans}
+use Rattle.kd_shared.proofs.PassLooks.{PassLooks-load}
 use Rattle.kd_shared.proofs.near_search.queue_child.Goals as goal
 
 pub push_spot-requires : goal.push_spot-requires

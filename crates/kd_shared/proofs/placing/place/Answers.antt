@@ -1,11 +1,15 @@
-use Rattle.std.proofs.Common.{◌≡◌, ◌+◌, refl, sym, subst, ◌∙◌, arith}
+use Rattle.std.proofs.Common.{◌≡◌, refl, sym, ap, subst, ◌∙◌, arith}
 use Rattle.std.specs.Prelude.{IsSome}
 use Rattle.plan_model.proofs.SamePoints.{same_point-false, same_point-true}
-use Rattle.step_core.specs.ViewTrees.{SeesPoint}
+use Rattle.step_core.specs.ViewTrees.{LeadsTo, SeesPoint}
+use Rattle.step_core.specs.Views.{tree_seen}
 use Rattle.step_core.specs.WordNames.Word.{PointOf}
+use Rattle.step_core.specs.declared.kd_walks.Stop.{Stop}
 use Rattle.step_core.specs.declared.views.Stage.TheVariants.{Treed}
-use Rattle.kd_shared.proofs.Finding.{IsFinding-come, IsFinding-comes, IsFinding-depth, IsFinding-goes_on, IsFinding-leads}
-use Rattle.kd_shared.proofs.PassLooks.{PassLooks-load, PassLooks-met, PassLooks-trans}
+use Rattle.step_core.proofs.WalkStops.{StopsAt-below}
+use Rattle.kd_shared.specs.LookLaws.{PassLooks-fills, PassLooks-short, PassLooks-trans}
+use Rattle.kd_shared.proofs.Finding.{LeadsTo-stop}
+use Rattle.kd_shared.proofs.PassLooks.{PassLooks-load, PassLooks-met}
 use Rattle.kd_shared.proofs.LinkedSights.{IfSome-all, IfSome-free, IfSome-sees_linked}
 use Rattle.kd_shared.proofs.PlacedNodes.{GoesOnPlacing-looks, IfSome-kept, IfSome-leads, IfSome-placed}
 use Rattle.kd_shared.proofs.PlacedNodes.{IfSome-same, PassPlaces, PassPlaces-links, PassPlaces-looks}
@@ -13,12 +17,7 @@ use Rattle.kd_shared.proofs.placing.place.Goals as goal
 
 -- the walk before has only looked
 pub depths-init : goal.depths-init
-depths-init c = record {
-  passes = record { belongs = c.walk-stop.ensures.belongs; looks = c.walk-stop.ensures.looks; view_alone = c.walk-stop.ensures.view_alone };
-  walks =
-      IsFinding-come c.args.pass.now.view c.walk-stop.new.pass.view c.hand_point-p.result c.walk-stop.result.depth c.walk-stop.result.node
-      c.walk-stop.result.by_rows c.walk-stop.result.here c.walk-stop.ensures.looks c.walk-stop.ensures.come;
-}
+depths-init c = record { passes = c.walk-stop.ensures.looks; stops = c.walk-stop.ensures.stops }
 
 -- another node has the point
 pub returns-then-eq-clause-belongs : goal.returns-then-eq-clause-belongs
@@ -37,17 +36,17 @@ returns-then-eq-clause-view_alone c = c.depths.invariant.passes.view_alone
 
 pub returns-then-eq-clause-placed : goal.returns-then-eq-clause-placed
 returns-then-eq-clause-placed c =
-    IfSome-same c.depths.pass.view c.hand_point-p.result c.depths.node c.args.pass.now.view.hand c.depths.invariant.passes.looks.kept.hand
+    IfSome-same c.depths.pass.view c.hand_point-p.result c.depths.stop.node c.args.pass.now.view.hand c.depths.invariant.passes.looks.kept.hand
     c.hand_point-p.ensures
-    (subst (SeesPoint c.depths.pass.view c.depths.node) (same_point-true c.depths.here c.hand_point-p.result (sym c.eq.ensures ∙ c.if-eq.true))
-    c.depths.invariant.walks.stands)
+    (subst (SeesPoint c.depths.pass.view c.depths.stop.node) (same_point-true c.depths.stop.here c.hand_point-p.result (sym c.eq.ensures ∙ c.if-eq.true))
+    c.depths.invariant.stops.stands)
 
 pub returns-then-eq-clause-whole : goal.returns-then-eq-clause-whole
 returns-then-eq-clause-whole c = λ all.
-    IfSome-free _ c.args.pass.now.view c.depths.pass.view c.hand_point-p.result c.depths.node c.args.pass.now.view.hand all
+    IfSome-free _ c.args.pass.now.view c.depths.pass.view c.hand_point-p.result c.depths.stop.node c.args.pass.now.view.hand all
     c.depths.invariant.passes.looks c.hand_point-p.ensures
-    (subst (SeesPoint c.depths.pass.view c.depths.node) (same_point-true c.depths.here c.hand_point-p.result (sym c.eq.ensures ∙ c.if-eq.true))
-    c.depths.invariant.walks.stands)
+    (subst (SeesPoint c.depths.pass.view c.depths.stop.node) (same_point-true c.depths.stop.here c.hand_point-p.result (sym c.eq.ensures ∙ c.if-eq.true))
+    c.depths.invariant.stops.stands)
 
 pub returns-then-eq-clause-whole_seen : goal.returns-then-eq-clause-whole_seen
 returns-then-eq-clause-whole_seen c = λ all. IfSome-all c.args.pass.now.view.hand (λ hand. c.depths.invariant.passes.looks.whole all)
@@ -65,18 +64,24 @@ link-requires-clause-treed c =
 
 pub link-requires-clause-leads : goal.link-requires-clause-leads
 link-requires-clause-leads c =
-    IfSome-leads c.depths.pass.view c.hand_point-p.result c.depths.node c.goes_right.result c.depths.pass.view.hand
+    IfSome-leads c.depths.pass.view c.hand_point-p.result c.depths.stop.node c.leads_right.result c.depths.pass.view.hand
     (IfSome-kept c.args.pass.now.view c.depths.pass.view (λ hand. c.hand_point-p.result ≡ hand.point) c.depths.invariant.passes.looks
     c.hand_point-p.ensures)
-    (IsFinding-leads c.args.pass.now.view c.depths.pass.view c.hand_point-p.result c.depths._depth c.depths.node c.depths.by_rows c.depths.here
-    c.depths.invariant.walks (same_point-false c.depths.here c.hand_point-p.result (sym c.eq.ensures ∙ c.if-eq.false)) c.goes_right.result
-    c.goes_right.ensures)
+    (subst (LeadsTo c.depths.pass.view c.hand_point-p.result c.depths.stop.node) (sym c.leads_right.ensures)
+    (LeadsTo-stop c.args.pass.now.view c.depths.pass.view c.hand_point-p.result c.depths.stop c.depths.invariant.passes.looks
+    c.depths.invariant.stops (same_point-false c.depths.stop.here c.hand_point-p.result (sym c.eq.ensures ∙ c.if-eq.false))))
 
 -- it is linked there
+leads_there : (c : goal.In_default) → LeadsTo c.depths.pass.view c.hand_point-p.result c.depths.stop.node c.leads_right.result
+leads_there c =
+    subst (LeadsTo c.depths.pass.view c.hand_point-p.result c.depths.stop.node) (sym c.leads_right.ensures)
+    (LeadsTo-stop c.args.pass.now.view c.depths.pass.view c.hand_point-p.result c.depths.stop c.depths.invariant.passes.looks
+    c.depths.invariant.stops (same_point-false c.depths.stop.here c.hand_point-p.result (sym c.eq.ensures ∙ c.if-eq.false)))
+
 places_there : (c : goal.In_default) → PassPlaces c.args.shared.now c.args.pass.now c.link.new.pass
 places_there c =
     PassPlaces-looks c.args.shared.now c.args.pass.now c.depths.pass c.link.new.pass c.depths.invariant.passes
-    (PassPlaces-links c.args.shared.now c.depths.pass c.link.new.pass c.depths.node c.goes_right.result c.depths.invariant.passes.belongs
+    (PassPlaces-links c.args.shared.now c.depths.pass c.link.new.pass c.depths.stop.node c.leads_right.result c.depths.invariant.passes.belongs
     (subst IsSome (sym c.depths.invariant.passes.looks.kept.hand) c.requires.hand) c.in_default.ensures.view c.link.ensures.goes_on
     c.link.ensures.others)
 
@@ -94,36 +99,32 @@ returns-in_default-clause-view_alone c = (places_there c).view_alone
 
 pub returns-in_default-clause-placed : goal.returns-in_default-clause-placed
 returns-in_default-clause-placed c =
-    IfSome-placed c.args.pass.now.view c.depths.pass.view c.link.new.pass.view c.hand_point-p.result _ c.depths.node c.goes_right.result
+    IfSome-placed c.depths.pass.view c.link.new.pass.view c.hand_point-p.result c.depths.stop.node c.leads_right.result
     c.args.pass.now.view.hand c.depths.invariant.passes.looks.kept.hand c.hand_point-p.ensures c.in_default.ensures.linked
-    (λ child link. IsFinding-comes c.args.pass.now.view c.depths.pass.view c.hand_point-p.result c.depths._depth c.depths.node c.depths.by_rows
-    c.depths.here c.depths.invariant.walks (same_point-false c.depths.here c.hand_point-p.result (sym c.eq.ensures ∙ c.if-eq.false))
-    c.goes_right.result c.goes_right.ensures c.link.new.pass.view child c.link.ensures.goes_on.later link)
+    c.in_default.ensures.on_way (leads_there c)
 
 pub returns-in_default-clause-whole : goal.returns-in_default-clause-whole
 returns-in_default-clause-whole c = λ all. IfSome-all c.args.pass.now.view.hand (λ hand free. refl)
 
 pub returns-in_default-clause-whole_seen : goal.returns-in_default-clause-whole_seen
 returns-in_default-clause-whole_seen c = λ all.
-    IfSome-sees_linked c.args.pass.now.view c.depths.pass c.link.new.pass c.depths.node c.goes_right.result c.args.pass.now.view.hand all
+    IfSome-sees_linked c.args.pass.now.view c.depths.pass c.link.new.pass c.depths.stop.node c.leads_right.result c.args.pass.now.view.hand all
     c.depths.invariant.passes.looks c.link.ensures.goes_on c.depths.invariant.passes.looks.kept.hand c.requires.treed
-    (IfSome-leads c.depths.pass.view c.hand_point-p.result c.depths.node c.goes_right.result c.args.pass.now.view.hand c.hand_point-p.ensures
-    (IsFinding-leads c.args.pass.now.view c.depths.pass.view c.hand_point-p.result c.depths._depth c.depths.node c.depths.by_rows c.depths.here
-    c.depths.invariant.walks (same_point-false c.depths.here c.hand_point-p.result (sym c.eq.ensures ∙ c.if-eq.false)) c.goes_right.result
-    c.goes_right.ensures))
+    (IfSome-leads c.depths.pass.view c.hand_point-p.result c.depths.stop.node c.leads_right.result c.args.pass.now.view.hand c.hand_point-p.ensures
+    (leads_there c))
     c.in_default.ensures.view
 
 -- or a child is there
 pub point-here-requires-clause-belongs : goal.point-here-requires-clause-belongs
 point-here-requires-clause-belongs c =
-    (PassLooks-met c.args.shared.now c.depths.pass c.link.new.pass c.depths.node c.goes_right.result c.in-Err.child
-    c.depths.invariant.passes.belongs c.depths.invariant.walks.walk.seen c.in-Err.ensures.view_found c.link.ensures.goes_on
+    (PassLooks-met c.args.shared.now c.depths.pass c.link.new.pass c.depths.stop.node c.leads_right.result c.in-Err.child
+    c.depths.invariant.passes.belongs c.depths.invariant.stops.seen c.in-Err.ensures.view_found c.link.ensures.goes_on
     c.in-Err.ensures.others_found c.in-Err.ensures.whole_found).belongs
 
 pub depths-preserved : goal.depths-preserved
 depths-preserved c =
-    let fails = PassLooks-met c.args.shared.now c.depths.pass c.link.new.pass c.depths.node c.goes_right.result c.in-Err.child
-    c.depths.invariant.passes.belongs c.depths.invariant.walks.walk.seen c.in-Err.ensures.view_found c.link.ensures.goes_on
+    let fails = PassLooks-met c.args.shared.now c.depths.pass c.link.new.pass c.depths.stop.node c.leads_right.result c.in-Err.child
+    c.depths.invariant.passes.belongs c.depths.invariant.stops.seen c.in-Err.ensures.view_found c.link.ensures.goes_on
     c.in-Err.ensures.others_found c.in-Err.ensures.whole_found in
     let look = PassLooks-load c.args.shared.now c.link.new.pass c.point-here.new.pass (PointOf c.in-Err.child) _ _
     fails.belongs tt c.point-here.ensures.view c.point-here.ensures.goes_on c.point-here.ensures.seen
@@ -131,14 +132,22 @@ depths-preserved c =
     record {
       passes = PassLooks-trans c.args.shared.now c.args.pass.now c.depths.pass c.point-here.new.pass c.depths.invariant.passes
           (PassLooks-trans c.args.shared.now c.depths.pass c.link.new.pass c.point-here.new.pass fails look);
-      walks = IsFinding-goes_on c.args.pass.now.view c.depths.pass.view c.hand_point-p.result c.depths._depth c.depths.node c.depths.by_rows
-          c.depths.here c.depths.invariant.walks (same_point-false c.depths.here c.hand_point-p.result (sym c.eq.ensures ∙ c.if-eq.false))
-          c.goes_right.result c.goes_right.ensures c.link.new.pass.view c.point-here.new.pass.view c.in-Err.child (c.depths._depth + 1)
-          c.point-here.result fails.looks c.in-Err.ensures.found.0 look.looks c.point-here.ensures.found (omega arith);
+      stops = StopsAt-below (tree_seen c.depths.pass.view) c.hand_point-p.result c.depths.stop c.depths.invariant.stops
+          (same_point-false c.depths.stop.here c.hand_point-p.result (sym c.eq.ensures ∙ c.if-eq.false)) c.leads_right.result c.leads_right.ensures
+          (tree_seen c.link.new.pass.view) (tree_seen c.point-here.new.pass.view)
+          (PassLooks-fills c.args.shared.now c.depths.pass c.link.new.pass fails) c.in-Err.child c.in-Err.ensures.found.0
+          (PassLooks-fills c.args.shared.now c.link.new.pass c.point-here.new.pass look) c.point-here.result c.point-here.ensures.found
+          c.next-stop.result c.next-stop.ensures;
     }
 
-pub unreachable-requires : goal.unreachable-requires
-unreachable-requires c =
-    let low = IsFinding-depth c.args.pass.now.view c.depths.pass.view c.hand_point-p.result c.depths._depth c.depths.node c.depths.by_rows
-    c.depths.here c.depths.invariant.walks in
-    absurd (omega (arith, low, c.depths-test.false))
+-- no way is longer than there are nodes
+pub next-stop-requires : goal.next-stop-requires
+next-stop-requires c =
+    PassLooks-short c.args.shared.now c.args.pass.now c.depths.pass c.hand_point-p.result c.depths.stop.depth c.depths.stop.node
+    c.depths.invariant.passes c.depths.invariant.stops.on_way
+
+pub depths-smaller : goal.depths-smaller
+depths-smaller c =
+    let short = PassLooks-short c.args.shared.now c.args.pass.now c.depths.pass c.hand_point-p.result c.depths.stop.depth c.depths.stop.node
+    c.depths.invariant.passes c.depths.invariant.stops.on_way in
+    omega (arith, short, ap (λ (s : Stop). s.depth) c.next-stop.ensures)

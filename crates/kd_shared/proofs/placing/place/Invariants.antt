@@ -1,9 +1,16 @@
-use Rattle.kd_shared.proofs.Finding.{IsFinding}
-use Rattle.kd_shared.proofs.PassLooks.{PassLooks}
+use Rattle.std.proofs.Common.{◌-◌}
+use Rattle.plan_model.specs.declared.limits.TheConstants.{MOST_NODES}
+use Rattle.step_core.specs.KdWalks.{StopsAt}
+use Rattle.step_core.specs.Views.{tree_seen}
+use Rattle.kd_shared.specs.Looking.{PassLooks}
 use Rattle.kd_shared.proofs.placing.place.Given as goal
 
 abbrev pub invariant-depths : goal.invariant-depths
 invariant-depths l = record {
   passes : PassLooks l.shared l.fn.pass l.pass;
-  walks : IsFinding l.fn.pass.view l.pass.view l.p l._depth l.node l.by_rows l.here;
+  stops : StopsAt (tree_seen l.pass.view) l.p l.stop;
 }
+
+-- no way is longer than there are nodes
+abbrev pub decreases-depths : goal.decreases-depths
+decreases-depths l = MOST_NODES - l.stop.depth

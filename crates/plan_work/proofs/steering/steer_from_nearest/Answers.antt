@@ -1,5 +1,5 @@
 use Rattle.std.proofs.Common.{length, sym, ap, ◌∙◌, subst, arith}
-use Rattle.kd_shared.proofs.Looking.{OnlyLooks-trans}
+use Rattle.kd_shared.specs.LookLaws.{OnlyLooks-trans}
 use Rattle.kd_shared.proofs.PassLooks.{PassLooks-load}
 use Rattle.plan_model.specs.Geometry.Bounds.{IsBounded}
 use Rattle.kd_shared.specs.Searches.{IsNearestSeen}

@@ -1,0 +1,23 @@
+use Rattle.std.proofs.Common.{◌≡◌, ◌∙◌, ap, sym}
+use Rattle.plan_model.specs.Runs.ClosedLaw.{mark_at}
+use Rattle.plan_words.specs.States.{with_view}
+use Rattle.plan_words.proofs.HandSteps.{at_hand}
+use Rattle.step_core.specs.ViewSteps.{pointed}
+use Rattle.kd_shared_tests.proofs.SteeredMarks.{IsNearestRecorded-found, SteersFrom-written}
+use Rattle.kd_shared_tests.proofs.support.write_from_nearest.Goals as goal
+
+pub returns-clause-steers : goal.returns-clause-steers
+returns-clause-steers c =
+    let found = c.nearest-closest.new.pass.view in
+    let mid = c.point-from.new.pass in
+    let step = c.nearest-closest.ensures.looks in
+    let closest = c.nearest-closest.result in
+    let p = c.steer-point.result in
+    let held = ap (λ p. p.view.hand) c.point-from.ensures.view ∙ step.kept.hand ∙ c.requires.held in
+    let marks = c.as_slice.ensures ∙ ap (λ t. t.marks) c.task.ensures ∙ sym (ap (λ r. r.marks) c.nearest-closest.ensures.belongs.run) in
+    let is =
+    at_hand (λ hand. c.write_point.new.pass ≡ with_view mid (pointed mid.view hand closest p)) mid.view.hand c.requires.hand held c.write_point.ensures.view in
+    SteersFrom-written found mid.view c.write_point.new.pass.view c.requires.hand closest _ _ c.point-from.result p c.point-from.ensures.goes_on
+    c.write_point.ensures.goes_on c.point-from.ensures.seen (ap (λ p. p.view) is) c.nearest-closest.ensures.nearest.nearest.member c.point-from.ensures.found
+    (ap (λ l. mark_at l c.args.mark) marks ∙ ap (mark_at found.run.marks) (sym c.requires.mark))
+    (IsNearestRecorded-found c.args.pass.now.view found _ closest step.looks.goes_on.lawful c.nearest-closest.ensures.nearest)
