@@ -13,9 +13,9 @@ use Rattle.kd_shared.specs.Loads.{LoadsPoint}
 use Rattle.kd_shared.specs.Looking.{KeepsLists, OnlyLooks, PassLooks}
 use Rattle.kd_shared.specs.Searches.{IsNearestSeen}
 use Rattle.step_core.specs.KdSides.{goes_right_by, split_distance}
-use Rattle.kd_shared.specs.Spots.{HasRoomFor, IsNearer, StacksChild}
+use Rattle.kd_shared.specs.Spots.{HasRoomFor, StacksChild}
 use Rattle.kd_shared.specs.LookLaws.{OnlyLooks-trans}
-use Rattle.kd_shared.proofs.NearestSearch.{IsSeeking, IsSeeking-begins, IsSeeking-ends, IsSeeking-room_far, IsSeeking-room_near, IsSeeking-seen}
+use Rattle.kd_shared.proofs.NearestSearch.{IsNearer, IsSeeking, IsSeeking-begins, IsSeeking-ends, IsSeeking-room_far, IsSeeking-room_near, IsSeeking-seen}
 use Rattle.kd_shared.proofs.NearestSearch.{IsSeeking-skips, IsSeeking-visits}
 use Rattle.kd_shared.proofs.VisitedOnce.{IsVisiting-few}
 

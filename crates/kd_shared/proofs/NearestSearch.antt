@@ -6,18 +6,20 @@ use Rattle.std.proofs.lemmas.Bool.{cases_eq, cases_lt}
 use Rattle.std.proofs.lemmas.List.Elements.{Contains-push}
 use Rattle.plan_model.specs.declared.geometry.Point.{Point}
 use Rattle.plan_model.specs.Geometry.Plane.{squared_distance}
-use Rattle.plan_model.specs.Trees.LeastPairs.{IsNotAbove}
+use Rattle.plan_model.specs.Trees.LeastPairs.{IsNotAbove, IsPairNotAbove}
 use Rattle.plan_model.specs.Trees.Nearness.{distance_to}
 use Rattle.plan_model.specs.Trees.PointsByNumber.{point_of, AreDistinct, StandsAt}
 use Rattle.plan_model.specs.Seen.SeenTrees.{IsSeen}
 use Rattle.plan_model.specs.Seen.Sights.{KeepsSight, Sight}
 use Rattle.plan_model.proofs.NewNodes.{IsPresent-stands, point_of-stands, StandsAt-present, StandsAt-unique}
 use Rattle.plan_model.proofs.SightLaws.{IsFree-ends}
+use Rattle.plan_words.specs.declared.scratch.Spot.{Spot}
+use Rattle.step_core.specs.KdSides.{goes_right_by, split_distance}
+use Rattle.step_core.specs.MeasuredNodes.{IsNearerOf}
+use Rattle.step_core.specs.declared.measured_nodes.MeasuredNode.{MeasuredNode}
 use Rattle.kd_shared.specs.Loads.{LoadsPoint}
 use Rattle.kd_shared.specs.Searches.{IsNearestSeen}
-use Rattle.step_core.specs.KdSides.{goes_right_by, split_distance}
-use Rattle.kd_shared.specs.Spots.{HasRoomFor, IsNearer, IsNotFurther, StacksChild}
-use Rattle.plan_words.specs.declared.scratch.Spot.{Spot}
+use Rattle.kd_shared.specs.Spots.{HasRoomFor, StacksChild}
 use Rattle.kd_shared.proofs.Searching.{GoesTo, IsMet, IsSearch, IsSearch-begins, IsSearch-ends, IsSearch-later, IsSearch-opens_far, IsSearch-opens_near}
 use Rattle.kd_shared.proofs.Searching.{IsSearch-pops, IsSearch-skips, IsSearch-visits, Nothing, WaitsAt, WaitsAt-later}
 use Rattle.kd_shared.proofs.VisitedOnce.{AreOnce, AreOnce-later, AreOnce-opens_far, AreOnce-opens_near, AreOnce-pops, HasRoomFor-far, HasRoomFor-near}
@@ -31,12 +33,27 @@ pub record IsBest (now : Sight) (target : Point) (distance best : ℕ) : Type 0 
   pub stands : StandsAt now.seen.points best point
   pub distance_is : distance ≡ squared_distance point target
 
+-- of the nearest so far and one more node the nearer one stays
+pub record IsNearer (distance best here node less nearer : ℕ) : Type 0 where
+  pub one_of : ((less ≡ distance) × (nearer ≡ best)) ⊎ ((less ≡ here) × (nearer ≡ node))
+  pub before : IsPairNotAbove less nearer distance best
+  pub one_more : IsPairNotAbove less nearer here node
+
+pub IsNearer-of : (one other nearer : MeasuredNode) → IsNearerOf one other nearer
+    → IsNearer one.distance one.node other.distance other.node nearer.distance nearer.node
+IsNearer-of one other nearer h = record { one_of = by_one h.one_of; before = h.before; one_more = h.one_more }
+  where
+    by_one : (nearer ≡ one) ⊎ (nearer ≡ other)
+        → ((nearer.distance ≡ one.distance) × (nearer.node ≡ one.node)) ⊎ ((nearer.distance ≡ other.distance) × (nearer.node ≡ other.node))
+    by_one (inl is) = inl (ap (λ (m : MeasuredNode). m.distance) is, ap (λ (m : MeasuredNode). m.node) is)
+    by_one (inr is) = inr (ap (λ (m : MeasuredNode). m.distance) is, ap (λ (m : MeasuredNode). m.node) is)
+
 -- node n, at q, is not nearer
 abbrev pub IsOutdone : Point → ℕ → ℕ → ℕ → Point → Type 0
-IsOutdone target distance best n q = IsNotFurther distance best (squared_distance q target) n
+IsOutdone target distance best n q = IsPairNotAbove distance best (squared_distance q target) n
 
-IsNotFurther-trans : (a i b j c k : ℕ) → IsNotFurther a i b j → IsNotFurther b j c k → IsNotFurther a i c k
-IsNotFurther-trans a i b j c k one two = record {
+IsPairNotAbove-trans : (a i b j c k : ℕ) → IsPairNotAbove a i b j → IsPairNotAbove b j c k → IsPairNotAbove a i c k
+IsPairNotAbove-trans a i b j c k one two = record {
   least = omega (arith, one.least, two.least);
   first = λ e.
       let one_key : b ≡ a = omega (arith, one.least, two.least, e) in
@@ -136,7 +153,7 @@ module _ (before now : Sight) (target : Point) (distance best : ℕ) (stack : Li
         ]
 
     still_outdone : (n : ℕ) (q : Point) → IsOutdone target distance best n q → IsOutdone target less nearer n q
-    still_outdone n q = IsNotFurther-trans less nearer distance best (squared_distance q target) n nearest.before
+    still_outdone n q = IsPairNotAbove-trans less nearer distance best (squared_distance q target) n nearest.before
 
     search_half : IsSearch before half target less (IsOutdone target less nearer) mid (GoesTo half target spot p right)
     search_half =

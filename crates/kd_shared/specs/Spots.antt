@@ -59,17 +59,6 @@ QueuesWithin before after queue put spot side square bound =
 
 -- ---- what is found
 
--- of two pairs of squared distance and number the first is not above the second
-pub record IsNotFurther (distance node further other : ℕ) : Type 0 where
-  pub least : distance ≤ further
-  pub first : further ≡ distance → node ≤ other
-
--- of the nearest so far and one more node the nearer one stays
-pub record IsNearer (distance best here node less nearer : ℕ) : Type 0 where
-  pub one_of : ((less ≡ distance) × (nearer ≡ best)) ⊎ ((less ≡ here) × (nearer ≡ node))
-  pub before : IsNotFurther less nearer distance best
-  pub one_more : IsNotFurther less nearer here node
-
 -- a node at this squared distance is noted, if that is within the bound
 abbrev pub Notes : List ℕ → List ℕ → ℕ → ℕ → ℕ → Type 0
 Notes found noted node distance bound =

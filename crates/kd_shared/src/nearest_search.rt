@@ -3,7 +3,7 @@
 ghost use Rattle.std.specs.Prelude.{◌≡◌, ◌⊎◌, length};
 ghost use Rattle.kd_shared.specs.Looking.{KeepsLists, OnlyLooks};
 ghost use Rattle.kd_shared.specs.Searches.{IsNearestSeen};
-ghost use Rattle.kd_shared.specs.Spots.{HasRoomFor, IsNearer, StacksChild};
+ghost use Rattle.kd_shared.specs.Spots.{HasRoomFor, StacksChild};
 ghost use Rattle.plan_model.specs.Geometry.Bounds.{IsBounded};
 ghost use Rattle.plan_words.specs.States.{BelongsTo};
 ghost use Rattle.step_core.specs.ViewTrees.{SeesNode, sight_in};
@@ -11,14 +11,7 @@ ghost use Rattle.step_core.specs.ViewTrees.{SeesNode, sight_in};
 use crate::squares::square;
 use plan_model::{MOST_NODES, Point};
 use plan_words::{Pass, Shared, Spot};
-use step_core::{distance_to_split, goes_right};
-
-/// A node and its squared distance from the target.
-#[derive(Clone, Copy)]
-struct Candidate {
-    node: u32,
-    distance: u64,
-}
+use step_core::{MeasuredNode, distance_to_split, goes_right};
 
 /// The node nearest to a point of those that the pass has seen with their points, at entry and at return; of equally near ones that
 /// of the least number, and in a tree of the start alone node 0. Each point that is at most as far is swept. No coordinate is above
@@ -35,10 +28,7 @@ pub fn nearest(shared: &Shared, pass: &mut Pass, p: Point) -> u32
     ensures nearest { IsNearestSeen (sight_in pass.old.view) (sight_in pass.new.view) p result }
 {
     let here = shared.point(pass, 0);
-    let mut best = Candidate {
-        node: 0,
-        distance: here.squared_distance(p),
-    };
+    let mut best = MeasuredNode::new(0, here, p);
     pass.clear_spots();
     pass.push_spot(Spot {
         node: 0,
@@ -52,13 +42,7 @@ pub fn nearest(shared: &Shared, pass: &mut Pass, p: Point) -> u32
         };
         if square(spot.gap) <= best.distance {
             let here = shared.point(pass, spot.node);
-            best = nearer(
-                best,
-                Candidate {
-                    node: spot.node,
-                    distance: here.squared_distance(p),
-                },
-            );
+            best = best.nearer(MeasuredNode::new(spot.node, here, p));
             let right = goes_right(spot.by_rows, here, p);
             let far = greater(spot.gap, distance_to_split(spot.by_rows, here, p));
             stack_child(shared, pass, spot, !right, far);
@@ -86,19 +70,6 @@ fn stack_child(shared: &Shared, pass: &mut Pass, spot: Spot, right: bool, gap: u
             point: spot.point,
         });
     }
-}
-
-/// The nearer of two nodes, of equally near ones that of the lesser number.
-fn nearer(best: Candidate, other: Candidate) -> Candidate
-    ensures { IsNearer best.distance best.node other.distance other.node result.distance result.node }
-{
-    if other.distance < best.distance {
-        return other;
-    }
-    if other.distance == best.distance && other.node < best.node {
-        return other;
-    }
-    best
 }
 
 fn greater(a: u32, b: u32) -> u32

@@ -1,14 +1,13 @@
 -- The nearest node of a near list is the nearest of all.
-use Rattle.std.proofs.Common.{◌≡◌, ◌⊎◌, ℕ, ◌*◌, ◌≤◌, Option, List, [], ◌∷◌, ◌++◌, arith, inl, inr, sym, ap, ◌∙◌, subst}
+use Rattle.std.proofs.Common.{◌≡◌, ℕ, ◌*◌, ◌≤◌, Option, List, [], ◌∷◌, ◌++◌, arith, inl, inr, sym, ap, ◌∙◌, subst}
 use Rattle.std.specs.Prelude.{All, Contains}
 use Rattle.std.proofs.lemmas.Bool.{cases_lt}
 use Rattle.std.proofs.lemmas.List.Elements.{All-contains, All-nil}
-use Rattle.kd_shared.specs.Spots.{IsNotFurther}
 use Rattle.kd_shared.specs.Searches.{SweepsWithin}
 use Rattle.kd_shared.proofs.SearchResults.{SweepsWithin-less}
 use Rattle.plan_model.specs.Runs.ClosedLaw.{mark_at}
 use Rattle.plan_model.specs.Geometry.Plane.{squared_distance}
-use Rattle.plan_model.specs.Trees.LeastPairs.{IsNotAbove}
+use Rattle.plan_model.specs.Trees.LeastPairs.{IsNotAbove, IsPairNotAbove}
 use Rattle.plan_model.specs.Trees.Nearness.{distance_to}
 use Rattle.plan_model.specs.Trees.PointsByNumber.{IsPresent, point_of}
 use Rattle.plan_model.specs.Geometry.Steering.{steered}
@@ -17,6 +16,8 @@ use Rattle.plan_model.proofs.LeastPairLaws.{IsNotAbove-lesser, IsNotAbove-refl, 
 use Rattle.plan_model.proofs.NewNodes.{StandsAt-present, point_of-stands}
 use Rattle.plan_model.proofs.SteeringLaws.{steered-near}
 use Rattle.plan_words.specs.States.{GoesOn}
+use Rattle.step_core.specs.MeasuredNodes.{IsNearerOf}
+use Rattle.step_core.specs.declared.measured_nodes.MeasuredNode.{MeasuredNode}
 use Rattle.step_core.specs.ViewTrees.{SeesPoint, sight_in}
 use Rattle.step_core.specs.Views.{tree_seen}
 use Rattle.step_core.specs.declared.views.View.{View}
@@ -24,10 +25,9 @@ use Rattle.tree_rewire.proofs.ChosenParents.{All-more}
 use Rattle.tree_rewire.proofs.SeenCosts.{stands_later}
 use Rattle.tree_rewire.specs.SeenCosts.{IsInReach}
 use Rattle.plan_work.specs.Extensions.{HasFilledNear, HasSteered, IsNearestOf, radius_in}
-use Rattle.plan_work.specs.declared.steering.Candidate.{Candidate}
 
 -- of two nodes the one that is not further has a pair that is not above
-pub IsNotAbove-further : (key : ℕ → ℕ) (m n distance further : ℕ) → distance ≡ key m → further ≡ key n → IsNotFurther distance m further n
+pub IsNotAbove-further : (key : ℕ → ℕ) (m n distance further : ℕ) → distance ≡ key m → further ≡ key n → IsPairNotAbove distance m further n
     → IsNotAbove key m n
 IsNotAbove-further key m n distance further near far h = record {
   least = omega (arith, near, far, h.least);
@@ -48,12 +48,12 @@ SeesPoint-of view m n at is here present =
     subst (λ q. SeesPoint view m q) (sym here)
     (subst (λ j. SeesPoint view j (point_of (tree_seen view).points n)) (sym is) (StandsAt-present (tree_seen view).points n present))
 
--- So far a candidate is the nearest, and its distance is kept.
-pub record IsBestOf (view : View) (p : Point) (near among : List ℕ) (best : Candidate) : Type 0 where
+-- So far a measured node is the nearest, and its distance is kept.
+pub record IsBestOf (view : View) (p : Point) (near among : List ℕ) (best : MeasuredNode) : Type 0 where
   pub nearest : IsNearestOf view p near among best.node best.at
   pub distance : best.distance ≡ distance_to p (tree_seen view).points best.node
 
-pub IsBestOf-alone : (view : View) (p : Point) (near among : List ℕ) (best : Candidate) (n : ℕ) → among ≡ [] ++ n ∷ [] → best.node ≡ n → Contains near n
+pub IsBestOf-alone : (view : View) (p : Point) (near among : List ℕ) (best : MeasuredNode) (n : ℕ) → among ≡ [] ++ n ∷ [] → best.node ≡ n → Contains near n
     → best.at ≡ point_of (tree_seen view).points n → best.distance ≡ distance_to p (tree_seen view).points n → IsPresent (tree_seen view).points n
     → IsBestOf view p near among best
 IsBestOf-alone view p near among best n alone is listed here distance present =
@@ -69,19 +69,18 @@ IsBestOf-alone view p near among best n alone is listed here distance present =
       distance = distance ∙ ap key (sym is);
     }
 
-module _ (view : View) (p : Point) (near among more : List ℕ) (best other nearer : Candidate) (n : ℕ) (more_is : more ≡ among ++ n ∷ [])
+module _ (view : View) (p : Point) (near among more : List ℕ) (best other nearer : MeasuredNode) (n : ℕ) (more_is : more ≡ among ++ n ∷ [])
     (h : IsBestOf view p near among best) (is : other.node ≡ n) (listed : Contains near n) (here : other.at ≡ point_of (tree_seen view).points n)
     (distance : other.distance ≡ distance_to p (tree_seen view).points n) (present : IsPresent (tree_seen view).points n)
-    (one_of : (nearer ≡ best) ⊎ (nearer ≡ other)) (before : IsNotFurther nearer.distance nearer.node best.distance best.node)
-    (one_more : IsNotFurther nearer.distance nearer.node other.distance other.node) where
+    (nearest : IsNearerOf best other nearer) where
   abbrev key : ℕ → ℕ
   key = distance_to p (tree_seen view).points
 
   others : other.distance ≡ key other.node
   others = distance ∙ ap key (sym is)
 
-  by_one : (P : Candidate → Type 0) → P best → P other → P nearer
-  by_one P one two = elim one_of [
+  by_one : (P : MeasuredNode → Type 0) → P best → P other → P nearer
+  by_one P one two = elim nearest.one_of [
     | inl e ↦ subst P (sym e) one
     | inr e ↦ subst P (sym e) two
   ]
@@ -96,9 +95,9 @@ module _ (view : View) (p : Point) (near among more : List ℕ) (best other near
       stands = by_one (λ c. SeesPoint view c.node c.at) h.nearest.stands (SeesPoint-of view other.node n other.at is here present);
       not_above =
           IsNotAbove-more key among more best.node n nearer.node more_is h.nearest.not_above
-          (IsNotAbove-further key nearer.node best.node nearer.distance best.distance own h.distance before)
+          (IsNotAbove-further key nearer.node best.node nearer.distance best.distance own h.distance nearest.before)
           (subst (IsNotAbove key nearer.node) is
-          (IsNotAbove-further key nearer.node other.node nearer.distance other.distance own others one_more));
+          (IsNotAbove-further key nearer.node other.node nearer.distance other.distance own others nearest.one_more));
     };
     distance = own;
   }

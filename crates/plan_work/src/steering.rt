@@ -1,8 +1,7 @@
 //! The steering towards a mark: the nearest node, the nodes near the point that it steers to, and whether the segment is clear.
 
-ghost use Rattle.std.specs.Prelude.{◌≡◌, ◌↔◌, ◌⊎◌, All, IfSome, IsSome, IsTrue};
+ghost use Rattle.std.specs.Prelude.{◌≡◌, ◌↔◌, All, IfSome, IsSome, IsTrue};
 ghost use Rattle.kd_shared.specs.Looking.{OnlyLooks};
-ghost use Rattle.kd_shared.specs.Spots.{IsNotFurther};
 ghost use Rattle.plan_model.specs.Geometry.Bounds.{IsBounded};
 ghost use Rattle.plan_model.specs.Spaces.Clearance.{Clear};
 ghost use Rattle.plan_model.specs.Trees.Nearness.{distance_to};
@@ -19,6 +18,7 @@ use edge_cost::{Radii, class, steer};
 use kd_shared::{near, nearest};
 use plan_model::Point;
 use plan_words::{Pass, Shared};
+use step_core::MeasuredNode;
 use swept_check::Clearing;
 
 /// The node that steers towards a mark, and where to.
@@ -30,14 +30,6 @@ pub(crate) struct Steering {
     pub(crate) from: Point,
     /// The point that it steers to.
     pub(crate) point: Point,
-}
-
-/// A node, where it stands, and its squared distance from a mark.
-#[derive(Clone, Copy)]
-struct Candidate {
-    node: u32,
-    at: Point,
-    distance: u64,
 }
 
 /// The steering towards the mark in hand.
@@ -83,7 +75,7 @@ fn fill_near(shared: &Shared, pass: &mut Pass, radii: &Radii, p: Point) -> u32
 
 /// The nearest node to a point among those on the near list, of equally near ones that of the least number. `None` if the list is
 /// empty. O(n) for n near nodes.
-fn nearest_listed(shared: &Shared, pass: &mut Pass, p: Point) -> Option<Candidate>
+fn nearest_listed(shared: &Shared, pass: &mut Pass, p: Point) -> Option<MeasuredNode>
     requires belongs { BelongsTo pass.old shared.now }
     requires lawful { IsLawfulView pass.old.view }
     requires bounded { IsBounded p }
@@ -100,13 +92,13 @@ fn nearest_listed(shared: &Shared, pass: &mut Pass, p: Point) -> Option<Candidat
     'others: for index in 1..count {
         let node = pass.near_node(index);
         let other = measured(shared, pass, p, node);
-        best = nearer(best, other);
+        best = best.nearer(other);
     }
     Some(best)
 }
 
 /// A node with its distance from a point.
-fn measured(shared: &Shared, pass: &mut Pass, p: Point, node: u32) -> Candidate
+fn measured(shared: &Shared, pass: &mut Pass, p: Point, node: u32) -> MeasuredNode
     requires belongs { BelongsTo pass.old shared.now }
     requires lawful { IsLawfulView pass.old.view }
     requires bounded { IsBounded p }
@@ -117,26 +109,7 @@ fn measured(shared: &Shared, pass: &mut Pass, p: Point, node: u32) -> Candidate
     ensures distance { result.distance ≡ distance_to p (tree_seen pass.old.view).points node }
 {
     let at = shared.point(pass, node);
-    Candidate {
-        node,
-        at,
-        distance: at.squared_distance(p),
-    }
-}
-
-/// The nearer of two nodes, of equally near ones that of the lesser number.
-fn nearer(best: Candidate, other: Candidate) -> Candidate
-    ensures one_of { (result ≡ best) ⊎ (result ≡ other) }
-    ensures before { IsNotFurther result.distance result.node best.distance best.node }
-    ensures one_more { IsNotFurther result.distance result.node other.distance other.node }
-{
-    if other.distance < best.distance {
-        return other;
-    }
-    if other.distance == best.distance && other.node < best.node {
-        return other;
-    }
-    best
+    MeasuredNode::new(node, at, p)
 }
 
 /// The steering towards the mark in hand, with the near list filled for the point that it comes to, and the class of the number of

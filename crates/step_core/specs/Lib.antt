@@ -8,6 +8,7 @@ pub mod GrownRuns
 pub mod ClearedWords
 pub mod PlacesOfWords
 pub mod RunWords
+pub mod MeasuredNodes
 pub mod KdSides
 pub mod KdWalks
 pub mod KdLinks

@@ -1,10 +1,13 @@
-use Rattle.std.proofs.Common.{◌+◌, not, [], ◌∷◌, ◌++◌, false, arith, refl, ap, ◌∙◌, subst, inl, inr}
+use Rattle.std.proofs.Common.{◌+◌, not, [], ◌∷◌, ◌++◌, false, arith, refl, sym, ap, ◌∙◌, subst, inl, inr}
+use Rattle.plan_model.specs.Geometry.Plane.{squared_distance}
 use Rattle.plan_words.specs.States.{PassState}
 use Rattle.plan_words.specs.declared.scratch.Spot.{Spot}
 use Rattle.step_core.specs.WordNames.Word.{PointOf}
-use Rattle.kd_shared.specs.Spots.{IsNearer}
+use Rattle.step_core.specs.declared.measured_nodes.MeasuredNode.{MeasuredNode}
 use Rattle.kd_shared.proofs.Looking.{LoadsPoint-point, SeesNode-later}
-use Rattle.kd_shared.proofs.NearestPasses.{IsSeekingPass-begins, IsSeekingPass-ends, IsSeekingPass-none, IsSeekingPass-skips, IsSeekingPass-visits}
+use Rattle.kd_shared.proofs.NearestSearch.{IsNearer, IsNearer-of}
+use Rattle.kd_shared.proofs.NearestPasses.{IsSeekingPass, IsSeekingPass-begins, IsSeekingPass-ends, IsSeekingPass-none, IsSeekingPass-skips}
+use Rattle.kd_shared.proofs.NearestPasses.{IsSeekingPass-visits}
 use Rattle.kd_shared.proofs.NearestPasses.{half_room, looked_room, popped_belongs, popped_lists, popped_looks, popped_nearest, popped_seen}
 use Rattle.kd_shared.proofs.PassLooks.{PassLooks-load}
 use Rattle.kd_shared.proofs.nearest_search.nearest.Goals as goal
@@ -20,8 +23,10 @@ visits-init c =
     let alone = c.push_spot.ensures
     ∙ ap (λ (s : PassState). record s { spots = s.spots ++ spot ∷ [] }) c.clear_spots.ensures.spots in
     record {
-      seeks = IsSeekingPass-begins c.args.shared.now c.args.pass.now c.point-here.new.pass c.push_spot.new.self c.args.p c.point-here.result
-          c.squared_distance.result spot first load c.squared_distance.ensures.value alone refl refl refl;
+      seeks = subst (λ (best : MeasuredNode). IsSeekingPass c.args.shared.now c.args.pass.now c.push_spot.new.self c.args.p best.distance best.node 0)
+          (sym c.new-best.ensures)
+          (IsSeekingPass-begins c.args.shared.now c.args.pass.now c.point-here.new.pass c.push_spot.new.self c.args.p c.point-here.result
+          (squared_distance c.point-here.result c.args.p) spot first load refl alone refl refl refl);
     }
 
 -- nothing waits
@@ -126,8 +131,9 @@ stack_child-requires-then-square-best-clause-room c =
     c.visits.invariant.seeks c.pop_spot.new.self c.pop_spot.ensures.others c.in-Some.spot c.in-Some.ensures.popped
     c.point-here-then-square-best.new.pass c.stack_child.new.pass c.point-here-then-square-best.result c.greater-far.result
     c.nearer-best.result.distance c.nearer-best.result.node c.goes_right-right.result load point
-    (subst (λ d. IsNearer c.visits.best.distance c.visits.best.node d c.in-Some.spot.node c.nearer-best.result.distance c.nearer-best.result.node)
-    c.squared_distance-then-square-best.ensures.value c.nearer-best.ensures)
+    (subst
+    (λ (m : MeasuredNode). IsNearer c.visits.best.distance c.visits.best.node m.distance m.node c.nearer-best.result.distance c.nearer-best.result.node)
+    c.new.ensures (IsNearer-of c.visits.best c.new.result c.nearer-best.result c.nearer-best.ensures))
     c.goes_right-right.ensures
     (elim c.greater-far.ensures [
       | inl e ↦ inl (omega (arith, e))
@@ -153,8 +159,9 @@ visits-preserved c =
                 w.point-here-then-square-best.new.pass w.stack_child.new.pass w.point-here-then-square-best.result w.greater-far.result
                 w.nearer-best.result.distance w.nearer-best.result.node w.goes_right-right.result load point
                 (subst
-                (λ d. IsNearer c.visits.best.distance c.visits.best.node d c.in-Some.spot.node w.nearer-best.result.distance w.nearer-best.result.node)
-                w.squared_distance-then-square-best.ensures.value w.nearer-best.ensures)
+                (λ (m : MeasuredNode).
+                IsNearer c.visits.best.distance c.visits.best.node m.distance m.node w.nearer-best.result.distance w.nearer-best.result.node)
+                w.new.ensures (IsNearer-of c.visits.best w.new.result w.nearer-best.result w.nearer-best.ensures))
                 w.goes_right-right.ensures
                 (elim w.greater-far.ensures [
                   | inl e ↦ inl (omega (arith, e))

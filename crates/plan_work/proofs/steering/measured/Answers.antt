@@ -1,5 +1,6 @@
 use Rattle.std.proofs.Common.{ap, ◌∙◌}
 use Rattle.plan_model.specs.Geometry.Plane.{squared_distance}
+use Rattle.step_core.specs.declared.measured_nodes.MeasuredNode.{MeasuredNode}
 use Rattle.tree_rewire.proofs.CostSteps.{PassSees-point}
 use Rattle.tree_rewire.proofs.SeenCosts.{point_later}
 use Rattle.plan_work.proofs.steering.measured.Goals as goal
@@ -11,12 +12,13 @@ returns-clause-steps c =
 
 pub returns-clause-at : goal.returns-clause-at
 returns-clause-at c =
-    point_later c.args.pass.now.view c.point-at.new.pass.view c.point-at.ensures.goes_on c.args.node c.point-at.result c.requires.present
+    ap (λ (m : MeasuredNode). m.at) c.new.ensures
+    ∙ point_later c.args.pass.now.view c.point-at.new.pass.view c.point-at.ensures.goes_on c.args.node c.point-at.result c.requires.present
     c.point-at.ensures.found
 
 pub returns-clause-distance : goal.returns-clause-distance
 returns-clause-distance c =
-    c.squared_distance.ensures.value
+    ap (λ (m : MeasuredNode). m.distance) c.new.ensures
     ∙ ap (λ q. squared_distance q c.args.p)
     (point_later c.args.pass.now.view c.point-at.new.pass.view c.point-at.ensures.goes_on c.args.node c.point-at.result c.requires.present
     c.point-at.ensures.found)

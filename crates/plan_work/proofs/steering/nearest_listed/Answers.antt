@@ -57,7 +57,7 @@ others-preserved c =
           (near_read (Contains near) near now.near c.others.index n same c.near_node-node.ensures (All-contains_itself near)) (new.at ∙ at)
           (new.distance ∙ ap (λ q. squared_distance q c.args.p) at)
           (near_read (IsPresent points) near now.near c.others.index n same c.near_node-node.ensures c.requires.present)
-          c.nearer-best.ensures.one_of c.nearer-best.ensures.before c.nearer-best.ensures.one_more;
+          c.nearer-best.ensures;
     }
 
 pub returns-clause-some : goal.returns-clause-some
