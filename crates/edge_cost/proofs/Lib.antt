@@ -1,4 +1,4 @@
 pub mod CostBounds
-pub mod CostLimits
+pub mod ReachedRoots
 pub mod RadiusFromRoot
 pub mod RootBounds

@@ -11,7 +11,7 @@ ghost use Rattle.std.specs.Prelude.{◌≡◌};
 ghost use Rattle.plan_model.specs.Geometry.Bounds.{IsBounded};
 
 mod classes;
-mod cost_limits;
+mod cost_bounds;
 mod costs;
 mod parents;
 mod radii;
@@ -19,7 +19,7 @@ mod roots;
 mod steering;
 
 pub use classes::class;
-pub use cost_limits::costs_less_through;
+pub use cost_bounds::costs_less_through;
 pub use costs::cost;
 pub use parents::Parent;
 pub use radii::Radii;

@@ -5,7 +5,7 @@ ghost use Rattle.plan_model.specs.Geometry.Bounds.{IsBounded};
 ghost use Rattle.plan_model.specs.Geometry.Cost.{cost_of};
 ghost use Rattle.plan_model.specs.Trees.LeastPairs.{IsNotAbove};
 
-use crate::cost_limits::{costs_at_most_through, costs_less_through};
+use crate::cost_bounds::{costs_at_most_through, costs_less_through};
 use crate::costs::cost;
 use plan_model::Point;
 

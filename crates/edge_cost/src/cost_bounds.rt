@@ -1,4 +1,4 @@
-//! Costs by way of a node, against a limit.
+//! Costs by way of a node, against a bound.
 
 ghost use Rattle.std.specs.Prelude.{◌↔◌, ◌+◌, ◌<◌, ◌≤◌, IsTrue};
 ghost use Rattle.plan_model.specs.Geometry.Cost.{cost_of};
@@ -23,17 +23,17 @@ pub fn costs_less_through(cost_to_come: u64, from: Point, to: Point, kept_cost: 
     kept_cost > 0 && costs_at_most_through(cost_to_come, from, to, kept_cost - 1)
 }
 
-/// The same with a limit that may be reached: whether `cost_to_come + cost(from, to) <= limit`.
-pub(crate) fn costs_at_most_through(cost_to_come: u64, from: Point, to: Point, limit: u64) -> bool
+/// The same with a bound that may be reached: whether `cost_to_come + cost(from, to) <= bound`.
+pub(crate) fn costs_at_most_through(cost_to_come: u64, from: Point, to: Point, bound: u64) -> bool
     requires from { IsBounded from }
     requires to { IsBounded to }
-    ensures { IsTrue result ↔ cost_to_come + cost_of from to ≤ limit }
+    ensures { IsTrue result ↔ cost_to_come + cost_of from to ≤ bound }
 {
-    if limit < cost_to_come {
+    if bound < cost_to_come {
         return false;
     }
-    // all limits of an edge above the bound have the same answer, and the square of the bound fits
-    let most = (limit - cost_to_come).min(COST_BOUND);
+    // all bounds of an edge above this one have the same answer, and its square fits
+    let most = (bound - cost_to_come).min(COST_BOUND);
     SQUARED_UNITS * from.squared_distance(to) <= most * most
 }
 
