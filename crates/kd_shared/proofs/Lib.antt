@@ -9,7 +9,6 @@ pub mod Looking
 pub mod PassLooks
 pub mod Finding
 pub mod PlacedNodes
-pub mod SeenStates
 pub mod LinkedSights
 pub mod NearestPasses
 pub mod NearPasses

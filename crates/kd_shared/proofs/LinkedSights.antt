@@ -26,8 +26,8 @@ use Rattle.step_core.proofs.PackedWords.{cost_in-tree_word, parent_in-tree_word}
 use Rattle.plan_words.proofs.HandSteps.{IsLinkedAt-counted, leads_seen}
 use Rattle.kd_shared.specs.Looking.{OnlyLooks}
 use Rattle.kd_shared.specs.Placings.{AddsHand, IsWordOfLink, SeesLinked, state_seen}
-use Rattle.kd_shared.proofs.Looking.{point_at-kept}
-use Rattle.kd_shared.proofs.SeenStates.{linked_points-seen}
+use Rattle.step_core.proofs.KeptPoints.{point_at-kept}
+use Rattle.step_core.proofs.SeenStates.{linked_points-seen}
 
 -- what holds of any hand holds of the one that there is
 pub IfSome-all : {Holds : Hand → Type 0} (held : Option Hand) → ((hand : Hand) → Holds hand) → IfSome held Holds

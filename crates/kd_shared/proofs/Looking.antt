@@ -1,28 +1,24 @@
 -- What calls that look at nodes leave of a pass, one after another, and what they show of it.
-use Rattle.std.proofs.Common.{◌≡◌, ℕ, ◌<◌, ◌≤◌, Bool, Option, Some, None, is_some, length, arith, refl, sym, ap, ◌∙◌, subst, inl, inr}
+use Rattle.std.proofs.Common.{◌≡◌, ℕ, ◌<◌, ◌≤◌, Bool, Option, Some, None, length, refl, sym, ap, ◌∙◌, subst, inl, inr}
 use Rattle.std.specs.Prelude.{◌≢◌, MatchOption}
-use Rattle.std.proofs.lemmas.Bool.{cases_lt}
 use Rattle.plan_model.specs.declared.geometry.Point.{Point}
-use Rattle.plan_model.specs.Trees.PointsByNumber.{point_at}
 use Rattle.plan_model.specs.Seen.Sights.{IsLaterMoment, KeepsSight}
 use Rattle.plan_model.proofs.SeenTreeLaws.{IsSeen-more}
 use Rattle.plan_words.specs.Claims.{SeesAsBefore}
 use Rattle.plan_words.specs.Nodes.{NamesChildOrPoint}
-use Rattle.plan_words.specs.States.{BelongsTo, GoesOn, HasWholeShare, PassState, SharedState}
+use Rattle.plan_words.specs.States.{GoesOn, HasWholeShare}
+use Rattle.plan_words.proofs.GoingOn.{GoesOn-trans}
 use Rattle.step_core.specs.LaterViews.{IsLater, IsLawfulView}
-use Rattle.step_core.specs.SeenWords.{seen_tree_of_words}
 use Rattle.step_core.specs.ViewSteps.{loaded}
 use Rattle.step_core.specs.ViewTrees.{SeesNode, SeesPoint, sight_in}
-use Rattle.step_core.specs.Views.{run_sizes, sees, tree_seen}
+use Rattle.step_core.specs.Views.{sees, tree_seen}
 use Rattle.step_core.specs.WordNames.{ChangesOnly, Word, Words, WritesWord}
 use Rattle.step_core.specs.WordNames.Word.{ChildOf, PointOf}
-use Rattle.step_core.specs.WordPlaces.{Sizes}
-use Rattle.step_core.specs.Words.{point_of_word}
 use Rattle.step_core.specs.declared.views.View.{View}
 use Rattle.step_core.proofs.LaterViews.{IsLater-refl}
 use Rattle.step_core.proofs.LawfulSights.{IsLaterMoment-later, KeepsSight-lawful}
 use Rattle.step_core.proofs.Looks.{same_name}
-use Rattle.step_core.proofs.SeenWords.{point_at-seen, seen-within}
+use Rattle.step_core.proofs.KeptPoints.{point_at-kept}
 use Rattle.kd_shared.specs.Loads.{FindsChild, LoadsChild, LoadsPoint}
 use Rattle.kd_shared.specs.Looking.{OnlyLooks}
 
@@ -37,11 +33,6 @@ OnlyLooks-refl view lawful = record {
   kept = record { crew = refl; most = refl; hand = refl };
   whole = λ all name. refl;
 }
-
--- the pass stays that of the same tree
-pub BelongsTo-later : (shared : SharedState) (before after : PassState) → after.table ≡ before.table → IsLater before.view after.view
-    → BelongsTo before shared → BelongsTo after shared
-BelongsTo-later shared before after same later h = record { table = same ∙ h.table; run = later.run ∙ h.run }
 
 -- ---- one load
 
@@ -66,28 +57,6 @@ OnlyLooks-loaded before after name word is goes_on others whole = record {
   };
   whole = whole;
 }
-
--- points that are seen by the same words are the same
-point_at-same : (sizes : Sizes) (one other : Words) (n : ℕ) → one (PointOf n) ≡ other (PointOf n)
-    → point_at (seen_tree_of_words sizes one).points n ≡ point_at (seen_tree_of_words sizes other).points n
-point_at-same sizes one other n same =
-    elim (cases_lt sizes.marks n) [
-      | inl past ↦ is_none one past ∙ sym (is_none other past)
-      | inr within ↦ point_at-seen sizes one n within ∙ ap point_of_word same ∙ sym (point_at-seen sizes other n within)
-    ]
-  where
-    is_none : (seen : Words) → sizes.marks < n → point_at (seen_tree_of_words sizes seen).points n ≡ None
-    is_none seen past = by_point (point_at (seen_tree_of_words sizes seen).points n) refl
-      where
-        by_point : (o : Option Point) → point_at (seen_tree_of_words sizes seen).points n ≡ o → point_at (seen_tree_of_words sizes seen).points n ≡ None
-        by_point None e = e
-        by_point (Some p) e = absurd (omega (arith, past, seen-within sizes seen n (ap is_some e)))
-
-pub point_at-kept : (before after : View) (n : ℕ) → IsLater before after → sees after (PointOf n) ≡ sees before (PointOf n)
-    → point_at (tree_seen after).points n ≡ point_at (tree_seen before).points n
-point_at-kept before after n later same =
-    point_at-same (run_sizes after.run) (sees after) (sees before) n same
-    ∙ ap (λ run. point_at (seen_tree_of_words (run_sizes run) (sees before)).points n) later.run
 
 module _ (before after : View) (n : ℕ) (goes_on : GoesOn before after) where
   pub later_moment : IsLaterMoment (sight_in before) (sight_in after)

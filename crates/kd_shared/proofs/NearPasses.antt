@@ -40,7 +40,7 @@ pub IsGatheringPass-begins : (shared : SharedState) (entry first now : PassState
     → IsGatheringPass shared entry now p r 0
 IsGatheringPass-begins shared entry first now p r spot passes load is node by_rows gap =
     subst (λ state. IsGatheringPass shared entry state p r 0) (sym is) (record {
-      belongs = record { table = passes.belongs.table; run = passes.belongs.run };
+      belongs = record { table = passes.belongs.table; run = passes.belongs.run; lawful = passes.belongs.lawful };
       looks = passes.looks;
       around = ap (λ (s : PassState). s.around) passes.view_alone;
       gathers = IsGathering-begins (sight_in entry.view) (sight_in first.view) p r spot (spot ∷ []) [] load node by_rows gap refl refl;
@@ -64,7 +64,9 @@ module _ (shared : SharedState) (entry now : PassState) (p : Point) (r visits : 
   -- the near list is sorted then
   module _ (sorted : PassState) (same : sorted ≡ record now { near = sorted.near }) where
     pub sorted_belongs : BelongsTo sorted shared
-    sorted_belongs = subst (λ (s : PassState). BelongsTo s shared) (sym same) (record { table = h.belongs.table; run = h.belongs.run })
+    sorted_belongs =
+        subst (λ (s : PassState). BelongsTo s shared) (sym same)
+        (record { table = h.belongs.table; run = h.belongs.run; lawful = h.belongs.lawful })
 
     pub sorted_looks : OnlyLooks entry.view sorted.view
     sorted_looks = subst (λ (s : PassState). OnlyLooks entry.view s.view) (sym same) h.looks
@@ -84,7 +86,7 @@ module _ (shared : SharedState) (entry now : PassState) (p : Point) (r visits : 
     pub IsGatheringPass-none : now.spots ≡ [] → now.spots ≡ taken.spots → HasGathered shared entry taken p r visits
     IsGatheringPass-none none is = record {
       pass = subst (λ state. IsGatheringPass shared entry state p r visits) (sym (same ∙ ap (λ xs. record now { spots = xs }) (sym is))) (record {
-        belongs = record { table = h.belongs.table; run = h.belongs.run };
+        belongs = record { table = h.belongs.table; run = h.belongs.run; lawful = h.belongs.lawful };
         looks = h.looks;
         around = h.around;
         gathers = h.gathers;

@@ -40,7 +40,7 @@ pub IsSeekingPass-begins : (shared : SharedState) (entry first now : PassState) 
     → IsSeekingPass shared entry now p distance 0 0
 IsSeekingPass-begins shared entry first now p here distance spot passes load distance_is is node by_rows gap =
     subst (λ state. IsSeekingPass shared entry state p distance 0 0) (sym is) (record {
-      belongs = record { table = passes.belongs.table; run = passes.belongs.run };
+      belongs = record { table = passes.belongs.table; run = passes.belongs.run; lawful = passes.belongs.lawful };
       looks = passes.looks;
       lists = record {
         table = ap (λ (s : PassState). s.table) passes.view_alone;
@@ -71,7 +71,9 @@ module _ (shared : SharedState) (entry now : PassState) (p : Point) (distance be
     view_same = ap (λ (s : PassState). s.view) same
 
     pub popped_belongs : BelongsTo popped shared
-    popped_belongs = subst (λ (s : PassState). BelongsTo s shared) (sym same) (record { table = h.belongs.table; run = h.belongs.run })
+    popped_belongs =
+        subst (λ (s : PassState). BelongsTo s shared) (sym same)
+        (record { table = h.belongs.table; run = h.belongs.run; lawful = h.belongs.lawful })
 
     pub popped_looks : OnlyLooks entry.view popped.view
     popped_looks = subst (OnlyLooks entry.view) (sym view_same) h.looks

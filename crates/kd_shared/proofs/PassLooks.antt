@@ -10,7 +10,8 @@ use Rattle.step_core.specs.WordNames.{ChangesOnly, Word, WritesWord}
 use Rattle.step_core.specs.WordNames.Word.{ChildOf}
 use Rattle.step_core.proofs.SeenByViews.{WritesWord-saw}
 use Rattle.kd_shared.specs.Looking.{PassLooks}
-use Rattle.kd_shared.proofs.Looking.{BelongsTo-later, OnlyLooks-loaded, same_words}
+use Rattle.kd_shared.proofs.Looking.{OnlyLooks-loaded, same_words}
+use Rattle.plan_words.proofs.GoingOn.{BelongsTo-later}
 
 -- one step that shows no word but that of a child or of a point
 pub PassLooks-step : (shared : SharedState) (before after : PassState) (name : Word) (word : ℕ) → BelongsTo before shared
@@ -20,7 +21,7 @@ pub PassLooks-step : (shared : SharedState) (before after : PassState) (name : W
 PassLooks-step shared before after name word belongs is goes_on others whole =
     let view_is : after.view ≡ loaded before.view name word = ap (λ (p : PassState). p.view) is in
     record {
-      belongs = BelongsTo-later shared before after (ap (λ (p : PassState). p.table) is) goes_on.later belongs;
+      belongs = BelongsTo-later shared before after (ap (λ (p : PassState). p.table) is) goes_on belongs;
       looks = OnlyLooks-loaded before.view after.view name word view_is goes_on others whole;
       view_alone = is ∙ ap (with_view before) (sym view_is);
     }

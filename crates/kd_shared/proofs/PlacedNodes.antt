@@ -12,8 +12,7 @@ use Rattle.step_core.specs.declared.views.Hand.{Hand}
 use Rattle.step_core.specs.declared.views.View.{View}
 use Rattle.kd_shared.specs.Looking.{GoesOnLooking, OnlyLooks, PassLooks}
 use Rattle.kd_shared.specs.Placings.{GoesOnPlacing, IsPlaced, IsSame, KeepsShare}
-use Rattle.kd_shared.proofs.Looking.{BelongsTo-later}
-use Rattle.plan_words.proofs.GoingOn.{GoesOn-trans}
+use Rattle.plan_words.proofs.GoingOn.{BelongsTo-later, GoesOn-trans}
 use Rattle.plan_words.proofs.HandSteps.{NamesNode-child}
 
 -- the hand of a pass that only looked
@@ -90,7 +89,7 @@ PassPlaces-links shared before after n side belongs held view goes_on others = b
     by_hand (Some hand) some_hand is =
         let view_is : after.view ≡ counted (linked before.view hand n side (last_fill after.view)) hand = ap (λ (p : PassState). p.view) is in
         record {
-          belongs = BelongsTo-later shared before after (ap (λ (p : PassState). p.table) is) goes_on.later belongs;
+          belongs = BelongsTo-later shared before after (ap (λ (p : PassState). p.table) is) goes_on belongs;
           goes_on = record { goes_on = goes_on; others = others };
           share = record { crew = ap (λ (v : View). v.crew) view_is; most = ap (λ (v : View). v.most) view_is };
           view_alone = is ∙ ap (with_view before) (sym view_is);

@@ -6,7 +6,6 @@ ghost use Rattle.kd_shared.specs.Searches.{AreNearSeen};
 ghost use Rattle.kd_shared.specs.Spots.{HasRoomFor, Notes, QueuesChild, QueuesWithin};
 ghost use Rattle.plan_model.specs.Geometry.Bounds.{IsBounded};
 ghost use Rattle.plan_words.specs.States.{BelongsTo};
-ghost use Rattle.step_core.specs.LaterViews.{IsLawfulView};
 ghost use Rattle.step_core.specs.ViewTrees.{SeesNode, sight_in};
 
 use crate::squares::square;
@@ -79,7 +78,6 @@ fn note(pass: &mut Pass, node: u32, distance: u64, most: u64)
 /// Queues the child on one side, unless the line of that side is farther than the radius.
 fn queue_unless_far(shared: &Shared, pass: &mut Pass, spot: Spot, right: bool, gap: u32, r: u32)
     requires belongs { BelongsTo pass.old shared.now }
-    requires lawful { IsLawfulView pass.old.view }
     requires seen { SeesNode pass.old.view spot.node }
     requires room { HasRoomFor (sight_in pass.old.view) (length pass.old.view.run.marks) spot right (length pass.old.spots) }
     ensures belongs { BelongsTo pass.new shared.now }

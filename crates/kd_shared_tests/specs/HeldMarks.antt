@@ -11,7 +11,6 @@ use Rattle.plan_words.specs.States.{BelongsTo, PassState, SharedState}
 use Rattle.kd_shared.specs.declared.placing.Placing.{Placing}
 use Rattle.kd_shared.specs.declared.placing.Placing.TheVariants.{Placed, Same}
 use Rattle.step_core.specs.GrownWords.{has_node}
-use Rattle.step_core.specs.LaterViews.{IsLawfulView}
 use Rattle.step_core.specs.Stages.{has_point}
 use Rattle.step_core.specs.ViewTrees.{SeesPoint}
 use Rattle.step_core.specs.Views.{sees, setup_in, tree_seen}
@@ -23,7 +22,6 @@ use Rattle.step_core.specs.declared.views.View.{View}
 -- a pass of the tree that has the mark in hand, which has come so far
 pub record HoldsMark (shared : SharedState) (k : ℕ) (stage : Stage) (pass : PassState) : Type 0 where
   pub belongs : BelongsTo pass shared
-  pub lawful : IsLawfulView pass.view
   pub hand : Hand
   pub held : pass.view.hand ≡ Some hand
   pub mark : hand.mark ≡ k

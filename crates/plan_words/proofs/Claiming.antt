@@ -20,10 +20,6 @@ use Rattle.plan_words.proofs.Scanning.{Scanned, Scanned-all, Scanned-more, left_
 
 -- ---- one load of the scan
 
-pub belongs_loaded : (pass : PassState) (shared : SharedState) (after : PassState) (g x : ℕ) → after ≡ with_view pass (loaded pass.view (Counter g) x)
-    → BelongsTo pass shared → BelongsTo after shared
-belongs_loaded pass shared after g x is belongs = subst (λ p. BelongsTo p shared) (sym is) (record { table = belongs.table; run = belongs.run })
-
 pub kept_loaded : (old : View) (pass after : PassState) (g x : ℕ) → after ≡ with_view pass (loaded pass.view (Counter g) x) → KeepsHand old pass.view
     → KeepsHand old after.view
 kept_loaded old pass after g x is kept = subst (λ p. KeepsHand old p.view) (sym is) (record { crew = kept.crew; most = kept.most; hand = kept.hand })
@@ -183,14 +179,6 @@ claim_nearer limit g c x first mid after some_strip to_mid to_after open_g other
     omega (arith, a, b, down, less)
 
 -- ---- the next try
-
-pub belongs_exchanged :
-    (mid after : PassState) (shared : SharedState) (g c limit x : ℕ) → x ≢ c
-    → after ≡ with_view mid (cond (x == c) (claimed mid.view g c limit) (loaded mid.view (Counter g) x)) → BelongsTo mid shared → BelongsTo after shared
-belongs_exchanged mid after shared g c limit x other is belongs =
-    let now : after ≡ with_view mid (loaded mid.view (Counter g) x) =
-    is ∙ ap (λ b. with_view mid (cond b (claimed mid.view g c limit) (loaded mid.view (Counter g) x))) (ne_eqb x c other) in
-    belongs_loaded mid shared after g x now belongs
 
 pub kept_exchanged :
     (old : View) (mid after : PassState) (g c limit x : ℕ) → x ≢ c

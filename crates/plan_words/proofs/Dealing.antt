@@ -53,7 +53,7 @@ module _ (opening : Opening) where
   }
 
   -- the law holds of the first view, and so parents are among the nodes
-  IsLawfulView-started : IsLawfulView (first_view opening)
+  pub IsLawfulView-started : IsLawfulView (first_view opening)
   IsLawfulView-started =
       IsLawfulView-world (run_of_opening opening) (sees (first_view opening)) (first_view opening ∷ []) 0 (first_view opening)
       HoldsWorld-started.world refl refl
@@ -124,10 +124,11 @@ module _ (shared : SharedState) (first : PassState) (w : ℕ) (pass : PassState)
   second-next low = ap second_alone (crew_here low)
 
   -- and gets a pass of its own
-  pub StandsFor-next : (after : PassState) → w < shared.workers → after ≡ with_view pass (parted pass.view) → StandsFor shared first (w + 1) after
-  StandsFor-next after low is =
+  pub StandsFor-next : (after : PassState) → w < shared.workers → BelongsTo after shared → after ≡ with_view pass (parted pass.view)
+      → StandsFor shared first (w + 1) after
+  StandsFor-next after low belongs is =
       subst (StandsFor shared first (w + 1)) (sym is) record {
-        belongs = record { table = stands.belongs.table; run = stands.belongs.run };
+        belongs = subst (λ p. BelongsTo p shared) is belongs;
         crew = ap without_second (crew_here low);
         most = stands.most;
         hand = stands.hand;
@@ -135,10 +136,11 @@ module _ (shared : SharedState) (first : PassState) (w : ℕ) (pass : PassState)
         lists = ap (λ p. with_view p (parted pass.view)) stands.lists;
       }
 
-  pub IsPassOf-next : (other : PassState) → w < shared.workers → other ≡ new_pass pass.table (worker_apart pass.view) → IsPassOf shared first w other
-  IsPassOf-next other low is =
+  pub IsPassOf-next : (other : PassState) → w < shared.workers → BelongsTo other shared → other ≡ new_pass pass.table (worker_apart pass.view)
+      → IsPassOf shared first w other
+  IsPassOf-next other low belongs is =
       subst (IsPassOf shared first w) (sym is)
-      (record { table = stands.belongs.table; run = stands.belongs.run }, second-next low, stands.most, refl, stands.seen, refl)
+      (subst (λ p. BelongsTo p shared) is belongs, second-next low, stands.most, refl, stands.seen, refl)
 
   -- once all others have one, it stands for worker 0 alone
   pub IsPassOf-first : shared.workers ≤ w → IsPassOf shared first 0 pass

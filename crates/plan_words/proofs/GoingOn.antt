@@ -1,6 +1,6 @@
 -- Steps of a pass, one after another.
-use Rattle.std.proofs.Common.{◌≡◌, ◌⊎◌, inl, inr, subst}
-use Rattle.plan_words.specs.States.{GoesOn}
+use Rattle.std.proofs.Common.{◌≡◌, ◌⊎◌, ◌∙◌, inl, inr, subst}
+use Rattle.plan_words.specs.States.{BelongsTo, GoesOn, PassState, SharedState}
 use Rattle.step_core.proofs.LaterViews.{IsLater-refl, IsLater-trans}
 use Rattle.step_core.specs.LaterViews.{IsLawfulView}
 use Rattle.step_core.specs.declared.views.View.{View}
@@ -22,3 +22,9 @@ HasGoneOn before after = (after ≡ before) ⊎ GoesOn before after
 pub GoesOn-more : (before mid after : View) → HasGoneOn before mid → GoesOn mid after → GoesOn before after
 GoesOn-more before mid after (inl same) then = subst (λ v. GoesOn v after) same then
 GoesOn-more before mid after (inr first) then = GoesOn-trans before mid after first then
+
+-- the pass stays that of the same tree
+pub BelongsTo-later : (shared : SharedState) (before after : PassState) → after.table ≡ before.table → GoesOn before.view after.view
+    → BelongsTo before shared → BelongsTo after shared
+BelongsTo-later shared before after same goes_on belongs =
+    record { table = same ∙ belongs.table; run = goes_on.later.run ∙ belongs.run; lawful = goes_on.lawful }

@@ -8,7 +8,7 @@ use Rattle.std.proofs.lemmas.List.{length-replicate}
 use Rattle.std.proofs.lemmas.Option.{same_Some}
 use Rattle.plan_model.specs.declared.limits.TheConstants.{MOST_MARKS, MOST_WORKERS}
 use Rattle.plan_model.specs.declared.records.Record.{Record}
-use Rattle.plan_words.specs.States.{BelongsTo, GoesOn, HasRoom, IsTied, MayClaim, PassState, SharedState, first_of, turn_of, with_view, worker_of}
+use Rattle.plan_words.specs.States.{BelongsTo, GoesOn, HasRoom, IsTied, MayClaim, PassState, SharedState, first_of, turn_of, worker_of}
 use Rattle.step_core.specs.LaterViews.{IsLawfulView}
 use Rattle.step_core.specs.ViewSteps.{finished_at, looker, one_turn_more, parted, second_alone, stepped, without_second, worker_apart}
 use Rattle.step_core.specs.PlacesOfWords.{sizes_in}
@@ -26,6 +26,7 @@ use Rattle.step_core.proofs.LaterViews.{IsLater-stepped}
 use Rattle.step_core.proofs.SeenTreesOfViews.{SeesTree-apart, SeesTree-looker, SeesTree-parted, SeesTree-stepped}
 use Rattle.step_core.proofs.WorldEmpties.{zero-read}
 use Rattle.step_core.proofs.WorldSplits.{goes_at, stays_at}
+use Rattle.plan_words.proofs.GoingOn.{BelongsTo-later}
 use Rattle.plan_words.proofs.FittingRecords.{last_fits, nearest_fits}
 
 -- ---- a pass with a mark in hand
@@ -86,13 +87,12 @@ entry_fits view hand entry lawful held worker turn may =
 
 -- once its record is stored, it may claim again
 pub MayClaim-finished :
-    (shared : SharedState) (pass : PassState) (then : View) (place word : ℕ) (hand : Hand) → BelongsTo pass shared → IsLawfulView pass.view
-    → pass.view.hand ≡ Some hand
-    → then ≡ finished_at pass.view place word → MayClaim shared (with_view pass then)
-MayClaim-finished shared pass then place word hand belongs lawful held is = record {
-  belongs = record { table = belongs.table; run = ap (λ v. v.run) is ∙ belongs.run };
+    (shared : SharedState) (pass after : PassState) (place word : ℕ) (hand : Hand) → BelongsTo pass shared → pass.view.hand ≡ Some hand
+    → after.table ≡ pass.table → GoesOn pass.view after.view → after.view ≡ finished_at pass.view place word → MayClaim shared after
+MayClaim-finished shared pass after place word hand belongs held same goes_on is = record {
+  belongs = BelongsTo-later shared pass after same goes_on belongs;
   part =
-      let has = HasMember-held pass.view hand lawful held in
+      let has = HasMember-held pass.view hand belongs.lawful held in
       let crew = ap (λ v. v.crew) is ∙ ap one_turn_more has.crew_is in
       subst (λ l. 0 < length l) (sym crew) (omega arith);
   idle = ap (λ v. v.hand) is;

@@ -44,10 +44,11 @@ pub record PassState : Type 0 where
 abbrev pub new_pass : TableId → View → PassState
 new_pass table view = record { table = table; view = view; spots = []; near = []; around = []; waits = false }
 
--- the pass was made or split from this very tree
+-- The pass was made or split from this very tree. What the law says of a view holds of that of each such pass.
 pub record BelongsTo (pass : PassState) (shared : SharedState) : Type 0 where
   pub table : pass.table ≡ shared.table
   pub run : pass.view.run ≡ run_in shared
+  pub lawful : IsLawfulView pass.view
 
 -- a pass of the tree that may claim a mark: it has a share, and nothing in hand
 pub record MayClaim (shared : SharedState) (pass : PassState) : Type 0 where

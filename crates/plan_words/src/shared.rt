@@ -138,6 +138,8 @@ impl Shared {
         ensures goes_on { OnOk result (GoesOn pass.old.view pass.new.view) }
         ensures unchanged { OnErr result (pass.new ≡ pass.old) }
         ensures right { IfOk result (λ other. other ≡ new_pass pass.old.table (looker pass.old.view)) }
+        ensures belongs { OnOk result (BelongsTo pass.new self.now) }
+        ensures belongs_too { IfOk result (λ other. BelongsTo other self.now) }
     {
         let pairs = pass.pairs.copy(self.alloc)?;
         let scratch = Scratch::new(self.alloc, self.places.marks() + 1)?;

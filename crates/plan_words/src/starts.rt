@@ -74,6 +74,7 @@ impl Shared {
         ensures workers { IfOk result (λ opened. opened.0.workers ≡ opening.workers) }
         ensures opening { IfOk result (λ opened. opened.0.opening ≡ opening.grown.limit) }
         ensures first { IfOk result (λ opened. opened.1 ≡ new_pass opened.0.table (first_view opening)) }
+        ensures belongs { IfOk result (λ opened. BelongsTo opened.1 opened.0) }
     {
         let (table, first) = table_of(alloc, &opening, turn)?;
         let Opening { grown, workers } = opening;
@@ -134,6 +135,8 @@ impl Shared {
         requires second { second_alone pass.old.view.crew ≡ record { worker = worker; turn = turn } ∷ [] }
         ensures left { OnOk result (pass.new ≡ with_view pass.old (parted pass.old.view)) }
         ensures right { IfOk result (λ other. other ≡ new_pass pass.old.table (worker_apart pass.old.view)) }
+        ensures belongs { OnOk result (BelongsTo pass.new self.now) }
+        ensures belongs_too { IfOk result (λ other. BelongsTo other self.now) }
     {
         let pairs = pass.pairs.copy(self.alloc)?;
         let scratch = Scratch::new(self.alloc, self.places.marks() + 1)?;

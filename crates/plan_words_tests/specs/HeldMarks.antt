@@ -4,7 +4,6 @@ use Rattle.plan_model.specs.Spaces.Clearance.{Clear}
 use Rattle.plan_model.specs.Geometry.Cost.{cost_of}
 use Rattle.plan_model.specs.declared.geometry.Point.{Point}
 use Rattle.plan_words.specs.States.{BelongsTo, PassState, SharedState}
-use Rattle.step_core.specs.LaterViews.{IsLawfulView}
 use Rattle.step_core.specs.ViewTrees.{SeesPoint}
 use Rattle.step_core.specs.Views.{sees, setup_in}
 use Rattle.step_core.specs.WordNames.Word.{TreeOf}
@@ -15,7 +14,6 @@ use Rattle.step_core.specs.declared.views.View.{View}
 -- a pass of the tree that has the mark in hand, which has come so far, with no other nearest node than the start
 pub record HoldsMark (shared : SharedState) (k : ℕ) (stage : Stage) (pass : PassState) : Type 0 where
   pub belongs : BelongsTo pass shared
-  pub lawful : IsLawfulView pass.view
   pub hand : Hand
   pub held : pass.view.hand ≡ Some hand
   pub mark : hand.mark ≡ k

@@ -38,6 +38,8 @@ pub mod WorldPairs
 pub mod WorldParts
 pub mod SawWords
 pub mod SeenViews
+pub mod KeptPoints
+pub mod SeenStates
 pub mod LinkedViews
 pub mod LawfulPairs
 pub mod LinkedCounts

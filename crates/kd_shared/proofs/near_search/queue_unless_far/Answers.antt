@@ -7,4 +7,4 @@ use Rattle.kd_shared.proofs.near_search.queue_unless_far.Goals as goal
 pub returns-else-gap-r-clause-queues : goal.returns-else-gap-r-clause-queues
 returns-else-gap-r-clause-queues c =
     inl (LeavesChild-beyond (sight_in c.args.pass.now.view) c.args.pass.now.spots c.args.pass.now.spots c.args.gap c.args.r
-    (KeepsSight-lawful c.args.pass.now.view c.requires.lawful) (omega (arith, c.if-gap-r.false)) refl)
+    (KeepsSight-lawful c.args.pass.now.view c.requires.belongs.lawful) (omega (arith, c.if-gap-r.false)) refl)

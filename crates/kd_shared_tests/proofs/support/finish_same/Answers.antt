@@ -5,5 +5,5 @@ use Rattle.kd_shared_tests.proofs.support.finish_same.Goals as goal
 
 pub finish-requires-clause-may : goal.finish-requires-clause-may
 finish-requires-clause-may c =
-    may_finish-same c.args.pass.now.view c.args.closest c.args.node c.unplaced-entry.result c.requires.holds.lawful c.requires.steers c.requires.seen
+    may_finish-same c.args.pass.now.view c.args.closest c.args.node c.unplaced-entry.result c.requires.holds.belongs.lawful c.requires.steers c.requires.seen
     (ap (λ (entry : Record). entry.nearest) c.unplaced-entry.ensures) (ap (λ (entry : Record). entry.outcome) c.unplaced-entry.ensures)

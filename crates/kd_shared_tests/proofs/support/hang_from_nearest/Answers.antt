@@ -14,7 +14,7 @@ use Rattle.kd_shared_tests.proofs.SteeredMarks.{HangsBelow-hung, MayHang-steered
 use Rattle.kd_shared_tests.proofs.support.hang_from_nearest.Goals as goal
 
 pub point-from-requires-clause-seen_node : goal.point-from-requires-clause-seen_node
-point-from-requires-clause-seen_node c = sees_nearest c.args.pass.now.view c.args.closest c.requires.holds.lawful c.requires.steers
+point-from-requires-clause-seen_node c = sees_nearest c.args.pass.now.view c.args.closest c.requires.holds.belongs.lawful c.requires.steers
 
 pub cost-requires-clause-to : goal.cost-requires-clause-to
 cost-requires-clause-to c =

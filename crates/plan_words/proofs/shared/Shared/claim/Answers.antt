@@ -1,7 +1,7 @@
 use Rattle.std.proofs.Common.{◌≢◌, ◌<◌, inl, inr, refl, ap, sym, subst, ◌∙◌, arith, le_trans, length}
-use Rattle.plan_words.proofs.Claiming.{IfNone-any, IsClaimed-exchanged, KeepsHand-trans, belongs_exchanged, counters_changed, counters_twice}
+use Rattle.plan_words.proofs.Claiming.{IfNone-any, IsClaimed-exchanged, KeepsHand-trans, counters_changed, counters_twice}
 use Rattle.plan_words.proofs.Claiming.{claim_nearer, kept_exchanged, loaded_before, loaded_since, view_alone-more}
-use Rattle.plan_words.proofs.GoingOn.{GoesOn-more, GoesOn-trans}
+use Rattle.plan_words.proofs.GoingOn.{BelongsTo-later, GoesOn-more, GoesOn-trans}
 use Rattle.plan_words.proofs.WholeClaims.{HasWholeShare-kept, IsLeastOpen-first, RaisesCounter-exchanged, whole_twice}
 use Rattle.plan_words.proofs.shared.Shared.claim.Goals as goal
 use Rattle.plan_words.specs.Claims.{AllFull, IsClaimed, IsLeastOpen, IsOpen, KeepsHand, RaisesCounter, SeesAsBefore}
@@ -81,7 +81,7 @@ tries-preserved c =
     let other : c.exchange.result ≢ c.in_ok-next.next.round = λ e. c.if-exchange-from.false (e ∙ sym c.from.ensures) in
     let next = c.in_ok-next.next in
     record {
-      belongs = belongs_exchanged _ _ _ next.strip next.round c.args.limit c.exchange.result other c.exchange.ensures.view c.first_open.ensures.belongs;
+      belongs = BelongsTo-later _ _ _ (ap (λ p. p.table) c.exchange.ensures.view) c.exchange.ensures.goes_on c.first_open.ensures.belongs;
       kept = kept_exchanged _ _ _ next.strip next.round c.args.limit c.exchange.result other c.exchange.ensures.view
           (KeepsHand-trans _ _ _ c.tries.invariant.kept c.first_open.ensures.kept);
       later = IsLater-trans _ _ _ (IsLater-trans _ _ _ c.tries.invariant.later c.first_open.ensures.goes_on.later) c.exchange.ensures.goes_on.later;
@@ -162,8 +162,7 @@ exchange-requires-clause-low c =
 
 pub returns-then-exchange-from-clause-belongs : goal.returns-then-exchange-from-clause-belongs
 returns-then-exchange-from-clause-belongs c =
-    let belongs = c.first_open.ensures.belongs in
-    record { table = ap (λ p. p.table) c.exchange.ensures.view ∙ belongs.table; run = c.exchange.ensures.goes_on.later.run ∙ belongs.run }
+    BelongsTo-later _ _ _ (ap (λ p. p.table) c.exchange.ensures.view) c.exchange.ensures.goes_on c.first_open.ensures.belongs
 
 pub mark_of-requires-clause-strip : goal.mark_of-requires-clause-strip
 mark_of-requires-clause-strip c =

@@ -6,7 +6,7 @@ use Rattle.plan_words.proofs.Owning.{goes_on_told, may_finish_here, same_run, sa
 use Rattle.plan_words.proofs.Tying.{HasMember-held, MayClaim-finished, entry_fits, turn_fits}
 use Rattle.plan_words.proofs.ToldHands.{none_held, with_view_told_hand}
 use Rattle.plan_words.proofs.shared.Shared.finish.Goals as goal
-use Rattle.plan_words.specs.States.{BelongsTo, turn_of, turned, worker_of}
+use Rattle.plan_words.specs.States.{turn_of, turned, worker_of}
 use Rattle.std.specs.Prelude.{IfSome}
 use Rattle.step_core.specs.ViewSteps.{finished, finished_at}
 use Rattle.step_core.specs.SeenRecords.{MayRecord}
@@ -90,7 +90,8 @@ returns-clause-goes_on c = goes_on_told _ _ _ _ c.pass.view_is c.store.ensures.2
 
 pub returns-clause-may_claim : goal.returns-clause-may_claim
 returns-clause-may_claim c =
-    let belongs = subst (λ p. BelongsTo p c.args.self.now) (sym c.pass.view_is) c.requires.belongs in
-    let may = MayClaim-finished c.args.self.now _ c.store.new.seat.me.0 c.record-place.result c.pack_mark-word.result c.in-Some.hand belongs
-    c.pass.invariant.1.lawful (sym c.pass.invariant.1.hand_is ∙ c.in-Some.is) c.store.ensures.2.view_is in
-    record { belongs = record { table = c.store.ensures.0 ∙ belongs.table; run = may.belongs.run }; part = may.part; idle = may.idle }
+    let place = c.record-place.result in
+    let word = c.pack_mark-word.result in
+    MayClaim-finished c.args.self.now c.args.pass.now _ place word c.in-Some.hand c.requires.belongs
+    (ap (λ p. p.view.hand) (sym c.pass.view_is) ∙ sym c.pass.invariant.1.hand_is ∙ c.in-Some.is) (c.store.ensures.0 ∙ ap (λ p. p.table) c.pass.view_is)
+    (returns-clause-goes_on c) (c.store.ensures.2.view_is ∙ ap (λ p. finished_at p.view place word) c.pass.view_is)

@@ -1,6 +1,6 @@
 use Rattle.std.proofs.Common.{refl, ap, arith, inl, inr}
-use Rattle.plan_words.proofs.Claiming.{belongs_loaded, best_strip, counters_changed, kept_loaded, loaded_more, scan_ends, scan_more, view_alone-more}
-use Rattle.plan_words.proofs.GoingOn.{GoesOn-more}
+use Rattle.plan_words.proofs.Claiming.{best_strip, counters_changed, kept_loaded, loaded_more, scan_ends, scan_more, view_alone-more}
+use Rattle.plan_words.proofs.GoingOn.{BelongsTo-later, GoesOn-more}
 use Rattle.plan_words.proofs.WholeClaims.{whole_loaded}
 use Rattle.plan_words.proofs.shared.Shared.first_open.Goals as goal
 use Rattle.step_core.proofs.LaterViews.{IsLater-refl, IsLater-trans}
@@ -31,7 +31,7 @@ loop-strip-preserved c =
     let strips = ap (λ s. s.task.scene.strips) c.self.view_is in
     let workers = ap (λ s. s.workers) c.self.view_is in
     record {
-      belongs = belongs_loaded _ _ _ _ _ told.view kept.belongs;
+      belongs = BelongsTo-later _ _ _ (ap (λ p. p.table) told.view) told.goes_on kept.belongs;
       kept = kept_loaded _ _ _ _ _ told.view kept.kept;
       later = IsLater-trans _ _ _ kept.later told.goes_on.later;
       goes_on = inr (elim kept.goes_on [

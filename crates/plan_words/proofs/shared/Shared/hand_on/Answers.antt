@@ -36,3 +36,17 @@ invariant_of-result c =
       subst (HasPairs _) (sym c.in_ok-pairs.ensures)
           (HasPairs-kept _ _ _ (ap (λ m. m.0.run) told) (λ n. ap (λ m. sees m.0 (TreeOf n)) told) c.pass.invariant.3),
     )
+
+pub returns-clause-belongs : goal.returns-clause-belongs
+returns-clause-belongs c = record {
+  table = c.split_seat-seat.ensures.0 ∙ ap (λ p. p.table) c.pass.view_is ∙ c.requires.belongs.table;
+  run = ap (λ m. m.0.run) c.split_seat-seat.ensures.2 ∙ ap (λ p. p.view.run) c.pass.view_is ∙ c.requires.belongs.run;
+  lawful = (invariant_of-pass c).1.lawful;
+}
+
+pub returns-clause-belongs_too : goal.returns-clause-belongs_too
+returns-clause-belongs_too c = record {
+  table = c.split_seat-seat.ensures.3 ∙ ap (λ p. p.table) c.pass.view_is ∙ c.requires.belongs.table;
+  run = ap (λ m. m.0.run) c.split_seat-seat.ensures.4 ∙ ap (λ p. p.view.run) c.pass.view_is ∙ c.requires.belongs.run;
+  lawful = (invariant_of-result c).1.lawful;
+}

@@ -32,9 +32,10 @@ loop-worker-preserved c =
     let told = c.in_ok-pass.ensures in
     let other = c.in_ok-pass.pass in
     let pushed = c.in_ok-push.ensures.items in
-    let own = IsPassOf-next c.args.self.now c.args.first.now c.loop-worker.worker c.loop-worker.first kept.stands other low told.right in
+    let own = IsPassOf-next c.args.self.now c.args.first.now c.loop-worker.worker c.loop-worker.first kept.stands other low told.belongs_too told.right in
     record {
-      stands = StandsFor-next c.args.self.now c.args.first.now c.loop-worker.worker c.loop-worker.first kept.stands c.hand_on.new.pass low told.left;
+      stands = StandsFor-next c.args.self.now c.args.first.now c.loop-worker.worker c.loop-worker.first kept.stands c.hand_on.new.pass low
+          told.belongs told.left;
       counted = omega (arith, ap (λ l. length l) pushed, length-append c.loop-worker.passes.items (other ∷ []), kept.counted);
       passes =
           each_after-push (IsPassOf c.args.self.now c.args.first.now) c.loop-worker.passes.items c.push.new.self.items other c.loop-worker.worker

@@ -87,6 +87,7 @@ returns-clause-belongs c = record {
   table = c.load-count.ensures.0 ∙ c.join_seat.ensures.0 ∙ ap (λ p. p.table) c.pass.view_is ∙ c.requires.belongs.table;
   run = ap (λ v. v.run) c.load-count.ensures.2.told.view_is ∙ ap (λ m. m.0.run) c.join_seat.ensures.2 ∙ ap (λ p. p.view.run) c.pass.view_is
       ∙ c.requires.belongs.run;
+  lawful = (returns-clause-goes_on c).lawful;
 }
 
 pub returns-clause-idle : goal.returns-clause-idle

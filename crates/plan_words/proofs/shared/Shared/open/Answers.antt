@@ -1,8 +1,9 @@
 use Rattle.std.proofs.Common.{◌∙◌, ap, subst, sym}
-use Rattle.plan_words.proofs.Dealing.{IsTableOf-started}
+use Rattle.plan_words.proofs.Dealing.{IsLawfulView-started, IsTableOf-started}
 use Rattle.plan_words.proofs.shared.Shared.open.Goals as goal
 use Rattle.plan_words.specs.States.{IsTableOf}
 use Rattle.step_core.specs.Views.{run_of}
+use Rattle.step_core.specs.LaterViews.{IsLawfulView}
 
 pub invariant_of-shared : goal.invariant_of-shared
 invariant_of-shared c =
@@ -15,3 +16,15 @@ invariant_of-shared c =
     (sym given.limit)
     (IsTableOf-started c.args.opening table.table_id table.key c.places-places.result laid.words laid.slots laid.key
     (c.places-places.ensures ∙ ap (λ words. words.places) given.words)))
+
+pub returns-clause-belongs : goal.returns-clause-belongs
+returns-clause-belongs c =
+    let first = c.in_ok-table.ensures.first in
+    let given = c.into_words-task.ensures in
+    let opening = c.args.opening in
+    record {
+      table = ap (λ p. p.table) first;
+      run = ap (λ p. p.view.run) first ∙ ap (λ task. run_of task opening.workers opening.grown.limit) (sym given.task)
+          ∙ ap (run_of c.into_words-task.result.0 opening.workers) (sym given.limit);
+      lawful = subst (λ p. IsLawfulView p.view) (sym first) (IsLawfulView-started opening);
+    }

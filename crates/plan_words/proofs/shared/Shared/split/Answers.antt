@@ -1,4 +1,5 @@
 use Rattle.std.proofs.Common.{◌+◌, None, ap, subst, sym, ◌∙◌}
+use Rattle.plan_words.proofs.GoingOn.{BelongsTo-later}
 use Rattle.plan_words.proofs.KeptPairs.{HasPairs-kept}
 use Rattle.plan_words.proofs.Owning.{goes_on_told, may_look_here, same_run, same_table}
 use Rattle.plan_words.proofs.Tying.{GoesOn-stepped, HasRoom-kept, HasRoom-new, IsTied-looker, IsTied-stepped}
@@ -37,3 +38,14 @@ invariant_of-pass c =
 pub returns-clause-goes_on : goal.returns-clause-goes_on
 returns-clause-goes_on c =
     goes_on_told _ _ _ _ c.pass.view_is (ap (λ m. m.0) c.split_seat-seat.ensures.2) (GoesOn-stepped _ c.pass.invariant.1.lawful)
+
+pub returns-clause-belongs : goal.returns-clause-belongs
+returns-clause-belongs c =
+    BelongsTo-later _ c.args.pass.now _ (c.split_seat-seat.ensures.0 ∙ ap (λ p. p.table) c.pass.view_is) (returns-clause-goes_on c) c.requires
+
+pub returns-clause-belongs_too : goal.returns-clause-belongs_too
+returns-clause-belongs_too c = record {
+  table = c.split_seat-seat.ensures.3 ∙ ap (λ p. p.table) c.pass.view_is ∙ c.requires.table;
+  run = ap (λ m. m.0.run) c.split_seat-seat.ensures.4 ∙ ap (λ p. p.view.run) c.pass.view_is ∙ c.requires.run;
+  lawful = (invariant_of-result c).1.lawful;
+}
