@@ -23,8 +23,8 @@ use Rattle.step_core.specs.Views.{setup_in, tree_seen}
 use Rattle.step_core.specs.declared.views.View.{View}
 use Rattle.step_core.proofs.SeenViews.{IsPresent-later}
 use Rattle.tree_rewire.specs.Choices.{IsBetter}
-use Rattle.tree_rewire.specs.SeenCosts.{IsInReach, NamesNothing, SeesAnew, SeesPair, cost_seen, cost_through}
-use Rattle.tree_rewire.proofs.CostSteps.{cost_through-same, point_of-same}
+use Rattle.tree_rewire.specs.SeenCosts.{IsInReach, NamesNothing, SeesAnew, SeesPair, cost_seen, seen_cost_through}
+use Rattle.tree_rewire.proofs.CostSteps.{seen_cost_through-same, point_of-same}
 use Rattle.tree_rewire.proofs.SeenCosts.{point_later}
 
 -- what holds of all on a list holds of the one that is read
@@ -55,23 +55,23 @@ All-more P ns more n e all here = subst (All P) (sym e) (All-push P ns n all her
 
 -- the cost through a node, by its cost seen and its point that was loaded
 pub read_through : (before after : View) (p from : Point) (n cost : ℕ) → GoesOn before after → IsPresent (tree_seen before).points n
-    → SeesPoint after n from → cost ≡ cost_seen before n → cost + cost_of from p ≡ cost_through before p n
+    → SeesPoint after n from → cost ≡ cost_seen before n → cost + cost_of from p ≡ seen_cost_through before p n
 read_through before after p from n cost goes_on present found cost_is =
     omega (arith, cost_is, ap (λ q. cost_of q p) (point_later before after goes_on n from present found))
 
 -- ---- if no word is seen anew, all is as it was
 
 module _ (space : ConfigurationSpace) (before after : View) (same : SeesAnew NamesNothing before after) (p : Point) where
-  IsNotAbove-before : (m n : ℕ) → IsNotAbove (cost_through after p) m n → IsNotAbove (cost_through before p) m n
+  IsNotAbove-before : (m n : ℕ) → IsNotAbove (seen_cost_through after p) m n → IsNotAbove (seen_cost_through before p) m n
   IsNotAbove-before m n h = record {
-    least = omega (arith, h.least, cost_through-same before after same p m, cost_through-same before after same p n);
-    first = λ e. h.first (omega (arith, e, cost_through-same before after same p m, cost_through-same before after same p n));
+    least = omega (arith, h.least, seen_cost_through-same before after same p m, seen_cost_through-same before after same p n);
+    first = λ e. h.first (omega (arith, e, seen_cost_through-same before after same p m, seen_cost_through-same before after same p n));
   }
 
-  IsNotAbove-after : (m n : ℕ) → IsNotAbove (cost_through before p) m n → IsNotAbove (cost_through after p) m n
+  IsNotAbove-after : (m n : ℕ) → IsNotAbove (seen_cost_through before p) m n → IsNotAbove (seen_cost_through after p) m n
   IsNotAbove-after m n h = record {
-    least = omega (arith, h.least, cost_through-same before after same p m, cost_through-same before after same p n);
-    first = λ e. h.first (omega (arith, e, cost_through-same before after same p m, cost_through-same before after same p n));
+    least = omega (arith, h.least, seen_cost_through-same before after same p m, seen_cost_through-same before after same p n);
+    first = λ e. h.first (omega (arith, e, seen_cost_through-same before after same p m, seen_cost_through-same before after same p n));
   }
 
   pub clear_before : (n : ℕ) → Clear space (point_of (tree_seen after).points n) p → Clear space (point_of (tree_seen before).points n) p
@@ -84,7 +84,7 @@ module _ (space : ConfigurationSpace) (before after : View) (same : SeesAnew Nam
   IsBetter-before : (best : Parent) (n : ℕ) (better : Parent) → IsBetter space after p best n better → IsBetter space before p best n better
   IsBetter-before best n better (inl wins) = inl (record {
     node = wins.node;
-    cost = wins.cost ∙ cost_through-same before after same p n;
+    cost = wins.cost ∙ seen_cost_through-same before after same p n;
     clear = clear_before n wins.clear;
     not_above = IsNotAbove-before n best.node wins.not_above;
   })
@@ -94,8 +94,8 @@ module _ (space : ConfigurationSpace) (before after : View) (same : SeesAnew Nam
   })
 
   -- the best then is so still
-  pub IsFirstLeast-after : (among : List ℕ) (m : ℕ) → IsFirstLeast (cost_through before p) (IsOpenTo space (tree_seen before).points p among) m
-      → IsFirstLeast (cost_through after p) (IsOpenTo space (tree_seen after).points p among) m
+  pub IsFirstLeast-after : (among : List ℕ) (m : ℕ) → IsFirstLeast (seen_cost_through before p) (IsOpenTo space (tree_seen before).points p among) m
+      → IsFirstLeast (seen_cost_through after p) (IsOpenTo space (tree_seen after).points p among) m
   IsFirstLeast-after among m h = record {
     member = record { among = h.member.among; clear = clear_after m h.member.clear };
     not_above = λ i own. IsNotAbove-after m i (h.not_above i (record { among = own.among; clear = clear_before i own.clear }));
@@ -103,20 +103,20 @@ module _ (space : ConfigurationSpace) (before after : View) (same : SeesAnew Nam
 
   -- the better of the best so far and one node more is the best of all these
   pub IsLeastParent-better : (among more : List ℕ) (n : ℕ) (best better : Parent) → more ≡ among ++ n ∷ []
-      → IsLeastParent (cost_through before p) (IsOpenTo space (tree_seen before).points p among) best → IsBetter space after p best n better
-      → IsLeastParent (cost_through before p) (IsOpenTo space (tree_seen before).points p more) better
+      → IsLeastParent (seen_cost_through before p) (IsOpenTo space (tree_seen before).points p among) best → IsBetter space after p best n better
+      → IsLeastParent (seen_cost_through before p) (IsOpenTo space (tree_seen before).points p more) better
   IsLeastParent-better among more n best better e h one = by_case (IsBetter-before best n better one)
     where
-      by_case : IsBetter space before p best n better → IsLeastParent (cost_through before p) (IsOpenTo space (tree_seen before).points p more) better
+      by_case : IsBetter space before p best n better → IsLeastParent (seen_cost_through before p) (IsOpenTo space (tree_seen before).points p more) better
       by_case (inl wins) = record {
-        least = subst (IsFirstLeast (cost_through before p) (IsOpenTo space (tree_seen before).points p more)) (sym wins.node)
-            (IsFirstLeast-takes space (tree_seen before).points p (cost_through before p) among more n best.node e wins.clear wins.not_above h.least);
-        cost = wins.cost ∙ ap (cost_through before p) (sym wins.node);
+        least = subst (IsFirstLeast (seen_cost_through before p) (IsOpenTo space (tree_seen before).points p more)) (sym wins.node)
+            (IsFirstLeast-takes space (tree_seen before).points p (seen_cost_through before p) among more n best.node e wins.clear wins.not_above h.least);
+        cost = wins.cost ∙ ap (seen_cost_through before p) (sym wins.node);
       }
       by_case (inr stays) = record {
-        least = subst (λ (b : Parent). IsFirstLeast (cost_through before p) (IsOpenTo space (tree_seen before).points p more) b.node) (sym stays.same)
-            (IsFirstLeast-keeps space (tree_seen before).points p (cost_through before p) among more n best.node e stays.not_above h.least);
-        cost = ap (λ (b : Parent). b.cost) stays.same ∙ h.cost ∙ ap (λ (b : Parent). cost_through before p b.node) (sym stays.same);
+        least = subst (λ (b : Parent). IsFirstLeast (seen_cost_through before p) (IsOpenTo space (tree_seen before).points p more) b.node) (sym stays.same)
+            (IsFirstLeast-keeps space (tree_seen before).points p (seen_cost_through before p) among more n best.node e stays.not_above h.least);
+        cost = ap (λ (b : Parent). b.cost) stays.same ∙ h.cost ∙ ap (λ (b : Parent). seen_cost_through before p b.node) (sym stays.same);
       }
 
 -- ---- the new node may hang below the best
@@ -142,7 +142,7 @@ IsInReach-later before after p n goes_on h =
 
 pub IsCostBelow-best : (shared : SharedState) (before after : View) (p : Point) (among : List ℕ) (m cost : ℕ) → after.run ≡ run_in shared
     → GoesOn before after → All (IsInReach before p) among → All (SeesPair after) among
-    → IsOpenTo (space_of shared.task.scene) (tree_seen after).points p among m → cost ≡ cost_through after p m → IsCostBelow after p m cost
+    → IsOpenTo (space_of shared.task.scene) (tree_seen after).points p among m → cost ≡ seen_cost_through after p m → IsCostBelow after p m cost
 IsCostBelow-best shared before after p among m cost own goes_on reach pairs is_open cost_is =
     let here = IsInReach-later before after p m goes_on (All-contains (IsInReach before p) among m reach is_open.among) in
     record {

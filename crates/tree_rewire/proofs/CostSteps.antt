@@ -6,7 +6,7 @@ use Rattle.plan_model.specs.Geometry.Cost.{cost_of}
 use Rattle.plan_model.specs.Trees.PointsByNumber.{IsPresent, point_of}
 use Rattle.plan_words.specs.States.{BelongsTo, GoesOn, PassState, SharedState, with_view}
 use Rattle.plan_words.proofs.Claiming.{KeepsHand-trans}
-use Rattle.plan_words.proofs.GoingOn.{GoesOn-refl, GoesOn-trans}
+use Rattle.plan_words.proofs.GoingOn.{BelongsTo-later, GoesOn-refl, GoesOn-trans}
 use Rattle.step_core.specs.LaterViews.{IsLawfulView}
 use Rattle.step_core.specs.ViewSteps.{loaded, lowered, saw}
 use Rattle.step_core.proofs.SeenByViews.{WritesWord-looked}
@@ -16,8 +16,8 @@ use Rattle.step_core.specs.WordNames.{Word, WritesWord}
 use Rattle.step_core.specs.WordNames.Word.{ChildOf, Count, Counter, FirstOf, PointOf, RecordOf, TreeOf}
 use Rattle.step_core.specs.Words.{cost_in}
 use Rattle.step_core.specs.declared.views.View.{View}
-use Rattle.kd_shared.proofs.Looking.{BelongsTo-later, point_at-kept}
-use Rattle.tree_rewire.specs.SeenCosts.{IsLoadedSince, NamesNothing, NamesPoint, NamesTreeOrPoint, NamesTree, PassLowers, PassSees, SeesAnew, cost_through}
+use Rattle.step_core.proofs.KeptPoints.{point_at-kept}
+use Rattle.tree_rewire.specs.SeenCosts.{IsLoadedSince, NamesNothing, NamesPoint, NamesTreeOrPoint, NamesTree, PassLowers, PassSees, SeesAnew, seen_cost_through}
 use Rattle.tree_rewire.proofs.SeenCosts.{load_shows_none}
 
 -- ---- views
@@ -47,9 +47,9 @@ SeesAnew-more few more before after within one = record {
 
 -- ---- passes
 
-pub PassSees-refl : (which : Word → Type 0) (shared : SharedState) (pass : PassState) → BelongsTo pass shared → IsLawfulView pass.view
-    → PassSees which shared pass pass
-PassSees-refl which shared pass belongs lawful = record { belongs = belongs; sees_anew = SeesAnew-refl which pass.view lawful; view_alone = refl }
+pub PassSees-refl : (which : Word → Type 0) (shared : SharedState) (pass : PassState) → BelongsTo pass shared → PassSees which shared pass pass
+PassSees-refl which shared pass belongs =
+    record { belongs = belongs; sees_anew = SeesAnew-refl which pass.view belongs.lawful; view_alone = refl }
 
 pub PassSees-trans : (which : Word → Type 0) (shared : SharedState) (before mid after : PassState) → PassSees which shared before mid
     → PassSees which shared mid after → PassSees which shared before after
@@ -74,7 +74,7 @@ pub PassSees-saw : (which : Word → Type 0) (shared : SharedState) (before afte
 PassSees-saw which shared before after name found left belongs is goes_on others =
     let view_is : after.view ≡ saw before.view name found left = ap (λ (p : PassState). p.view) is in
     record {
-      belongs = BelongsTo-later shared before after (ap (λ (p : PassState). p.table) is) goes_on.later belongs;
+      belongs = BelongsTo-later shared before after (ap (λ (p : PassState). p.table) is) goes_on belongs;
       sees_anew = record {
         goes_on = goes_on;
         others = others;
@@ -168,14 +168,11 @@ PassLowers-trans shared before mid after one other = record {
 }
 
 -- nothing but the list of those that wait changes
-pub PassLowers-lists : (shared : SharedState) (before after : PassState) → BelongsTo before shared → IsLawfulView before.view
-    → after.table ≡ before.table → after.view ≡ before.view → after.near ≡ before.near → after.spots ≡ before.spots → PassLowers shared before after
-PassLowers-lists shared before after belongs lawful table view near spots = record {
-  belongs = record { table = table ∙ belongs.table; run = ap (λ (v : View). v.run) view ∙ belongs.run };
-  sees_anew = subst (SeesAnew NamesTreeOrPoint before.view) (sym view) (SeesAnew-refl NamesTreeOrPoint before.view lawful);
-  near = near;
-  spots = spots;
-}
+pub PassLowers-lists : (shared : SharedState) (before after : PassState) → BelongsTo before shared → after.table ≡ before.table
+    → after.view ≡ before.view → after.near ≡ before.near → after.spots ≡ before.spots → PassLowers shared before after
+PassLowers-lists shared before after belongs table view near spots =
+    let sees_anew = subst (SeesAnew NamesTreeOrPoint before.view) (sym view) (SeesAnew-refl NamesTreeOrPoint before.view belongs.lawful) in
+    record { belongs = BelongsTo-later shared before after table sees_anew.goes_on belongs; sees_anew = sees_anew; near = near; spots = spots }
 
 -- ---- if no word is seen anew, costs and points are the same
 
@@ -184,8 +181,8 @@ module _ (before after : View) (same : SeesAnew NamesNothing before after) where
   point_of-same n =
       ap (λ o. unwrap_or o (record { x = 0; y = 0 })) (point_at-kept before after n same.goes_on.later (same.others (PointOf n) (λ no. no)))
 
-  pub cost_through-same : (p : Point) (n : ℕ) → cost_through after p n ≡ cost_through before p n
-  cost_through-same p n =
+  pub seen_cost_through-same : (p : Point) (n : ℕ) → seen_cost_through after p n ≡ seen_cost_through before p n
+  seen_cost_through-same p n =
       omega (
         arith,
         ap cost_in (same.others (TreeOf n) (λ no. no)),

@@ -9,4 +9,3 @@ pub mod WholeShares
 pub mod TightCosts
 pub mod MirroredTrees
 pub mod RewiredTrees
-pub mod PlacedHands

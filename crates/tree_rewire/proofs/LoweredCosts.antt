@@ -17,7 +17,7 @@ use Rattle.step_core.specs.Words.{cost_in, parent_in, tree_word}
 use Rattle.step_core.specs.declared.views.View.{View}
 use Rattle.step_core.proofs.PackedWords.{cost_in-tree_word, parent_in-tree_word}
 use Rattle.step_core.proofs.SeenByViews.{WritesWord-saw}
-use Rattle.tree_rewire.specs.SeenCosts.{SeesPair, cost_seen, cost_through, parent_seen}
+use Rattle.tree_rewire.specs.SeenCosts.{SeesPair, cost_seen, seen_cost_through, parent_seen}
 use Rattle.tree_rewire.specs.Spreads.{IsWithinSeenParent, IsWithinParent}
 use Rattle.tree_rewire.proofs.SeenCosts.{pair_low, stands_later}
 
@@ -45,7 +45,7 @@ pub IsWithinParent-below : (view : View) (n parent : ℕ) (at from : Point) → 
 IsWithinParent-below view n parent at from own stands parent_stands most = record {
   stands = ap is_some stands;
   parent_stands = subst (λ m. IsPresent (tree_seen view).points m) (sym own) (ap is_some parent_stands);
-  most = subst (λ m. cost_seen view n ≤ cost_through view (point_of (tree_seen view).points n) m) (sym own)
+  most = subst (λ m. cost_seen view n ≤ seen_cost_through view (point_of (tree_seen view).points n) m) (sym own)
       (omega (
         arith,
         most,

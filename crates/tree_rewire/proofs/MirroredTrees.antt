@@ -17,9 +17,9 @@ use Rattle.step_core.specs.Views.{run_sizes, sees, setup_in, tree_seen}
 use Rattle.step_core.specs.WordNames.Word.{PointOf, TreeOf}
 use Rattle.step_core.specs.Words.{cost_in, parent_in}
 use Rattle.step_core.specs.declared.views.View.{View}
-use Rattle.kd_shared.proofs.Looking.{point_at-kept}
+use Rattle.step_core.proofs.KeptPoints.{point_at-kept}
 use Rattle.tree_rewire.specs.Mirrors.{Mirrors}
-use Rattle.tree_rewire.specs.SeenCosts.{SeesPair, cost_seen, cost_through, parent_seen}
+use Rattle.tree_rewire.specs.SeenCosts.{SeesPair, cost_seen, seen_cost_through, parent_seen}
 use Rattle.tree_rewire.specs.Spreads.{AllTight}
 use Rattle.tree_rewire.proofs.TightCosts.{IsPresent-linked, IsPresent-unlinked}
 
@@ -72,9 +72,9 @@ module _ (view : View) (tree : Nodes) (lawful : IsLawfulView view) (whole : HasW
 
   -- what a node costs through its parent
   through_is : (n : ℕ) → IsPresent (points_of tree) n
-      → cost_through view (point_of (tree_seen view).points n) (parent_seen view n) ≡ cost_seen view (parent_of tree n) + edge_of tree n
+      → seen_cost_through view (point_of (tree_seen view).points n) (parent_seen view n) ≡ cost_seen view (parent_of tree n) + edge_of tree n
   through_is n here =
-      ap (λ m. cost_through view (point_of (tree_seen view).points n) m) (parents n here)
+      ap (λ m. seen_cost_through view (point_of (tree_seen view).points n) m) (parents n here)
       ∙ omega (
         arith,
         ap (λ q. cost_of q (point_of (tree_seen view).points n)) (point_is (parent_of tree n)),

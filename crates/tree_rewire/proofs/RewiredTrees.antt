@@ -20,9 +20,9 @@ use Rattle.step_core.specs.WordNames.Word.{PointOf, TreeOf}
 use Rattle.step_core.specs.Words.{cost_in, parent_in, tree_word}
 use Rattle.step_core.specs.declared.views.View.{View}
 use Rattle.step_core.proofs.PackedWords.{cost_in-tree_word, parent_in-tree_word}
-use Rattle.kd_shared.proofs.Looking.{point_at-kept}
+use Rattle.step_core.proofs.KeptPoints.{point_at-kept}
 use Rattle.tree_rewire.specs.Mirrors.{Mirrors}
-use Rattle.tree_rewire.specs.SeenCosts.{SeesPair, cost_seen, cost_through, parent_seen}
+use Rattle.tree_rewire.specs.SeenCosts.{SeesPair, cost_seen, seen_cost_through, parent_seen}
 use Rattle.tree_rewire.specs.Spreads.{AllTight, AllTightBut, IsTight, KeepsParents, SeesKnot}
 use Rattle.tree_rewire.proofs.MirroredTrees.{AllTight-mirrored, Mirrors-tight}
 use Rattle.tree_rewire.proofs.SeenCosts.{SeesPair-later, pair_low}
@@ -105,7 +105,7 @@ module _ (before mid : View) (tree : Nodes) (n i : ℕ) (from to : Point) (lawfu
   -- its cost is exact
   exact_here : IsTight mid i
   exact_here =
-      subst (λ k. cost_seen mid i ≡ cost_through mid (point_of (tree_seen mid).points i) k) (sym parent_here)
+      subst (λ k. cost_seen mid i ≡ seen_cost_through mid (point_of (tree_seen mid).points i) k) (sym parent_here)
       (omega (
         arith,
         cost_here,
@@ -127,7 +127,7 @@ module _ (before mid : View) (tree : Nodes) (n i : ℕ) (from to : Point) (lawfu
               stands = sym (ap is_some (point_same m)) ∙ knot.stands;
               written = omega (arith, same, knot.written);
             } in
-            subst (λ k. cost_seen mid m ≡ cost_through mid (point_of (tree_seen mid).points m) k) (sym up)
+            subst (λ k. cost_seen mid m ≡ seen_cost_through mid (point_of (tree_seen mid).points m) k) (sym up)
             (omega (
               arith,
               AllTight-mirrored before tree lawful whole mirrors m child knot_was,

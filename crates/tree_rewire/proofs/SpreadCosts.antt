@@ -12,7 +12,7 @@ use Rattle.step_core.specs.WordNames.Word.{TreeOf}
 use Rattle.step_core.specs.Words.{cost_in, parent_in}
 use Rattle.step_core.specs.declared.views.View.{View}
 use Rattle.step_core.proofs.SeenViews.{IsPresent-later}
-use Rattle.tree_rewire.specs.SeenCosts.{SeesPair, cost_seen, cost_through, parent_seen}
+use Rattle.tree_rewire.specs.SeenCosts.{SeesPair, cost_seen, seen_cost_through, parent_seen}
 use Rattle.tree_rewire.specs.Spreads.{HasFallen, HasSettledAll, HasSettledChanges, HasSpread, IsWithinSeenParent, IsSource, IsWithinParent, KeepsPairs, OnlyAt}
 use Rattle.tree_rewire.proofs.ChosenParents.{points_later}
 use Rattle.tree_rewire.proofs.SeenCosts.{SeesPair-later}
@@ -44,7 +44,7 @@ IsWithinParent-later before after n goes_on same level h =
       stands = IsPresent-later before after goes_on.later.run goes_on.later.seen n h.stands;
       parent_stands = subst (λ m. IsPresent (tree_seen after).points m) up
           (IsPresent-later before after goes_on.later.run goes_on.later.seen parent h.parent_stands);
-      most = subst (λ m. cost_seen after n ≤ cost_through after (point_of (tree_seen after).points n) m) up
+      most = subst (λ m. cost_seen after n ≤ seen_cost_through after (point_of (tree_seen after).points n) m) up
           (omega (
             arith,
             h.most,

@@ -14,8 +14,8 @@ use Rattle.step_core.specs.WordNames.Word.{TreeOf}
 use Rattle.step_core.specs.Words.{cost_in, parent_in}
 use Rattle.step_core.specs.declared.views.View.{View}
 use Rattle.step_core.proofs.SeenViews.{IsPresent-later}
-use Rattle.tree_rewire.specs.Rewirings.{CostsLess, HasSpreadFalls, IsInFall, IsShortcut}
-use Rattle.tree_rewire.specs.SeenCosts.{SeesPair, cost_seen, cost_through, parent_seen}
+use Rattle.tree_rewire.specs.Rewirings.{CostsLess, HangsElsewhere, HasSpreadFalls, IsInFall, IsShortcut}
+use Rattle.tree_rewire.specs.SeenCosts.{SeesPair, cost_seen, seen_cost_through, parent_seen}
 use Rattle.tree_rewire.specs.Spreads.{HasSettledChanges, HasSpread, IsWithinParent}
 use Rattle.tree_rewire.proofs.ChosenParents.{points_later}
 use Rattle.tree_rewire.proofs.SeenCosts.{SeesPair-later, cost_seen-later, stands_later}
@@ -36,7 +36,7 @@ same_or_less before after n goes_on pair =
 -- if no node is seen anew that was seen with its cost, none is in a fall
 pub HasSpreadFalls-none : (space : ConfigurationSpace) (near : ℕ → Type 0) (node : ℕ) (before after : View)
     → ((n : ℕ) → SeesPair before n → sees after (TreeOf n) ≡ sees before (TreeOf n)) → HasSpreadFalls space near node before after
-HasSpreadFalls-none space near node before after kept c h own =
+HasSpreadFalls-none space near node before after kept c h =
     elim h.fell [
       | inl fell ↦ absurd (omega (arith, fell, ap cost_in (kept c h.pair)))
       | inr fell ↦ absurd (omega (arith, fell, ap cost_in (kept (parent_seen after c) h.parent_pair)))
@@ -46,12 +46,10 @@ HasSpreadFalls-none space near node before after kept c h own =
 pub HasSpreadFalls-still : (space : ConfigurationSpace) (near wider : ℕ → Type 0) (node : ℕ) (before after done : View) → GoesOn after done
     → ((n : ℕ) → sees done (TreeOf n) ≡ sees after (TreeOf n)) → IsPresent (tree_seen after).points node → ((n : ℕ) → near n → wider n)
     → HasSpreadFalls space near node before after → HasSpreadFalls space wider node before done
-HasSpreadFalls-still space near wider node before after done goes_on same stands more spread c h own =
+HasSpreadFalls-still space near wider node before after done goes_on same stands more spread c h =
     let parent : ℕ = parent_seen after c in
     let up : parent_seen done c ≡ parent = ap parent_in (same c) in
-    IsWithinParent-later after done c goes_on (same c) (same parent)
-    (spread c
-    record {
+    let earlier : IsInFall before after c = record {
       pair = h.pair;
       parent_pair = subst (SeesPair before) up h.parent_pair;
       fell =
@@ -59,20 +57,24 @@ HasSpreadFalls-still space near wider node before after done goes_on same stands
             | inl fell ↦ inl (omega (arith, fell, ap cost_in (same c)))
             | inr fell ↦ inr (subst (CostsLess before after) up (omega (arith, fell, ap cost_in (same (parent_seen done c)))))
           ];
-    }
-    (λ one shortcut.
-    sym up
-    ∙ own (more c one)
-    record {
-      clear = shortcut.clear;
-      dearer =
-          omega (
-            arith,
-            shortcut.dearer,
-            ap cost_in (same node),
-            ap (λ q. cost_of q (point_of (tree_seen before).points c)) (points_later after done node goes_on stands),
-          );
-    }))
+    } in
+    elim (spread c earlier) [
+      | inl within ↦ inl (IsWithinParent-later after done c goes_on (same c) (same parent) within)
+      | inr lost ↦ inr (record {
+        listed = more c lost.listed;
+        shortcut = record {
+          clear = lost.shortcut.clear;
+          dearer =
+              omega (
+                arith,
+                lost.shortcut.dearer,
+                ap cost_in (same node),
+                ap (λ q. cost_of q (point_of (tree_seen before).points c)) (points_later after done node goes_on stands),
+              );
+        };
+        elsewhere = λ own. lost.elsewhere (sym up ∙ own);
+      })
+    ]
 
 -- ---- one near node
 
@@ -94,18 +96,24 @@ module _ (space : ConfigurationSpace) (node j : ℕ) (before mid after : View) (
     (shortcut : SeesPair before j → IsShortcut space before after node j) (hangs : parent_seen mid j ≡ node → IsWithinParent mid j)
     (spread : HasSpread j mid after) (settled : HasSettledChanges mid after) where
   -- if neither it nor its parent is seen anew by the spread, it is node j itself
-  unspread : (c : ℕ) → IsInFall before after c → (c ≡ j → IsShortcut space before after node c → parent_seen after c ≡ node)
-      → sees after (TreeOf c) ≡ sees mid (TreeOf c) → parent_seen after c ≢ j
-      → sees after (TreeOf (parent_seen after c)) ≡ sees mid (TreeOf (parent_seen after c)) → IsWithinParent after c
-  unspread c h own same apart level =
+  unspread : (c : ℕ) → IsInFall before after c → sees after (TreeOf c) ≡ sees mid (TreeOf c) → parent_seen after c ≢ j
+      → sees after (TreeOf (parent_seen after c)) ≡ sees mid (TreeOf (parent_seen after c))
+      → IsWithinParent after c ⊎ HangsElsewhere space (λ n. n ≡ j) node before after c
+  unspread c h same apart level =
       let kept : cost_seen after (parent_seen after c) ≡ cost_seen before (parent_seen after c) =
       ap cost_in (level ∙ others (parent_seen after c) h.parent_pair apart) in
       let up : parent_seen after c ≡ parent_seen mid c = ap parent_in same in
       elim (cases_eq c j) [
-        | inl is ↦
-            let below = own is (subst (λ n. SeesPair before n → IsShortcut space before after node n) (sym is) shortcut h.pair) in
-            IsWithinParent-later mid after c goes_on same (subst (λ m. sees after (TreeOf m) ≡ sees mid (TreeOf m)) up level)
-            (subst (IsWithinParent mid) (sym is) (hangs (ap (parent_seen mid) (sym is) ∙ sym up ∙ below)))
+        | inl is ↦ elim (cases_eq (parent_seen after c) node) [
+          | inl below ↦
+              inl (IsWithinParent-later mid after c goes_on same (subst (λ m. sees after (TreeOf m) ≡ sees mid (TreeOf m)) up level)
+              (subst (IsWithinParent mid) (sym is) (hangs (ap (parent_seen mid) (sym is) ∙ sym up ∙ below))))
+          | inr elsewhere ↦ inr (record {
+            listed = is;
+            shortcut = subst (λ n. SeesPair before n → IsShortcut space before after node n) (sym is) shortcut h.pair;
+            elsewhere = elsewhere;
+          })
+        ]
         | inr other ↦ elim h.fell [
           | inl fell ↦ absurd (omega (arith, fell, ap cost_in (same ∙ others c h.pair other)))
           | inr fell ↦ absurd (omega (arith, fell, kept))
@@ -113,17 +121,17 @@ module _ (space : ConfigurationSpace) (node j : ℕ) (before mid after : View) (
       ]
 
   pub HasSpreadFalls-turn : HasSpreadFalls space (λ n. n ≡ j) node before after
-  HasSpreadFalls-turn c h own =
+  HasSpreadFalls-turn c h =
       let parent : ℕ = parent_seen after c in
       let pair = SeesPair-later before mid to_mid c h.pair in
       let parent_pair = SeesPair-later before mid to_mid parent h.parent_pair in
       elim (cases_eq (sees after (TreeOf c)) (sees mid (TreeOf c))) [
-        | inr changed ↦ settled c changed (SeesPair-later mid after goes_on parent parent_pair)
+        | inr changed ↦ inl (settled c changed (SeesPair-later mid after goes_on parent parent_pair))
         | inl same ↦ elim (cases_eq parent j) [
-          | inl is ↦ spread c pair (inl is)
+          | inl is ↦ inl (spread c pair (inl is))
           | inr apart ↦ elim (same_or_less mid after parent goes_on parent_pair) [
-            | inl level ↦ unspread c h own same apart level
-            | inr fell ↦ spread c pair (inr fell)
+            | inl level ↦ unspread c h same apart level
+            | inr fell ↦ inl (spread c pair (inr fell))
           ]
         ]
       ]
@@ -156,14 +164,27 @@ module _ (space : ConfigurationSpace) (near : ℕ → Type 0) (node j : ℕ) (be
       record {
         clear = subst (λ p. Clear space p (point_of (tree_seen before).points j)) (points_later before now node was node_present)
             (subst (Clear space (point_of (tree_seen now).points node)) here h.clear);
-        dearer = omega (arith, h.dearer, ap (λ p. cost_through after p node) here, cost_seen-later before now was j pair);
+        dearer = omega (arith, h.dearer, ap (λ p. seen_cost_through after p node) here, cost_seen-later before now was j pair);
       }
 
+  -- a node that hangs elsewhere after this turn does so at last
+  HangsElsewhere-turned : (c : ℕ) → SeesPair before c → IsWithinParent after c ⊎ HangsElsewhere space (λ n. n ≡ j) node now after c
+      → IsWithinParent after c ⊎ HangsElsewhere space near node before after c
+  HangsElsewhere-turned c pair (inl within) = inl within
+  HangsElsewhere-turned c pair (inr lost) =
+      let is : c ≡ j = lost.listed in
+      inr (record {
+        listed = subst near (sym is) member;
+        shortcut = subst (IsShortcut space before after node) (sym is)
+            (IsShortcut-before (subst (SeesPair before) is pair) (subst (IsShortcut space now after node) is lost.shortcut));
+        elsewhere = lost.elsewhere;
+      })
+
   -- neither it nor its parent is seen anew by the turn
-  unturned : (c : ℕ) → IsInFall before after c → (near c → IsShortcut space before after node c → parent_seen after c ≡ node)
-      → sees after (TreeOf c) ≡ sees now (TreeOf c) → sees after (TreeOf (parent_seen after c)) ≡ sees now (TreeOf (parent_seen after c))
-      → IsWithinParent after c
-  unturned c h own same level =
+  unturned : (c : ℕ) → IsInFall before after c → sees after (TreeOf c) ≡ sees now (TreeOf c)
+      → sees after (TreeOf (parent_seen after c)) ≡ sees now (TreeOf (parent_seen after c))
+      → IsWithinParent after c ⊎ HangsElsewhere space near node before after c
+  unturned c h same level =
       let up : parent_seen after c ≡ parent_seen now c = ap parent_in same in
       let earlier : IsInFall before now c = record {
         pair = h.pair;
@@ -175,22 +196,25 @@ module _ (space : ConfigurationSpace) (near : ℕ → Type 0) (node j : ℕ) (be
               inr (subst (CostsLess before now) up less)
         ];
       } in
-      IsWithinParent-later now after c goes_on same (subst (λ m. sees after (TreeOf m) ≡ sees now (TreeOf m)) up level)
-      (so_far c earlier (λ one shortcut. sym up ∙ own one (IsShortcut-later c shortcut)))
+      elim (so_far c earlier) [
+        | inl within ↦
+            inl (IsWithinParent-later now after c goes_on same (subst (λ m. sees after (TreeOf m) ≡ sees now (TreeOf m)) up level) within)
+        | inr lost ↦ inr (record {
+          listed = lost.listed;
+          shortcut = IsShortcut-later c lost.shortcut;
+          elsewhere = λ own. lost.elsewhere (sym up ∙ own);
+        })
+      ]
 
   pub HasSpreadFalls-more : HasSpreadFalls space near node before after
-  HasSpreadFalls-more c h own =
+  HasSpreadFalls-more c h =
       let parent : ℕ = parent_seen after c in
       let pair = SeesPair-later before now was c h.pair in
       let parent_pair = SeesPair-later before now was parent h.parent_pair in
-      let own_turn : c ≡ j → IsShortcut space now after node c → parent_seen after c ≡ node =
-      λ is shortcut. own (subst near (sym is) member)
-      (subst (IsShortcut space before after node) (sym is)
-      (IsShortcut-before (subst (SeesPair before) is h.pair) (subst (IsShortcut space now after node) is shortcut))) in
       elim (same_or_less now after c goes_on pair) [
-        | inr fell ↦ turn c (record { pair = pair; parent_pair = parent_pair; fell = inl fell }) own_turn
+        | inr fell ↦ HangsElsewhere-turned c h.pair (turn c (record { pair = pair; parent_pair = parent_pair; fell = inl fell }))
         | inl same ↦ elim (same_or_less now after parent goes_on parent_pair) [
-          | inr fell ↦ turn c (record { pair = pair; parent_pair = parent_pair; fell = inr fell }) own_turn
-          | inl level ↦ unturned c h own same level
+          | inr fell ↦ HangsElsewhere-turned c h.pair (turn c (record { pair = pair; parent_pair = parent_pair; fell = inr fell }))
+          | inl level ↦ unturned c h same level
         ]
       ]

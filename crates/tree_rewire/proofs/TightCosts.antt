@@ -11,9 +11,9 @@ use Rattle.step_core.specs.Views.{run_sizes, sees, setup_in, tree_seen}
 use Rattle.step_core.specs.WordNames.Word.{PointOf}
 use Rattle.step_core.specs.WordPlaces.{Sizes}
 use Rattle.step_core.specs.declared.views.View.{View}
-use Rattle.kd_shared.proofs.Looking.{point_at-kept}
-use Rattle.kd_shared.proofs.SeenStates.{linked_points-seen}
-use Rattle.tree_rewire.specs.SeenCosts.{cost_seen, cost_through, parent_seen}
+use Rattle.step_core.proofs.KeptPoints.{point_at-kept}
+use Rattle.step_core.proofs.SeenStates.{linked_points-seen}
+use Rattle.tree_rewire.specs.SeenCosts.{cost_seen, seen_cost_through, parent_seen}
 use Rattle.tree_rewire.specs.Spreads.{AllTight, AllTightBut, HasSpread, IsSource, KeepsParents, SeesKnot}
 
 -- ---- the order law of what is seen
@@ -33,10 +33,10 @@ module _ (view : View) (lawful : IsLawfulView view) where
   point_of-linked n = ap (λ points. point_of points n) (linked_points-seen view lawful)
 
   -- by the order law each seen node costs at least what its parent costs and the edge
-  pub cost_through-least : KeepsOrder (setup_in view.run) (state_of_links sizes (sees view)) → (n : ℕ) → 0 < n → IsPresent (tree_seen view).points n
-      → cost_through view (point_of (tree_seen view).points n) (parent_seen view n) ≤ cost_seen view n
-  cost_through-least order zero child present = absurd (omega (arith, child))
-  cost_through-least order (suc n) child present =
+  pub seen_cost_through-least : KeepsOrder (setup_in view.run) (state_of_links sizes (sees view)) → (n : ℕ) → 0 < n → IsPresent (tree_seen view).points n
+      → seen_cost_through view (point_of (tree_seen view).points n) (parent_seen view n) ≤ cost_seen view n
+  seen_cost_through-least order zero child present = absurd (omega (arith, child))
+  seen_cost_through-least order (suc n) child present =
       omega (
         arith,
         (order.hangs n (IsPresent-linked (suc n) present)).above,
@@ -57,14 +57,14 @@ module _ (node : ℕ) (before after : View) (lawful : IsLawfulView after)
 
   -- a child of a source costs at most what it does through its parent, and so exactly that
   of_source : (n : ℕ) → 0 < n → SeesKnot after n → IsSource node before after (parent_seen after n)
-      → cost_seen after n ≡ cost_through after (point_of (tree_seen after).points n) (parent_seen after n)
+      → cost_seen after n ≡ seen_cost_through after (point_of (tree_seen after).points n) (parent_seen after n)
   of_source n child knot source =
       let most = (spread n (kept.written n knot.written) source).most in
-      omega (arith, most, cost_through-least after lawful order n child knot.stands)
+      omega (arith, most, seen_cost_through-least after lawful order n child knot.stands)
 
   -- the parent of any other costs what it did, and so does the child
   of_other : (n : ℕ) → 0 < n → SeesKnot after n → parent_seen after n ≢ node → cost_seen before (parent_seen after n) ≤ cost_seen after (parent_seen after n)
-      → cost_seen after n ≡ cost_through after (point_of (tree_seen after).points n) (parent_seen after n)
+      → cost_seen after n ≡ seen_cost_through after (point_of (tree_seen after).points n) (parent_seen after n)
   of_other n child knot apart same =
       let parent : ℕ = parent_seen after n in
       let was : parent_seen before n ≡ parent = sym (kept.parents n) in
@@ -72,8 +72,8 @@ module _ (node : ℕ) (before after : View) (lawful : IsLawfulView after)
         stands = sym (ap is_some (point_same n)) ∙ knot.stands;
         written = kept.written n knot.written;
       } in
-      let exact : cost_seen before n ≡ cost_through before (point_of (tree_seen before).points n) parent =
-      subst (λ m. cost_seen before n ≡ cost_through before (point_of (tree_seen before).points n) m) was
+      let exact : cost_seen before n ≡ seen_cost_through before (point_of (tree_seen before).points n) parent =
+      subst (λ m. cost_seen before n ≡ seen_cost_through before (point_of (tree_seen before).points n) m) was
       (tight n child knot_was (λ e. apart (sym was ∙ e))) in
       omega (
         arith,
@@ -81,7 +81,7 @@ module _ (node : ℕ) (before after : View) (lawful : IsLawfulView after)
         kept.costs n,
         kept.costs parent,
         same,
-        cost_through-least after lawful order n child knot.stands,
+        seen_cost_through-least after lawful order n child knot.stands,
         ap (cost_of (point_of (tree_seen after).points parent)) (point_of_same n),
         ap (λ q. cost_of q (point_of (tree_seen before).points n)) (point_of_same parent),
       )

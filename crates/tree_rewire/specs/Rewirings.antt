@@ -1,5 +1,5 @@
 -- When near nodes may be rewired, and what is seen then of the nodes whose costs fell and of those below them.
-use Rattle.std.specs.Prelude.{◌≡◌, ◌⊎◌, ℕ, suc, ◌<◌}
+use Rattle.std.specs.Prelude.{◌≡◌, ◌≢◌, ◌⊎◌, ℕ, suc, ◌<◌}
 use Rattle.plan_model.specs.Spaces.Clearance.{Clear}
 use Rattle.plan_model.specs.declared.configuration_spaces.ConfigurationSpace.{ConfigurationSpace}
 use Rattle.plan_model.specs.Trees.PointsByNumber.{point_of}
@@ -10,7 +10,7 @@ use Rattle.step_core.specs.WordNames.Word.{FirstOf}
 use Rattle.step_core.specs.declared.views.Hand.{Hand}
 use Rattle.step_core.specs.declared.views.Stage.TheVariants.{Counted}
 use Rattle.step_core.specs.declared.views.View.{View}
-use Rattle.tree_rewire.specs.SeenCosts.{SeesPair, cost_seen, cost_through, parent_seen}
+use Rattle.tree_rewire.specs.SeenCosts.{SeesPair, cost_seen, seen_cost_through, parent_seen}
 use Rattle.tree_rewire.specs.Spreads.{IsWithinParent}
 
 -- The node of mark k is in this hand, linked and counted. It is seen at its point, with its first cost, and with its parent and its cost.
@@ -34,9 +34,15 @@ pub record IsInFall (before after : View) (n : ℕ) : Type 0 where
 -- Node n was dearer than it is through node m, over a clear edge.
 pub record IsShortcut (space : ConfigurationSpace) (before after : View) (m n : ℕ) : Type 0 where
   pub clear : Clear space (point_of (tree_seen before).points m) (point_of (tree_seen before).points n)
-  pub dearer : cost_through after (point_of (tree_seen before).points n) m < cost_seen before n
+  pub dearer : seen_cost_through after (point_of (tree_seen before).points n) m < cost_seen before n
 
--- Each node in a fall is within its parent; of the near nodes to which this node is a shortcut, each that hangs below it.
+-- Node n is a near one to which this node is a shortcut, and it hangs elsewhere: another pass has lowered it.
+pub record HangsElsewhere (space : ConfigurationSpace) (near : ℕ → Type 0) (node : ℕ) (before after : View) (n : ℕ) : Type 0 where
+  pub listed : near n
+  pub shortcut : IsShortcut space before after node n
+  pub elsewhere : parent_seen after n ≢ node
+
+-- Each node in a fall is within its parent, unless it is a near node to which this node is a shortcut and which hangs elsewhere.
 abbrev pub HasSpreadFalls : ConfigurationSpace → (ℕ → Type 0) → ℕ → View → View → Type 0
 HasSpreadFalls space near node before after =
-    (c : ℕ) → IsInFall before after c → (near c → IsShortcut space before after node c → parent_seen after c ≡ node) → IsWithinParent after c
+    (n : ℕ) → IsInFall before after n → IsWithinParent after n ⊎ HangsElsewhere space near node before after n

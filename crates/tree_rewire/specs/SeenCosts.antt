@@ -1,8 +1,8 @@
 -- What a pass has seen of costs, and what calls that look at costs or lower them leave of it.
-use Rattle.std.specs.Prelude.{◌≡◌, ℕ, ◌+◌, ◌*◌, ◌^◌, ◌<◌, ◌≤◌}
+use Rattle.std.specs.Prelude.{◌≡◌, ℕ, ◌*◌, ◌^◌, ◌<◌, ◌≤◌}
 use Rattle.plan_model.specs.declared.geometry.Point.{Point}
-use Rattle.plan_model.specs.Geometry.Cost.{cost_of}
 use Rattle.plan_model.specs.Geometry.Plane.{squared_distance}
+use Rattle.plan_model.specs.Trees.NodeLists.{cost_through_by}
 use Rattle.plan_model.specs.Trees.PointsByNumber.{IsPresent, point_of}
 use Rattle.plan_words.specs.Claims.{KeepsHand}
 use Rattle.plan_words.specs.States.{BelongsTo, GoesOn, PassState, SharedState, with_view}
@@ -31,8 +31,8 @@ abbrev pub IsLoadedSince : ℕ → View → ℕ → Type 0
 IsLoadedSince steps view n = steps < last_look view (TreeOf n)
 
 -- what a node at p costs through node n, by what was seen of that
-abbrev pub cost_through : View → Point → ℕ → ℕ
-cost_through view p n = cost_seen view n + cost_of (point_of (tree_seen view).points n) p
+abbrev pub seen_cost_through : View → Point → ℕ → ℕ
+seen_cost_through view p n = cost_through_by (cost_seen view) (tree_seen view).points p n
 
 -- node n is seen with its point, which is at most a step from p
 pub record IsInReach (view : View) (p : Point) (n : ℕ) : Type 0 where

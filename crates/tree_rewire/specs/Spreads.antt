@@ -7,13 +7,13 @@ use Rattle.step_core.specs.Views.{sees, tree_seen}
 use Rattle.step_core.specs.WordNames.{ChangesOnly}
 use Rattle.step_core.specs.WordNames.Word.{TreeOf}
 use Rattle.step_core.specs.declared.views.View.{View}
-use Rattle.tree_rewire.specs.SeenCosts.{NamesTree, SeesPair, cost_seen, cost_through, parent_seen}
+use Rattle.tree_rewire.specs.SeenCosts.{NamesTree, SeesPair, cost_seen, seen_cost_through, parent_seen}
 
 -- Node n and its parent are seen with their points, and it costs at most what it costs through its parent, as all this was seen last.
 pub record IsWithinParent (view : View) (n : ℕ) : Type 0 where
   pub stands : IsPresent (tree_seen view).points n
   pub parent_stands : IsPresent (tree_seen view).points (parent_seen view n)
-  pub most : cost_seen view n ≤ cost_through view (point_of (tree_seen view).points n) (parent_seen view n)
+  pub most : cost_seen view n ≤ seen_cost_through view (point_of (tree_seen view).points n) (parent_seen view n)
 
 -- node n is within its parent, if a cost of that parent was seen
 abbrev pub IsWithinSeenParent : View → ℕ → Type 0
@@ -41,7 +41,7 @@ pub record SeesKnot (view : View) (n : ℕ) : Type 0 where
 
 -- it costs exactly what its parent costs and the edge, as all this was seen last
 abbrev pub IsTight : View → ℕ → Type 0
-IsTight view n = cost_seen view n ≡ cost_through view (point_of (tree_seen view).points n) (parent_seen view n)
+IsTight view n = cost_seen view n ≡ seen_cost_through view (point_of (tree_seen view).points n) (parent_seen view n)
 
 -- each node seen with its point and its cost, but the start, costs exactly its parent's cost and the edge
 abbrev pub AllTight : View → Type 0

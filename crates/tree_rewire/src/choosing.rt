@@ -10,11 +10,10 @@ ghost use Rattle.plan_model.specs.Trees.OpenNodes.{IsOpenTo};
 ghost use Rattle.plan_model.specs.Trees.PointsByNumber.{IsPresent, point_of};
 ghost use Rattle.plan_words.specs.Claims.{SeesAsBefore};
 ghost use Rattle.plan_words.specs.States.{BelongsTo, HasWholeShare, with_view};
-ghost use Rattle.step_core.specs.LaterViews.{IsLawfulView};
 ghost use Rattle.step_core.specs.ViewTrees.{IsCostBelow};
 ghost use Rattle.step_core.specs.Views.{tree_seen};
 ghost use Rattle.tree_rewire.specs.Choices.{IsBetter};
-ghost use Rattle.tree_rewire.specs.SeenCosts.{IsInReach, IsLoadedSince, NamesNothing, NamesTree, PassSees, SeesAnew, SeesPair, cost_through};
+ghost use Rattle.tree_rewire.specs.SeenCosts.{IsInReach, IsLoadedSince, NamesNothing, NamesTree, PassSees, SeesAnew, SeesPair, seen_cost_through};
 
 use crate::seen_costs::seen_cost;
 use edge_cost::Parent;
@@ -49,9 +48,9 @@ pub fn choose<C: Clearing>(
     ensures pairs { All (SeesPair pass.new.view) (nearest ∷ pass.old.near) }
     // each cost was loaded in this call
     ensures loaded { All (IsLoadedSince pass.old.view.steps pass.new.view) (nearest ∷ pass.old.near) }
-    ensures least { IsFirstLeast (cost_through pass.new.view p)
+    ensures least { IsFirstLeast (seen_cost_through pass.new.view p)
         (IsOpenTo (space_of shared.now.task.scene) (tree_seen pass.new.view).points p (nearest ∷ pass.old.near)) result.0 }
-    ensures cost { result.1 ≡ cost_through pass.new.view p result.0 }
+    ensures cost { result.1 ≡ seen_cost_through pass.new.view p result.0 }
     // so the new node may hang below it
     ensures below { IsCostBelow pass.new.view p result.0 result.1 }
     // a pass with the whole share sees nothing new
@@ -66,7 +65,6 @@ pub fn choose<C: Clearing>(
 /// Loads the costs of a node and of those on the near list.
 fn load_costs(shared: &Shared, pass: &mut Pass, nearest: u32, count: usize)
     requires belongs { BelongsTo pass.old shared.now }
-    requires lawful { IsLawfulView pass.old.view }
     requires count { count ≡ length pass.old.near }
     requires nearest { IsPresent (tree_seen pass.old.view).points nearest }
     requires near { All (IsPresent (tree_seen pass.old.view).points) pass.old.near }
@@ -92,7 +90,6 @@ fn least<C: Clearing>(
     count: usize,
 ) -> Parent
     requires belongs { BelongsTo pass.old shared.now }
-    requires lawful { IsLawfulView pass.old.view }
     requires bounded { IsBounded p }
     requires count { count ≡ length pass.old.near }
     requires nearest { IsPresent (tree_seen pass.old.view).points nearest }
@@ -100,7 +97,7 @@ fn least<C: Clearing>(
     requires near { All (IsPresent (tree_seen pass.old.view).points) pass.old.near }
     requires pairs { All (SeesPair pass.old.view) (nearest ∷ pass.old.near) }
     ensures steps { PassSees NamesNothing shared.now pass.old pass.new }
-    ensures least { IsLeastParent (cost_through pass.old.view p)
+    ensures least { IsLeastParent (seen_cost_through pass.old.view p)
         (IsOpenTo (C.space hall.now) (tree_seen pass.old.view).points p (nearest ∷ pass.old.near)) result }
 {
     let mut best = as_parent(shared, pass, p, nearest);
@@ -114,13 +111,12 @@ fn least<C: Clearing>(
 /// A node as the parent of a new one.
 fn as_parent(shared: &Shared, pass: &mut Pass, p: Point, node: u32) -> Parent
     requires belongs { BelongsTo pass.old shared.now }
-    requires lawful { IsLawfulView pass.old.view }
     requires bounded { IsBounded p }
     requires node { IsPresent (tree_seen pass.old.view).points node }
     requires pair { SeesPair pass.old.view node }
     ensures steps { PassSees NamesNothing shared.now pass.old pass.new }
     ensures node { result.node ≡ node }
-    ensures cost { result.cost ≡ cost_through pass.old.view p node }
+    ensures cost { result.cost ≡ seen_cost_through pass.old.view p node }
 {
     let cost = seen_cost(pass, node);
     let from = shared.point(pass, node);
@@ -137,11 +133,10 @@ fn better<C: Clearing>(
     node: u32,
 ) -> Parent
     requires belongs { BelongsTo pass.old shared.now }
-    requires lawful { IsLawfulView pass.old.view }
     requires bounded { IsBounded p }
     requires node { IsPresent (tree_seen pass.old.view).points node }
     requires pair { SeesPair pass.old.view node }
-    requires best { best.cost ≡ cost_through pass.old.view p best.node }
+    requires best { best.cost ≡ seen_cost_through pass.old.view p best.node }
     ensures steps { PassSees NamesNothing shared.now pass.old pass.new }
     ensures better { IsBetter (C.space hall.now) pass.old.view p best node result }
 {

@@ -12,7 +12,6 @@
 
 mod choosing;
 pub mod fall_laws;
-pub mod placed_laws;
 mod rewiring;
 mod seen_costs;
 mod spreading;

@@ -10,7 +10,6 @@ ghost use Rattle.plan_model.specs.Trees.PointsByNumber.{IsPresent, point_of};
 ghost use Rattle.plan_model.specs.Runs.Textbook.{Nodes, Rewires, RewiresOne};
 ghost use Rattle.plan_words.specs.Claims.{SeesAsBefore};
 ghost use Rattle.plan_words.specs.States.{BelongsTo, HasWholeShare};
-ghost use Rattle.step_core.specs.LaterViews.{IsLawfulView};
 ghost use Rattle.step_core.specs.ViewTrees.{SeesPoint};
 ghost use Rattle.step_core.specs.Views.{sees, setup_in, share, tree_seen};
 ghost use Rattle.step_core.specs.WordNames.{WritesWord};
@@ -49,8 +48,8 @@ pub fn rewire<C: Clearing>(shared: &Shared, pass: &mut Pass, hall: &C, k: u32)
     ensures rewired { IfSome pass.old.view.hand (λ hand. (i : ℕ) → Contains pass.old.near i
         → Clear (space_of shared.now.task.scene) hand.point (point_of (tree_seen pass.old.view).points i)
         → cost_seen pass.new.view i ≤ hand.cost + cost_of hand.point (point_of (tree_seen pass.old.view).points i)) }
-    // each node whose cost fell, or whose parent's did, costs no more than through its parent, by what is seen then; of the near nodes
-    // to which the new one is a shortcut this is said only of those below it, as another pass may have lowered any other
+    // each node whose cost fell, or whose parent's did, costs no more than through its parent, by what is seen then, unless it is a near
+    // node to which the new one is a shortcut and which hangs elsewhere, as another pass has lowered it
     ensures spread { HasSpreadFalls (space_of shared.now.task.scene) (Contains pass.old.near) (suc k) pass.old.view pass.new.view }
     // a pass with the whole share sees a tree, and then that tree rewired as in the textbook
     ensures whole { HasWholeShare pass.old.view → (tree : Nodes) → Mirrors pass.old.view tree
@@ -75,7 +74,6 @@ fn rewire_node<C: Clearing>(
 )
     requires belongs { BelongsTo pass.old shared.now }
     requires part { 0 < share pass.old.view }
-    requires lawful { IsLawfulView pass.old.view }
     requires hall { C.space hall.now ≡ space_of shared.now.task.scene }
     requires parent { SeesPoint pass.old.view parent from }
     requires parent_pair { SeesPair pass.old.view parent }
@@ -101,7 +99,6 @@ fn rewire_node<C: Clearing>(
 /// of a lower one shows that.
 fn known_cost(shared: &Shared, pass: &mut Pass, node: u32) -> u64
     requires belongs { BelongsTo pass.old shared.now }
-    requires lawful { IsLawfulView pass.old.view }
     requires node { IsPresent (tree_seen pass.old.view).points node }
     ensures steps { PassSees NamesTree shared.now pass.old pass.new }
     ensures pair { SeesPair pass.new.view node }
@@ -120,7 +117,6 @@ fn known_cost(shared: &Shared, pass: &mut Pass, node: u32) -> u64
 fn improve(shared: &Shared, pass: &mut Pass, parent: u32, from: Point, node: u32, to: Point)
     requires belongs { BelongsTo pass.old shared.now }
     requires part { 0 < share pass.old.view }
-    requires lawful { IsLawfulView pass.old.view }
     requires parent { SeesPoint pass.old.view parent from }
     requires parent_pair { SeesPair pass.old.view parent }
     requires node { SeesPoint pass.old.view node to }
@@ -136,8 +132,8 @@ fn improve(shared: &Shared, pass: &mut Pass, parent: u32, from: Point, node: u32
     ensures whole { HasWholeShare pass.old.view → cost_seen pass.old.view parent + cost_of from to < cost_seen pass.old.view node
         → WritesWord (TreeOf node) (tree_word parent (cost_seen pass.old.view parent + cost_of from to)) (sees pass.old.view) (sees pass.new.view) }
 {
-    let limit = seen_cost(pass, parent) + cost(from, to);
-    'lowers: while limit < seen_cost(pass, node) {
-        let _found = shared.lower(pass, node, parent, limit);
+    let most = seen_cost(pass, parent) + cost(from, to);
+    'lowers: while most < seen_cost(pass, node) {
+        let _found = shared.lower(pass, node, parent, most);
     }
 }

@@ -3,7 +3,6 @@
 ghost use Rattle.std.specs.Prelude.{◌≡◌, ◌<◌, true, IfNone, IfSome, IsFalse, IsTrue};
 ghost use Rattle.plan_words.specs.Claims.{SeesAsBefore};
 ghost use Rattle.plan_words.specs.States.{BelongsTo, HasWholeShare};
-ghost use Rattle.step_core.specs.LaterViews.{IsLawfulView};
 ghost use Rattle.step_core.specs.ViewTrees.{MayLower};
 ghost use Rattle.step_core.specs.Views.{share};
 ghost use Rattle.tree_rewire.specs.SeenCosts.{NamesPoint, NamesTreeOrPoint, PassLowers, PassSees, SeesAnew, SeesPair, cost_seen, parent_seen};
@@ -46,7 +45,6 @@ pub fn spread(shared: &Shared, pass: &mut Pass, node: u32)
 fn next_fallen(shared: &Shared, pass: &mut Pass) -> Option<u32>
     requires belongs { BelongsTo pass.old shared.now }
     requires part { 0 < share pass.old.view }
-    requires lawful { IsLawfulView pass.old.view }
     requires waits { pass.old.waits ≡ true }
     requires waiting { SeesWaiting pass.old }
     ensures steps { PassLowers shared.now pass.old pass.new }
@@ -67,7 +65,6 @@ fn next_fallen(shared: &Shared, pass: &mut Pass) -> Option<u32>
 fn settle(shared: &Shared, pass: &mut Pass, node: u32) -> bool
     requires belongs { BelongsTo pass.old shared.now }
     requires part { 0 < share pass.old.view }
-    requires lawful { IsLawfulView pass.old.view }
     requires pair { SeesPair pass.old.view node }
     ensures steps { PassSees NamesTreeOrPoint shared.now pass.old pass.new }
     ensures others { OnlyAt node pass.old.view pass.new.view }
@@ -90,7 +87,6 @@ fn settle(shared: &Shared, pass: &mut Pass, node: u32) -> bool
 /// The parent of a node, and the cost through it, if that is less than the node's cost.
 fn looser(shared: &Shared, pass: &mut Pass, node: u32) -> Option<(u32, u64)>
     requires belongs { BelongsTo pass.old shared.now }
-    requires lawful { IsLawfulView pass.old.view }
     requires pair { SeesPair pass.old.view node }
     ensures steps { PassSees NamesPoint shared.now pass.old pass.new }
     ensures some { IfSome result (λ lower. MayLower pass.new.view node lower.0 lower.1) }

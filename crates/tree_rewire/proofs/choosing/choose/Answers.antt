@@ -10,9 +10,9 @@ use Rattle.plan_words.proofs.GoingOn.{GoesOn-trans}
 use Rattle.step_core.specs.Views.{tree_seen}
 use Rattle.step_core.proofs.SeenViews.{IsPresent-later}
 use Rattle.swept_check.proofs.BoundedSegments.{IsBounded-clear_in_scene}
-use Rattle.tree_rewire.specs.SeenCosts.{IsInReach, NamesNothing, NamesTree, cost_through}
+use Rattle.tree_rewire.specs.SeenCosts.{IsInReach, NamesNothing, NamesTree, seen_cost_through}
 use Rattle.tree_rewire.proofs.ChosenParents.{IsCostBelow-best, IsFirstLeast-after, points_later}
-use Rattle.tree_rewire.proofs.CostSteps.{PassSees-more, PassSees-trans, cost_through-same}
+use Rattle.tree_rewire.proofs.CostSteps.{PassSees-more, PassSees-trans, seen_cost_through-same}
 use Rattle.tree_rewire.proofs.SeenCosts.{IsLoadedSince-later, SeesPair-later}
 use Rattle.tree_rewire.proofs.WholeShares.{SeesAsBefore-none, SeesAsBefore-trans}
 use Rattle.tree_rewire.proofs.choosing.choose.Goals as goal
@@ -59,20 +59,20 @@ pub returns-clause-least : goal.returns-clause-least
 returns-clause-least g c =
     let best = c.least-best.ensures.least.least in
     let own = subst
-    (λ ns. IsFirstLeast (cost_through c.load_costs.new.pass.view c.args.p)
+    (λ ns. IsFirstLeast (seen_cost_through c.load_costs.new.pass.view c.args.p)
     (IsOpenTo (g.C.Clearing.space c.args.hall.now) (tree_seen c.load_costs.new.pass.view).points c.args.p (c.args.nearest ∷ ns)) c.least-best.result.node)
     (ap (λ p. p.near) c.load_costs.ensures.steps.view_alone) best in
     IsFirstLeast-after (space_of c.args.shared.now.task.scene) c.load_costs.new.pass.view c.least-best.new.pass.view c.least-best.ensures.steps.sees_anew
     c.args.p (c.args.nearest ∷ c.args.pass.now.near) c.least-best.result.node
     (subst
-    (λ s. IsFirstLeast (cost_through c.load_costs.new.pass.view c.args.p)
+    (λ s. IsFirstLeast (seen_cost_through c.load_costs.new.pass.view c.args.p)
     (IsOpenTo s (tree_seen c.load_costs.new.pass.view).points c.args.p (c.args.nearest ∷ c.args.pass.now.near)) c.least-best.result.node)
     c.requires.hall own)
 
 pub returns-clause-cost : goal.returns-clause-cost
 returns-clause-cost g c =
     c.least-best.ensures.least.cost
-    ∙ sym (cost_through-same c.load_costs.new.pass.view c.least-best.new.pass.view c.least-best.ensures.steps.sees_anew c.args.p c.least-best.result.node)
+    ∙ sym (seen_cost_through-same c.load_costs.new.pass.view c.least-best.new.pass.view c.least-best.ensures.steps.sees_anew c.args.p c.least-best.result.node)
 
 pub returns-clause-below : goal.returns-clause-below
 returns-clause-below g c =

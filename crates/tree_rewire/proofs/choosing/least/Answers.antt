@@ -8,15 +8,15 @@ use Rattle.plan_model.specs.Trees.PointsByNumber.{IsPresent}
 use Rattle.plan_model.proofs.ParentChoices.{IsFirstLeast-alone}
 use Rattle.step_core.specs.Views.{tree_seen}
 use Rattle.step_core.proofs.SeenViews.{IsPresent-later}
-use Rattle.tree_rewire.specs.SeenCosts.{NamesNothing, SeesPair, cost_through}
+use Rattle.tree_rewire.specs.SeenCosts.{NamesNothing, SeesPair, seen_cost_through}
 use Rattle.tree_rewire.proofs.ChosenParents.{IsLeastParent-better, near_read, take_read}
-use Rattle.tree_rewire.proofs.CostSteps.{PassSees-trans, cost_through-same}
+use Rattle.tree_rewire.proofs.CostSteps.{PassSees-trans, seen_cost_through-same}
 use Rattle.tree_rewire.proofs.SeenCosts.{SeesPair-later}
 use Rattle.tree_rewire.proofs.choosing.least.Goals as goal
 
 pub choices-init : goal.choices-init
 choices-init g c =
-    let key = cost_through c.args.pass.now.view c.args.p in
+    let key = seen_cost_through c.args.pass.now.view c.args.p in
     let new = c.as_parent-best.ensures in
     let points = (tree_seen c.args.pass.now.view).points in
     let space = g.C.Clearing.space c.args.hall.now in
@@ -48,7 +48,7 @@ better-best-requires-clause-pair g c κs within =
 pub better-best-requires-clause-best : goal.better-best-requires-clause-best
 better-best-requires-clause-best g c κs within =
     let h = c.choices.invariant in
-    h.best.cost ∙ sym (cost_through-same c.args.pass.now.view c.choices.pass.view h.steps.sees_anew c.args.p c.choices.best.node)
+    h.best.cost ∙ sym (seen_cost_through-same c.args.pass.now.view c.choices.pass.view h.steps.sees_anew c.args.p c.choices.best.node)
 
 pub choices-preserved : goal.choices-preserved
 choices-preserved g c =
@@ -67,6 +67,6 @@ pub returns-clause-least : goal.returns-clause-least
 returns-clause-least g c =
     let all = take_all c.choices.index c.args.pass.now.near (omega (arith, c.choices-test.false, c.requires.count)) in
     subst
-    (λ ns. IsLeastParent (cost_through c.args.pass.now.view c.args.p)
+    (λ ns. IsLeastParent (seen_cost_through c.args.pass.now.view c.args.p)
     (IsOpenTo (g.C.Clearing.space c.args.hall.now) (tree_seen c.args.pass.now.view).points c.args.p (c.args.nearest ∷ ns)) c.choices.best)
     all c.choices.invariant.best

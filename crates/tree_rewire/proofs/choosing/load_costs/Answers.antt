@@ -20,8 +20,8 @@ loads-init c =
     record {
       steps = PassSees-tree c.args.shared.now c.args.pass.now new c.args.nearest _ _ c.requires.belongs load.view load.goes_on load.seen;
       first = load.found.written;
-      first_loaded = IsLoadedSince-tree c.args.pass.now new c.args.nearest _ c.requires.lawful
-          (SeesNode-present c.args.pass.now.view c.args.nearest c.requires.lawful c.requires.nearest) load.view;
+      first_loaded = IsLoadedSince-tree c.args.pass.now new c.args.nearest _ c.requires.belongs.lawful
+          (SeesNode-present c.args.pass.now.view c.args.nearest c.requires.belongs.lawful c.requires.nearest) load.view;
       earlier = All-nil (SeesPair new.view);
       earlier_loaded = All-nil (IsLoadedSince c.args.pass.now.view.steps new.view);
       whole = λ all. SeesAsBefore-loaded c.args.pass.now.view new.view (TreeOf c.args.nearest) _ load.seen (load.whole all);

@@ -2,20 +2,24 @@ use Rattle.std.proofs.Common.{◌≤◌, inl, inr, subst, sym}
 use Rattle.plan_model.specs.Trees.PointsByNumber.{point_of}
 use Rattle.step_core.specs.Views.{tree_seen}
 use Rattle.tree_rewire.specs.Rewirings.{CostsLess}
-use Rattle.tree_rewire.specs.SeenCosts.{SeesPair, cost_seen, cost_through}
+use Rattle.tree_rewire.specs.SeenCosts.{SeesPair, cost_seen, seen_cost_through}
 use Rattle.tree_rewire.proofs.fall_laws.falls_reach_children.Goals as goal
 
 pub returns-clause-fallen : goal.returns-clause-fallen
 returns-clause-fallen k = λ space near node n before after spreads pair parent_pair fell below.
-    (spreads n record { pair = pair; parent_pair = parent_pair; fell = inl fell } below).most
+    elim (spreads n record { pair = pair; parent_pair = parent_pair; fell = inl fell }) [
+      | inl within ↦ within.most
+      | inr lost ↦ absurd (lost.elsewhere (below lost.listed lost.shortcut))
+    ]
 
 pub returns-clause-child : goal.returns-clause-child
 returns-clause-child k = λ space near node n c before after spreads pair pair_c is fell apart.
-    subst (λ m. cost_seen after c ≤ cost_through after (point_of (tree_seen after).points c) m) is
-    (spreads c
-    record {
+    subst (λ m. cost_seen after c ≤ seen_cost_through after (point_of (tree_seen after).points c) m) is
+    (elim (spreads c record {
       pair = pair_c;
       parent_pair = subst (SeesPair before) (sym is) pair;
       fell = inr (subst (CostsLess before after) (sym is) fell);
-    }
-    (λ near_c shortcut. absurd (apart near_c))).most
+    }) [
+      | inl within ↦ within.most
+      | inr lost ↦ absurd (apart lost.listed)
+    ])

@@ -2,14 +2,14 @@ use Rattle.std.proofs.Common.{◌≡◌, ℕ, ◌<◌, ◌≤◌, arith, inl, in
 use Rattle.plan_model.specs.Trees.PointsByNumber.{point_of}
 use Rattle.step_core.specs.Views.{tree_seen}
 use Rattle.step_core.specs.declared.views.View.{View}
-use Rattle.tree_rewire.specs.SeenCosts.{cost_seen, cost_through}
+use Rattle.tree_rewire.specs.SeenCosts.{cost_seen, seen_cost_through}
 use Rattle.tree_rewire.proofs.fall_laws.spreads_reach_grandchildren.Goals as goal
 
 -- what a node costs through its parent, by the parent's name
-within : (after : View) (c parent named : ℕ) → parent ≡ named → cost_seen after c ≤ cost_through after (point_of (tree_seen after).points c) parent
-    → cost_seen after c ≤ cost_through after (point_of (tree_seen after).points c) named
+within : (after : View) (c parent named : ℕ) → parent ≡ named → cost_seen after c ≤ seen_cost_through after (point_of (tree_seen after).points c) parent
+    → cost_seen after c ≤ seen_cost_through after (point_of (tree_seen after).points c) named
 within after c parent named same most =
-    subst (λ m. cost_seen after c ≤ cost_through after (point_of (tree_seen after).points c) m) same most
+    subst (λ m. cost_seen after c ≤ seen_cost_through after (point_of (tree_seen after).points c) m) same most
 
 pub returns-clause-child : goal.returns-clause-child
 returns-clause-child k = λ node c before after spreads pair is.

@@ -19,7 +19,7 @@ put_cost parent cost small = omega (arith, small)
 
 pub lowers-init : goal.lowers-init
 lowers-init c = record {
-  steps = PassSees-refl NamesTree c.args.shared.now c.args.pass.now c.requires.belongs c.requires.lawful;
+  steps = PassSees-refl NamesTree c.args.shared.now c.args.pass.now c.requires.belongs;
   others = λ m apart. refl;
   pair = c.requires.pair;
   whole = λ all. inl (λ name. refl);
@@ -51,29 +51,29 @@ lowers-preserved c =
       whole = λ all.
           let before = c.args.pass.now.view in
           let now = c.lowers.pass.view in
-          let limit : ℕ = c.seen_cost.result + c.cost.result in
-          let limit_is : limit ≡ cost_seen before c.args.parent + cost_of c.args.from c.args.to =
+          let most : ℕ = c.seen_cost.result + c.cost.result in
+          let most_is : most ≡ cost_seen before c.args.parent + cost_of c.args.from c.args.to =
           omega (arith, c.seen_cost.ensures, c.cost.ensures.value) in
           elim (h.whole all) [
             | inl same ↦
-                let is = on_ok c.lower-found.result (c.lower-found.new.pass ≡ with_view c.lowers.pass (lowered now c.args.node c.args.parent limit))
+                let is = on_ok c.lower-found.result (c.lower-found.new.pass ≡ with_view c.lowers.pass (lowered now c.args.node c.args.parent most))
                 (lower.whole (HasWholeShare-later NamesTree before now h.steps.sees_anew all)) lower.view in
-                let writes = WritesWord-lowered now c.lower-found.new.pass.view c.args.node c.args.parent limit h.steps.sees_anew.goes_on.lawful h.pair
+                let writes = WritesWord-lowered now c.lower-found.new.pass.view c.args.node c.args.parent most h.steps.sees_anew.goes_on.lawful h.pair
                 (ap (λ (p : PassState). p.view) is) in
                 inr (record {
-                  here = writes.here ∙ ap (tree_word c.args.parent) limit_is;
+                  here = writes.here ∙ ap (tree_word c.args.parent) most_is;
                   others = λ name off. writes.others name off ∙ same name;
                 })
             | inr writes ↦
                 let small : c.args.parent < 2 ^ 18 =
-                omega (arith, pair_low before c.args.parent c.requires.lawful c.requires.parent_pair, c.requires.lawful.run.marks) in
+                omega (arith, pair_low before c.args.parent c.requires.belongs.lawful c.requires.parent_pair, c.requires.belongs.lawful.run.marks) in
                 absurd (omega (
                   arith,
                   c.lowers-test.true,
                   c.seen_cost-in-lowers.ensures,
                   ap cost_in writes.here,
                   put_cost c.args.parent (cost_seen before c.args.parent + cost_of c.args.from c.args.to) small,
-                  limit_is,
+                  most_is,
                 ))
           ];
     }

@@ -4,7 +4,7 @@ use Rattle.tree_rewire.proofs.WholeShares.{SeesAsBefore-loaded}
 use Rattle.tree_rewire.proofs.rewiring.known_cost.Goals as goal
 
 pub pair-requires : goal.pair-requires
-pair-requires c = c.requires.lawful.within c.args.node (SeesNode-present c.args.pass.now.view c.args.node c.requires.lawful c.requires.node)
+pair-requires c = c.requires.belongs.lawful.within c.args.node (SeesNode-present c.args.pass.now.view c.args.node c.requires.belongs.lawful c.requires.node)
 
 pub returns-clause-whole : goal.returns-clause-whole
 returns-clause-whole c =

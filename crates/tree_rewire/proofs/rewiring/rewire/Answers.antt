@@ -31,7 +31,7 @@ pub nodes-init : goal.nodes-init
 nodes-init g c =
     let pass = c.args.pass.now in
     record {
-      steps = PassLowers-lists c.args.shared.now pass pass c.requires.belongs c.near_count-count.ensures.lawful refl refl refl refl;
+      steps = PassLowers-lists c.args.shared.now pass pass c.requires.belongs refl refl refl refl;
       earlier = All-nil (IsRewired (g.C.Clearing.space c.args.hall.now) pass.view pass.view c.hand_point-from.result (cost_seen pass.view (c.args.k + 1)));
       spread = HasSpreadFalls-none (g.C.Clearing.space c.args.hall.now) (Contains pass.near) (c.args.k + 1) pass.view pass.view (λ n pair. refl);
       whole = λ all tree mirrors. record { now = tree; mirrors = mirrors; leads = λ last r. r };
@@ -101,7 +101,7 @@ returns-clause-rewired g c =
     let own = subst (λ s. All (IsRewired s before c.nodes.pass.view from (cost_seen before (c.args.k + 1))) (take c.nodes.index c.args.pass.now.near))
     c.requires.hall c.nodes.invariant.earlier in
     all_rewired before c.args.k from held.0 held.1 c.requires.placed c.hand_point-from.ensures (space_of c.args.shared.now.task.scene)
-    c.nodes.pass.view c.args.pass.now.near c.near_count-count.ensures.lawful
+    c.nodes.pass.view c.args.pass.now.near c.requires.belongs.lawful
     (subst (All (IsRewired (space_of c.args.shared.now.task.scene) before c.nodes.pass.view from (cost_seen before (c.args.k + 1)))) all own)
 
 pub returns-clause-spread : goal.returns-clause-spread

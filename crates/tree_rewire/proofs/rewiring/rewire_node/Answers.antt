@@ -68,6 +68,9 @@ to_is g c =
 pub costs_less_through-requires-clause-from : goal.costs_less_through-requires-clause-from
 costs_less_through-requires-clause-from g c = IsBounded-seen c.args.pass.now.view c.args.parent c.args.from c.requires.parent
 
+pub improve-requires-clause-belongs : goal.improve-requires-clause-belongs
+improve-requires-clause-belongs g c = (loads g (goal.at.improve-requires-clause-belongs g c).After-seen_cost).belongs
+
 pub improve-requires-clause-parent : goal.improve-requires-clause-parent
 improve-requires-clause-parent g c =
     let to = goal.at.improve-requires-clause-parent g c in

@@ -16,7 +16,7 @@ use Rattle.tree_rewire.proofs.spreading.looser.Goals as goal
 use Rattle.tree_rewire.proofs.spreading.looser.Goals.{After-costs_less_through}
 
 pub pair-requires : goal.pair-requires
-pair-requires c = pair_low c.args.pass.now.view c.args.node c.requires.lawful c.requires.pair
+pair-requires c = pair_low c.args.pass.now.view c.args.node c.requires.belongs.lawful c.requires.pair
 
 -- both points are loaded
 loads : (c : After-costs_less_through) → PassSees NamesPoint c.args.shared.now c.args.pass.now c.point-there.new.pass

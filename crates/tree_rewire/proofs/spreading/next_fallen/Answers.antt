@@ -17,7 +17,7 @@ pops : (c : After-pop_waiting) → PassLowers c.args.shared.now c.visits.pass c.
 pops c =
     let h = c.visits.invariant in
     let is = c.pop_waiting.ensures.others in
-    PassLowers-lists c.args.shared.now c.visits.pass c.pop_waiting.new.self h.steps.belongs h.steps.sees_anew.goes_on.lawful (ap (λ p. p.table) is)
+    PassLowers-lists c.args.shared.now c.visits.pass c.pop_waiting.new.self h.steps.belongs (ap (λ p. p.table) is)
     (ap (λ p. p.view) is) (ap (λ p. p.near) is) (ap (λ p. p.spots) is)
 
 -- and settled
@@ -26,7 +26,7 @@ settles c =
     let h = c.visits.invariant in
     let is = c.pop_waiting.ensures.others in
     PassLowers-trans c.args.shared.now c.visits.pass c.pop_waiting.new.self c.settle.new.pass
-    (PassLowers-lists c.args.shared.now c.visits.pass c.pop_waiting.new.self h.steps.belongs h.steps.sees_anew.goes_on.lawful (ap (λ p. p.table) is)
+    (PassLowers-lists c.args.shared.now c.visits.pass c.pop_waiting.new.self h.steps.belongs (ap (λ p. p.table) is)
     (ap (λ p. p.view) is) (ap (λ p. p.near) is) (ap (λ p. p.spots) is))
     (PassLowers-sees c.args.shared.now c.pop_waiting.new.self c.settle.new.pass c.settle.ensures.steps)
 

@@ -1,8 +1,8 @@
 use Rattle.std.proofs.Common.{◌≡◌, ◌⊎◌, ◌≤◌, ◌<◌, ◌+◌, ℕ, [], ap, arith, length, refl, subst, sym, ◌∙◌}
 use Rattle.plan_words.specs.States.{HasWholeShare}
 use Rattle.plan_words.specs.Waiting.{HasSeenParent, IsOn}
-use Rattle.step_core.specs.LaterViews.{IsLawfulView}
-use Rattle.tree_rewire.specs.SeenCosts.{NamesTreeOrPoint, SeesPair}
+use Rattle.step_core.specs.declared.views.View.{View}
+use Rattle.tree_rewire.specs.SeenCosts.{NamesTreeOrPoint}
 use Rattle.tree_rewire.specs.Spreads.{KeepsParents}
 use Rattle.tree_rewire.proofs.CostSteps.{PassLowers-lists, PassLowers-trans}
 use Rattle.tree_rewire.proofs.SeenCosts.{pair_low}
@@ -15,7 +15,8 @@ use Rattle.tree_rewire.proofs.spreading.spread.Goals.{After-next_fallen}
 pub queue_children-requires-clause-low : goal.queue_children-requires-clause-low
 queue_children-requires-clause-low c =
     let view_is = ap (λ p. p.view) c.begin_waiting.ensures.waits in
-    pair_low c.begin_waiting.new.self.view c.args.node c.begin_waiting.ensures.lawful (subst (λ v. SeesPair v c.args.node) (sym view_is) c.requires.pair)
+    subst (λ (v : View). c.args.node ≤ length v.run.marks) (sym view_is)
+    (pair_low c.args.pass.now.view c.args.node c.requires.belongs.lawful c.requires.pair)
 
 -- a pass with the whole share keeps the parents
 falls_whole : (c : After-next_fallen) → HasWholeShare c.args.pass.now.view → KeepsParents c.args.pass.now.view c.next_fallen.new.pass.view
@@ -31,11 +32,10 @@ falls-init c =
     let old = c.args.pass.now in
     let mid = c.begin_waiting.new.self in
     let new = c.queue_children.new.self in
-    let lawful = subst IsLawfulView (ap (λ p. p.view) begin) c.begin_waiting.ensures.lawful in
     let view_is : mid.view ≡ old.view = ap (λ p. p.view) begin in
-    let one = PassLowers-lists c.args.shared.now old mid c.requires.belongs lawful (ap (λ p. p.table) begin) view_is (ap (λ p. p.near) begin)
+    let one = PassLowers-lists c.args.shared.now old mid c.requires.belongs (ap (λ p. p.table) begin) view_is (ap (λ p. p.near) begin)
     (ap (λ p. p.spots) begin) in
-    let other = PassLowers-lists c.args.shared.now mid new one.belongs c.begin_waiting.ensures.lawful (ap (λ p. p.table) queue)
+    let other = PassLowers-lists c.args.shared.now mid new one.belongs (ap (λ p. p.table) queue)
     (ap (λ p. p.view) queue) (ap (λ p. p.near) queue) (ap (λ p. p.spots) queue) in
     let only : (n : ℕ) → IsOn new.around n → IsOn [] n ⊎ HasSeenParent old.view c.args.node n =
     λ n on. subst (λ v. IsOn [] n ⊎ HasSeenParent v c.args.node n) view_is
@@ -76,7 +76,7 @@ falls-preserved c =
     let next = c.next_fallen.ensures.steps in
     let queue = c.queue_children-in-Some.ensures in
     let is = queue.others in
-    let last = PassLowers-lists c.args.shared.now mid new next.belongs next.sees_anew.goes_on.lawful (ap (λ p. p.table) is) (ap (λ p. p.view) is)
+    let last = PassLowers-lists c.args.shared.now mid new next.belongs (ap (λ p. p.table) is) (ap (λ p. p.view) is)
     (ap (λ p. p.near) is) (ap (λ p. p.spots) is) in
     record {
       steps = PassLowers-trans c.args.shared.now old now new h.steps (PassLowers-trans c.args.shared.now now mid new next last);

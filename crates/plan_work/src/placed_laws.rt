@@ -6,7 +6,7 @@ ghost use Rattle.step_core.specs.declared.views.Hand.{Hand};
 ghost use Rattle.step_core.specs.declared.views.View.{View};
 ghost use Rattle.tree_rewire.specs.Rewirings.{HasPlaced};
 
-/// Once `place` of `kd_shared` has placed the node of mark k, [`rewire`](crate::rewire) may follow: the mark is still in hand, and its
+/// Once `place` of `kd_shared` has placed the node of mark k, `rewire` of `tree_rewire` may follow: the mark is still in hand, and its
 /// node is linked and counted, and seen at its point, with its parent and its cost.
 pub fn placed_nodes_may_rewire()
     ensures hand { (view : View) (hand : Hand) → IsPlaced view hand → IsSome view.hand }
