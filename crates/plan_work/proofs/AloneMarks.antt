@@ -10,7 +10,7 @@ use Rattle.plan_words.specs.States.{PassState, SharedState}
 use Rattle.plan_work.proofs.MirroredTrees.{Mirrors-still}
 use Rattle.plan_work.proofs.RecordedMarks.{others_still}
 use Rattle.plan_work.proofs.TextbookSteps.{IsTextbookRun-push, RecordsNext-run}
-use Rattle.plan_work.specs.Extensions.{HasRecorded}
+use Rattle.plan_work.specs.ExtensionSteps.{HasRecorded}
 use Rattle.plan_work.specs.OneWorker.{SeesTextbook, WorksAlone}
 use Rattle.plan_work.specs.WholeShares.{SeesButCount}
 use Rattle.step_core.specs.GrownWords.{record_at}

@@ -17,7 +17,8 @@ use Rattle.plan_work.proofs.AloneMarks.{KeepsRun-refl, SeesTextbook-recorded, Se
 use Rattle.plan_work.proofs.MirroredTrees.{Mirrors-absent, SteersTo-mirrored, point_of-mirrored}
 use Rattle.plan_work.proofs.TextbookSteps.{Handles-blocked, Handles-same}
 use Rattle.plan_work.proofs.WholeLists.{IsFilledWhole-still, IsSteeredWhole-found, IsSteeredWhole-still}
-use Rattle.plan_work.specs.Extensions.{HasRecorded, HasSteered, KeepsRecords, own_unplaced}
+use Rattle.plan_work.specs.Extensions.{HasSteered}
+use Rattle.plan_work.specs.ExtensionSteps.{HasRecorded, KeepsRecords, own_unplaced}
 use Rattle.plan_work.specs.OneWorker.{SeesTextbook, WorksAlone}
 use Rattle.plan_work.specs.WholeShares.{IsFilledWhole, IsSteeredWhole, KeepsNode, KeepsOthers, SeesButCount}
 use Rattle.step_core.specs.ViewSteps.{pointed}

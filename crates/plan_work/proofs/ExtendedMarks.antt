@@ -12,7 +12,7 @@ use Rattle.plan_model.proofs.NewNodes.{point_of-stands}
 use Rattle.plan_model.proofs.SightLaws.{EndsSince-later}
 use Rattle.plan_model.specs.Geometry.Bounds.{IsBounded}
 use Rattle.plan_words.specs.States.{BelongsTo, GoesOn, PassState, SharedState, turn_of, with_view, worker_of}
-use Rattle.plan_words.proofs.GoingOn.{GoesOn-trans}
+use Rattle.plan_words.proofs.GoingOn.{BelongsTo-later, GoesOn-trans}
 use Rattle.step_core.proofs.LawfulSights.{IsLaterMoment-later, KeepsSight-lawful}
 use Rattle.step_core.proofs.SeenWords.{point_at-seen, seen-within}
 use Rattle.step_core.specs.SeenRecords.{MayBeBlocked, MayRecord}
@@ -34,8 +34,8 @@ use Rattle.plan_work.proofs.KeptSights.{HasSteered-still}
 use Rattle.plan_work.proofs.RecordedMarks.{HandlesMark-recorded, IsSteeredTo-still, MaySteer-steered, others_still}
 use Rattle.plan_work.proofs.SteeredOutcomes.{EndsAsSeen-written, WasSteered-to}
 use Rattle.plan_work.proofs.TriedMarks.{HasFilledNear-still}
-use Rattle.plan_work.specs.Extensions.{EndsAsSeen, EndsWritten, HandlesMark, HasFilledNear, HasRecorded, HasSteered, IsBlockedAt, IsExtended}
-use Rattle.plan_work.specs.Extensions.{IsFilledSince, IsSteeredTo, KeepsRecords, MayPlace, WasSteered, own_unplaced}
+use Rattle.plan_work.specs.Extensions.{EndsAsSeen, HandlesMark, HasSteered, IsBlockedAt, IsExtended, WasSteered}
+use Rattle.plan_work.specs.ExtensionSteps.{EndsWritten, HasFilledNear, HasRecorded, IsFilledSince, IsSteeredTo, KeepsRecords, MayPlace, own_unplaced}
 use Rattle.plan_model.specs.declared.records.Outcome.{Outcome}
 
 -- ---- one after another
@@ -227,10 +227,7 @@ module _
 
     pub KeepsRecords-written : KeepsRecords shared before written
     KeepsRecords-written = record {
-      belongs = record {
-        table = ap (λ (x : PassState). x.table) is ∙ keeps.belongs.table;
-        run = goes_on.later.run ∙ keeps.belongs.run;
-      };
+      belongs = BelongsTo-later shared found written (ap (λ (x : PassState). x.table) is) goes_on keeps.belongs;
       goes_on = GoesOn-trans before.view found.view written.view keeps.goes_on goes_on;
       records = λ j. ap (λ v. sees v (RecordOf j)) then ∙ keeps.records j;
       counters = λ g. ap (λ v. sees v (Counter g)) then ∙ keeps.counters g;

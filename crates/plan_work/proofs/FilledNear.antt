@@ -1,6 +1,6 @@
 -- The near list of a new node, from the count that was loaded before.
-use Rattle.std.proofs.Common.{◌≡◌, ℕ, zero, suc, ◌+◌, ◌-◌, ◌*◌, ◌^◌, ◌<◌, ◌≤◌, Bool, true, false, List, length, refl, sym, ap, ◌∙◌, subst, inl, inr, arith}
-use Rattle.std.specs.Prelude.{cond, nat_le, slice_index_or}
+use Rattle.std.proofs.Common.{◌≡◌, ℕ, ◌+◌, ◌-◌, ◌*◌, ◌^◌, ◌<◌, ◌≤◌, List, length, refl, sym, ap, ◌∙◌, subst, inl, inr, arith}
+use Rattle.std.specs.Prelude.{nat_le, slice_index_or}
 use Rattle.std.specs.List.{range_with_len}
 use Rattle.std.proofs.lemmas.List.Elements.{Contains-get_or}
 use Rattle.std.proofs.lemmas.Nat.{mul-le}
@@ -8,7 +8,7 @@ use Rattle.std.proofs.lemmas.List.Sums.{length-filter}
 use Rattle.kd_shared.specs.Searches.{AreNearSeen}
 use Rattle.kd_shared.proofs.SearchResults.{AreNearSeen-all, AreNearSeen-only, SweepsWithin-begun}
 use Rattle.plan_model.specs.Geometry.Plane.{squared_distance}
-use Rattle.plan_model.specs.Geometry.Radius.{class_of, greatest, radius_of_class}
+use Rattle.plan_model.specs.Geometry.Radius.{class_of, radius_of_class}
 use Rattle.plan_model.specs.declared.geometry.Point.{Point}
 use Rattle.plan_model.specs.declared.records.Record.{Record}
 use Rattle.plan_model.proofs.RadiusLaws.{greatest-le}
@@ -16,7 +16,8 @@ use Rattle.plan_model.proofs.CountsBelow.{count-some}
 use Rattle.plan_model.proofs.NewNodes.{IsPresent-stands, point_of-stands}
 use Rattle.plan_words.specs.States.{GoesOn, PassState, with_view}
 use Rattle.plan_work.proofs.RecordedMarks.{own_count-same}
-use Rattle.plan_work.specs.Extensions.{HasFilledNear, radius_in}
+use Rattle.plan_work.specs.Extensions.{radius_in}
+use Rattle.plan_work.specs.ExtensionSteps.{HasFilledNear}
 use Rattle.step_core.specs.SeenRecords.{is_own_node, own_count}
 use Rattle.step_core.specs.ViewSteps.{loaded}
 use Rattle.step_core.specs.ViewTrees.{sight_in}

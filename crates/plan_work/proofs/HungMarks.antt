@@ -1,5 +1,5 @@
 -- The node in hand gets its parent and its cost.
-use Rattle.std.proofs.Common.{◌≡◌, ℕ, ◌≤◌, [], ◌∷◌, List, refl, sym, ap, ◌∙◌, subst, arith}
+use Rattle.std.proofs.Common.{◌≡◌, ℕ, ◌≤◌, ◌∷◌, List, refl, sym, ap, ◌∙◌, subst, arith}
 use Rattle.std.specs.Prelude.{All, Contains, slice_index_or}
 use Rattle.std.proofs.lemmas.List.Elements.{All-contains, Contains-get_or}
 use Rattle.plan_model.specs.Spaces.Clearance.{Clear}
@@ -12,7 +12,8 @@ use Rattle.plan_model.specs.declared.geometry.Point.{Point}
 use Rattle.plan_model.proofs.ListMembers.{Contains-after, Contains-first}
 use Rattle.plan_model.proofs.NewNodes.{StandsAt-present}
 use Rattle.plan_words.specs.States.{BelongsTo, GoesOn, PassState, SharedState, with_view}
-use Rattle.plan_work.specs.Extensions.{IsHung, IsPointed, KeepsRecords}
+use Rattle.plan_words.proofs.GoingOn.{BelongsTo-later}
+use Rattle.plan_work.specs.ExtensionSteps.{IsHung, IsPointed, KeepsRecords}
 use Rattle.step_core.specs.ViewSteps.{half, treed}
 use Rattle.step_core.specs.ViewTrees.{IsCostBelow, MayHang}
 use Rattle.step_core.specs.Views.{sees, setup_in, tree_seen}
@@ -20,12 +21,12 @@ use Rattle.step_core.specs.WordNames.Word.{Counter, RecordOf, TreeOf}
 use Rattle.step_core.specs.declared.views.Hand.{Hand}
 use Rattle.step_core.specs.declared.views.Stage.TheVariants.{Half}
 use Rattle.step_core.specs.declared.views.View.{View}
-use Rattle.tree_rewire.specs.SeenCosts.{IsLoadedSince, SeesPair, cost_seen, cost_through}
+use Rattle.tree_rewire.specs.SeenCosts.{IsLoadedSince, SeesPair, cost_seen, seen_cost_through}
 use Rattle.plan_work.proofs.FilledNear.{looked_since}
 
 module _ (space : ConfigurationSpace) (view : View) (hand : Hand) (p : Point) (nearest parent cost : ℕ) (near : List ℕ) (pointed : IsPointed hand nearest p)
-    (least : IsFirstLeast (cost_through view p) (IsOpenTo space (tree_seen view).points p (nearest ∷ near)) parent)
-    (cost_is : cost ≡ cost_through view p parent) where
+    (least : IsFirstLeast (seen_cost_through view p) (IsOpenTo space (tree_seen view).points p (nearest ∷ near)) parent)
+    (cost_is : cost ≡ seen_cost_through view p parent) where
   -- the node may hang below the parent that was chosen
   pub MayHang-chosen : IsPresent (tree_seen view).points nearest → SeesPair view nearest → Clear space (point_of (tree_seen view).points nearest) p
       → IsCostBelow view p parent cost → MayHang view hand parent cost
@@ -46,7 +47,7 @@ module _ (space : ConfigurationSpace) (view : View) (hand : Hand) (p : Point) (n
       }
 
   -- and costs no more than through any near node
-  pub chosen_near : (i : ℕ) → Contains near i → Clear space (point_of (tree_seen view).points i) p → cost ≤ cost_through view p i
+  pub chosen_near : (i : ℕ) → Contains near i → Clear space (point_of (tree_seen view).points i) p → cost ≤ seen_cost_through view p i
   chosen_near i among clear =
       omega (arith, cost_is, (least.not_above i record { among = Contains-after nearest near i among; clear = clear }).least)
 
@@ -55,7 +56,7 @@ pub IsHung-written :
     (space : ConfigurationSpace) (view : View) (own : Hand) (m : ℕ) (p : Point) (pair : ℕ × ℕ) (near : List ℕ) (then : View) → IsPointed own m p
     → then ≡ treed (half view own pair.0 pair.1) (record own { stage = Half; parent = pair.0; cost = pair.1 }) → space ≡ (setup_in view.run).space
     → All (SeesPair view) (m ∷ near) → (steps : ℕ) → All (IsLoadedSince steps view) (m ∷ near) → GoesOn view then
-    → ((i : ℕ) → Contains near i → Clear space (point_of (tree_seen view).points i) p → pair.1 ≤ cost_through view p i)
+    → ((i : ℕ) → Contains near i → Clear space (point_of (tree_seen view).points i) p → pair.1 ≤ seen_cost_through view p i)
     → IsHung steps then own pair near
 IsHung-written space view own m p pair near then pointed is same pairs steps loaded goes_on chosen =
     subst (λ v. IsHung steps v own pair near) (sym is) record {
@@ -82,7 +83,7 @@ pub KeepsRecords-written :
     → after ≡ with_view before (treed (half before.view own parent cost) (record own { stage = Half; parent = parent; cost = cost }))
     → GoesOn before.view after.view → KeepsRecords shared before after
 KeepsRecords-written shared before after own parent cost belongs is goes_on = record {
-  belongs = record { table = ap (λ (p : PassState). p.table) is ∙ belongs.table; run = goes_on.later.run ∙ belongs.run };
+  belongs = BelongsTo-later shared before after (ap (λ (p : PassState). p.table) is) goes_on belongs;
   goes_on = goes_on;
   records = λ k. ap (λ (p : PassState). sees p.view (RecordOf k)) is;
   counters = λ g. ap (λ (p : PassState). sees p.view (Counter g)) is;

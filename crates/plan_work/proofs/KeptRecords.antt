@@ -2,8 +2,8 @@
 use Rattle.std.proofs.Common.{◌≡◌, ℕ, ap, ◌∙◌}
 use Rattle.kd_shared.specs.Looking.{OnlyLooks}
 use Rattle.plan_words.specs.States.{BelongsTo, GoesOn, PassState, SharedState}
-use Rattle.plan_words.proofs.GoingOn.{GoesOn-trans}
-use Rattle.plan_work.specs.Extensions.{KeepsRecords}
+use Rattle.plan_words.proofs.GoingOn.{BelongsTo-later, GoesOn-trans}
+use Rattle.plan_work.specs.ExtensionSteps.{KeepsRecords}
 use Rattle.step_core.specs.ViewSteps.{loaded}
 use Rattle.step_core.specs.Views.{sees}
 use Rattle.step_core.specs.WordNames.{Word, WritesWord}
@@ -21,17 +21,12 @@ KeepsRecords-trans shared before mid after one other = record {
   most = other.most ∙ one.most;
 }
 
--- a pass stays one of the tree while its table does
-belongs_still : (shared : SharedState) (before after : PassState) → BelongsTo before shared → after.table ≡ before.table → GoesOn before.view after.view
-    → BelongsTo after shared
-belongs_still shared before after belongs table goes_on = record { table = table ∙ belongs.table; run = goes_on.later.run ∙ belongs.run }
-
 -- the count is loaded
 pub KeepsRecords-number : (shared : SharedState) (before after : PassState) (nodes value : ℕ) → BelongsTo before shared
     → after ≡ record before { view = loaded before.view Count nodes } → GoesOn before.view after.view
     → WritesWord Count value (sees before.view) (sees after.view) → KeepsRecords shared before after
 KeepsRecords-number shared before after nodes value belongs is goes_on writes = record {
-  belongs = belongs_still shared before after belongs (ap (λ (p : PassState). p.table) is) goes_on;
+  belongs = BelongsTo-later shared before after (ap (λ (p : PassState). p.table) is) goes_on belongs;
   goes_on = goes_on;
   records = λ k. writes.others (RecordOf k) (λ e. cc);
   counters = λ g. writes.others (Counter g) (λ e. cc);

@@ -4,6 +4,7 @@ pub mod FilledNear
 pub mod KeptRecords
 pub mod HungMarks
 pub mod TriedMarks
+pub mod PlacedHands
 pub mod NearestListed
 pub mod RecordedMarks
 pub mod PlacedMarks

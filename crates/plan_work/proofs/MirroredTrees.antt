@@ -13,7 +13,7 @@ use Rattle.plan_model.specs.Trees.OpenNodes.{IsOpenTo}
 use Rattle.plan_model.specs.Runs.OrderLaw.{KeepsOrder}
 use Rattle.plan_model.specs.Trees.PointsByNumber.{IsPresent, point_at, point_of}
 use Rattle.plan_model.specs.Geometry.Steering.{steered}
-use Rattle.plan_model.specs.Runs.Textbook.{IsBestParent, Nodes, Setup, SteersTo, near_new, cost_through as textbook_cost}
+use Rattle.plan_model.specs.Runs.Textbook.{IsBestParent, Nodes, Setup, SteersTo, near_new, cost_through}
 use Rattle.plan_model.specs.Trees.NodeLists.{parent_of, parent_or_zero, points_of, sum_of}
 use Rattle.plan_model.specs.Trees.TreeStates.{state_of}
 use Rattle.plan_model.specs.declared.geometry.Point.{Point}
@@ -29,7 +29,7 @@ use Rattle.step_core.specs.WordNames.Word.{PointOf, TreeOf}
 use Rattle.step_core.specs.Words.{cost_in, parent_in, point_of_word}
 use Rattle.step_core.specs.declared.views.View.{View}
 use Rattle.tree_rewire.specs.Mirrors.{Mirrors}
-use Rattle.tree_rewire.specs.SeenCosts.{cost_through}
+use Rattle.tree_rewire.specs.SeenCosts.{seen_cost_through}
 
 -- ---- what it sees
 
@@ -56,8 +56,8 @@ module _ (view : View) (tree : Nodes) (mirrors : Mirrors view tree) where
   distance-mirrored : (q : Point) (n : ℕ) → distance_to q seen n ≡ distance_to q (points_of tree) n
   distance-mirrored q n = ap (λ a. squared_distance a q) (point_of-mirrored n)
 
-  pub cost_through-mirrored : (p : Point) (n : ℕ) → IsPresent (points_of tree) n → cost_through view p n ≡ textbook_cost tree p n
-  cost_through-mirrored p n h =
+  pub seen_cost_through-mirrored : (p : Point) (n : ℕ) → IsPresent (points_of tree) n → seen_cost_through view p n ≡ cost_through tree p n
+  seen_cost_through-mirrored p n h =
       ap (λ c. c + cost_of (point_of seen n) p) (mirrors.costs n h) ∙ ap (λ a. sum_of tree n + cost_of a p) (point_of-mirrored n)
 
   -- the nearest node of the tree steers to the point
@@ -75,7 +75,7 @@ module _ (view : View) (tree : Nodes) (mirrors : Mirrors view tree) where
   -- and the best parent by the costs seen is the best by the sums
   pub IsBestParent-mirrored :
       (p : Point) (nearest f : ℕ) (near : List ℕ) → near ≡ near_new (setup_in view.run) (points_of tree) p → All (IsPresent seen) (nearest ∷ near)
-      → IsFirstLeast (cost_through view p) (IsOpenTo (setup_in view.run).space seen p (nearest ∷ near)) f
+      → IsFirstLeast (seen_cost_through view p) (IsOpenTo (setup_in view.run).space seen p (nearest ∷ near)) f
       → IsBestParent (setup_in view.run) tree nearest p f
   IsBestParent-mirrored p nearest f near is present best = record {
     member = record {
@@ -84,8 +84,8 @@ module _ (view : View) (tree : Nodes) (mirrors : Mirrors view tree) where
     };
     not_above = λ i h.
         let among : Contains (nearest ∷ near) i = subst (λ ns. Contains (nearest ∷ ns) i) (sym is) h.among in
-        IsNotAbove-keys (cost_through view p) (textbook_cost tree p) f i (cost_through-mirrored p f (stands f best.member.among))
-        (cost_through-mirrored p i (stands i among))
+        IsNotAbove-keys (seen_cost_through view p) (cost_through tree p) f i (seen_cost_through-mirrored p f (stands f best.member.among))
+        (seen_cost_through-mirrored p i (stands i among))
         (best.not_above i record {
           among = among;
           clear = subst (λ a. Clear (setup_in view.run).space a p) (sym (point_of-mirrored i)) h.clear;
@@ -143,7 +143,7 @@ pub record SeesNewNode (before after : View) (k f : ℕ) (p : Point) (cost : ℕ
 module _
     (setup : Setup) (before after : View) (tree : Nodes) (records : List Record) (k f : ℕ) (p : Point) (entry : Record)
     (mirrors : Mirrors before tree) (next : RecordsNext tree records k) (order : KeepsOrder setup (state_of tree records))
-    (places : PlacesNode setup tree k f p entry) (new : SeesNewNode before after k f p (textbook_cost tree p f)) where
+    (places : PlacesNode setup tree k f p entry) (new : SeesNewNode before after k f p (cost_through tree p f)) where
   abbrev longer : Nodes
   longer = tree ++ Some (record { point = p; parent = f }) ∷ []
 

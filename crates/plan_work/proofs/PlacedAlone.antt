@@ -13,7 +13,7 @@ use Rattle.plan_model.specs.Trees.LeastPairs.{IsFirstLeast}
 use Rattle.plan_model.specs.Trees.OpenNodes.{IsOpenTo}
 use Rattle.plan_model.specs.Trees.PointsByNumber.{IsFree, IsPresent, node_count, point_at, point_of}
 use Rattle.plan_model.specs.Geometry.Radius.{class_of}
-use Rattle.plan_model.specs.Runs.Textbook.{Handles, IsBestParent, Nodes, Rewires, Setup, SteersTo, near_new, cost_through as textbook_cost}
+use Rattle.plan_model.specs.Runs.Textbook.{Handles, IsBestParent, Nodes, Rewires, Setup, SteersTo, near_new, cost_through}
 use Rattle.plan_model.specs.Runs.Textbook.{placed_record, unplaced_record}
 use Rattle.plan_model.specs.Trees.NodeLists.{points_of}
 use Rattle.plan_model.specs.declared.geometry.Point.{Point}
@@ -26,12 +26,12 @@ use Rattle.plan_words.specs.States.{PassState, SharedState, turn_of, worker_of}
 use Rattle.plan_work.proofs.AloneMarks.{KeepsRun, SeesTextbook-recorded, WorksAlone-recorded}
 use Rattle.plan_work.proofs.EqualPoints.{count-same, near_new-same}
 use Rattle.plan_work.proofs.MirroredTrees.{IsBestParent-mirrored, Mirrors-absent, Mirrors-placed, Mirrors-still, SeesNewNode, SteersTo-mirrored}
-use Rattle.plan_work.proofs.MirroredTrees.{cost_through-mirrored, point_of-mirrored}
+use Rattle.plan_work.proofs.MirroredTrees.{seen_cost_through-mirrored, point_of-mirrored}
 use Rattle.plan_work.proofs.TextbookSteps.{Handles-placed, Handles-same, KeepsOrder-run, RecordsNext-run}
-use Rattle.plan_work.specs.Extensions.{HasRecorded, IsTried, KeepsRecords, MayPlace, hung_by, own_placed, own_unplaced}
+use Rattle.plan_work.specs.ExtensionSteps.{HasRecorded, IsTried, KeepsRecords, MayPlace, hung_by, own_placed, own_unplaced}
 use Rattle.plan_work.specs.OneWorker.{SeesTextbook, WorksAlone}
 use Rattle.plan_work.specs.WholeShares.{IsFilledWhole, IsSteeredWhole, IsTriedWhole}
-use Rattle.plan_work.specs.declared.placing.Hanging.{Hanging}
+use Rattle.plan_work.specs.declared.mark_placing.Hanging.{Hanging}
 use Rattle.step_core.proofs.PackedWords.{cost_in-tree_word, parent_in-tree_word}
 use Rattle.step_core.proofs.SeenWords.{point_at-seen}
 use Rattle.step_core.specs.SeenWords.{seen_point}
@@ -46,7 +46,7 @@ use Rattle.step_core.specs.declared.views.Stage.TheVariants.{Counted}
 use Rattle.step_core.specs.declared.views.View.{View}
 use Rattle.tree_rewire.proofs.SeenCosts.{stands_later}
 use Rattle.tree_rewire.specs.Mirrors.{Mirrors}
-use Rattle.tree_rewire.specs.SeenCosts.{IsInReach, NamesTreeOrPoint, SeesAnew, cost_through}
+use Rattle.tree_rewire.specs.SeenCosts.{IsInReach, NamesTreeOrPoint, SeesAnew, seen_cost_through}
 
 -- where a node is seen goes by its own word
 point_kept : (before after : View) → after.run ≡ before.run → (n : ℕ) → sees after (PointOf n) ≡ sees before (PointOf n)
@@ -164,20 +164,20 @@ module _
   parent =
       IsBestParent-mirrored before.view tree book.nodes p m f before.near near_is
       (All-cons (IsPresent (tree_seen before.view).points) m before.near steers.nearest.member (λ i d below. (reach i d below).present))
-      (subst (λ s. IsFirstLeast (cost_through before.view p) (IsOpenTo s (tree_seen before.view).points p (m ∷ before.near)) f) space whole.best.least)
+      (subst (λ s. IsFirstLeast (seen_cost_through before.view p) (IsOpenTo s (tree_seen before.view).points p (m ∷ before.near)) f) space whole.best.least)
 
   f_present : IsPresent (points_of tree) f
   f_present = (candidate-reachable setup (points_of tree) (mark_at before.view.run.marks k) m p f steers_tree parent.member).present
 
-  cost_is : hanging.cost ≡ textbook_cost tree p f
-  cost_is = whole.best.cost ∙ cost_through-mirrored before.view tree book.nodes p f f_present
+  cost_is : hanging.cost ≡ cost_through tree p f
+  cost_is = whole.best.cost ∙ seen_cost_through-mirrored before.view tree book.nodes p f f_present
 
   clear_tree : Clear setup.space (point_of (points_of tree) m) p
   clear_tree =
       subst (λ s. Clear s (point_of (points_of tree) m) p) space
       (subst (λ a. Clear (space_of shared.task.scene) a p) (point_of-mirrored before.view tree book.nodes m) may.clear)
 
-  places : (entry : Record) → entry.first_cost ≡ textbook_cost tree p f → PlacesNode setup tree k f p entry
+  places : (entry : Record) → entry.first_cost ≡ cost_through tree p f → PlacesNode setup tree k f p entry
   places entry cost = record {
     free = free;
     parent = f_present;
@@ -188,7 +188,7 @@ module _
     cost = cost;
   }
 
-  new_node : SeesNewNode before.view tried.view k f p (textbook_cost tree p f)
+  new_node : SeesNewNode before.view tried.view k f p (cost_through tree p f)
   new_node =
       let fits = keeps.goes_on.lawful.pair_fits counted_hand is_tried.came.counted refl in
       let word : sees tried.view (TreeOf (suc k)) ≡ tree_word f hanging.cost =
@@ -237,11 +237,11 @@ module _
     class_is : hanging.class ≡ class_of (node_count (points_of tree))
     class_is = filled.class_is ∙ ap class_of (count-same (tree_seen before.view).points (points_of tree) book.nodes.points)
 
-    entry_is : entry ≡ placed_record k m f (textbook_cost tree p f) (class_of (node_count (points_of tree)))
+    entry_is : entry ≡ placed_record k m f (cost_through tree p f) (class_of (node_count (points_of tree)))
     entry_is =
         is
         ∙ ap (λ members. own_by m f (worker_of members) (turn_of members) hanging.cost hanging.class) crew
-        ∙ ap (λ c. own_by m f 0 k c hanging.class) cost_is ∙ ap (own_by m f 0 k (textbook_cost tree p f)) class_is
+        ∙ ap (λ c. own_by m f 0 k c hanging.class) cost_is ∙ ap (own_by m f 0 k (cost_through tree p f)) class_is
 
     handles : Handles (setup_in before.view.run) book.tree k (mark_at before.view.run.marks k) entry now
     handles =

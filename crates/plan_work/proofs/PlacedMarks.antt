@@ -41,9 +41,10 @@ use Rattle.plan_work.proofs.KeptSights.{SweepsWithin-still}
 use Rattle.plan_work.proofs.HeldMarks.{if_held, of_held}
 use Rattle.plan_work.proofs.RecordedMarks.{IsSteeredTo-still, MaySteer-steered, others_still, own_count-same}
 use Rattle.plan_work.proofs.TriedMarks.{HasFilledNear-still, clear_of-may}
-use Rattle.plan_work.specs.Extensions.{HasFilledNear, HasRecorded, IsFilledSince, IsPlacedAt, IsTried, KeepsRecords}
-use Rattle.plan_work.specs.Extensions.{IsWithinRadius, MayPlace, WasChosen, WasNeighbour, WasRewired, hung_by, own_placed, own_unplaced, radius_in}
-use Rattle.plan_work.specs.declared.placing.Hanging.{Hanging}
+use Rattle.plan_work.specs.Extensions.{IsPlacedAt, IsWithinRadius, WasChosen, WasNeighbour, WasRewired, radius_in}
+use Rattle.plan_work.specs.ExtensionSteps.{HasFilledNear, HasRecorded, IsFilledSince, IsTried, KeepsRecords, MayPlace, hung_by, own_placed}
+use Rattle.plan_work.specs.ExtensionSteps.{own_unplaced}
+use Rattle.plan_work.specs.declared.mark_placing.Hanging.{Hanging}
 
 -- The first word of a node stays once it was seen.
 first_kept : (before after : View) → GoesOn before after → (n : ℕ) → 2 ^ 63 ≤ sees before (FirstOf n) → sees after (FirstOf n) ≡ sees before (FirstOf n)

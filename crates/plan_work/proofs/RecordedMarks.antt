@@ -1,7 +1,6 @@
 -- What a pass may record of a mark that was steered to p from the nearest node, and that it was handled then.
-use Rattle.std.proofs.Common.{◌≡◌, ◌≢◌, ℕ, zero, suc, ◌+◌, true, Option, Some, None, length, refl, sym, ap, ◌∙◌, subst, arith}
-use Rattle.std.specs.Prelude.{◌==◌, ◌&&◌, false, IfSome, IsTrue, nat_lt}
-use Rattle.std.proofs.lemmas.Bool.{and_parts}
+use Rattle.std.proofs.Common.{◌≡◌, ◌≢◌, ℕ, zero, suc, ◌+◌, true, Some, length, refl, sym, ap, ◌∙◌, subst, arith}
+use Rattle.std.specs.Prelude.{false, IfSome}
 use Rattle.std.proofs.lemmas.List.Elements.{filter_agree}
 use Rattle.std.specs.List.{filter, range_with_len}
 use Rattle.plan_model.specs.Runs.ClosedLaw.{mark_at}
@@ -9,7 +8,6 @@ use Rattle.plan_model.specs.Trees.LeastPairs.{IsNotAbove}
 use Rattle.plan_model.specs.Trees.Nearness.{distance_to}
 use Rattle.plan_model.specs.Runs.Outcomes.{is_placed}
 use Rattle.plan_model.specs.Trees.PointsByNumber.{IsPresent, point_of}
-use Rattle.plan_model.specs.Runs.RecordLaw.{is_earlier_record}
 use Rattle.plan_model.specs.Geometry.Steering.{steered}
 use Rattle.plan_model.specs.declared.geometry.Point.{Point}
 use Rattle.plan_model.specs.declared.records.Outcome.{Outcome}
@@ -23,7 +21,7 @@ use Rattle.step_core.proofs.LawfulRecords.{is_own_node-earlier}
 use Rattle.step_core.proofs.PackedRecords.{record_of_word-packed}
 use Rattle.step_core.proofs.RecordedNodes.{has_node-recorded, own_recorded, present_recorded}
 use Rattle.step_core.proofs.SeenByViews.{WritesWord-saw}
-use Rattle.step_core.specs.GrownWords.{has_node, has_placed, record_at}
+use Rattle.step_core.specs.GrownWords.{has_node, record_at}
 use Rattle.step_core.specs.LaterViews.{IsLawfulView}
 use Rattle.step_core.specs.SeenRecords.{MayBePlaced, MayEnd, MayRecord, MaySteer, is_own_node, own_count}
 use Rattle.step_core.specs.Stages.{has_first}
@@ -39,7 +37,8 @@ use Rattle.step_core.specs.declared.views.View.{View}
 use Rattle.tree_rewire.proofs.SeenCosts.{stands_later}
 use Rattle.plan_work.proofs.HeldMarks.{of_held}
 use Rattle.plan_work.proofs.KeptSights.{IsNotAbove-still}
-use Rattle.plan_work.specs.Extensions.{HandlesMark, HasRecorded, IsSteeredTo, KeepsRecords, own_unplaced}
+use Rattle.plan_work.specs.Extensions.{HandlesMark}
+use Rattle.plan_work.specs.ExtensionSteps.{HasRecorded, IsSteeredTo, KeepsRecords, own_unplaced}
 
 -- a worker has as many own nodes while no record is seen anew
 pub own_count-same : (before after : View) (entry : Record) → GoesOn before after → ((k : ℕ) → sees after (RecordOf k) ≡ sees before (RecordOf k))

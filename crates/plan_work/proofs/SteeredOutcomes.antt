@@ -10,7 +10,8 @@ use Rattle.plan_model.specs.declared.records.Record.{Record}
 use Rattle.plan_model.proofs.NewNodes.{point_of-stands}
 use Rattle.step_core.specs.Views.{tree_seen}
 use Rattle.step_core.specs.declared.views.View.{View}
-use Rattle.plan_work.specs.Extensions.{EndsAsSeen, EndsWritten, HasSteered, IsPlacedAt, WasSteered, steered_point}
+use Rattle.plan_work.specs.Extensions.{EndsAsSeen, HasSteered, IsPlacedAt, WasSteered, steered_point}
+use Rattle.plan_work.specs.ExtensionSteps.{EndsWritten}
 use Rattle.step_core.specs.ViewTrees.{SeesPoint}
 
 module _ (before after : View) (k : ℕ) (entry : Record) where

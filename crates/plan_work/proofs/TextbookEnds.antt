@@ -1,5 +1,5 @@
 -- Textbook runs at their two ends: the start alone, and all marks of a scene.
-use Rattle.std.proofs.Common.{◌≡◌, List, [], length, take, sym, ap, ◌∙◌, subst, arith}
+use Rattle.std.proofs.Common.{◌≡◌, [], length, take, sym, ap, ◌∙◌, subst, arith}
 use Rattle.std.proofs.lemmas.List.{take_all}
 use Rattle.plan_model.specs.Scenes.MarkPoints.{mark_points}
 use Rattle.plan_model.specs.Runs.SameRuns.{IsOfTextbookRun}

@@ -26,8 +26,9 @@ use Rattle.tree_rewire.specs.SeenCosts.{IsInReach}
 use Rattle.plan_work.proofs.FilledNear.{looked_still}
 use Rattle.plan_work.proofs.KeptRecords.{KeepsRecords-trans}
 use Rattle.plan_work.proofs.KeptSights.{SweepsWithin-still, distance_still, point_still}
-use Rattle.plan_work.specs.Extensions.{HasFilledNear, IsFilledSince, IsHung, IsSteeredTo, IsTried, KeepsRecords, MayPlace, hung_by, radius_in}
-use Rattle.plan_work.specs.declared.placing.Hanging.{Hanging}
+use Rattle.plan_work.specs.Extensions.{radius_in}
+use Rattle.plan_work.specs.ExtensionSteps.{HasFilledNear, IsFilledSince, IsHung, IsSteeredTo, IsTried, KeepsRecords, MayPlace, hung_by}
+use Rattle.plan_work.specs.declared.mark_placing.Hanging.{Hanging}
 
 -- a node that steers to p is at most a step from it
 pub reach_of-steered : (view : View) (k m : ℕ) (p : Point) → IsSteeredTo view k m p → IsInReach view p m

@@ -15,7 +15,8 @@ use Rattle.plan_model.proofs.NewNodes.{IsPresent-stands, point_of-stands}
 use Rattle.plan_words.specs.Claims.{SeesAsBefore}
 use Rattle.plan_words.specs.States.{HasWholeShare, PassState, SharedState}
 use Rattle.plan_work.proofs.MirroredTrees.{points_still}
-use Rattle.plan_work.specs.Extensions.{HasSteered, KeepsRecords}
+use Rattle.plan_work.specs.Extensions.{HasSteered}
+use Rattle.plan_work.specs.ExtensionSteps.{KeepsRecords}
 use Rattle.plan_work.specs.WholeShares.{HasCounted, IsBestHanging, IsFilledWhole, IsSteeredWhole, SeesButCount}
 use Rattle.step_core.specs.Views.{sees, setup_in, tree_seen}
 use Rattle.step_core.specs.WordNames.Word.{PointOf, TreeOf}
@@ -24,7 +25,7 @@ use Rattle.step_core.specs.declared.views.Hand.{Hand}
 use Rattle.step_core.specs.declared.views.SharedRun.{SharedRun}
 use Rattle.step_core.specs.declared.views.Stage.TheVariants.{Claimed}
 use Rattle.step_core.specs.declared.views.View.{View}
-use Rattle.tree_rewire.specs.SeenCosts.{cost_through}
+use Rattle.tree_rewire.specs.SeenCosts.{seen_cost_through}
 
 -- ---- shares and hands
 
@@ -97,14 +98,14 @@ module _ (before after : View) (run : after.run ≡ before.run) (same : (n : ℕ
 -- the best parent by the costs seen now is the best by those seen before
 pub IsBestHanging-before :
     (space : ConfigurationSpace) (before after : View) (p : Point) (nearest : ℕ) (found : List ℕ) (pair : ℕ × ℕ) → after.run ≡ before.run
-    → SeesAsBefore before after → IsFirstLeast (cost_through after p) (IsOpenTo space (tree_seen after).points p (nearest ∷ found)) pair.0
-    → pair.1 ≡ cost_through after p pair.0 → IsBestHanging space before p nearest found pair
+    → SeesAsBefore before after → IsFirstLeast (seen_cost_through after p) (IsOpenTo space (tree_seen after).points p (nearest ∷ found)) pair.0
+    → pair.1 ≡ seen_cost_through after p pair.0 → IsBestHanging space before p nearest found pair
 IsBestHanging-before space before after p nearest found pair run same least cost =
     let points = points_still before after run (λ n. same (PointOf n)) in
-    let keys : cost_through after p ≡ cost_through before p = λ t. λ n. cost_in (same (TreeOf n) t) + cost_of (point_of (points t) n) p in
+    let keys : seen_cost_through after p ≡ seen_cost_through before p = λ t. λ n. cost_in (same (TreeOf n) t) + cost_of (point_of (points t) n) p in
     record {
       least =
           subst (λ key. IsFirstLeast key (IsOpenTo space (tree_seen before).points p (nearest ∷ found)) pair.0) keys
-          (subst (λ ps. IsFirstLeast (cost_through after p) (IsOpenTo space ps p (nearest ∷ found)) pair.0) points least);
+          (subst (λ ps. IsFirstLeast (seen_cost_through after p) (IsOpenTo space ps p (nearest ∷ found)) pair.0) points least);
       cost = cost ∙ ap (λ key. key pair.0) keys;
     }

@@ -1,12 +1,7 @@
 -- What the handling of one mark leaves, by what the pass has seen.
-use Rattle.std.specs.Prelude.{◌≡◌, ◌≢◌, true, ℕ, suc, ◌+◌, ◌*◌, ◌<◌, ◌≤◌, All, Contains, Some, List, refl}
-use Rattle.edge_cost.specs.declared.radii.Radii.{Radii}
+use Rattle.std.specs.Prelude.{◌≡◌, ◌≢◌, ℕ, suc, ◌+◌, ◌*◌, ◌<◌, ◌≤◌, Some, IsSome, IfSome}
 use Rattle.kd_shared.specs.Searches.{SweepsWithin}
-use Rattle.kd_shared.specs.Placings.{IsPlacing}
-use Rattle.kd_shared.specs.declared.placing.Placing.{Placing}
-use Rattle.plan_model.specs.Geometry.Bounds.{IsBounded}
 use Rattle.plan_model.specs.Spaces.Clearance.{Clear}
-use Rattle.plan_model.specs.Spaces.ConfigurationSpace.{space_of}
 use Rattle.plan_model.specs.Runs.ClosedLaw.{mark_at}
 use Rattle.plan_model.specs.Geometry.Cost.{cost_of}
 use Rattle.plan_model.specs.Geometry.Plane.{squared_distance}
@@ -20,117 +15,25 @@ use Rattle.plan_model.specs.declared.geometry.Point.{Point}
 use Rattle.plan_model.specs.declared.records.Outcome.{Outcome}
 use Rattle.plan_model.specs.declared.records.Outcome.TheVariants.{Blocked, Placed, Same}
 use Rattle.plan_model.specs.declared.records.Record.{Record}
-use Rattle.plan_model.specs.declared.scenes.Scene.{Scene}
-use Rattle.plan_model.specs.Runs.Textbook.{unplaced_record}
-use Rattle.plan_words.specs.States.{BelongsTo, GoesOn, MayClaim, PassState, SharedState, turn_of, with_view, worker_of}
-use Rattle.step_core.specs.SeenRecords.{own_count}
-use Rattle.step_core.specs.GrownWords.{has_node, record_at}
-use Rattle.step_core.specs.ViewSteps.{finished, one_turn_more}
+use Rattle.plan_words.specs.States.{BelongsTo, GoesOn, MayClaim, PassState, SharedState, turn_of, worker_of}
+use Rattle.step_core.specs.GrownWords.{record_at}
+use Rattle.step_core.specs.ViewSteps.{one_turn_more}
 use Rattle.step_core.specs.ViewTrees.{SeesPoint, sight_in}
 use Rattle.step_core.specs.Views.{last_look, sees, setup_in, tree_seen}
 use Rattle.step_core.specs.WordNames.Word.{Count, Counter, RecordOf, TreeOf}
-use Rattle.step_core.specs.Words.{record_word, tree_word}
-use Rattle.step_core.specs.declared.views.Hand.{Hand}
-use Rattle.step_core.specs.declared.views.Stage.TheVariants.{Pointed, Treed}
+use Rattle.step_core.specs.Words.{tree_word}
+use Rattle.step_core.specs.declared.views.Stage.TheVariants.{Claimed}
 use Rattle.step_core.specs.declared.views.View.{View}
 use Rattle.tree_rewire.specs.Rewirings.{HasSpreadFalls}
-use Rattle.tree_rewire.specs.SeenCosts.{IsInReach, IsLoadedSince, SeesPair, cost_seen, cost_through}
-use Rattle.plan_work.specs.declared.placing.Hanging.{Hanging}
+use Rattle.tree_rewire.specs.SeenCosts.{IsLoadedSince, SeesPair, cost_seen}
+use Rattle.plan_work.specs.OneWorker.{SeesTextbook, WorksAlone}
 
--- the radii are those of the scene's step and gamma
-pub record AreRadiiOf (scene : Scene) (radii : Radii) : Type 0 where
-  pub step : radii.step ≡ scene.step
-  pub gamma : radii.gamma ≡ scene.gamma
-
--- ---- on the way
-
--- What was seen stays seen, and no record and no counter is seen anew. The pass is of the same tree, with the same crew and the same limit.
-pub record KeepsRecords (shared : SharedState) (before after : PassState) : Type 0 where
-  pub belongs : BelongsTo after shared
-  pub goes_on : GoesOn before.view after.view
-  pub records : (k : ℕ) → sees after.view (RecordOf k) ≡ sees before.view (RecordOf k)
-  pub counters : (g : ℕ) → sees after.view (Counter g) ≡ sees before.view (Counter g)
-  pub crew : after.view.crew ≡ before.view.crew
-  pub most : after.view.most ≡ before.view.most
-
--- Node m, at a point, steered to p. No node that was seen before is nearer to mark k, and all points at most as far are swept.
-pub record HasSteered (before after : View) (k m : ℕ) (from p : Point) : Type 0 where
-  pub stands : SeesPoint after m from
-  pub point_is : p ≡ steered from (mark_at after.run.marks k) after.run.step
-  pub not_above : (n : ℕ) → IsPresent (tree_seen before).points n
-      → IsNotAbove (distance_to (mark_at after.run.marks k) (tree_seen after).points) m n
-  pub swept : SweepsWithin (sight_in before) (sight_in after) (mark_at after.run.marks k)
-      (distance_to (mark_at after.run.marks k) (tree_seen after).points m)
-
--- the radius at the class of a record
-abbrev pub radius_in : View → ℕ → ℕ
-radius_in view class = radius_of_class view.run.step view.run.gamma class
-
--- The class is that of the count seen, which was loaded since, and is no less than how many nodes a worker has placed, by the records seen. The
--- near list has each node that was seen before within the radius of p, and all of it are in reach, and within the radius. All points within it
--- are swept.
-pub record HasFilledNear (before after : View) (p : Point) (class : ℕ) (near : List ℕ) : Type 0 where
-  pub class_is : class ≡ class_of (sees after Count)
-  pub looked : before.steps < last_look after Count
-  pub counted : (entry : Record) → own_count before entry ≤ sees after Count
-  pub all : (i : ℕ) (q : Point) → SeesPoint before i q → squared_distance q p ≤ radius_in after class * radius_in after class → Contains near i
-  pub in_reach : All (IsInReach after p) near
-  pub close : (i : ℕ) → Contains near i → distance_to p (tree_seen after).points i ≤ radius_in after class * radius_in after class
-  pub swept : SweepsWithin (sight_in before) (sight_in after) p (radius_in after class * radius_in after class)
-
--- Node m of a near list is seen at this point, and none of those among is nearer to p.
-pub record IsNearestOf (view : View) (p : Point) (near among : List ℕ) (m : ℕ) (at : Point) : Type 0 where
-  pub listed : Contains near m
-  pub stands : SeesPoint view m at
-  pub not_above : All (IsNotAbove (distance_to p (tree_seen view).points) m) among
-
--- The near list of a pass was filled for p since this moment, and no record was seen anew.
-pub record IsFilledSince (shared : SharedState) (first pass : PassState) (p : Point) (class : ℕ) : Type 0 where
-  pub keeps : KeepsRecords shared first pass
-  pub filled : HasFilledNear first.view pass.view p class pass.near
-
--- The point in hand is p, steered from node m, and no more is written.
-pub record IsPointed (hand : Hand) (m : ℕ) (p : Point) : Type 0 where
-  pub stage : hand.stage ≡ Pointed
-  pub nearest : hand.nearest ≡ m
-  pub point : hand.point ≡ p
-
--- The node in hand has a parent and a cost. By no near node with a clear edge would it cost less, as they are seen, each by a look after so many
--- steps.
-pub record IsHung (steps : ℕ) (after : View) (hand : Hand) (pair : ℕ × ℕ) (near : List ℕ) : Type 0 where
-  pub held : after.hand ≡ Some (record hand { stage = Treed; parent = pair.0; cost = pair.1 })
-  pub pairs : All (SeesPair after) near
-  pub loaded : All (IsLoadedSince steps after) near
-  pub chosen : (i : ℕ) → Contains near i → Clear (setup_in after.run).space (point_of (tree_seen after).points i) hand.point
-      → pair.1 ≤ cost_through after hand.point i
-
--- ---- records
-
--- the record of the worker of a view in its next turn: of a mark for which no node was placed, and of one that was placed
-abbrev pub own_unplaced : View → ℕ → Outcome → Record
-own_unplaced view nearest outcome = unplaced_record (worker_of view.crew) (turn_of view.crew) nearest outcome
-
-abbrev pub own_placed : View → ℕ → Hanging → Record
-own_placed view nearest hanging =
-    record {
-      worker = worker_of view.crew;
-      turn = turn_of view.crew;
-      nearest = nearest;
-      outcome = Placed;
-      first_parent = hanging.parent;
-      first_cost = hanging.cost;
-      class = hanging.class;
-      unplaced = refl;
-    }
-
--- The record of the mark in hand stands there, by the worker in its next turn, and nothing is in hand. Of all words no other is seen anew.
-pub record HasRecorded (shared : SharedState) (before after : PassState) (entry : Record) : Type 0 where
-  pub may_claim : MayClaim shared after
-  pub goes_on : GoesOn before.view after.view
-  pub view : (hand : Hand) → before.view.hand ≡ Some hand → after ≡ with_view before (finished before.view hand.mark (record_word entry))
-  pub stored : (hand : Hand) → before.view.hand ≡ Some hand → record_at (sees after.view) hand.mark ≡ Some entry
-  pub worker : entry.worker ≡ worker_of before.view.crew
-  pub turn : entry.turn ≡ turn_of before.view.crew
+-- Mark k is in hand, and nothing is written of it.
+pub record MayExtend (shared : SharedState) (pass : PassState) (k : ℕ) : Type 0 where
+  pub belongs : BelongsTo pass shared
+  pub hand : IsSome pass.view.hand
+  pub mark : IfSome pass.view.hand (λ hand. hand.mark ≡ k)
+  pub claimed : IfSome pass.view.hand (λ hand. hand.stage ≡ Claimed)
 
 -- The record of mark k stands there, by the worker in its turn; no other and no counter is seen anew, and nothing is in hand. The worker has
 -- had one turn more, and the limit stays.
@@ -145,43 +48,11 @@ pub record HandlesMark (shared : SharedState) (before after : PassState) (k : �
   pub crew : after.view.crew ≡ one_turn_more before.view.crew
   pub most : after.view.most ≡ before.view.most
 
--- ---- placing
+-- ---- a placed node
 
--- Node m, which is seen, steers towards mark k to p. By the records seen, no placed node is nearer.
-pub record IsSteeredTo (view : View) (k m : ℕ) (p : Point) : Type 0 where
-  pub from : Point
-  pub stands : SeesPoint view m from
-  pub point_is : p ≡ steered from (mark_at view.run.marks k) view.run.step
-  pub not_above : (n : ℕ) → has_node (sees view) n ≡ true
-      → IsNotAbove (distance_to (mark_at view.run.marks k) (tree_seen view).points) m n
-
--- Mark k is in hand, its point p is written, and the segment to it from the nearest node m is clear.
-pub record MayPlace (shared : SharedState) (pass : PassState) (k m : ℕ) (p : Point) : Type 0 where
-  pub belongs : BelongsTo pass shared
-  pub hand : Hand
-  pub held : pass.view.hand ≡ Some hand
-  pub mark : hand.mark ≡ k
-  pub pointed : IsPointed hand m p
-  pub bounded : IsBounded p
-  pub steered : IsSteeredTo pass.view k m p
-  pub clear : Clear (space_of shared.task.scene) (point_of (tree_seen pass.view).points m) p
-
--- the hand with a parent and a cost
-abbrev pub hung_by : Hand → Hanging → Hand
-hung_by hand hanging = record hand { stage = Treed; parent = hanging.parent; cost = hanging.cost }
-
--- The node in hand was hung by the near list, which stays, and came to this place. The count is not seen anew.
-pub record IsTried (before after : PassState) (hand : Hand) (placing : Placing) (hanging : Hanging) : Type 0 where
-  pub mid : View
-  pub begun : GoesOn before.view mid
-  pub near : after.near ≡ before.near
-  pub counted : sees mid Count ≡ sees before.view Count
-  pub hung : IsHung before.view.steps mid hand (hanging.parent, hanging.cost) after.near
-  pub ended : GoesOn mid after.view
-  pub count : sees after.view Count ≡ sees mid Count
-  pub came : IsPlacing after.view (hung_by hand hanging) placing
-
--- ---- the whole
+-- the radius at the class of a record
+abbrev pub radius_in : View → ℕ → ℕ
+radius_in view class = radius_of_class view.run.step view.run.gamma class
 
 -- Node i was seen with its point, within the radius of the record's class of p, with a clear edge.
 pub record WasNeighbour (before after : View) (entry : Record) (p : Point) (i : ℕ) : Type 0 where
@@ -225,17 +96,22 @@ pub record IsPlacedAt (before after : View) (k : ℕ) (entry : Record) (p : Poin
   pub chosen : WasChosen before chosen_at after entry p
   pub rewired : WasRewired before linked_at after k entry p
 
+-- ---- outcomes
+
+-- Node m, at a point, steered to p. No node that was seen before is nearer to mark k, and all points at most as far are swept.
+pub record HasSteered (before after : View) (k m : ℕ) (from p : Point) : Type 0 where
+  pub stands : SeesPoint after m from
+  pub point_is : p ≡ steered from (mark_at after.run.marks k) after.run.step
+  pub not_above : (n : ℕ) → IsPresent (tree_seen before).points n
+      → IsNotAbove (distance_to (mark_at after.run.marks k) (tree_seen after).points) m n
+  pub swept : SweepsWithin (sight_in before) (sight_in after) (mark_at after.run.marks k)
+      (distance_to (mark_at after.run.marks k) (tree_seen after).points m)
+
 -- The segment to p is not clear. No node is seen there, and p is swept.
 pub record IsBlockedAt (before after : View) (entry : Record) (p : Point) : Type 0 where
   pub blocked : ¬ Clear (setup_in after.run).space (point_of (tree_seen after).points entry.nearest) p
   pub free : IsFree (tree_seen after).points p
   pub swept : IsSwept (sight_in after) before.steps p
-
--- a mark whose point p is written is placed there, or ends at a node that is seen there
-abbrev pub EndsWritten : View → View → ℕ → Record → Point → Outcome → Type 0
-EndsWritten before after k entry p Placed = IsPlacedAt before after k entry p
-EndsWritten before after k entry p (Same j) = SeesPoint after j p
-EndsWritten before after k entry p Blocked = ⊥
 
 -- where the nearest node of a record steers towards mark k, as it is seen
 abbrev pub steered_point : View → ℕ → Record → Point
@@ -253,7 +129,15 @@ EndsAsSeen before after k entry Placed = WasSteered before after k entry (IsPlac
 EndsAsSeen before after k entry (Same j) = WasSteered before after k entry (SeesPoint after j)
 EndsAsSeen before after k entry Blocked = WasSteered before after k entry (IsBlockedAt before after entry)
 
+-- ---- the whole
+
 -- Mark k was handled: the record that stands there is the one answered, and its outcome is what it says.
 pub record IsExtended (before after : View) (k : ℕ) (entry : Record) : Type 0 where
   pub stored : record_at (sees after) k ≡ Some entry
   pub outcome : EndsAsSeen before after k entry entry.outcome
+
+-- What `extend` promises: mark k was handled, and a pass that works alone goes on in the textbook run by one mark.
+pub record Extends (shared : SharedState) (before after : PassState) (k : ℕ) (entry : Record) : Type 0 where
+  pub handled : HandlesMark shared before after k entry
+  pub extended : IsExtended before.view after.view k entry
+  pub textbook : WorksAlone before.view k → SeesTextbook before.view k → WorksAlone after.view (suc k) × SeesTextbook after.view (suc k)

@@ -10,14 +10,14 @@ use Rattle.plan_model.specs.Trees.PointsByNumber.{node_count}
 use Rattle.plan_model.specs.Geometry.Radius.{class_of}
 use Rattle.plan_model.specs.Runs.Textbook.{SteersTo, near_new}
 use Rattle.plan_model.specs.declared.geometry.Point.{Point}
-use Rattle.plan_work.specs.declared.placing.Hanging.{Hanging}
+use Rattle.plan_work.specs.declared.mark_placing.Hanging.{Hanging}
 use Rattle.step_core.specs.Views.{sees, setup_in, tree_seen}
 use Rattle.step_core.specs.WordNames.{Word}
 use Rattle.step_core.specs.WordNames.Word.{Count, FirstOf, PointOf, TreeOf}
 use Rattle.step_core.specs.declared.views.Hand.{Hand}
 use Rattle.step_core.specs.declared.views.Stage.TheVariants.{Linked}
 use Rattle.step_core.specs.declared.views.View.{View}
-use Rattle.tree_rewire.specs.SeenCosts.{cost_through}
+use Rattle.tree_rewire.specs.SeenCosts.{seen_cost_through}
 
 -- no node in hand is linked and not counted yet
 abbrev pub HasCounted : View → Type 0
@@ -38,8 +38,8 @@ IsSteeredWhole view k m p = SteersTo (setup_in view.run) (tree_seen view).points
 
 -- The parent of a new node at p is the best by the costs seen, of the nearest node and the near ones with a clear edge.
 pub record IsBestHanging (space : ConfigurationSpace) (view : View) (p : Point) (nearest : ℕ) (near : List ℕ) (pair : ℕ × ℕ) : Type 0 where
-  pub least : IsFirstLeast (cost_through view p) (IsOpenTo space (tree_seen view).points p (nearest ∷ near)) pair.0
-  pub cost : pair.1 ≡ cost_through view p pair.0
+  pub least : IsFirstLeast (seen_cost_through view p) (IsOpenTo space (tree_seen view).points p (nearest ∷ near)) pair.0
+  pub cost : pair.1 ≡ seen_cost_through view p pair.0
 
 -- the point, the tree word and the first word of node n are seen as before
 pub record KeepsNode (before after : View) (n : ℕ) : Type 0 where

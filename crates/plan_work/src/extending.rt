@@ -1,15 +1,13 @@
 //! The handling of one mark.
 
-ghost use Rattle.std.specs.Prelude.{◌≡◌, suc, IfSome, IsSome};
+ghost use Rattle.std.specs.Prelude.{◌≡◌};
 ghost use Rattle.plan_model.specs.Spaces.ConfigurationSpace.{space_of};
-ghost use Rattle.plan_words.specs.States.{BelongsTo};
-ghost use Rattle.plan_work.specs.Extensions.{AreRadiiOf, HandlesMark, IsExtended};
-ghost use Rattle.plan_work.specs.OneWorker.{SeesTextbook, WorksAlone};
-ghost use Rattle.step_core.specs.declared.views.Stage.TheVariants.{Claimed};
+ghost use Rattle.plan_work.specs.Extensions.{Extends, MayExtend};
+ghost use Rattle.plan_work.specs.ExtensionSteps.{AreRadiiOf};
 
-use crate::placing::place_rewire_and_record;
+use crate::mark_placing::place_rewire_and_record;
+use crate::mark_steering::steer_and_test;
 use crate::recording::record_unplaced;
-use crate::steering::steer_and_test;
 use edge_cost::Radii;
 use kd_shared::find;
 use plan_model::{Outcome, Record};
@@ -24,17 +22,10 @@ pub(crate) fn extend_by_radii<C: Clearing>(
     hall: &C,
     k: u32,
 ) -> Record
-    requires belongs { BelongsTo pass.old shared.now }
-    requires hand { IsSome pass.old.view.hand }
-    requires mark { IfSome pass.old.view.hand (λ hand. hand.mark ≡ k) }
-    requires claimed { IfSome pass.old.view.hand (λ hand. hand.stage ≡ Claimed) }
+    requires may { MayExtend shared.now pass.old k }
     requires radii { AreRadiiOf shared.now.task.scene radii.now }
     requires hall { C.space hall.now ≡ space_of shared.now.task.scene }
-    ensures handled { HandlesMark shared.now pass.old pass.new k result }
-    ensures extended { IsExtended pass.old.view pass.new.view k result }
-    // a pass that works alone goes on in the textbook run by one mark
-    ensures textbook { WorksAlone pass.old.view k → SeesTextbook pass.old.view k
-        → WorksAlone pass.new.view (suc k) × SeesTextbook pass.new.view (suc k) }
+    ensures { Extends shared.now pass.old pass.new k result }
 {
     pass.clear_near();
     let (steering, class, is_clear) = steer_and_test(shared, pass, radii, hall, k);
@@ -65,16 +56,9 @@ pub(crate) fn extend_by_radii<C: Clearing>(
 /// It takes at most five searches of the tree, with the walk to the node's place, tests at most 2 k + 1 segments for k near nodes,
 /// and spreads the costs that fell. No memory.
 pub fn extend<C: Clearing>(shared: &Shared, pass: &mut Pass, hall: &C, k: u32) -> Record
-    requires belongs { BelongsTo pass.old shared.now }
-    requires hand { IsSome pass.old.view.hand }
-    requires mark { IfSome pass.old.view.hand (λ hand. hand.mark ≡ k) }
-    requires claimed { IfSome pass.old.view.hand (λ hand. hand.stage ≡ Claimed) }
+    requires may { MayExtend shared.now pass.old k }
     requires hall { C.space hall.now ≡ space_of shared.now.task.scene }
-    ensures handled { HandlesMark shared.now pass.old pass.new k result }
-    ensures extended { IsExtended pass.old.view pass.new.view k result }
-    // a pass that works alone goes on in the textbook run by one mark
-    ensures textbook { WorksAlone pass.old.view k → SeesTextbook pass.old.view k
-        → WorksAlone pass.new.view (suc k) × SeesTextbook pass.new.view (suc k) }
+    ensures { Extends shared.now pass.old pass.new k result }
 {
     let scene = &shared.task().scene;
     let radii = Radii::new(scene.step, scene.gamma);

@@ -16,9 +16,10 @@ mod extending;
 pub mod extension_laws;
 mod gates;
 mod growing;
-mod placing;
+mod mark_placing;
+mod mark_steering;
+pub mod placed_laws;
 mod recording;
-mod steering;
 mod working;
 
 pub use extending::extend;

@@ -3,7 +3,7 @@
 ghost use Rattle.std.specs.Prelude.{◌≡◌, ◌<◌, false, suc, IfSome, IsSome};
 ghost use Rattle.plan_model.specs.Runs.Outcomes.{is_placed};
 ghost use Rattle.plan_words.specs.States.{BelongsTo};
-ghost use Rattle.plan_work.specs.Extensions.{HasRecorded, own_placed, own_unplaced};
+ghost use Rattle.plan_work.specs.ExtensionSteps.{HasRecorded, own_placed, own_unplaced};
 ghost use Rattle.step_core.specs.SeenRecords.{MayRecord};
 ghost use Rattle.step_core.specs.Stages.{MayBeRecorded};
 ghost use Rattle.step_core.specs.ViewSteps.{pair_in_hand};
@@ -11,7 +11,7 @@ ghost use Rattle.step_core.specs.Views.{sees, share};
 ghost use Rattle.step_core.specs.WordNames.Word.{FirstOf};
 ghost use Rattle.step_core.specs.declared.views.Stage.TheVariants.{Counted};
 
-use crate::placing::Hanging;
+use crate::mark_placing::Hanging;
 use plan_model::{Outcome, Record};
 use plan_words::{Pass, Shared};
 

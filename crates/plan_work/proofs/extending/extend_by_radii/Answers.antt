@@ -1,4 +1,5 @@
-use Rattle.std.proofs.Common.{◌≡◌, refl, sym, ap, ◌∙◌, subst}
+use Rattle.std.specs.Prelude.{IfSome}
+use Rattle.std.proofs.Common.{◌≡◌, false, refl, sym, ap, ◌∙◌, subst}
 use Rattle.plan_model.specs.Spaces.Clearance.{Clear}
 use Rattle.plan_model.specs.Trees.PointsByNumber.{point_of}
 use Rattle.plan_words.specs.States.{PassState, with_view}
@@ -8,11 +9,15 @@ use Rattle.step_core.specs.Views.{sees, setup_in, tree_seen}
 use Rattle.step_core.specs.declared.views.View.{View}
 use Rattle.kd_shared.proofs.Looking.{OnlyLooks-refl}
 use Rattle.plan_model.proofs.SamePoints.{same_point-true}
-use Rattle.plan_work.specs.Extensions.{IsFilledSince, KeepsRecords}
+use Rattle.plan_work.specs.ExtensionSteps.{IsFilledSince, KeepsRecords}
 use Rattle.plan_work.proofs.ExtendedMarks.{HandlesMark-after, HasLooked, HasLooked-looks, IsExtended-blocked, IsExtended-found, IsExtended-written}
 use Rattle.plan_work.proofs.ExtendedMarks.{IsFilledSince-written, IsSteered-found, KeepsRecords-written, MayPlace-written, MayRecord-blocked}
 use Rattle.plan_work.proofs.ExtendedMarks.{MayRecord-found, blocked_here}
-use Rattle.plan_work.proofs.HeldMarks.{of_held}
+use Rattle.plan_model.specs.Runs.Outcomes.{is_placed}
+use Rattle.plan_model.specs.declared.records.Outcome.{Outcome}
+use Rattle.plan_model.specs.declared.records.Outcome.TheVariants.{Blocked, Same}
+use Rattle.step_core.specs.Stages.{MayBeRecorded, has_count, has_link}
+use Rattle.plan_work.proofs.HeldMarks.{if_held, of_held}
 use Rattle.plan_work.proofs.RecordedMarks.{HandlesMark-recorded}
 use Rattle.plan_work.proofs.extending.extend_by_radii.Given.{Over}
 use Rattle.plan_words.specs.States.{HasWholeShare}
@@ -34,8 +39,9 @@ steered : (g : Over) (c : After-steer_and_test-class g)
 steered g c =
     let steer = c.steer_and_test-class.ensures in
     HasLooked-looks c.args.shared.now c.args.pass.now c.clear_near.new.self c.steer_and_test-class.new.pass c.steer_and_test-class.new.pass c.args.k
-    c.steer_and_test-class.result.0.nearest c.steer_and_test-class.result.0.from c.steer_and_test-class.result.0.point c.clear_near.ensures.near c.requires.hand
-    c.requires.mark steer.keeps steer.hand steer.keeps.belongs (OnlyLooks-refl c.steer_and_test-class.new.pass.view steer.keeps.goes_on.lawful) steer.steered
+    c.steer_and_test-class.result.0.nearest c.steer_and_test-class.result.0.from c.steer_and_test-class.result.0.point
+    c.clear_near.ensures.near c.requires.may.hand c.requires.may.mark steer.keeps steer.hand steer.keeps.belongs
+    (OnlyLooks-refl c.steer_and_test-class.new.pass.view steer.keeps.belongs.lawful) steer.steered
 
 -- the nearest node stands at the point that it steers to, if that is where it stands
 stands : (g : Over) (c : After-steer_and_test-class g) → c.steer_and_test-class.result.0.from ≡ c.steer_and_test-class.result.0.point
@@ -51,21 +57,6 @@ record_unplaced-requires-clause-may g c =
     c.steer_and_test-class.result.0.nearest (stands g (goal.at.record_unplaced-requires-clause-may g c).After-steer_and_test-class
     (same_point-true c.steer_and_test-class.result.0.from c.steer_and_test-class.result.0.point (sym c.eq.ensures ∙ c.if-eq.true)))
 
-pub returns-then-eq-clause-handled : goal.returns-then-eq-clause-handled
-returns-then-eq-clause-handled g c =
-    let looked = steered g (goal.at.returns-then-eq-clause-handled g c).After-steer_and_test-class in
-    HandlesMark-recorded c.args.shared.now c.args.pass.now c.steer_and_test-class.new.pass c.record_unplaced.new.pass looked.hand c.args.k
-    c.record_unplaced.result looked.keeps c.record_unplaced.ensures.recorded looked.held looked.mark
-
-pub returns-then-eq-clause-extended : goal.returns-then-eq-clause-extended
-returns-then-eq-clause-extended g c =
-    let here = (goal.at.returns-then-eq-clause-extended g c).After-steer_and_test-class in
-    let looked = steered g here in
-    IsExtended-found c.args.shared.now c.args.pass.now c.steer_and_test-class.new.pass looked.hand c.args.k c.steer_and_test-class.result.0.nearest
-    c.steer_and_test-class.result.0.from c.steer_and_test-class.result.0.point looked.keeps looked.steers looked.held looked.mark c.record_unplaced.new.pass
-    c.record_unplaced.result c.record_unplaced.ensures.recorded c.steer_and_test-class.result.0.nearest c.record_unplaced.ensures.entry
-    (stands g here (same_point-true c.steer_and_test-class.result.0.from c.steer_and_test-class.result.0.point (sym c.eq.ensures ∙ c.if-eq.true)))
-
 -- ---- the segment is not clear
 
 looked : (g : Over) (c : After-find g)
@@ -74,8 +65,8 @@ looked : (g : Over) (c : After-find g)
 looked g c =
     let steer = c.steer_and_test-class.ensures in
     HasLooked-looks c.args.shared.now c.args.pass.now c.clear_near.new.self c.steer_and_test-class.new.pass c.find.new.pass c.args.k
-    c.steer_and_test-class.result.0.nearest c.steer_and_test-class.result.0.from c.steer_and_test-class.result.0.point c.clear_near.ensures.near c.requires.hand
-    c.requires.mark steer.keeps steer.hand c.find.ensures.belongs c.find.ensures.looks steer.steered
+    c.steer_and_test-class.result.0.nearest c.steer_and_test-class.result.0.from c.steer_and_test-class.result.0.point
+    c.clear_near.ensures.near c.requires.may.hand c.requires.may.mark steer.keeps steer.hand c.find.ensures.belongs c.find.ensures.looks steer.steered
 
 blocked : (g : Over) (c : After-find g)
     → ¬ Clear (setup_in c.find.new.pass.view.run).space (point_of (tree_seen c.find.new.pass.view).points c.steer_and_test-class.result.0.nearest)
@@ -89,26 +80,29 @@ blocked g c =
     (subst (λ s. Clear s c.steer_and_test-class.result.0.from c.steer_and_test-class.result.0.point) (sym c.requires.hall) clear) in
     cc)
 
+-- the mark may be recorded as one whose node was not placed
+may_end : (g : Over) (c : After-find g) (outcome : Outcome) → is_placed outcome ≡ false
+    → IfSome c.find.new.pass.view.hand (λ hand. MayBeRecorded hand.stage outcome)
+may_end g c outcome unplaced =
+    let has_looked = looked g c in
+    let claimed = of_held c.args.pass.now.view (λ hand. hand.stage ≡ Claimed) has_looked.hand has_looked.was_held c.requires.may.claimed in
+    if_held c.find.new.pass.view (λ hand. MayBeRecorded hand.stage outcome) has_looked.hand has_looked.held
+    (record { linked = unplaced ∙ sym (ap has_link claimed); counted = unplaced ∙ sym (ap has_count claimed) })
+
+pub record_unplaced-requires-in-Some-clause-stage : goal.record_unplaced-requires-in-Some-clause-stage
+record_unplaced-requires-in-Some-clause-stage g c =
+    may_end g (goal.at.record_unplaced-requires-in-Some-clause-stage g c).After-find (Same c.in-Some.node) refl
+
+pub record_unplaced-requires-then-not-is_clear-clause-stage : goal.record_unplaced-requires-then-not-is_clear-clause-stage
+record_unplaced-requires-then-not-is_clear-clause-stage g c =
+    may_end g (goal.at.record_unplaced-requires-then-not-is_clear-clause-stage g c).After-find Blocked refl
+
 pub record_unplaced-requires-in-Some-clause-may : goal.record_unplaced-requires-in-Some-clause-may
 record_unplaced-requires-in-Some-clause-may g c =
     let has_looked = looked g (goal.at.record_unplaced-requires-in-Some-clause-may g c).After-find in
     MayRecord-found c.args.shared.now c.args.pass.now c.find.new.pass has_looked.hand c.args.k c.steer_and_test-class.result.0.nearest
     c.steer_and_test-class.result.0.from c.steer_and_test-class.result.0.point has_looked.keeps has_looked.steers has_looked.held has_looked.mark c.in-Some.node
     c.in-Some.ensures.found
-
-pub returns-in-Some-clause-handled : goal.returns-in-Some-clause-handled
-returns-in-Some-clause-handled g c =
-    let has_looked = looked g (goal.at.returns-in-Some-clause-handled g c).After-find in
-    HandlesMark-recorded c.args.shared.now c.args.pass.now c.find.new.pass c.record_unplaced-in-Some.new.pass has_looked.hand c.args.k
-    c.record_unplaced-in-Some.result has_looked.keeps c.record_unplaced-in-Some.ensures.recorded has_looked.held has_looked.mark
-
-pub returns-in-Some-clause-extended : goal.returns-in-Some-clause-extended
-returns-in-Some-clause-extended g c =
-    let has_looked = looked g (goal.at.returns-in-Some-clause-extended g c).After-find in
-    IsExtended-found c.args.shared.now c.args.pass.now c.find.new.pass has_looked.hand c.args.k c.steer_and_test-class.result.0.nearest
-    c.steer_and_test-class.result.0.from c.steer_and_test-class.result.0.point has_looked.keeps has_looked.steers has_looked.held has_looked.mark
-    c.record_unplaced-in-Some.new.pass c.record_unplaced-in-Some.result c.record_unplaced-in-Some.ensures.recorded c.in-Some.node
-    c.record_unplaced-in-Some.ensures.entry c.in-Some.ensures.found
 
 pub record_unplaced-requires-then-not-is_clear-clause-may : goal.record_unplaced-requires-then-not-is_clear-clause-may
 record_unplaced-requires-then-not-is_clear-clause-may g c =
@@ -117,22 +111,6 @@ record_unplaced-requires-then-not-is_clear-clause-may g c =
     MayRecord-blocked c.args.shared.now c.args.pass.now c.find.new.pass has_looked.hand c.args.k c.steer_and_test-class.result.0.nearest
     c.steer_and_test-class.result.0.from c.steer_and_test-class.result.0.point has_looked.keeps has_looked.steers has_looked.held has_looked.mark
     c.in_default.ensures.free (blocked g here)
-
-pub returns-then-not-is_clear-clause-handled : goal.returns-then-not-is_clear-clause-handled
-returns-then-not-is_clear-clause-handled g c =
-    let has_looked = looked g (goal.at.returns-then-not-is_clear-clause-handled g c).After-find in
-    HandlesMark-recorded c.args.shared.now c.args.pass.now c.find.new.pass c.record_unplaced-then-not-is_clear.new.pass has_looked.hand c.args.k
-    c.record_unplaced-then-not-is_clear.result has_looked.keeps c.record_unplaced-then-not-is_clear.ensures.recorded has_looked.held has_looked.mark
-
-pub returns-then-not-is_clear-clause-extended : goal.returns-then-not-is_clear-clause-extended
-returns-then-not-is_clear-clause-extended g c =
-    let here = (goal.at.returns-then-not-is_clear-clause-extended g c).After-find in
-    let has_looked = looked g here in
-    IsExtended-blocked c.args.shared.now c.args.pass.now c.find.new.pass has_looked.hand c.args.k c.steer_and_test-class.result.0.nearest
-    c.steer_and_test-class.result.0.from c.steer_and_test-class.result.0.point has_looked.keeps has_looked.steers has_looked.held has_looked.mark
-    c.record_unplaced-then-not-is_clear.new.pass c.record_unplaced-then-not-is_clear.result c.record_unplaced-then-not-is_clear.ensures.recorded
-    c.steer_and_test-class.new.pass.view has_looked.begun has_looked.goes_on c.record_unplaced-then-not-is_clear.ensures.entry c.in_default.ensures.free
-    c.in_default.ensures.ends (blocked g here)
 
 -- ---- the segment is clear, and the point is written
 
@@ -188,23 +166,6 @@ place_rewire_and_record-requires-clause-filled g c κs within =
     let at = goal.at.place_rewire_and_record-requires-clause-filled g c in
     (c.args.pass.now, filled g at.After-write_point (steered g at.After-steer_and_test-class))
 
-pub returns-clause-handled : goal.returns-clause-handled
-returns-clause-handled g c =
-    let at = goal.at.returns-clause-handled g c in
-    HandlesMark-after c.args.shared.now c.args.pass.now c.write_point.new.pass c.place_rewire_and_record.new.pass c.args.k c.place_rewire_and_record.result
-    (keeps g at.After-write_point (steered g at.After-steer_and_test-class)) c.place_rewire_and_record.ensures.handled
-
-pub returns-clause-extended : goal.returns-clause-extended
-returns-clause-extended g c =
-    let at = goal.at.returns-clause-extended g c in
-    let here = at.After-write_point in
-    let looked = steered g at.After-steer_and_test-class in
-    IsExtended-written c.args.shared.now c.args.pass.now c.steer_and_test-class.new.pass c.steer_and_test-class.new.pass c.write_point.new.pass
-    c.place_rewire_and_record.new.pass c.args.k c.steer_and_test-class.result.0.nearest c.steer_and_test-class.result.0.from
-    c.steer_and_test-class.result.0.point
-    c.place_rewire_and_record.result looked (keeps g here looked) c.write_point.ensures.goes_on c.place_rewire_and_record.ensures.handled
-    c.place_rewire_and_record.ensures.nearest (c.place_rewire_and_record.ensures.ended c.args.pass.now (filled g here looked))
-
 -- ---- of a pass that works alone
 
 -- it was shown nothing new but the count, and its near list is that of the textbook
@@ -221,76 +182,133 @@ whole_steered g c alone =
     let looked = steered g c in
     let view : emptied ≡ before = ap (λ (x : PassState). x.view) c.clear_near.ensures.near in
     let claimed = HasCounted-claimed before looked.hand looked.was_held
-    (of_held before (λ hand. hand.stage ≡ Claimed) looked.hand looked.was_held c.requires.claimed) in
+    (of_held before (λ hand. hand.stage ≡ Claimed) looked.hand looked.was_held c.requires.may.claimed) in
     let got = c.steer_and_test-class.ensures.whole (subst HasWholeShare (sym view) alone.whole)
     (HasCounted-kept before emptied (ap (λ (v : View). v.hand) view) claimed) in
     (SeesButCount-trans before emptied c.steer_and_test-class.new.pass.view (SeesButCount-all before emptied (λ name. ap (λ v. sees v name) view)) got.0, got.1)
 
-pub returns-then-eq-clause-textbook : goal.returns-then-eq-clause-textbook
-returns-then-eq-clause-textbook g c = λ alone book.
-    let here = (goal.at.returns-then-eq-clause-textbook g c).After-steer_and_test-class in
-    let looked = steered g here in
-    let same = (whole_steered g here alone).0 in
-    AloneNext-found c.args.shared.now c.args.pass.now c.steer_and_test-class.new.pass looked.hand c.args.k c.steer_and_test-class.result.0.nearest
-    c.steer_and_test-class.result.0.from c.steer_and_test-class.result.0.point looked.keeps looked.steers looked.held looked.mark same alone book
-    c.record_unplaced.new.pass c.record_unplaced.result c.record_unplaced.ensures.recorded c.steer_and_test-class.result.0.nearest
-    c.record_unplaced.ensures.entry
-    (stands g here (same_point-true c.steer_and_test-class.result.0.from c.steer_and_test-class.result.0.point (sym c.eq.ensures ∙ c.if-eq.true)))
-
 -- a search for the point shows nothing new either
-found_alone : (g : Over) (c : After-find g) → SeesButCount c.args.pass.now.view c.steer_and_test-class.new.pass.view
-    → HasWholeShare c.steer_and_test-class.new.pass.view → SeesButCount c.args.pass.now.view c.find.new.pass.view
-found_alone g c same whole =
+found_whole : (g : Over) (c : After-find g)
+    → HasLooked c.args.shared.now c.args.pass.now c.steer_and_test-class.new.pass c.steer_and_test-class.new.pass c.args.k
+    c.steer_and_test-class.result.0.nearest c.steer_and_test-class.result.0.from c.steer_and_test-class.result.0.point
+    → SeesButCount c.args.pass.now.view c.steer_and_test-class.new.pass.view → WorksAlone c.args.pass.now.view c.args.k
+    → SeesButCount c.args.pass.now.view c.find.new.pass.view
+found_whole g c steer same alone =
     SeesButCount-trans c.args.pass.now.view c.steer_and_test-class.new.pass.view c.find.new.pass.view same
-    (SeesButCount-all c.steer_and_test-class.new.pass.view c.find.new.pass.view (c.find.ensures.looks.whole whole))
+    (SeesButCount-all c.steer_and_test-class.new.pass.view c.find.new.pass.view
+    (c.find.ensures.looks.whole (HasWholeShare-kept c.args.shared.now c.args.pass.now c.steer_and_test-class.new.pass steer.keeps alone.whole)))
 
-pub returns-in-Some-clause-textbook : goal.returns-in-Some-clause-textbook
-returns-in-Some-clause-textbook g c = λ alone book.
-    let at = goal.at.returns-in-Some-clause-textbook g c in
+-- ---- what was promised
+
+pub returns-then-eq : goal.returns-then-eq
+returns-then-eq g c =
+    let here = (goal.at.returns-then-eq g c).After-steer_and_test-class in
+    let looked = steered g here in
+    let shared = c.args.shared.now in
+    let before = c.args.pass.now in
+    let found = c.steer_and_test-class.new.pass in
+    let m = c.steer_and_test-class.result.0.nearest in
+    let from = c.steer_and_test-class.result.0.from in
+    let p = c.steer_and_test-class.result.0.point in
+    let recorded = c.record_unplaced.ensures.recorded in
+    let entry_is = c.record_unplaced.ensures.entry in
+    let stands_there = stands g here (same_point-true from p (sym c.eq.ensures ∙ c.if-eq.true)) in
+    record {
+      handled =
+          HandlesMark-recorded shared before found c.record_unplaced.new.pass looked.hand c.args.k c.record_unplaced.result looked.keeps recorded
+          looked.held looked.mark;
+      extended =
+          IsExtended-found shared before found looked.hand c.args.k m from p looked.keeps looked.steers looked.held looked.mark
+          c.record_unplaced.new.pass c.record_unplaced.result recorded m entry_is stands_there;
+      textbook = λ alone book.
+          AloneNext-found shared before found looked.hand c.args.k m from p looked.keeps looked.steers looked.held looked.mark
+          (whole_steered g here alone).0 alone book c.record_unplaced.new.pass c.record_unplaced.result recorded m entry_is stands_there;
+    }
+
+pub returns-in-Some : goal.returns-in-Some
+returns-in-Some g c =
+    let at = goal.at.returns-in-Some g c in
     let has_looked = looked g at.After-find in
-    let steer = steered g at.After-steer_and_test-class in
-    let same = found_alone g at.After-find (whole_steered g at.After-steer_and_test-class alone).0
-    (HasWholeShare-kept c.args.shared.now c.args.pass.now c.steer_and_test-class.new.pass steer.keeps alone.whole) in
-    AloneNext-found c.args.shared.now c.args.pass.now c.find.new.pass has_looked.hand c.args.k c.steer_and_test-class.result.0.nearest
-    c.steer_and_test-class.result.0.from c.steer_and_test-class.result.0.point has_looked.keeps has_looked.steers has_looked.held
-    has_looked.mark same alone book
-    c.record_unplaced-in-Some.new.pass c.record_unplaced-in-Some.result c.record_unplaced-in-Some.ensures.recorded c.in-Some.node
-    c.record_unplaced-in-Some.ensures.entry c.in-Some.ensures.found
+    let shared = c.args.shared.now in
+    let before = c.args.pass.now in
+    let found = c.find.new.pass in
+    let m = c.steer_and_test-class.result.0.nearest in
+    let from = c.steer_and_test-class.result.0.from in
+    let p = c.steer_and_test-class.result.0.point in
+    let last = c.record_unplaced-in-Some.new.pass in
+    let entry = c.record_unplaced-in-Some.result in
+    let recorded = c.record_unplaced-in-Some.ensures.recorded in
+    let entry_is = c.record_unplaced-in-Some.ensures.entry in
+    record {
+      handled =
+          HandlesMark-recorded shared before found last has_looked.hand c.args.k entry has_looked.keeps recorded has_looked.held has_looked.mark;
+      extended =
+          IsExtended-found shared before found has_looked.hand c.args.k m from p has_looked.keeps has_looked.steers has_looked.held has_looked.mark
+          last entry recorded c.in-Some.node entry_is c.in-Some.ensures.found;
+      textbook = λ alone book.
+          AloneNext-found shared before found has_looked.hand c.args.k m from p has_looked.keeps has_looked.steers has_looked.held has_looked.mark
+          (found_whole g at.After-find (steered g at.After-steer_and_test-class) (whole_steered g at.After-steer_and_test-class alone).0 alone) alone book
+          last entry recorded c.in-Some.node entry_is c.in-Some.ensures.found;
+    }
 
-pub returns-then-not-is_clear-clause-textbook : goal.returns-then-not-is_clear-clause-textbook
-returns-then-not-is_clear-clause-textbook g c = λ alone book.
-    let at = goal.at.returns-then-not-is_clear-clause-textbook g c in
+pub returns-then-not-is_clear : goal.returns-then-not-is_clear
+returns-then-not-is_clear g c =
+    let at = goal.at.returns-then-not-is_clear g c in
     let has_looked = looked g at.After-find in
-    let steer = steered g at.After-steer_and_test-class in
-    let same = found_alone g at.After-find (whole_steered g at.After-steer_and_test-class alone).0
-    (HasWholeShare-kept c.args.shared.now c.args.pass.now c.steer_and_test-class.new.pass steer.keeps alone.whole) in
-    AloneNext-blocked c.args.shared.now c.args.pass.now c.find.new.pass has_looked.hand c.args.k c.steer_and_test-class.result.0.nearest
-    c.steer_and_test-class.result.0.from c.steer_and_test-class.result.0.point has_looked.keeps has_looked.steers has_looked.held
-    has_looked.mark same alone book
-    c.record_unplaced-then-not-is_clear.new.pass c.record_unplaced-then-not-is_clear.result c.record_unplaced-then-not-is_clear.ensures.recorded
-    c.in_default.ensures.free (blocked g at.After-find) c.record_unplaced-then-not-is_clear.ensures.entry
+    let shared = c.args.shared.now in
+    let before = c.args.pass.now in
+    let found = c.find.new.pass in
+    let m = c.steer_and_test-class.result.0.nearest in
+    let from = c.steer_and_test-class.result.0.from in
+    let p = c.steer_and_test-class.result.0.point in
+    let last = c.record_unplaced-then-not-is_clear.new.pass in
+    let entry = c.record_unplaced-then-not-is_clear.result in
+    let recorded = c.record_unplaced-then-not-is_clear.ensures.recorded in
+    let entry_is = c.record_unplaced-then-not-is_clear.ensures.entry in
+    record {
+      handled =
+          HandlesMark-recorded shared before found last has_looked.hand c.args.k entry has_looked.keeps recorded has_looked.held has_looked.mark;
+      extended =
+          IsExtended-blocked shared before found has_looked.hand c.args.k m from p has_looked.keeps has_looked.steers has_looked.held has_looked.mark
+          last entry recorded c.steer_and_test-class.new.pass.view has_looked.begun has_looked.goes_on entry_is c.in_default.ensures.free
+          c.in_default.ensures.ends (blocked g at.After-find);
+      textbook = λ alone book.
+          AloneNext-blocked shared before found has_looked.hand c.args.k m from p has_looked.keeps has_looked.steers has_looked.held has_looked.mark
+          (found_whole g at.After-find (steered g at.After-steer_and_test-class) (whole_steered g at.After-steer_and_test-class alone).0 alone) alone book
+          last entry recorded c.in_default.ensures.free (blocked g at.After-find) entry_is;
+    }
 
-pub returns-clause-textbook : goal.returns-clause-textbook
-returns-clause-textbook g c = λ alone book.
-    let at = goal.at.returns-clause-textbook g c in
+pub returns : goal.returns
+returns g c =
+    let at = goal.at.returns g c in
     let here = at.After-write_point in
     let looked = steered g at.After-steer_and_test-class in
-    let whole = whole_steered g at.After-steer_and_test-class alone in
     let shared = c.args.shared.now in
     let before = c.args.pass.now in
     let found = c.steer_and_test-class.new.pass in
     let written = c.write_point.new.pass in
+    let last = c.place_rewire_and_record.new.pass in
     let m = c.steer_and_test-class.result.0.nearest in
     let from = c.steer_and_test-class.result.0.from in
     let p = c.steer_and_test-class.result.0.point in
     let goes_on = c.write_point.ensures.goes_on in
     let is = writes g here looked in
-    c.place_rewire_and_record.ensures.textbook
-    (IsSteeredWhole-written shared before found looked.hand c.args.k m from p looked.keeps looked.steers looked.held looked.mark whole.0 alone book written
-    goes_on is)
-    (IsFilledWhole-written shared before found looked.hand c.args.k m from p looked.keeps looked.steers looked.held looked.mark whole.0 alone book written
-    goes_on is c.steer_and_test-class.result.1 whole.1)
-    (WorksAlone-written shared before found looked.hand c.args.k m from p looked.keeps looked.steers looked.held looked.mark whole.0 alone book written
-    goes_on is)
-    (SeesTextbook-written shared before found looked.hand c.args.k m from p looked.keeps looked.steers looked.held looked.mark whole.0 alone book written
-    goes_on is)
+    let placed = c.place_rewire_and_record.ensures in
+    record {
+      handled =
+          HandlesMark-after shared before written last c.args.k c.place_rewire_and_record.result (keeps g here looked) placed.handled;
+      extended =
+          IsExtended-written shared before found found written last c.args.k m from p c.place_rewire_and_record.result looked (keeps g here looked) goes_on
+          placed.handled placed.nearest (placed.ended before (filled g here looked));
+      textbook = λ alone book.
+          let whole = whole_steered g at.After-steer_and_test-class alone in
+          placed.textbook
+          (IsSteeredWhole-written shared before found looked.hand c.args.k m from p looked.keeps looked.steers looked.held looked.mark whole.0 alone
+          book written goes_on is)
+          (IsFilledWhole-written shared before found looked.hand c.args.k m from p looked.keeps looked.steers looked.held looked.mark whole.0 alone
+          book written goes_on is c.steer_and_test-class.result.1 whole.1)
+          (WorksAlone-written shared before found looked.hand c.args.k m from p looked.keeps looked.steers looked.held looked.mark whole.0 alone
+          book written goes_on is)
+          (SeesTextbook-written shared before found looked.hand c.args.k m from p looked.keeps looked.steers looked.held looked.mark whole.0 alone
+          book written goes_on is);
+    }

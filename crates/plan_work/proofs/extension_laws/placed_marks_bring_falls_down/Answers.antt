@@ -18,8 +18,11 @@ returns-clause-fallen c = λ before after k entry extended is.
       ended.linked_at,
       GoesOn-trans before ended.chosen_at ended.linked_at ended.chosen.since ended.in_turn,
       ended.rewired.until,
-      λ n fall apart. ended.rewired.spread n fall (λ near shortcut. elim apart [
-        | inl far ↦ absurd (far near)
-        | inr own ↦ own
-      ]),
+      λ n fall apart. elim (ended.rewired.spread n fall) [
+        | inl within ↦ within
+        | inr lost ↦ elim apart [
+          | inl far ↦ absurd (far lost.listed)
+          | inr own ↦ absurd (lost.elsewhere own)
+        ]
+      ],
     )

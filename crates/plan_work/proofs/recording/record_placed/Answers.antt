@@ -4,7 +4,7 @@ use Rattle.plan_model.proofs.UniqueRuns.{Record-from_fields}
 use Rattle.plan_work.proofs.HeldMarks.{of_held}
 use Rattle.plan_work.proofs.RecordedMarks.{HasRecorded-finished, IsFirstWord-placed}
 use Rattle.plan_work.proofs.recording.record_placed.Goals as goal
-use Rattle.plan_work.specs.Extensions.{own_placed}
+use Rattle.plan_work.specs.ExtensionSteps.{own_placed}
 use Rattle.step_core.specs.SeenRecords.{MayRecord}
 use Rattle.step_core.specs.ViewSteps.{pair_in_hand}
 use Rattle.step_core.specs.Views.{sees}

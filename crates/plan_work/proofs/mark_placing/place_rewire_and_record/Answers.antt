@@ -9,15 +9,15 @@ use Rattle.plan_model.specs.Spaces.ConfigurationSpace.{space_of}
 use Rattle.plan_work.proofs.PlacedAlone.{AloneNext-placed, AloneNext-same, Mirrors-tried}
 use Rattle.plan_work.proofs.WholeLists.{HasWholeShare-kept}
 use Rattle.plan_work.specs.WholeShares.{IsFilledWhole, IsTriedWhole}
-use Rattle.plan_work.proofs.placing.place_rewire_and_record.Goals as goal
-use Rattle.plan_work.specs.Extensions.{EndsWritten, IsFilledSince, IsTried, hung_by}
+use Rattle.plan_work.proofs.mark_placing.place_rewire_and_record.Goals as goal
+use Rattle.plan_work.specs.ExtensionSteps.{EndsWritten, IsFilledSince, IsTried, hung_by}
 use Rattle.step_core.specs.ViewSteps.{pair_in_hand}
 use Rattle.step_core.specs.ViewTrees.{SeesPoint}
 use Rattle.step_core.specs.Views.{sees}
 use Rattle.step_core.specs.WordNames.Word.{FirstOf}
 use Rattle.step_core.specs.declared.views.Stage.TheVariants.{Counted}
 use Rattle.tree_rewire.proofs.ChosenParents.{IsInReach-later}
-use Rattle.tree_rewire.proofs.PlacedHands.{HasPlaced-placed}
+use Rattle.plan_work.proofs.PlacedHands.{HasPlaced-placed}
 use Rattle.tree_rewire.proofs.SeenCosts.{stands_later}
 use Rattle.tree_rewire.specs.SeenCosts.{IsInReach, NamesTreeOrPoint}
 

@@ -7,9 +7,9 @@ ghost use Rattle.plan_model.specs.Spaces.Clearance.{Clear};
 ghost use Rattle.plan_model.specs.Trees.Nearness.{distance_to};
 ghost use Rattle.plan_words.specs.Claims.{SeesAsBefore};
 ghost use Rattle.plan_words.specs.States.{BelongsTo, HasWholeShare, PassState};
-ghost use Rattle.plan_work.specs.Extensions.{AreRadiiOf, HasFilledNear, HasSteered, IsFilledSince, IsNearestOf, KeepsRecords};
+ghost use Rattle.plan_work.specs.Extensions.{HasSteered};
+ghost use Rattle.plan_work.specs.ExtensionSteps.{AreRadiiOf, HasFilledNear, IsFilledSince, IsNearestOf, KeepsRecords};
 ghost use Rattle.plan_work.specs.WholeShares.{HasCounted, IsFilledWhole, SeesButCount};
-ghost use Rattle.step_core.specs.LaterViews.{IsLawfulView};
 ghost use Rattle.step_core.specs.Views.{tree_seen};
 ghost use Rattle.tree_rewire.specs.SeenCosts.{NamesNothing, PassSees};
 ghost use Rattle.plan_model.specs.Trees.PointsByNumber.{IsPresent, point_of};
@@ -35,7 +35,6 @@ pub(crate) struct Steering {
 /// The steering towards the mark in hand.
 fn steer_from_nearest(shared: &Shared, pass: &mut Pass, k: u32) -> Steering
     requires belongs { BelongsTo pass.old shared.now }
-    requires lawful { IsLawfulView pass.old.view }
     requires some { IsSome pass.old.view.hand }
     requires hand { IfSome pass.old.view.hand (λ hand. hand.mark ≡ k) }
     ensures belongs { BelongsTo pass.new shared.now }
@@ -77,7 +76,6 @@ fn fill_near(shared: &Shared, pass: &mut Pass, radii: &Radii, p: Point) -> u32
 /// empty. O(n) for n near nodes.
 fn nearest_listed(shared: &Shared, pass: &mut Pass, p: Point) -> Option<MeasuredNode>
     requires belongs { BelongsTo pass.old shared.now }
-    requires lawful { IsLawfulView pass.old.view }
     requires bounded { IsBounded p }
     requires present { All (IsPresent (tree_seen pass.old.view).points) pass.old.near }
     ensures steps { PassSees NamesNothing shared.now pass.old pass.new }
@@ -100,7 +98,6 @@ fn nearest_listed(shared: &Shared, pass: &mut Pass, p: Point) -> Option<Measured
 /// A node with its distance from a point.
 fn measured(shared: &Shared, pass: &mut Pass, p: Point, node: u32) -> MeasuredNode
     requires belongs { BelongsTo pass.old shared.now }
-    requires lawful { IsLawfulView pass.old.view }
     requires bounded { IsBounded p }
     requires present { IsPresent (tree_seen pass.old.view).points node }
     ensures steps { PassSees NamesNothing shared.now pass.old pass.new }
@@ -120,7 +117,6 @@ fn measured(shared: &Shared, pass: &mut Pass, p: Point, node: u32) -> MeasuredNo
 /// the point.
 fn steer_among_near(shared: &Shared, pass: &mut Pass, radii: &Radii, k: u32) -> (Steering, u32)
     requires belongs { BelongsTo pass.old shared.now }
-    requires lawful { IsLawfulView pass.old.view }
     requires some { IsSome pass.old.view.hand }
     requires hand { IfSome pass.old.view.hand (λ hand. hand.mark ≡ k) }
     requires radii { AreRadiiOf shared.now.task.scene radii.now }
@@ -176,7 +172,6 @@ pub(crate) fn steer_and_test<C: Clearing>(
     k: u32,
 ) -> (Steering, u32, bool)
     requires belongs { BelongsTo pass.old shared.now }
-    requires lawful { IsLawfulView pass.old.view }
     requires some { IsSome pass.old.view.hand }
     requires hand { IfSome pass.old.view.hand (λ hand. hand.mark ≡ k) }
     requires radii { AreRadiiOf shared.now.task.scene radii.now }

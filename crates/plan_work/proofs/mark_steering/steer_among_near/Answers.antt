@@ -18,12 +18,12 @@ use Rattle.plan_work.proofs.WholeLists.{HasCounted-kept, HasWholeShare-kept, IsF
 use Rattle.plan_work.specs.WholeShares.{IsFilledWhole}
 use Rattle.plan_words.specs.Claims.{SeesAsBefore}
 use Rattle.step_core.specs.WordNames.Word.{PointOf}
-use Rattle.plan_work.proofs.steering.steer_among_near.Goals as goal
-use Rattle.plan_work.specs.Extensions.{HasFilledNear}
+use Rattle.plan_work.proofs.mark_steering.steer_among_near.Goals as goal
+use Rattle.plan_work.specs.ExtensionSteps.{HasFilledNear}
 
 pub bounds-as_slice-k : goal.bounds-as_slice-k
 bounds-as_slice-k c =
-    let low = mark_low c.args.pass.now.view c.args.k c.requires.lawful c.requires.some c.requires.hand in
+    let low = mark_low c.args.pass.now.view c.args.k c.requires.belongs.lawful c.requires.some c.requires.hand in
     let marks = ap (λ run. length run.marks) c.requires.belongs.run in
     omega (arith, low, marks, ap (λ l. length l) c.as_slice.ensures, ap (λ (t : Task). length t.marks) c.task.ensures)
 
@@ -31,7 +31,7 @@ pub fill_near-class-requires-clause-bounded : goal.fill_near-class-requires-clau
 fill_near-class-requires-clause-bounded c =
     let shown = c.as_slice.ensures ∙ ap (λ (t : Task). t.marks) c.task.ensures in
     subst IsBounded (sym (mark_shown c.args.shared.now c.args.pass.now c.as_slice.result.now c.args.k c.requires.belongs shown))
-    (c.requires.lawful.run.points c.args.k)
+    (c.requires.belongs.lawful.run.points c.args.k)
 
 pub nearest_listed-requires-clause-present : goal.nearest_listed-requires-clause-present
 nearest_listed-requires-clause-present c = λ k d below. (c.fill_near-class.ensures.filled.in_reach k d below).present

@@ -10,8 +10,8 @@ use Rattle.tree_rewire.proofs.CostSteps.{PassSees-trans, point_of-same}
 use Rattle.tree_rewire.specs.SeenCosts.{NamesNothing}
 use Rattle.plan_model.specs.Geometry.Plane.{squared_distance}
 use Rattle.plan_work.proofs.NearestListed.{IsBestOf-alone, IsBestOf-more}
-use Rattle.plan_work.specs.Extensions.{IsNearestOf}
-use Rattle.plan_work.proofs.steering.nearest_listed.Goals as goal
+use Rattle.plan_work.specs.ExtensionSteps.{IsNearestOf}
+use Rattle.plan_work.proofs.mark_steering.nearest_listed.Goals as goal
 
 pub measured-best-requires-clause-present : goal.measured-best-requires-clause-present
 measured-best-requires-clause-present c =

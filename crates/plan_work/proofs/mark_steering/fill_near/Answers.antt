@@ -12,7 +12,7 @@ use Rattle.plan_work.proofs.WholeLists.{HasWholeShare-kept, IsFilledWhole-found,
 use Rattle.plan_work.specs.WholeShares.{SeesButCount}
 use Rattle.step_core.specs.Views.{tree_seen}
 use Rattle.step_core.specs.WordNames.Word.{PointOf}
-use Rattle.plan_work.proofs.steering.fill_near.Goals as goal
+use Rattle.plan_work.proofs.mark_steering.fill_near.Goals as goal
 use Rattle.step_core.specs.ViewTrees.{sight_in}
 use Rattle.step_core.specs.WordNames.Word.{Count}
 use Rattle.step_core.specs.declared.views.SharedRun.{SharedRun}

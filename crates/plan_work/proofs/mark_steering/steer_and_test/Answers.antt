@@ -1,8 +1,8 @@
 use Rattle.plan_work.proofs.KeptRecords.{KeepsRecords-trans}
 use Rattle.plan_work.proofs.KeptSights.{HasSteered-still}
 use Rattle.plan_work.proofs.WholeLists.{HasCounted-kept, HasWholeShare-kept, SeesButCount-trans}
-use Rattle.plan_work.proofs.steering.steer_and_test.Goals as goal
-use Rattle.plan_work.specs.Extensions.{IsFilledSince}
+use Rattle.plan_work.proofs.mark_steering.steer_and_test.Goals as goal
+use Rattle.plan_work.specs.ExtensionSteps.{IsFilledSince}
 
 pub returns-clause-keeps : goal.returns-clause-keeps
 returns-clause-keeps g c =

@@ -9,8 +9,8 @@ use Rattle.plan_work.proofs.TriedMarks.{HasFilledNear-recounted}
 use Rattle.plan_work.proofs.WholeLists.{HasCounted-kept, HasWholeShare-kept, IsFilledWhole-still, SeesButCount-trans}
 use Rattle.plan_work.specs.WholeShares.{IsFilledWhole, SeesButCount}
 use Rattle.step_core.specs.WordNames.Word.{PointOf}
-use Rattle.plan_work.proofs.steering.renew_near.Goals as goal
-use Rattle.plan_work.specs.Extensions.{HasFilledNear}
+use Rattle.plan_work.proofs.mark_steering.renew_near.Goals as goal
+use Rattle.plan_work.specs.ExtensionSteps.{HasFilledNear}
 
 pub class-class-requires : goal.class-class-requires
 class-class-requires c =

@@ -3,7 +3,7 @@ use Rattle.plan_model.specs.Geometry.Plane.{squared_distance}
 use Rattle.step_core.specs.declared.measured_nodes.MeasuredNode.{MeasuredNode}
 use Rattle.tree_rewire.proofs.CostSteps.{PassSees-point}
 use Rattle.tree_rewire.proofs.SeenCosts.{point_later}
-use Rattle.plan_work.proofs.steering.measured.Goals as goal
+use Rattle.plan_work.proofs.mark_steering.measured.Goals as goal
 
 pub returns-clause-steps : goal.returns-clause-steps
 returns-clause-steps c =

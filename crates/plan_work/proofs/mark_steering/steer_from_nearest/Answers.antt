@@ -11,12 +11,12 @@ use Rattle.step_core.specs.declared.views.SharedRun.{SharedRun}
 use Rattle.plan_work.proofs.HeldMarks.{mark_low, mark_shown}
 use Rattle.plan_work.proofs.KeptSights.{HasSteered-found}
 use Rattle.tree_rewire.proofs.CostSteps.{PassSees-point}
-use Rattle.plan_work.proofs.steering.steer_from_nearest.Goals as goal
+use Rattle.plan_work.proofs.mark_steering.steer_from_nearest.Goals as goal
 use Rattle.step_core.specs.WordNames.Word.{PointOf}
 
 pub bounds-as_slice-k : goal.bounds-as_slice-k
 bounds-as_slice-k c =
-    let low = mark_low c.args.pass.now.view c.args.k c.requires.lawful c.requires.some c.requires.hand in
+    let low = mark_low c.args.pass.now.view c.args.k c.requires.belongs.lawful c.requires.some c.requires.hand in
     let marks = ap (λ run. length run.marks) c.requires.belongs.run in
     omega (arith, low, marks, ap (λ l. length l) c.as_slice.ensures, ap (λ (t : Task). length t.marks) c.task.ensures)
 
@@ -24,7 +24,7 @@ pub nearest-nearest-requires-clause-bounded : goal.nearest-nearest-requires-clau
 nearest-nearest-requires-clause-bounded c =
     let shown = c.as_slice.ensures ∙ ap (λ (t : Task). t.marks) c.task.ensures in
     subst IsBounded (sym (mark_shown c.args.shared.now c.args.pass.now c.as_slice.result.now c.args.k c.requires.belongs shown))
-    (c.requires.lawful.run.points c.args.k)
+    (c.requires.belongs.lawful.run.points c.args.k)
 
 pub returns-clause-looks : goal.returns-clause-looks
 returns-clause-looks c =

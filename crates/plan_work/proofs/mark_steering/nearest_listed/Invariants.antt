@@ -1,7 +1,7 @@
 use Rattle.std.proofs.Common.{take}
 use Rattle.tree_rewire.specs.SeenCosts.{NamesNothing, PassSees}
 use Rattle.plan_work.proofs.NearestListed.{IsBestOf}
-use Rattle.plan_work.proofs.steering.nearest_listed.Given as goal
+use Rattle.plan_work.proofs.mark_steering.nearest_listed.Given as goal
 
 -- the best so far is the nearest of the earlier ones on the list
 abbrev pub invariant-others : goal.invariant-others

@@ -8,8 +8,8 @@ use Rattle.plan_work.proofs.KeptRecords.{KeepsRecords-anew, KeepsRecords-trans}
 use Rattle.plan_work.proofs.KeptSights.{point_still, present_still}
 use Rattle.plan_work.proofs.WholeLists.{IsBestHanging-before}
 use Rattle.step_core.specs.Views.{sees}
-use Rattle.plan_work.proofs.placing.choose_and_write.Goals as goal
-use Rattle.plan_work.specs.Extensions.{IsHung, IsPointed}
+use Rattle.plan_work.proofs.mark_placing.choose_and_write.Goals as goal
+use Rattle.plan_work.specs.ExtensionSteps.{IsHung, IsPointed}
 use Rattle.step_core.specs.ViewTrees.{MayHang}
 use Rattle.step_core.specs.Views.{setup_in}
 use Rattle.step_core.specs.WordNames.Word.{Count}

@@ -8,9 +8,9 @@ use Rattle.kd_shared.specs.Placings.{SeesPlacing}
 use Rattle.plan_work.proofs.ExtendedAlone.{KeepsOthers-after, KeepsOthers-placing}
 use Rattle.plan_work.proofs.WholeLists.{HasWholeShare-kept}
 use Rattle.plan_work.specs.WholeShares.{KeepsOthers}
-use Rattle.plan_work.proofs.placing.choose_and_place.Goals as goal
-use Rattle.plan_work.specs.Extensions.{IsHung, IsTried}
-use Rattle.plan_work.specs.declared.placing.Hanging.{Hanging}
+use Rattle.plan_work.proofs.mark_placing.choose_and_place.Goals as goal
+use Rattle.plan_work.specs.ExtensionSteps.{IsHung, IsTried}
+use Rattle.plan_work.specs.declared.mark_placing.Hanging.{Hanging}
 
 pub choose_and_write-parent-requires-clause-nearest : goal.choose_and_write-parent-requires-clause-nearest
 choose_and_write-parent-requires-clause-nearest g c κs within =
