@@ -1,24 +1,29 @@
 -- What steps and whole marks leave of the share of a pass.
-use Rattle.std.proofs.Common.{◌≡◌, ℕ, ◌<◌, length, sym, ap, ◌∙◌, subst}
+use Rattle.std.proofs.Common.{ℕ, ◌<◌, length, sym, ap, ◌∙◌, subst}
 use Rattle.plan_model.specs.declared.records.Record.{Record}
-use Rattle.plan_words.specs.States.{PassState, SharedState}
+use Rattle.plan_words.specs.Claims.{KeepsHand}
+use Rattle.plan_words.specs.States.{BelongsTo, PassState, SharedState}
 use Rattle.plan_work.specs.Extensions.{HandlesMark}
 use Rattle.plan_work.proofs.WorkedMarks.{share-turned}
 use Rattle.plan_work_tests.specs.Sharers.{HasClaimed, HasShare}
 use Rattle.step_core.specs.WordNames.{Word}
 use Rattle.tree_rewire.specs.SeenCosts.{PassSees}
 
--- steps that show words anew leave it, and the pass may claim as before
+-- steps that leave the hand of a pass of the tree leave it, and the pass may claim as before
+pub HasShare-kept : (shared : SharedState) (before after : PassState) (n : ℕ) → BelongsTo after shared → KeepsHand before.view after.view
+    → HasShare shared n before → HasShare shared n after
+HasShare-kept shared before after n belongs kept has = record {
+  may_claim = record {
+    belongs = belongs;
+    part = subst (λ crew. 0 < length crew) (sym kept.crew) has.may_claim.part;
+    idle = kept.hand ∙ has.may_claim.idle;
+  };
+  share_is = ap (λ crew. length crew) kept.crew ∙ has.share_is;
+}
+
 pub HasShare-sees : (which : Word → Type 0) (shared : SharedState) (before after : PassState) (n : ℕ) → PassSees which shared before after
     → HasShare shared n before → HasShare shared n after
-HasShare-sees which shared before after n sees has = record {
-  may_claim = record {
-    belongs = sees.belongs;
-    part = subst (λ crew. 0 < length crew) (sym sees.sees_anew.kept.crew) has.may_claim.part;
-    idle = sees.sees_anew.kept.hand ∙ has.may_claim.idle;
-  };
-  share_is = ap (λ crew. length crew) sees.sees_anew.kept.crew ∙ has.share_is;
-}
+HasShare-sees which shared before after n sees has = HasShare-kept shared before after n sees.belongs sees.sees_anew.kept has
 
 -- a claimed mark that is handled leaves it too
 pub HasClaimed-handled : (shared : SharedState) (claimed after : PassState) (n k : ℕ) (entry : Record) → HandlesMark shared claimed after k entry

@@ -3,18 +3,16 @@
 #![tactic(auto)]
 
 #[cfg(test)]
-mod extending;
+mod extend;
 #[cfg(test)]
-mod fallen_costs;
+mod extend_opened_runs;
 #[cfg(test)]
-mod growing;
+mod extend_with_fallen_costs;
 #[cfg(test)]
-mod opening_runs;
+mod extend_with_stale_costs;
 #[cfg(test)]
-mod segment_tests;
+mod grow;
 #[cfg(test)]
-mod stale_costs;
+mod support;
 #[cfg(test)]
-mod test_runs;
-#[cfg(test)]
-mod two_passes;
+mod work;

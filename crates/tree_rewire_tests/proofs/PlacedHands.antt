@@ -11,7 +11,7 @@ use Rattle.step_core.specs.Views.{share}
 use Rattle.step_core.specs.declared.views.Hand.{Hand}
 use Rattle.step_core.specs.declared.views.Stage.TheVariants.{Counted}
 use Rattle.tree_rewire.specs.SeenCosts.{IsInReach}
-use Rattle.tree_rewire.proofs.PlacedHands.{HasPlaced-placed, IsSome-placed}
+use Rattle.plan_work.proofs.PlacedHands.{HasPlaced-placed, IsSome-placed}
 use Rattle.tree_rewire_tests.specs.HeldMarks.{HasNearInReach, IfPlaced, MayRewire}
 use Rattle.tree_rewire_tests.proofs.ReachedNodes.{All-in_reach-later}
 

@@ -24,7 +24,7 @@ use Rattle.step_core.specs.ViewTrees.{IsCostBelow, MayHang, SeesCost, SeesPoint,
 use Rattle.step_core.specs.Views.{tree_seen}
 use Rattle.step_core.specs.declared.views.Hand.{Hand}
 use Rattle.step_core.specs.declared.views.View.{View}
-use Rattle.tree_rewire.specs.SeenCosts.{IsInReach, SeesPair, cost_seen, cost_through}
+use Rattle.tree_rewire.specs.SeenCosts.{IsInReach, SeesPair, cost_seen, seen_cost_through}
 use Rattle.tree_rewire.proofs.ChosenParents.{IsInReach-later}
 
 -- a node that is seen so close is in reach
@@ -64,7 +64,7 @@ All-in_reach-later before after p found now goes_on same all =
 -- the node in hand may hang below the best of its nearest node and the near ones
 pub MayHang-chosen : (view : View) (space : ConfigurationSpace) (hand : Hand) (p : Point) (n : ℕ) (near : List ℕ) (parent cost : ℕ)
     → p ≡ hand.point → n ≡ hand.nearest → IsPresent (tree_seen view).points n → SeesPair view n → Clear space (point_of (tree_seen view).points n) p
-    → IsFirstLeast (cost_through view p) (IsOpenTo space (tree_seen view).points p (n ∷ near)) parent → cost ≡ cost_through view p parent
+    → IsFirstLeast (seen_cost_through view p) (IsOpenTo space (tree_seen view).points p (n ∷ near)) parent → cost ≡ seen_cost_through view p parent
     → IsCostBelow view p parent cost → MayHang view hand parent cost
 MayHang-chosen view space hand p n near parent cost p_is n_is present pair clear least cost_is below =
     let points = (tree_seen view).points in

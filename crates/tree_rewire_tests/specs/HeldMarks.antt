@@ -3,7 +3,6 @@ use Rattle.std.specs.Prelude.{◌≡◌, ℕ, ◌<◌, Some, All, IfSome, IsSome
 use Rattle.kd_shared.specs.declared.placing.Placing.{Placing}
 use Rattle.kd_shared.specs.declared.placing.Placing.TheVariants.{Placed, Same}
 use Rattle.plan_words.specs.States.{BelongsTo, PassState, SharedState}
-use Rattle.step_core.specs.LaterViews.{IsLawfulView}
 use Rattle.step_core.specs.Views.{share}
 use Rattle.step_core.specs.declared.views.Hand.{Hand}
 use Rattle.step_core.specs.declared.views.Stage.{Stage}
@@ -19,7 +18,6 @@ pub record IsAtWork (shared : SharedState) (pass : PassState) : Type 0 where
 pub record HoldsMark (shared : SharedState) (k : ℕ) (stage : Stage) (nearest : ℕ) (pass : PassState) : Type 0 where
   pub belongs : BelongsTo pass shared
   pub part : 0 < share pass.view
-  pub lawful : IsLawfulView pass.view
   pub hand : Hand
   pub held : pass.view.hand ≡ Some hand
   pub mark : hand.mark ≡ k

@@ -2,12 +2,10 @@
 #![tactic(auto)]
 
 #[cfg(test)]
-mod lowering;
+mod rewire;
 #[cfg(test)]
-mod rewired;
+mod spread;
 #[cfg(test)]
-mod runs;
+mod spread_by_threads;
 #[cfg(test)]
-mod subtrees;
-#[cfg(test)]
-mod threads;
+mod support;

@@ -1,0 +1,28 @@
+use Rattle.std.proofs.Common.{◌≡◌, ap, arith, subst, sym, ◌∙◌}
+use Rattle.std.specs.Prelude.{All}
+use Rattle.plan_model.specs.Geometry.Bounds.{IsBounded}
+use Rattle.plan_words.proofs.HandSteps.{at_hand}
+use Rattle.plan_words.proofs.KeptPairs.{if_hand}
+use Rattle.plan_words.proofs.NearestParents.{IsBounded-hand}
+use Rattle.step_core.specs.Stages.{has_point}
+use Rattle.step_core.specs.ViewTrees.{sight_in}
+use Rattle.tree_rewire.specs.SeenCosts.{IsInReach}
+use Rattle.tree_rewire_tests.proofs.ReachedNodes.{All-in_reach}
+use Rattle.tree_rewire_tests.proofs.rewire.fill_near.Goals as goal
+
+pub near-requires-clause-bounded : goal.near-requires-clause-bounded
+near-requires-clause-bounded c =
+    let holds = c.requires.holds in
+    subst IsBounded (sym (at_hand (λ hand. c.hand_point-p.result ≡ hand.point) c.args.pass.now.view.hand holds.hand holds.held c.hand_point-p.ensures))
+    (IsBounded-hand c.args.pass.now.view holds.hand holds.belongs.lawful holds.held (ap has_point holds.stage_is))
+
+pub returns-clause-near : goal.returns-clause-near
+returns-clause-near c =
+    let holds = c.requires.holds in
+    let after = c.near.new.pass in
+    let near = c.near.ensures in
+    let p_is = at_hand (λ hand. c.hand_point-p.result ≡ hand.point) c.args.pass.now.view.hand holds.hand holds.held c.hand_point-p.ensures in
+    let all = All-in_reach (sight_in c.args.pass.now.view) after.view c.hand_point-p.result c.args.radius after.near near.near
+    (omega (arith, c.requires.short, ap (λ run. run.step) near.belongs.run)) in
+    if_hand (λ hand. All (IsInReach after.view hand.point) after.near) after.view.hand holds.hand (near.looks.kept.hand ∙ holds.held)
+    (subst (λ p. All (IsInReach after.view p) after.near) p_is all)

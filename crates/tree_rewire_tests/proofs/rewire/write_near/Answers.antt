@@ -1,0 +1,31 @@
+use Rattle.std.proofs.Common.{◌≡◌, ap, arith, length, refl, ◌∙◌}
+use Rattle.plan_words.specs.States.{PassState, with_view}
+use Rattle.plan_words.proofs.HandSteps.{at_hand}
+use Rattle.step_core.specs.ViewSteps.{pointed}
+use Rattle.step_core.specs.declared.views.Stage.TheVariants.{Pointed}
+use Rattle.tree_rewire_tests.proofs.rewire.write_near.Goals as goal
+
+pub returns : goal.returns
+returns c =
+    let holds = c.requires in
+    let found = c.nearest-node.ensures in
+    let mid = c.point-from.new.pass in
+    let after = c.write_point.new.pass in
+    let loaded = c.point-from.ensures.view in
+    let held = ap (λ (s : PassState). s.view.hand) loaded ∙ found.looks.kept.hand ∙ holds.held in
+    let is = at_hand (λ hand. after ≡ with_view mid (pointed mid.view hand c.nearest-node.result c.steer-p.result)) mid.view.hand holds.hand held
+    c.write_point.ensures.view in
+    let crew = ap (λ (s : PassState). s.view.crew) is ∙ ap (λ (s : PassState). s.view.crew) loaded ∙ found.looks.kept.crew in
+    record {
+      belongs = record {
+        table = ap (λ (s : PassState). s.table) is ∙ ap (λ (s : PassState). s.table) loaded ∙ found.belongs.table;
+        run = ap (λ (s : PassState). s.view.run) is ∙ ap (λ (s : PassState). s.view.run) loaded ∙ found.belongs.run;
+        lawful = c.write_point.ensures.goes_on.lawful;
+      };
+      part = omega (arith, holds.part, ap (λ crew. length crew) crew);
+      hand = record holds.hand { stage = Pointed; nearest = c.nearest-node.result; point = c.steer-p.result };
+      held = ap (λ (s : PassState). s.view.hand) is;
+      mark = holds.mark;
+      stage_is = refl;
+      nearest_is = refl;
+    }
