@@ -6,7 +6,7 @@ use lib.ListN.{get_elem?}
 use mathlib.Core.Option.{some, some-injective, some-ne-none}
 use Rattle.atomic_table.specs.Seated.{TableId}
 use Rattle.plan_model.specs.Runs.Turns.{turns_of}
-use Rattle.plan_words.specs.Chains.{HasParentsWithin}
+use Rattle.plan_words.specs.Parents.{HasParentsWithin}
 use Rattle.plan_words.specs.Dealt.{IsPassOf, StandsFor, each_after}
 use Rattle.plan_words.specs.States.{BelongsTo, HoldsWorld, IsTableOf, IsTied, MayClaim, PassState, SharedState}
 use Rattle.plan_words.specs.States.{StartsAs, first_of, first_view, new_pass, run_in, run_of_opening, with_view}

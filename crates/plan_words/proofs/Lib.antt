@@ -19,7 +19,6 @@ pub mod Dealing
 pub mod NearestParents
 pub mod WholeTrees
 pub mod Ending
-pub mod MovedChildren
 pub mod MarkedNodes
 pub mod ChainWalks
 pub mod SeenChildren

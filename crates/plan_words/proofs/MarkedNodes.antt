@@ -1,7 +1,7 @@
 -- A node that waits is marked, comes on the list, and goes off it.
 use Rattle.std.proofs.Common.{◌≡◌, ◌≢◌, ◌⊎◌, ℕ, zero, suc, ◌<◌, ◌≤◌, Bool, true, false, List, []}
 use Rattle.std.proofs.Common.{◌∷◌, ◌++◌, Option, None, Some, append-nil, length, refl, sym, ap, ◌∙◌, subst, ⊎_elim, inl, inr, arith}
-use Rattle.std.specs.Prelude.{IfSome, option_to_list, replicate, slice_index, slice_set}
+use Rattle.std.specs.Prelude.{IfSome, option_to_list, slice_index, slice_set}
 use Rattle.std.proofs.lemmas.Bool.{cases_eq, cases_lt}
 use Rattle.std.proofs.lemmas.List.{get_or_append_left, get_or-set_other, get_or-set_same, length-append, length-set}
 use Rattle.plan_words.specs.Waiting.{AreMarked, IsOn, NoneMarked, count_marked, mark_at}
@@ -58,7 +58,7 @@ shorter-popped before after (Some n) is = omega (arith, ap (λ l. length l) is, 
 
 -- ---- counting marks
 
-pub count-marked :
+count-marked :
     (marked : List Bool) (n : ℕ) → n < length marked → mark_at marked n ≡ false → count_marked (slice_set marked n true) ≡ suc (count_marked marked)
 count-marked [] n low free = absurd (omega arith)
 count-marked (true ∷ marked) zero low free = cc
@@ -74,7 +74,7 @@ count-unmarked (false ∷ marked) zero low on = cc
 count-unmarked (true ∷ marked) (suc n) low on = ap suc (count-unmarked marked n (omega arith) on)
 count-unmarked (false ∷ marked) (suc n) low on = count-unmarked marked n (omega arith) on
 
-pub count-within : (marked : List Bool) → count_marked marked ≤ length marked
+count-within : (marked : List Bool) → count_marked marked ≤ length marked
 count-within [] = omega arith
 count-within (true ∷ marked) = let rest = count-within marked in omega arith
 count-within (false ∷ marked) = let rest = count-within marked in omega arith
@@ -88,7 +88,7 @@ marked-low (mark ∷ marked) (suc n) on = let rest = marked-low marked n on in o
 mark-set : (marked : List Bool) (n : ℕ) (b : Bool) → n < length marked → mark_at (slice_set marked n b) n ≡ b
 mark-set marked n b low = get_or-set_same marked n b false low
 
-pub mark-else : (marked : List Bool) (n m : ℕ) (b : Bool) → m ≢ n → mark_at (slice_set marked n b) m ≡ mark_at marked m
+mark-else : (marked : List Bool) (n m : ℕ) (b : Bool) → m ≢ n → mark_at (slice_set marked n b) m ≡ mark_at marked m
 mark-else marked n m b apart = get_or-set_other marked n m b false apart
 
 -- ---- coming and going
@@ -160,11 +160,6 @@ room-push nodes marked n are low free =
     omega (arith, are.count, count-marked marked n low free, count-within (slice_set marked n true), length-set marked n true)
 
 -- ---- at the start and at the end
-
-pub NoneMarked-new : (count : ℕ) → NoneMarked (replicate count false)
-NoneMarked-new zero n = refl
-NoneMarked-new (suc count) zero = refl
-NoneMarked-new (suc count) (suc n) = NoneMarked-new count n
 
 -- no node on an empty list is marked
 pub AreMarked-none : (marked : List Bool) → NoneMarked marked → AreMarked [] marked

@@ -2,7 +2,8 @@
 use Rattle.std.proofs.Common.{◌≡◌, ℕ, zero, suc, ◌+◌, ◌<◌, ◌≤◌, ◌^◌, Bool, true, false, List, [], ◌∷◌, length, refl, sym, ap, ◌∙◌, subst, ⊎_elim, arith}
 use Rattle.std.specs.Prelude.{cond, nat_lt, slice_index}
 use Rattle.std.proofs.lemmas.Bool.{cases_lt, le-ltb, ltb-false}
-use Rattle.plan_words.specs.Chains.{HasParentsBelow, sibling_chain_in, chain_of}
+use Rattle.plan_words.specs.Parents.{HasParentsBelow}
+use Rattle.plan_words.specs.SeenChains.{sibling_chain_in, chain_of}
 use Rattle.plan_words.specs.States.{HasPairs}
 use Rattle.plan_words.specs.Waiting.{HasSeenParent}
 use Rattle.step_core.specs.LaterViews.{IsLawfulView}

@@ -4,5 +4,5 @@ pub mod Plays
 pub mod Claims
 pub mod Nodes
 pub mod Parents
-pub mod Chains
+pub mod SeenChains
 pub mod Waiting

@@ -1,5 +1,5 @@
--- What a pass is told of parents and costs.
-use Rattle.std.specs.Prelude.{◌≡◌, ℕ, ◌<◌, ◌≤◌, ◌^◌}
+-- Parents and costs in tree words, and what a pass is told of them.
+use Rattle.std.specs.Prelude.{◌≡◌, ℕ, ◌<◌, ◌≤◌, ◌^◌, List, slice_index}
 use Rattle.plan_model.specs.declared.geometry.Point.{Point}
 use Rattle.plan_model.specs.Runs.OrderLaw.{IsAllowedEdge}
 use Rattle.step_core.specs.ViewTrees.{SeesPoint}
@@ -12,6 +12,13 @@ pub record IsPairIn (word : ℕ) (pair : ℕ × ℕ) : Type 0 where
   pub written : 2 ^ 63 ≤ word
   pub parent : pair.0 ≡ parent_in word
   pub cost : pair.1 ≡ cost_in word
+
+-- each word that is written has its parent among the nodes up to the last
+abbrev pub HasParentsWithin : ℕ → (ℕ → ℕ) → Type 0
+HasParentsWithin last words = (n : ℕ) → n ≤ last → 2 ^ 63 ≤ words n → parent_in (words n) ≤ last
+
+abbrev pub HasParentsBelow : ℕ → List ℕ → Type 0
+HasParentsBelow nodes words = (n : ℕ) → 2 ^ 63 ≤ slice_index words n → parent_in (slice_index words n) < nodes
 
 -- the other word has a lower cost
 pub record FindsLess (word found : ℕ) : Type 0 where

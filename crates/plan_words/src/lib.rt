@@ -21,7 +21,6 @@
 //! of nodes that wait to be looked at: [`Pass::queue_children`] and [`Pass::pop_waiting`] are no steps on the table.
 #![tactic(auto)]
 
-mod children;
 pub mod claim_laws;
 mod claims;
 mod ends;

@@ -1,15 +1,14 @@
 //! The parents and costs that a pass saw last, with the children of each node by them.
 
 ghost use Rattle.std.specs.Prelude.{◌≡◌, ℕ, suc, ◌<◌, ◌≤◌, ◌^◌, ◌⊎◌, length, slice_index, slice_set, true, IfOk, replicate};
-ghost use Rattle.plan_words.specs.Chains.{sibling_chain_in, chain_of};
+ghost use Rattle.plan_words.specs.SeenChains.{sibling_chain_in, chain_of};
 ghost use Rattle.plan_words.specs.Waiting.{IsOn};
 ghost use Rattle.step_core.specs.Words.{parent_in};
 
-use crate::children::ChildIndex;
 use crate::waiting::Waiting;
 use std::alloc::{AllocError, Global};
 use std::marker::Model;
-use step_core::read_tree;
+use step_core::{ChildIndex, read_tree};
 
 /// The tree word of each node as a pass saw it last, 0 if it did not, with an index from each node to those that have it as their
 /// parent by these words. To a contract it is the list of the words.
@@ -21,7 +20,8 @@ pub(crate) struct SeenPairs {
 
 impl Model for SeenPairs {
     ghost use Rattle.std.specs.Prelude.{◌<◌, ◌^◌, ℕ, List, length};
-    ghost use Rattle.plan_words.specs.Chains.{IndexesChains, sibling_chain_in};
+    ghost use Rattle.plan_words.specs.SeenChains.{sibling_chain_in};
+    ghost use Rattle.step_core.specs.ChildChains.{IndexesChains};
 
     ghost Value = { List ℕ };
 
@@ -91,13 +91,10 @@ impl SeenPairs {
         ensures keeps { (n : ℕ) → IsOn waiting.old.nodes n → IsOn waiting.new.nodes n }
         ensures only { (n : ℕ) → IsOn waiting.new.nodes n → IsOn waiting.old.nodes n ⊎ (sibling_chain_in self.now n ≡ suc parent) }
     {
-        let mut child = self.children.first[parent as usize];
-        for _ in 0..self.words.len() {
-            if child == 0 {
-                return;
-            }
+        let mut child = self.children.first_child(parent);
+        while child != 0 {
             waiting.push(child);
-            child = self.children.next[child as usize];
+            child = self.children.next_sibling(child);
         }
     }
 }

@@ -4,7 +4,7 @@ ghost use Rattle.std.specs.Prelude.{◌≡◌, ◌≢◌, ℕ, ◌+◌, ◌<◌,
 ghost use Rattle.plan_model.specs.Trees.PointsByNumber.{node_count};
 ghost use Rattle.plan_model.specs.declared.limits.TheConstants.{MOST_MARKS};
 ghost use Rattle.plan_model.specs.declared.records.Record.{Record};
-ghost use Rattle.plan_words.specs.Chains.{HasParentsBelow};
+ghost use Rattle.plan_words.specs.Parents.{HasParentsBelow};
 ghost use Rattle.plan_words.specs.States.{BelongsTo, GoesOn, HasWholeShare, MayClaim, new_pass, turn_of, turned, with_view, worker_of};
 ghost use Rattle.step_core.specs.HoldRunProps.{Sizes-set};
 ghost use Rattle.step_core.specs.PlacesOfWords.{sizes_in};

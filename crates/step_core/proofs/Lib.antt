@@ -78,3 +78,6 @@ pub mod Histories
 pub mod LaterViews
 pub mod GrownFromWords
 pub mod RecordedNodes
+pub mod MovedChildren
+pub mod AddedNumbers
+pub mod SiblingWalks

@@ -13,6 +13,7 @@ pub mod KdSides
 pub mod KdWalks
 pub mod KdLinks
 pub mod KdLinkLaws
+pub mod ChildChains
 pub mod PackedRuns
 pub mod SharedWords
 pub mod SeenRecords

@@ -14,8 +14,11 @@
 //!
 //! Several passes may step on the words of one run without a lock. What each knows is its [`View`], what holds between any two
 //! steps is the law of worlds (`specs/Worlds`), and each kind of step has a law that it keeps it (`world_laws`).
+//!
+//! [`ChildIndex`] is what planners find the children of a node by, whose parents are kept elsewhere: in words, or in a list.
 #![tactic(auto)]
 
+mod child_index;
 mod cleared_words;
 mod grown;
 mod kd_links;
@@ -36,6 +39,7 @@ mod views;
 mod word_places;
 pub mod world_laws;
 
+pub use child_index::ChildIndex;
 pub use grown::Grown;
 pub use kd_sides::{distance_to_split, goes_right};
 pub use kd_trees::KdTree;

@@ -1,8 +1,9 @@
 use Rattle.std.proofs.Common.{rules, ◌≡◌, ℕ, zero, suc, length, replicate, refl, sym, ap, ◌∙◌, subst, arith}
 use Rattle.std.specs.Prelude.{slice_index}
 use Rattle.std.proofs.lemmas.List.{length-replicate}
-use Rattle.plan_words.specs.Chains.{IndexesChains, chain_of, sibling_chain_in}
-use Rattle.plan_words.proofs.MovedChildren.{IsIndex-same, index-zeros}
+use Rattle.plan_words.specs.SeenChains.{chain_of, sibling_chain_in}
+use Rattle.step_core.specs.ChildChains.{IndexesChains}
+use Rattle.step_core.proofs.MovedChildren.{IsIndex-same, index-zeros}
 use Rattle.plan_words.proofs.seen_pairs.SeenPairs.new.Goals as goal
 
 -- a node that was not seen is nobody's child

@@ -1,12 +1,15 @@
 use Rattle.std.proofs.Common.{◌≡◌, suc, length}
 use Rattle.plan_words.proofs.ChainWalks.{IsWalk}
 use Rattle.plan_words.proofs.seen_pairs.SeenPairs.queue_children.Given as goal
-use Rattle.plan_words.specs.Chains.{sibling_chain_in}
+use Rattle.plan_words.specs.SeenChains.{sibling_chain_in}
+use Rattle.step_core.specs.ChildChains.{siblings_from}
 
-abbrev pub invariant-loop : goal.invariant-loop
-invariant-loop l = record {
+abbrev pub invariant-loop-child : goal.invariant-loop-child
+invariant-loop-child l = record {
   walk :
-      IsWalk l.counter (length l.self-inside.words.items) (sibling_chain_in l.self-inside.words.items) l.self-inside.children.first.items
-      l.self-inside.children.next.items l.self-inside.children.previous.items (suc l.parent) l.child l.initial.waiting.nodes l.waiting.nodes;
+      IsWalk l.self-inside.children (sibling_chain_in l.self-inside.words.items) (suc l.parent) l.child l.initial.waiting.nodes l.waiting.nodes;
   kept : l.waiting ≡ record l.initial.waiting { nodes = l.waiting.nodes };
 }
+
+abbrev pub decreases-loop-child : goal.decreases-loop-child
+decreases-loop-child l = length (siblings_from l.self-inside.children l.child)

@@ -1,7 +1,8 @@
 use Rattle.std.proofs.Common.{◌<◌, ◌^◌, length, sym, ap, ◌∙◌, subst}
 use Rattle.std.specs.Prelude.{slice_set}
 use Rattle.std.proofs.lemmas.List.{get_or-set_other, get_or-set_same, get_or_default, length-set}
-use Rattle.plan_words.specs.Chains.{IndexesChains, sibling_chain_in, chain_of}
+use Rattle.plan_words.specs.SeenChains.{sibling_chain_in, chain_of}
+use Rattle.step_core.specs.ChildChains.{IndexesChains}
 use Rattle.plan_words.proofs.seen_pairs.SeenPairs.set.Goals as goal
 
 pub relink-requires-clause-here : goal.relink-requires-clause-here
@@ -11,7 +12,7 @@ relink-requires-clause-here c =
     record {
       nodes = length words;
       chain = sibling_chain_in words;
-      index = c.self.invariant.1;
+      chains = c.self.invariant.1;
       here = sym (c.chain_of.ensures ∙ ap (chain_of c.args.node) (c.index-before.ensures ∙ get_or_default words c.args.node _ 0 low));
       low = low;
     }

@@ -4,7 +4,7 @@ use Rattle.plan_words.proofs.Joining.{AreBehind-taken_over, GoesOn-taken_over, f
 use Rattle.plan_words.proofs.Owning.{may_load_here, may_take_over_here, same_run, same_table}
 use Rattle.plan_words.proofs.SeenChildren.{HasParentsBelow-seen}
 use Rattle.plan_words.proofs.shared.Shared.join.Goals as goal
-use Rattle.plan_words.specs.Chains.{HasParentsBelow}
+use Rattle.plan_words.specs.Parents.{HasParentsBelow}
 use Rattle.plan_words.specs.States.{first_of}
 use Rattle.step_core.specs.Views.{share}
 use Rattle.step_core.specs.WordNames.Word.{Count}

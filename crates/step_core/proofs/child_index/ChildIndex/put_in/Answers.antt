@@ -1,9 +1,9 @@
 use Rattle.std.proofs.Common.{◌-◌, ◌<◌, suc, length, sym, ◌∙◌, subst, inl, inr, arith}
 use Rattle.std.proofs.lemmas.Bool.{cases_eq}
 use Rattle.std.proofs.lemmas.List.{get_or_default}
-use Rattle.plan_words.specs.Chains.{MovesNode}
-use Rattle.plan_words.proofs.MovedChildren.{IsIndex-put_in, MovesNode-none, front_within}
-use Rattle.plan_words.proofs.children.ChildIndex.put_in.Goals as goal
+use Rattle.step_core.specs.ChildChains.{MovesNode}
+use Rattle.step_core.proofs.MovedChildren.{IsIndex-put_in, MovesNode-none, front_within}
+use Rattle.step_core.proofs.child_index.ChildIndex.put_in.Goals as goal
 
 pub returns-then-to-eq0 : goal.returns-then-to-eq0
 returns-then-to-eq0 c =
@@ -12,7 +12,7 @@ returns-then-to-eq0 c =
 pub index_mut-requires-2 : goal.index_mut-requires-2
 index_mut-requires-2 c =
     let lists = c.args.self.now in
-    let index = c.requires.here.index in
+    let index = c.requires.here.chains in
     let low : c.args.to - 1 < length lists.first.items = omega (arith, c.requires.parent, c.if-to-eq0.false) in
     let front = c.index-front.ensures ∙ get_or_default lists.first.items (c.args.to - 1) _ 0 low in
     omega (arith, front, index.previouses, front_within _ _ _ _ _ (suc (c.args.to - 1)) index, lists.previous.ok)
@@ -21,7 +21,7 @@ pub returns : goal.returns
 returns c nodes chain now index free here others =
     let lists = c.args.self.now in
     let parent : c.args.to - 1 < length lists.first.items = omega (arith, c.requires.parent, c.if-to-eq0.false) in
-    let low : c.args.node < nodes = omega (arith, c.requires.here.index.firsts, index.firsts, c.requires.here.low) in
+    let low : c.args.node < nodes = omega (arith, c.requires.here.chains.firsts, index.firsts, c.requires.here.low) in
     let front = c.index-front.ensures ∙ get_or_default lists.first.items (c.args.to - 1) _ 0 parent in
     let some : 0 < c.args.node = elim (cases_eq c.args.node 0) [ inl e ↦ absurd (c.if-to-eq0.false (c.requires.root e)) | inr apart ↦ omega (arith, apart) ] in
     rw front

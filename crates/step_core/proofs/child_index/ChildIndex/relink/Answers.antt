@@ -1,7 +1,7 @@
 use Rattle.std.proofs.Common.{subst, arith}
-use Rattle.plan_words.specs.Chains.{MovesNode}
-use Rattle.plan_words.proofs.MovedChildren.{HasInChain-out, MovesNode-none, MovesNode-trans, length-out}
-use Rattle.plan_words.proofs.children.ChildIndex.relink.Goals as goal
+use Rattle.step_core.specs.ChildChains.{MovesNode}
+use Rattle.step_core.proofs.MovedChildren.{HasInChain-out, MovesNode-none, MovesNode-trans, length-out}
+use Rattle.step_core.proofs.child_index.ChildIndex.relink.Goals as goal
 
 pub returns-then-from-to : goal.returns-then-from-to
 returns-then-from-to c =

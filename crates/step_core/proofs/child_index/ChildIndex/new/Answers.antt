@@ -1,6 +1,6 @@
 use Rattle.std.proofs.Common.{rules, ◌≡◌, replicate}
-use Rattle.plan_words.proofs.MovedChildren.{IsIndex-none}
-use Rattle.plan_words.proofs.children.ChildIndex.new.Goals as goal
+use Rattle.step_core.proofs.MovedChildren.{IsIndex-none}
+use Rattle.step_core.proofs.child_index.ChildIndex.new.Goals as goal
 
 pub returns : goal.returns
 returns c =

@@ -1,8 +1,8 @@
 use Rattle.std.proofs.Common.{◌-◌, ◌<◌, length, refl, sym, ◌∙◌, subst, arith}
 use Rattle.std.proofs.lemmas.List.{get_or_default}
-use Rattle.plan_words.specs.Chains.{MovesNode}
-use Rattle.plan_words.proofs.MovedChildren.{IsIndex-taken_out, MovesNode-none, after_within, before_within}
-use Rattle.plan_words.proofs.children.ChildIndex.take_out.Goals as goal
+use Rattle.step_core.specs.ChildChains.{MovesNode}
+use Rattle.step_core.proofs.MovedChildren.{IsIndex-taken_out, MovesNode-none, after_within, before_within}
+use Rattle.step_core.proofs.child_index.ChildIndex.take_out.Goals as goal
 
 pub returns-then-from-eq0 : goal.returns-then-from-eq0
 returns-then-from-eq0 c =
@@ -10,22 +10,22 @@ returns-then-from-eq0 c =
     (MovesNode-none c.args.node c.args.from c.args.self.now)
 
 pub index-before-requires : goal.index-before-requires
-index-before-requires c = omega (arith, c.requires.here.low, c.requires.here.index.previouses, c.args.self.now.previous.ok)
+index-before-requires c = omega (arith, c.requires.here.low, c.requires.here.chains.previouses, c.args.self.now.previous.ok)
 
 pub index-after-requires : goal.index-after-requires
-index-after-requires c = omega (arith, c.requires.here.low, c.requires.here.index.nexts, c.args.self.now.next.ok)
+index-after-requires c = omega (arith, c.requires.here.low, c.requires.here.chains.nexts, c.args.self.now.next.ok)
 
 pub index_mut-requires : goal.index_mut-requires
 index_mut-requires c =
     let lists = c.args.self.now in
     let has = c.requires.here in
-    let low : c.args.node < length lists.previous.items = omega (arith, has.low, has.index.previouses) in
+    let low : c.args.node < length lists.previous.items = omega (arith, has.low, has.chains.previouses) in
     let before = c.index-before.ensures ∙ get_or_default lists.previous.items c.args.node _ 0 low in
     omega (
       arith,
       before,
-      before_within _ _ _ _ _ c.args.node has.index (omega (arith, has.here, c.if-from-eq0.false)),
-      has.index.nexts,
+      before_within _ _ _ _ _ c.args.node has.chains (omega (arith, has.here, c.if-from-eq0.false)),
+      has.chains.nexts,
       lists.next.ok,
     )
 
@@ -33,13 +33,13 @@ pub index_mut-requires-2 : goal.index_mut-requires-2
 index_mut-requires-2 c =
     let lists = c.args.self.now in
     let has = c.requires.here in
-    let low : c.args.node < length lists.next.items = omega (arith, has.low, has.index.nexts) in
+    let low : c.args.node < length lists.next.items = omega (arith, has.low, has.chains.nexts) in
     let after = c.index-after.ensures ∙ get_or_default lists.next.items c.args.node _ 0 low in
     omega (
       arith,
       after,
-      after_within _ _ _ _ _ c.args.node has.index (omega (arith, has.here, c.if-from-eq0.false)),
-      has.index.previouses,
+      after_within _ _ _ _ _ c.args.node has.chains (omega (arith, has.here, c.if-from-eq0.false)),
+      has.chains.previouses,
       lists.previous.ok,
     )
 
@@ -49,7 +49,7 @@ overflow_sub-from c = omega (arith, c.if-from-eq0.false)
 pub index_mut-requires-then-before-eq0 : goal.index_mut-requires-then-before-eq0
 index_mut-requires-then-before-eq0 c =
     let has = c.requires.here in
-    omega (arith, c.if-from-eq0.false, has.here, has.index.chained.high c.args.node, has.index.firsts, c.args.self.now.first.ok)
+    omega (arith, c.if-from-eq0.false, has.here, has.chains.chained.high c.args.node, has.chains.firsts, c.args.self.now.first.ok)
 
 pub returns-then-before-eq0 : goal.returns-then-before-eq0
 returns-then-before-eq0 c nodes chain now index here out others =

@@ -4,8 +4,8 @@ use Rattle.std.proofs.Common.{◌==◌, Bool, cond, eq-eqb}
 use Rattle.std.specs.Prelude.{replicate, slice_index, slice_set}
 use Rattle.std.proofs.lemmas.Bool.{cases_eq, ne_eqb}
 use Rattle.std.proofs.lemmas.List.{get_or-set_other, get_or-set_same, length-replicate, length-set}
-use Rattle.plan_words.specs.Chains.{AreChained, HasInChain, IsIndex, MovesNode, OnlyMoves, front_in}
-use Rattle.plan_words.specs.declared.children.ChildIndex.{ChildIndex}
+use Rattle.step_core.specs.ChildChains.{AreChained, HasInChain, IsIndex, MovesNode, OnlyMoves, front_in}
+use Rattle.step_core.specs.declared.child_index.ChildIndex.{ChildIndex}
 
 -- the node c has gone out of its chain
 pub record IsTakenOut (chain front next previous new_chain new_front new_next new_previous : ℕ → ℕ) (c : ℕ) : Type 0 where
@@ -553,7 +553,7 @@ pub HasInChain-out :
 HasInChain-out node from before between has out = record {
   nodes = has.nodes;
   chain = without node has.chain;
-  index = out has.nodes has.chain (without node has.chain) has.index has.here (without-here node has.chain) (without-else node has.chain);
+  chains = out has.nodes has.chain (without node has.chain) has.chains has.here (without-here node has.chain) (without-else node has.chain);
   here = without-here node has.chain;
   low = has.low;
 }
@@ -562,5 +562,5 @@ pub length-out :
     (node from : ℕ) (before between : ChildIndex) → HasInChain before node from → MovesNode node from 0 before between
     → length between.first.items ≡ length before.first.items
 length-out node from before between has out =
-    (out has.nodes has.chain (without node has.chain) has.index has.here (without-here node has.chain) (without-else node has.chain)).firsts
-    ∙ sym has.index.firsts
+    (out has.nodes has.chain (without node has.chain) has.chains has.here (without-here node has.chain) (without-else node has.chain)).firsts
+    ∙ sym has.chains.firsts
