@@ -1,167 +1,122 @@
 -- What a new node, or another parent of a node, changes in who is whose child.
-use Rattle.std.proofs.Common.{
-  ◌≡◌,
-  ℕ,
-  zero,
-  suc,
-  ◌+◌,
-  ◌<◌,
-  ◌≤◌,
-  List,
-  [],
-  ◌∷◌,
-  ◌++◌,
-  length,
-  set,
-  cond,
-  eqb,
-  Option,
-  Some,
-  None,
-  refl,
-  sym,
-  ap,
-  ◌∙◌,
-  subst,
-  arith,
-  inl,
-  inr,
-}
-use Rattle.std.specs.Prelude.{true, option_map}
-use Rattle.std.proofs.lemmas.Bool.{cases_lt, cases_eq, eq-eqb, ne_eqb}
-use Rattle.std.proofs.lemmas.List.{get_or-set_same, get_or-set_other, length-append}
-use Rattle.std.proofs.Math.ListN.{length-set}
+use Rattle.std.proofs.Common.{◌≡◌, ℕ, zero, suc, ◌+◌, ◌<◌, ◌≤◌, List, [], ◌∷◌, ◌++◌, length, set, cond, Option, Some, None, count_by}
+use Rattle.std.proofs.Common.{refl, sym, ap, ◌∙◌, subst, arith, inl, inr}
+use Rattle.std.specs.Prelude.{◌==◌, option_map}
+use Rattle.std.proofs.lemmas.Bool.{cases_eq, eq-eqb, ne_eqb}
+use Rattle.std.proofs.lemmas.List.{get_or-set_same, get_or-set_other, length-append, length-set}
+use Rattle.plan_model.specs.declared.limits.TheConstants.{MOST_NODES}
 use Rattle.plan_model.specs.declared.trees.Twig.{Twig}
-use Rattle.plan_model.specs.Trees.PointsByNumber.{IsPresent}
-use Rattle.plan_model.specs.Trees.NodeLists.{node_at, points_of}
+use Rattle.plan_model.specs.Trees.NodeLists.{node_at}
 use Rattle.plan_model.proofs.TreeChanges.{node_at-push_new, node_at-past, node_at-absent}
-use Rattle.plan_model.proofs.NewNodes.{Adds-push, present_below}
-use Rattle.seq_planner.specs.declared.child_lists.ChildLists.{ChildLists}
-use Rattle.seq_planner.specs.LinkedTrees.{parent_if_child, is_parent_number, is_child_of, HaveSlots, AreChildLists, ChangesOne}
-use Rattle.seq_planner.specs.LinkedTrees.{MayBecomeChild, MayUnlink, AreLinked}
-use Rattle.seq_planner.proofs.ChildLists.{AreChildLists-same, HaveSlots-fewer}
+use Rattle.plan_model.proofs.NewNodes.{Adds-push}
+use Rattle.step_core.specs.ChildChains.{AreMembers, HasInChain, HasOneMore, IndexesChains, MovesNode}
+use Rattle.step_core.specs.declared.child_index.ChildIndex.{ChildIndex}
+use Rattle.step_core.proofs.MovedChildren.{IsIndex-same}
+use Rattle.seq_planner.specs.LinkedTrees.{AreLinked, chain_in, chain_of, hangs_below, is_parent_number, parent_if_child}
 
 -- ---- by nodes
 
-parent_if_child-positive : (tree : List (Option Twig)) (c : ℕ) → 0 < c → parent_if_child tree c ≡ option_map (λ node. node.parent) (node_at tree c)
-parent_if_child-positive tree zero h = absurd (omega arith)
-parent_if_child-positive tree (suc n) h = refl
+-- a node that is present and not the start is in the chain of its parent
+pub chain_in-node : (tree : List (Option Twig)) (c : ℕ) (node : Twig) → 0 < c → node_at tree c ≡ Some node → chain_in tree c ≡ suc node.parent
+chain_in-node tree zero node some here = absurd (omega (arith, some))
+chain_in-node tree (suc n) node some here = ap (λ o. chain_of (option_map (λ node. node.parent) o)) here
 
-parent_if_child-same : (one other : List (Option Twig)) (c : ℕ) → node_at one c ≡ node_at other c → parent_if_child one c ≡ parent_if_child other c
-parent_if_child-same one other zero e = refl
-parent_if_child-same one other (suc n) e = ap (option_map (λ node. node.parent)) e
+chain_in-same : (one other : List (Option Twig)) (c : ℕ) → node_at one c ≡ node_at other c → chain_in one c ≡ chain_in other c
+chain_in-same one other zero e = refl
+chain_in-same one other (suc n) e = ap (λ o. chain_of (option_map (λ node. node.parent) o)) e
 
-parent_if_child-past : (tree : List (Option Twig)) (c : ℕ) → length tree ≤ c → parent_if_child tree c ≡ None
-parent_if_child-past tree zero past = refl
-parent_if_child-past tree (suc n) past = ap (option_map (λ node. node.parent)) (node_at-past tree (suc n) past)
-
--- a child has a number below the length
-child_below : (tree : List (Option Twig)) (c f : ℕ) → parent_if_child tree c ≡ Some f → c < length tree
-child_below tree c f h =
-    elim (cases_lt c (length tree)) [ inl below ↦ below | inr past ↦ (let none = parent_if_child-past tree c past in cc) ]
+chain_in-past : (tree : List (Option Twig)) (c : ℕ) → length tree ≤ c → chain_in tree c ≡ 0
+chain_in-past tree zero past = refl
+chain_in-past tree (suc n) past = ap (λ o. chain_of (option_map (λ node. node.parent) o)) (node_at-past tree (suc n) past)
 
 -- ---- a new node
 
 -- an absent number is nobody's child
 pub AreLinked-push_absent :
-    (tree : List (Option Twig)) (lists : ChildLists) → AreChildLists (parent_if_child tree) lists → HaveSlots (length tree + 1) lists
-    → AreLinked (tree ++ None ∷ []) lists
-AreLinked-push_absent tree lists children slots = record {
-  children =
-      AreChildLists-same (parent_if_child tree) (parent_if_child (tree ++ None ∷ [])) lists
-      (λ c. parent_if_child-same (tree ++ None ∷ []) tree c (node_at-absent tree c)) children;
-  slots = subst (λ n. HaveSlots n lists) (sym (length-append tree (None ∷ []))) slots;
-}
-
--- a new node may be put in front of the list of any parent
-pub MayBecomeChild-push :
-    (tree : List (Option Twig)) (lists : ChildLists) (parent number : ℕ) → number ≡ length tree → AreChildLists (parent_if_child tree) lists
-    → MayBecomeChild (parent_if_child tree) lists parent number
-MayBecomeChild-push tree lists parent number e children = record {
-  children = children;
-  unlinked = parent_if_child-past tree number (omega arith);
-  last = λ c h. (let below = child_below tree c parent h in omega arith);
-}
-
--- a new node is its parent's child
-pub ChangesOne-push :
-    (tree : List (Option Twig)) (node : Twig) (number : ℕ) → number ≡ length tree → 0 < length tree
-    → ChangesOne (parent_if_child tree) (parent_if_child (tree ++ Some node ∷ [])) number (Some node.parent)
-ChangesOne-push tree node number e some =
-    let longer : List (Option Twig) = tree ++ Some node ∷ [] in
+    (tree : List (Option Twig)) (children more : ChildIndex) → length tree < MOST_NODES → HasOneMore children more → AreLinked tree children
+    → AreLinked (tree ++ None ∷ []) more
+AreLinked-push_absent tree children more room one_more linked =
+    let sized = length-append tree (None ∷ []) in
     record {
-      here =
-          parent_if_child-positive longer number (omega arith)
-          ∙ ap (option_map (λ node. node.parent)) (ap (node_at longer) e ∙ node_at-push_new tree (Some node));
-      elsewhere = λ c ne. parent_if_child-same longer tree c ((Adds-push tree node).elsewhere c (λ same. ne (same ∙ sym e)));
+      few = omega (arith, sized, room);
+      chains = subst (λ n. IndexesChains n (chain_in (tree ++ None ∷ [])) more) (sym sized)
+          (IsIndex-same (length tree + 1) (chain_in tree) (chain_in (tree ++ None ∷ [])) _ _ _ (one_more (length tree) (chain_in tree) linked.chains)
+          (λ c. chain_in-same (tree ++ None ∷ []) tree c (node_at-absent tree c)));
     }
 
-pub AreLinked-push :
-    (tree : List (Option Twig)) (node : Twig) (lists : ChildLists)
-    → AreChildLists (parent_if_child (tree ++ Some node ∷ [])) lists → HaveSlots (length tree + 1) lists
-    → AreLinked (tree ++ Some node ∷ []) lists
-AreLinked-push tree node lists children slots = record {
-  children = children;
-  slots = subst (λ n. HaveSlots n lists) (sym (length-append tree (Some node ∷ []))) slots;
+-- a new number is in no chain
+pub HasInChain-push :
+    (tree : List (Option Twig)) (children more : ChildIndex) (number : ℕ) → number ≡ length tree → HasOneMore children more → AreLinked tree children
+    → HasInChain more number 0
+HasInChain-push tree children more number at one_more linked = record {
+  nodes = length tree + 1;
+  chain = chain_in tree;
+  chains = one_more (length tree) (chain_in tree) linked.chains;
+  here = chain_in-past tree number (omega (arith, at));
+  low = omega (arith, at);
 }
 
--- a present node has slots in the lists
-pub HaveSlots-present :
-    (tree : List (Option Twig)) (lists : ChildLists) (n : ℕ) → HaveSlots (length tree) lists → IsPresent (points_of tree) n → HaveSlots (n + 1) lists
-HaveSlots-present tree lists n slots present =
-    let below : n < length tree = present_below tree n present in HaveSlots-fewer (n + 1) (length tree) lists (omega arith) slots
+-- and comes to that of its parent
+pub AreLinked-push :
+    (tree : List (Option Twig)) (node : Twig) (children more after : ChildIndex) (number : ℕ) → number ≡ length tree → 0 < length tree
+    → length tree < MOST_NODES → HasOneMore children more → MovesNode number 0 (node.parent + 1) more after → AreLinked tree children
+    → AreLinked (tree ++ Some node ∷ []) after
+AreLinked-push tree node children more after number at some room one_more moves linked =
+    let longer : List (Option Twig) = tree ++ Some node ∷ [] in
+    let sized = length-append tree (Some node ∷ []) in
+    let here : chain_in longer number ≡ suc node.parent =
+    chain_in-node longer number node (omega (arith, at, some)) (ap (node_at longer) at ∙ node_at-push_new tree (Some node)) in
+    record {
+      few = omega (arith, sized, room);
+      chains = subst (λ n. IndexesChains n (chain_in longer) after) (sym sized)
+          (moves (length tree + 1) (chain_in tree) (chain_in longer) (one_more (length tree) (chain_in tree) linked.chains)
+          (chain_in-past tree number (omega (arith, at))) (omega (arith, here))
+          (λ c apart. chain_in-same longer tree c ((Adds-push tree node).elsewhere c (λ same. apart (same ∙ sym at)))));
+    }
 
 -- ---- another parent
 
--- without one child
-abbrev pub without : (ℕ → Option ℕ) → ℕ → ℕ → Option ℕ
-without up number c = cond (eqb c number) None (up c)
-
-ChangesOne-without : (up : ℕ → Option ℕ) (number : ℕ) → ChangesOne up (without up number) number None
-ChangesOne-without up number = record {
-  here = ap (λ b. cond b None (up number)) (eq-eqb number number refl);
-  elsewhere = λ c ne. ap (λ b. cond b None (up c)) (ne_eqb c number ne);
-}
-
--- a node that was taken out of its parent's list may be put in front of another, whose members are all lesser
-pub MayBecomeChild-unlinked :
-    (tree : List (Option Twig)) (old new : ChildLists) (number parent : ℕ) (node : Twig) → 0 < number → node_at tree number ≡ Some node
-    → AreChildLists (parent_if_child tree) old
-    → ((up after : ℕ → Option ℕ) → MayUnlink up old node.parent number → ChangesOne up after number None → AreChildLists after new)
-    → ((c : ℕ) → is_child_of tree parent c ≡ true → c < number)
-    → MayBecomeChild (without (parent_if_child tree) number) new parent number
-MayBecomeChild-unlinked tree old new number parent node positive here children unlinks last =
-    let up : ℕ → Option ℕ = parent_if_child tree in
-    let changes = ChangesOne-without up number in
-    let linked : up number ≡ Some node.parent = parent_if_child-positive tree number positive ∙ ap (option_map (λ node. node.parent)) here in
-    record {
-      children = unlinks up (without up number) (record { children = children; linked = linked }) changes;
-      unlinked = changes.here;
-      last = λ c h. elim (cases_eq c number) [
-        | inl e ↦ (let none = changes.here in let some = sym (ap (without up number) e) ∙ h in cc)
-        | inr ne ↦ (
-            let was : up c ≡ Some parent = sym (changes.elsewhere c ne) ∙ h in
-            last c (ap (is_parent_number parent) was ∙ eq-eqb parent parent refl))
-      ];
-    }
-
--- who is whose child after a node has another parent
-pub ChangesOne-replace :
-    (tree : List (Option Twig)) (number : ℕ) (node : Twig) → 0 < number → number < length tree
-    → ChangesOne (without (parent_if_child tree) number) (parent_if_child (set tree number (Some node))) number (Some node.parent)
-ChangesOne-replace tree number node positive within = record {
-  here =
-      parent_if_child-positive (set tree number (Some node)) number positive
-      ∙ ap (option_map (λ node. node.parent)) (get_or-set_same tree number (Some node) None within);
-  elsewhere = λ c ne.
-      parent_if_child-same (set tree number (Some node)) tree c (get_or-set_other tree number c (Some node) None ne)
-      ∙ sym ((ChangesOne-without (parent_if_child tree) number).elsewhere c ne);
+-- a node that is present and not the start is in the chain of its parent in the index
+pub HasInChain-present :
+    (tree : List (Option Twig)) (children : ChildIndex) (number : ℕ) (node : Twig) → 0 < number → number < length tree → node_at tree number ≡ Some node
+    → AreLinked tree children → HasInChain children number (node.parent + 1)
+HasInChain-present tree children number node some low here linked = record {
+  nodes = length tree;
+  chain = chain_in tree;
+  chains = linked.chains;
+  here = omega (arith, chain_in-node tree number node some here);
+  low = low;
 }
 
 pub AreLinked-replace :
-    (tree : List (Option Twig)) (number : ℕ) (node : Twig) (lists : ChildLists) → AreChildLists (parent_if_child (set tree number (Some node))) lists
-    → HaveSlots (length tree) lists → AreLinked (set tree number (Some node)) lists
-AreLinked-replace tree number node lists children slots = record {
-  children = children;
-  slots = subst (λ n. HaveSlots n lists) (sym (length-set tree number (Some node))) slots;
-}
+    (tree : List (Option Twig)) (was now : Twig) (children after : ChildIndex) (number : ℕ) → 0 < number → number < length tree
+    → node_at tree number ≡ Some was → MovesNode number (was.parent + 1) (now.parent + 1) children after → AreLinked tree children
+    → AreLinked (set tree number (Some now)) after
+AreLinked-replace tree was now children after number some low here moves linked =
+    let changed : List (Option Twig) = set tree number (Some now) in
+    let sized = length-set tree number (Some now) in
+    record {
+      few = omega (arith, sized, linked.few);
+      chains = subst (λ n. IndexesChains n (chain_in changed) after) (sym sized)
+          (moves (length tree) (chain_in tree) (chain_in changed) linked.chains (omega (arith, chain_in-node tree number was some here))
+          (omega (arith, chain_in-node changed number now some (get_or-set_same tree number (Some now) None low)))
+          (λ c apart. chain_in-same changed tree c (get_or-set_other tree number c (Some now) None apart)));
+    }
+
+-- ---- the children of a node
+
+-- each stands once among the members of its chain
+pub hangs_below-times :
+    (tree : List (Option Twig)) (f : ℕ) (members : List ℕ) (c : ℕ) → AreMembers (chain_in tree) (suc f) members
+    → count_by (λ k. k == c) members ≡ cond (hangs_below tree f c) 1 0
+hangs_below-times tree f members c are = by_parent (parent_if_child tree c) refl
+  where
+    by_parent : (up : Option ℕ) → parent_if_child tree c ≡ up → count_by (λ k. k == c) members ≡ cond (is_parent_number f up) 1 0
+    by_parent None is = are.only c (λ e. (let none = ap chain_of is in absurd (omega (arith, none, e))))
+    by_parent (Some g) is =
+        elim (cases_eq g f) [
+          | inl same ↦ are.each c (ap chain_of is ∙ ap suc same) ∙ sym (ap (λ b. cond b 1 0) (eq-eqb g f same))
+          | inr apart ↦
+              are.only c (λ e. (let own : suc g ≡ suc f = sym (ap chain_of is) ∙ e in apart (omega (arith, own))))
+              ∙ sym (ap (λ b. cond b 1 0) (ne_eqb g f apart))
+        ]

@@ -6,7 +6,7 @@ use Rattle.plan_model.specs.declared.trees.Twig.{Twig}
 use Rattle.plan_model.specs.Trees.PointsByNumber.{IsPresent}
 use Rattle.plan_model.specs.Trees.NodeLists.{node_at, points_of, parent_or_zero, parent_of, CostsFall}
 use Rattle.plan_model.proofs.TreeChanges.{point_at-points_of}
-use Rattle.seq_planner.specs.LinkedTrees.{is_parent_number, is_child_of}
+use Rattle.seq_planner.specs.LinkedTrees.{is_parent_number, hangs_below}
 
 -- Node c is present and not the start, and has node f as its parent.
 pub record IsChild (tree : List (Option Twig)) (f c : ℕ) : Type 0 where
@@ -27,16 +27,16 @@ node-is_number f None present parent = cc
 node-is_number f (Some node) present parent = eq-eqb node.parent f parent
 
 -- the number that is listed as a child is one
-pub IsChild-is_child_of : (tree : List (Option Twig)) (f c : ℕ) → is_child_of tree f c ≡ true → IsChild tree f c
-IsChild-is_child_of tree f zero h = cc
-IsChild-is_child_of tree f (suc n) h =
+pub IsChild-hangs_below : (tree : List (Option Twig)) (f c : ℕ) → hangs_below tree f c ≡ true → IsChild tree f c
+IsChild-hangs_below tree f zero h = cc
+IsChild-hangs_below tree f (suc n) h =
     let is = is_parent_number-node f (node_at tree (suc n)) h in
     record { child = omega arith; present = ap is_some (point_at-points_of tree (suc n)) ∙ is.0; parent = is.1 }
 
 -- and each child is listed
-pub is_child_of-present :
-    (tree : List (Option Twig)) (f n : ℕ) → IsPresent (points_of tree) (suc n) → parent_of tree (suc n) ≡ f → is_child_of tree f (suc n) ≡ true
-is_child_of-present tree f n present parent =
+pub hangs_below-present :
+    (tree : List (Option Twig)) (f n : ℕ) → IsPresent (points_of tree) (suc n) → parent_of tree (suc n) ≡ f → hangs_below tree f (suc n) ≡ true
+hangs_below-present tree f n present parent =
     node-is_number f (node_at tree (suc n)) (ap is_some (sym (point_at-points_of tree (suc n))) ∙ present) parent
 
 -- a child costs more than its parent

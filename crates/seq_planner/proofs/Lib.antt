@@ -1,10 +1,5 @@
 pub mod PresentNumbers
 pub mod ScannedLists
-pub mod GreatestAndLeast
-pub mod ChildLists
-pub mod LinkedChild
-pub mod UnlinkedChild
-pub mod AddedChildren
 pub mod ChangedLinks
 pub mod Children
 pub mod LoweredBranches
@@ -15,7 +10,6 @@ pub mod SoundTrees
 pub mod ReadCosts
 pub mod MarkExtensions
 pub mod ReadSteering
-pub mod NewLeaves
 pub mod RewiredNodes
 pub mod ReadCheaperNodes
 pub mod RewiredLists

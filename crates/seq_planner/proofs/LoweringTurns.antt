@@ -5,8 +5,8 @@ use Rattle.std.proofs.lemmas.Bool.{cases_Bool, cases_eq, cases_lt}
 use Rattle.plan_model.specs.declared.trees.Twig.{Twig}
 use Rattle.plan_model.specs.Trees.PointsByNumber.{IsPresent}
 use Rattle.plan_model.specs.Trees.NodeLists.{points_of, parent_of, CostsFall}
-use Rattle.seq_planner.specs.LinkedTrees.{is_child_of}
-use Rattle.seq_planner.proofs.Children.{IsChild, IsChild-is_child_of, is_child_of-present, IsChild-costs}
+use Rattle.seq_planner.specs.LinkedTrees.{hangs_below}
+use Rattle.seq_planner.proofs.Children.{IsChild, IsChild-hangs_below, hangs_below-present, IsChild-costs}
 use Rattle.seq_planner.proofs.LoweredBranches.{one_if, equal_one, other_none, HasFallen, IsDue, IsUnderway}
 
 -- Node m, which was to be lowered, is lowered, and its children are to be lowered next.
@@ -14,7 +14,7 @@ pub record IsTurn (tree : List (Option Twig)) (fall : ℕ) (now later times afte
   pub pending : 0 < times m
   pub lowered : later m + fall ≡ now m
   pub others : (n : ℕ) → n ≢ m → later n ≡ now n
-  pub counted : (n : ℕ) → after n + one_if (m == n) ≡ times n + one_if (is_child_of tree m n)
+  pub counted : (n : ℕ) → after n + one_if (m == n) ≡ times n + one_if (hangs_below tree m n)
 
 module _ (tree : List (Option Twig)) (node fall : ℕ) (costs : ℕ → ℕ) (some : 0 < fall) (falling : CostsFall costs tree) where
   module _ (now later times after : ℕ → ℕ) (m : ℕ) (before : IsUnderway tree node fall costs now times) (turn : IsTurn tree fall now later times after m) where
@@ -72,12 +72,12 @@ module _ (tree : List (Option Twig)) (node fall : ℕ) (costs : ℕ → ℕ) (so
     -- what is to be lowered next: each child of the node, the node itself no more, and what was to be lowered before
     next : (n : ℕ) → (IsChild tree m n × (after n ≡ 1)) ⊎ (((n ≡ m) × (after n ≡ 0)) ⊎ ((n ≢ m) × (after n ≡ times n)))
     next n =
-        elim (cases_Bool (is_child_of tree m n)) [
+        elim (cases_Bool (hangs_below tree m n)) [
           | inl is_child ↦ (
-              let is = IsChild-is_child_of tree m n is_child in
+              let is = IsChild-hangs_below tree m n is_child in
               inl (is, omega (arith, turn.counted n, ap one_if is_child, other_none m n (child_apart n is), child_new n is)))
           | inr not_child ↦ (
-              let none : one_if (is_child_of tree m n) ≡ 0 = ap one_if not_child in
+              let none : one_if (hangs_below tree m n) ≡ 0 = ap one_if not_child in
               elim (cases_eq n m) [
                 | inl e ↦ inr (inl (e, omega (arith, turn.counted n, none, equal_one m n e, before.once n)))
                 | inr apart ↦ inr (inr (apart, omega (arith, turn.counted n, none, other_none m n apart)))
@@ -89,7 +89,7 @@ module _ (tree : List (Option Twig)) (node fall : ℕ) (costs : ℕ → ℕ) (so
         omega (
           arith,
           turn.counted (suc n),
-          ap one_if (is_child_of-present tree m n is.present is.parent),
+          ap one_if (hangs_below-present tree m n is.present is.parent),
           other_none m (suc n) (child_apart (suc n) is),
         )
 

@@ -1,7 +1,6 @@
 -- What a mark adds to a sound tree handles it, by its outcome.
 use Rattle.std.proofs.Common.{◌≡◌, ℕ, suc, ◌+◌, ◌*◌, ◌^◌, ◌≤◌, List, [], ◌∷◌, ◌++◌, length, Option, Some, None, arith, refl, sym, ap, ◌∙◌, subst}
 use Rattle.std.specs.Prelude.{All, ◌≢◌}
-use Rattle.std.specs.List.Sorted.{IsStrictlyIncreasing}
 use Rattle.std.proofs.lemmas.List.Elements.{All-cons, All-contains, All-nil}
 use Rattle.plan_model.specs.declared.geometry.Point.{Point}
 use Rattle.plan_model.specs.declared.trees.Twig.{Twig}
@@ -31,7 +30,6 @@ use Rattle.edge_cost.specs.LeastParents.{IsLeastParent}
 use Rattle.edge_cost.specs.declared.parents.Parent.{Parent}
 use Rattle.seq_planner.specs.declared.search_tree.SearchTree.{SearchTree}
 use Rattle.seq_planner.specs.SearchTrees.{IsExtensionOf, Fits}
-use Rattle.seq_planner.proofs.ScannedLists.{near-rising}
 
 -- The next mark, of number k, steers from its nearest node, which stands at from, to the point.
 pub record Steers (scene : Scene) (tree : SearchTree) (mark : Point) (k nearest : ℕ) (from point : Point) : Type 0 where
@@ -89,7 +87,6 @@ unplaced scene tree mark extension entry ns none handles h =
           let same : after ≡ put None = subst R none rewired ∙ ap put h.node in
           subst (λ (r : Record). E r after) (sym h.recorded) (subst (E entry) (sym same) handles);
       present = subst (All (IsPresent (points_of tree.nodes))) (sym none) (All-nil (IsPresent (points_of tree.nodes)));
-      rising = subst IsStrictlyIncreasing (sym none) (λ i l. absurd (omega arith));
       none_near = λ e. none;
     }
 
@@ -218,6 +215,5 @@ module _ {scene : Scene} {tree : SearchTree} {mark : Point} {k nearest : ℕ} {f
             let with_number : rewires (Some new_node) (suc k) after = subst (λ (n : ℕ). rewires (Some new_node) n after) number with_node in
             subst (λ (n : ℕ). handled n after) h.turn (handles_placed after with_number);
         present = subst (All (IsPresent points)) (sym own.are_near) (near-present points point (radius_of scene.step scene.gamma (node_count points)));
-        rising = subst IsStrictlyIncreasing (sym own.are_near) (near-rising points point (radius_of scene.step scene.gamma (node_count points)));
         none_near = λ e. (let never : Some new_node ≡ None = sym own.node ∙ e in cc);
       }

@@ -8,7 +8,7 @@ use Rattle.plan_model.specs.declared.trees.Twig.{Twig}
 use Rattle.plan_model.specs.Trees.PointsByNumber.{IsPresent}
 use Rattle.plan_model.specs.Trees.NodeLists.{points_of}
 use Rattle.plan_model.proofs.NewNodes.{present_below}
-use Rattle.seq_planner.specs.LinkedTrees.{is_child_of}
+use Rattle.seq_planner.specs.LinkedTrees.{hangs_below}
 use Rattle.seq_planner.proofs.LoweredBranches.{one_if, equal_one, IsUnderway}
 use Rattle.seq_planner.proofs.LoweringTurns.{IsTurn}
 
@@ -49,7 +49,7 @@ IsNext-last tree node fall entry costs before middle m each enough underway take
 -- the last node is lowered, and its children are added
 pub IsTurn-lists :
     (tree : List (Option Twig)) (fall : ℕ) (costs before middle after : List ℕ) (m cost : ℕ) → m < length costs → cost + fall ≡ get_or costs m 0
-    → before ≡ middle ++ m ∷ [] → ((n : ℕ) → times after n ≡ times middle n + one_if (is_child_of tree m n))
+    → before ≡ middle ++ m ∷ [] → ((n : ℕ) → times after n ≡ times middle n + one_if (hangs_below tree m n))
     → IsTurn tree fall (λ n. get_or costs n 0) (λ n. get_or (set costs m cost) n 0) (times before) (times after) m
 IsTurn-lists tree fall costs before middle after m cost inside lowered taken added = record {
   pending = times-taken before middle m taken;

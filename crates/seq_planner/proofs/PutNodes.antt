@@ -1,5 +1,5 @@
 -- A mark is handled: its node is put at the end, and near nodes are rewired.
-use Rattle.std.proofs.Common.{◌≡◌, ℕ, ◌+◌, List, [], ◌∷◌, ◌++◌, length, Option, Some, None, true, false, refl, sym, ap, ◌∙◌, subst}
+use Rattle.std.proofs.Common.{◌≡◌, ℕ, ◌+◌, List, [], ◌∷◌, ◌++◌, length, Option, Some, None, false, refl, sym, ap, ◌∙◌, subst}
 use Rattle.std.specs.Prelude.{All, is_some, option_map}
 use Rattle.std.proofs.lemmas.List.Elements.{All-weaker}
 use Rattle.plan_model.specs.declared.geometry.Point.{Point}
@@ -7,15 +7,13 @@ use Rattle.plan_model.specs.declared.trees.Twig.{Twig}
 use Rattle.plan_model.specs.declared.scenes.Scene.{Scene}
 use Rattle.plan_model.specs.Spaces.ConfigurationSpace.{space_of}
 use Rattle.plan_model.specs.Trees.PointsByNumber.{IsPresent}
-use Rattle.plan_model.specs.Trees.NodeLists.{points_of, CostsFall}
+use Rattle.plan_model.specs.Trees.NodeLists.{points_of}
 use Rattle.plan_model.specs.Runs.Textbook.{Nodes, Rewires}
 use Rattle.plan_model.proofs.TreeChanges.{points_of-push}
 use Rattle.plan_model.proofs.DistinctPoints.{IsPresent-push}
 use Rattle.seq_planner.specs.declared.extensions.Extension.{Extension}
 use Rattle.seq_planner.specs.declared.search_tree.SearchTree.{SearchTree}
-use Rattle.seq_planner.specs.LinkedTrees.{is_child_of}
-use Rattle.seq_planner.specs.SearchTrees.{Fits, IsExtensionOf, GrowsByMark}
-use Rattle.seq_planner.proofs.NewLeaves.{no_child-new}
+use Rattle.seq_planner.specs.SearchTrees.{IsExtensionOf, GrowsByMark}
 
 -- present nodes are present beside one more number
 pub present-put :
@@ -26,17 +24,6 @@ present-put tree after node ns e h =
     ap points_of e ∙ points_of-push tree node in
     All-weaker (IsPresent (points_of tree)) (IsPresent (points_of after))
     (λ i present. subst (λ ps. IsPresent ps i) (sym points) (IsPresent-push (points_of tree) _ i present)) ns h
-
--- a node that was put at the end has no children
-pub no_child-put :
-    (costs : ℕ → ℕ) (tree after : Nodes) (node : Option Twig) (cost number c : ℕ) → after ≡ tree ++ node ∷ [] → number ≡ length tree
-    → is_some node ≡ true → Fits tree node cost → CostsFall costs tree → ¬ is_child_of after number c ≡ true
-no_child-put costs tree after None cost number c e at some fits fall h = cc
-no_child-put costs tree after (Some node) cost number c e at some fits fall h =
-    let placed : is_child_of (tree ++ Some node ∷ []) number c ≡ true = ap (λ t. is_child_of t number c) (sym e) ∙ h in
-    let numbered : is_child_of (tree ++ Some node ∷ []) (length tree) c ≡ true =
-    ap (λ f. is_child_of (tree ++ Some node ∷ []) f c) (sym at) ∙ placed in
-    no_child-new costs tree node c fall fits.0 numbered
 
 -- no node was put
 pub none-put : (node : Option Twig) → is_some node ≡ false → node ≡ None

@@ -3,12 +3,11 @@ use Rattle.std.proofs.Common.{◌≡◌, ℕ, ◌+◌, ◌*◌, ◌<◌, ◌≤�
 use Rattle.std.proofs.Common.{arith, refl, sym, ap, ◌∙◌, inl, inr}
 use Rattle.std.specs.Prelude.{is_some, filter, Contains}
 use Rattle.std.specs.List.{range_with_len, AllPairs}
-use Rattle.std.specs.List.Sorted.{IsStrictlyIncreasing}
 use Rattle.std.proofs.lemmas.Bool.{cases_order, le-leb, lt-leb}
 use Rattle.std.proofs.lemmas.List.{append-nil, get_or-map, get_or_default, get_or_read, take_all}
 use Rattle.std.proofs.lemmas.List.Elements.{All-get_or, filter_more}
 use Rattle.std.proofs.lemmas.List.FromFn.{length-range_with_len, get_or-range_with_len}
-use Rattle.std.proofs.lemmas.List.Kept.{AllPairs-from_increasing, IsStrictlyIncreasing-filter}
+use Rattle.std.proofs.lemmas.List.Kept.{AllPairs-from_increasing}
 use Rattle.plan_model.specs.Geometry.Plane.{squared_distance}
 use Rattle.plan_model.specs.Trees.LeastPairs.{IsFirstLeast}
 use Rattle.plan_model.specs.Trees.Nearness.{distance_to, IsNearest, is_within, near}
@@ -21,7 +20,7 @@ use Rattle.plan_model.proofs.NearNodes.{Contains-filter}
 use Rattle.plan_model.proofs.NewNodes.{IsPresent-stands, point_of-stands, StandsAt-present}
 use Rattle.seq_planner.specs.PlacedLists.{present_numbers, ArePlaced}
 use Rattle.seq_planner.specs.declared.placed_points.PlacedPoints.{PlacedPoints}
-use Rattle.seq_planner.proofs.PresentNumbers.{ArePlaced-numbered, present_numbers-present, present_numbers-rising, IsStrictlyIncreasing-range_with_len}
+use Rattle.seq_planner.proofs.PresentNumbers.{ArePlaced-numbered, present_numbers-present, present_numbers-rising}
 
 -- ---- slots
 
@@ -180,9 +179,3 @@ near-all points placed p r index h all =
 pub near-none : (points : List (Option Point)) (p : Point) → IsFree points p → near points p 0 ≡ []
 near-none points p free =
     filter-none (λ i. is_within p 0 (point_at points i)) (range_with_len 0 (length points)) (λ i. is_near_free points p i free (point_at points i) refl)
-
--- the numbers of near nodes rise
-pub near-rising : (points : List (Option Point)) (p : Point) (r : ℕ) → IsStrictlyIncreasing (near points p r)
-near-rising points p r =
-    IsStrictlyIncreasing-filter (λ i. is_within p r (point_at points i)) (range_with_len 0 (length points))
-    (IsStrictlyIncreasing-range_with_len 0 (length points))

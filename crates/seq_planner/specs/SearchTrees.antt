@@ -1,7 +1,6 @@
 -- The search tree: it grows by one number for each mark, and costs are kept beside its nodes.
 use Rattle.std.specs.Prelude.{◌≡◌, ℕ, ◌+◌, ◌-◌, ◌*◌, ◌^◌, ◌≤◌, All, Option, Some, None, List, [], ◌∷◌, ◌++◌, length, map, option_map, slice_index}
 use Rattle.std.specs.List.{zip}
-use Rattle.std.specs.List.Sorted.{IsStrictlyIncreasing}
 use Rattle.plan_model.specs.declared.geometry.Point.{Point}
 use Rattle.plan_model.specs.declared.trees.Twig.{Twig}
 use Rattle.plan_model.specs.declared.trees.Knot.{Knot}
@@ -66,7 +65,6 @@ pub record IsExtensionOf (scene : Scene) (tree : SearchTree) (mark : Point) (ext
       (after : Nodes) → Rewires (space_of scene) (tree.nodes ++ extension.node ∷ []) (length tree.nodes) near after
       → Handles (setup_of scene) tree.nodes (length tree.records.items) mark extension.entry after
   pub present : All (IsPresent (points_of tree.nodes)) near
-  pub rising : IsStrictlyIncreasing near
   pub none_near : extension.node ≡ None → near ≡ []
 
 -- The next mark is handled, and its record is the last.

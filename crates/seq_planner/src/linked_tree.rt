@@ -1,25 +1,25 @@
-//! Nodes by number, with lists of the children of each.
+//! Nodes by number, with an index of the children of each.
 
-ghost use Rattle.std.specs.Prelude.{◌≡◌, ◌+◌, ◌<◌, ◌≤◌, ◌==◌, ℕ, true, Option, List, Some, ◌∷◌, [], ◌++◌, length, IfOk, OnOk, count_by, if◌then◌else◌};
+ghost use Rattle.std.specs.Prelude.{◌≡◌, ◌+◌, ◌<◌, ◌≤◌, ◌==◌, ℕ, Option, List, ◌∷◌, [], ◌++◌, length, IfOk, OnErr, OnOk, count_by, if◌then◌else◌};
 ghost use Rattle.plan_model.specs.Trees.PointsByNumber.{IsPresent, point_of};
 ghost use Rattle.plan_model.specs.Runs.Textbook.{start_alone, with_parent};
 ghost use Rattle.plan_model.specs.Trees.NodeLists.{points_of};
 ghost use Rattle.plan_model.specs.declared.limits.TheConstants.{MOST_MARKS};
 ghost use Rattle.plan_model.specs.declared.trees.Twig.{Twig};
-ghost use Rattle.seq_planner.specs.LinkedTrees.{AreLinked, is_child_of, MayJoin};
+ghost use Rattle.seq_planner.specs.LinkedTrees.{AreLinked, hangs_below, MayJoin};
 
-use crate::child_lists::ChildLists;
 use plan_model::{Memory, Point, Twig};
 use std::alloc::Global;
 use std::marker::Model;
+use step_core::ChildIndex;
 
-/// The nodes of a tree by number, each absent or a point with a parent, with lists of the children of each.
+/// The nodes of a tree by number, each absent or a point with a parent, with an index of the children of each.
 #[derive(Drop)]
 pub(crate) struct LinkedTree {
     /// The nodes; absent if the mark was not placed.
     nodes: Vec<Option<Twig>>,
     /// The children of each.
-    children: ChildLists,
+    children: ChildIndex,
 }
 
 impl Model for LinkedTree {
@@ -45,7 +45,7 @@ impl LinkedTree {
         };
         Ok(LinkedTree {
             nodes: vec![in alloc; Some(start)]?,
-            children: ChildLists::new(alloc)?,
+            children: ChildIndex::new(alloc, 1)?,
         })
     }
 
@@ -57,40 +57,40 @@ impl LinkedTree {
         self.nodes[number as usize].unwrap().point
     }
 
-    /// Puts a node, or an absent one, at the end: it gets the next number, as the last child of its parent.
+    /// Puts a node, or an absent one, at the end: it gets the next number. O(1), amortized over many.
     ///
     /// # Errors
     ///
-    /// `Memory` if out of memory; the tree is then of no more use.
+    /// `Memory` if out of memory; the tree is then as it was.
     pub(crate) fn push(&mut self, node: Option<Twig>) -> Result<(), Memory>
         requires some { 0 < length self.old }
         requires few { length self.old ≤ MOST_MARKS }
         requires parent { MayJoin self.old node }
-        ensures { OnOk result (self.new ≡ self.old ++ node ∷ []) }
+        ensures put { OnOk result (self.new ≡ self.old ++ node ∷ []) }
+        ensures unchanged { OnErr result (self.new ≡ self.old) }
     {
         let number = self.nodes.len() as u32;
+        self.nodes.reserve(1)?;
         self.children.push()?;
-        self.nodes.push(node)?;
+        self.nodes.push_reserved(node);
         if let Some(node) = node {
-            self.children.link(node.parent, number);
+            self.children.relink(number, 0, node.parent + 1);
         }
         Ok(())
     }
 
-    /// Gives a node another parent, whose children so far all have lesser numbers. O(1).
+    /// Gives a node another parent. O(1).
     pub(crate) fn set_parent(&mut self, number: u32, parent: u32)
         requires child { 0 < number }
         requires present { IsPresent (points_of self.old) number }
         requires parent { IsPresent (points_of self.old) parent }
-        requires last { (c : ℕ) → is_child_of self.old parent c ≡ true → c < number }
         ensures { self.new ≡ with_parent self.old number parent }
     {
         let Twig {
             point,
             parent: former,
         } = self.nodes[number as usize].unwrap();
-        self.children.unlink(former, number);
-        self.children.link(parent, number);
+        self.children.relink(number, former + 1, parent + 1);
         self.nodes[number as usize] = Some(Twig { point, parent });
     }
 
@@ -102,9 +102,14 @@ impl LinkedTree {
     pub(crate) fn push_children(&self, number: u32, list: &mut Vec<u32>) -> Result<(), Memory>
         requires { IsPresent (points_of self.now) number }
         ensures { OnOk result ((c : ℕ) → count_by (λ k. k == c) list.new.items
-            ≡ count_by (λ k. k == c) list.old.items + (if is_child_of self.now number c then 1 else 0)) }
+            ≡ count_by (λ k. k == c) list.old.items + (if hangs_below self.now number c then 1 else 0)) }
     {
-        self.children.push_children(number, list)
+        let mut child = self.children.first_child(number);
+        while child != 0 {
+            list.push(child)?;
+            child = self.children.next_sibling(child);
+        }
+        Ok(())
     }
 
     /// The nodes by number.

@@ -1,11 +1,11 @@
-use Rattle.std.proofs.Common.{◌≡◌, ℕ, List, [], ◌∷◌, ◌++◌, length, length-append, get_or, arith, sym, ap, ◌∙◌, subst}
+use Rattle.std.proofs.Common.{◌≡◌, ℕ, List, [], ◌∷◌, ◌++◌, length, length-append, arith, sym, ap, ◌∙◌, subst}
 use Rattle.std.specs.Prelude.{All}
 use Rattle.plan_model.specs.declared.configuration_spaces.ConfigurationSpace.{ConfigurationSpace}
 use Rattle.plan_model.specs.Spaces.ConfigurationSpace.{space_of}
 use Rattle.plan_model.specs.Trees.PointsByNumber.{IsPresent}
 use Rattle.plan_model.specs.Trees.NodeLists.{points_of}
 use Rattle.plan_model.specs.Runs.Textbook.{Nodes, Rewires}
-use Rattle.seq_planner.proofs.PutNodes.{present-put, no_child-put, none-put, GrowsByMark-put}
+use Rattle.seq_planner.proofs.PutNodes.{present-put, none-put, GrowsByMark-put}
 use Rattle.seq_planner.proofs.search_tree.SearchTree.handle.Goals as goal
 
 pub rewire-requires-clause-near : goal.rewire-requires-clause-near
@@ -14,14 +14,6 @@ rewire-requires-clause-near g c κs within =
     let extension = c.in_ok-extension.extension in
     subst (All (IsPresent (points_of c.push.new.self.nodes))) (sym c.deref.ensures.value)
     (present-put tree.nodes c.push.new.self.nodes extension.node c.extension.new.near.items c.in_ok-number.ensures.nodes c.in_ok-extension.ensures.present)
-
-pub rewire-requires-clause-leaf : goal.rewire-requires-clause-leaf
-rewire-requires-clause-leaf g c κs within = λ child.
-    let tree = c.args.self.now in
-    let extension = c.in_ok-extension.extension in
-    no_child-put (λ n. get_or tree.costs.items n 0) tree.nodes c.push.new.self.nodes extension.node extension.cost c.in_ok-number.number child
-    c.in_ok-number.ensures.nodes c.in_ok-number.ensures.number (sym c.is_some.ensures ∙ c.if-is_some.true) c.in_ok-extension.ensures.fits
-    c.requires.sound.falling
 
 pub returns-in_ok-rewire-clause-handles : goal.returns-in_ok-rewire-clause-handles
 returns-in_ok-rewire-clause-handles g c =

@@ -21,7 +21,7 @@ returns-in_ok-push-4-clause-sound c =
     let Q : List (Option Point) → Type 0 = λ points. ArePlaced points c.push-in-Some.new.self in
     let are = subst Q (sym (points_of-push tree.nodes c.args.extension.node)) (subst P (sym c.in-Some.is) added) in
     IsSound-same (tree.nodes ++ c.args.extension.node ∷ []) c.push.new.self (tree.costs.items ++ c.args.extension.cost ∷ []) c.push-2.new.self.items
-    c.push-in-Some.new.self c.in_ok-push.ensures c.in_ok-push-2.ensures.items
+    c.push-in-Some.new.self c.in_ok-push.ensures.put c.in_ok-push-2.ensures.items
     (IsSound-put tree.nodes tree.costs.items tree.placed c.push-in-Some.new.self c.args.extension.node c.args.extension.cost c.requires.sound
     c.requires.fits are)
 
@@ -33,5 +33,5 @@ returns-in_default-clause-sound c =
     let Q : List (Option Point) → Type 0 = λ points. ArePlaced points tree.placed in
     let are = subst Q (sym (points_of-push tree.nodes c.args.extension.node)) (subst P (sym c.in_default.is) absent) in
     IsSound-same (tree.nodes ++ c.args.extension.node ∷ []) c.push.new.self (tree.costs.items ++ c.args.extension.cost ∷ []) c.push-2.new.self.items
-    tree.placed c.in_ok-push.ensures c.in_ok-push-2.ensures.items
+    tree.placed c.in_ok-push.ensures.put c.in_ok-push-2.ensures.items
     (IsSound-put tree.nodes tree.costs.items tree.placed tree.placed c.args.extension.node c.args.extension.cost c.requires.sound c.requires.fits are)

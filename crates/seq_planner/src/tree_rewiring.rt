@@ -1,16 +1,14 @@
 //! The rewiring of nodes near a new one.
 
-ghost use Rattle.std.specs.Prelude.{◌≡◌, ◌↔◌, ◌<◌, ◌≤◌, ℕ, true, length, All, IsTrue, OnOk};
-ghost use Rattle.std.specs.List.Sorted.{IsStrictlyIncreasing};
+ghost use Rattle.std.specs.Prelude.{◌≡◌, ◌↔◌, ◌≤◌, length, All, IsTrue, OnOk};
 ghost use Rattle.plan_model.specs.Trees.PointsByNumber.{IsPresent};
 ghost use Rattle.plan_model.specs.Runs.Textbook.{IsCheaperThrough, Rewires, RewiresOne};
 ghost use Rattle.plan_model.specs.Trees.NodeLists.{points_of};
 ghost use Rattle.plan_model.specs.declared.limits.TheConstants.{MOST_NODES};
-ghost use Rattle.seq_planner.specs.LinkedTrees.{is_child_of};
 ghost use Rattle.seq_planner.specs.SearchTrees.{IsSoundTree};
 
+use crate::cost_spreading::spread;
 use crate::search_tree::SearchTree;
-use crate::spreading::spread;
 use edge_cost::costs_less_through;
 use plan_model::Memory;
 use swept_check::Clearing;
@@ -35,8 +33,6 @@ impl SearchTree {
         requires few { length self.old.nodes ≤ MOST_NODES }
         requires present { IsPresent (points_of self.old.nodes) new_node }
         requires near { All (IsPresent (points_of self.old.nodes)) near.now }
-        requires rising { IsStrictlyIncreasing near.now }
-        requires leaf { (c : ℕ) → ¬ is_child_of self.old.nodes new_node c ≡ true }
         ensures rewired { OnOk result (Rewires (C.space hall.now) self.old.nodes new_node near.now self.new.nodes) }
         ensures sound { OnOk result (IsSoundTree self.new) }
         ensures points { OnOk result (points_of self.new.nodes ≡ points_of self.old.nodes) }
@@ -61,7 +57,6 @@ impl SearchTree {
         requires few { length self.old.nodes ≤ MOST_NODES }
         requires present { IsPresent (points_of self.old.nodes) new_node }
         requires near { IsPresent (points_of self.old.nodes) near_node }
-        requires last { (c : ℕ) → is_child_of self.old.nodes new_node c ≡ true → c < near_node }
         ensures rewired { OnOk result (RewiresOne (C.space hall.now) self.old.nodes new_node near_node self.new.nodes) }
         ensures sound { OnOk result (IsSoundTree self.new) }
         ensures points { OnOk result (points_of self.new.nodes ≡ points_of self.old.nodes) }

@@ -4,7 +4,7 @@ use Rattle.std.proofs.lemmas.Grind.{get_or_default_zero}
 use Rattle.seq_planner.proofs.LoweredBranches.{IsUnderway-start, IsBranchLowered-end}
 use Rattle.seq_planner.proofs.LoweringTurns.{IsUnderway-turn}
 use Rattle.seq_planner.proofs.PendingNodes.{times, times-last, times-none, IsNext-last, IsTurn-lists, sum-lowered}
-use Rattle.seq_planner.proofs.spreading.spread.Goals as goal
+use Rattle.seq_planner.proofs.cost_spreading.spread.Goals as goal
 
 pub index_mut-requires : goal.index_mut-requires
 index_mut-requires c =
