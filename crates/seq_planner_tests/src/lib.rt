@@ -4,6 +4,8 @@
 #[cfg(test)]
 mod near_nodes;
 #[cfg(test)]
-mod test_runs;
+mod outcomes;
 #[cfg(test)]
-mod textbook_runs;
+mod rewired_nodes;
+#[cfg(test)]
+mod support;

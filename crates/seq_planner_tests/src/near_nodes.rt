@@ -1,6 +1,6 @@
 //! Which node is nearest to a mark, and which are near a new node.
 
-use crate::test_runs::assert_run;
+use crate::support::assert_run;
 use plan_model::{Memory, Outcome, Point};
 
 // Nodes 1, 3 and 4 are each 10 away from the last mark; there is no node 2.
