@@ -13,7 +13,7 @@ use Rattle.convex_sets.specs.declared.boxes.BoundingBox.{BoundingBox}
 use Rattle.convex_sets.specs.Boxes.{IsBoundingBox, IsBoxed, IsInBox}
 use Rattle.convex_sets.proofs.Corners.{IsWithin, bounded_corner, bounded_at}
 use Rattle.plan_model.specs.declared.geometry.Point.{Point}
-use Rattle.convex_sets.proofs.Ring.{var, plus, minus, times, same}
+use Rattle.plan_model.proofs.Ring.{var, plus, minus, times, same}
 use Rattle.convex_sets.proofs.Signs.{mul-not_negative, not_negative_factor}
 use Rattle.convex_sets.proofs.ConvexPolygons.{IsConvex, IsConvex-from_test}
 use Rattle.convex_sets.proofs.Fans.{fan}

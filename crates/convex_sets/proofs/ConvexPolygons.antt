@@ -9,7 +9,7 @@ use Rattle.plan_model.specs.declared.geometry.Vertex.{Vertex}
 use Rattle.plan_model.specs.Geometry.Convexity.{corner_at, next_corner, is_left_of_edge, is_strictly_convex}
 use Rattle.plan_model.specs.Geometry.Plane.{orientation}
 use Rattle.convex_sets.specs.Edges.{is_end_or_left}
-use Rattle.convex_sets.proofs.Tests.{true_below, true_of_below, false_below, last_true, one_true}
+use Rattle.plan_model.proofs.Tests.{true_below, true_of_below, false_below, last_true, one_true}
 
 pub left_of_edge : (corners : List Vertex) (i to : ℕ) → to ≡ next_corner (length corners) i
     → ((k : ℕ) → k < length corners → is_end_or_left corners i to k ≡ true) → is_left_of_edge corners i ≡ true

@@ -8,7 +8,7 @@ use Rattle.plan_model.specs.declared.geometry.Vertex.{Vertex}
 use Rattle.plan_model.specs.Geometry.Convexity.{corner_at}
 use Rattle.plan_model.specs.Scenes.Limits.{is_corner_between}
 use Rattle.convex_sets.specs.Bounds.{IsBoundedCorner, AreBoundedCorners}
-use Rattle.convex_sets.proofs.Tests.{true_at}
+use Rattle.plan_model.proofs.Tests.{true_at}
 
 -- vectors with the same coordinates are the same
 pub same_vector : (u v : Vertex) → u.x ≡ v.x → u.y ≡ v.y → u ≡ v

@@ -6,7 +6,7 @@ use Rattle.plan_model.specs.declared.geometry.Vertex.{Vertex}
 use Rattle.plan_model.specs.Geometry.Convexity.{}
 use Rattle.convex_sets.specs.Edges.{cross, from_to}
 use Rattle.convex_sets.specs.Outlines.{both}
-use Rattle.convex_sets.proofs.Ring.{Read, var, plus, minus, times, same}
+use Rattle.plan_model.proofs.Ring.{Read, var, plus, minus, times, same}
 use Rattle.convex_sets.proofs.Signs.{mul-not_negative, not_negative_factor}
 
 abbrev pub cross_is : (u v : Vertex) → Read (cross u v)

@@ -9,7 +9,7 @@ use Rattle.plan_model.specs.Spaces.Meeting.{Meets, weighted}
 use Rattle.plan_model.specs.Spaces.RoomOfConfigurations.{Rational}
 use Rattle.plan_model.proofs.MeetingLaws.{SharesPoint-meets, Meets-shares_point}
 use Rattle.convex_sets.specs.Edges.{cross, from_to}
-use Rattle.convex_sets.proofs.Ring.{var, plus, minus, times, same}
+use Rattle.plan_model.proofs.Ring.{var, plus, minus, times, same}
 use Rattle.convex_sets.proofs.Signs.{mul-not_negative, not_negative_factor}
 use Rattle.convex_sets.proofs.Fans.{out_to, IsMeanOf}
 

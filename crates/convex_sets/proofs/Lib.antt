@@ -1,7 +1,5 @@
-pub mod Ring
 pub mod Signs
 pub mod Crosses
-pub mod Tests
 pub mod Corners
 pub mod ConvexPolygons
 pub mod Fans

@@ -7,7 +7,7 @@ use Rattle.plan_model.specs.Geometry.Convexity.{corner_at}
 use Rattle.convex_sets.specs.Edges.{cross, from_to}
 use Rattle.convex_sets.specs.Outlines.{both, edge_at, start, rise, IsOutline}
 use Rattle.std.proofs.lemmas.Bool.{cases_lt}
-use Rattle.convex_sets.proofs.Ring.{var, minus, times, same}
+use Rattle.plan_model.proofs.Ring.{var, minus, times, same}
 use Rattle.convex_sets.proofs.Signs.{mul-positive, mul-not_negative, mul-down_up, not_negative_factor, positive_factor}
 use Rattle.convex_sets.proofs.Crosses.{exchange, between, cross_opposite, cross_self, cross-both, both-cross, cross-by_way}
 

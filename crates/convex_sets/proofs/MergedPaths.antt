@@ -10,7 +10,7 @@ use Rattle.plan_model.specs.Geometry.Convexity.{corner_at}
 use Rattle.convex_sets.specs.Edges.{cross, from_to}
 use Rattle.convex_sets.specs.Outlines.{both, edge_at, start, rise, IsOutline, IsSum, IsMergeStep}
 use Rattle.convex_sets.proofs.Corners.{same_vector}
-use Rattle.convex_sets.proofs.Ring.{var, plus, minus, times, same}
+use Rattle.plan_model.proofs.Ring.{var, plus, minus, times, same}
 use Rattle.convex_sets.proofs.MergeSteps.{IsAhead, IsAt, IsNext, Step, take_first, take_second, take_both}
 
 -- the corners so far, the current one last, and the last edge e

@@ -17,7 +17,7 @@ use Rattle.convex_sets.proofs.MergeSteps.{zero_vector, from_end}
 use Rattle.convex_sets.proofs.MergedPaths.{pushed, at_front, at_end}
 use borrow.Author.Count.{below_more}
 use Rattle.convex_sets.proofs.ConvexPolygons.{IsConvex, IsConvex-from_test, next_suc, next_last}
-use Rattle.convex_sets.proofs.Tests.{true_of_all}
+use Rattle.plan_model.proofs.Tests.{true_of_all}
 use Rattle.plan_model.specs.Scenes.Limits.{is_corner_between}
 
 pub places_before : (n i k : ℕ) → i + k < n → places_after n i k ≡ i + k

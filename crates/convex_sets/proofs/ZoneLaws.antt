@@ -17,8 +17,8 @@ use Rattle.plan_model.specs.Spaces.Zones.{IsZoneOf, IsLowerOrLeft}
 use Rattle.convex_sets.specs.Bounds.{AreBoundedCorners}
 use Rattle.convex_sets.specs.Edges.{cross, from_to}
 use Rattle.convex_sets.specs.Outlines.{both, reflection, IsMerged, IsOutlineOf, IsSum}
-use Rattle.convex_sets.proofs.Ring.{var, minus, times, opposite, same}
-use Rattle.convex_sets.proofs.Tests.{true_at, true_of_all}
+use Rattle.plan_model.proofs.Ring.{var, minus, times, opposite, same}
+use Rattle.plan_model.proofs.Tests.{true_at, true_of_all}
 use Rattle.convex_sets.proofs.Corners.{within_of, bounded_of, bounded_corner, bounded_at}
 use Rattle.convex_sets.proofs.MergeSteps.{zero_vector}
 use Rattle.convex_sets.proofs.MergedPaths.{cross-sums}

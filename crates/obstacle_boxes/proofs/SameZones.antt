@@ -15,7 +15,7 @@ use Rattle.convex_sets.specs.Boxes.{IsBoundingBox, at_corner}
 use Rattle.convex_sets.proofs.BoxLaws.{IsInRange, in_range}
 use Rattle.convex_sets.proofs.ConvexPolygons.{IsConvex, IsConvex-from_test}
 use Rattle.convex_sets.proofs.Fans.{inside_at}
-use Rattle.convex_sets.proofs.Ring.{var, minus, times, same}
+use Rattle.plan_model.proofs.Ring.{var, minus, times, same}
 use Rattle.swept_check.specs.Crossings.{Crosses}
 use Rattle.obstacle_boxes.specs.NearZones.{boxes_meet}
 

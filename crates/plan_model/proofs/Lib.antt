@@ -34,6 +34,8 @@ pub mod CostLaws
 pub mod TriangleLaw
 pub mod StripLaws
 pub mod Differences
+pub mod Ring
+pub mod Tests
 pub mod RationalPoints
 pub mod MeetingLaws
 pub mod SegmentLaws

@@ -14,8 +14,8 @@ use Rattle.plan_model.specs.Geometry.Plane.{orientation}
 use Rattle.plan_model.specs.Geometry.Convexity.{is_strictly_convex}
 use Rattle.plan_model.specs.Scenes.Limits.{is_corner_between, is_obstacle, are_obstacles}
 use Rattle.plan_model.specs.declared.limits.TheConstants.{LEAST_OBSTACLE_COORDINATE, MOST_OBSTACLE_COORDINATE, MOST_OBSTACLES}
-use Rattle.convex_sets.proofs.Tests.{true_of_below}
-use Rattle.convex_sets.proofs.Ring.{Read, var, minus, times}
+use Rattle.plan_model.proofs.Tests.{true_of_below}
+use Rattle.plan_model.proofs.Ring.{Read, var, minus, times}
 use Rattle.planner_main.specs.GeneratedScenes.{lattice_corner, square_at, triangle_at, place_in_cell}
 use Rattle.planner_main.specs.GeneratedScenes.{side_by, obstacle_by, generated_obstacle, generated_obstacles}
 

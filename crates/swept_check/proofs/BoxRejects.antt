@@ -9,7 +9,7 @@ use Rattle.convex_sets.specs.declared.boxes.BoundingBox.{BoundingBox}
 use Rattle.convex_sets.specs.Boxes.{IsBoundingBox}
 use Rattle.convex_sets.proofs.BoxLaws.{in_range}
 use Rattle.convex_sets.proofs.ConvexPolygons.{IsConvex}
-use Rattle.convex_sets.proofs.Ring.{var, plus, minus, times, same}
+use Rattle.plan_model.proofs.Ring.{var, plus, minus, times, same}
 use Rattle.swept_check.specs.Crossings.{Crosses}
 use Rattle.swept_check.specs.Apart.{IsApart, IsBeside, IsReachOf}
 use Rattle.swept_check.specs.declared.zone_crossings.Reach.{Reach}

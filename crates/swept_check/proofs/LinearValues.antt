@@ -6,7 +6,7 @@ use Rattle.std.proofs.lemmas.Bool.{cases_lt}
 use Rattle.std.proofs.Math.Nat.{mul-pos}
 use Rattle.plan_model.proofs.SegmentLaws.{part_and_rest}
 use Rattle.swept_check.specs.Clipping.{value_at, IsAdmitted}
-use Rattle.convex_sets.proofs.Ring.{var, plus, minus, times, same}
+use Rattle.plan_model.proofs.Ring.{var, plus, minus, times, same}
 
 -- a value on the way is a mean of those at the ends, d = s + k
 value_at-parts : (f t : ℤ) (s k : ℕ) → value_at f t s (s + k) ≡ (pos k *ℤ f) +ℤ (pos s *ℤ t)

@@ -11,7 +11,7 @@ use Rattle.plan_model.proofs.SpanLaws.{IsInSpans-from_in_room, InRoom-from_spans
 use Rattle.plan_model.specs.declared.spans.RoomSpans.{RoomSpans}
 use Rattle.plan_model.specs.Scenes.SpansOfRooms.{AreSpansOf}
 use Rattle.swept_check.proofs.LinearValues.{IsAdmitted-inside}
-use Rattle.convex_sets.proofs.Ring.{var, plus, minus, times, same}
+use Rattle.plan_model.proofs.Ring.{var, plus, minus, times, same}
 
 -- the coordinate of a moved corner, at s / d of the way
 moved_on_way : (a b c d s : ℤ) → (((d *ℤ a) +ℤ (s *ℤ (b -ℤ a))) +ℤ (d *ℤ c)) ≡ ((d *ℤ (a +ℤ c)) +ℤ (s *ℤ ((b +ℤ c) -ℤ (a +ℤ c))))

@@ -10,7 +10,7 @@ use Rattle.plan_model.specs.Scenes.Limits.{is_corner_between, is_obstacle, are_o
 use Rattle.plan_model.specs.declared.limits.TheConstants.{LEAST_SUMMAND_COORDINATE, MOST_OBSTACLES, MOST_SUMMAND_COORDINATE}
 use Rattle.plan_model.specs.Spaces.Zones.{IsZoneOf}
 use Rattle.plan_model.proofs.SceneBounds.{corners-summands}
-use Rattle.convex_sets.proofs.Tests.{true_at}
+use Rattle.plan_model.proofs.Tests.{true_at}
 
 pub obstacle_within : (version : ℕ) (obstacles : List (List Vertex)) (i : ℕ) → are_obstacles version obstacles ≡ true → i < length obstacles
     → list_all (is_corner_between LEAST_SUMMAND_COORDINATE MOST_SUMMAND_COORDINATE) (get_or obstacles i []) ≡ true

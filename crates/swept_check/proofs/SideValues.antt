@@ -8,7 +8,7 @@ use Rattle.plan_model.specs.Spaces.Clearance.{on_the_way}
 use Rattle.plan_model.specs.Spaces.HalfPlanes.{side_of}
 use Rattle.swept_check.specs.Clipping.{value_at}
 use Rattle.convex_sets.specs.Boxes.{corner_of}
-use Rattle.convex_sets.proofs.Ring.{var, plus, minus, times, same}
+use Rattle.plan_model.proofs.Ring.{var, plus, minus, times, same}
 
 -- one product of the orientation, at s / d of the way from a to b
 product_on_way : (e u a b d s : ℤ) → (e *ℤ (((d *ℤ a) +ℤ (s *ℤ (b -ℤ a))) -ℤ (d *ℤ u)))
