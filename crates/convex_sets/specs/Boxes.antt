@@ -1,11 +1,11 @@
--- The bounding box of a polygon.
-use Rattle.std.specs.Prelude.{◌≡◌, ℕ, ◌<◌, pos, ◌≤ℤ◌, List, length, true}
+-- The bounding boxes of polygons and segments, and boxes that meet.
+use Rattle.std.specs.Prelude.{◌≡◌, ℕ, ◌<◌, pos, ◌≤ℤ◌, int_le, min, max, Bool, true, ◌&&◌, List, length}
 use Rattle.std.proofs.Math.Nat.{le_refl}
 use Rattle.plan_model.specs.declared.geometry.Point.{Point}
 use Rattle.plan_model.specs.declared.geometry.Vertex.{Vertex}
 use Rattle.plan_model.specs.Geometry.Convexity.{corner_at, is_strictly_convex}
 use Rattle.plan_model.specs.Spaces.RoomOfConfigurations.{Rational}
-use Rattle.convex_sets.specs.declared.boxes.BoundingBox.{BoundingBox}
+use Rattle.convex_sets.specs.declared.bounding_boxes.BoundingBox.{BoundingBox}
 use Rattle.convex_sets.specs.Bounds.{AreBoundedCorners}
 
 -- no corner is further left or lower, and its coordinates are those of corners: the box's lower left corner
@@ -39,6 +39,19 @@ pub record IsInBox (bounds : BoundingBox) (p : Point) : Type 0 where
   pub right : pos p.x ≤ℤ bounds.high.x
   pub bottom : bounds.low.y ≤ℤ pos p.y
   pub top : pos p.y ≤ℤ bounds.high.y
+
+-- the least box round the segment between two points
+abbrev pub segment_box : Point → Point → BoundingBox
+segment_box a b =
+    record {
+      low = record { x = pos (min a.x b.x); y = pos (min a.y b.y) };
+      high = record { x = pos (max a.x b.x); y = pos (max a.y b.y) };
+    }
+
+-- Two boxes have a point in common. They are closed, so boxes that touch meet.
+abbrev pub boxes_meet : BoundingBox → BoundingBox → Bool
+boxes_meet p q =
+    (int_le p.low.x q.high.x && int_le q.low.x p.high.x) && (int_le p.low.y q.high.y && int_le q.low.y p.high.y)
 
 -- a point as a corner
 abbrev pub corner_of : Point → Vertex

@@ -9,7 +9,7 @@
 //! strictly convex and begin at the lowest, of these the leftmost. [`Zone::has`] is true exactly for those points.
 #![tactic(auto)]
 
-mod boxes;
+mod bounding_boxes;
 mod convexity;
 mod half_planes;
 mod merging;
@@ -18,7 +18,7 @@ mod outlines;
 mod polygon_corners;
 mod zones;
 
-pub use boxes::BoundingBox;
+pub use bounding_boxes::BoundingBox;
 pub use convexity::is_convex;
 pub use orientations::orientation;
 pub use polygon_corners::{corner_of, next_corner};

@@ -1,6 +1,6 @@
 //! Zones: configuration-space obstacles.
 
-use crate::boxes::BoundingBox;
+use crate::bounding_boxes::BoundingBox;
 use crate::half_planes::is_inside;
 use crate::merging::merged;
 use crate::outlines::{outline, reflected};

@@ -2,6 +2,10 @@
 #![tactic(auto)]
 
 #[cfg(test)]
-mod convexity;
+mod bounding_boxes;
+#[cfg(test)]
+mod is_convex;
+#[cfg(test)]
+mod support;
 #[cfg(test)]
 mod zones;

@@ -8,15 +8,15 @@ use Rattle.plan_model.specs.declared.geometry.Point.{Point}
 use Rattle.plan_model.specs.declared.geometry.Vertex.{Vertex}
 use Rattle.swept_check.specs.Crossings.{Crosses}
 use Rattle.obstacle_boxes.specs.declared.leaves.Leaf.{Leaf}
-use Rattle.obstacle_boxes.specs.declared.nodes.Node.{Node}
-use Rattle.obstacle_boxes.specs.declared.nodes.Node.TheVariants.{Halves, Zone}
-use Rattle.convex_sets.specs.declared.boxes.BoundingBox.{BoundingBox}
+use Rattle.obstacle_boxes.specs.declared.box_nodes.Node.{Node}
+use Rattle.obstacle_boxes.specs.declared.box_nodes.Node.TheVariants.{Halves, Zone}
+use Rattle.convex_sets.specs.declared.bounding_boxes.BoundingBox.{BoundingBox}
 use Rattle.obstacle_boxes.specs.LeafBoxes.{Holds, HoldsAll, IsLeafAmong, IsMissed, leaves_met}
-use Rattle.obstacle_boxes.specs.NearZones.{boxes_meet, segment_box}
+use Rattle.convex_sets.specs.Boxes.{boxes_meet, segment_box}
 use Rattle.obstacle_boxes.specs.Searches.{AreApartBelow, HasSearched}
 use Rattle.obstacle_boxes.specs.Trees.{leaves_in, IsAbove, IsTree}
 use Rattle.obstacle_boxes.proofs.Counts.{leaves_met-append, leaves_met-cons, leaves_met-apart}
-use Rattle.obstacle_boxes.proofs.BoxLaws.{apart-inner}
+use Rattle.obstacle_boxes.proofs.HeldBoxes.{apart-inner}
 use Rattle.obstacle_boxes.proofs.NodeLists.{leaves_in-append}
 
 -- what is true of all leaves is true of those of the nodes from n on

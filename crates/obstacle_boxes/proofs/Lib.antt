@@ -1,4 +1,4 @@
-pub mod BoxLaws
+pub mod HeldBoxes
 pub mod SameZones
 pub mod LeafLists
 pub mod NodeLists

@@ -3,10 +3,10 @@ use Rattle.std.proofs.Common.{◌≡◌, inl, inr, ℕ, ◌+◌, ◌≤◌, List
 use Rattle.std.proofs.lemmas.List.{append-nil, drop_at, take-append-le, take_all, get_or_append_left, get_or_push}
 use Rattle.std.proofs.lemmas.List.Elements.{filter_map-append}
 use Rattle.std.proofs.lemmas.Bool.{cases_lt}
-use Rattle.convex_sets.specs.declared.boxes.BoundingBox.{BoundingBox}
+use Rattle.convex_sets.specs.declared.bounding_boxes.BoundingBox.{BoundingBox}
 use Rattle.obstacle_boxes.specs.declared.leaves.Leaf.{Leaf}
-use Rattle.obstacle_boxes.specs.declared.nodes.Node.{Node}
-use Rattle.obstacle_boxes.specs.declared.nodes.Node.TheVariants.{Halves, Zone}
+use Rattle.obstacle_boxes.specs.declared.box_nodes.Node.{Node}
+use Rattle.obstacle_boxes.specs.declared.box_nodes.Node.TheVariants.{Halves, Zone}
 use Rattle.obstacle_boxes.specs.LeafBoxes.{HoldsAll}
 use Rattle.obstacle_boxes.specs.Trees.{leaf_of, leaves_in, IsAbove, IsTree, Adds}
 

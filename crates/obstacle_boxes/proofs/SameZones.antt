@@ -10,14 +10,13 @@ use Rattle.plan_model.specs.Geometry.Convexity.{corner_at, next_corner}
 use Rattle.plan_model.specs.Geometry.Plane.{orientation}
 use Rattle.plan_model.specs.Spaces.HalfPlanes.{IsInside}
 use Rattle.plan_model.specs.Spaces.Zones.{IsZoneOf}
-use Rattle.convex_sets.specs.declared.boxes.BoundingBox.{BoundingBox}
-use Rattle.convex_sets.specs.Boxes.{IsBoundingBox, at_corner}
+use Rattle.convex_sets.specs.declared.bounding_boxes.BoundingBox.{BoundingBox}
+use Rattle.convex_sets.specs.Boxes.{IsBoundingBox, at_corner, boxes_meet}
 use Rattle.convex_sets.proofs.BoxLaws.{IsInRange, in_range}
 use Rattle.convex_sets.proofs.ConvexPolygons.{IsConvex, IsConvex-from_test}
 use Rattle.convex_sets.proofs.Fans.{inside_at}
 use Rattle.plan_model.proofs.Ring.{var, minus, times, same}
 use Rattle.swept_check.specs.Crossings.{Crosses}
-use Rattle.obstacle_boxes.specs.NearZones.{boxes_meet}
 
 pub Crosses-other : (clearance : ℕ) (body obstacle z w : List Vertex) (a b : Point) → IsZoneOf clearance body obstacle z
     → IsZoneOf clearance body obstacle w → Crosses z a b → Crosses w a b

@@ -6,19 +6,20 @@ use Rattle.std.proofs.lemmas.List.Sorted.{All-permutation, IsPermutation-sym, su
 use Rattle.plan_model.specs.declared.geometry.Point.{Point}
 use Rattle.plan_model.specs.declared.geometry.Vertex.{Vertex}
 use Rattle.plan_model.specs.declared.configuration_spaces.ConfigurationSpace.{ConfigurationSpace}
-use Rattle.convex_sets.specs.declared.boxes.BoundingBox.{BoundingBox}
+use Rattle.convex_sets.specs.declared.bounding_boxes.BoundingBox.{BoundingBox}
 use Rattle.convex_sets.proofs.ConvexPolygons.{IsConvex-from_test}
 use Rattle.swept_check.specs.Crossings.{Crosses}
 use Rattle.swept_check.specs.Halls.{AreZonesOf}
 use Rattle.swept_check.proofs.HallLaws.{CrossesNone}
 use Rattle.obstacle_boxes.specs.declared.leaves.Leaf.{Leaf}
-use Rattle.obstacle_boxes.specs.declared.nodes.Node.{Node}
+use Rattle.obstacle_boxes.specs.declared.box_nodes.Node.{Node}
 use Rattle.obstacle_boxes.specs.LeafBoxes.{IsLeafAmong, IsMissed, leaves_met}
-use Rattle.obstacle_boxes.specs.NearZones.{AreZoneBoxes, boxes_meet, near_count, segment_box}
+use Rattle.convex_sets.specs.Boxes.{boxes_meet, segment_box}
+use Rattle.obstacle_boxes.specs.NearZones.{AreZoneBoxes, near_count}
 use Rattle.obstacle_boxes.specs.Searches.{CrossesSome}
 use Rattle.obstacle_boxes.specs.Trees.{IsTreeOver, leaves_in}
 use Rattle.obstacle_boxes.proofs.Counts.{count_by-agree}
-use Rattle.obstacle_boxes.proofs.BoxLaws.{meets-crossed}
+use Rattle.swept_check.proofs.BoxRejects.{meets-crossed}
 use Rattle.obstacle_boxes.proofs.SameZones.{Crosses-other, meets-other}
 
 abbrev pub no_box : BoundingBox

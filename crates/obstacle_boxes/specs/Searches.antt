@@ -3,9 +3,9 @@ use Rattle.std.specs.Prelude.{◌≡◌, ℕ, ◌+◌, ◌<◌, ◌≤◌, All, 
 use Rattle.plan_model.specs.declared.geometry.Point.{Point}
 use Rattle.plan_model.specs.declared.geometry.Vertex.{Vertex}
 use Rattle.swept_check.specs.Crossings.{Crosses}
-use Rattle.obstacle_boxes.specs.declared.nodes.Node.{Node}
+use Rattle.obstacle_boxes.specs.declared.box_nodes.Node.{Node}
 use Rattle.obstacle_boxes.specs.LeafBoxes.{IsMissed, leaves_met}
-use Rattle.obstacle_boxes.specs.NearZones.{boxes_meet, segment_box}
+use Rattle.convex_sets.specs.Boxes.{boxes_meet, segment_box}
 use Rattle.obstacle_boxes.specs.Trees.{leaves_in}
 
 -- the segment crosses one of the zones

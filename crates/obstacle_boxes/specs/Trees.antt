@@ -2,11 +2,11 @@
 use Rattle.std.specs.Prelude.{◌≡◌, ℕ, ◌<◌, ◌≤◌, Option, Some, None, List, ◌++◌, length, slice_index_or, take, drop, filter_map, IsPermutation}
 use Rattle.plan_model.specs.declared.geometry.Vertex.{Vertex}
 use Rattle.plan_model.specs.declared.configuration_spaces.ConfigurationSpace.{ConfigurationSpace}
-use Rattle.convex_sets.specs.declared.boxes.BoundingBox.{BoundingBox}
+use Rattle.convex_sets.specs.declared.bounding_boxes.BoundingBox.{BoundingBox}
 use Rattle.swept_check.specs.Halls.{AreZonesOf}
 use Rattle.obstacle_boxes.specs.declared.leaves.Leaf.{Leaf}
-use Rattle.obstacle_boxes.specs.declared.nodes.Node.{Node}
-use Rattle.obstacle_boxes.specs.declared.nodes.Node.TheVariants.{Halves, Zone}
+use Rattle.obstacle_boxes.specs.declared.box_nodes.Node.{Node}
+use Rattle.obstacle_boxes.specs.declared.box_nodes.Node.TheVariants.{Halves, Zone}
 use Rattle.obstacle_boxes.specs.LeafBoxes.{AreLeavesOf, HoldsAll}
 
 -- the leaf that a node is, if one zone is below it

@@ -3,11 +3,11 @@
 ghost use Rattle.std.specs.Prelude.{◌≡◌, ◌↔◌, ◌+◌, ◌<◌, ◌≤◌, IfOk, IsTrue, List, false};
 ghost use Rattle.plan_model.specs.Spaces.Clearance.{Clear};
 ghost use Rattle.plan_model.specs.Spaces.RoomOfConfigurations.{InRoom, at_lattice};
-ghost use Rattle.convex_sets.specs.declared.boxes.BoundingBox.{BoundingBox};
+ghost use Rattle.convex_sets.specs.declared.bounding_boxes.BoundingBox.{BoundingBox};
 
-use crate::descent::crosses_none;
+use crate::box_nodes::{Node, push_tree};
+use crate::descent::crosses_no_leaf;
 use crate::leaves::{leaves_of, order};
-use crate::nodes::{Node, push_tree};
 use convex_sets::Zone;
 use plan_model::{Memory, Point};
 use std::alloc::Global;
@@ -75,7 +75,7 @@ impl Boxes {
         if !self.hall.is_in_room(a) || !self.hall.is_in_room(b) {
             return false;
         }
-        crosses_none(self.nodes.as_slice(), self.hall.zones(), a, b, steps)
+        crosses_no_leaf(self.nodes.as_slice(), self.hall.zones(), a, b, steps)
     }
 
     /// The same, for a counter that is made here.

@@ -2,14 +2,13 @@
 
 ghost use Rattle.std.specs.Prelude.{◌≡◌, ℕ, ◌+◌, ◌<◌, ◌≤◌, All, IsTrue, false, length, slice_index_or};
 ghost use Rattle.plan_model.specs.Geometry.Bounds.{IsBounded};
+ghost use Rattle.convex_sets.specs.Boxes.{segment_box};
 ghost use Rattle.obstacle_boxes.specs.LeafBoxes.{IsLeafAmong, IsMissed, leaves_met};
-ghost use Rattle.obstacle_boxes.specs.NearZones.{segment_box};
 ghost use Rattle.obstacle_boxes.specs.Searches.{CrossesSome, HasSearched};
 ghost use Rattle.obstacle_boxes.specs.Trees.{IsTree, leaves_in};
 
-use crate::meeting::{boxes_meet, segment_box};
-use crate::nodes::Node;
-use convex_sets::Zone;
+use crate::box_nodes::Node;
+use convex_sets::{BoundingBox, Zone};
 use plan_model::Point;
 use std::sync::ledger::Ledger;
 use swept_check::{Steps, crosses};
@@ -17,7 +16,7 @@ use swept_check::{Steps, crosses};
 /// Whether the segment from `a` to `b` crosses none of the zones at the leaves of a tree. It goes through the nodes from the
 /// last one on, passes over each half whose box is apart from the segment's, and ends at the first zone that is crossed, or
 /// when only halves that are apart are left. It takes no memory.
-pub(crate) fn crosses_none<L: Ledger>(
+pub(crate) fn crosses_no_leaf<L: Ledger>(
     nodes: &[Node],
     zones: &[Zone],
     a: Point,
@@ -34,7 +33,7 @@ pub(crate) fn crosses_none<L: Ledger>(
     ensures some { result ≡ false → steps.old < steps.new }
     ensures few { steps.new ≤ steps.old + leaves_met (segment_box a b) (leaves_in nodes.now) }
 {
-    let segment = segment_box(a, b);
+    let segment = BoundingBox::of_segment(a, b);
     // All zones before this number are apart.
     let mut low = 0;
     let mut next = nodes.len();
@@ -47,17 +46,13 @@ pub(crate) fn crosses_none<L: Ledger>(
                 lower,
                 upper,
             } => {
-                if first <= low && !boxes_meet(segment, lower) {
+                if first <= low && !segment.meets(lower) {
                     low = middle;
                 }
-                next = if boxes_meet(segment, upper) {
-                    n
-                } else {
-                    middle
-                };
+                next = if segment.meets(upper) { n } else { middle };
             }
             Node::Zone(leaf) => {
-                if boxes_meet(segment, leaf.bounds) && crosses(&zones[leaf.zone], a, b, steps) {
+                if segment.meets(leaf.bounds) && crosses(&zones[leaf.zone], a, b, steps) {
                     return false;
                 }
                 next = n;

@@ -15,10 +15,9 @@
 //! no more than zones whose box meets the segment's.
 #![tactic(auto)]
 
+mod box_nodes;
 mod boxes;
 mod descent;
 mod leaves;
-mod meeting;
-mod nodes;
 
 pub use boxes::Boxes;

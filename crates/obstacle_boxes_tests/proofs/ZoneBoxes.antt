@@ -3,7 +3,7 @@ use Rattle.std.proofs.Common.{◌≡◌, ℕ, ◌+◌, ◌<◌, List, [], ◌∷
 use Rattle.std.proofs.lemmas.List.{get_or_append_left, get_or_push}
 use borrow.Author.Count.{below_more}
 use Rattle.plan_model.specs.declared.geometry.Vertex.{Vertex}
-use Rattle.convex_sets.specs.declared.boxes.BoundingBox.{BoundingBox}
+use Rattle.convex_sets.specs.declared.bounding_boxes.BoundingBox.{BoundingBox}
 use Rattle.convex_sets.specs.Boxes.{IsBoundingBox}
 
 pub record AreFirstBoxes (zones : List (List Vertex)) (boxes : List BoundingBox) (n : ℕ) : Type 0 where

@@ -2,8 +2,8 @@
 #![tactic(auto)]
 
 #[cfg(test)]
-mod counted;
+mod clear;
 #[cfg(test)]
-mod many;
+mod support;
 #[cfg(test)]
-mod scenes;
+mod tests;

@@ -1,18 +1,17 @@
--- A segment that crosses a polygon is not apart from its bounding box.
-use Rattle.std.proofs.Common.{◌≡◌, inl, inr, ℕ, ◌<◌, ◌≤◌, List, arith}
-use Rattle.std.specs.Prelude.{ℤ, pos, ◌+ℤ◌, ◌-ℤ◌, ◌*ℤ◌, ◌≤ℤ◌, ◌<ℤ◌}
+-- A segment that crosses a polygon has a box that meets the polygon's.
+use Rattle.std.proofs.Common.{◌≡◌, ℕ, ◌<◌, ◌≤◌, Bool, true, false, List, refl, arith}
+use Rattle.std.specs.Prelude.{ℤ, pos, ◌+ℤ◌, ◌-ℤ◌, ◌*ℤ◌, ◌≤ℤ◌, ◌<ℤ◌, int_le, min, max}
 use Rattle.std.proofs.lemmas.Int.{ints}
+use Rattle.std.proofs.lemmas.Bool.{and_from}
 use Rattle.plan_model.specs.declared.geometry.Point.{Point}
 use Rattle.plan_model.specs.declared.geometry.Vertex.{Vertex}
 use Rattle.plan_model.specs.Spaces.Clearance.{on_the_way}
-use Rattle.convex_sets.specs.declared.boxes.BoundingBox.{BoundingBox}
-use Rattle.convex_sets.specs.Boxes.{IsBoundingBox}
+use Rattle.convex_sets.specs.declared.bounding_boxes.BoundingBox.{BoundingBox}
+use Rattle.convex_sets.specs.Boxes.{IsBoundingBox, boxes_meet, segment_box}
 use Rattle.convex_sets.proofs.BoxLaws.{in_range}
 use Rattle.convex_sets.proofs.ConvexPolygons.{IsConvex}
 use Rattle.plan_model.proofs.Ring.{var, plus, minus, times, same}
 use Rattle.swept_check.specs.Crossings.{Crosses}
-use Rattle.swept_check.specs.Apart.{IsApart, IsBeside, IsReachOf}
-use Rattle.swept_check.specs.declared.zone_crossings.Reach.{Reach}
 use Rattle.swept_check.proofs.LinearValues.{IsAdmitted-outside}
 
 -- how far a coordinate on the way is past another
@@ -36,35 +35,30 @@ not_above a b c s d p l h f g =
     let short : pos 0 ≤ℤ ((pos d *ℤ c) -ℤ ((pos d *ℤ a) +ℤ (pos s *ℤ (b -ℤ a)))) = omega (arith, ints) in
     IsAdmitted-outside (c -ℤ a) (c -ℤ b) s d (omega (arith, ints)) (omega (arith, ints)) p l (rw (short_on_way a b c (pos d) (pos s)) at short)
 
--- a point on the way that is between two bounds: the ends are not both below one, nor both above the other
-not_apart : (a b s d : ℕ) (low high : ℤ) → 0 < d → s ≤ d → (pos d *ℤ low) ≤ℤ ((pos d *ℤ pos a) +ℤ (pos s *ℤ (pos b -ℤ pos a)))
-    → ((pos d *ℤ pos a) +ℤ (pos s *ℤ (pos b -ℤ pos a))) ≤ℤ (pos d *ℤ high) → ¬ IsApart a b low high
-not_apart a b s d low high p l f g (inl below) = not_below (pos a) (pos b) low s d p l f below.0 below.1
-not_apart a b s d low high p l f g (inr above) = not_above (pos a) (pos b) high s d p l g above.0 above.1
+-- a point on the way that is not above a bound: one end is not
+least_within : (a b s d : ℕ) (high : ℤ) → 0 < d → s ≤ d → ((pos d *ℤ pos a) +ℤ (pos s *ℤ (pos b -ℤ pos a))) ≤ℤ (pos d *ℤ high)
+    → int_le (pos (min a b)) high ≡ true
+least_within a b s d high p l h = by (int_le (pos (min a b)) high) refl
+  where
+    by : (t : Bool) → int_le (pos (min a b)) high ≡ t → t ≡ true
+    by true e = refl
+    by false e = absurd (not_above (pos a) (pos b) high s d p l h (omega (arith, ints)) (omega (arith, ints)))
 
--- a crossed polygon's box is apart in neither coordinate
-pub record IsNotApart (a b : Point) (bounds : BoundingBox) : Type 0 where
-  pub across : ¬ IsApart a.x b.x bounds.low.x bounds.high.x
-  pub up : ¬ IsApart a.y b.y bounds.low.y bounds.high.y
+-- a point on the way that is not below a bound: one end is not
+greatest_within : (a b s d : ℕ) (low : ℤ) → 0 < d → s ≤ d → (pos d *ℤ low) ≤ℤ ((pos d *ℤ pos a) +ℤ (pos s *ℤ (pos b -ℤ pos a)))
+    → int_le low (pos (max a b)) ≡ true
+greatest_within a b s d low p l h = by (int_le low (pos (max a b))) refl
+  where
+    by : (t : Bool) → int_le low (pos (max a b)) ≡ t → t ≡ true
+    by true e = refl
+    by false e = absurd (not_below (pos a) (pos b) low s d p l h (omega (arith, ints)) (omega (arith, ints)))
 
-pub crossed_box : (corners : List Vertex) (a b : Point) (bounds : BoundingBox) → IsConvex corners → IsBoundingBox corners bounds
-    → Crosses corners a b → IsNotApart a b bounds
-crossed_box corners a b bounds convex box x =
+pub meets-crossed : (corners : List Vertex) (a b : Point) (bounds : BoundingBox) → IsConvex corners → IsBoundingBox corners bounds
+    → Crosses corners a b → boxes_meet (segment_box a b) bounds ≡ true
+meets-crossed corners a b bounds convex box x =
     let r = in_range corners bounds (on_the_way a b x.s x.d x.positive) convex box x.inside in
-    record {
-      across = not_apart a.x b.x x.s x.d bounds.low.x bounds.high.x x.positive x.on_segment r.left r.right;
-      up = not_apart a.y b.y x.s x.d bounds.low.y bounds.high.y x.positive x.on_segment r.bottom r.top;
-    }
-
--- so it is not crossed by what does not reach it
-pub beside_none :
-    (zone : List Vertex) (a b : Point) (reach : Reach) (bounds : BoundingBox) → IsConvex zone → IsBoundingBox zone bounds → IsReachOf a b reach
-    → IsBeside reach bounds → Crosses zone a b → ⊥
-beside_none zone a b reach bounds convex box within beside x =
-    let none = crossed_box zone a b bounds convex box x in
-    elim beside [
-      | inl right ↦ none.across (inl (omega (arith, ints, right, within.right.0), omega (arith, ints, right, within.right.1)))
-      | inr (inl left) ↦ none.across (inr (omega (arith, ints, left, within.left.0), omega (arith, ints, left, within.left.1)))
-      | inr (inr (inl top)) ↦ none.up (inl (omega (arith, ints, top, within.top.0), omega (arith, ints, top, within.top.1)))
-      | inr (inr (inr bottom)) ↦ none.up (inr (omega (arith, ints, bottom, within.bottom.0), omega (arith, ints, bottom, within.bottom.1)))
-    ]
+    let left = least_within a.x b.x x.s x.d bounds.high.x x.positive x.on_segment r.right in
+    let right = greatest_within a.x b.x x.s x.d bounds.low.x x.positive x.on_segment r.left in
+    let bottom = least_within a.y b.y x.s x.d bounds.high.y x.positive x.on_segment r.top in
+    let top = greatest_within a.y b.y x.s x.d bounds.low.y x.positive x.on_segment r.bottom in
+    and_from _ _ (and_from _ _ left right) (and_from _ _ bottom top)

@@ -16,9 +16,9 @@ use Rattle.swept_check.proofs.RoomLaws.{InRoom-on_the_way}
 abbrev pub CrossesNone : List (List Vertex) → Point → Point → Type 0
 CrossesNone zones a b = All (λ zone. ¬ Crosses zone a b) zones
 
-pub crosses_none : (space : ConfigurationSpace) (zones : List (List Vertex)) (a b : Point) → AreZonesOf space zones
+pub CrossesNone-clear : (space : ConfigurationSpace) (zones : List (List Vertex)) (a b : Point) → AreZonesOf space zones
     → Clear space a b → CrossesNone zones a b
-crosses_none space zones a b h clear =
+CrossesNone-clear space zones a b h clear =
     let count = h.count in
     All-from_get_or (λ zone. ¬ Crosses zone a b) zones [] (λ i l x.
     let at : i < length space.obstacles = omega arith in

@@ -1,4 +1,3 @@
 pub mod Clipping
 pub mod Crossings
 pub mod Halls
-pub mod Apart

@@ -19,7 +19,7 @@ pub trait Clearing: Sync {
         ensures { IsTrue result ↔ Clear (space self.now) a b };
 
     /// No coordinate of its room is above `MOST_COORDINATE`, so both ends of a clear segment are within these bounds, and their
-    /// distance may be taken ([`clear_segments_are_bounded`](crate::laws::clear_segments_are_bounded)). It does nothing.
+    /// distance may be taken ([`clear_segments_are_bounded`](crate::clearance_laws::clear_segments_are_bounded)). It does nothing.
     fn room_is_bounded(&self)
         ensures { IsBounded (space self.now).room };
 }

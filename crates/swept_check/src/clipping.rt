@@ -64,7 +64,7 @@ impl Part {
 /// n corners; no memory.
 // Few segments come this far. Inlined, it would slow down the loop over the boxes of the zones.
 #[inline(never)]
-pub(crate) fn crosses(corners: &[Vertex], a: Point, b: Point) -> bool
+pub(crate) fn crosses_polygon(corners: &[Vertex], a: Point, b: Point) -> bool
     requires corners { AreBoundedCorners corners.now }
     requires from { IsBounded a }
     requires to { IsBounded b }

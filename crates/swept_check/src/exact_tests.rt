@@ -4,7 +4,7 @@ ghost use Rattle.std.specs.Prelude.{◌≡◌, ◌↔◌, ◌+◌, IsTrue};
 ghost use Rattle.plan_model.specs.Geometry.Bounds.{IsBounded};
 ghost use Rattle.swept_check.specs.Crossings.{Crosses};
 
-use crate::clipping;
+use crate::clipping::crosses_polygon;
 use crate::steps::Steps;
 use convex_sets::Zone;
 use plan_model::Point;
@@ -21,5 +21,5 @@ pub fn crosses<L: Ledger>(zone: &Zone, a: Point, b: Point, steps: &mut Steps<L>)
     ensures step { steps.new ≡ steps.old + 1 }
 {
     steps.tick();
-    clipping::crosses(zone.corners(), a, b)
+    crosses_polygon(zone.corners(), a, b)
 }

@@ -5,7 +5,7 @@ ghost use Rattle.plan_model.specs.Spaces.ConfigurationSpace.{space_of};
 ghost use Rattle.plan_model.specs.Spaces.RoomOfConfigurations.{InRoom, at_lattice};
 
 use crate::clearing::Clearing;
-use crate::zone_crossings::crosses_none;
+use crate::zone_crossings::crosses_no_zone;
 use convex_sets::Zone;
 use plan_model::{ConfigurationSpace, Memory, Point, RoomSpans, Scene};
 use std::alloc::Global;
@@ -112,7 +112,7 @@ impl Clearing for Hall {
         if !self.is_in_room(a) || !self.is_in_room(b) {
             return false;
         }
-        crosses_none(self.zones.as_slice(), a, b)
+        crosses_no_zone(self.zones.as_slice(), a, b)
     }
 
     fn room_is_bounded(&self) {

@@ -7,12 +7,12 @@
 //! zone, for collision checkers that choose themselves which zones to test; it is counted.
 #![tactic(auto)]
 
+pub mod clearance_laws;
 mod clearing;
 mod clipping;
 mod exact_tests;
 mod fractions;
 mod hall;
-pub mod laws;
 mod steps;
 mod zone_crossings;
 

@@ -2,8 +2,8 @@
 #![tactic(auto)]
 
 #[cfg(test)]
-mod exact_tests;
+mod crosses;
 #[cfg(test)]
 mod hall;
 #[cfg(test)]
-mod memory;
+mod support;

@@ -1,7 +1,7 @@
 use Rattle.std.proofs.Common.{◌↔◌, refl}
 use Rattle.std.specs.Prelude.{IsTrue}
 use Rattle.plan_model.specs.Spaces.RoomOfConfigurations.{InRoom, at_lattice}
-use Rattle.swept_check.proofs.HallLaws.{CrossesNone, crosses_none, clear_of, first_in_room, last_in_room}
+use Rattle.swept_check.proofs.HallLaws.{CrossesNone, CrossesNone-clear, clear_of, first_in_room, last_in_room}
 use Rattle.swept_check.proofs.hall.HallClearing.clear.Goals as goal
 use Rattle.swept_check.proofs.hall.HallClearing.clear.Goals.{then-not-is_in_room-via-then-not-is_in_room}
 use Rattle.swept_check.proofs.hall.HallClearing.clear.Goals.{then-not-is_in_room-via-else-not-is_in_room+then-not-is_in_room-2}
@@ -28,8 +28,8 @@ returns c =
     let space = h.space in
     let first : InRoom space (at_lattice a) = rw (← c.self.view_is) at (c.if-not-is_in_room.ensures.room.0 refl) in
     let last : InRoom space (at_lattice b) = rw (← c.self.view_is) at (c.if-not-is_in_room-2.ensures.room.0 refl) in
-    let none : IsTrue c.crosses_none.result ↔ CrossesNone h.zones.items a b = rw c.as_slice.ensures.value at c.crosses_none.ensures in
+    let none : IsTrue c.crosses_no_zone.result ↔ CrossesNone h.zones.items a b = rw c.as_slice.ensures.value at c.crosses_no_zone.ensures in
     rw (← c.self.view_is) (
       λ t. clear_of space h.zones.items a b c.self.invariant.zones first last (none.0 t),
-      λ clear. none.1 (crosses_none space h.zones.items a b c.self.invariant.zones clear),
+      λ clear. none.1 (CrossesNone-clear space h.zones.items a b c.self.invariant.zones clear),
     )

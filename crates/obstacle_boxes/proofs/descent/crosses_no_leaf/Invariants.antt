@@ -1,0 +1,12 @@
+use Rattle.obstacle_boxes.specs.Searches.{AreApartBelow, HasSearched}
+use Rattle.obstacle_boxes.proofs.descent.crosses_no_leaf.Given as goal
+
+abbrev pub invariant-loop-low : goal.invariant-loop-low
+invariant-loop-low g l =
+    record {
+      searched : HasSearched l.nodes l.zones l.a l.b l.initial.steps l.steps l.next;
+      apart : AreApartBelow l.nodes l.a l.b l.low;
+    }
+
+abbrev pub decreases-loop-low : goal.decreases-loop-low
+decreases-loop-low g l = l.next

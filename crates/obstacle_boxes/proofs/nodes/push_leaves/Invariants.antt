@@ -1,6 +1,0 @@
-use Rattle.std.proofs.Common.{take}
-use Rattle.obstacle_boxes.specs.Trees.{Adds}
-use Rattle.obstacle_boxes.proofs.nodes.push_leaves.Given as goal
-
-abbrev pub invariant-loop-leaf : goal.invariant-loop-leaf
-invariant-loop-leaf l = Adds (take l.leaf-index l.leaves) l.initial.nodes.items l.nodes.items
