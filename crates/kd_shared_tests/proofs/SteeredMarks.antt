@@ -32,7 +32,7 @@ use Rattle.step_core.specs.declared.views.Stage.TheVariants.{Counted, Pointed, T
 use Rattle.step_core.specs.declared.views.View.{View}
 use Rattle.step_core.proofs.RecordedNodes.{has_node-recorded, present_recorded}
 use Rattle.step_core.proofs.SeenViews.{SeesPoint-later}
-use Rattle.kd_shared_tests.specs.HeldMarks.{HangsBelow, IsNearestRecorded, SteersFrom}
+use Rattle.kd_shared_tests.specs.HeldMarks.{HangsBelowNearest, IsNearestRecorded, SteersFrom}
 
 -- what a search for the nearest node finds
 pub IsNearestRecorded-found :
@@ -96,11 +96,11 @@ module _ (before after : View) (later : IsLater before after) (lawful : IsLawful
   pub SteersFrom-kept : (nearest : ℕ) → SteersFrom nearest before → after.hand ≡ before.hand → SteersFrom nearest after
   SteersFrom-kept nearest steers same = SteersFrom-later nearest steers steers.hand (same ∙ steers.held) refl refl steers.written
 
-  pub HangsBelow-later :
-      (nearest cost : ℕ) (hangs : HangsBelow nearest cost before) (stage : Stage) → has_point stage ≡ true
-      → after.hand ≡ Some (record hangs.steers.hand { stage = stage }) → HangsBelow nearest cost after
+  pub HangsBelowNearest-later :
+      (nearest cost : ℕ) (hangs : HangsBelowNearest nearest cost before) (stage : Stage) → has_point stage ≡ true
+      → after.hand ≡ Some (record hangs.steers.hand { stage = stage }) → HangsBelowNearest nearest cost after
   unfolding SteersFrom-later
-  HangsBelow-later nearest cost hangs stage written held = record {
+  HangsBelowNearest-later nearest cost hangs stage written held = record {
     steers = SteersFrom-later nearest hangs.steers (record hangs.steers.hand { stage = stage }) held refl refl written;
     parent_is = hangs.parent_is;
     cost_is = hangs.cost_is;
@@ -111,17 +111,17 @@ module _ (before after : View) (later : IsLater before after) (lawful : IsLawful
     unrecorded = has_node-kept (suc hangs.steers.hand.mark) ∙ hangs.unrecorded;
   }
 
-  pub HangsBelow-kept : (nearest cost : ℕ) → HangsBelow nearest cost before → after.hand ≡ before.hand → HangsBelow nearest cost after
-  HangsBelow-kept nearest cost hangs same =
-      HangsBelow-later nearest cost hangs hangs.steers.hand.stage hangs.steers.written (same ∙ hangs.steers.held)
+  pub HangsBelowNearest-kept : (nearest cost : ℕ) → HangsBelowNearest nearest cost before → after.hand ≡ before.hand → HangsBelowNearest nearest cost after
+  HangsBelowNearest-kept nearest cost hangs same =
+      HangsBelowNearest-later nearest cost hangs hangs.steers.hand.stage hangs.steers.written (same ∙ hangs.steers.held)
 
   -- the parent and the cost of the node in hand were written
-  pub HangsBelow-hung :
+  pub HangsBelowNearest-hung :
       (shared : SharedState) (nearest cost : ℕ) (steers : SteersFrom nearest before) (from p : Point) → before.run ≡ run_in shared
       → has_link steers.hand.stage ≡ false → p ≡ steers.hand.point → SeesPoint before nearest from → Clear (space_of shared.task.scene) from p
-      → after.hand ≡ Some (record steers.hand { stage = Treed; parent = nearest; cost = cost }) → HangsBelow nearest cost after
+      → after.hand ≡ Some (record steers.hand { stage = Treed; parent = nearest; cost = cost }) → HangsBelowNearest nearest cost after
   unfolding SteersFrom-later
-  HangsBelow-hung shared nearest cost steers from p own unlinked is seen clear held = record {
+  HangsBelowNearest-hung shared nearest cost steers from p own unlinked is seen clear held = record {
     steers = SteersFrom-later nearest steers (record steers.hand { stage = Treed; parent = nearest; cost = cost }) held refl refl refl;
     parent_is = refl;
     cost_is = refl;
@@ -134,13 +134,13 @@ module _ (before after : View) (later : IsLater before after) (lawful : IsLawful
   }
 
   -- it was tried to place it
-  pub HangsBelow-placing :
-      (nearest cost : ℕ) (result : Placing) → HangsBelow nearest cost before → IfSome before.hand (λ hand. IsPlacing after hand result)
-      → HangsBelow nearest cost after
-  HangsBelow-placing nearest cost Placed hangs placed =
-      HangsBelow-later nearest cost hangs Counted refl (at_hand (λ hand. IsPlaced after hand) before.hand hangs.steers.hand hangs.steers.held placed).counted
-  HangsBelow-placing nearest cost (Same j) hangs placed =
-      HangsBelow-later nearest cost hangs hangs.steers.hand.stage hangs.steers.written
+  pub HangsBelowNearest-placing :
+      (nearest cost : ℕ) (result : Placing) → HangsBelowNearest nearest cost before → IfSome before.hand (λ hand. IsPlacing after hand result)
+      → HangsBelowNearest nearest cost after
+  HangsBelowNearest-placing nearest cost Placed hangs placed =
+      HangsBelowNearest-later nearest cost hangs Counted refl (at_hand (λ hand. IsPlaced after hand) before.hand hangs.steers.hand hangs.steers.held placed).counted
+  HangsBelowNearest-placing nearest cost (Same j) hangs placed =
+      HangsBelowNearest-later nearest cost hangs hangs.steers.hand.stage hangs.steers.written
       (at_hand (λ hand. IsSame after hand j) before.hand hangs.steers.hand hangs.steers.held placed).unchanged
 
 -- the point of a node and its tree word were looked at

@@ -42,7 +42,7 @@ use Rattle.step_core.specs.Views.{sees, setup_in, tree_seen}
 use Rattle.step_core.specs.WordNames.Word.{Count}
 use Rattle.step_core.specs.declared.views.Hand.{Hand}
 use Rattle.step_core.specs.declared.views.View.{View}
-use Rattle.kd_shared_tests.specs.HeldMarks.{HangsBelow, IsClassBetween, SeesHandPoint, SteersFrom}
+use Rattle.kd_shared_tests.specs.HeldMarks.{HangsBelowNearest, IsClassBetween, SeesHandPoint, SteersFrom}
 use Rattle.kd_shared_tests.proofs.SteeredMarks.{present_nearest}
 use lib.ListN.{get_elem?}
 
@@ -133,7 +133,7 @@ may_finish-same view nearest j entry lawful steers seen is outcome =
     MayRecord-steered view nearest entry lawful steers is (Same j) outcome
     (MaySteer-steered view nearest entry lawful steers is (SeesPoint view j) (subst (λ h. SeesPoint view j h.point) same seen.stands))
 
-module _ (view : View) (nearest cost : ℕ) (entry : Record) (lawful : IsLawfulView view) (hangs : HangsBelow nearest cost view)
+module _ (view : View) (nearest cost : ℕ) (entry : Record) (lawful : IsLawfulView view) (hangs : HangsBelowNearest nearest cost view)
     (linked : has_link hangs.steers.hand.stage ≡ true) (gamma : view.run.gamma ≡ 0) where
   -- no own node is a neighbour: it would stand at the very point
   no_neighbour : (i : ℕ) → IsOwnNeighbour view entry hangs.steers.hand.point i → ⊥

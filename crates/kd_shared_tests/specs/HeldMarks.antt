@@ -40,7 +40,7 @@ pub record SteersFrom (nearest : ℕ) (view : View) : Type 0 where
   pub not_above : IsNearestRecorded view (mark_at view.run.marks hand.mark) nearest
 
 -- The node in hand hangs below the node that it was steered from, at this cost, by a clear segment. It has no record.
-pub record HangsBelow (nearest cost : ℕ) (view : View) : Type 0 where
+pub record HangsBelowNearest (nearest cost : ℕ) (view : View) : Type 0 where
   pub steers : SteersFrom nearest view
   pub parent_is : steers.hand.parent ≡ nearest
   pub cost_is : steers.hand.cost ≡ cost

@@ -2,7 +2,7 @@
 //! Trees and passes end by calls of `drop`: the proof of a call is shared, and that of the end of a scope is each function's own.
 
 ghost use Rattle.std.specs.Prelude.{◌≡◌, ◌+◌, ◌<◌, ◌≤◌, All, IfNone, IfOk, IfSome, IsTrue, Ok, Some, length};
-ghost use Rattle.kd_shared_tests.specs.HeldMarks.{HangsBelow, HoldsMark, HoldsPlaced, IsClassBetween, SeesHandPoint, SteersFrom};
+ghost use Rattle.kd_shared_tests.specs.HeldMarks.{HangsBelowNearest, HoldsMark, HoldsPlaced, IsClassBetween, SeesHandPoint, SteersFrom};
 ghost use Rattle.plan_model.specs.Spaces.Clearance.{ClearAt};
 ghost use Rattle.plan_model.specs.Spaces.ConfigurationSpace.{space_of};
 ghost use Rattle.plan_model.specs.Spaces.EmptyRooms.{IsInRoom};
@@ -127,7 +127,7 @@ pub(crate) fn hang_from_nearest(
     requires steers { SteersFrom closest pass.old.view }
     requires hall { hall.now ≡ space_of shared.now.task.scene }
     ensures holds { IfSome result (λ _. HoldsMark shared.now mark Treed pass.new) }
-    ensures hangs { IfSome result (λ cost. HangsBelow closest cost pass.new.view) }
+    ensures hangs { IfSome result (λ cost. HangsBelowNearest closest cost pass.new.view) }
 {
     let from = shared.point(pass, closest);
     let (_, cost_to_come) = shared.tree(pass, closest);
@@ -149,9 +149,9 @@ pub(crate) fn place_mark(
     cost: u64,
 ) -> Placing
     requires holds { HoldsMark shared.now mark Treed pass.old }
-    requires hangs { HangsBelow closest cost pass.old.view }
+    requires hangs { HangsBelowNearest closest cost pass.old.view }
     ensures holds { HoldsPlaced shared.now mark result pass.new }
-    ensures hangs { HangsBelow closest cost pass.new.view }
+    ensures hangs { HangsBelowNearest closest cost pass.new.view }
 {
     place(shared, pass, mark)
 }
@@ -174,7 +174,7 @@ fn class_seen(turn: u32, nodes: u32) -> Option<u32>
 /// another radius, or if fewer nodes are counted than the worker has handled marks.
 fn finish_placed(shared: &Shared, pass: &mut Pass, mark: u32, closest: u32, cost: u64) -> Option<()>
     requires holds { HoldsMark shared.now mark Counted pass.old }
-    requires hangs { HangsBelow closest cost pass.old.view }
+    requires hangs { HangsBelowNearest closest cost pass.old.view }
     ensures { IfSome result (λ _. MayClaim shared.now pass.new) }
 {
     if shared.task().scene.gamma != 0 {

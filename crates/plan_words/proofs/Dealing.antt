@@ -9,7 +9,7 @@ use Rattle.plan_model.specs.Runs.Turns.{turns_of}
 use Rattle.plan_words.specs.Parents.{HasParentsWithin}
 use Rattle.plan_words.specs.Dealt.{IsPassOf, StandsFor, each_after}
 use Rattle.plan_words.specs.States.{BelongsTo, HoldsWorld, IsTableOf, IsTied, MayClaim, PassState, SharedState}
-use Rattle.plan_words.specs.States.{StartsAs, first_of, first_view, new_pass, run_in, run_of_opening, with_view}
+use Rattle.plan_words.specs.States.{StartsAs, first_member, first_view, new_pass, run_in, run_of_opening, with_view}
 use Rattle.plan_words.specs.declared.openings.Opening.{Opening}
 use Rattle.step_core.specs.GrownRuns.{words_of_grown}
 use Rattle.step_core.specs.GrownWords.{HoldRun, record_at, sizes_of}
@@ -75,7 +75,7 @@ module _ (opening : Opening) where
         member_is =
             ap (λ n. Some (record { worker = 0; turn = n }))
             (is ∙ ap (λ names. turns_of (record_at names) (length opening.grown.task.marks) 0) (sym sees-started))
-            ∙ sym (ap first_of (ap (crew_from run words 0) all ∙ crew-more run words 0 opening.workers opening.some));
+            ∙ sym (ap first_member (ap (crew_from run words 0) all ∙ crew-more run words 0 opening.workers opening.some));
         hand_is = refl;
         lawful = IsLawfulView-started;
       }

@@ -6,7 +6,7 @@ use Rattle.atomic_table.specs.Seated.{TableId}
 use Rattle.atomic_table.specs.Table.{Me}
 use Rattle.plan_words.specs.declared.openings.Aim.{Aim}
 use Rattle.plan_words.specs.Plays.{Tells}
-use Rattle.plan_words.specs.States.{GoesOn, HasPairs, HasRoom, PassState, first_of, with_view}
+use Rattle.plan_words.specs.States.{GoesOn, HasPairs, HasRoom, PassState, first_member, with_view}
 use Rattle.step_core.specs.LaterViews.{IsLater, IsLawfulView}
 use Rattle.step_core.specs.ViewSteps.{joined, loaded, place_in, saw_at}
 use Rattle.step_core.specs.Views.{run_sizes, sees, took_over, words_of_run}
@@ -68,7 +68,7 @@ AreBehind-taken_over inner other theirs me mid after theirs_is same mid_is told 
 -- ---- what the pass keeps
 
 -- the first of both crews is that of the one, or of the other if the one is empty
-pub first-joined : (crew other : List Member) → first_of (crew ++ other) ≡ option_or (first_of crew) (first_of other)
+pub first-joined : (crew other : List Member) → first_member (crew ++ other) ≡ option_or (first_member crew) (first_member other)
 first-joined [] other = refl
 first-joined (member ∷ crew) other = refl
 
@@ -88,7 +88,7 @@ HasPairs-joined view other pairs others now same has theirs sized taken = record
 pub keeps_taken_over :
     (me mid after : Me Aim View) (other : View) (own member : Option Member) (hand : Option Hand) (for_spots for_near waiting : ℕ)
     (pairs others now : List ℕ) (place x : ℕ) → mid ≡ (joined me.0 other, me.1) → Tells mid (saw_at mid.0 place x x) after → place ≡ place_in mid.0 Count
-    → Keeps me own hand for_spots for_near waiting pairs → other.run ≡ me.0.run → HasPairs other others → member ≡ first_of (me.0.crew ++ other.crew)
+    → Keeps me own hand for_spots for_near waiting pairs → other.run ≡ me.0.run → HasPairs other others → member ≡ first_member (me.0.crew ++ other.crew)
     → length now ≡ length pairs
     → ((n : ℕ) → n < length pairs → slice_index now n ≡ later_word Falling (slice_index pairs n) (slice_index others n))
     → Keeps after member hand for_spots for_near waiting now
@@ -97,7 +97,7 @@ keeps_taken_over me mid after other own member hand for_spots for_near waiting p
     let kept : Keeps mid member hand for_spots for_near waiting now = (
       ap (λ m. m.1) mid_is ∙ none,
       record {
-        member_is = member_is ∙ ap (λ m. first_of m.0.crew) (sym mid_is);
+        member_is = member_is ∙ ap (λ m. first_member m.0.crew) (sym mid_is);
         hand_is = tied.hand_is ∙ ap (λ m. m.0.hand) (sym mid_is);
         lawful = told.goes_on.was_lawful;
       },

@@ -8,7 +8,7 @@ use Rattle.atomic_table.specs.Table.{Me}
 use Rattle.plan_model.specs.declared.geometry.Point.{Point}
 use Rattle.plan_model.proofs.OrderLaws.{cost_of-short}
 use Rattle.plan_words.specs.Plays.{Tells}
-use Rattle.plan_words.specs.States.{HasPairs, HasRoom, IsTied, first_of, turned}
+use Rattle.plan_words.specs.States.{HasPairs, HasRoom, IsTied, first_member, turned}
 use Rattle.plan_words.specs.declared.openings.Aim.{Aim}
 use Rattle.step_core.specs.LaterViews.{IsLawfulView}
 use Rattle.step_core.specs.ViewSteps.{claimed, finished_at, linked, linked_at, loaded, lowered, one_turn_more, pair_in_hand, place_in, saw, saw_at}
@@ -72,12 +72,12 @@ Keeps me member hand for_spots for_near waiting pairs =
 -- it keeps that after a step that leaves it so
 pub keeps_view :
     (me after : Me Aim View) (view : View) (member own : Option Member) (hand next : Option Hand) (for_spots for_near waiting : ℕ) (pairs now : List ℕ)
-    → Tells me view after → Keeps me member hand for_spots for_near waiting pairs → view.run ≡ me.0.run → own ≡ first_of view.crew → next ≡ view.hand
+    → Tells me view after → Keeps me member hand for_spots for_near waiting pairs → view.run ≡ me.0.run → own ≡ first_member view.crew → next ≡ view.hand
     → (HasPairs me.0 pairs → HasPairs view now) → Keeps after own next for_spots for_near waiting now
 keeps_view me after view member own hand next for_spots for_near waiting pairs now told (none, tied, room, has) run member_is hand_is pairs_then = (
   told.slots ∙ none,
   record {
-    member_is = member_is ∙ ap (λ v. first_of v.crew) (sym told.view_is);
+    member_is = member_is ∙ ap (λ v. first_member v.crew) (sym told.view_is);
     hand_is = hand_is ∙ ap (λ v. v.hand) (sym told.view_is);
     lawful = subst IsLawfulView (sym told.view_is) told.goes_on.lawful;
   },
@@ -111,7 +111,7 @@ pub keeps_hand :
     → view.hand ≡ Some next → ((n : ℕ) → sees view (TreeOf n) ≡ sees me.0 (TreeOf n)) → Keeps after member (Some next) for_spots for_near waiting pairs
 keeps_hand me after view member hand next for_spots for_near waiting pairs told kept run crew held seen =
     keeps_view me after view member member hand (Some next) for_spots for_near waiting pairs pairs told kept run
-    (kept.1.member_is ∙ ap first_of (sym crew)) (sym held) (HasPairs-kept me.0 view pairs run seen)
+    (kept.1.member_is ∙ ap first_member (sym crew)) (sym held) (HasPairs-kept me.0 view pairs run seen)
 
 -- a word that the list has after a step has its parent on the list
 pub keeps_parent :
@@ -138,7 +138,7 @@ HasPairs-finished view pairs k place x lawful low at_place has =
     HasPairs-kept (saw_at view place x x) (finished_at view place x) pairs refl (λ n. refl)
     (HasPairs-saw view (saw_at view place x x) pairs (RecordOf k) place x x lawful low at_place refl (λ n e. cc) has)
 
-pub turned-first : (crew : List Member) → turned (first_of crew) ≡ first_of (one_turn_more crew)
+pub turned-first : (crew : List Member) → turned (first_member crew) ≡ first_member (one_turn_more crew)
 turned-first [] = refl
 turned-first (member ∷ crew) = refl
 

@@ -4,7 +4,7 @@ use Rattle.std.proofs.Common.{◌∷◌, ◌++◌, Option, None, Some, append-ni
 use Rattle.std.specs.Prelude.{IfSome, option_to_list, slice_index, slice_set}
 use Rattle.std.proofs.lemmas.Bool.{cases_eq, cases_lt}
 use Rattle.std.proofs.lemmas.List.{get_or_append_left, get_or-set_other, get_or-set_same, length-append, length-set}
-use Rattle.plan_words.specs.Waiting.{AreMarked, IsOn, NoneMarked, count_marked, mark_at}
+use Rattle.plan_words.specs.Waiting.{AreMarked, IsOn, NoneMarked, count_marked, is_marked}
 
 -- ---- a list with one node more
 
@@ -59,7 +59,7 @@ shorter-popped before after (Some n) is = omega (arith, ap (λ l. length l) is, 
 -- ---- counting marks
 
 count-marked :
-    (marked : List Bool) (n : ℕ) → n < length marked → mark_at marked n ≡ false → count_marked (slice_set marked n true) ≡ suc (count_marked marked)
+    (marked : List Bool) (n : ℕ) → n < length marked → is_marked marked n ≡ false → count_marked (slice_set marked n true) ≡ suc (count_marked marked)
 count-marked [] n low free = absurd (omega arith)
 count-marked (true ∷ marked) zero low free = cc
 count-marked (false ∷ marked) zero low free = refl
@@ -67,7 +67,7 @@ count-marked (true ∷ marked) (suc n) low free = ap suc (count-marked marked n 
 count-marked (false ∷ marked) (suc n) low free = count-marked marked n (omega arith) free
 
 count-unmarked :
-    (marked : List Bool) (n : ℕ) → n < length marked → mark_at marked n ≡ true → count_marked marked ≡ suc (count_marked (slice_set marked n false))
+    (marked : List Bool) (n : ℕ) → n < length marked → is_marked marked n ≡ true → count_marked marked ≡ suc (count_marked (slice_set marked n false))
 count-unmarked [] n low on = absurd (omega arith)
 count-unmarked (true ∷ marked) zero low on = refl
 count-unmarked (false ∷ marked) zero low on = cc
@@ -80,15 +80,15 @@ count-within (true ∷ marked) = let rest = count-within marked in omega arith
 count-within (false ∷ marked) = let rest = count-within marked in omega arith
 
 -- who is marked has a mark
-marked-low : (marked : List Bool) (n : ℕ) → mark_at marked n ≡ true → n < length marked
+marked-low : (marked : List Bool) (n : ℕ) → is_marked marked n ≡ true → n < length marked
 marked-low [] n on = cc
 marked-low (mark ∷ marked) zero on = omega arith
 marked-low (mark ∷ marked) (suc n) on = let rest = marked-low marked n on in omega arith
 
-mark-set : (marked : List Bool) (n : ℕ) (b : Bool) → n < length marked → mark_at (slice_set marked n b) n ≡ b
+mark-set : (marked : List Bool) (n : ℕ) (b : Bool) → n < length marked → is_marked (slice_set marked n b) n ≡ b
 mark-set marked n b low = get_or-set_same marked n b false low
 
-mark-else : (marked : List Bool) (n m : ℕ) (b : Bool) → m ≢ n → mark_at (slice_set marked n b) m ≡ mark_at marked m
+mark-else : (marked : List Bool) (n m : ℕ) (b : Bool) → m ≢ n → is_marked (slice_set marked n b) m ≡ is_marked marked m
 mark-else marked n m b apart = get_or-set_other marked n m b false apart
 
 -- ---- coming and going
@@ -98,7 +98,7 @@ pub AreMarked-pop :
     (nodes : List ℕ) (marked : List Bool) (n : ℕ) → AreMarked (nodes ++ n ∷ []) marked → AreMarked nodes (slice_set marked n false) × (n < length marked)
 AreMarked-pop nodes marked n are =
     let last : length nodes < length (nodes ++ n ∷ []) = omega (arith, length-end nodes n) in
-    let on : mark_at marked n ≡ true = ap (mark_at marked) (sym (at-end nodes n)) ∙ are.each (length nodes) last in
+    let on : is_marked marked n ≡ true = ap (is_marked marked) (sym (at-end nodes n)) ∙ are.each (length nodes) last in
     let low = marked-low marked n on in
     let other : (i : ℕ) → i < length nodes → slice_index nodes i ≢ n = λ i here e.
     let same : i ≡ length nodes = are.once i (length nodes) (omega (arith, length-end nodes n, here)) last
@@ -106,10 +106,10 @@ AreMarked-pop nodes marked n are =
     absurd (omega (arith, same, here)) in (
       record {
         each = λ i here.
-            mark-else marked n (slice_index nodes i) false (other i here) ∙ ap (mark_at marked) (sym (at-front nodes n i here))
+            mark-else marked n (slice_index nodes i) false (other i here) ∙ ap (is_marked marked) (sym (at-front nodes n i here))
             ∙ are.each i (omega (arith, length-end nodes n, here));
         only = λ m marks. ⊎_elim
-            (λ (e : m ≡ n). absurd (let off = ap (mark_at (slice_set marked n false)) e ∙ mark-set marked n false low in cc))
+            (λ (e : m ≡ n). absurd (let off = ap (is_marked (slice_set marked n false)) e ∙ mark-set marked n false low in cc))
             (λ (apart : m ≢ n). ⊎_elim (λ (is_on : IsOn nodes m). is_on) (λ (e : m ≡ n). absurd (apart e))
             (IsOn-cases nodes n m (are.only m (sym (mark-else marked n m false apart) ∙ marks))))
             (cases_eq m n);
@@ -123,19 +123,19 @@ AreMarked-pop nodes marked n are =
 
 -- a node that is not marked comes on the list, and is marked; there is room for it
 pub AreMarked-push :
-    (nodes : List ℕ) (marked : List Bool) (n : ℕ) → AreMarked nodes marked → n < length marked → mark_at marked n ≡ false
+    (nodes : List ℕ) (marked : List Bool) (n : ℕ) → AreMarked nodes marked → n < length marked → is_marked marked n ≡ false
     → AreMarked (nodes ++ n ∷ []) (slice_set marked n true)
 AreMarked-push nodes marked n are low free =
     let other : (i : ℕ) → i < length nodes
-    → slice_index nodes i ≢ n = λ i here e. absurd (let on = sym (are.each i here) ∙ ap (mark_at marked) e ∙ free in cc) in
+    → slice_index nodes i ≢ n = λ i here e. absurd (let on = sym (are.each i here) ∙ ap (is_marked marked) e ∙ free in cc) in
     let end : (i : ℕ) → i < length (nodes ++ n ∷ []) → length nodes ≤ i → i ≡ length nodes = λ i here past. omega (arith, length-end nodes n, here, past) in
     let last : (i : ℕ) → i ≡ length nodes → slice_index (nodes ++ n ∷ []) i ≡ n = λ i e. ap (slice_index (nodes ++ n ∷ [])) e ∙ at-end nodes n in
     record {
       each = λ i here. ⊎_elim
           (λ (before : i < length nodes).
-          ap (mark_at (slice_set marked n true)) (at-front nodes n i before) ∙ mark-else marked n (slice_index nodes i) true (other i before)
+          ap (is_marked (slice_set marked n true)) (at-front nodes n i before) ∙ mark-else marked n (slice_index nodes i) true (other i before)
           ∙ are.each i before)
-          (λ (past : length nodes ≤ i). ap (mark_at (slice_set marked n true)) (last i (end i here past)) ∙ mark-set marked n true low)
+          (λ (past : length nodes ≤ i). ap (is_marked (slice_set marked n true)) (last i (end i here past)) ∙ mark-set marked n true low)
           (cases_lt i (length nodes));
       only = λ m marks. ⊎_elim
           (λ (e : m ≡ n). subst (IsOn (nodes ++ n ∷ [])) (sym e) (IsOn-end nodes n))
@@ -155,7 +155,7 @@ AreMarked-push nodes marked n are low free =
     }
 
 pub room-push :
-    (nodes : List ℕ) (marked : List Bool) (n : ℕ) → AreMarked nodes marked → n < length marked → mark_at marked n ≡ false → length nodes < length marked
+    (nodes : List ℕ) (marked : List Bool) (n : ℕ) → AreMarked nodes marked → n < length marked → is_marked marked n ≡ false → length nodes < length marked
 room-push nodes marked n are low free =
     omega (arith, are.count, count-marked marked n low free, count-within (slice_set marked n true), length-set marked n true)
 

@@ -8,7 +8,7 @@ use Rattle.std.proofs.lemmas.List.{length-replicate}
 use Rattle.std.proofs.lemmas.Option.{same_Some}
 use Rattle.plan_model.specs.declared.limits.TheConstants.{MOST_MARKS, MOST_WORKERS}
 use Rattle.plan_model.specs.declared.records.Record.{Record}
-use Rattle.plan_words.specs.States.{BelongsTo, GoesOn, HasRoom, IsTied, MayClaim, PassState, SharedState, first_of, turn_of, worker_of}
+use Rattle.plan_words.specs.States.{BelongsTo, GoesOn, HasRoom, IsTied, MayClaim, PassState, SharedState, first_member, turn_of, worker_of}
 use Rattle.step_core.specs.LaterViews.{IsLawfulView}
 use Rattle.step_core.specs.ViewSteps.{finished_at, looker, one_turn_more, parted, second_alone, stepped, without_second, worker_apart}
 use Rattle.step_core.specs.PlacesOfWords.{sizes_in}
@@ -45,26 +45,26 @@ HasMember-held view hand lawful held = by_crew view.crew refl
     by_crew (member ∷ crew) e = record { member = member; crew = crew; crew_is = e }
 
 -- whose turn is below the number of marks
-pub turn_fits : (view : View) (hand : Hand) (member : Option Member) → IsLawfulView view → view.hand ≡ Some hand → member ≡ first_of view.crew
+pub turn_fits : (view : View) (hand : Hand) (member : Option Member) → IsLawfulView view → view.hand ≡ Some hand → member ≡ first_member view.crew
     → IfSome member (λ worker. worker.turn < MOST_MARKS)
 turn_fits view hand member lawful held is =
     subst (λ o. IfSome o (λ worker. worker.turn < MOST_MARKS)) (sym is) (by_crew view.crew refl)
   where
-    by_crew : (crew : List Member) → view.crew ≡ crew → IfSome (first_of crew) (λ worker. worker.turn < MOST_MARKS)
+    by_crew : (crew : List Member) → view.crew ≡ crew → IfSome (first_member crew) (λ worker. worker.turn < MOST_MARKS)
     by_crew [] e = tt
     by_crew (worker ∷ crew) e = omega (arith, lawful.turn hand 0 worker held (ap (λ l. get_elem? l 0) e), lawful.run.marks)
 
 -- its worker and its turn are within their limits
-first_at : (member : Member) (crew : List Member) → Some member ≡ first_of crew → get_elem? crew 0 ≡ some member
+first_at : (member : Member) (crew : List Member) → Some member ≡ first_member crew → get_elem? crew 0 ≡ some member
 first_at member [] e = cc
 first_at member (worker ∷ crew) e = ap some (sym (same_Some member worker e))
 
 pub worker_few :
-    (view : View) (member : Member) → IsLawfulView view → Some member ≡ first_of view.crew → (member.worker < view.run.workers) × (member.worker < MOST_WORKERS)
+    (view : View) (member : Member) → IsLawfulView view → Some member ≡ first_member view.crew → (member.worker < view.run.workers) × (member.worker < MOST_WORKERS)
 worker_few view member lawful is =
     let low = lawful.worker 0 member (first_at member view.crew is) in (low, omega (arith, low, lawful.run.workers.1))
 
-pub turn_few : (view : View) (member : Member) → IsLawfulView view → Some member ≡ first_of view.crew → IsSome view.hand → member.turn < MOST_MARKS
+pub turn_few : (view : View) (member : Member) → IsLawfulView view → Some member ≡ first_member view.crew → IsSome view.hand → member.turn < MOST_MARKS
 turn_few view member lawful is held = by_hand view.hand refl
   where
     by_hand : (o : Option Hand) → view.hand ≡ o → member.turn < MOST_MARKS
@@ -209,7 +209,7 @@ pub HasRoom-kept :
 HasRoom-kept run own for_spots for_near waiting same room = subst (λ r. HasRoom r for_spots for_near waiting) (sym same) room
 
 -- the first of the crew stays
-first_stays : (crew : List Member) → first_of (without_second crew) ≡ first_of crew
+first_stays : (crew : List Member) → first_member (without_second crew) ≡ first_member crew
 first_stays [] = refl
 first_stays (member ∷ []) = refl
 first_stays (member ∷ second ∷ crew) = refl
@@ -263,7 +263,7 @@ two_at_least (mate ∷ second ∷ crew) member e = omega arith
 
 pub IsTied-apart : (view : View) (member : Member) → IsLawfulView view → second_alone view.crew ≡ member ∷ [] → IsTied (worker_apart view) (Some member) None
 IsTied-apart view member lawful second = record {
-  member_is = sym (ap first_of second);
+  member_is = sym (ap first_member second);
   hand_is = refl;
   lawful = record {
     run = lawful.run;

@@ -94,9 +94,9 @@ pub record IsTableOf (table : TableId) (key : Opening) (run : SharedRun) (places
 -- ---- what a pass keeps
 
 -- the worker that a pass works as, if it has a share
-abbrev pub first_of : List Member → Option Member
-first_of [] = None
-first_of (member ∷ crew) = Some member
+abbrev pub first_member : List Member → Option Member
+first_member [] = None
+first_member (member ∷ crew) = Some member
 
 -- the number of that worker, and its next turn
 abbrev pub worker_of : List Member → ℕ
@@ -114,7 +114,7 @@ turned (Some member) = Some (record member { turn = member.turn + 1 })
 
 -- what the pass keeps is what its view says, and the view is lawful
 pub record IsTied (view : View) (member : Option Member) (hand : Option Hand) : Type 0 where
-  pub member_is : member ≡ first_of view.crew
+  pub member_is : member ≡ first_member view.crew
   pub hand_is : hand ≡ view.hand
   pub lawful : IsLawfulView view
 

@@ -16,8 +16,8 @@ abbrev pub IsOn : List ℕ → ℕ → Type 0
 IsOn nodes n = SomeIndex nodes (λ i. slice_index nodes i ≡ n)
 
 -- the node is marked
-abbrev pub mark_at : List Bool → ℕ → Bool
-mark_at marked n = get_or marked n false
+abbrev pub is_marked : List Bool → ℕ → Bool
+is_marked marked n = get_or marked n false
 
 -- how many are marked
 abbrev pub count_marked : List Bool → ℕ
@@ -27,14 +27,14 @@ count_marked (false ∷ marked) = count_marked marked
 
 -- exactly the nodes on the list are marked, and each stands there once
 pub record AreMarked (nodes : List ℕ) (marked : List Bool) : Type 0 where
-  pub each : (i : ℕ) → i < length nodes → mark_at marked (slice_index nodes i) ≡ true
-  pub only : (n : ℕ) → mark_at marked n ≡ true → IsOn nodes n
+  pub each : (i : ℕ) → i < length nodes → is_marked marked (slice_index nodes i) ≡ true
+  pub only : (n : ℕ) → is_marked marked n ≡ true → IsOn nodes n
   pub once : (i j : ℕ) → i < length nodes → j < length nodes → slice_index nodes i ≡ slice_index nodes j → i ≡ j
   pub count : length nodes ≡ count_marked marked
 
 -- nobody is marked
 abbrev pub NoneMarked : List Bool → Type 0
-NoneMarked marked = (n : ℕ) → mark_at marked n ≡ false
+NoneMarked marked = (n : ℕ) → is_marked marked n ≡ false
 
 -- if the nodes wait, they are marked, and else no node is
 abbrev pub HasMarks : Bool → List ℕ → List Bool → Type 0

@@ -26,7 +26,7 @@ mod claims;
 mod ends;
 mod nodes;
 mod openings;
-mod parents;
+mod parent_steps;
 mod passes;
 mod rules;
 mod scratch;

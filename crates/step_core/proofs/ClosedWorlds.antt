@@ -42,7 +42,7 @@ use Rattle.step_core.proofs.LinkedStates.{linked-present, record-unplaced, recor
 use Rattle.step_core.proofs.PackedRecords.{record_word-again}
 use Rattle.step_core.proofs.ReadWords.{if_written-set}
 use Rattle.plan_model.proofs.SumsBelow.{sum-same}
-use Rattle.step_core.proofs.ViewLists.{greatest-one, greatest-most, sum-zero}
+use Rattle.step_core.proofs.ViewLists.{maximum-one, maximum-most, sum-zero}
 use Rattle.step_core.proofs.WholeShares.{is_recorded-whole, others_idle, others_shareless}
 use Rattle.step_core.proofs.WorldParts.{quota-up, record_word-none}
 
@@ -102,11 +102,11 @@ module _ (task : Task) (workers opening : ℕ) (words : Words) (views : List Vie
   last = view.most
 
   -- no other view binds the counters
-  greatest-whole : greatest_limit views ≡ last
-  greatest-whole =
-      let here = greatest-one limit_of views id view at in
+  maximum-whole : greatest_limit views ≡ last
+  maximum-whole =
+      let here = maximum-one limit_of views id view at in
       let own : limit_of view ≡ last = binds (share view == 0) refl in
-      let top = greatest-most limit_of views last others in
+      let top = maximum-most limit_of views last others in
       omega (arith, here, own, top)
     where
       binds : (b : Bool) → (share view == 0) ≡ b → cond b 0 view.most ≡ view.most
@@ -129,7 +129,7 @@ module _ (task : Task) (workers opening : ℕ) (words : Words) (views : List Vie
   claimed-whole : (g : ℕ) → g < task.scene.strips → words (Counter g) ≡ quota_of task.scene.strips g last
   claimed-whole g strip =
       let top = world.numbers.quotas g strip in
-      let same = ap (quota_of task.scene.strips g) greatest-whole in
+      let same = ap (quota_of task.scene.strips g) maximum-whole in
       omega (arith, top, same, full g strip, world.seen.behind id view at (Counter g), quota-up task.scene.strips g last limit strip most)
 
   -- so the marks below the limit are claimed, and recorded

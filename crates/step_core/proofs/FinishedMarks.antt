@@ -36,7 +36,7 @@ use Rattle.step_core.proofs.PlacedWords.{has_placed-record_word}
 use Rattle.step_core.proofs.SawWords.{AreBehind-saw, AreBehind-seen, AreBehind-write, HaveWholePairs-saw, IsFair-saw}
 use Rattle.step_core.proofs.SeenByViews.{IsViewOf-saw, WritesWord-saw}
 use Rattle.step_core.proofs.SeenTreesOfViews.{SeesTree-finished}
-use Rattle.step_core.proofs.ViewLists.{greatest-set}
+use Rattle.step_core.proofs.ViewLists.{maximum-set}
 use Rattle.step_core.proofs.WordKinds.{AreBehind-trans}
 use Rattle.step_core.proofs.WorldEmpties.{Empties-kept, last_zero-saw}
 use Rattle.step_core.proofs.WorldHands.{Hands-recorded}
@@ -125,7 +125,7 @@ module _ (run : SharedRun) (words after : Words) (views : List View) (id : ℕ) 
       let seen = AreBehind-seen (RecordOf k) x (sees view) (sees then) after saw_it writes.here behind in
       let numbers = ClaimedMarks-step run words after views id view then at world.numbers
       (quotas-kept run words after views (set views id then) world.numbers (λ g within. writes.others (Counter g) (λ e. cc))
-      (greatest-set limit_of views id view then at (limit_of-up view then same_share (le_refl view.most))))
+      (maximum-set limit_of views id view then at (limit_of-up view then same_share (le_refl view.most))))
       balance (world.numbers.limits id view at) packed in
       let links = LinkedTree-recorded run words after views id view then at world.numbers world.links hand held x placed reads linked counted writes refl in
       let grows = GrowsInto-behind run words after views (set views id then) world.numbers world.links numbers links world.trees go in

@@ -25,12 +25,12 @@ use Rattle.step_core.specs.WordNames.{Word, Words}
 use Rattle.step_core.specs.WordNames.Word.{ChildOf, TreeOf}
 use Rattle.step_core.specs.WordPlaces.{place_of}
 use Rattle.step_core.specs.Words.{cost_in}
-use Rattle.step_core.specs.Worlds.{IsTold, IsWorld, greatest, noted, noted_by, noted_in}
+use Rattle.step_core.specs.Worlds.{IsTold, IsWorld, maximum, noted, noted_by, noted_in}
 use Rattle.step_core.specs.declared.views.SharedRun.{SharedRun}
 use Rattle.step_core.specs.declared.views.View.{View}
 use Rattle.step_core.proofs.LawfulSights.{IsTrueOf-seen}
 use Rattle.step_core.proofs.LinkedStates.{GrowsInto-behind, unlinked-childless}
-use Rattle.step_core.proofs.ViewLists.{at-set, at-set_other, each-set, greatest-most, greatest-one}
+use Rattle.step_core.proofs.ViewLists.{at-set, at-set_other, each-set, maximum-most, maximum-one}
 use Rattle.step_core.proofs.WordKinds.{MayBecome-trans}
 use Rattle.step_core.proofs.SeenByViews.{WritesWord-zero}
 use Rattle.step_core.proofs.WorldSteps.{follow, live, tree}
@@ -82,9 +82,9 @@ module _ (run : SharedRun) (words after : Words) (views : List View) (id : ℕ) 
 
       no_more : noted (set views id then) place id ≤ noted views place id
       no_more =
-          greatest-most (noted_by place id) (set views id then) (noted views place id)
-          (each-set views id then (λ u. noted_by place id u ≤ noted views place id) (λ j u apart e. greatest-one (noted_by place id) views j u e)
-          (omega (arith, ap (λ l. greatest (map (noted_in place id) l)) fills, greatest-one (noted_by place id) views id view at)))
+          maximum-most (noted_by place id) (set views id then) (noted views place id)
+          (each-set views id then (λ u. noted_by place id u ≤ noted views place id) (λ j u apart e. maximum-one (noted_by place id) views j u e)
+          (omega (arith, ap (λ l. maximum (map (noted_in place id) l)) fills, maximum-one (noted_by place id) views id view at)))
 
       made : (noted views place id ≡ 0) ⊎ ((u : View) × (get_elem? views id ≡ some u) × (u.run ≡ run → noted views place id ≤ u.steps))
           → noted views place id ≤ view.steps

@@ -18,7 +18,7 @@ use Rattle.step_core.specs.WordNames.Word.{Counter}
 use Rattle.step_core.specs.Worlds.{ClaimedMarks, counters, greatest_limit, holders, is_recorded, limit_of}
 use Rattle.step_core.specs.declared.views.SharedRun.{SharedRun}
 use Rattle.step_core.specs.declared.views.View.{View}
-use Rattle.step_core.proofs.ViewLists.{greatest-most, sum-one}
+use Rattle.step_core.proofs.ViewLists.{maximum-most, sum-one}
 
 -- ---- 0 or 1
 
@@ -72,7 +72,7 @@ limit_of-most view = by_test (share view == 0)
 
 module _ (run : SharedRun) (words : Words) (views : List View) (some_strip : 0 < run.strips) (numbers : ClaimedMarks run words views) where
   pub greatest_limit-most : greatest_limit views ≤ length run.marks
-  greatest_limit-most = greatest-most limit_of views (length run.marks) (λ i view e. omega (arith, limit_of-most view, numbers.limits i view e))
+  greatest_limit-most = maximum-most limit_of views (length run.marks) (λ i view e. omega (arith, limit_of-most view, numbers.limits i view e))
 
   -- a mark below its strip's counter is below the greatest limit
   pub claimed-below : (k : ℕ) → is_claimed run.strips (counters words) k ≡ true → k < greatest_limit views

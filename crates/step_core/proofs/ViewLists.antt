@@ -4,7 +4,7 @@ use Rattle.std.specs.List.{sum_by}
 use Rattle.std.proofs.lemmas.List.Sums.{sum_by-cons}
 use mathlib.Core.Option.{some, some-ne-none, some-injective}
 use lib.ListN.{get_elem?}
-use Rattle.step_core.specs.Worlds.{EachView, greatest}
+use Rattle.step_core.specs.Worlds.{EachView, maximum}
 use Rattle.step_core.specs.declared.views.View.{View}
 
 module _ {A : Type 0} where
@@ -87,26 +87,26 @@ module _ {A : Type 0} where
 
   -- ---- the greatest
 
-  pub greatest-one : (f : A → ℕ) (l : List A) (i : ℕ) (a : A) → get_elem? l i ≡ some a → f a ≤ greatest (map f l)
-  greatest-one f [] i a e = absurd (some-ne-none a (sym e))
-  greatest-one f (x ∷ l) zero a e = let same : x ≡ a = some-injective x a e in omega (arith, ap f same)
-  greatest-one f (x ∷ l) (suc i) a e = omega (arith, greatest-one f l i a e)
+  pub maximum-one : (f : A → ℕ) (l : List A) (i : ℕ) (a : A) → get_elem? l i ≡ some a → f a ≤ maximum (map f l)
+  maximum-one f [] i a e = absurd (some-ne-none a (sym e))
+  maximum-one f (x ∷ l) zero a e = let same : x ≡ a = some-injective x a e in omega (arith, ap f same)
+  maximum-one f (x ∷ l) (suc i) a e = omega (arith, maximum-one f l i a e)
 
   -- it does not fall if one element does not
-  pub greatest-set :
-      (f : A → ℕ) (l : List A) (i : ℕ) (a b : A) → get_elem? l i ≡ some a → f a ≤ f b → greatest (map f l) ≤ greatest (map f (set l i b))
-  greatest-set f [] i a b e h = absurd (some-ne-none a (sym e))
-  greatest-set f (x ∷ l) zero a b e h = let same : x ≡ a = some-injective x a e in omega (arith, ap f same, h)
-  greatest-set f (x ∷ l) (suc i) a b e h = omega (arith, greatest-set f l i a b e h)
+  pub maximum-set :
+      (f : A → ℕ) (l : List A) (i : ℕ) (a b : A) → get_elem? l i ≡ some a → f a ≤ f b → maximum (map f l) ≤ maximum (map f (set l i b))
+  maximum-set f [] i a b e h = absurd (some-ne-none a (sym e))
+  maximum-set f (x ∷ l) zero a b e h = let same : x ≡ a = some-injective x a e in omega (arith, ap f same, h)
+  maximum-set f (x ∷ l) (suc i) a b e h = omega (arith, maximum-set f l i a b e h)
 
-  pub greatest-push : (f : A → ℕ) (l : List A) (b : A) → greatest (map f l) ≤ greatest (map f (l ++ b ∷ []))
-  greatest-push f [] b = omega arith
-  greatest-push f (x ∷ l) b = omega (arith, greatest-push f l b)
+  pub maximum-push : (f : A → ℕ) (l : List A) (b : A) → maximum (map f l) ≤ maximum (map f (l ++ b ∷ []))
+  maximum-push f [] b = omega arith
+  maximum-push f (x ∷ l) b = omega (arith, maximum-push f l b)
 
   -- it is at most what each is at most
-  pub greatest-most : (f : A → ℕ) (l : List A) (n : ℕ) → ((i : ℕ) (a : A) → get_elem? l i ≡ some a → f a ≤ n) → greatest (map f l) ≤ n
-  greatest-most f [] n h = omega arith
-  greatest-most f (x ∷ l) n h = omega (arith, h 0 x refl, greatest-most f l n (λ i. h (suc i)))
+  pub maximum-most : (f : A → ℕ) (l : List A) (n : ℕ) → ((i : ℕ) (a : A) → get_elem? l i ≡ some a → f a ≤ n) → maximum (map f l) ≤ n
+  maximum-most f [] n h = omega arith
+  maximum-most f (x ∷ l) n h = omega (arith, h 0 x refl, maximum-most f l n (λ i. h (suc i)))
 
 -- ---- each view
 

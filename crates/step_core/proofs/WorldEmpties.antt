@@ -10,14 +10,14 @@ use Rattle.step_core.specs.Views.{IsViewOf, last_zero, no_run, run_sizes, spent}
 use Rattle.step_core.specs.WordNames.{Word, Words, WritesWord}
 use Rattle.step_core.specs.WordNames.Word.{ChildOf}
 use Rattle.step_core.specs.WordPlaces.{HasWord, Sizes, has_word, place_of, word_at}
-use Rattle.step_core.specs.Worlds.{EachView, Empties, HasMade, greatest, noted, noted_by, noted_in}
+use Rattle.step_core.specs.Worlds.{EachView, Empties, HasMade, maximum, noted, noted_by, noted_in}
 use Rattle.step_core.specs.declared.views.Fill.{Fill}
 use Rattle.step_core.specs.declared.views.SharedRun.{SharedRun}
 use Rattle.step_core.specs.declared.views.View.{View}
 use Rattle.step_core.proofs.Looks.{same_name}
 use Rattle.step_core.proofs.SeenByViews.{WritesWord-zero, last_zero-other}
 use Rattle.step_core.proofs.ViewLists.{at-after_push, at-after_set, at-push, at-set, at-set_other, each-push, each-set}
-use Rattle.step_core.proofs.ViewLists.{greatest-most, greatest-one, greatest-push, greatest-set}
+use Rattle.step_core.proofs.ViewLists.{maximum-most, maximum-one, maximum-push, maximum-set}
 
 -- ---- tables of 0
 
@@ -66,15 +66,15 @@ HasMade-max run views i a b (inr (u, there, most)) (inr (v, also, most_too)) =
 -- ---- what a fill notes
 
 -- a list of fills says what the greater of its parts says
-greatest-append : (f : Fill → ℕ) (one other : List Fill) → greatest (map f (one ++ other)) ≡ max (greatest (map f one)) (greatest (map f other))
-greatest-append f [] other = omega arith
-greatest-append f (x ∷ one) other = omega (arith, greatest-append f one other)
+maximum-append : (f : Fill → ℕ) (one other : List Fill) → maximum (map f (one ++ other)) ≡ max (maximum (map f one)) (maximum (map f other))
+maximum-append f [] other = omega arith
+maximum-append f (x ∷ one) other = omega (arith, maximum-append f one other)
 
 pub noted_by-joined :
     (place i : ℕ) (view other both : View) → both.fills ≡ view.fills ++ other.fills → noted_by place i both ≡ max (noted_by place i view)
     (noted_by place i other)
 noted_by-joined place i view other both fills =
-    ap (λ l. greatest (map (noted_in place i) l)) fills ∙ greatest-append (noted_in place i) view.fills other.fills
+    ap (λ l. maximum (map (noted_in place i) l)) fills ∙ maximum-append (noted_in place i) view.fills other.fills
 
 noted_in-most : (place i : ℕ) (fill : Fill) → noted_in place i fill ≤ slice_index fill.steps i
 noted_in-most place i fill = by_test (fill.place == place)
@@ -146,16 +146,16 @@ module _ (run : SharedRun) (before after : Words) (views : List View) (id : ℕ)
   }
     where
       same_notes : (place i : ℕ) → noted_by place i then ≡ noted_by place i view
-      same_notes place i = ap (λ l. greatest (map (noted_in place i) l)) fills
+      same_notes place i = ap (λ l. maximum (map (noted_in place i) l)) fills
 
       no_less : (place i : ℕ) → noted views place i ≤ noted later place i
-      no_less place i = greatest-set (noted_by place i) views id view then at (omega (arith, same_notes place i))
+      no_less place i = maximum-set (noted_by place i) views id view then at (omega (arith, same_notes place i))
 
       no_more : (place i : ℕ) → noted later place i ≤ noted views place i
       no_more place i =
-          greatest-most (noted_by place i) later (noted views place i)
-          (each-set views id then (λ u. noted_by place i u ≤ noted views place i) (λ j u apart e. greatest-one (noted_by place i) views j u e)
-          (omega (arith, same_notes place i, greatest-one (noted_by place i) views id view at)))
+          maximum-most (noted_by place i) later (noted views place i)
+          (each-set views id then (λ u. noted_by place i u ≤ noted views place i) (λ j u apart e. maximum-one (noted_by place i) views j u e)
+          (omega (arith, same_notes place i, maximum-one (noted_by place i) views id view at)))
 
   -- one that writes no child word, and finds none empty
   pub Empties-kept :
@@ -205,17 +205,17 @@ module _ (run : SharedRun) (before after : Words) (views : List View) (id : ℕ)
       new = record { place = own_place; steps = now }
 
       with_new : (place i : ℕ) → noted_by place i then ≡ max (noted_in place i new) (noted_by place i view)
-      with_new place i = ap (λ l. greatest (map (noted_in place i) l)) fills
+      with_new place i = ap (λ l. maximum (map (noted_in place i) l)) fills
 
       no_less : (place i : ℕ) → noted views place i ≤ noted later place i
-      no_less place i = greatest-set (noted_by place i) views id view then at (omega (arith, with_new place i))
+      no_less place i = maximum-set (noted_by place i) views id view then at (omega (arith, with_new place i))
 
       no_more : (place i : ℕ) → noted later place i ≤ max (noted views place i) (slice_index now i)
       no_more place i =
-          greatest-most (noted_by place i) later (max (noted views place i) (slice_index now i))
+          maximum-most (noted_by place i) later (max (noted views place i) (slice_index now i))
           (each-set views id then (λ u. noted_by place i u ≤ max (noted views place i) (slice_index now i))
-          (λ j u apart e. omega (arith, greatest-one (noted_by place i) views j u e))
-          (omega (arith, with_new place i, noted_in-most place i new, greatest-one (noted_by place i) views id view at)))
+          (λ j u apart e. omega (arith, maximum-one (noted_by place i) views j u e))
+          (omega (arith, with_new place i, noted_in-most place i new, maximum-one (noted_by place i) views id view at)))
 
       -- a view has made so many steps then
       steps_now : (i : ℕ) (u : View) → get_elem? later i ≡ some u → slice_index now i ≡ u.steps
@@ -251,7 +251,7 @@ module _ (run : SharedRun) (before after : Words) (views : List View) (id : ℕ)
 
       notes_now : (i : ℕ) → slice_index now i ≤ noted later own_place i
       notes_now i =
-          omega (arith, noted_in-own own_place i new refl, with_new own_place i, greatest-one (noted_by own_place i) later id then here)
+          omega (arith, noted_in-own own_place i new refl, with_new own_place i, maximum-one (noted_by own_place i) later id then here)
 
 -- ---- a split
 
@@ -267,7 +267,7 @@ Empties-push run words views right empties notes zero_looks = record {
             omega (
               arith,
               empties.filled n side some_child i u there,
-              greatest-push (noted_by (place_of (run_sizes run) (ChildOf n side)) i) views right,
+              maximum-push (noted_by (place_of (run_sizes run) (ChildOf n side)) i) views right,
             )
         | inr same ↦ omega (arith, ap (λ v. last_zero v (ChildOf n side)) same, zero_looks (ChildOf n side))
       ];
@@ -275,8 +275,8 @@ Empties-push run words views right empties notes zero_looks = record {
   where
     no_more : (place i : ℕ) → noted (views ++ right ∷ []) place i ≤ noted views place i
     no_more place i =
-        greatest-most (noted_by place i) (views ++ right ∷ []) (noted views place i)
-        (each-push views right (λ u. noted_by place i u ≤ noted views place i) (λ j u e. greatest-one (noted_by place i) views j u e) (notes place i))
+        maximum-most (noted_by place i) (views ++ right ∷ []) (noted views place i)
+        (each-push views right (λ u. noted_by place i u ≤ noted views place i) (λ j u e. maximum-one (noted_by place i) views j u e) (notes place i))
 
     pushed : (place i : ℕ) → HasMade run (views ++ right ∷ []) i (noted views place i)
     pushed place i =
@@ -329,16 +329,16 @@ Empties-joined run words views id view j other both empties at was apart there l
 
     no_more : (place i : ℕ) → noted last place i ≤ noted views place i
     no_more place i =
-        greatest-most (noted_by place i) last (noted views place i)
+        maximum-most (noted_by place i) last (noted views place i)
         (each-set middle j spent (λ u. noted_by place i u ≤ noted views place i)
-        (λ k u off e. each-set views id both (λ v. noted_by place i v ≤ noted views place i) (λ m v off_too f. greatest-one (noted_by place i) views m v f)
-        (omega (arith, together place i, greatest-one (noted_by place i) views id view at, greatest-one (noted_by place i) views j other was)) k u e)
+        (λ k u off e. each-set views id both (λ v. noted_by place i v ≤ noted views place i) (λ m v off_too f. maximum-one (noted_by place i) views m v f)
+        (omega (arith, together place i, maximum-one (noted_by place i) views id view at, maximum-one (noted_by place i) views j other was)) k u e)
         (omega arith))
 
     no_less : (place i : ℕ) → noted views place i ≤ noted last place i
     no_less place i =
-        greatest-most (noted_by place i) views (noted last place i) (λ k u e.
-        let top = greatest-one (noted_by place i) last id both here in
+        maximum-most (noted_by place i) views (noted last place i) (λ k u e.
+        let top = maximum-one (noted_by place i) last id both here in
         elim (cases_eq k id) [
           | inl same ↦ (
               let is : u ≡ view = some-injective u view (sym e ∙ ap (get_elem? views) same ∙ at) in
@@ -347,7 +347,7 @@ Empties-joined run words views id view j other both empties at was apart there l
             | inl same ↦ (
                 let is : u ≡ other = some-injective u other (sym e ∙ ap (get_elem? views) same ∙ was) in
                 omega (arith, ap (noted_by place i) is, together place i, top))
-            | inr off_too ↦ greatest-one (noted_by place i) last k u (at-set_other middle j k spent off_too ∙ at-set_other views id k both off ∙ e)
+            | inr off_too ↦ maximum-one (noted_by place i) last k u (at-set_other middle j k spent off_too ∙ at-set_other views id k both off ∙ e)
           ]
         ])
 

@@ -25,7 +25,7 @@ use Rattle.step_core.specs.declared.views.SharedRun.{SharedRun}
 use Rattle.step_core.specs.declared.views.Stage.{Stage}
 use Rattle.step_core.specs.declared.views.View.{View}
 use Rattle.step_core.proofs.LaterWords.{IsWholePair-later, MayBecome-later, MayBecome-other_to_later, MayBecome-to_later, length-merged, word_at-merged}
-use Rattle.step_core.proofs.ViewLists.{at-set, at-set_other, each-set, greatest-most, greatest-one, sum-set}
+use Rattle.step_core.proofs.ViewLists.{at-set, at-set_other, each-set, maximum-most, maximum-one, sum-set}
 use Rattle.step_core.proofs.SeenTreesTogether.{SeesTree-joined}
 use Rattle.step_core.proofs.WorldCopies.{same-later}
 use Rattle.step_core.proofs.WorldEmpties.{Empties-joined, zero-read}
@@ -200,8 +200,8 @@ module _ (run : SharedRun) (words : Words) (views : List View) (id : ℕ) (view 
         }
 
     all_limits : greatest_limit views ≤ greatest_limit after
-    all_limits = greatest-most limit_of views (greatest_limit after) (λ i u e.
-        let top = greatest-one limit_of after id both here in
+    all_limits = maximum-most limit_of views (greatest_limit after) (λ i u e.
+        let top = maximum-one limit_of after id both here in
         elim (cases_eq i id) [
           | inl same ↦ (
               let is : u ≡ view = some-injective u view (sym e ∙ ap (get_elem? views) same ∙ at) in
@@ -210,7 +210,7 @@ module _ (run : SharedRun) (words : Words) (views : List View) (id : ℕ) (view 
             | inl same ↦ (
                 let is : u ≡ other = some-injective u other (sym e ∙ ap (get_elem? views) same ∙ was) in
                 omega (arith, ap limit_of is, limit_of-joined view other, top))
-            | inr off_too ↦ greatest-one limit_of after i u (at-set_other middle j i spent off_too ∙ at-set_other views id i both off ∙ e)
+            | inr off_too ↦ maximum-one limit_of after i u (at-set_other middle j i spent off_too ∙ at-set_other views id i both off ∙ e)
           ]
         ])
 

@@ -43,7 +43,7 @@ use Rattle.step_core.proofs.Looks.{same_name}
 use Rattle.step_core.proofs.PackedWords.{point_of_word-packed}
 use Rattle.step_core.proofs.SawWords.{AreBehind-write}
 use Rattle.step_core.proofs.SeenTreesOfViews.{SeesTree-counted, SeesTree-half, SeesTree-linked, SeesTree-pointed, SeesTree-treed}
-use Rattle.step_core.proofs.ViewLists.{greatest-set}
+use Rattle.step_core.proofs.ViewLists.{maximum-set}
 use Rattle.step_core.proofs.WordKinds.{AreBehind-refl, AreBehind-trans}
 use Rattle.step_core.proofs.WorldCopies.{Copies-linked, Copies-untold}
 use Rattle.step_core.proofs.WorldEmpties.{Empties-kept, Empties-linked}
@@ -79,7 +79,7 @@ module _ (run : SharedRun) (words after : Words) (views : List View) (id : ℕ) 
   numbers_kept =
       ClaimedMarks-step run words after views id view then at world.numbers
       (quotas-kept run words after views (set views id then) world.numbers (λ g within. keeps.counters g)
-      (greatest-set limit_of views id view then at (limit_of-up view then (ap (λ l. length l) keeps.crew) (omega (arith, keeps.most)))))
+      (maximum-set limit_of views id view then at (limit_of-up view then (ap (λ l. length l) keeps.crew) (omega (arith, keeps.most)))))
       (λ k. omega (arith, ap once_if (is_recorded-kept words after keeps.records k), ap once_if (keeps.holds k), claims k))
       (omega (arith, keeps.most, world.numbers.limits id view at)) (packed-kept words after keeps.records world.numbers.packed)
     where

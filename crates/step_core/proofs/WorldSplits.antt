@@ -17,14 +17,14 @@ use Rattle.step_core.specs.WordKinds.{AreBehind, HaveWholePairs}
 use Rattle.step_core.specs.WordNames.{Word, Words}
 use Rattle.step_core.specs.WordNames.Word.{ChildOf, RecordOf, TreeOf}
 use Rattle.step_core.specs.Words.{tree_of_word}
-use Rattle.step_core.specs.Worlds.{Agree, EachView, IsMember, IsWorld, greatest, hands_at, limit_of, noted_by, noted_in, state_in}
+use Rattle.step_core.specs.Worlds.{Agree, EachView, IsMember, IsWorld, maximum, hands_at, limit_of, noted_by, noted_in, state_in}
 use Rattle.step_core.specs.declared.views.Member.{Member}
 use Rattle.step_core.specs.declared.views.SharedRun.{SharedRun}
 use Rattle.step_core.specs.declared.views.Stage.{Stage}
 use Rattle.step_core.specs.declared.views.View.{View}
 use Rattle.step_core.proofs.FinishedTurns.{times-cons}
 use Rattle.step_core.proofs.SeenTreesOfViews.{SeesTree-apart, SeesTree-looker, SeesTree-parted, SeesTree-stepped}
-use Rattle.step_core.proofs.ViewLists.{at-set, each-push, each-set, greatest-one, greatest-push, greatest-set, sum-set}
+use Rattle.step_core.proofs.ViewLists.{at-set, each-push, each-set, maximum-one, maximum-push, maximum-set, sum-set}
 use Rattle.step_core.proofs.WordKinds.{AreBehind-refl}
 use Rattle.step_core.proofs.WorldCopies.{Copies-push, Copies-step}
 use Rattle.step_core.proofs.WorldEmpties.{Empties-push, Empties-step, zero-read}
@@ -126,7 +126,7 @@ module _ (run : SharedRun) (words : Words) (views : List View) (id : ℕ) (view 
             (inr (IsViewOf-same run view right cut.tables_right of_run));
         numbers = record {
           quotas = quotas-kept run words words views (rest ++ right ∷ []) world.numbers (λ g within. refl)
-              (le_trans (greatest-set limit_of views id view left at (limit_of-stays view left right cut)) (greatest-push limit_of rest right));
+              (le_trans (maximum-set limit_of views id view left at (limit_of-stays view left right cut)) (maximum-push limit_of rest right));
           each_once = λ k. omega (
             arith,
             world.numbers.each_once k,
@@ -223,8 +223,8 @@ module _ (run : SharedRun) (words : Words) (views : List View) (id : ℕ) (view 
             (λ n side some_child. (some_child, cut.tables_left.zero_looks (ChildOf n side))))
             (λ place i. omega (
               arith,
-              ap (λ l. greatest (map (noted_in place i) l)) (cut.tables_right.fills ∙ sym cut.tables_left.fills),
-              greatest-one (noted_by place i) rest id left (at-set views id view left at),
+              ap (λ l. maximum (map (noted_in place i) l)) (cut.tables_right.fills ∙ sym cut.tables_left.fills),
+              maximum-one (noted_by place i) rest id left (at-set views id view left at),
             ))
             cut.none_right;
       }

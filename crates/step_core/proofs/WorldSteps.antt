@@ -33,7 +33,7 @@ use Rattle.step_core.proofs.MarksInHand.{once_if-claimed}
 use Rattle.step_core.proofs.SawWords.{AreBehind-saw, AreBehind-seen, AreBehind-write, HaveWholePairs-saw, IsFair-saw, same-saw}
 use Rattle.step_core.proofs.SeenByViews.{IsViewOf-saw, WritesWord-saw}
 use Rattle.step_core.proofs.SeenTreesOfViews.{SeesTree-claimed, SeesTree-loaded}
-use Rattle.step_core.proofs.ViewLists.{at-set, each-set, greatest-one, greatest-set}
+use Rattle.step_core.proofs.ViewLists.{at-set, each-set, maximum-one, maximum-set}
 use Rattle.step_core.proofs.WordKinds.{AreBehind-refl, AreBehind-trans}
 use Rattle.step_core.proofs.WorldCopies.{Copies-seen, Copies-step}
 use Rattle.step_core.proofs.WorldEmpties.{Empties-kept, Empties-step, last_zero-saw}
@@ -104,7 +104,7 @@ module _ (run : SharedRun) (words : Words) (views : List View) (id : ℕ) (view 
         of_run = of_run-step run views id then world.of_run (IsViewOf-saw run view live name here x x);
         numbers = ClaimedMarks-step run words words views id view then at world.numbers
             (quotas-kept run words words views (set views id then) world.numbers (λ g within. refl)
-            (greatest-set limit_of views id view then at (limit_of-up view then refl (le_refl view.most))))
+            (maximum-set limit_of views id view then at (limit_of-up view then refl (le_refl view.most))))
             (λ k. refl) (world.numbers.limits id view at) world.numbers.packed;
         turns = Turns-step run words words views id view then at world.turns (λ k. refl) refl
             (λ k. same-saw name x (sees view) (sees then) words writes refl behind (RecordOf k));
@@ -150,10 +150,10 @@ module _ (run : SharedRun) (words : Words) (views : List View) (id : ℕ) (view 
     records k = counts.others (RecordOf k) (λ e. cc)
 
     up : greatest_limit views ≤ greatest_limit (set views id then)
-    up = greatest-set limit_of views id view then at (limit_of-up view then refl (omega arith))
+    up = maximum-set limit_of views id view then at (limit_of-up view then refl (omega arith))
 
     binds : limit ≤ greatest_limit (set views id then)
-    binds = le_trans (by_test (share view == 0) refl) (greatest-one limit_of (set views id then) id then (at-set views id view then at))
+    binds = le_trans (by_test (share view == 0) refl) (maximum-one limit_of (set views id then) id then (at-set views id view then at))
       where
         by_test : (b : Bool) → (share view == 0) ≡ b → limit ≤ cond b 0 (max view.most limit)
         by_test true e = absurd (omega (arith, eqb-true (share view) 0 e, part))

@@ -78,8 +78,8 @@ abbrev pub pair_in_hand : Hand → ℕ
 pair_in_hand hand = tree_word hand.parent hand.cost
 
 -- seen words, with those that the hand has written for its node
-abbrev pub with_node : SharedRun → Hand → List ℕ → List ℕ
-with_node run hand seen =
+abbrev pub with_node_words : SharedRun → Hand → List ℕ → List ℕ
+with_node_words run hand seen =
     let at : Word → ℕ = place_of (run_sizes run) in
     let node : ℕ = suc hand.mark in
     slice_set (slice_set (slice_set seen (at (PointOf node)) (point_word hand.point)) (at (TreeOf node)) (pair_in_hand hand)) (at (FirstOf node))
@@ -99,7 +99,7 @@ abbrev pub linked_at : View → Hand → ℕ → List ℕ → View
 linked_at view hand place steps =
     let shown = saw_at view place 0 (suc hand.mark) in
     record shown {
-      seen = with_node view.run hand shown.seen;
+      seen = with_node_words view.run hand shown.seen;
       hand = Some (record hand { stage = Linked });
       fills = record { place = place; steps = steps } ∷ view.fills;
     }

@@ -45,9 +45,9 @@ abbrev pub holders : ℕ → List View → ℕ
 holders k views = sum_by (λ view. once_if (holds k view.hand)) views
 
 -- the greatest of these numbers
-abbrev pub greatest : List ℕ → ℕ
-greatest [] = 0
-greatest (n ∷ rest) = max n (greatest rest)
+abbrev pub maximum : List ℕ → ℕ
+maximum [] = 0
+maximum (n ∷ rest) = max n (maximum rest)
 
 -- the limit up to which a view lets counters rise; 0 without a share
 abbrev pub limit_of : View → ℕ
@@ -55,7 +55,7 @@ limit_of view = if share view == 0 then 0 else view.most
 
 -- the greatest limit that a view with a share has used
 abbrev pub greatest_limit : List View → ℕ
-greatest_limit views = greatest (map limit_of views)
+greatest_limit views = maximum (map limit_of views)
 
 -- ---- claimed marks
 
@@ -227,10 +227,10 @@ noted_in place i fill = if fill.place == place then slice_index fill.steps i els
 
 -- by the fills that one view notes, and by those of all views; 0 if there is none
 abbrev pub noted_by : ℕ → ℕ → View → ℕ
-noted_by place i view = greatest (map (noted_in place i) view.fills)
+noted_by place i view = maximum (map (noted_in place i) view.fills)
 
 abbrev pub noted : List View → ℕ → ℕ → ℕ
-noted views place i = greatest (map (noted_by place i) views)
+noted views place i = maximum (map (noted_by place i) views)
 
 -- The view at index i has made so many steps. A spent view says nothing of the steps that it had made.
 abbrev pub HasMade : SharedRun → List View → ℕ → ℕ → Type 0

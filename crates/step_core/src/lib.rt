@@ -25,7 +25,7 @@ mod kd_links;
 mod kd_sides;
 mod kd_trees;
 mod kd_walks;
-mod laws;
+mod word_laws;
 mod layout;
 mod measured_nodes;
 mod node_writes;

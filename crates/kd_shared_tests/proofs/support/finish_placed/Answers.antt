@@ -2,7 +2,7 @@ use Rattle.std.proofs.Common.{◌≡◌, ◌+◌, ◌∙◌, ap, arith, refl, sy
 use Rattle.plan_model.specs.Geometry.Radius.{class_of}
 use Rattle.step_core.specs.Stages.{has_link}
 use Rattle.step_core.specs.WordNames.Word.{RecordOf}
-use Rattle.kd_shared_tests.proofs.SteeredMarks.{HangsBelow-kept}
+use Rattle.kd_shared_tests.proofs.SteeredMarks.{HangsBelowNearest-kept}
 use Rattle.kd_shared_tests.proofs.SteeredRecords.{may_finish-placed}
 use Rattle.kd_shared_tests.proofs.support.finish_placed.Goals as goal
 
@@ -12,7 +12,7 @@ finish-requires-clause-may c =
     let view = c.number-nodes.new.pass.view in
     let step = c.number-nodes.ensures in
     let hangs =
-    HangsBelow-kept c.args.pass.now.view view step.goes_on.later holds.belongs.lawful (λ k. step.seen.others (RecordOf k) (λ e. cc)) c.args.closest c.args.cost
+    HangsBelowNearest-kept c.args.pass.now.view view step.goes_on.later holds.belongs.lawful (λ k. step.seen.others (RecordOf k) (λ e. cc)) c.args.closest c.args.cost
     c.requires.hangs (ap (λ p. p.view.hand) step.view) in
     let held = ap (λ p. p.view.hand) step.view ∙ holds.held in
     let same : holds.hand ≡ hangs.steers.hand = cc (held, hangs.steers.held) in

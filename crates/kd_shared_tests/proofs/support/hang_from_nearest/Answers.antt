@@ -10,7 +10,7 @@ use Rattle.step_core.specs.Views.{sees}
 use Rattle.step_core.specs.WordNames.Word.{RecordOf}
 use Rattle.step_core.specs.declared.views.Stage.TheVariants.{Half}
 use Rattle.step_core.proofs.SeenViews.{SeesPoint-later}
-use Rattle.kd_shared_tests.proofs.SteeredMarks.{HangsBelow-hung, MayHang-steered, SteersFrom-looked, sees_nearest}
+use Rattle.kd_shared_tests.proofs.SteeredMarks.{HangsBelowNearest-hung, MayHang-steered, SteersFrom-looked, sees_nearest}
 use Rattle.kd_shared_tests.proofs.support.hang_from_nearest.Goals as goal
 
 pub point-from-requires-clause-seen_node : goal.point-from-requires-clause-seen_node
@@ -68,6 +68,6 @@ returns-clause-hangs c =
     (λ hand. c.write_tree.new.pass
     ≡ with_view old (treed (half old.view hand c.args.closest through) (record hand { stage = Half; parent = c.args.closest; cost = through })))
     _ steers.hand steers.held c.write_tree.ensures.view in
-    HangsBelow-hung old.view c.write_tree.new.pass.view c.write_tree.ensures.goes_on.later pair.goes_on.lawful (λ k. ap (λ p. sees p.view (RecordOf k)) made)
+    HangsBelowNearest-hung old.view c.write_tree.new.pass.view c.write_tree.ensures.goes_on.later pair.goes_on.lawful (λ k. ap (λ p. sees p.view (RecordOf k)) made)
     c.args.shared.now c.args.closest through steers c.point-from.result c.hand_point-p.result own unlinked is
     (SeesPoint-later before old.view later.run later.seen c.args.closest c.point-from.result looks.found) clear (ap (λ p. p.view.hand) made)

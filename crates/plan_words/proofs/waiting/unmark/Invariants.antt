@@ -1,13 +1,13 @@
 use Rattle.std.proofs.Common.{◌≡◌, ◌≢◌, ℕ, ◌<◌, Bool, true, List, length}
 use Rattle.std.specs.Prelude.{slice_index}
 use Rattle.plan_words.proofs.waiting.unmark.Given as goal
-use Rattle.plan_words.specs.Waiting.{mark_at}
+use Rattle.plan_words.specs.Waiting.{is_marked}
 
 -- who is marked still was so, and stands on the list from here on
 pub record AreLeft (was : List Bool) (nodes : List ℕ) (index : ℕ) (marked : List Bool) : Type 0 where
   pub sized : length marked ≡ length was
-  pub stays : (n : ℕ) → mark_at marked n ≡ true → mark_at was n ≡ true
-  pub apart : (i n : ℕ) → i < index → mark_at marked n ≡ true → slice_index nodes i ≢ n
+  pub stays : (n : ℕ) → is_marked marked n ≡ true → is_marked was n ≡ true
+  pub apart : (i n : ℕ) → i < index → is_marked marked n ≡ true → slice_index nodes i ≢ n
 
 abbrev pub invariant-loop-index : goal.invariant-loop-index
 invariant-loop-index l = AreLeft l.fn.marked.items l.fn.nodes l.index l.marked.items

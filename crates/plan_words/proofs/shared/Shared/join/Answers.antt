@@ -5,7 +5,7 @@ use Rattle.plan_words.proofs.Owning.{may_load_here, may_take_over_here, same_run
 use Rattle.plan_words.proofs.SeenChildren.{HasParentsBelow-seen}
 use Rattle.plan_words.proofs.shared.Shared.join.Goals as goal
 use Rattle.plan_words.specs.Parents.{HasParentsBelow}
-use Rattle.plan_words.specs.States.{first_of}
+use Rattle.plan_words.specs.States.{first_member}
 use Rattle.step_core.specs.Views.{share}
 use Rattle.step_core.specs.WordNames.Word.{Count}
 
@@ -70,7 +70,7 @@ invariant_of-pass c =
     c.other.inside.pairs c.take_cheaper.new.pairs _ _ c.join_seat.ensures.2 c.load-count.ensures.2.told c.count.ensures c.pass.invariant (own_too ∙ sym own)
     c.other.invariant.3
     (c.or-pass-inside.ensures ∙ ap (λ o. option_or o c.other.inside.member) c.pass.invariant.1.member_is
-    ∙ ap (option_or (first_of c.pass.inside.seat.me.0.crew)) c.other.invariant.1.member_is
+    ∙ ap (option_or (first_member c.pass.inside.seat.me.0.crew)) c.other.invariant.1.member_is
     ∙ sym (first-joined c.pass.inside.seat.me.0.crew c.other.inside.seat.me.0.crew))
     c.take_cheaper.ensures.as_many
     c.take_cheaper.ensures.each

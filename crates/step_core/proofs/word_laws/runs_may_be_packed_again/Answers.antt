@@ -4,7 +4,7 @@ use Rattle.plan_model.specs.Runs.Textbook.{setup_of}
 use Rattle.plan_model.proofs.SameTrees.{IsClosed-same_run}
 use Rattle.step_core.specs.GrownRuns.{state_of_grown}
 use Rattle.step_core.specs.PackedRuns.{state_of_lists}
-use Rattle.step_core.proofs.laws.runs_may_be_packed_again.Goals as goal
+use Rattle.step_core.proofs.word_laws.runs_may_be_packed_again.Goals as goal
 
 pub returns-clause-closed : goal.returns-clause-closed
 returns-clause-closed c = λ grown. grown.hold_run.closed

@@ -1,6 +1,6 @@
 use Rattle.step_core.proofs.PackedWords.{point_of_word-packed, tree_of_word-packed}
 use Rattle.step_core.proofs.PackedRecords.{record_of_word-packed}
-use Rattle.step_core.proofs.laws.packed_words_are_read_again.Goals as goal
+use Rattle.step_core.proofs.word_laws.packed_words_are_read_again.Goals as goal
 
 pub returns-clause-point : goal.returns-clause-point
 returns-clause-point c = point_of_word-packed

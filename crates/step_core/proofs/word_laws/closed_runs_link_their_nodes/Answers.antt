@@ -1,6 +1,6 @@
 use Rattle.step_core.proofs.ClearedWords.{cleared-blank}
 use Rattle.step_core.proofs.LinkedPresence.{is_linked-closed, state_by-closed, child-closed}
-use Rattle.step_core.proofs.laws.closed_runs_link_their_nodes.Goals as goal
+use Rattle.step_core.proofs.word_laws.closed_runs_link_their_nodes.Goals as goal
 
 pub returns : goal.returns
 returns c = record {
