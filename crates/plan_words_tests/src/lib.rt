@@ -2,14 +2,14 @@
 #![tactic(auto)]
 
 #[cfg(test)]
-mod ends;
+mod claim;
 #[cfg(test)]
-mod links;
+mod claim_by_threads;
 #[cfg(test)]
-mod passes;
+mod end;
 #[cfg(test)]
-mod threads;
+mod join;
 #[cfg(test)]
-mod turns;
+mod link;
 #[cfg(test)]
-mod values;
+mod support;

@@ -1,0 +1,15 @@
+use Rattle.std.proofs.Common.{◌∙◌, ap, subst, sym}
+use Rattle.plan_model.specs.Runs.ClosedLaw.{mark_at}
+use Rattle.plan_model.specs.declared.records.Record.{Record}
+use Rattle.step_core.specs.ViewTrees.{SeesPoint}
+use Rattle.plan_words_tests.proofs.StartMarks.{may_finish-start}
+use Rattle.plan_words_tests.proofs.support.take_turn.Goals as goal
+
+pub finish-requires-clause-may : goal.finish-requires-clause-may
+finish-requires-clause-may g c =
+    let view = c.expect_on_start.new.pass.view in
+    let holds = c.expect_on_start.ensures.holds in
+    let marks = ap (λ run. run.marks) holds.belongs.run in
+    let same = ap (λ l. mark_at l holds.hand.mark) marks ∙ ap (mark_at c.args.shared.now.task.marks) holds.mark in
+    may_finish-start view holds.hand c.unplaced-entry.result holds.held (subst (SeesPoint view 0) (sym same) c.expect_on_start.ensures.on_start)
+    (ap (λ (entry : Record). entry.nearest) c.unplaced-entry.ensures) (ap (λ (entry : Record). entry.outcome) c.unplaced-entry.ensures)
