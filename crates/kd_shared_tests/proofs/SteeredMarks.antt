@@ -1,5 +1,5 @@
 -- What a pass knows of the mark in its hand: the node that it was steered from is the nearest of those whose records are seen, as later views say too.
-use Rattle.std.proofs.Common.{◌≡◌, ◌≤◌, ◌+◌, ℕ, zero, suc, Bool, true, false, Some, refl, sym, ap, ◌∙◌, subst}
+use Rattle.std.proofs.Common.{◌≡◌, ◌≤◌, ◌+◌, ℕ, suc, Bool, true, false, Some, refl, sym, ap, ◌∙◌, subst}
 use Rattle.std.specs.Prelude.{IfSome}
 use Rattle.plan_model.specs.Spaces.Clearance.{Clear}
 use Rattle.plan_model.specs.Runs.ClosedLaw.{mark_at}
@@ -108,7 +108,7 @@ module _ (before after : View) (later : IsLater before after) (lawful : IsLawful
         subst (λ run. Clear (setup_in run).space (point_of (tree_seen after).points nearest) hangs.steers.hand.point) (sym later.run)
         (subst (λ p. Clear (setup_in before.run).space p hangs.steers.hand.point)
         (sym (point_of-kept nearest (present_nearest before nearest lawful hangs.steers))) hangs.clear);
-    unrecorded = has_node-kept (suc hangs.steers.hand.mark) ∙ hangs.unrecorded;
+    unrecorded = has_node-recorded before after records (suc hangs.steers.hand.mark) ∙ hangs.unrecorded;
   }
 
   pub HangsBelowNearest-kept : (nearest cost : ℕ) → HangsBelowNearest nearest cost before → after.hand ≡ before.hand → HangsBelowNearest nearest cost after
@@ -130,7 +130,7 @@ module _ (before after : View) (later : IsLater before after) (lawful : IsLawful
         subst (λ q. Clear (setup_in after.run).space (point_of (tree_seen after).points nearest) q) is
         (subst (λ q. Clear (setup_in after.run).space q p) (sym here)
         (subst (λ run. Clear (setup_in run).space from p) (sym (later.run ∙ own)) clear));
-    unrecorded = has_node-kept (suc steers.hand.mark) ∙ unrecorded-hand before steers.hand lawful steers.held unlinked;
+    unrecorded = has_node-recorded before after records (suc steers.hand.mark) ∙ unrecorded-hand before steers.hand lawful steers.held unlinked;
   }
 
   -- it was tried to place it
