@@ -30,7 +30,7 @@ chain_of (Some parent) = suc parent
 abbrev pub chain_in : List (Option Twig) → ℕ → ℕ
 chain_in tree c = chain_of (parent_if_child tree c)
 
--- The index has the children of the tree's nodes, and their numbers leave room for one more.
+-- The index has the children of the tree's nodes, of which there are no more than a run may have: so 1 more than a number fits 32 bits.
 pub record AreLinked (tree : List (Option Twig)) (children : ChildIndex) : Type 0 where
   pub few : length tree ≤ MOST_NODES
   pub chains : IndexesChains (length tree) (chain_in tree) children
