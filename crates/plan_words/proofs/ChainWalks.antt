@@ -2,9 +2,9 @@
 use Rattle.std.proofs.Common.{◌≡◌, ◌⊎◌, ℕ, ◌<◌, List, ◌∷◌, ap, sym, subst, inl, inr, arith, refl, ◌∙◌}
 use Rattle.std.proofs.lemmas.Bool.{cases_eq}
 use Rattle.plan_words.specs.Waiting.{IsOn}
-use Rattle.step_core.specs.ChildChains.{AreMembers, IndexesChains, siblings_from}
+use Rattle.step_core.specs.ChildChains.{AreMembers, IndexesChains, siblings_from, times}
 use Rattle.step_core.specs.declared.child_index.ChildIndex.{ChildIndex}
-use Rattle.step_core.proofs.SiblingWalks.{AreMembers-chain, siblings_from-here, times, times-else, times-here}
+use Rattle.step_core.proofs.SiblingWalks.{AreMembers-chain, siblings_from-here, times-else, times-here}
 
 -- The walk stands at n: each child of the chain is on the list, or is n or comes after it.
 pub record IsWalk (index : ChildIndex) (chain : ℕ → ℕ) (l n : ℕ) (was now : List ℕ) : Type 0 where

@@ -1,7 +1,7 @@
 -- What a new node, or another parent of a node, changes in who is whose child.
-use Rattle.std.proofs.Common.{◌≡◌, ℕ, zero, suc, ◌+◌, ◌<◌, ◌≤◌, List, [], ◌∷◌, ◌++◌, length, set, cond, Option, Some, None, count_by}
+use Rattle.std.proofs.Common.{◌≡◌, ℕ, zero, suc, ◌+◌, ◌<◌, ◌≤◌, List, [], ◌∷◌, ◌++◌, length, set, cond, Option, Some, None}
 use Rattle.std.proofs.Common.{refl, sym, ap, ◌∙◌, subst, arith, inl, inr}
-use Rattle.std.specs.Prelude.{◌==◌, option_map}
+use Rattle.std.specs.Prelude.{option_map}
 use Rattle.std.proofs.lemmas.Bool.{cases_eq, eq-eqb, ne_eqb}
 use Rattle.std.proofs.lemmas.List.{get_or-set_same, get_or-set_other, length-append, length-set}
 use Rattle.plan_model.specs.declared.limits.TheConstants.{MOST_NODES}
@@ -9,7 +9,7 @@ use Rattle.plan_model.specs.declared.trees.Twig.{Twig}
 use Rattle.plan_model.specs.Trees.NodeLists.{node_at}
 use Rattle.plan_model.proofs.TreeChanges.{node_at-push_new, node_at-past, node_at-absent}
 use Rattle.plan_model.proofs.NewNodes.{Adds-push}
-use Rattle.step_core.specs.ChildChains.{AreMembers, HasInChain, HasOneMore, IndexesChains, MovesNode}
+use Rattle.step_core.specs.ChildChains.{AreMembers, HasInChain, HasOneMore, IndexesChains, MovesNode, times}
 use Rattle.step_core.specs.declared.child_index.ChildIndex.{ChildIndex}
 use Rattle.step_core.proofs.MovedChildren.{IsIndex-same}
 use Rattle.seq_planner.specs.LinkedTrees.{AreLinked, chain_in, chain_of, hangs_below, is_parent_number, parent_if_child}
@@ -108,10 +108,10 @@ AreLinked-replace tree was now children after number some low here moves linked 
 -- each stands once among the members of its chain
 pub hangs_below-times :
     (tree : List (Option Twig)) (f : ℕ) (members : List ℕ) (c : ℕ) → AreMembers (chain_in tree) (suc f) members
-    → count_by (λ k. k == c) members ≡ cond (hangs_below tree f c) 1 0
+    → times members c ≡ cond (hangs_below tree f c) 1 0
 hangs_below-times tree f members c are = by_parent (parent_if_child tree c) refl
   where
-    by_parent : (up : Option ℕ) → parent_if_child tree c ≡ up → count_by (λ k. k == c) members ≡ cond (is_parent_number f up) 1 0
+    by_parent : (up : Option ℕ) → parent_if_child tree c ≡ up → times members c ≡ cond (is_parent_number f up) 1 0
     by_parent None is = are.only c (λ e. (let none = ap chain_of is in absurd (omega (arith, none, e))))
     by_parent (Some g) is =
         elim (cases_eq g f) [

@@ -1,20 +1,17 @@
 -- The nodes that are still to be lowered, as a list that is taken from and added to at its end.
 use Rattle.std.proofs.Common.{◌≡◌, ℕ, ◌+◌, ◌<◌, ◌≤◌, List, [], ◌∷◌, ◌++◌, length, get_or, set, Option, arith, refl, ap, ◌∙◌}
 use Rattle.std.specs.Prelude.{◌==◌}
-use Rattle.std.specs.List.{count_by, sum}
+use Rattle.std.specs.List.{sum}
 use Rattle.std.proofs.lemmas.List.{get_or-set_same, get_or-set_other}
 use Rattle.std.proofs.lemmas.List.Sums.{count_by-le-length, sum_by_push, sum_by-set}
 use Rattle.plan_model.specs.declared.trees.Twig.{Twig}
 use Rattle.plan_model.specs.Trees.PointsByNumber.{IsPresent}
 use Rattle.plan_model.specs.Trees.NodeLists.{points_of}
 use Rattle.plan_model.proofs.NewNodes.{present_below}
+use Rattle.step_core.specs.ChildChains.{times}
 use Rattle.seq_planner.specs.LinkedTrees.{hangs_below}
 use Rattle.seq_planner.proofs.LoweredBranches.{one_if, equal_one, IsUnderway}
 use Rattle.seq_planner.proofs.LoweringTurns.{IsTurn}
-
--- how often a number is in a list
-abbrev pub times : List ℕ → ℕ → ℕ
-times pending n = count_by (λ k. k == n) pending
 
 -- what the last element adds
 pub times-last : (pending : List ℕ) (m n : ℕ) → times (pending ++ m ∷ []) n ≡ times pending n + one_if (m == n)

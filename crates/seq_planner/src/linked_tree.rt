@@ -1,11 +1,12 @@
 //! Nodes by number, with an index of the children of each.
 
-ghost use Rattle.std.specs.Prelude.{◌≡◌, ◌+◌, ◌<◌, ◌≤◌, ◌==◌, ℕ, Option, List, ◌∷◌, [], ◌++◌, length, IfOk, OnErr, OnOk, count_by, if◌then◌else◌};
+ghost use Rattle.std.specs.Prelude.{◌≡◌, ◌+◌, ◌<◌, ◌≤◌, ℕ, Option, List, ◌∷◌, [], ◌++◌, length, IfOk, OnErr, OnOk, if◌then◌else◌};
 ghost use Rattle.plan_model.specs.Trees.PointsByNumber.{IsPresent, point_of};
 ghost use Rattle.plan_model.specs.Runs.Textbook.{start_alone, with_parent};
 ghost use Rattle.plan_model.specs.Trees.NodeLists.{points_of};
 ghost use Rattle.plan_model.specs.declared.limits.TheConstants.{MOST_MARKS};
 ghost use Rattle.plan_model.specs.declared.trees.Twig.{Twig};
+ghost use Rattle.step_core.specs.ChildChains.{times};
 ghost use Rattle.seq_planner.specs.LinkedTrees.{AreLinked, hangs_below, MayJoin};
 
 use plan_model::{Memory, Point, Twig};
@@ -101,8 +102,7 @@ impl LinkedTree {
     /// `Memory` if out of memory.
     pub(crate) fn push_children(&self, number: u32, list: &mut Vec<u32>) -> Result<(), Memory>
         requires { IsPresent (points_of self.now) number }
-        ensures { OnOk result ((c : ℕ) → count_by (λ k. k == c) list.new.items
-            ≡ count_by (λ k. k == c) list.old.items + (if hangs_below self.now number c then 1 else 0)) }
+        ensures { OnOk result ((c : ℕ) → times list.new.items c ≡ times list.old.items c + (if hangs_below self.now number c then 1 else 0)) }
     {
         let mut child = self.children.first_child(number);
         while child != 0 {

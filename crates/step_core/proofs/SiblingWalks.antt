@@ -1,18 +1,15 @@
 -- A walk along a chain of children meets each of them once, and ends.
 use Rattle.std.proofs.Common.{◌≡◌, ◌≢◌, ◌==◌, ℕ, zero, suc, ◌+◌, ◌<◌, ◌≤◌, true, false, cond, eqb, List, [], ◌∷◌, length}
 use Rattle.std.proofs.Common.{refl, sym, ap, ◌∙◌, subst, inl, inr, arith}
-use Rattle.std.specs.Prelude.{◌||◌, count_by, slice_index}
+use Rattle.std.specs.Prelude.{◌||◌, slice_index}
 use Rattle.std.specs.List.{AllByRecursion, IsDistinct, list_any}
 use Rattle.std.proofs.lemmas.Bool.{cases_eq, cases_lt, eq-eqb, ne_eqb}
 use Rattle.std.proofs.lemmas.List.Sums.{sum_by-cons}
 use Rattle.std.proofs.lemmas.Map.Steps.{length-le_from_distinct_below}
-use Rattle.step_core.specs.ChildChains.{AreMembers, HasInChain, IndexesChains, IsIndex, front_in, siblings_from, walk_from}
+use Rattle.step_core.specs.ChildChains.{AreMembers, HasInChain, IndexesChains, IsIndex, front_in, siblings_from, times, walk_from}
 use Rattle.step_core.specs.declared.child_index.ChildIndex.{ChildIndex}
 
 -- ---- how often a number stands in a list
-
-abbrev pub times : List ℕ → ℕ → ℕ
-times members n = count_by (λ k. k == n) members
 
 pub times-cons : (rest : List ℕ) (n m : ℕ) → times (n ∷ rest) m ≡ cond (n == m) 1 0 + times rest m
 times-cons rest n m = sum_by-cons (λ k. cond (k == m) 1 0) n rest

@@ -79,7 +79,11 @@ walk_from (suc most) next (suc n) = suc n ∷ walk_from most next (slice_index n
 abbrev pub siblings_from : ChildIndex → ℕ → List ℕ
 siblings_from index n = walk_from (length index.next.items) index.next.items n
 
+-- how often a number stands in a list
+abbrev pub times : List ℕ → ℕ → ℕ
+times members n = count_by (λ k. k == n) members
+
 -- The list has exactly the numbers of a chain, each once.
 pub record AreMembers (chain : ℕ → ℕ) (l : ℕ) (members : List ℕ) : Type 0 where
-  pub each : (n : ℕ) → chain n ≡ l → count_by (λ k. k == n) members ≡ 1
-  pub only : (n : ℕ) → chain n ≢ l → count_by (λ k. k == n) members ≡ 0
+  pub each : (n : ℕ) → chain n ≡ l → times members n ≡ 1
+  pub only : (n : ℕ) → chain n ≢ l → times members n ≡ 0

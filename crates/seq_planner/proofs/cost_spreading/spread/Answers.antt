@@ -1,9 +1,10 @@
 use Rattle.std.proofs.Common.{ℕ, ◌-◌, [], ◌∷◌, ◌++◌, get_or, set, arith, ap, ◌∙◌}
 use Rattle.std.proofs.lemmas.List.{length-set}
 use Rattle.std.proofs.lemmas.Grind.{get_or_default_zero}
+use Rattle.step_core.specs.ChildChains.{times}
 use Rattle.seq_planner.proofs.LoweredBranches.{IsUnderway-start, IsBranchLowered-end}
 use Rattle.seq_planner.proofs.LoweringTurns.{IsUnderway-turn}
-use Rattle.seq_planner.proofs.PendingNodes.{times, times-last, times-none, IsNext-last, IsTurn-lists, sum-lowered}
+use Rattle.seq_planner.proofs.PendingNodes.{times-last, times-none, IsNext-last, IsTurn-lists, sum-lowered}
 use Rattle.seq_planner.proofs.cost_spreading.spread.Goals as goal
 
 pub index_mut-requires : goal.index_mut-requires

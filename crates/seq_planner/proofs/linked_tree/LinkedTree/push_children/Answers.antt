@@ -1,20 +1,21 @@
 -- Each child comes once, as the siblings from the first child on are all children.
 use Rattle.std.proofs.Common.{◌≡◌, ℕ, ◌<◌, suc, length, refl, ap, ◌∙◌, arith}
-use Rattle.step_core.specs.ChildChains.{siblings_from}
+use Rattle.step_core.specs.ChildChains.{siblings_from, times}
 use Rattle.step_core.proofs.SiblingWalks.{AreMembers-chain, siblings_from-here, times-cons}
 use Rattle.seq_planner.specs.LinkedTrees.{chain_in, hangs_below}
 use Rattle.seq_planner.proofs.ChangedLinks.{hangs_below-times}
 use Rattle.seq_planner.proofs.LoweredBranches.{one_if}
-use Rattle.seq_planner.proofs.PendingNodes.{times, times-last}
+use Rattle.seq_planner.proofs.PendingNodes.{times-last}
 use Rattle.seq_planner.proofs.linked_tree.LinkedTree.push_children.Goals as goal
 
 pub loop-child-init : goal.loop-child-init
 loop-child-init c =
     let tree = c.self.inside.nodes.items in
+    let members = siblings_from c.self.inside.children c.first_child-child.result in
     let children = c.first_child-child.ensures (length tree) (chain_in tree) c.self.invariant.chains in
     record {
       added = λ n. refl;
-      ahead = λ n there. AreMembers-chain (chain_in tree) (suc c.args.number) (siblings_from c.self.inside.children c.first_child-child.result) n children there;
+      ahead = λ n there. AreMembers-chain (chain_in tree) (suc c.args.number) members n children there;
     }
 
 pub next_sibling-child-requires : goal.next_sibling-child-requires
