@@ -1,5 +1,6 @@
 -- Why a command that reads a text is refused.
-use Rattle.std.proofs.Common.{◌≡◌, ◌⊎◌, inl, inr, ℕ, ◌<◌, false, Some, IsTrue, [], ◌∷◌, length, Vec, refl, sym, subst, arith}
+use Rattle.std.proofs.Common.{◌≡◌, ℕ, ◌<◌, false, Some, IsTrue, [], ◌∷◌, length, Vec, refl, sym, ap, subst, arith}
+use Rattle.std.proofs.lemmas.Bool.{and_from}
 use Rattle.std.proofs.Common.{Result, Ok, Err, IsErrAnd, IsErrOf, IfErr}
 use Rattle.plan_model.specs.declared.limits.TheConstants.{MOST_TEXT_BYTES}
 use Rattle.plan_model.specs.declared.scenes.Scene.{Scene}
@@ -10,10 +11,9 @@ use Rattle.scene_text.specs.declared.fetching.FetchFault.{FetchFault}
 use Rattle.scene_text.specs.declared.fetching.FetchFault.TheVariants as fetching
 use Rattle.scene_text.specs.Fetching.{Fetches}
 use Rattle.planner_main.specs.declared.commands.Command.{Command}
-use Rattle.planner_main.specs.declared.refusals.Refusal.{Refusal}
 use Rattle.planner_main.specs.declared.refusals.Refusal.TheVariants as refusals
-use Rattle.planner_main.specs.Commands.{input_of, reads_text, tests_start}
-use Rattle.planner_main.specs.Inputs.{Input, one_scene, SpellsInput}
+use Rattle.planner_main.specs.Commands.{input_of, plans, reads_text}
+use Rattle.planner_main.specs.Inputs.{Input, one_scene, reads_bytes, SpellsInput}
 use Rattle.planner_main.specs.Conclusions.{IsCaused, HasScene}
 use Rattle.planner_main.specs.Exchanges.{ReadFailed, CameShort}
 use Rattle.planner_main.specs.Faults.{refusal_of_fetch}
@@ -57,23 +57,19 @@ pub IfErr-only : {T E : Type 0} (r : Result T E) (error : E) (P : E → Type 0) 
 IfErr-only (Ok value) error P only h = absurd only
 IfErr-only (Err e) error P only h = subst P (sym only) h
 
--- a start that is not clear, and memory that is out after the whole text was read, are causes of their refusals
-pub hall-caused : (command : Command) (before now : SourceState) (scene : Scene) (refusal : Refusal) → input_of command ≡ one_scene →
-    IsTrue (tests_start command) → HasScene before now scene →
-    (refusal ≡ refusals.Memory) ⊎ ((refusal ≡ refusals.StartBlocked) × ¬ ClearAt (space_of scene) scene.start) →
-    IsCaused (Some command) before now refusal
-hall-caused command before now scene refusal one tests h (inl memory) =
-    subst (IsCaused (Some command) before now) (sym memory) (refl, h.read.no_fault)
-hall-caused command before now scene refusal one tests h (inr blocked) =
-    subst (IsCaused (Some command) before now) (sym blocked.0) (
-      tests,
-      (
-        h.bytes,
-        h.read,
-        record {
-          scenes = scene ∷ [];
-          spelled = subst (λ (input : Input). SpellsInput input h.bytes (scene ∷ [])) (sym one) h.spelled;
-          blocked = λ clear. blocked.1 clear.0;
-        },
-      ),
-    )
+-- a start that is not clear is the cause of its refusal
+pub StartBlocked-caused : (command : Command) (before now : SourceState) (scene : Scene) → input_of command ≡ one_scene →
+    IsTrue (plans command) → HasScene before now scene → ¬ ClearAt (space_of scene) scene.start →
+    IsCaused (Some command) before now refusals.StartBlocked
+StartBlocked-caused command before now scene one planned h blocked = (
+  and_from (reads_text command) (plans command) (ap reads_bytes one) planned,
+  (
+    h.bytes,
+    h.read,
+    record {
+      scenes = scene ∷ [];
+      spelled = subst (λ (input : Input). SpellsInput input h.bytes (scene ∷ [])) (sym one) h.spelled;
+      blocked = λ clear. blocked clear.0;
+    },
+  ),
+)

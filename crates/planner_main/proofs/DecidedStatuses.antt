@@ -1,7 +1,7 @@
 -- Which status the bytes of the source decide, from the answer and its cause.
 use Rattle.std.proofs.Common.{◌≡◌, ℕ, ◌≤◌, ◌<◌, ◌⊎◌, inl, inr, Bool, true, false, IsTrue, MatchBool, Option, Some, None, IfSome}
 use Rattle.std.proofs.Common.{List, [], ◌∷◌, length, length-append, refl, sym, ap, subst, arith}
-use Rattle.std.proofs.lemmas.Bool.{false≢true}
+use Rattle.std.proofs.lemmas.Bool.{and_parts, false≢true}
 use Rattle.std.specs.Io.KnownBytes.{Consumes}
 use Rattle.plan_model.specs.declared.limits.TheConstants.{MOST_TEXT_BYTES}
 use Rattle.plan_model.specs.declared.scenes.Scene.{Scene}
@@ -17,8 +17,8 @@ use Rattle.planner_main.specs.declared.refusals.Refusal.{Refusal}
 use Rattle.planner_main.specs.declared.refusals.Refusal.TheVariants as refusals
 use Rattle.planner_main.specs.declared.statuses.TheConstants.{NO_PATH, TEXT_REFUSED, START_BLOCKED, NO_MEMORY}
 use Rattle.planner_main.specs.declared.top_call.Done.{Done}
-use Rattle.planner_main.specs.Commands.{input_of, reads_text, tests_start, greatest_success}
-use Rattle.planner_main.specs.Conclusions.{BlocksStart, MayStart, Succeeds, status_of_report, IsCaused, IsSuccess}
+use Rattle.planner_main.specs.Commands.{input_of, plans, reads_text, tests_start, greatest_success}
+use Rattle.planner_main.specs.Conclusions.{BlocksStart, IsCaused, IsSceneOf, IsSuccess, MayStart, OfScene, Succeeds, status_of_report}
 use Rattle.planner_main.specs.Decisions.{IsDecidedBy, IsDecided}
 use Rattle.planner_main.specs.Inputs.{Input, nothing, one_scene, AreStartsClear, RefusesInput, SpellsInput}
 use Rattle.planner_main.specs.Exchanges.{ReadFailed, IsReadWhole, IsUnread}
@@ -92,11 +92,11 @@ low_report false = omega arith
 -- a command that succeeds ends with one of its statuses of success
 pub Succeeds-low : (command : Command) (bytes : List ℕ) (done : Done) (text : List ℕ) → Succeeds command bytes done text →
     done.status ≤ greatest_success command
-Succeeds-low (commands.Plain full) bytes done text r = rw r.report.reported.best (low_report _)
-Succeeds-low (commands.Plan workers full) bytes done text r = rw r.reported.best (low_report _)
-Succeeds-low commands.Show bytes done text s = omega (arith, s.shown)
-Succeeds-low (commands.Gen number) bytes done text w = omega (arith, w.status)
-Succeeds-low (commands.Trial number) bytes done text t = rw t.report.reported.best (low_report _)
+Succeeds-low (commands.Plain full) bytes done text s = rw s.meaning.reported.best (low_report _)
+Succeeds-low (commands.Plan workers full) bytes done text s = rw s.meaning.reported.best (low_report _)
+Succeeds-low commands.Show bytes done text s = omega (arith, s.meaning.status)
+Succeeds-low (commands.Gen number) bytes done text s = omega (arith, s.meaning.status)
+Succeeds-low (commands.Trial number) bytes done text s = rw s.meaning.reported.best (low_report _)
 
 greatest_success-low : (command : Command) → greatest_success command ≤ NO_PATH
 greatest_success-low (commands.Plain full) = omega arith
@@ -110,28 +110,33 @@ pub IsSuccess-low : (asked : Option Command) (before now : SourceState) (done : 
 IsSuccess-low asked before now done text s =
     omega (arith, Succeeds-low s.command s.bytes done text s.meaning, greatest_success-low s.command)
 
--- a command that tests the start of a scene reads a text
-tests-reads : (command : Command) → IsTrue (tests_start command) → IsTrue (reads_text command)
-tests-reads (commands.Plain full) tests = refl
-tests-reads (commands.Plan workers full) tests = refl
-tests-reads commands.Show tests = refl
-tests-reads (commands.Gen number) tests = absurd (false≢true tests)
-tests-reads (commands.Trial number) tests = absurd (false≢true tests)
+-- the scene of a command that reads a text is what its bytes spell
+spelled : (command : Command) (bytes : List ℕ) (scene : Scene) → IsSceneOf command bytes scene → IsTrue (reads_text command) →
+    SpellsInput (input_of command) bytes (scene ∷ [])
+spelled (commands.Plain full) bytes scene is reads = is
+spelled (commands.Plan workers full) bytes scene is reads = is
+spelled commands.Show bytes scene is reads = is
+spelled (commands.Gen number) bytes scene is reads = absurd (false≢true reads)
+spelled (commands.Trial number) bytes scene is reads = absurd (false≢true reads)
 
--- a command that reads a text succeeds as its bytes decide
+-- so a command that reads a text and does something with its scene succeeds as its bytes decide
+by_scene : (bytes : List ℕ) (command : Command) (status : ℕ) (P : Scene → Type 0) → OfScene command bytes P → IsTrue (reads_text command) →
+    status ≤ greatest_success command → IsDecidedBy bytes command status
+by_scene bytes command status P s reads low =
+    by_success bytes command status (s.scene ∷ []) (spelled command bytes s.scene s.of_command reads)
+    (λ tests. (s.start (and_parts (reads_text command) (plans command) tests).1, tt)) low
+
 by_meaning : (bytes : List ℕ) (command : Command) (done : Done) (text : List ℕ) → Succeeds command bytes done text →
     IsTrue (reads_text command) → IsDecidedBy bytes command done.status
-by_meaning bytes (commands.Plain full) done text r reads =
-    by_success bytes (commands.Plain full) done.status (r.scene ∷ []) r.spelled (λ tests. (r.start, tt))
-    (Succeeds-low (commands.Plain full) bytes done text r)
-by_meaning bytes (commands.Plan workers full) done text r reads =
-    by_success bytes (commands.Plan workers full) done.status (r.scene ∷ []) r.spelled (λ tests. (r.start, tt))
-    (Succeeds-low (commands.Plan workers full) bytes done text r)
-by_meaning bytes commands.Show done text s reads =
-    by_success bytes commands.Show done.status (s.scene ∷ []) s.spelled (λ tests. absurd (false≢true tests))
-    (Succeeds-low commands.Show bytes done text s)
-by_meaning bytes (commands.Gen number) done text w reads = absurd (false≢true reads)
-by_meaning bytes (commands.Trial number) done text t reads = absurd (false≢true reads)
+by_meaning bytes command done text s reads = by command s reads (Succeeds-low command bytes done text s)
+  where
+    by : (command : Command) → Succeeds command bytes done text → IsTrue (reads_text command) → done.status ≤ greatest_success command →
+        IsDecidedBy bytes command done.status
+    by (commands.Plain full) s reads low = by_scene bytes (commands.Plain full) done.status _ s reads low
+    by (commands.Plan workers full) s reads low = by_scene bytes (commands.Plan workers full) done.status _ s reads low
+    by commands.Show s reads low = by_scene bytes commands.Show done.status _ s reads low
+    by (commands.Gen number) s reads low = absurd (false≢true reads)
+    by (commands.Trial number) s reads low = absurd (false≢true reads)
 
 -- known bytes of which more came than a text may have are too many
 long_before : (before now : Option (List ℕ)) (bytes : List ℕ) → CameTooLong before now → before ≡ Some bytes →
@@ -183,6 +188,6 @@ refusal_decided (Some command) before now refusals.TooLong cause sure =
 refusal_decided (Some command) before now (refusals.Text number kind) cause sure =
     inr (of_whole before now command _ cause.0 cause.1.0 cause.1.1 (by_fault cause.1.0 command _ number kind cause.1.2 refl))
 refusal_decided (Some command) before now refusals.StartBlocked cause sure =
-    inr (of_whole before now command _ (tests-reads command cause.0) cause.1.0 cause.1.1 (by_start cause.1.0 command _ cause.1.2 cause.0 refl))
+    inr (of_whole before now command _ (and_parts (reads_text command) (plans command) cause.0).0 cause.1.0 cause.1.1 (by_start cause.1.0 command _ cause.1.2 cause.0 refl))
 refusal_decided (Some command) before now refusals.ReadFault cause sure = absurd (sure cause.1.rose)
 refusal_decided (Some command) before now refusals.Memory cause sure = inl refl

@@ -1,26 +1,18 @@
--- What a command succeeds with, from the scene that it has read or made and from the run of it.
-use Rattle.std.proofs.Common.{◌≡◌, ℕ, ◌<◌, Bool, List, length, Some, refl, subst}
+-- What is reported of a run, and of the scene that it is of.
+use Rattle.std.proofs.Common.{◌≡◌, ℕ, List, length, Some, refl, subst}
 use Rattle.std.specs.Prelude.{is_some}
 use Rattle.plan_model.specs.declared.geometry.Point.{Point}
-use Rattle.plan_model.specs.declared.records.Record.{Record}
 use Rattle.plan_model.specs.declared.scenes.Scene.{Scene}
 use Rattle.plan_model.specs.Trees.BestNode.{best_node, goals_of}
-use Rattle.plan_model.specs.Texts.CanonicalText.{canonical_text}
-use Rattle.plan_model.specs.Spaces.ConfigurationSpace.{space_of}
-use Rattle.plan_model.specs.Spaces.Clearance.{ClearAt}
 use Rattle.plan_model.specs.Runs.ClosedLaw.{IsClosed}
 use Rattle.plan_model.specs.Scenes.MarkPoints.{mark_points}
-use Rattle.plan_model.specs.Reports.ReportText.{report_text}
 use Rattle.plan_model.specs.Runs.SameRuns.{IsOfTextbookRun}
-use Rattle.plan_model.specs.Texts.Streams.{SourceState}
 use Rattle.plan_model.specs.Runs.Textbook.{setup_of}
 use Rattle.plan_model.specs.Trees.TreeStates.{IsSettled}
 use Rattle.step_core.specs.declared.grown.Grown.{Grown}
 use Rattle.step_core.specs.GrownRuns.{state_of_grown}
-use Rattle.planner_main.specs.declared.commands.Command.TheVariants as commands
-use Rattle.planner_main.specs.declared.statuses.TheConstants.{DONE}
 use Rattle.planner_main.specs.declared.top_call.Done.{Done}
-use Rattle.planner_main.specs.Conclusions.{HandsOutNothing, HasScene, IsSuccess, Report, ReportsGrown, ReportsScene, status_of_report}
+use Rattle.planner_main.specs.Conclusions.{Report, ReportsGrown, ReportsScene, status_of_report}
 
 -- a settled run over all marks of its scene is reported by its status and such a text; that it is closed, its type says
 pub ReportsGrown-answer :
@@ -57,46 +49,3 @@ pub ReportsScene-textbook :
     → IsOfTextbookRun (setup_of scene) (mark_points scene) (state_of_grown grown) → ReportsScene report scene done text
 ReportsScene-textbook report scene grown done text of_scene reported run =
     record { grown = grown; reported = ReportsGrown-of_scene report scene grown done text of_scene reported; textbook = run }
-
-module _ (before now : SourceState) (scene : Scene) (done : Done) (text : List ℕ) where
-  pub IsSuccess-plain : (full : Bool) → HasScene before now scene → ClearAt (space_of scene) scene.start →
-      ReportsScene (report_text full) scene done text → IsSuccess (Some (commands.Plain full)) before now done text
-  IsSuccess-plain full h start report = record {
-    command = commands.Plain full;
-    known = refl;
-    bytes = h.bytes;
-    read = h.read;
-    meaning = record { scene = scene; spelled = h.spelled; start = start; report = report };
-  }
-
-  pub IsSuccess-planned :
-      (workers : ℕ) (full : Bool) → HasScene before now scene → ClearAt (space_of scene) scene.start → (grown : Grown)
-      → ReportsGrown (report_text full) scene grown done text
-      → ((k : ℕ) (entry : Record) → (state_of_grown grown).record_of k ≡ Some entry → entry.worker < workers)
-      → (workers ≡ 1 → IsOfTextbookRun (setup_of scene) (mark_points scene) (state_of_grown grown))
-      → IsSuccess (Some (commands.Plan workers full)) before now done text
-  IsSuccess-planned workers full h start grown reported by_workers textbook = record {
-    command = commands.Plan workers full;
-    known = refl;
-    bytes = h.bytes;
-    read = h.read;
-    meaning = record {
-      scene = scene;
-      spelled = h.spelled;
-      start = start;
-      grown = grown;
-      reported = reported;
-      by_workers = by_workers;
-      textbook = textbook;
-    };
-  }
-
-  pub IsSuccess-shown : HasScene before now scene → done.status ≡ DONE → HandsOutNothing done → text ≡ canonical_text scene →
-      IsSuccess (Some commands.Show) before now done text
-  IsSuccess-shown h shown nothing written = record {
-    command = commands.Show;
-    known = refl;
-    bytes = h.bytes;
-    read = h.read;
-    meaning = record { scene = scene; spelled = h.spelled; written = written; shown = shown; nothing = nothing };
-  }

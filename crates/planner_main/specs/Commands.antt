@@ -69,13 +69,17 @@ input_of (commands.Trial number) = nothing
 abbrev pub reads_text : Command → Bool
 reads_text command = reads_bytes (input_of command)
 
+-- whether a command plans its scene, which then has a clear start
+abbrev pub plans : Command → Bool
+plans (commands.Plain full) = true
+plans (commands.Plan workers full) = true
+plans commands.Show = false
+plans (commands.Gen number) = false
+plans (commands.Trial number) = true
+
 -- whether a command is refused if the start of a scene that it reads is not clear
 abbrev pub tests_start : Command → Bool
-tests_start (commands.Plain full) = true
-tests_start (commands.Plan workers full) = true
-tests_start commands.Show = false
-tests_start (commands.Gen number) = false
-tests_start (commands.Trial number) = false
+tests_start command = reads_text command && plans command
 
 -- the greatest status that a command may succeed with
 abbrev pub greatest_success : Command → ℕ

@@ -24,7 +24,7 @@ use Rattle.planner_main.specs.declared.refusals.Refusal.{Refusal}
 use Rattle.planner_main.specs.declared.refusals.Refusal.TheVariants as refusals
 use Rattle.planner_main.specs.declared.statuses.TheConstants.{DONE, NO_PATH}
 use Rattle.planner_main.specs.declared.top_call.Done.{Done}
-use Rattle.planner_main.specs.Commands.{input_of, reads_text, tests_start}
+use Rattle.planner_main.specs.Commands.{input_of, plans, reads_text, tests_start}
 use Rattle.planner_main.specs.Inputs.{AreStartsClear, IsTextOf, RefusesInput, SpellsInput}
 use Rattle.planner_main.specs.GeneratedScenes.{IsGenerated}
 use Rattle.planner_main.specs.Exchanges.{IsReadWhole, IsUnread, IsReadFault, IsTooLong, NoReadFailed}
@@ -60,54 +60,42 @@ pub record ReportsScene (report : Report) (scene : Scene) (done : Done) (text : 
   pub reported : ReportsGrown report scene grown done text
   pub textbook : IsOfTextbookRun (setup_of scene) (mark_points scene) (state_of_grown grown)
 
--- the text reports the textbook run of the scene that the bytes spell, whose start is clear: in full or in short
-pub record ReportsRun (full : Bool) (bytes : List ℕ) (done : Done) (text : List ℕ) : Type 0 where
-  pub scene : Scene
-  pub spelled : IsTextOf scene bytes
-  pub start : ClearAt (space_of scene) scene.start
-  pub report : ReportsScene (report_text full) scene done text
-
--- The text reports a run of the scene that the bytes spell, whose start is clear: in full or in short. Its marks were handled by
--- so many workers at most, numbered from 0. By one worker it is the textbook run of the scene.
-pub record ReportsPlan (workers : ℕ) (full : Bool) (bytes : List ℕ) (done : Done) (text : List ℕ) : Type 0 where
-  pub scene : Scene
-  pub spelled : IsTextOf scene bytes
-  pub start : ClearAt (space_of scene) scene.start
+-- The text reports a run of the scene: in full or in short. Its marks were handled by so many workers at most, numbered from 0. By
+-- one worker it is the textbook run of the scene.
+pub record ReportsPlan (workers : ℕ) (full : Bool) (scene : Scene) (done : Done) (text : List ℕ) : Type 0 where
   pub grown : Grown
   pub reported : ReportsGrown (report_text full) scene grown done text
   pub by_workers : (k : ℕ) (entry : Record) → (state_of_grown grown).record_of k ≡ Some entry → entry.worker < workers
   pub textbook : workers ≡ 1 → IsOfTextbookRun (setup_of scene) (mark_points scene) (state_of_grown grown)
 
--- the text is the canonical text of the scene that the bytes spell
-pub record ShowsScene (bytes : List ℕ) (done : Done) (text : List ℕ) : Type 0 where
-  pub scene : Scene
-  pub spelled : IsTextOf scene bytes
-  pub written : text ≡ canonical_text scene
-  pub shown : done.status ≡ DONE
-  pub nothing : HandsOutNothing done
-
--- the text is the canonical text of the generated scene of a number
-pub record WritesGenerated (number : ℕ) (done : Done) (text : List ℕ) : Type 0 where
-  pub scene : Scene
-  pub generated : IsGenerated number scene
+-- the text is the canonical text of the scene
+pub record WritesScene (scene : Scene) (done : Done) (text : List ℕ) : Type 0 where
   pub written : text ≡ canonical_text scene
   pub status : done.status ≡ DONE
   pub nothing : HandsOutNothing done
 
--- the text is the summary of the textbook run of the generated scene of a number, whose start is clear
-pub record TriesGenerated (number : ℕ) (done : Done) (text : List ℕ) : Type 0 where
+-- the scene of a command: that which the bytes spell, or the generated one of its number
+abbrev pub IsSceneOf : Command → List ℕ → Scene → Type 0
+IsSceneOf (commands.Plain full) bytes scene = IsTextOf scene bytes
+IsSceneOf (commands.Plan workers full) bytes scene = IsTextOf scene bytes
+IsSceneOf commands.Show bytes scene = IsTextOf scene bytes
+IsSceneOf (commands.Gen number) bytes scene = IsGenerated number scene
+IsSceneOf (commands.Trial number) bytes scene = IsGenerated number scene
+
+-- there is a scene of the command of which something is said, and its start is clear if the command plans it
+pub record OfScene (command : Command) (bytes : List ℕ) (P : Scene → Type 0) : Type 0 where
   pub scene : Scene
-  pub generated : IsGenerated number scene
-  pub start : ClearAt (space_of scene) scene.start
-  pub report : ReportsScene summary scene done text
+  pub of_command : IsSceneOf command bytes scene
+  pub start : IsTrue (plans command) → ClearAt (space_of scene) scene.start
+  pub meaning : P scene
 
 -- what the success of a command means: of the bytes that it read, of what was done, and of the text
 abbrev pub Succeeds : Command → List ℕ → Done → List ℕ → Type 0
-Succeeds (commands.Plain full) bytes done text = ReportsRun full bytes done text
-Succeeds (commands.Plan workers full) bytes done text = ReportsPlan workers full bytes done text
-Succeeds commands.Show bytes done text = ShowsScene bytes done text
-Succeeds (commands.Gen number) bytes done text = WritesGenerated number done text
-Succeeds (commands.Trial number) bytes done text = TriesGenerated number done text
+Succeeds (commands.Plain full) bytes done text = OfScene (commands.Plain full) bytes (λ scene. ReportsScene (report_text full) scene done text)
+Succeeds (commands.Plan workers full) bytes done text = OfScene (commands.Plan workers full) bytes (λ scene. ReportsPlan workers full scene done text)
+Succeeds commands.Show bytes done text = OfScene commands.Show bytes (λ scene. WritesScene scene done text)
+Succeeds (commands.Gen number) bytes done text = OfScene (commands.Gen number) bytes (λ scene. WritesScene scene done text)
+Succeeds (commands.Trial number) bytes done text = OfScene (commands.Trial number) bytes (λ scene. ReportsScene summary scene done text)
 
 -- what a command that succeeds has read: a whole text, or nothing
 abbrev pub HasRead : Command → SourceState → SourceState → List ℕ → Type 0

@@ -1,7 +1,7 @@
 //! What is to be written for the words of the command line. Each command has a function that reads what it needs from
 //! the source and makes the text of the answer.
 
-ghost use Rattle.std.specs.Prelude.{◌≡◌, ◌≤◌, ◌<◌, ◌⊎◌, ℕ, true, false, length, map, is_some, string_bytes, IfOk, IfErr, None, Some};
+ghost use Rattle.std.specs.Prelude.{◌≡◌, ◌≤◌, ◌<◌, ℕ, false, length, map, is_some, string_bytes, IfOk, IfErr, IsTrue, None, Some, []};
 ghost use Rattle.plan_model.specs.Spaces.ConfigurationSpace.{space_of};
 ghost use Rattle.plan_model.specs.Spaces.Clearance.{ClearAt};
 ghost use Rattle.plan_model.specs.declared.limits.TheConstants.{MOST_WORKERS};
@@ -12,9 +12,8 @@ ghost use Rattle.plan_model.specs.Runs.SameRuns.{IsOfTextbookRun};
 ghost use Rattle.plan_model.specs.Runs.Textbook.{setup_of};
 ghost use Rattle.plan_model.specs.Trees.TreeStates.{IsSettled};
 ghost use Rattle.scene_text.specs.Fetching.{ReadsWithin};
-ghost use Rattle.planner_main.specs.Commands.{command_of, input_of, IsNumbered};
-ghost use Rattle.planner_main.specs.Conclusions.{Answers, IsCaused, HandsOutNothing, HasScene, ReportsGrown, WritesGenerated, TriesGenerated};
-ghost use Rattle.planner_main.specs.Conclusions.{status_of_report};
+ghost use Rattle.planner_main.specs.Commands.{command_of, input_of, plans, IsNumbered};
+ghost use Rattle.planner_main.specs.Conclusions.{Answers, HasScene, IsCaused, ReportsGrown, Succeeds, WritesScene, status_of_report};
 ghost use Rattle.planner_main.specs.Inputs.{one_scene};
 ghost use Rattle.planner_main.specs.declared.generated_scenes.TheConstants.{MOST_GENERATED};
 ghost use Rattle.planner_main.specs.declared.statuses.TheConstants.{DONE};
@@ -95,9 +94,8 @@ fn plain<S: Source>(alloc: Global, full: bool, source: &mut S) -> Result<Answer,
     requires { (S.state source.old).has_ended ≡ false }
     ensures { Answers (Some (Command.Plain full)) (S.state source.old) (S.state source.new) result }
 {
-    let scene = scene_for(alloc, Command::Plain { full }, source)?;
-    let hall = hall_for(alloc, &scene)?;
-    let grown = textbook_run(alloc, scene, hall)?;
+    let (scene, boxes) = problem_for(alloc, Command::Plain { full }, source)?;
+    let grown = textbook_run(alloc, scene, boxes)?;
     Ok(report_of(alloc, full, grown)?)
 }
 
@@ -115,10 +113,8 @@ fn plan<R: Threads + Sync, S: Source, G: Gate>(
     requires unended { (S.state source.old).has_ended ≡ false }
     ensures { Answers (Some (Command.Plan workers full)) (S.state source.old) (S.state source.new) result }
 {
-    let scene = scene_for(alloc, Command::Plan { workers, full }, source)?;
-    let hall = hall_for(alloc, &scene)?;
-    let grown = run_by_workers(rt, alloc, workers, scene, &hall, gate)?;
-    drop(hall);
+    let (scene, boxes) = problem_for(alloc, Command::Plan { workers, full }, source)?;
+    let grown = run_by_workers(rt, alloc, workers, scene, boxes, gate)?;
     Ok(report_of(alloc, full, grown)?)
 }
 
@@ -128,8 +124,7 @@ fn show<S: Source>(alloc: Global, source: &mut S) -> Result<Answer, Refusal>
     ensures { Answers (Some Command.Show) (S.state source.old) (S.state source.new) result }
 {
     let scene = scene_for(alloc, Command::Show, source)?;
-    let text = write_scene(alloc, &scene)?;
-    Ok(answer_without_run(text))
+    Ok(text_of(alloc, &scene)?)
 }
 
 /// The scene that a command asks for, read from the source.
@@ -147,24 +142,33 @@ fn scene_for<S: Source>(alloc: Global, command: Command, source: &mut S) -> Resu
     Ok(scene)
 }
 
-/// The collision checker of a scene that is to be planned, so one whose start is clear.
-fn hall_for(alloc: Global, scene: &Scene) -> Result<Boxes, Refusal>
-    requires { scene.now.clearance ≡ 0 }
-    ensures hall { IfOk result (λ hall. hall ≡ space_of scene.now) }
-    ensures start { IfOk result (λ hall. ClearAt (space_of scene.now) scene.now.start) }
-    ensures refusal { IfErr result (λ refusal. (refusal ≡ Refusal.Memory)
-        ⊎ ((refusal ≡ Refusal.StartBlocked) × ¬ ClearAt (space_of scene.now) scene.now.start)) }
+/// The scene that a command asks for, read from the source, with its collision checker. It is to be planned, so its start is clear.
+fn problem_for<S: Source>(
+    alloc: Global,
+    command: Command,
+    source: &mut S,
+) -> Result<(Scene, Boxes), Refusal>
+    requires reads { input_of command ≡ one_scene }
+    requires plans { IsTrue (plans command) }
+    requires unended { (S.state source.old).has_ended ≡ false }
+    ensures scene { IfOk result (λ problem. HasScene (S.state source.old) (S.state source.new) problem.0) }
+    ensures boxes { IfOk result (λ problem. problem.1 ≡ space_of problem.0) }
+    ensures start { IfOk result (λ problem. ClearAt (space_of problem.0) problem.0.start) }
+    ensures refusal { IfErr result (IsCaused (Some command) (S.state source.old) (S.state source.new)) }
+    ensures within { ReadsWithin (S.state source.old).bytes_left (S.state source.new).bytes_left }
 {
-    let hall = Hall::new(alloc, scene)?;
+    let scene = scene_for(alloc, command, source)?;
+    let hall = Hall::new(alloc, &scene)?;
     if !hall.clear_at(scene.start) {
         return Err(Refusal::StartBlocked);
     }
-    Ok(Boxes::new(alloc, hall)?)
+    let boxes = Boxes::new(alloc, hall)?;
+    Ok((scene, boxes))
 }
 
 /// The textbook run of a scene, over all its marks.
-fn textbook_run(alloc: Global, scene: Scene, hall: Boxes) -> Result<Grown, Memory>
-    requires hall { hall ≡ space_of scene }
+fn textbook_run(alloc: Global, scene: Scene, boxes: Boxes) -> Result<Grown, Memory>
+    requires boxes { boxes ≡ space_of scene }
     requires start { ClearAt (space_of scene) scene.start }
     ensures scene { IfOk result (λ grown. grown.task.scene ≡ scene) }
     ensures whole { IfOk result (λ grown. grown.limit ≡ length (mark_points scene)) }
@@ -173,7 +177,7 @@ fn textbook_run(alloc: Global, scene: Scene, hall: Boxes) -> Result<Grown, Memor
 {
     // the start is clear, so there is room to draw marks in
     let marks = marks(alloc, &scene)?;
-    textbook(alloc, Task { scene, marks }, &hall)
+    textbook(alloc, Task { scene, marks }, &boxes)
 }
 
 /// A run of a scene by several workers, over all its marks, settled.
@@ -182,12 +186,12 @@ fn run_by_workers<R: Threads + Sync, G: Gate>(
     alloc: Global,
     workers: u32,
     scene: Scene,
-    hall: &Boxes,
+    boxes: Boxes,
     gate: &G,
 ) -> Result<Grown, Memory>
     requires some { 1 ≤ workers }
     requires few { workers ≤ MOST_WORKERS }
-    requires hall { hall.now ≡ space_of scene }
+    requires boxes { boxes ≡ space_of scene }
     requires start { ClearAt (space_of scene) scene.start }
     ensures scene { IfOk result (λ grown. grown.task.scene ≡ scene) }
     ensures whole { IfOk result (λ grown. grown.limit ≡ length (mark_points scene)) }
@@ -200,7 +204,7 @@ fn run_by_workers<R: Threads + Sync, G: Gate>(
     let marks = marks(alloc, &scene)?;
     let limit = marks.len() as u32;
     let fresh = Grown::new(alloc, Task { scene, marks })?;
-    let mut grown = grow(rt, alloc, fresh, hall, workers, limit, gate)?;
+    let mut grown = grow(rt, alloc, fresh, &boxes, workers, limit, gate)?;
     settle(alloc, &mut grown)?;
     Ok(grown)
 }
@@ -241,26 +245,25 @@ fn answer_of(grown: Grown, best: Option<u32>, text: Vec<u8>) -> Answer
     Answer { done, text }
 }
 
-/// The answer of a command that makes a text and no run.
-fn answer_without_run(text: Vec<u8>) -> Answer
-    ensures status { result.done.status ≡ DONE }
-    ensures nothing { HandsOutNothing result.done }
-    ensures text { result.text ≡ text }
+/// The answer that writes the canonical text of a scene, which has version 1.
+fn text_of(alloc: Global, scene: &Scene) -> Result<Answer, Memory>
+    requires { scene.now.version ≡ 1 }
+    ensures { IfOk result (λ answer. WritesScene scene.now answer.done answer.text.items) }
 {
-    Answer {
+    let text = write_scene(alloc, scene)?;
+    Ok(Answer {
         done: Done::with_status(DONE),
         text,
-    }
+    })
 }
 
 /// Writes the generated scene of a number.
 fn generate(alloc: Global, number: u32) -> Result<Answer, Memory>
     requires { number ≤ MOST_GENERATED }
-    ensures { IfOk result (λ answer. WritesGenerated number answer.done answer.text.items) }
+    ensures { IfOk result (λ answer. Succeeds (Command.Gen number) [] answer.done answer.text.items) }
 {
     let scene = gen_scene(alloc, number)?;
-    let text = write_scene(alloc, &scene)?;
-    Ok(answer_without_run(text))
+    Ok(text_of(alloc, &scene)?)
 }
 
 /// The collision checker of a scene.
@@ -274,10 +277,10 @@ fn boxes_of(alloc: Global, scene: &Scene) -> Result<Boxes, Memory>
 /// Plans the generated scene of a number.
 fn trial(alloc: Global, number: u32) -> Result<Answer, Memory>
     requires { number ≤ MOST_GENERATED }
-    ensures { IfOk result (λ answer. TriesGenerated number answer.done answer.text.items) }
+    ensures { IfOk result (λ answer. Succeeds (Command.Trial number) [] answer.done answer.text.items) }
 {
     let scene = gen_scene(alloc, number)?;
-    let hall = boxes_of(alloc, &scene)?;
-    let grown = textbook_run(alloc, scene, hall)?;
+    let boxes = boxes_of(alloc, &scene)?;
+    let grown = textbook_run(alloc, scene, boxes)?;
     Ok(summary_of(alloc, grown)?)
 }

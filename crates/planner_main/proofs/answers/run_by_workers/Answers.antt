@@ -34,25 +34,3 @@ returns-clause-textbook g c = λ one.
     (IsOfTextbook-new _ c.in_ok-fresh.fresh c.in_ok-fresh.ensures.task c.in_ok-fresh.ensures.limit c.in_ok-fresh.ensures.state) in
     IsOfTextbookRun-settled (setup_of c.args.scene) (mark_points c.args.scene) (state_of_grown grown) _ c.requires.start
     (IsOfTextbookRun-whole c.args.scene grown of_scene whole textbook) c.in_ok-settle.ensures.costs_alone c.in_ok-settle.ensures.settled
-
-pub invariant_of-scene : goal.invariant_of-scene
-invariant_of-scene g c =
-    let scene = c.args.scene in
-    record {
-      version_low = scene.version_low;
-      version_high = scene.version_high;
-      room_within = scene.room_within;
-      body_within = scene.body_within;
-      obstacles_within = scene.obstacles_within;
-      clearance_high = scene.clearance_high;
-      start_within = scene.start_within;
-      goals_within = scene.goals_within;
-      step_low = scene.step_low;
-      step_high = scene.step_high;
-      gamma_high = scene.gamma_high;
-      seed_high = scene.seed_high;
-      strips_low = scene.strips_low;
-      strips_high = scene.strips_high;
-      informed_within = scene.informed_within;
-      plan_within = scene.plan_within;
-    }
