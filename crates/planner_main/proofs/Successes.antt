@@ -20,13 +20,13 @@ pub ReportsGrown-answer :
     → IsSettled (state_of_grown grown) → done.run ≡ Some grown
     → done.status ≡ status_of_report (is_some (best_node (goals_of grown.task.scene) grown.limit (state_of_grown grown)))
     → text ≡ report grown.task.scene grown.limit (state_of_grown grown) → ReportsGrown report grown.task.scene grown done text
-ReportsGrown-answer report grown done text whole settled given status written = record {
+ReportsGrown-answer report grown done text all_marks settled given status written = record {
   given = given;
   of_scene = refl;
-  whole = whole;
+  all_marks = all_marks;
   closed = (subst (λ (marks : List Point). IsClosed (setup_of scene) marks (length (mark_points scene)) (state_of_grown grown))
       grown.task.of_scene
-      (subst (λ (limit : ℕ). IsClosed (setup_of scene) grown.task.marks limit (state_of_grown grown)) whole grown.hold_run.closed));
+      (subst (λ (limit : ℕ). IsClosed (setup_of scene) grown.task.marks limit (state_of_grown grown)) all_marks grown.hold_run.closed));
   settled = settled;
   best = status;
   written = written;

@@ -48,7 +48,7 @@ Report = Scene → ℕ → TreeState → List ℕ
 pub record ReportsGrown (report : Report) (scene : Scene) (grown : Grown) (done : Done) (text : List ℕ) : Type 0 where
   pub given : done.run ≡ Some grown
   pub of_scene : grown.task.scene ≡ scene
-  pub whole : grown.limit ≡ length (mark_points scene)
+  pub all_marks : grown.limit ≡ length (mark_points scene)
   pub closed : IsClosed (setup_of scene) (mark_points scene) (length (mark_points scene)) (state_of_grown grown)
   pub settled : IsSettled (state_of_grown grown)
   pub best : done.status ≡ status_of_report (is_some (best_node (goals_of scene) grown.limit (state_of_grown grown)))

@@ -55,7 +55,7 @@ pub record IsUnwritten (before now : SinkState) : Type 0 where
 
 -- the sink took the whole text
 pub record IsWrittenWhole (before now : SinkState) (text : List ℕ) : Type 0 where
-  pub whole : Appends before.bytes_taken now.bytes_taken text
+  pub all : Appends before.bytes_taken now.bytes_taken text
   pub no_fault : IsTrue before.counts_failures_alone → now.fault_count ≡ before.fault_count
 
 -- the sink took a proper prefix of the text, since a write failed; it was not tried again

@@ -171,7 +171,7 @@ fn textbook_run(alloc: Global, scene: Scene, boxes: Boxes) -> Result<Grown, Memo
     requires boxes { boxes ≡ space_of scene }
     requires start { ClearAt (space_of scene) scene.start }
     ensures scene { IfOk result (λ grown. grown.task.scene ≡ scene) }
-    ensures whole { IfOk result (λ grown. grown.limit ≡ length (mark_points scene)) }
+    ensures all_marks { IfOk result (λ grown. grown.limit ≡ length (mark_points scene)) }
     ensures run { IfOk result (λ grown. IsOfTextbookRun (setup_of scene) (mark_points scene) (state_of_grown grown)) }
     ensures settled { IfOk result (λ grown. IsSettled (state_of_grown grown)) }
 {
@@ -194,7 +194,7 @@ fn run_by_workers<R: Threads + Sync, G: Gate>(
     requires boxes { boxes ≡ space_of scene }
     requires start { ClearAt (space_of scene) scene.start }
     ensures scene { IfOk result (λ grown. grown.task.scene ≡ scene) }
-    ensures whole { IfOk result (λ grown. grown.limit ≡ length (mark_points scene)) }
+    ensures all_marks { IfOk result (λ grown. grown.limit ≡ length (mark_points scene)) }
     ensures settled { IfOk result (λ grown. IsSettled (state_of_grown grown)) }
     ensures workers { IfOk result (λ grown. (k : ℕ) (entry : Record)
         → (state_of_grown grown).record_of k ≡ Some entry → entry.worker < workers) }
@@ -211,7 +211,7 @@ fn run_by_workers<R: Threads + Sync, G: Gate>(
 
 /// The report of a settled run over all marks of its scene, in full or in short.
 fn report_of(alloc: Global, full: bool, grown: Grown) -> Result<Answer, Memory>
-    requires whole { grown.limit ≡ length (mark_points grown.task.scene) }
+    requires all_marks { grown.limit ≡ length (mark_points grown.task.scene) }
     requires settled { IsSettled (state_of_grown grown) }
     ensures { IfOk result (λ answer. ReportsGrown (report_text full) grown.task.scene grown answer.done answer.text.items) }
 {
@@ -222,7 +222,7 @@ fn report_of(alloc: Global, full: bool, grown: Grown) -> Result<Answer, Memory>
 
 /// The summary of a settled run over all marks of its scene.
 fn summary_of(alloc: Global, grown: Grown) -> Result<Answer, Memory>
-    requires whole { grown.limit ≡ length (mark_points grown.task.scene) }
+    requires all_marks { grown.limit ≡ length (mark_points grown.task.scene) }
     requires settled { IsSettled (state_of_grown grown) }
     ensures { IfOk result (λ answer. ReportsGrown summary grown.task.scene grown answer.done answer.text.items) }
 {

@@ -7,6 +7,6 @@ use Rattle.planner_main.proofs.answers.summary_of.Goals as goal
 
 pub returns : goal.returns
 returns c =
-    ReportsGrown-answer summary c.args.grown _ _ c.requires.whole c.requires.settled c.answer_of.ensures.run
+    ReportsGrown-answer summary c.args.grown _ _ c.requires.all_marks c.requires.settled c.answer_of.ensures.run
     (c.answer_of.ensures.status ∙ ap (λ best. status_of_report (is_some best)) c.best-best.ensures.value)
     (ap (λ text. text.items) c.answer_of.ensures.text ∙ c.in_ok-text.ensures)
