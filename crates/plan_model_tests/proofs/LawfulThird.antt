@@ -15,7 +15,6 @@ use Rattle.plan_model.specs.Geometry.Roots.{root_ceiling}
 use Rattle.plan_model.specs.Trees.TreeStates.{TreeState}
 use Rattle.plan_model.specs.Vectors.Shapes.{at}
 use Rattle.plan_model.proofs.EmptyRoomClearance.{AreInRoom-from_clear, Clear-empty_room}
-use Rattle.plan_model.proofs.LeastPairLaws.{IsNotAbove-lesser, IsNotAbove-refl}
 use Rattle.plan_model.proofs.OpenRoomMarks.{cost_2000, cost_2500}
 use Rattle.plan_model.proofs.RootLaws.{root_ceiling-from_squares}
 use Rattle.plan_model.proofs.SteeringLaws.{steered-near}
@@ -109,8 +108,8 @@ module _ (cost class : ℕ) (low : 2 ≤ class) (high : class ≤ 3) (falls : co
   pub IsThird-start : IsThird 100 50 (third_with (at 0 50) cost 12594 12800) (entry_by 2 0 12800 class)
   IsThird-start = IsThird-fits (at 0 50) cost 12594 12800 2 0 12800 class 100 50 (record {
     present = refl;
-    near_start = IsNotAbove-lesser _ 2 0 (omega arith);
-    near_first = IsNotAbove-lesser _ 2 1 (omega arith);
+    near_start = record { least = omega arith; first = λ e. omega (arith, e) };
+    near_first = record { least = omega arith; first = λ e. omega (arith, e) };
     short = omega arith;
     clear = clear_in 100 (at 22 44) (omega arith) (omega arith) (omega arith);
     of_class = record { low = low; high = high };
@@ -139,8 +138,8 @@ pub IsThird-second : (other c : ℕ) → 18432 ≤ c → c ≤ other + 5838 → 
     → IsThird 100 50 (third_with (at 0 50) 12800 other 12800) (entry_by 2 2 c 3)
 IsThird-second other c low high most = IsThird-fits (at 0 50) 12800 other 12800 2 2 c 3 100 50 (record {
   present = refl;
-  near_start = IsNotAbove-lesser _ 2 0 (omega arith);
-  near_first = IsNotAbove-lesser _ 2 1 (omega arith);
+  near_start = record { least = omega arith; first = λ e. omega (arith, e) };
+  near_first = record { least = omega arith; first = λ e. omega (arith, e) };
   short = omega arith;
   clear = clear_in 100 (at 22 44) (omega arith) (omega arith) (omega arith);
   of_class = record { low = omega arith; high = omega arith };
@@ -166,8 +165,8 @@ IsThird-second other c low high most = IsThird-fits (at 0 50) 12800 other 12800 
 pub of_first_parent : IsThird 100 50 third (entry_by 1 2 18432 3)
 of_first_parent = IsThird-fits (at 0 50) 12800 12594 12800 1 2 18432 3 100 50 (record {
   present = refl;
-  near_start = IsNotAbove-lesser _ 1 0 (omega arith);
-  near_first = IsNotAbove-refl _ 1;
+  near_start = record { least = omega arith; first = λ e. omega (arith, e) };
+  near_first = record { least = omega arith; first = λ e. omega arith };
   short = omega arith;
   clear = clear_in 100 (at 0 50) (omega arith) (omega arith) (omega arith);
   of_class = record { low = omega arith; high = omega arith };
@@ -193,8 +192,8 @@ of_first_parent = IsThird-fits (at 0 50) 12800 12594 12800 1 2 18432 3 100 50 (r
 pub cheaper_by_another : IsThird 100 50 third (entry_by 1 1 24249 3)
 cheaper_by_another = IsThird-fits (at 0 50) 12800 12594 12800 1 1 24249 3 100 50 (record {
   present = refl;
-  near_start = IsNotAbove-lesser _ 1 0 (omega arith);
-  near_first = IsNotAbove-refl _ 1;
+  near_start = record { least = omega arith; first = λ e. omega (arith, e) };
+  near_first = record { least = omega arith; first = λ e. omega arith };
   short = omega arith;
   clear = clear_in 100 (at 0 50) (omega arith) (omega arith) (omega arith);
   of_class = record { low = omega arith; high = omega arith };
@@ -220,8 +219,8 @@ cheaper_by_another = IsThird-fits (at 0 50) 12800 12594 12800 1 1 24249 3 100 50
 pub on_the_wall : IsThird 50 50 (third_with (at 0 50) 12800 18411 12800) (entry_by 2 1 24249 3)
 on_the_wall = IsThird-fits (at 0 50) 12800 18411 12800 2 1 24249 3 50 50 (record {
   present = refl;
-  near_start = IsNotAbove-lesser _ 2 0 (omega arith);
-  near_first = IsNotAbove-lesser _ 2 1 (omega arith);
+  near_start = record { least = omega arith; first = λ e. omega (arith, e) };
+  near_first = record { least = omega arith; first = λ e. omega (arith, e) };
   short = omega arith;
   clear = clear_in 50 (at 22 44) (omega arith) (omega arith) (omega arith);
   of_class = record { low = omega arith; high = omega arith };
@@ -247,8 +246,8 @@ on_the_wall = IsThird-fits (at 0 50) 12800 18411 12800 2 1 24249 3 50 50 (record
 pub edge_of_a_step : IsThird 100 50 (third_with (at 90 30) 11446 18411 12800) (entry_by 2 1 24249 3)
 edge_of_a_step = IsThird-fits (at 90 30) 11446 18411 12800 2 1 24249 3 100 50 (record {
   present = refl;
-  near_start = IsNotAbove-lesser _ 2 0 (omega arith);
-  near_first = IsNotAbove-lesser _ 2 1 (omega arith);
+  near_start = record { least = omega arith; first = λ e. omega (arith, e) };
+  near_first = record { least = omega arith; first = λ e. omega (arith, e) };
   short = omega arith;
   clear = clear_in 100 (at 22 44) (omega arith) (omega arith) (omega arith);
   of_class = record { low = omega arith; high = omega arith };
@@ -276,8 +275,8 @@ edge_of_a_step = IsThird-fits (at 90 30) 11446 18411 12800 2 1 24249 3 100 50 (r
 pub cheaper_not_clear : IsThird 49 49 (third_with (at 0 50) 12800 18412 12800) (entry_by 2 2 24250 2)
 cheaper_not_clear = IsThird-fits (at 0 50) 12800 18412 12800 2 2 24250 2 49 49 (record {
   present = refl;
-  near_start = IsNotAbove-lesser _ 2 0 (omega arith);
-  near_first = IsNotAbove-lesser _ 2 1 (omega arith);
+  near_start = record { least = omega arith; first = λ e. omega (arith, e) };
+  near_first = record { least = omega arith; first = λ e. omega (arith, e) };
   short = omega arith;
   clear = clear_in 49 (at 22 44) (omega arith) (omega arith) (omega arith);
   of_class = record { low = omega arith; high = omega arith };

@@ -7,7 +7,9 @@ ghost use Rattle.plan_model.specs.Scenes.Limits.{are_obstacles, is_plan};
 ghost use Rattle.plan_model.specs.declared.scenes.Marks.TheVariants.{Listed};
 ghost use Rattle.plan_work_tests.specs.Sharers.{HasShare};
 
-use crate::support::{Ending, TO_REWIRE, assert_ending, assert_extended, assert_found, small_task, sure, two_passes};
+use crate::support::{
+    Ending, TO_REWIRE, assert_ending, assert_extended, assert_found, small_task, sure, two_passes,
+};
 use plan_model::{
     Goal, Marks, Memory, Outcome, Point, Poly, Polys, Scene, Sequence, SmallScene, Task, Vertex,
 };

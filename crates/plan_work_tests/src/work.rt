@@ -5,7 +5,9 @@ ghost use Rattle.plan_model.specs.Spaces.Clearance.{ClearAt};
 ghost use Rattle.plan_model.specs.Spaces.ConfigurationSpace.{space_of};
 ghost use Rattle.plan_work_tests.specs.Sharers.{HasClaimed, HasShare, IsOfThree};
 
-use crate::support::{Entry, TO_REWIRE, assert_claimed, assert_records, extend_claimed, joined_run, sure, two_passes};
+use crate::support::{
+    Entry, TO_REWIRE, assert_claimed, assert_records, extend_claimed, joined_run, sure, two_passes,
+};
 use plan_model::{Goal, Outcome, Point, SmallScene, Task};
 use plan_words::{Pass, Shared};
 use plan_work::{Gate, NoGate, grow, work};

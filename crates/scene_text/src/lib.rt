@@ -11,11 +11,11 @@ mod drafts;
 mod fetching;
 mod field_words;
 mod key_words;
-pub mod text_laws;
 mod line_words;
 mod refusals;
 mod scene_reader;
 mod scene_writer;
+pub mod text_laws;
 
 pub use fetching::{FetchFault, fetch};
 pub use refusals::{SceneFault, SceneRefusal};

@@ -25,7 +25,6 @@ mod kd_links;
 mod kd_sides;
 mod kd_trees;
 mod kd_walks;
-mod word_laws;
 mod layout;
 mod measured_nodes;
 mod node_writes;
@@ -36,6 +35,7 @@ mod run_words;
 mod seen_laws;
 mod tree_words;
 mod views;
+mod word_laws;
 mod word_places;
 pub mod world_laws;
 
