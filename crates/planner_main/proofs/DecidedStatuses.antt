@@ -119,7 +119,7 @@ spelled commands.Show bytes scene is reads = is
 spelled (commands.Gen number) bytes scene is reads = absurd (false≢true reads)
 spelled (commands.Trial number) bytes scene is reads = absurd (false≢true reads)
 
--- so a command that reads a text and does something with its scene succeeds as its bytes decide
+-- so one that succeeds with something of its scene does so as the bytes decide
 by_scene : (bytes : List ℕ) (command : Command) (status : ℕ) (P : Scene → Type 0) → OfScene command bytes P → IsTrue (reads_text command) →
     status ≤ greatest_success command → IsDecidedBy bytes command status
 by_scene bytes command status P s reads low =
@@ -188,6 +188,7 @@ refusal_decided (Some command) before now refusals.TooLong cause sure =
 refusal_decided (Some command) before now (refusals.Text number kind) cause sure =
     inr (of_whole before now command _ cause.0 cause.1.0 cause.1.1 (by_fault cause.1.0 command _ number kind cause.1.2 refl))
 refusal_decided (Some command) before now refusals.StartBlocked cause sure =
-    inr (of_whole before now command _ (and_parts (reads_text command) (plans command) cause.0).0 cause.1.0 cause.1.1 (by_start cause.1.0 command _ cause.1.2 cause.0 refl))
+    let reads = (and_parts (reads_text command) (plans command) cause.0).0 in
+    inr (of_whole before now command _ reads cause.1.0 cause.1.1 (by_start cause.1.0 command _ cause.1.2 cause.0 refl))
 refusal_decided (Some command) before now refusals.ReadFault cause sure = absurd (sure cause.1.rose)
 refusal_decided (Some command) before now refusals.Memory cause sure = inl refl
