@@ -43,7 +43,6 @@ loop-mark-preserved c =
     let records = record_at (words_in c.args.words.now) in
     let mark = c.loop-mark.mark in
     let turns = c.loop-mark.turns.items in
-    let low : mark < c.args.words.now.places.marks = omega (arith, c.loop-mark-test.true, c.marks-mark-end.ensures, ap (λ places. places.marks) c.places.ensures) in
     elim c.match-record_at.branch [
       | in-Some+then-entry-workers w ↦ (
           let worker = w.in-Some.entry.worker in
@@ -54,8 +53,8 @@ loop-mark-preserved c =
             sized = ap (λ l. length l) items ∙ length-set turns worker _ ∙ kept.sized;
             counted =
                 subst (AreCounted records c.args.workers (mark + 1)) (sym items)
-                (AreCounted-one records mark c.args.workers turns kept.counted w.in-Some.entry (sym c.record_at.ensures ∙ w.in-Some.is) w.if-entry-workers.true kept.sized
-                w.index_mut.result.now was);
+                (AreCounted-one records mark c.args.workers turns kept.counted w.in-Some.entry (sym c.record_at.ensures ∙ w.in-Some.is)
+                w.if-entry-workers.true kept.sized w.index_mut.result.now was);
           })
       | in-Some+else-entry-workers w ↦ (
           let items = ap (λ v. v.items) w.turns-is in

@@ -1,6 +1,7 @@
 use Rattle.std.proofs.Common.{sym, ap, ◌∙◌, subst, arith}
 use Rattle.std.specs.Mem.Slots.{slots_items}
-use Rattle.plan_words.proofs.Ending.{AreSameRuns-ended, HoldRun-ended, StandsAsSeen-ended, limit-found, own_workers-ended, same_in_run, stands_in_run, words-copied}
+use Rattle.plan_words.proofs.Ending.{AreSameRuns-ended, HoldRun-ended, StandsAsSeen-ended, limit-found, own_workers-ended}
+use Rattle.plan_words.proofs.Ending.{same_in_run, stands_in_run, words-copied}
 use Rattle.plan_words.proofs.Owning.{same_run}
 use Rattle.plan_words.proofs.shared.Shared.end.Goals as goal
 use Rattle.plan_words.specs.Claims.{HasNoneLeft}
