@@ -3,4 +3,4 @@ use Rattle.obstacle_boxes.specs.NearZones.{near_count}
 use Rattle.obstacle_boxes_tests.proofs.tests.near_boxes.Given as goal
 
 abbrev pub invariant-loop-bounds : goal.invariant-loop-bounds
-invariant-loop-bounds l = record { counted : l.count ≡ near_count (take l.bounds-index l.all) l.a l.b; few : l.count ≤ l.bounds-index }
+invariant-loop-bounds l = record { counted : l.count ≡ near_count (take l.bounds-index l.all) l.fn.a l.fn.b; few : l.count ≤ l.bounds-index }
