@@ -86,25 +86,26 @@ HasPairs-joined view other pairs others now same has theirs sized taken = record
 }
 
 pub keeps_taken_over :
-    (me mid after : Me Aim View) (other : View) (own member : Option Member) (hand : Option Hand) (for_spots for_near waiting : ℕ)
+    (me mid after : Me Aim View) (other : View) (own member : Option Member) (hand : Option Hand) (for_spots for_near for_around for_waiting : ℕ)
     (pairs others now : List ℕ) (place x : ℕ) → mid ≡ (joined me.0 other, me.1) → Tells mid (saw_at mid.0 place x x) after → place ≡ place_in mid.0 Count
-    → Keeps me own hand for_spots for_near waiting pairs → other.run ≡ me.0.run → HasPairs other others → member ≡ first_member (me.0.crew ++ other.crew)
+    → Keeps me own hand for_spots for_near for_around for_waiting pairs → other.run ≡ me.0.run → HasPairs other others
+    → member ≡ first_member (me.0.crew ++ other.crew)
     → length now ≡ length pairs
     → ((n : ℕ) → n < length pairs → slice_index now n ≡ later_word Falling (slice_index pairs n) (slice_index others n))
-    → Keeps after member hand for_spots for_near waiting now
-keeps_taken_over me mid after other own member hand for_spots for_near waiting pairs others now place x mid_is told at_place (none, tied, room, has) same theirs
-    member_is sized taken =
-    let kept : Keeps mid member hand for_spots for_near waiting now = (
+    → Keeps after member hand for_spots for_near for_around for_waiting now
+keeps_taken_over me mid after other own member hand for_spots for_near for_around for_waiting pairs others now place x mid_is told at_place
+    (none, tied, room, has) same theirs member_is sized taken =
+    let kept : Keeps mid member hand for_spots for_near for_around for_waiting now = (
       ap (λ m. m.1) mid_is ∙ none,
       record {
         member_is = member_is ∙ ap (λ m. first_member m.0.crew) (sym mid_is);
         hand_is = tied.hand_is ∙ ap (λ m. m.0.hand) (sym mid_is);
         lawful = told.goes_on.was_lawful;
       },
-      subst (λ r. HasRoom r for_spots for_near waiting) (sym (ap (λ m. m.0.run) mid_is)) room,
+      subst (λ r. HasRoom r for_spots for_near for_around for_waiting) (sym (ap (λ m. m.0.run) mid_is)) room,
       subst (λ m. HasPairs m.0 now) (sym mid_is) (HasPairs-joined me.0 other pairs others now same has theirs sized taken),
     ) in
-    keeps_saw mid after member hand for_spots for_near waiting now Count place x x told kept tt at_place (λ n e. cc)
+    keeps_saw mid after member hand for_spots for_near for_around for_waiting now Count place x x told kept tt at_place (λ n e. cc)
 
 -- ---- the later of two tree words
 

@@ -65,59 +65,66 @@ HasPairs-set view then pairs m place found x lawful here at_place is has =
     }
 
 -- what a pass keeps
-abbrev pub Keeps : Me Aim View → Option Member → Option Hand → ℕ → ℕ → ℕ → List ℕ → Type 0
-Keeps me member hand for_spots for_near waiting pairs =
-    (me.1 ≡ []) × IsTied me.0 member hand × HasRoom me.0.run for_spots for_near waiting × HasPairs me.0 pairs
+abbrev pub Keeps : Me Aim View → Option Member → Option Hand → ℕ → ℕ → ℕ → ℕ → List ℕ → Type 0
+Keeps me member hand for_spots for_near for_around for_waiting pairs =
+    (me.1 ≡ []) × IsTied me.0 member hand × HasRoom me.0.run for_spots for_near for_around for_waiting × HasPairs me.0 pairs
 
 -- it keeps that after a step that leaves it so
 pub keeps_view :
-    (me after : Me Aim View) (view : View) (member own : Option Member) (hand next : Option Hand) (for_spots for_near waiting : ℕ) (pairs now : List ℕ)
-    → Tells me view after → Keeps me member hand for_spots for_near waiting pairs → view.run ≡ me.0.run → own ≡ first_member view.crew → next ≡ view.hand
-    → (HasPairs me.0 pairs → HasPairs view now) → Keeps after own next for_spots for_near waiting now
-keeps_view me after view member own hand next for_spots for_near waiting pairs now told (none, tied, room, has) run member_is hand_is pairs_then = (
-  told.slots ∙ none,
-  record {
-    member_is = member_is ∙ ap (λ v. first_member v.crew) (sym told.view_is);
-    hand_is = hand_is ∙ ap (λ v. v.hand) (sym told.view_is);
-    lawful = subst IsLawfulView (sym told.view_is) told.goes_on.lawful;
-  },
-  subst (λ r. HasRoom r for_spots for_near waiting) (sym (ap (λ v. v.run) told.view_is ∙ run)) room,
-  subst (λ v. HasPairs v now) (sym told.view_is) (pairs_then has),
-)
+    (me after : Me Aim View) (view : View) (member own : Option Member) (hand next : Option Hand) (for_spots for_near for_around for_waiting : ℕ)
+    (pairs now : List ℕ)
+    → Tells me view after → Keeps me member hand for_spots for_near for_around for_waiting pairs → view.run ≡ me.0.run → own ≡ first_member view.crew
+    → next ≡ view.hand
+    → (HasPairs me.0 pairs → HasPairs view now) → Keeps after own next for_spots for_near for_around for_waiting now
+keeps_view me after view member own hand next for_spots for_near for_around for_waiting pairs now told (none, tied, room, has) run member_is hand_is
+    pairs_then = (
+      told.slots ∙ none,
+      record {
+        member_is = member_is ∙ ap (λ v. first_member v.crew) (sym told.view_is);
+        hand_is = hand_is ∙ ap (λ v. v.hand) (sym told.view_is);
+        lawful = subst IsLawfulView (sym told.view_is) told.goes_on.lawful;
+      },
+      subst (λ r. HasRoom r for_spots for_near for_around for_waiting) (sym (ap (λ v. v.run) told.view_is ∙ run)) room,
+      subst (λ v. HasPairs v now) (sym told.view_is) (pairs_then has),
+    )
 
 -- a step on a word of another kind
 pub keeps_saw :
-    (me after : Me Aim View) (member : Option Member) (hand : Option Hand) (for_spots for_near waiting : ℕ) (pairs : List ℕ) (name : Word)
-    (place found x : ℕ) → Tells me (saw_at me.0 place found x) after → (kept : Keeps me member hand for_spots for_near waiting pairs)
+    (me after : Me Aim View) (member : Option Member) (hand : Option Hand) (for_spots for_near for_around for_waiting : ℕ) (pairs : List ℕ) (name : Word)
+    (place found x : ℕ) → Tells me (saw_at me.0 place found x) after → (kept : Keeps me member hand for_spots for_near for_around for_waiting pairs)
     → HasWord (run_sizes me.0.run) name → place ≡ place_in me.0 name → ((n : ℕ) → TreeOf n ≢ name)
-    → Keeps after member hand for_spots for_near waiting pairs
-keeps_saw me after member hand for_spots for_near waiting pairs name place found x told kept here at_place other =
-    keeps_view me after (saw_at me.0 place found x) member member hand hand for_spots for_near waiting pairs pairs told kept refl kept.1.member_is
+    → Keeps after member hand for_spots for_near for_around for_waiting pairs
+keeps_saw me after member hand for_spots for_near for_around for_waiting pairs name place found x told kept here at_place other =
+    keeps_view me after (saw_at me.0 place found x) member member hand hand for_spots for_near for_around for_waiting pairs pairs told kept refl
+    kept.1.member_is
     kept.1.hand_is (HasPairs-saw me.0 (saw_at me.0 place found x) pairs name place found x kept.1.lawful here at_place refl other)
 
 -- one on a tree word, if the list has that
 pub keeps_pair :
-    (me after : Me Aim View) (member : Option Member) (hand : Option Hand) (for_spots for_near waiting : ℕ) (pairs : List ℕ) (m place found x : ℕ)
-    → Tells me (saw_at me.0 place found x) after → (kept : Keeps me member hand for_spots for_near waiting pairs) → m ≤ length me.0.run.marks
-    → place ≡ place_in me.0 (TreeOf m) → Keeps after member hand for_spots for_near waiting (slice_set pairs m x)
-keeps_pair me after member hand for_spots for_near waiting pairs m place found x told kept here at_place =
-    keeps_view me after (saw_at me.0 place found x) member member hand hand for_spots for_near waiting pairs (slice_set pairs m x) told kept refl
+    (me after : Me Aim View) (member : Option Member) (hand : Option Hand) (for_spots for_near for_around for_waiting : ℕ) (pairs : List ℕ)
+    (m place found x : ℕ)
+    → Tells me (saw_at me.0 place found x) after → (kept : Keeps me member hand for_spots for_near for_around for_waiting pairs) → m ≤ length me.0.run.marks
+    → place ≡ place_in me.0 (TreeOf m) → Keeps after member hand for_spots for_near for_around for_waiting (slice_set pairs m x)
+keeps_pair me after member hand for_spots for_near for_around for_waiting pairs m place found x told kept here at_place =
+    keeps_view me after (saw_at me.0 place found x) member member hand hand for_spots for_near for_around for_waiting pairs (slice_set pairs m x) told kept refl
     kept.1.member_is kept.1.hand_is (HasPairs-set me.0 (saw_at me.0 place found x) pairs m place found x kept.1.lawful here at_place refl)
 
 -- one for the mark in hand by which no tree word is seen anew
 pub keeps_hand :
-    (me after : Me Aim View) (view : View) (member : Option Member) (hand : Option Hand) (next : Hand) (for_spots for_near waiting : ℕ) (pairs : List ℕ)
-    → Tells me view after → (kept : Keeps me member hand for_spots for_near waiting pairs) → view.run ≡ me.0.run → view.crew ≡ me.0.crew
-    → view.hand ≡ Some next → ((n : ℕ) → sees view (TreeOf n) ≡ sees me.0 (TreeOf n)) → Keeps after member (Some next) for_spots for_near waiting pairs
-keeps_hand me after view member hand next for_spots for_near waiting pairs told kept run crew held seen =
-    keeps_view me after view member member hand (Some next) for_spots for_near waiting pairs pairs told kept run
+    (me after : Me Aim View) (view : View) (member : Option Member) (hand : Option Hand) (next : Hand) (for_spots for_near for_around for_waiting : ℕ)
+    (pairs : List ℕ)
+    → Tells me view after → (kept : Keeps me member hand for_spots for_near for_around for_waiting pairs) → view.run ≡ me.0.run → view.crew ≡ me.0.crew
+    → view.hand ≡ Some next → ((n : ℕ) → sees view (TreeOf n) ≡ sees me.0 (TreeOf n))
+    → Keeps after member (Some next) for_spots for_near for_around for_waiting pairs
+keeps_hand me after view member hand next for_spots for_near for_around for_waiting pairs told kept run crew held seen =
+    keeps_view me after view member member hand (Some next) for_spots for_near for_around for_waiting pairs pairs told kept run
     (kept.1.member_is ∙ ap first_member (sym crew)) (sym held) (HasPairs-kept me.0 view pairs run seen)
 
 -- a word that the list has after a step has its parent on the list
 pub keeps_parent :
-    (after : Me Aim View) (member : Option Member) (hand : Option Hand) (for_spots for_near waiting : ℕ) (pairs : List ℕ) (m x : ℕ)
-    → Keeps after member hand for_spots for_near waiting (slice_set pairs m x) → m < length pairs → 2 ^ 63 ≤ x → parent_in x < length pairs
-keeps_parent after member hand for_spots for_near waiting pairs m x (none, tied, room, has) low written =
+    (after : Me Aim View) (member : Option Member) (hand : Option Hand) (for_spots for_near for_around for_waiting : ℕ) (pairs : List ℕ) (m x : ℕ)
+    → Keeps after member hand for_spots for_near for_around for_waiting (slice_set pairs m x) → m < length pairs → 2 ^ 63 ≤ x → parent_in x < length pairs
+keeps_parent after member hand for_spots for_near for_around for_waiting pairs m x (none, tied, room, has) low written =
     let sized = length-set pairs m x in
     let within : m ≤ length after.0.run.marks = omega (arith, has.for_each, sized, low) in
     let same = sym (get_or-set_same pairs m x 0 low) ∙ has.seen m within in

@@ -1,9 +1,10 @@
 -- A node that waits is marked, comes on the list, and goes off it.
 use Rattle.std.proofs.Common.{◌≡◌, ◌≢◌, ◌⊎◌, ℕ, zero, suc, ◌<◌, ◌≤◌, Bool, true, false, List, []}
 use Rattle.std.proofs.Common.{◌∷◌, ◌++◌, Option, None, Some, append-nil, length, refl, sym, ap, ◌∙◌, subst, ⊎_elim, inl, inr, arith}
-use Rattle.std.specs.Prelude.{IfSome, option_to_list, slice_index, slice_set}
+use Rattle.std.specs.Prelude.{IfSome, option_to_list, replicate, slice_index, slice_set}
 use Rattle.std.proofs.lemmas.Bool.{cases_eq, cases_lt}
-use Rattle.std.proofs.lemmas.List.{get_or_append_left, get_or-set_other, get_or-set_same, length-append, length-set}
+use Rattle.std.proofs.lemmas.List.{get_or-replicate, get_or-set_other, get_or-set_same, get_or_append_left}
+use Rattle.std.proofs.lemmas.List.{get_or_past, length-append, length-replicate, length-set}
 use Rattle.plan_words.specs.Waiting.{AreMarked, IsOn, NoneMarked, count_marked, is_marked}
 
 -- ---- a list with one node more
@@ -160,6 +161,13 @@ room-push nodes marked n are low free =
     omega (arith, are.count, count-marked marked n low free, count-within (slice_set marked n true), length-set marked n true)
 
 -- ---- at the start and at the end
+
+-- at the start no node is marked
+pub NoneMarked-start : (nodes : ℕ) → NoneMarked (replicate nodes false)
+NoneMarked-start nodes n = ⊎_elim
+    (λ (low : n < nodes). get_or-replicate nodes n false false low)
+    (λ (high : nodes ≤ n). get_or_past (replicate nodes false) n false (omega (arith, length-replicate nodes false, high)))
+    (cases_lt n nodes)
 
 -- no node on an empty list is marked
 pub AreMarked-none : (marked : List Bool) → NoneMarked marked → AreMarked [] marked

@@ -195,18 +195,23 @@ IsTied-looker view lawful = record { member_is = refl; hand_is = refl; lawful = 
 
 -- lists with room for one more than there are marks have room for each node
 pub HasRoom-new :
-    (places : WordPlaces) (run own : SharedRun) (nodes for_spots for_near waiting : ℕ) → sizes_in places ≡ run_sizes run → own ≡ run
-    → nodes ≡ (sizes_in places).marks + 1 → (nodes ≤ 2 * for_spots) × (nodes ≤ for_near) × (waiting ≡ nodes)
-    → HasRoom own for_spots for_near waiting
-HasRoom-new places run own nodes for_spots for_near waiting same own_is nodes_is (spots, near, around) =
+    (places : WordPlaces) (run own : SharedRun) (nodes for_spots for_near for_around for_waiting : ℕ) → sizes_in places ≡ run_sizes run → own ≡ run
+    → nodes ≡ (sizes_in places).marks + 1 → (nodes ≤ 2 * for_spots) × (nodes ≤ for_near) × (nodes ≤ for_around) × (for_waiting ≡ nodes)
+    → HasRoom own for_spots for_near for_around for_waiting
+HasRoom-new places run own nodes for_spots for_near for_around for_waiting same own_is nodes_is (spots, near, around, waiting) =
     let marks : length own.marks + 1 ≡ nodes = ap (λ r. length r.marks + 1) own_is ∙ sym (ap (λ s. s.marks + 1) same) ∙ sym nodes_is in
-    record { spots = omega (arith, marks, spots); near = omega (arith, marks, near); around = omega (arith, marks, around) }
+    record {
+      spots = omega (arith, marks, spots);
+      near = omega (arith, marks, near);
+      around = omega (arith, marks, around);
+      waiting = omega (arith, marks, waiting);
+    }
 
 -- and keep it for the same run
 pub HasRoom-kept :
-    (run own : SharedRun) (for_spots for_near waiting : ℕ) → own ≡ run → HasRoom run for_spots for_near waiting
-    → HasRoom own for_spots for_near waiting
-HasRoom-kept run own for_spots for_near waiting same room = subst (λ r. HasRoom r for_spots for_near waiting) (sym same) room
+    (run own : SharedRun) (for_spots for_near for_around for_waiting : ℕ) → own ≡ run → HasRoom run for_spots for_near for_around for_waiting
+    → HasRoom own for_spots for_near for_around for_waiting
+HasRoom-kept run own for_spots for_near for_around for_waiting same room = subst (λ r. HasRoom r for_spots for_near for_around for_waiting) (sym same) room
 
 -- the first of the crew stays
 first_stays : (crew : List Member) → first_member (without_second crew) ≡ first_member crew

@@ -1,5 +1,5 @@
 -- What contracts see of a shared tree and of a pass, and what a table of words keeps.
-use Rattle.std.specs.Prelude.{◌≡◌, ℕ, ◌+◌, ◌*◌, ◌<◌, ◌≤◌, Bool, false, Option, Some, None, List, [], ◌∷◌, length, slice_index}
+use Rattle.std.specs.Prelude.{◌≡◌, ℕ, ◌+◌, ◌*◌, ◌<◌, ◌≤◌, Option, Some, None, List, [], ◌∷◌, length, slice_index}
 use Rattle.atomic_table.specs.Seated.{TableId}
 use Rattle.plan_model.specs.declared.tasks.Task.{Task}
 use Rattle.plan_words.specs.declared.openings.Opening.{Opening}
@@ -31,18 +31,18 @@ pub record SharedState : Type 0 where
 abbrev pub run_in : SharedState → SharedRun
 run_in shared = run_of shared.task shared.workers shared.opening
 
--- A pass: its table and its view, and its scratch lists, which no step of the pass changes, and whether the nodes of the second one wait.
+-- A pass: its table and its view, and its scratch lists, which no step of the pass changes.
 pub record PassState : Type 0 where
   pub table : TableId
   pub view : View
   pub spots : List Spot
   pub near : List ℕ
   pub around : List ℕ
-  pub waits : Bool
+  pub waiting : List ℕ
 
 -- one whose lists are empty
 abbrev pub new_pass : TableId → View → PassState
-new_pass table view = record { table = table; view = view; spots = []; near = []; around = []; waits = false }
+new_pass table view = record { table = table; view = view; spots = []; near = []; around = []; waiting = [] }
 
 -- The pass was made or split from this very tree. What the law says of a view holds of that of each such pass.
 pub record BelongsTo (pass : PassState) (shared : SharedState) : Type 0 where
@@ -124,10 +124,11 @@ pub record HasPairs (view : View) (pairs : List ℕ) : Type 0 where
   pub seen : (n : ℕ) → n ≤ length view.run.marks → slice_index pairs n ≡ sees view (TreeOf n)
 
 -- each list of found nodes may hold as many as the run may have nodes, that of spots half as many, and each node may wait
-pub record HasRoom (run : SharedRun) (for_spots for_near waiting : ℕ) : Type 0 where
+pub record HasRoom (run : SharedRun) (for_spots for_near for_around for_waiting : ℕ) : Type 0 where
   pub spots : length run.marks + 1 ≤ 2 * for_spots
   pub near : length run.marks + 1 ≤ for_near
-  pub around : length run.marks + 1 ≡ waiting
+  pub around : length run.marks + 1 ≤ for_around
+  pub waiting : length run.marks + 1 ≡ for_waiting
 
 -- ---- the start
 

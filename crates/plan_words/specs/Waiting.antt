@@ -1,14 +1,13 @@
--- A list of nodes on which each stands once while they wait to be looked at.
+-- A list of nodes that wait to be looked at, on which each stands once.
 use Rattle.std.specs.Prelude.{◌≡◌, ℕ, suc, ◌<◌, ◌≤◌, ◌^◌, Bool, true, false, List, [], ◌∷◌, length, SomeIndex, get_or, slice_index}
 use Rattle.step_core.specs.Views.{sees}
 use Rattle.step_core.specs.WordNames.Word.{TreeOf}
 use Rattle.step_core.specs.Words.{parent_in}
 use Rattle.step_core.specs.declared.views.View.{View}
 
--- What contracts see of such a list: its nodes, whether they wait, and below which number they are.
+-- What contracts see of such a list: its nodes, and below which number they are.
 pub record WaitingState : Type 0 where
   pub nodes : List ℕ
-  pub waits : Bool
   pub size : ℕ
 
 -- the node is on the list
@@ -36,15 +35,10 @@ pub record AreMarked (nodes : List ℕ) (marked : List Bool) : Type 0 where
 abbrev pub NoneMarked : List Bool → Type 0
 NoneMarked marked = (n : ℕ) → is_marked marked n ≡ false
 
--- if the nodes wait, they are marked, and else no node is
-abbrev pub HasMarks : Bool → List ℕ → List Bool → Type 0
-HasMarks true nodes marked = AreMarked nodes marked
-HasMarks false nodes marked = NoneMarked marked
-
 -- The list, its marks and the room that it has. As many nodes as there are marks fit on it.
-pub record IsWaitingList (waits : Bool) (nodes : List ℕ) (marked : List Bool) (capacity : ℕ) : Type 0 where
+pub record IsWaitingList (nodes : List ℕ) (marked : List Bool) (capacity : ℕ) : Type 0 where
   pub room : length marked ≤ capacity
-  pub marks : HasMarks waits nodes marked
+  pub marks : AreMarked nodes marked
 
 -- ---- children that a pass has seen
 

@@ -42,12 +42,13 @@ impl Model for Pass {
       view = p.seat.me.0;
       spots = p.scratch.spots.items;
       near = p.scratch.near.items;
-      around = p.scratch.around.nodes;
-      waits = p.scratch.around.waits;
+      around = p.scratch.around.items;
+      waiting = p.scratch.waiting.nodes;
     } };
 
     ghost invariant = { λ p. (p.seat.me.1 ≡ []) × IsTied p.seat.me.0 p.member p.hand
-        × HasRoom p.seat.me.0.run (deque_capacity p.scratch.spots) (vec_capacity p.scratch.near) p.scratch.around.size
+        × HasRoom p.seat.me.0.run (deque_capacity p.scratch.spots) (vec_capacity p.scratch.near)
+        (vec_capacity p.scratch.around) p.scratch.waiting.size
         × HasPairs p.seat.me.0 p.pairs };
 }
 

@@ -4,7 +4,7 @@
 //! run may be found. No more than half of them wait to be visited: a visit takes one off and puts at most two on, so after n visits
 //! at most n + 1 other nodes wait.
 
-ghost use Rattle.std.specs.Prelude.{◌≡◌, ◌⊎◌, ℕ, ◌<◌, ◌≤◌, ◌+◌, ◌*◌, ◌++◌, ◌∷◌, [], true, false};
+ghost use Rattle.std.specs.Prelude.{◌≡◌, ◌⊎◌, ℕ, ◌<◌, ◌≤◌, ◌+◌, ◌*◌, ◌++◌, ◌∷◌, []};
 ghost use Rattle.std.specs.Prelude.{IfOk, IfSome, IsPermutation, None, Some, length, option_to_list, slice_get};
 ghost use Rattle.std.specs.List.Sorted.{IsNonDecreasing};
 ghost use Rattle.std.specs.Vec.{vec_capacity};
@@ -37,21 +37,23 @@ pub struct Spot {
 pub(crate) struct Scratch {
     pub(crate) spots: VecDeque<Spot>,
     pub(crate) near: Vec<u32>,
-    /// The second list, which is also that of the nodes that wait.
-    pub(crate) around: Waiting,
+    pub(crate) around: Vec<u32>,
+    pub(crate) waiting: Waiting,
 }
 
 impl Scratch {
     /// Empty lists with room for so many nodes, and for spots of half of them.
     pub(crate) fn new(alloc: Global, nodes: usize) -> Result<Scratch, AllocError>
         ensures empty { IfOk result (λ lists. (lists.spots.items ≡ []) × (lists.near.items ≡ [])
-            × (lists.around ≡ record { nodes = []; waits = false; size = nodes })) }
-        ensures room { IfOk result (λ lists. (nodes ≤ 2 * deque_capacity lists.spots) × (nodes ≤ vec_capacity lists.near) × (lists.around.size ≡ nodes)) }
+            × (lists.around.items ≡ []) × (lists.waiting ≡ record { nodes = []; size = nodes })) }
+        ensures room { IfOk result (λ lists. (nodes ≤ 2 * deque_capacity lists.spots) × (nodes ≤ vec_capacity lists.near)
+            × (nodes ≤ vec_capacity lists.around) × (lists.waiting.size ≡ nodes)) }
     {
         Ok(Scratch {
             spots: VecDeque::with_capacity(alloc, nodes - nodes / 2)?,
             near: Vec::with_capacity(alloc, nodes)?,
-            around: Waiting::new(alloc, nodes)?,
+            around: Vec::with_capacity(alloc, nodes)?,
+            waiting: Waiting::new(alloc, nodes)?,
         })
     }
 }
@@ -142,58 +144,55 @@ impl Pass {
         self.scratch.near.len()
     }
 
-    /// The second list: the nodes that the last search around a point found, in rising number, or those that wait. O(1).
+    /// The second list: the nodes that the last search around a point found, in rising number. O(1).
     pub fn around_list(&self) -> &[u32]
         ensures { result.now ≡ self.now.around }
     {
         self.scratch.around.as_slice()
     }
 
-    /// The near list and the second list change places. No node waits then. O(n) for n nodes that waited.
+    /// The near list and the second list change places. O(1).
     pub fn swap_lists(&mut self)
-        ensures { self.new ≡ record self.old { near = self.old.around; around = self.old.near; waits = false } }
+        ensures { self.new ≡ record self.old { near = self.old.around; around = self.old.near } }
     {
-        self.scratch.around.swap(&mut self.scratch.near);
+        mem::swap(&mut self.scratch.near, &mut self.scratch.around);
     }
 
-    /// Empties the second list. What comes on it from now on waits to be looked at. O(n) for n nodes that waited.
-    pub fn begin_waiting(&mut self)
-        ensures waits { self.new ≡ record self.old { around = []; waits = true } }
+    /// Empties the list of the nodes that wait to be looked at. O(n) for n nodes that are left on it.
+    pub fn clear_waiting(&mut self)
+        ensures waiting { self.new ≡ record self.old { waiting = [] } }
         ensures lawful { IsLawfulView self.new.view }
     {
-        self.scratch.around.begin();
+        self.scratch.waiting.clear();
     }
 
-    /// Puts all nodes on the second list that are not there and whose parent is this node, by their tree words as the pass saw them
-    /// last: none, if it saw no child. After [`begin_waiting`](Pass::begin_waiting), and with a number that is at most that of marks.
-    /// O(k) for k children.
+    /// Puts all nodes on the list of those that wait that are not there and whose parent is this node, by their tree words as the pass
+    /// saw them last: none, if it saw no child. A node's number is at most that of marks. O(k) for k children.
     pub fn queue_children(&mut self, node: u32)
-        requires waits { self.old.waits ≡ true }
         requires low { node ≤ length self.old.view.run.marks }
-        ensures others { self.new ≡ record self.old { around = self.new.around } }
-        ensures all { (n : ℕ) → HasSeenParent self.old.view node n → IsOn self.new.around n }
-        ensures keeps { (n : ℕ) → IsOn self.old.around n → IsOn self.new.around n }
-        ensures only { (n : ℕ) → IsOn self.new.around n → IsOn self.old.around n ⊎ HasSeenParent self.old.view node n }
+        ensures others { self.new ≡ record self.old { waiting = self.new.waiting } }
+        ensures all { (n : ℕ) → HasSeenParent self.old.view node n → IsOn self.new.waiting n }
+        ensures keeps { (n : ℕ) → IsOn self.old.waiting n → IsOn self.new.waiting n }
+        ensures only { (n : ℕ) → IsOn self.new.waiting n → IsOn self.old.waiting n ⊎ HasSeenParent self.old.view node n }
     {
-        self.pairs.queue_children(node, &mut self.scratch.around);
+        self.pairs.queue_children(node, &mut self.scratch.waiting);
     }
 
-    /// Takes the last node that waits off the second list; `None` exactly if none does. O(1).
+    /// Takes the last of the nodes that wait off their list; `None` exactly if none does. O(1).
     pub fn pop_waiting(&mut self) -> Option<u32>
-        requires { self.old.waits ≡ true }
-        ensures others { self.new ≡ record self.old { around = self.new.around } }
-        ensures popped { self.old.around ≡ self.new.around ++ option_to_list result }
-        ensures none { result ≡ None → self.old.around ≡ [] }
+        ensures others { self.new ≡ record self.old { waiting = self.new.waiting } }
+        ensures popped { self.old.waiting ≡ self.new.waiting ++ option_to_list result }
+        ensures none { result ≡ None → self.old.waiting ≡ [] }
         ensures low { IfSome result (λ n. n ≤ length self.old.view.run.marks) }
         // it was on the list, which has all others still, and is shorter
-        ensures was_on { IfSome result (λ n. IsOn self.old.around n) }
-        ensures keeps { (n : ℕ) → IsOn self.old.around n → IsOn self.new.around n ⊎ (result ≡ Some n) }
-        ensures only { (n : ℕ) → IsOn self.new.around n → IsOn self.old.around n }
-        ensures shorter { IfSome result (λ n. length self.new.around < length self.old.around) }
+        ensures was_on { IfSome result (λ n. IsOn self.old.waiting n) }
+        ensures keeps { (n : ℕ) → IsOn self.old.waiting n → IsOn self.new.waiting n ⊎ (result ≡ Some n) }
+        ensures only { (n : ℕ) → IsOn self.new.waiting n → IsOn self.old.waiting n }
+        ensures shorter { IfSome result (λ n. length self.new.waiting < length self.old.waiting) }
         // what the law says of a view holds of that of each pass
         ensures lawful { IsLawfulView self.new.view }
     {
-        self.scratch.around.pop()
+        self.scratch.waiting.pop()
     }
 }
 

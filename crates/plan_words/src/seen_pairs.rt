@@ -1,6 +1,6 @@
 //! The parents and costs that a pass saw last, with the children of each node by them.
 
-ghost use Rattle.std.specs.Prelude.{◌≡◌, ℕ, suc, ◌<◌, ◌≤◌, ◌^◌, ◌⊎◌, length, slice_index, slice_set, true, IfOk, replicate};
+ghost use Rattle.std.specs.Prelude.{◌≡◌, ℕ, suc, ◌<◌, ◌≤◌, ◌^◌, ◌⊎◌, length, slice_index, slice_set, IfOk, replicate};
 ghost use Rattle.plan_words.specs.SeenChains.{sibling_chain_in, chain_of};
 ghost use Rattle.plan_words.specs.Waiting.{IsOn};
 ghost use Rattle.step_core.specs.Words.{parent_in};
@@ -84,7 +84,6 @@ impl SeenPairs {
     /// Puts all children of a node on a list of nodes that wait.
     pub(crate) fn queue_children(&self, parent: u32, waiting: &mut Waiting)
         requires node { parent < length self.now }
-        requires waits { waiting.old.waits ≡ true }
         requires size { waiting.old.size ≡ length self.now }
         ensures kept { waiting.new ≡ record waiting.old { nodes = waiting.new.nodes } }
         ensures all { (n : ℕ) → sibling_chain_in self.now n ≡ suc parent → IsOn waiting.new.nodes n }

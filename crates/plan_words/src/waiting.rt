@@ -1,19 +1,16 @@
 //! A list of nodes that may wait to be looked at, each once.
 
-ghost use Rattle.std.specs.Prelude.{◌≡◌, ◌⊎◌, ℕ, ◌<◌, ◌≤◌, ◌++◌, [], true, false, length, option_to_list, IfOk, IfSome, None};
-ghost use Rattle.std.specs.Vec.{vec_capacity};
+ghost use Rattle.std.specs.Prelude.{◌≡◌, ◌⊎◌, ℕ, ◌<◌, ◌≤◌, ◌++◌, [], length, option_to_list, IfOk, IfSome, None};
 ghost use Rattle.plan_words.specs.Waiting.{AreMarked, IsOn, NoneMarked};
 
 use std::alloc::{AllocError, Global};
 use std::marker::Model;
 
-/// A list of nodes. While they wait, exactly those on the list are marked, and so each comes on it once and there is room for all;
-/// else no node is marked, and the list may hold what it will.
+/// A list of nodes that wait. Exactly those on the list are marked, and so each comes on it once and there is room for all.
 #[derive(Drop)]
 pub(crate) struct Waiting {
     nodes: Vec<u32>,
     marked: Vec<bool>,
-    waits: bool,
 }
 
 impl Model for Waiting {
@@ -22,42 +19,32 @@ impl Model for Waiting {
 
     ghost Value = { WaitingState };
 
-    ghost view = { λ w. record { nodes = w.nodes.items; waits = w.waits; size = length w.marked.items } };
+    ghost view = { λ w. record { nodes = w.nodes.items; size = length w.marked.items } };
 
-    ghost invariant = { λ w. IsWaitingList w.waits w.nodes.items w.marked.items (vec_capacity w.nodes) };
+    ghost invariant = { λ w. IsWaitingList w.nodes.items w.marked.items (vec_capacity w.nodes) };
 }
 
 impl Waiting {
-    /// An empty list with room for so many nodes, of which none waits.
+    /// An empty list with room for so many nodes.
     pub(crate) fn new(alloc: Global, nodes: usize) -> Result<Waiting, AllocError>
-        ensures { IfOk result (λ r. r ≡ record { nodes = []; waits = false; size = nodes }) }
+        ensures { IfOk result (λ r. r ≡ record { nodes = []; size = nodes }) }
     {
         Ok(Waiting {
             nodes: Vec::with_capacity(alloc, nodes)?,
             marked: Vec::from_elem(alloc, false, nodes)?,
-            waits: false,
         })
     }
 
-    /// The nodes on the list.
-    pub(crate) fn as_slice(&self) -> &[u32]
-        ensures { result.now ≡ self.now.nodes }
+    /// Empties the list. O(n) for n nodes that are left on it.
+    pub(crate) fn clear(&mut self)
+        ensures { self.new ≡ record self.old { nodes = [] } }
     {
-        self.nodes.as_slice()
-    }
-
-    /// Empties the list. What comes on it from now on waits.
-    pub(crate) fn begin(&mut self)
-        ensures { self.new ≡ record self.old { nodes = []; waits = true } }
-    {
-        self.stop();
+        unmark(&mut self.marked, self.nodes.as_slice());
         self.nodes.clear();
-        self.waits = true;
     }
 
     /// Puts a node on the list, if it is not there.
     pub(crate) fn push(&mut self, node: u32)
-        requires waits { self.old.waits ≡ true }
         requires low { node < self.old.size }
         ensures kept { self.new ≡ record self.old { nodes = self.new.nodes } }
         ensures here { IsOn self.new.nodes node }
@@ -72,7 +59,6 @@ impl Waiting {
 
     /// Takes the last node off the list.
     pub(crate) fn pop(&mut self) -> Option<u32>
-        requires waits { self.old.waits ≡ true }
         ensures kept { self.new ≡ record self.old { nodes = self.new.nodes } }
         ensures popped { self.old.nodes ≡ self.new.nodes ++ option_to_list result }
         ensures none { result ≡ None → self.old.nodes ≡ [] }
@@ -81,27 +67,6 @@ impl Waiting {
         let node = self.nodes.pop()?;
         self.marked[node as usize] = false;
         Some(node)
-    }
-
-    /// Changes the nodes with those of another list. None waits then.
-    pub(crate) fn swap(&mut self, others: &mut Vec<u32>)
-        requires room { self.old.size ≤ vec_capacity others.old }
-        ensures nodes { self.new ≡ record self.old { nodes = others.old.items; waits = false } }
-        ensures others { others.new.items ≡ self.old.nodes }
-        ensures room { self.old.size ≤ vec_capacity others.new }
-    {
-        self.stop();
-        std::mem::swap(&mut self.nodes, others);
-    }
-
-    /// None waits then. The list stays.
-    fn stop(&mut self)
-        ensures { self.new ≡ record self.old { waits = false } }
-    {
-        if self.waits {
-            unmark(&mut self.marked, self.nodes.as_slice());
-            self.waits = false;
-        }
     }
 }
 

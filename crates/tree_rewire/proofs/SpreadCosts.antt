@@ -108,18 +108,18 @@ weigh-falls (suc n) i before after low others falls =
 -- ---- one visit
 
 -- A node was taken off the list of those that wait, and then settled.
-module _ (before now popped after : PassState) (n : ℕ) (view_is : popped.view ≡ now.view) (around_is : after.around ≡ popped.around)
+module _ (before now popped after : PassState) (n : ℕ) (view_is : popped.view ≡ now.view) (waiting_is : after.waiting ≡ popped.waiting)
     (goes_on : GoesOn now.view after.view) (same : KeepsPairs before.view now.view) (settled : IsWithinSeenParent after.view n)
-    (waited : (m : ℕ) → IsOn now.around m → IsOn before.around m)
-    (rest : (m : ℕ) → IsOn before.around m → IsOn now.around m ⊎ IsWithinSeenParent now.view m)
-    (keeps : (m : ℕ) → IsOn now.around m → IsOn popped.around m ⊎ (Some n ≡ Some m))
-    (only : (m : ℕ) → IsOn popped.around m → IsOn now.around m) where
-  pub waited_still : (m : ℕ) → IsOn after.around m → IsOn before.around m
-  waited_still m on = waited m (only m (subst (λ ns. IsOn ns m) around_is on))
+    (waited : (m : ℕ) → IsOn now.waiting m → IsOn before.waiting m)
+    (rest : (m : ℕ) → IsOn before.waiting m → IsOn now.waiting m ⊎ IsWithinSeenParent now.view m)
+    (keeps : (m : ℕ) → IsOn now.waiting m → IsOn popped.waiting m ⊎ (Some n ≡ Some m))
+    (only : (m : ℕ) → IsOn popped.waiting m → IsOn now.waiting m) where
+  pub waited_still : (m : ℕ) → IsOn after.waiting m → IsOn before.waiting m
+  waited_still m on = waited m (only m (subst (λ ns. IsOn ns m) waiting_is on))
 
-  waits_or_is : (m : ℕ) → IsOn now.around m → IsOn after.around m ⊎ (n ≡ m)
+  waits_or_is : (m : ℕ) → IsOn now.waiting m → IsOn after.waiting m ⊎ (n ≡ m)
   waits_or_is m on = elim (keeps m on) [
-    | inl still ↦ inl (subst (λ ns. IsOn ns m) (sym around_is) still)
+    | inl still ↦ inl (subst (λ ns. IsOn ns m) (sym waiting_is) still)
     | inr is ↦ inr cc
   ]
 
@@ -163,7 +163,7 @@ module _ (before now popped after : PassState) (n : ℕ) (view_is : popped.view 
     pub same_still : KeepsPairs before.view after.view
     same_still m = stays_now m ∙ same m
 
-    pub rest_still : (m : ℕ) → IsOn before.around m → IsOn after.around m ⊎ IsWithinSeenParent after.view m
+    pub rest_still : (m : ℕ) → IsOn before.waiting m → IsOn after.waiting m ⊎ IsWithinSeenParent after.view m
     rest_still m on = elim (rest m on) [
       | inl waits ↦ elim (waits_or_is m waits) [
         | inl still ↦ inl still
@@ -175,45 +175,45 @@ module _ (before now popped after : PassState) (n : ℕ) (view_is : popped.view 
 -- ---- a spread
 
 -- A child that is seen with its parent and its cost, and is settled or waits.
-pub record IsLooked (now : View) (around : List ℕ) (c : ℕ) : Type 0 where
+pub record IsLooked (now : View) (waiting : List ℕ) (c : ℕ) : Type 0 where
   pub child : 0 < c
   pub written : SeesPair now c
-  pub rest : IsWithinSeenParent now c ⊎ IsOn around c
+  pub rest : IsWithinSeenParent now c ⊎ IsOn waiting c
 
 -- Each child of a source costs no more than through its parent, or it waits. Each node that is seen with another parent or cost is settled,
 -- or it waits. All that wait are seen with their costs.
-pub record IsSpreading (node : ℕ) (before now : View) (around : List ℕ) : Type 0 where
+pub record IsSpreading (node : ℕ) (before now : View) (waiting : List ℕ) : Type 0 where
   pub given : SeesPair before node
-  pub loose : (c : ℕ) → 0 < c → SeesPair before c → IsSource node before now (parent_seen now c) → IsWithinParent now c ⊎ IsOn around c
-  pub changed : (c : ℕ) → sees now (TreeOf c) ≢ sees before (TreeOf c) → IsLooked now around c
-  pub waiting : (n : ℕ) → IsOn around n → SeesPair now n
+  pub loose : (c : ℕ) → 0 < c → SeesPair before c → IsSource node before now (parent_seen now c) → IsWithinParent now c ⊎ IsOn waiting c
+  pub changed : (c : ℕ) → sees now (TreeOf c) ≢ sees before (TreeOf c) → IsLooked now waiting c
+  pub pairs : (n : ℕ) → IsOn waiting n → SeesPair now n
 
 pub IsOn-none : (n : ℕ) → ¬ IsOn [] n
 IsOn-none n on = omega (arith, on.1)
 
 -- at first the children of the node wait
-pub IsSpreading-begins : (node : ℕ) (view : View) (around : List ℕ) → SeesPair view node
-    → ((n : ℕ) → HasSeenParent view node n → IsOn around n) → ((n : ℕ) → IsOn around n → IsOn [] n ⊎ HasSeenParent view node n)
-    → IsSpreading node view view around
-IsSpreading-begins node view around given all only = record {
+pub IsSpreading-begins : (node : ℕ) (view : View) (waiting : List ℕ) → SeesPair view node
+    → ((n : ℕ) → HasSeenParent view node n → IsOn waiting n) → ((n : ℕ) → IsOn waiting n → IsOn [] n ⊎ HasSeenParent view node n)
+    → IsSpreading node view view waiting
+IsSpreading-begins node view waiting given all only = record {
   given = given;
   loose = λ c child pair source. elim source [
     | inl e ↦ inr (all c (record { child = child; written = pair; parent = e }))
     | inr fell ↦ absurd (omega (arith, fell))
   ];
   changed = λ c changed. absurd (changed refl);
-  waiting = λ n on. elim (only n on) [
+  pairs = λ n on. elim (only n on) [
     | inl none ↦ absurd (IsOn-none n none)
     | inr own ↦ own.written
   ];
 }
 
 -- the cost of node n falls, and then its children wait too
-pub IsSpreading-falls : (node n : ℕ) (before : View) (now mid : PassState) (around : List ℕ) → GoesOn before now.view → GoesOn now.view mid.view
-    → HasFallen now mid n → ((c : ℕ) → HasSeenParent mid.view n c → IsOn around c) → ((c : ℕ) → IsOn mid.around c → IsOn around c)
-    → ((c : ℕ) → IsOn around c → IsOn mid.around c ⊎ HasSeenParent mid.view n c) → IsSpreading node before now.view now.around
-    → IsSpreading node before mid.view around
-IsSpreading-falls node n before now mid around was goes_on fallen all keeps only h = record {
+pub IsSpreading-falls : (node n : ℕ) (before : View) (now mid : PassState) (waiting : List ℕ) → GoesOn before now.view → GoesOn now.view mid.view
+    → HasFallen now mid n → ((c : ℕ) → HasSeenParent mid.view n c → IsOn waiting c) → ((c : ℕ) → IsOn mid.waiting c → IsOn waiting c)
+    → ((c : ℕ) → IsOn waiting c → IsOn mid.waiting c ⊎ HasSeenParent mid.view n c) → IsSpreading node before now.view now.waiting
+    → IsSpreading node before mid.view waiting
+IsSpreading-falls node n before now mid waiting was goes_on fallen all keeps only h = record {
   given = h.given;
   loose = λ c child pair source. elim (cases_eq (parent_seen mid.view c) n) [
     | inl own ↦ inr (all c (record { child = child; written = SeesPair-later before mid.view whole c pair; parent = own }))
@@ -224,12 +224,12 @@ IsSpreading-falls node n before now mid around was goes_on fallen all keeps only
     ]
   ];
   changed = λ c changed. elim (cases_eq c n) [
-    | inl e ↦ subst (IsLooked mid.view around) (sym e)
+    | inl e ↦ subst (IsLooked mid.view waiting) (sym e)
         (record { child = lowest; written = SeesPair-later now.view mid.view goes_on n fallen.pair; rest = inl fallen.settled })
     | inr other ↦ looked c other (h.changed c (λ e. changed (fallen.others c other ∙ e)))
   ];
-  waiting = λ c on. elim (only c on) [
-    | inl waited ↦ SeesPair-later now.view mid.view goes_on c (h.waiting c (fallen.waited c waited))
+  pairs = λ c on. elim (only c on) [
+    | inl waited ↦ SeesPair-later now.view mid.view goes_on c (h.pairs c (fallen.waited c waited))
     | inr own ↦ own.written
   ];
 }
@@ -245,7 +245,7 @@ IsSpreading-falls node n before now mid around was goes_on fallen all keeps only
     ]
 
     -- a child of node n waits, and any other was looked at before
-    looked : (c : ℕ) → c ≢ n → IsLooked now.view now.around c → IsLooked mid.view around c
+    looked : (c : ℕ) → c ≢ n → IsLooked now.view now.waiting c → IsLooked mid.view waiting c
     looked c other was =
         let same = fallen.others c other in
         let written = SeesPair-later now.view mid.view goes_on c was.written in
@@ -269,7 +269,7 @@ IsSpreading-falls node n before now mid around was goes_on fallen all keeps only
         ]
 
     stays : (c : ℕ) → 0 < c → SeesPair before c → IsSource node before mid.view (parent_seen mid.view c) → parent_seen mid.view c ≢ n → c ≢ n
-        → IsWithinParent mid.view c ⊎ IsOn around c
+        → IsWithinParent mid.view c ⊎ IsOn waiting c
     stays c child pair source apart other =
         let same = fallen.others c other in
         let up : parent_seen mid.view c ≡ parent_seen now.view c = ap parent_in same in
@@ -292,7 +292,7 @@ IsSpreading-falls node n before now mid around was goes_on fallen all keeps only
 
 -- at last none waits
 pub HasSpread-ends : (node : ℕ) (before : View) (now after : PassState) → GoesOn before now.view → GoesOn now.view after.view → HasSettledAll now after
-    → IsSpreading node before now.view now.around → HasSpread node before after.view
+    → IsSpreading node before now.view now.waiting → HasSpread node before after.view
 HasSpread-ends node before now after was goes_on all h c pair source =
     elim (cases_eq c 0) [
       | inl start ↦ subst (IsWithinParent after.view) (sym start) (IsWithinParent-start after.view goes_on.lawful
@@ -317,7 +317,7 @@ HasSpread-ends node before now after was goes_on all h c pair source =
         ]
 
 pub HasSettledChanges-ends : (node : ℕ) (before : View) (now after : PassState) → GoesOn now.view after.view → HasSettledAll now after
-    → IsSpreading node before now.view now.around → HasSettledChanges before after.view
+    → IsSpreading node before now.view now.waiting → HasSettledChanges before after.view
 HasSettledChanges-ends node before now after goes_on all h c changed =
     let same = all.same c in
     elim (h.changed c (λ e. changed (same ∙ e))).rest [

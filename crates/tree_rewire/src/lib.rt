@@ -7,7 +7,7 @@
 //! Others lower costs meanwhile, so each promise speaks of costs as the pass has seen them last. A parent that is cheaper than it
 //! was seen to be does no harm: a node then costs more than through it, and never less.
 //!
-//! No call takes memory or waits. Share, limit and hand of the pass stay, and its near list.
+//! No call takes memory or waits. Share, limit and hand of the pass stay, and its lists of found nodes.
 #![tactic(auto)]
 
 mod choosing;

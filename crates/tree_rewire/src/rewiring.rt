@@ -42,7 +42,7 @@ pub fn rewire<C: Clearing>(shared: &Shared, pass: &mut Pass, hall: &C, k: u32)
     requires near { IfSome pass.old.view.hand (λ hand. All (IsInReach pass.old.view hand.point) pass.old.near) }
     ensures belongs { BelongsTo pass.new shared.now }
     ensures seen { SeesAnew NamesTreeOrPoint pass.old.view pass.new.view }
-    ensures lists { (pass.new.near ≡ pass.old.near) × (pass.new.spots ≡ pass.old.spots) }
+    ensures lists { (pass.new.near ≡ pass.old.near) × (pass.new.around ≡ pass.old.around) × (pass.new.spots ≡ pass.old.spots) }
     ensures pairs { All (SeesPair pass.new.view) pass.old.near }
     // each near node with a clear edge costs no more than through the new node, by the cost that this was placed at
     ensures rewired { IfSome pass.old.view.hand (λ hand. (i : ℕ) → Contains pass.old.near i

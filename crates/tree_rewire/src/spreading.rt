@@ -1,6 +1,6 @@
 //! A lowered cost comes to the subtree of its node.
 
-ghost use Rattle.std.specs.Prelude.{◌≡◌, ◌<◌, true, IfNone, IfSome, IsFalse, IsTrue};
+ghost use Rattle.std.specs.Prelude.{◌≡◌, ◌<◌, IfNone, IfSome, IsFalse, IsTrue};
 ghost use Rattle.plan_words.specs.Claims.{SeesAsBefore};
 ghost use Rattle.plan_words.specs.States.{BelongsTo, HasWholeShare};
 ghost use Rattle.step_core.specs.ViewTrees.{MayLower};
@@ -24,7 +24,7 @@ pub fn spread(shared: &Shared, pass: &mut Pass, node: u32)
     requires pair { SeesPair pass.old.view node }
     ensures belongs { BelongsTo pass.new shared.now }
     ensures seen { SeesAnew NamesTreeOrPoint pass.old.view pass.new.view }
-    ensures lists { (pass.new.near ≡ pass.old.near) × (pass.new.spots ≡ pass.old.spots) }
+    ensures lists { (pass.new.near ≡ pass.old.near) × (pass.new.around ≡ pass.old.around) × (pass.new.spots ≡ pass.old.spots) }
     // by what is seen then, each child of the node, and of each node whose cost fell, costs no more than through its parent
     ensures spread { HasSpread node pass.old.view pass.new.view }
     // and so does each node that is seen with another parent or cost, if its parent is seen with a cost
@@ -34,7 +34,7 @@ pub fn spread(shared: &Shared, pass: &mut Pass, node: u32)
     // and where all costs but those of the node's children were exact, all are
     ensures whole_tight { HasWholeShare pass.old.view → AllTightBut node pass.old.view → AllTight pass.new.view }
 {
-    pass.begin_waiting();
+    pass.clear_waiting();
     pass.queue_children(node);
     'falls: while let Some(fallen) = next_fallen(shared, pass) {
         pass.queue_children(fallen);
@@ -45,10 +45,8 @@ pub fn spread(shared: &Shared, pass: &mut Pass, node: u32)
 fn next_fallen(shared: &Shared, pass: &mut Pass) -> Option<u32>
     requires belongs { BelongsTo pass.old shared.now }
     requires part { 0 < share pass.old.view }
-    requires waits { pass.old.waits ≡ true }
     requires waiting { SeesWaiting pass.old }
     ensures steps { PassLowers shared.now pass.old pass.new }
-    ensures waits { pass.new.waits ≡ true }
     ensures some { IfSome result (HasFallen pass.old pass.new) }
     ensures none { IfNone result (HasSettledAll pass.old pass.new) }
     ensures whole { HasWholeShare pass.old.view → KeepsParents pass.old.view pass.new.view }

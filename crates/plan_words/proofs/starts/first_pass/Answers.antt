@@ -11,6 +11,7 @@ invariant_of-result c =
         spots = omega (arith, room.0, nodes, c.requires.pairs.for_each);
         near = omega (arith, room.1, nodes, c.requires.pairs.for_each);
         around = omega (arith, room.2, nodes, c.requires.pairs.for_each);
+        waiting = omega (arith, room.3, nodes, c.requires.pairs.for_each);
       },
       c.requires.pairs,
     )

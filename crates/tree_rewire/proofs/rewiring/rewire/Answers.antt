@@ -31,7 +31,7 @@ pub nodes-init : goal.nodes-init
 nodes-init g c =
     let pass = c.args.pass.now in
     record {
-      steps = PassLowers-lists c.args.shared.now pass pass c.requires.belongs refl refl refl refl;
+      steps = PassLowers-lists c.args.shared.now pass pass c.requires.belongs refl refl refl refl refl;
       earlier = All-nil (IsRewired (g.C.Clearing.space c.args.hall.now) pass.view pass.view c.hand_point-from.result (cost_seen pass.view (c.args.k + 1)));
       spread = HasSpreadFalls-none (g.C.Clearing.space c.args.hall.now) (Contains pass.near) (c.args.k + 1) pass.view pass.view (λ n pair. refl);
       whole = λ all tree mirrors. record { now = tree; mirrors = mirrors; leads = λ last r. r };

@@ -119,7 +119,8 @@ returns-then-clear-clause-steps g c =
       belongs = c.spread.ensures.belongs;
       sees_anew = c.spread.ensures.seen;
       near = c.spread.ensures.lists.0;
-      spots = c.spread.ensures.lists.1;
+      around = c.spread.ensures.lists.1;
+      spots = c.spread.ensures.lists.2;
     } in
     PassLowers-trans shared c.args.pass.now c.improve.new.pass c.spread.new.pass
     (PassLowers-sees shared c.args.pass.now c.improve.new.pass

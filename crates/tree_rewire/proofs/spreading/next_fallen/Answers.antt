@@ -18,7 +18,7 @@ pops c =
     let h = c.visits.invariant in
     let is = c.pop_waiting.ensures.others in
     PassLowers-lists c.args.shared.now c.visits.pass c.pop_waiting.new.self h.steps.belongs (ap (λ p. p.table) is)
-    (ap (λ p. p.view) is) (ap (λ p. p.near) is) (ap (λ p. p.spots) is)
+    (ap (λ p. p.view) is) (ap (λ p. p.near) is) (ap (λ p. p.around) is) (ap (λ p. p.spots) is)
 
 -- and settled
 settles : (c : After-settle) → PassLowers c.args.shared.now c.visits.pass c.settle.new.pass
@@ -27,7 +27,7 @@ settles c =
     let is = c.pop_waiting.ensures.others in
     PassLowers-trans c.args.shared.now c.visits.pass c.pop_waiting.new.self c.settle.new.pass
     (PassLowers-lists c.args.shared.now c.visits.pass c.pop_waiting.new.self h.steps.belongs (ap (λ p. p.table) is)
-    (ap (λ p. p.view) is) (ap (λ p. p.near) is) (ap (λ p. p.spots) is))
+    (ap (λ p. p.view) is) (ap (λ p. p.near) is) (ap (λ p. p.around) is) (ap (λ p. p.spots) is))
     (PassLowers-sees c.args.shared.now c.pop_waiting.new.self c.settle.new.pass c.settle.ensures.steps)
 
 -- a pass with the whole share keeps the parents
@@ -63,7 +63,7 @@ returns-then-settle-clause-some c =
     let h = c.visits.invariant in
     let n = c.in-Some.node in
     HasFallen-settles c.args.pass.now c.visits.pass c.pop_waiting.new.self c.settle.new.pass n (ap (λ p. p.view) c.pop_waiting.ensures.others)
-    (ap (λ p. p.around) c.settle.ensures.steps.view_alone) (settles (goal.at.returns-then-settle-clause-some c).After-settle).sees_anew.goes_on h.same
+    (ap (λ p. p.waiting) c.settle.ensures.steps.view_alone) (settles (goal.at.returns-then-settle-clause-some c).After-settle).sees_anew.goes_on h.same
     c.settle.ensures.settled h.waited h.rest c.in-Some.ensures.keeps c.pop_waiting.ensures.only c.settle.ensures.others
     (c.requires.waiting n (h.waited n c.in-Some.ensures.was_on)) (c.settle.ensures.fell c.if-settle.true)
 
@@ -73,16 +73,15 @@ visits-preserved c =
     let n = c.in-Some.node in
     let step = settles (goal.at.visits-preserved c).After-settle in
     let view_is = ap (λ p. p.view) c.pop_waiting.ensures.others in
-    let around_is = ap (λ p. p.around) c.settle.ensures.steps.view_alone in
+    let waiting_is = ap (λ p. p.waiting) c.settle.ensures.steps.view_alone in
     let stays = c.settle.ensures.same c.if-settle.false in
     record {
       steps = PassLowers-trans c.args.shared.now c.args.pass.now c.visits.pass c.settle.new.pass h.steps step;
-      waits = ap (λ p. p.waits) c.settle.ensures.steps.view_alone ∙ ap (λ p. p.waits) c.pop_waiting.ensures.others ∙ h.waits;
-      same = same_still c.args.pass.now c.visits.pass c.pop_waiting.new.self c.settle.new.pass n view_is around_is step.sees_anew.goes_on h.same
+      same = same_still c.args.pass.now c.visits.pass c.pop_waiting.new.self c.settle.new.pass n view_is waiting_is step.sees_anew.goes_on h.same
           c.settle.ensures.settled h.waited h.rest c.in-Some.ensures.keeps c.pop_waiting.ensures.only stays;
-      waited = waited_still c.args.pass.now c.visits.pass c.pop_waiting.new.self c.settle.new.pass n view_is around_is step.sees_anew.goes_on h.same
+      waited = waited_still c.args.pass.now c.visits.pass c.pop_waiting.new.self c.settle.new.pass n view_is waiting_is step.sees_anew.goes_on h.same
           c.settle.ensures.settled h.waited h.rest c.in-Some.ensures.keeps c.pop_waiting.ensures.only;
-      rest = rest_still c.args.pass.now c.visits.pass c.pop_waiting.new.self c.settle.new.pass n view_is around_is step.sees_anew.goes_on h.same
+      rest = rest_still c.args.pass.now c.visits.pass c.pop_waiting.new.self c.settle.new.pass n view_is waiting_is step.sees_anew.goes_on h.same
           c.settle.ensures.settled h.waited h.rest c.in-Some.ensures.keeps c.pop_waiting.ensures.only stays;
       whole = λ all. settles_whole (goal.at.visits-preserved c).After-settle all;
     }

@@ -1,4 +1,4 @@
-use Rattle.std.proofs.Common.{◌≡◌, ◌⊎◌, ℕ, true, length}
+use Rattle.std.proofs.Common.{◌≡◌, ◌⊎◌, ℕ, length}
 use Rattle.plan_words.specs.States.{HasWholeShare}
 use Rattle.plan_words.specs.Waiting.{IsOn}
 use Rattle.tree_rewire.specs.SeenCosts.{PassLowers}
@@ -9,13 +9,12 @@ use Rattle.tree_rewire.proofs.spreading.next_fallen.Given as goal
 abbrev pub invariant-visits : goal.invariant-visits
 invariant-visits l = record {
   steps : PassLowers l.shared l.fn.pass l.pass;
-  waits : l.pass.waits ≡ true;
   same : KeepsPairs l.fn.pass.view l.pass.view;
-  waited : (m : ℕ) → IsOn l.pass.around m → IsOn l.fn.pass.around m;
-  rest : (m : ℕ) → IsOn l.fn.pass.around m → IsOn l.pass.around m ⊎ IsWithinSeenParent l.pass.view m;
+  waited : (m : ℕ) → IsOn l.pass.waiting m → IsOn l.fn.pass.waiting m;
+  rest : (m : ℕ) → IsOn l.fn.pass.waiting m → IsOn l.pass.waiting m ⊎ IsWithinSeenParent l.pass.view m;
   whole : HasWholeShare l.fn.pass.view → KeepsParents l.fn.pass.view l.pass.view;
 }
 
 -- how many wait
 abbrev pub decreases-visits : goal.decreases-visits
-decreases-visits l = length l.pass.around
+decreases-visits l = length l.pass.waiting

@@ -12,11 +12,13 @@ use Rattle.tree_rewire.proofs.WholeShares.{HasWholeShare-later, KeepsParents-sam
 use Rattle.tree_rewire.proofs.spreading.spread.Goals as goal
 use Rattle.tree_rewire.proofs.spreading.spread.Goals.{After-next_fallen}
 
-pub queue_children-requires-clause-low : goal.queue_children-requires-clause-low
-queue_children-requires-clause-low c =
-    let view_is = ap (λ p. p.view) c.begin_waiting.ensures.waits in
-    subst (λ (v : View). c.args.node ≤ length v.run.marks) (sym view_is)
-    (pair_low c.args.pass.now.view c.args.node c.requires.belongs.lawful c.requires.pair)
+pub queue_children-requires : goal.queue_children-requires
+queue_children-requires c =
+    let view_is = ap (λ p. p.view) c.clear_waiting.ensures.waiting in
+    record {
+      low = subst (λ (v : View). c.args.node ≤ length v.run.marks) (sym view_is)
+          (pair_low c.args.pass.now.view c.args.node c.requires.belongs.lawful c.requires.pair);
+    }
 
 -- a pass with the whole share keeps the parents
 falls_whole : (c : After-next_fallen) → HasWholeShare c.args.pass.now.view → KeepsParents c.args.pass.now.view c.next_fallen.new.pass.view
@@ -27,33 +29,34 @@ falls_whole c all =
 
 pub falls-init : goal.falls-init
 falls-init c =
-    let begin = c.begin_waiting.ensures.waits in
+    let clear = c.clear_waiting.ensures.waiting in
     let queue = c.queue_children.ensures.others in
     let old = c.args.pass.now in
-    let mid = c.begin_waiting.new.self in
+    let mid = c.clear_waiting.new.self in
     let new = c.queue_children.new.self in
-    let view_is : mid.view ≡ old.view = ap (λ p. p.view) begin in
-    let one = PassLowers-lists c.args.shared.now old mid c.requires.belongs (ap (λ p. p.table) begin) view_is (ap (λ p. p.near) begin)
-    (ap (λ p. p.spots) begin) in
+    let view_is : mid.view ≡ old.view = ap (λ p. p.view) clear in
+    let one = PassLowers-lists c.args.shared.now old mid c.requires.belongs (ap (λ p. p.table) clear) view_is (ap (λ p. p.near) clear)
+    (ap (λ p. p.around) clear) (ap (λ p. p.spots) clear) in
     let other = PassLowers-lists c.args.shared.now mid new one.belongs (ap (λ p. p.table) queue)
-    (ap (λ p. p.view) queue) (ap (λ p. p.near) queue) (ap (λ p. p.spots) queue) in
-    let only : (n : ℕ) → IsOn new.around n → IsOn [] n ⊎ HasSeenParent old.view c.args.node n =
+    (ap (λ p. p.view) queue) (ap (λ p. p.near) queue) (ap (λ p. p.around) queue) (ap (λ p. p.spots) queue) in
+    let only : (n : ℕ) → IsOn new.waiting n → IsOn [] n ⊎ HasSeenParent old.view c.args.node n =
     λ n on. subst (λ v. IsOn [] n ⊎ HasSeenParent v c.args.node n) view_is
-    (subst (λ ns. IsOn ns n ⊎ HasSeenParent mid.view c.args.node n) (ap (λ p. p.around) begin) (c.queue_children.ensures.only n on)) in
+    (subst (λ ns. IsOn ns n ⊎ HasSeenParent mid.view c.args.node n) (ap (λ p. p.waiting) clear) (c.queue_children.ensures.only n on)) in
     record {
       steps = PassLowers-trans c.args.shared.now old mid new one other;
-      waits = ap (λ p. p.waits) queue ∙ ap (λ p. p.waits) begin;
-      spreads = subst (λ v. IsSpreading c.args.node old.view v new.around) (sym (ap (λ p. p.view) queue ∙ view_is))
-          (IsSpreading-begins c.args.node old.view new.around c.requires.pair
+      spreads = subst (λ v. IsSpreading c.args.node old.view v new.waiting) (sym (ap (λ p. p.view) queue ∙ view_is))
+          (IsSpreading-begins c.args.node old.view new.waiting c.requires.pair
           (λ n own. c.queue_children.ensures.all n (subst (λ v. HasSeenParent v c.args.node n) (sym view_is) own)) only);
       whole = λ all. subst (KeepsParents old.view) (sym (ap (λ p. p.view) queue ∙ view_is)) (KeepsParents-same old.view old.view (λ name. refl));
     }
 
-pub queue_children-requires-in-Some-clause-low : goal.queue_children-requires-in-Some-clause-low
-queue_children-requires-in-Some-clause-low c =
+pub queue_children-requires-in-Some : goal.queue_children-requires-in-Some
+queue_children-requires-in-Some c =
     let h = c.falls.invariant in
-    subst (λ r. c.in-Some.fallen ≤ length r.marks) (sym c.next_fallen.ensures.steps.sees_anew.goes_on.later.run)
-    (pair_low c.falls.pass.view c.in-Some.fallen h.steps.sees_anew.goes_on.lawful c.in-Some.ensures.some.pair)
+    record {
+      low = subst (λ r. c.in-Some.fallen ≤ length r.marks) (sym c.next_fallen.ensures.steps.sees_anew.goes_on.later.run)
+          (pair_low c.falls.pass.view c.in-Some.fallen h.steps.sees_anew.goes_on.lawful c.in-Some.ensures.some.pair);
+    }
 
 pub falls-smaller : goal.falls-smaller
 falls-smaller c =
@@ -77,12 +80,11 @@ falls-preserved c =
     let queue = c.queue_children-in-Some.ensures in
     let is = queue.others in
     let last = PassLowers-lists c.args.shared.now mid new next.belongs (ap (λ p. p.table) is) (ap (λ p. p.view) is)
-    (ap (λ p. p.near) is) (ap (λ p. p.spots) is) in
+    (ap (λ p. p.near) is) (ap (λ p. p.around) is) (ap (λ p. p.spots) is) in
     record {
       steps = PassLowers-trans c.args.shared.now old now new h.steps (PassLowers-trans c.args.shared.now now mid new next last);
-      waits = ap (λ p. p.waits) is ∙ c.next_fallen.ensures.waits;
-      spreads = subst (λ v. IsSpreading c.args.node old.view v new.around) (sym (ap (λ p. p.view) is))
-          (IsSpreading-falls c.args.node c.in-Some.fallen old.view now mid new.around h.steps.sees_anew.goes_on next.sees_anew.goes_on
+      spreads = subst (λ v. IsSpreading c.args.node old.view v new.waiting) (sym (ap (λ p. p.view) is))
+          (IsSpreading-falls c.args.node c.in-Some.fallen old.view now mid new.waiting h.steps.sees_anew.goes_on next.sees_anew.goes_on
           c.in-Some.ensures.some queue.all queue.keeps queue.only h.spreads);
       whole = λ all. subst (KeepsParents old.view) (sym (ap (λ p. p.view) is)) (falls_whole (goal.at.falls-preserved c).After-next_fallen all);
     }

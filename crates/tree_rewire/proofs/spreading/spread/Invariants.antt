@@ -1,4 +1,4 @@
-use Rattle.std.proofs.Common.{◌≡◌, ◌+◌, true, length}
+use Rattle.std.proofs.Common.{◌+◌, length}
 use Rattle.plan_words.specs.States.{HasWholeShare}
 use Rattle.tree_rewire.specs.SeenCosts.{PassLowers}
 use Rattle.tree_rewire.specs.Spreads.{KeepsParents}
@@ -8,8 +8,7 @@ use Rattle.tree_rewire.proofs.spreading.spread.Given as goal
 abbrev pub invariant-falls : goal.invariant-falls
 invariant-falls l = record {
   steps : PassLowers l.shared l.fn.pass l.pass;
-  waits : l.pass.waits ≡ true;
-  spreads : IsSpreading l.node l.fn.pass.view l.pass.view l.pass.around;
+  spreads : IsSpreading l.node l.fn.pass.view l.pass.view l.pass.waiting;
   whole : HasWholeShare l.fn.pass.view → KeepsParents l.fn.pass.view l.pass.view;
 }
 

@@ -5,15 +5,15 @@ use Rattle.plan_words.proofs.passes.Pass.pop_waiting.Goals as goal
 use Rattle.plan_words.specs.Waiting.{IsOn}
 
 pub returns-clause-popped : goal.returns-clause-popped
-returns-clause-popped c = sym (ap (λ p. p.around) c.self.view_is) ∙ c.pop.ensures.popped
+returns-clause-popped c = sym (ap (λ p. p.waiting) c.self.view_is) ∙ c.pop.ensures.popped
 
 pub returns-clause-none : goal.returns-clause-none
-returns-clause-none c none = sym (ap (λ p. p.around) c.self.view_is) ∙ c.pop.ensures.none none
+returns-clause-none c none = sym (ap (λ p. p.waiting) c.self.view_is) ∙ c.pop.ensures.none none
 
 pub returns-clause-low : goal.returns-clause-low
 returns-clause-low c =
     IfSome_then c.pop.result c.pop.ensures.low
-    (λ n low. omega (arith, low, c.self.invariant.2.around, ap (λ p. length p.view.run.marks) c.self.view_is))
+    (λ n low. omega (arith, low, c.self.invariant.2.waiting, ap (λ p. length p.view.run.marks) c.self.view_is))
 
 pub returns-clause-was_on : goal.returns-clause-was_on
 returns-clause-was_on c = IsOn-popped _ c.pop.new.self.nodes c.pop.result (returns-clause-popped c)
@@ -23,7 +23,7 @@ returns-clause-keeps c = IsOn-unless_popped _ c.pop.new.self.nodes c.pop.result 
 
 pub returns-clause-only : goal.returns-clause-only
 returns-clause-only c n on =
-    subst (λ p. IsOn p.around n) c.self.view_is (subst (λ l. IsOn l n) (sym c.pop.ensures.popped) (IsOn-before c.pop.new.self.nodes _ n on))
+    subst (λ p. IsOn p.waiting n) c.self.view_is (subst (λ l. IsOn l n) (sym c.pop.ensures.popped) (IsOn-before c.pop.new.self.nodes _ n on))
 
 pub returns-clause-shorter : goal.returns-clause-shorter
 returns-clause-shorter c = shorter-popped _ c.pop.new.self.nodes c.pop.result (returns-clause-popped c)

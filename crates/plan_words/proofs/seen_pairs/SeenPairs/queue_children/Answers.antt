@@ -14,8 +14,8 @@ loop-child-init c =
       kept = refl;
     }
 
-pub push-requires-clause-low : goal.push-requires-clause-low
-push-requires-clause-low c =
+pub push-requires : goal.push-requires
+push-requires c =
     let own = IsWalk-here _ _ _ _ _ _ _ c.self.invariant.1 c.loop-child.invariant.walk (omega (arith, c.loop-child-test.true)) in
     omega (
       arith,

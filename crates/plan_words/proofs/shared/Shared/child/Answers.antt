@@ -69,7 +69,7 @@ invariant_of-pass c =
     let seen = subst (λ p. SeesNode p.view c.args.node) (sym c.pass.view_is) c.requires.seen_node in
     let place = place_here c.self.inside.places _ c.pass.inside.seat.me.0
     (ChildOf c.args.node c.args.right) _ c.self.invariant.places_are own c.child-place.ensures in
-    keeps_saw c.pass.inside.seat.me c.load.new.seat.me _ _ _ _ _ c.pass.inside.pairs (ChildOf c.args.node c.args.right) _ _ _ c.load.ensures.2.told
+    keeps_saw c.pass.inside.seat.me c.load.new.seat.me _ _ _ _ _ _ c.pass.inside.pairs (ChildOf c.args.node c.args.right) _ _ _ c.load.ensures.2.told
     c.pass.invariant (c.pass.invariant.1.lawful.within c.args.node seen) place (λ n e. cc)
 
 pub returns-clause-whole : goal.returns-clause-whole

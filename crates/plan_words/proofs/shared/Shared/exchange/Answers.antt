@@ -68,7 +68,7 @@ invariant_of-pass c =
     let then = claimed me.0 c.args.next.strip c.from-round.result c.args.limit in
     let told = subst (λ b. Tells me (cond b then (saw_at me.0 c.counter-place.result x x)) after) (eq-eqb x c.from-round.result c.if-found-round.true)
     c.compare_exchange_with-found.ensures.2.told in
-    keeps_view me after then _ _ _ _ _ _ _ c.pass.inside.pairs _ told c.pass.invariant refl c.pass.invariant.1.member_is
+    keeps_view me after then _ _ _ _ _ _ _ _ c.pass.inside.pairs _ told c.pass.invariant refl c.pass.invariant.1.member_is
     (ap (λ k. Some (new_hand k))
     (c.mark_of.ensures ∙ ap (mark_by_strips c.self.inside.task.scene.strips c.args.next.strip) (sym c.from-round.ensures)
     ∙ ap (λ r. mark_of r c.args.next.strip c.from-round.result) (sym own)))
@@ -84,7 +84,7 @@ invariant_of-pass-else-found-round c =
     let x = c.compare_exchange_with-found.result in
     let told = subst (λ b. Tells me (cond b (claimed me.0 c.args.next.strip c.from-round.result c.args.limit) (saw_at me.0 c.counter-place.result x x)) after)
     (ne_eqb x c.from-round.result c.if-found-round.false) c.compare_exchange_with-found.ensures.2.told in
-    keeps_saw me after _ _ _ _ _ c.pass.inside.pairs (Counter c.args.next.strip) _ _ _ told c.pass.invariant here c.counter-place.ensures (λ n e. cc)
+    keeps_saw me after _ _ _ _ _ _ c.pass.inside.pairs (Counter c.args.next.strip) _ _ _ told c.pass.invariant here c.counter-place.ensures (λ n e. cc)
 
 pub returns-then-found-round-clause-whole : goal.returns-then-found-round-clause-whole
 returns-then-found-round-clause-whole c all =

@@ -72,8 +72,8 @@ set-requires-clause-parent c =
     let told = subst (λ x. Tells me (saw_at me.0 c.tree-place.result c.compare_exchange-found.result x) after) (sym c.after_exchange.ensures)
     c.compare_exchange-found.ensures.2.told in
     let within = lawful.within c.args.node node in
-    keeps_parent after _ _ _ _ _ c.pass.inside.pairs c.args.node _
-    (keeps_pair me after _ _ _ _ _ c.pass.inside.pairs c.args.node _ _ _ told c.pass.invariant within place)
+    keeps_parent after _ _ _ _ _ _ c.pass.inside.pairs c.args.node _
+    (keeps_pair me after _ _ _ _ _ _ c.pass.inside.pairs c.args.node _ _ _ told c.pass.invariant within place)
     (omega (arith, c.pass.invariant.3.for_each, within))
 
 pub invariant_of-pass : goal.invariant_of-pass
@@ -88,7 +88,7 @@ invariant_of-pass c =
     let told = subst (λ x. Tells me (saw_at me.0 c.tree-place.result c.compare_exchange-found.result x) after) (sym c.after_exchange.ensures)
     c.compare_exchange-found.ensures.2.told in
     rw c.set.ensures
-    (keeps_pair me after _ _ _ _ _ c.pass.inside.pairs c.args.node _ _ _ told c.pass.invariant (lawful.within c.args.node node) place)
+    (keeps_pair me after _ _ _ _ _ _ c.pass.inside.pairs c.args.node _ _ _ told c.pass.invariant (lawful.within c.args.node node) place)
 
 pub returns-clause-view : goal.returns-clause-view
 returns-clause-view c =

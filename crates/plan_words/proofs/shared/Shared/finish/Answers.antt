@@ -71,7 +71,7 @@ invariant_of-pass c =
     let hand = c.in-Some.hand in
     let held = sym tied.hand_is ∙ c.in-Some.is in
     let place = place_here c.self.inside.places _ me.0 (RecordOf hand.mark) _ c.self.invariant.places_are own c.record-place.ensures in
-    keeps_view me c.store.new.seat.me (finished_at me.0 c.record-place.result c.pack_mark-word.result) _ _ _ _ _ _ _ c.pass.inside.pairs _ c.store.ensures.2
+    keeps_view me c.store.new.seat.me (finished_at me.0 c.record-place.result c.pack_mark-word.result) _ _ _ _ _ _ _ _ c.pass.inside.pairs _ c.store.ensures.2
     c.pass.invariant refl (c.next_turn-pass-inside.ensures ∙ ap turned tied.member_is ∙ turned-first me.0.crew) refl
     (HasPairs-finished me.0 c.pass.inside.pairs hand.mark _ _ tied.lawful (tied.lawful.mark hand held) place)
 

@@ -66,7 +66,7 @@ pub invariant_of-pass : goal.invariant_of-pass
 invariant_of-pass c =
     let own = same_run _ _ _ _ c.pass.view_is c.self.view_is c.requires.belongs in
     let own_too = same_run _ _ _ _ c.other.view_is c.self.view_is c.requires.belongs_too in
-    keeps_taken_over c.pass.inside.seat.me c.join_seat.new.seat.me c.load-count.new.seat.me c.other.inside.seat.me.0 _ _ _ _ _ _ c.pass.inside.pairs
+    keeps_taken_over c.pass.inside.seat.me c.join_seat.new.seat.me c.load-count.new.seat.me c.other.inside.seat.me.0 _ _ _ _ _ _ _ c.pass.inside.pairs
     c.other.inside.pairs c.take_cheaper.new.pairs _ _ c.join_seat.ensures.2 c.load-count.ensures.2.told c.count.ensures c.pass.invariant (own_too ∙ sym own)
     c.other.invariant.3
     (c.or-pass-inside.ensures ∙ ap (λ o. option_or o c.other.inside.member) c.pass.invariant.1.member_is

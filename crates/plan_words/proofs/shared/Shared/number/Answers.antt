@@ -26,7 +26,7 @@ returns-clause-seen c =
 
 pub invariant_of-pass : goal.invariant_of-pass
 invariant_of-pass c =
-    keeps_saw c.pass.inside.seat.me c.load.new.seat.me _ _ _ _ _ c.pass.inside.pairs Count _ _ _ c.load.ensures.2.told c.pass.invariant tt
+    keeps_saw c.pass.inside.seat.me c.load.new.seat.me _ _ _ _ _ _ c.pass.inside.pairs Count _ _ _ c.load.ensures.2.told c.pass.invariant tt
     c.count.ensures (λ n e. cc)
 
 pub returns-clause-own : goal.returns-clause-own

@@ -94,12 +94,12 @@ set-requires-clause-parent c =
     (saw_at me.0 c.child-place.result found found)) after) none
     (c.compare_exchange-found.ensures.2.told hand held) in
     let kept =
-    keeps_view me after (linked_at me.0 hand c.child-place.result (last_fill after.0)) _ _ _ _ _ _ _ c.pass.inside.pairs _ told c.pass.invariant refl
+    keeps_view me after (linked_at me.0 hand c.child-place.result (last_fill after.0)) _ _ _ _ _ _ _ _ c.pass.inside.pairs _ told c.pass.invariant refl
     tied.member_is
     (ap Some (c.after_link.ensures ∙ ap (λ b. cond b (record hand { stage = Linked }) hand) none))
     (HasPairs-linked me.0 hand c.args.node c.args.right _ _ c.pass.inside.pairs c.pack_tree.result tied.lawful held (tied.lawful.within c.args.node seen)
     place c.pack_tree.ensures) in
-    keeps_parent after _ _ _ _ _ c.pass.inside.pairs (hand.mark + 1) _ kept (omega (arith, c.pass.invariant.3.for_each, tied.lawful.mark hand held))
+    keeps_parent after _ _ _ _ _ _ c.pass.inside.pairs (hand.mark + 1) _ kept (omega (arith, c.pass.invariant.3.for_each, tied.lawful.mark hand held))
 
 pub invariant_of-pass : goal.invariant_of-pass
 invariant_of-pass c =
@@ -119,7 +119,7 @@ invariant_of-pass c =
     (saw_at me.0 c.child-place.result found found)) after) none
     (c.compare_exchange-found.ensures.2.told hand held) in
     rw c.set.ensures
-    (keeps_view me after (linked_at me.0 hand c.child-place.result (last_fill after.0)) _ _ _ _ _ _ _ c.pass.inside.pairs _ told c.pass.invariant
+    (keeps_view me after (linked_at me.0 hand c.child-place.result (last_fill after.0)) _ _ _ _ _ _ _ _ c.pass.inside.pairs _ told c.pass.invariant
     refl tied.member_is
     (ap Some (c.after_link.ensures ∙ ap (λ b. cond b (record hand { stage = Linked }) hand) none))
     (HasPairs-linked me.0 hand c.args.node c.args.right _ _ c.pass.inside.pairs c.pack_tree.result tied.lawful held (tied.lawful.within c.args.node seen)
@@ -142,7 +142,7 @@ invariant_of-pass-else-found-eq0 c =
     let told = subst (λ b. Tells me (cond b (linked_at me.0 hand c.child-place.result (last_fill after.0))
     (saw_at me.0 c.child-place.result found found)) after) some_child
     (c.compare_exchange-found.ensures.2.told hand held) in
-    keeps_view me after (saw_at me.0 c.child-place.result found found) _ _ _ _ _ _ _ c.pass.inside.pairs _ told c.pass.invariant refl tied.member_is
+    keeps_view me after (saw_at me.0 c.child-place.result found found) _ _ _ _ _ _ _ _ c.pass.inside.pairs _ told c.pass.invariant refl tied.member_is
     (ap Some (c.after_link.ensures ∙ ap (λ b. cond b (record hand { stage = Linked }) hand) some_child) ∙ sym held)
     (HasPairs-saw me.0 (saw_at me.0 c.child-place.result found found) c.pass.inside.pairs (ChildOf c.args.node c.args.right) _ _ _ tied.lawful
     (tied.lawful.within c.args.node seen) place refl (λ m e. cc))

@@ -20,7 +20,7 @@ invariant_of-result c =
     let told = c.split_seat-seat.ensures.4 in (
       ap (λ m. m.1) told,
       subst (λ v. IsTied v None None) (sym (ap (λ m. m.0) told)) (IsTied-looker _ c.pass.invariant.1.lawful),
-      HasRoom-new c.self.inside.places _ _ _ _ _ _ c.self.invariant.places_are (ap (λ m. m.0.run) told ∙ own) (ap (λ n. n + 1) c.marks.ensures)
+      HasRoom-new c.self.inside.places _ _ _ _ _ _ _ c.self.invariant.places_are (ap (λ m. m.0.run) told ∙ own) (ap (λ n. n + 1) c.marks.ensures)
           c.in_ok-scratch.ensures.room,
       subst (HasPairs _) (sym c.in_ok-pairs.ensures)
           (HasPairs-kept _ _ _ (ap (λ m. m.0.run) told) (λ n. ap (λ m. sees m.0 (TreeOf n)) told) c.pass.invariant.3),
@@ -31,7 +31,7 @@ invariant_of-pass c =
     let told = c.split_seat-seat.ensures.2 in (
       ap (λ m. m.1) told ∙ c.pass.invariant.0,
       subst (λ v. IsTied v c.pass.inside.member c.pass.inside.hand) (sym (ap (λ m. m.0) told)) (IsTied-stepped _ _ _ c.pass.invariant.1),
-      HasRoom-kept _ _ _ _ _ (ap (λ m. m.0.run) told) c.pass.invariant.2,
+      HasRoom-kept _ _ _ _ _ _ (ap (λ m. m.0.run) told) c.pass.invariant.2,
       HasPairs-kept _ _ _ (ap (λ m. m.0.run) told) (λ n. ap (λ m. sees m.0 (TreeOf n)) told) c.pass.invariant.3,
     )
 

@@ -77,7 +77,7 @@ told_half c =
 pub invariant_of-pass : goal.invariant_of-pass
 invariant_of-pass c =
     let me = c.pass.inside.seat.me in
-    keeps_hand me c.store.new.seat.me (half me.0 c.in-Some.hand c.args.parent c.args.cost) _ _ _ _ _ _ _ (told_half c) c.pass.invariant refl refl refl
+    keeps_hand me c.store.new.seat.me (half me.0 c.in-Some.hand c.args.parent c.args.cost) _ _ _ _ _ _ _ _ (told_half c) c.pass.invariant refl refl refl
     (λ n. refl)
 
 pub returns-clause-view : goal.returns-clause-view

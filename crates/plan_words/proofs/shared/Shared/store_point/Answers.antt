@@ -61,7 +61,7 @@ invariant_of-pass g c =
     let held = sym c.pass.invariant.1.hand_is ∙ c.in-Some.is in
     let told = subst (λ m. Tells me (pointed me.0 hand m c.args.p) after) c.requires.told_nearest
     (subst (λ p. Tells me (pointed me.0 hand g.S.SteeredFrom.nearest p) after) c.requires.told_point (c.store.ensures.2 hand held)) in
-    keeps_hand me after (pointed me.0 hand c.args.nearest c.args.p) _ _ _ _ _ _ _ told c.pass.invariant refl refl refl (λ n. refl)
+    keeps_hand me after (pointed me.0 hand c.args.nearest c.args.p) _ _ _ _ _ _ _ _ told c.pass.invariant refl refl refl (λ n. refl)
 
 pub returns-clause-goes_on : goal.returns-clause-goes_on
 returns-clause-goes_on g c =

@@ -54,5 +54,5 @@ invariant_of-pass c =
     let hand = c.in-Some.hand in
     let held = sym c.pass.invariant.1.hand_is ∙ c.in-Some.is in
     let me = c.pass.inside.seat.me in
-    keeps_hand me c.store.new.seat.me (treed me.0 hand) _ _ c.at_stage.result _ _ _ _ (c.store.ensures.2 hand held) c.pass.invariant refl refl
+    keeps_hand me c.store.new.seat.me (treed me.0 hand) _ _ c.at_stage.result _ _ _ _ _ (c.store.ensures.2 hand held) c.pass.invariant refl refl
     (ap Some (sym c.at_stage.ensures)) (λ n. refl)

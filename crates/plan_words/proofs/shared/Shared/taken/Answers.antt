@@ -41,7 +41,7 @@ invariant_of-pass c =
     let own = same_run _ _ _ _ c.pass.view_is c.self.view_is c.requires.belongs in
     let strip = subst (λ s. c.args.strip < s.task.scene.strips) (sym c.self.view_is) c.requires.strip in
     let here = subst (λ r. c.args.strip < r.strips) (sym own) strip in
-    keeps_saw c.pass.inside.seat.me c.load.new.seat.me _ _ _ _ _ c.pass.inside.pairs (Counter c.args.strip) _ _ _ c.load.ensures.2.told c.pass.invariant here
+    keeps_saw c.pass.inside.seat.me c.load.new.seat.me _ _ _ _ _ _ c.pass.inside.pairs (Counter c.args.strip) _ _ _ c.load.ensures.2.told c.pass.invariant here
     c.counter-place.ensures (λ n e. cc)
 
 pub returns-clause-whole : goal.returns-clause-whole

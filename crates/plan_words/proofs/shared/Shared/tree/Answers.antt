@@ -36,8 +36,8 @@ set-requires-clause-parent c =
     let seen = subst (λ p. SeesNode p.view c.args.node) (sym c.pass.view_is) c.requires.seen_node in
     let place = place_here c.self.inside.places _ c.pass.inside.seat.me.0 (TreeOf c.args.node) _ c.self.invariant.places_are own c.tree-place.ensures in
     let within = c.pass.invariant.1.lawful.within c.args.node seen in
-    keeps_parent c.load-word.new.seat.me _ _ _ _ _ c.pass.inside.pairs c.args.node _
-    (keeps_pair c.pass.inside.seat.me c.load-word.new.seat.me _ _ _ _ _ c.pass.inside.pairs c.args.node _ _ _ c.load-word.ensures.2.told c.pass.invariant
+    keeps_parent c.load-word.new.seat.me _ _ _ _ _ _ c.pass.inside.pairs c.args.node _
+    (keeps_pair c.pass.inside.seat.me c.load-word.new.seat.me _ _ _ _ _ _ c.pass.inside.pairs c.args.node _ _ _ c.load-word.ensures.2.told c.pass.invariant
     within place)
     (omega (arith, c.pass.invariant.3.for_each, within))
 
@@ -47,7 +47,7 @@ invariant_of-pass c =
     let seen = subst (λ p. SeesNode p.view c.args.node) (sym c.pass.view_is) c.requires.seen_node in
     let place = place_here c.self.inside.places _ c.pass.inside.seat.me.0 (TreeOf c.args.node) _ c.self.invariant.places_are own c.tree-place.ensures in
     rw c.set.ensures
-    (keeps_pair c.pass.inside.seat.me c.load-word.new.seat.me _ _ _ _ _ c.pass.inside.pairs c.args.node _ _ _ c.load-word.ensures.2.told c.pass.invariant
+    (keeps_pair c.pass.inside.seat.me c.load-word.new.seat.me _ _ _ _ _ _ c.pass.inside.pairs c.args.node _ _ _ c.load-word.ensures.2.told c.pass.invariant
     (c.pass.invariant.1.lawful.within c.args.node seen) place)
 
 pub returns-clause-view : goal.returns-clause-view

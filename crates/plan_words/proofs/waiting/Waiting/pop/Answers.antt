@@ -1,7 +1,6 @@
-use Rattle.std.proofs.Common.{false, sym, ap, ◌∙◌, subst, arith}
-use Rattle.std.specs.Prelude.{slice_set}
+use Rattle.std.proofs.Common.{false, subst, arith}
 use Rattle.std.proofs.lemmas.List.{length-set}
-use Rattle.plan_words.specs.Waiting.{AreMarked, HasMarks}
+use Rattle.plan_words.specs.Waiting.{AreMarked}
 use Rattle.plan_words.proofs.MarkedNodes.{AreMarked-pop}
 use Rattle.plan_words.proofs.waiting.Waiting.pop.Goals as goal
 
@@ -9,10 +8,8 @@ pub invariant_of-self-2 : goal.invariant_of-self-2
 invariant_of-self-2 c =
     let marked = c.self.inside.marked.items in
     let node = c.in_ok-node.node in
-    let waits = ap (λ w. w.waits) c.self.view_is ∙ c.requires.waits in
-    let are = subst (λ b. HasMarks b c.self.inside.nodes.items marked) waits c.self.invariant.marks in
-    let popped = AreMarked-pop c.pop.new.self.items marked node (subst (λ l. AreMarked l marked) c.in_ok-node.ensures.items are) in
+    let popped = AreMarked-pop c.pop.new.self.items marked node (subst (λ l. AreMarked l marked) c.in_ok-node.ensures.items c.self.invariant.marks) in
     record {
       room = omega (arith, c.self.invariant.room, c.in_ok-node.ensures.capacity, length-set marked node false);
-      marks = subst (λ b. HasMarks b c.pop.new.self.items (slice_set marked node false)) (sym waits) popped.0;
+      marks = popped.0;
     }

@@ -1,15 +1,14 @@
-use Rattle.std.proofs.Common.{◌≡◌, ◌⊎◌, ◌<◌, false, true, length, inl, sym, ap, ◌∙◌, subst, arith}
+use Rattle.std.proofs.Common.{◌≡◌, ◌⊎◌, ◌<◌, false, true, length, inl, sym, ◌∙◌, subst, arith}
 use Rattle.std.specs.Prelude.{slice_set}
 use Rattle.std.proofs.lemmas.List.{get_or_default, length-set}
-use Rattle.plan_words.specs.Waiting.{AreMarked, HasMarks, IsOn}
+use Rattle.plan_words.specs.Waiting.{AreMarked, IsOn}
 use Rattle.plan_words.proofs.MarkedNodes.{AreMarked-push, IsOn-before, IsOn-cases, IsOn-end, room-push}
 use Rattle.plan_words.proofs.waiting.Waiting.push.Goals as goal
 
 pub push_reserved-requires : goal.push_reserved-requires
 push_reserved-requires c =
     let marked = c.self.inside.marked.items in
-    let waits = ap (λ w. w.waits) c.self.view_is ∙ c.requires.waits in
-    let are = subst (λ b. HasMarks b c.self.inside.nodes.items marked) waits c.self.invariant.marks in
+    let are = c.self.invariant.marks in
     let low : c.args.node < length marked = subst (λ w. c.args.node < w.size) (sym c.self.view_is) c.requires.low in
     let free = sym (c.index.ensures ∙ get_or_default marked c.args.node _ false low) ∙ c.if-not-index.true in
     omega (arith, room-push c.self.inside.nodes.items marked c.args.node are low free, c.self.invariant.room, c.self.inside.nodes.ok)
@@ -17,16 +16,13 @@ push_reserved-requires c =
 pub invariant_of-self : goal.invariant_of-self
 invariant_of-self c =
     let marked = c.self.inside.marked.items in
-    let waits = ap (λ w. w.waits) c.self.view_is ∙ c.requires.waits in
-    let are = subst (λ b. HasMarks b c.self.inside.nodes.items marked) waits c.self.invariant.marks in
+    let are = c.self.invariant.marks in
     let low : c.args.node < length marked = subst (λ w. c.args.node < w.size) (sym c.self.view_is) c.requires.low in
     let free = sym (c.index.ensures ∙ get_or_default marked c.args.node _ false low) ∙ c.if-not-index.true in
     record {
       room = omega (arith, c.self.invariant.room, c.push_reserved.ensures.capacity, length-set marked c.args.node true);
-      marks =
-          subst (λ b. HasMarks b c.push_reserved.new.self.items (slice_set marked c.args.node true)) (sym waits)
-          (subst (λ l. AreMarked l (slice_set marked c.args.node true)) (sym c.push_reserved.ensures.items)
-          (AreMarked-push c.self.inside.nodes.items marked c.args.node are low free));
+      marks = subst (λ l. AreMarked l (slice_set marked c.args.node true)) (sym c.push_reserved.ensures.items)
+          (AreMarked-push c.self.inside.nodes.items marked c.args.node are low free);
     }
 
 pub returns-then-not-index-clause-only : goal.returns-then-not-index-clause-only
@@ -45,8 +41,7 @@ returns-then-not-index-clause-keeps c n on =
 pub returns-else-not-index-clause-here : goal.returns-else-not-index-clause-here
 returns-else-not-index-clause-here c =
     let marked = c.self.inside.marked.items in
-    let waits = ap (λ w. w.waits) c.self.view_is ∙ c.requires.waits in
-    let are = subst (λ b. HasMarks b c.self.inside.nodes.items marked) waits c.self.invariant.marks in
+    let are = c.self.invariant.marks in
     let low : c.args.node < length marked = subst (λ w. c.args.node < w.size) (sym c.self.view_is) c.requires.low in
     subst (λ w. IsOn w.nodes c.args.node) c.self.view_is
     (are.only c.args.node (sym (c.index.ensures ∙ get_or_default marked c.args.node _ false low) ∙ c.if-not-index.false))
