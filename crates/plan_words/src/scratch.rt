@@ -1,4 +1,4 @@
-//! The scratch lists of a pass. Searches keep there what is left to visit, and what they found.
+//! The scratch lists of a pass. Searches keep there what is left to visit, and what they found, and a spread the nodes that wait.
 //!
 //! They are taken when the pass is made, with all the room that a search may need, so that no search takes memory. Each node of the
 //! run may be found. No more than half of them wait to be visited: a visit takes one off and puts at most two on, so after n visits

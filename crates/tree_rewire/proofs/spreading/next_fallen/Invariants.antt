@@ -1,4 +1,4 @@
-use Rattle.std.proofs.Common.{◌≡◌, ◌⊎◌, ℕ, length}
+use Rattle.std.proofs.Common.{◌⊎◌, ℕ, length}
 use Rattle.plan_words.specs.States.{HasWholeShare}
 use Rattle.plan_words.specs.Waiting.{IsOn}
 use Rattle.tree_rewire.specs.SeenCosts.{PassLowers}
