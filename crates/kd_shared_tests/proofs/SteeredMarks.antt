@@ -138,7 +138,8 @@ module _ (before after : View) (later : IsLater before after) (lawful : IsLawful
       (nearest cost : ℕ) (result : Placing) → HangsBelowNearest nearest cost before → IfSome before.hand (λ hand. IsPlacing after hand result)
       → HangsBelowNearest nearest cost after
   HangsBelowNearest-placing nearest cost Placed hangs placed =
-      HangsBelowNearest-later nearest cost hangs Counted refl (at_hand (λ hand. IsPlaced after hand) before.hand hangs.steers.hand hangs.steers.held placed).counted
+      HangsBelowNearest-later nearest cost hangs Counted refl
+      (at_hand (λ hand. IsPlaced after hand) before.hand hangs.steers.hand hangs.steers.held placed).counted
   HangsBelowNearest-placing nearest cost (Same j) hangs placed =
       HangsBelowNearest-later nearest cost hangs hangs.steers.hand.stage hangs.steers.written
       (at_hand (λ hand. IsSame after hand j) before.hand hangs.steers.hand hangs.steers.held placed).unchanged

@@ -60,7 +60,8 @@ first_at member [] e = cc
 first_at member (worker ∷ crew) e = ap some (sym (same_Some member worker e))
 
 pub worker_few :
-    (view : View) (member : Member) → IsLawfulView view → Some member ≡ first_member view.crew → (member.worker < view.run.workers) × (member.worker < MOST_WORKERS)
+    (view : View) (member : Member) → IsLawfulView view → Some member ≡ first_member view.crew
+    → (member.worker < view.run.workers) × (member.worker < MOST_WORKERS)
 worker_few view member lawful is =
     let low = lawful.worker 0 member (first_at member view.crew is) in (low, omega (arith, low, lawful.run.workers.1))
 

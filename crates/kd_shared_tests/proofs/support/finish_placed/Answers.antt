@@ -12,7 +12,8 @@ finish-requires-clause-may c =
     let view = c.number-nodes.new.pass.view in
     let step = c.number-nodes.ensures in
     let hangs =
-    HangsBelowNearest-kept c.args.pass.now.view view step.goes_on.later holds.belongs.lawful (λ k. step.seen.others (RecordOf k) (λ e. cc)) c.args.closest c.args.cost
+    HangsBelowNearest-kept c.args.pass.now.view view step.goes_on.later holds.belongs.lawful
+    (λ k. step.seen.others (RecordOf k) (λ e. cc)) c.args.closest c.args.cost
     c.requires.hangs (ap (λ p. p.view.hand) step.view) in
     let held = ap (λ p. p.view.hand) step.view ∙ holds.held in
     let same : holds.hand ≡ hangs.steers.hand = cc (held, hangs.steers.held) in

@@ -68,6 +68,7 @@ returns-clause-hangs c =
     (λ hand. c.write_tree.new.pass
     ≡ with_view old (treed (half old.view hand c.args.closest through) (record hand { stage = Half; parent = c.args.closest; cost = through })))
     _ steers.hand steers.held c.write_tree.ensures.view in
-    HangsBelowNearest-hung old.view c.write_tree.new.pass.view c.write_tree.ensures.goes_on.later pair.goes_on.lawful (λ k. ap (λ p. sees p.view (RecordOf k)) made)
+    HangsBelowNearest-hung old.view c.write_tree.new.pass.view c.write_tree.ensures.goes_on.later pair.goes_on.lawful
+    (λ k. ap (λ p. sees p.view (RecordOf k)) made)
     c.args.shared.now c.args.closest through steers c.point-from.result c.hand_point-p.result own unlinked is
     (SeesPoint-later before old.view later.run later.seen c.args.closest c.point-from.result looks.found) clear (ap (λ p. p.view.hand) made)
