@@ -1,5 +1,5 @@
 -- Strips of which no mark is left, as a pass has seen it.
-use Rattle.std.proofs.Common.{◌≡◌, ℕ, ◌<◌, ◌≤◌, ap, subst, arith}
+use Rattle.std.proofs.Common.{ℕ, ◌<◌, ap, subst, arith}
 use Rattle.plan_words.specs.Claims.{AllFull}
 use Rattle.plan_words.specs.States.{GoesOn}
 use Rattle.plan_model.specs.Scenes.MarkPoints.{quota_of}
