@@ -1,8 +1,10 @@
-use Rattle.std.proofs.Common.{◌≡◌, ◌∙◌, ap, sym}
+use Rattle.std.proofs.Common.{◌≡◌, ◌∙◌, ap, refl, sym}
 use Rattle.plan_model.specs.Runs.ClosedLaw.{mark_at}
-use Rattle.plan_words.specs.States.{with_view}
+use Rattle.plan_words.specs.States.{PassState, with_view}
+use Rattle.plan_words.proofs.GoingOn.{BelongsTo-later}
 use Rattle.plan_words.proofs.HandSteps.{at_hand}
 use Rattle.step_core.specs.ViewSteps.{pointed}
+use Rattle.step_core.specs.declared.views.Stage.TheVariants.{Pointed}
 use Rattle.kd_shared_tests.proofs.SteeredMarks.{IsNearestRecorded-found, SteersFrom-written}
 use Rattle.kd_shared_tests.proofs.support.write_from_nearest.Goals as goal
 
@@ -21,3 +23,23 @@ returns-clause-steers c =
     c.write_point.ensures.goes_on c.point-from.ensures.seen (ap (λ p. p.view) is) c.nearest-closest.ensures.nearest.nearest.member c.point-from.ensures.found
     (ap (λ l. mark_at l c.args.mark) marks ∙ ap (mark_at found.run.marks) (sym c.requires.mark))
     (IsNearestRecorded-found c.args.pass.now.view found _ closest step.looks.goes_on.lawful c.nearest-closest.ensures.nearest)
+
+pub returns-clause-holds : goal.returns-clause-holds
+returns-clause-holds c =
+    let shared = c.args.shared.now in
+    let found = c.nearest-closest.new.pass in
+    let mid = c.point-from.new.pass in
+    let after = c.write_point.new.pass in
+    let loaded = c.point-from.ensures in
+    let closest = c.nearest-closest.result in
+    let held = ap (λ (s : PassState). s.view.hand) loaded.view ∙ c.nearest-closest.ensures.looks.kept.hand ∙ c.requires.held in
+    let is = at_hand (λ hand. after ≡ with_view mid (pointed mid.view hand closest c.steer-point.result)) mid.view.hand c.requires.hand held
+    c.write_point.ensures.view in
+    record {
+      belongs = BelongsTo-later shared mid after (ap (λ (s : PassState). s.table) is) c.write_point.ensures.goes_on
+          (BelongsTo-later shared found mid (ap (λ (s : PassState). s.table) loaded.view) loaded.goes_on c.nearest-closest.ensures.belongs);
+      hand = record c.requires.hand { stage = Pointed; nearest = closest; point = c.steer-point.result };
+      held = ap (λ (s : PassState). s.view.hand) is;
+      mark = c.requires.mark;
+      stage_is = refl;
+    }
