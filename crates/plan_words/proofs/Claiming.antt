@@ -1,11 +1,11 @@
 -- The scan of a claim over the views of its pass, and what a claim leaves.
-use Rattle.std.proofs.Common.{◌≡◌, ◌≢◌, ℕ, ◌+◌, ◌-◌, ◌*◌, ◌%◌, ◌<◌, ◌≤◌, max, true}
+use Rattle.std.proofs.Common.{◌≡◌, ◌≢◌, ℕ, ◌+◌, ◌-◌, ◌*◌, ◌%◌, ◌<◌, ◌≤◌, Bool, max, true}
 use Rattle.std.proofs.Common.{Option, Some, None, refl, sym, ap, ◌∙◌, subst, inl, inr, arith}
 use Rattle.std.specs.Prelude.{◌==◌, cond, MatchOption, IfNone, IfSome}
 use Rattle.std.proofs.lemmas.Bool.{cases_eq, eq-eqb, ne_eqb}
 use Rattle.std.proofs.lemmas.Nat.{mod-mul-add, mul-le}
 use Rattle.plan_model.proofs.SumsBelow.{sum-le}
-use Rattle.plan_words.specs.Claims.{AllFull, AllLoaded, GoesBefore, IsClaimed, IsFirst, IsOpen, KeepsHand, better_of, next_mark}
+use Rattle.plan_words.specs.Claims.{AllFull, AllLoaded, GoesBefore, IsClaimed, IsFirst, IsOpen, KeepsHand, better_of, is_own, next_mark}
 use Rattle.plan_words.specs.States.{BelongsTo, PassState, SharedState, with_view, worker_of}
 use Rattle.plan_words.specs.declared.claims.ClaimOrder.{ClaimOrder}
 use Rattle.plan_words.specs.declared.claims.Next.{Next}
@@ -56,24 +56,17 @@ best_strip run w limit counters n strips None scanned low = tt
 best_strip run w limit counters n strips (Some b) scanned low = omega (arith, scanned.strip, low)
 
 pub scan_more :
-    (shared : SharedState) (strips workers worker limit n x w : ℕ) (pass after : PassState) (best : Option Next) {then : Option Next} → BelongsTo pass shared
-    → strips ≡ shared.task.scene.strips → workers ≡ shared.workers → worker ≡ w → after ≡ with_view pass (loaded pass.view (Counter n) x)
+    (shared : SharedState) (strips limit n x w : ℕ) (own : Bool) (pass after : PassState) (best : Option Next) {then : Option Next} → BelongsTo pass shared
+    → strips ≡ shared.task.scene.strips → own ≡ is_own pass.view.run w n → after ≡ with_view pass (loaded pass.view (Counter n) x)
     → WritesWord (Counter n) x (sees pass.view) (sees after.view) → Scanned pass.view.run w limit (λ g. sees pass.view (Counter g)) n best
-    → then ≡ better_of (record { strips = strips; workers = workers; worker = worker; limit = limit }) best (record { strip = n; round = x })
+    → then ≡ better_of (record { strips = strips; limit = limit }) best (record { strip = n; round = x; own = own })
     → Scanned after.view.run w limit (λ g. sees after.view (Counter g)) (n + 1) then
-scan_more shared strips workers worker limit n x w pass after best {then} belongs strips_are workers_are worker_is is seen scanned better =
-    let order : ClaimOrder = record { strips = strips; workers = workers; worker = worker; limit = limit } in
+scan_more shared strips limit n x w own pass after best {then} belongs strips_are own_is is seen scanned better =
+    let order : ClaimOrder = record { strips = strips; limit = limit } in
     let run : SharedRun = pass.view.run in
-    let own = ap (λ r. r.strips) belongs.run in
-    let crew = ap (λ r. r.workers) belongs.run in
-    let more = Scanned-more order run w limit (record {
-      strips = strips_are ∙ sym own;
-      workers = workers_are
-          ∙ sym crew;
-      worker = worker_is;
-      limit_is = refl;
-    })
-    (λ g. sees pass.view (Counter g)) (λ g. sees after.view (Counter g)) n x seen.here (λ h apart. seen.others (Counter h) (λ e. apart cc)) best scanned in
+    let of_run = ap (λ r. r.strips) belongs.run in
+    let more = Scanned-more order run w limit (record { strips = strips_are ∙ sym of_run; limit_is = refl }) (λ g. sees pass.view (Counter g))
+    (λ g. sees after.view (Counter g)) n x own own_is seen.here (λ h apart. seen.others (Counter h) (λ e. apart cc)) best scanned in
     subst (λ r. Scanned r w limit (λ g. sees after.view (Counter g)) (n + 1) then) (sym (ap (λ p. p.view.run) is))
     (subst (Scanned run w limit (λ g. sees after.view (Counter g)) (n + 1)) (sym better) more)
 

@@ -1,13 +1,13 @@
 -- The strips are gone through one by one: of those below a number, the best next mark is known. A claim that fails has seen more.
-use Rattle.std.proofs.Common.{◌≡◌, ◌≢◌, ℕ, zero, suc, ◌+◌, ◌-◌, ◌*◌, ◌%◌, ◌<◌, ◌≤◌, Bool, true}
+use Rattle.std.proofs.Common.{◌≡◌, ◌≢◌, ℕ, zero, suc, ◌+◌, ◌-◌, ◌*◌, ◌<◌, ◌≤◌, Bool, true}
 use Rattle.std.proofs.Common.{false, Option, Some, None, refl, sym, ap, ◌∙◌, subst, inl, inr, arith}
-use Rattle.std.specs.Prelude.{◌==◌, nat_lt, cond, MatchOption}
+use Rattle.std.specs.Prelude.{nat_lt, cond, MatchOption}
 use Rattle.std.specs.List.{range_with_len, sum_by}
 use Rattle.std.proofs.lemmas.Bool.{cases_Bool, cases_eq, cases_lt, le-ltb, lt-ltb, ltb-true}
 use Rattle.plan_model.specs.Scenes.MarkPoints.{quota_of}
 use Rattle.plan_model.proofs.QuotaLaws.{IsCutAt-quota}
 use Rattle.plan_model.proofs.SumsBelow.{sum-le, sum-more}
-use Rattle.plan_words.specs.Claims.{AllFull, GoesBefore, IsOpen, better_of, better_open, goes_first, is_own, mark_in, owns}
+use Rattle.plan_words.specs.Claims.{AllFull, GoesBefore, IsOpen, better_of, better_open, goes_first, is_own, mark_in}
 use Rattle.plan_words.specs.declared.claims.ClaimOrder.{ClaimOrder}
 use Rattle.plan_words.specs.declared.claims.Next.{Next}
 use Rattle.step_core.specs.ViewSteps.{mark_of}
@@ -28,43 +28,40 @@ GoesBefore-trans run w g k h m i p (inr first) (inr then) = inr (first.0 ∙ the
 -- the order is that of a worker of the run
 pub record IsOrderOf (order : ClaimOrder) (run : SharedRun) (w limit : ℕ) : Type 0 where
   pub strips : order.strips ≡ run.strips
-  pub workers : order.workers ≡ run.workers
-  pub worker : order.worker ≡ w
   pub limit_is : order.limit ≡ limit
 
 module _ (order : ClaimOrder) (run : SharedRun) (w limit : ℕ) (of_run : IsOrderOf order run w limit) where
   mark_is : (next : Next) → mark_in order next ≡ mark_of run next.strip next.round
   mark_is next = ap (λ s. next.round * s + next.strip) of_run.strips
 
-  owns_is : (next : Next) → owns order next ≡ is_own run w next.strip
-  owns_is next = ap (λ n. next.strip % n == order.worker) of_run.workers ∙ ap (λ n. next.strip % run.workers == n) of_run.worker
-
   -- what the test says
-  pub GoesBefore-first : (one other : Next) → goes_first order one other ≡ true
+  pub GoesBefore-first : (one other : Next) → one.own ≡ is_own run w one.strip → other.own ≡ is_own run w other.strip
+      → goes_first order one other ≡ true
       → GoesBefore run w one.strip (mark_of run one.strip one.round) other.strip (mark_of run other.strip other.round)
-  GoesBefore-first one other e = by_test (owns order one) refl (owns order other) refl e
+  GoesBefore-first one other one_is other_is e = by_test one.own refl other.own refl e
     where
       by_test :
-          (a : Bool) → owns order one ≡ a → (b : Bool) → owns order other ≡ b
+          (a : Bool) → one.own ≡ a → (b : Bool) → other.own ≡ b
           → cond a (cond b (nat_lt (mark_in order one) (mark_in order other)) true)
           (cond b false (nat_lt (mark_in order one) (mark_in order other))) ≡ true
           → GoesBefore run w one.strip (mark_of run one.strip one.round) other.strip (mark_of run other.strip other.round)
       by_test true p true q h =
           inr (
-            sym (owns_is one) ∙ p ∙ sym q ∙ owns_is other,
+            sym one_is ∙ p ∙ sym q ∙ other_is,
             omega (arith, ltb-true (mark_in order one) (mark_in order other) h, mark_is one, mark_is other),
           )
-      by_test true p false q h = inl (sym (owns_is one) ∙ p, sym (owns_is other) ∙ q)
+      by_test true p false q h = inl (sym one_is ∙ p, sym other_is ∙ q)
       by_test false p true q h = cc
       by_test false p false q h =
           inr (
-            sym (owns_is one) ∙ p ∙ sym q ∙ owns_is other,
+            sym one_is ∙ p ∙ sym q ∙ other_is,
             omega (arith, ltb-true (mark_in order one) (mark_in order other) h, mark_is one, mark_is other),
           )
 
-  pub GoesBefore-other : (one other : Next) → goes_first order one other ≡ false
+  pub GoesBefore-other : (one other : Next) → one.own ≡ is_own run w one.strip → other.own ≡ is_own run w other.strip
+      → goes_first order one other ≡ false
       → GoesBefore run w other.strip (mark_of run other.strip other.round) one.strip (mark_of run one.strip one.round)
-  GoesBefore-other one other e = by_test (owns order one) refl (owns order other) refl e
+  GoesBefore-other one other one_is other_is e = by_test one.own refl other.own refl e
     where
       not_less : nat_lt (mark_in order one) (mark_in order other) ≡ false → mark_of run other.strip other.round ≤ mark_of run one.strip one.round
       not_less h = elim (cases_lt (mark_in order one) (mark_in order other)) [
@@ -73,14 +70,14 @@ module _ (order : ClaimOrder) (run : SharedRun) (w limit : ℕ) (of_run : IsOrde
       ]
 
       by_test :
-          (a : Bool) → owns order one ≡ a → (b : Bool) → owns order other ≡ b
+          (a : Bool) → one.own ≡ a → (b : Bool) → other.own ≡ b
           → cond a (cond b (nat_lt (mark_in order one) (mark_in order other)) true)
           (cond b false (nat_lt (mark_in order one) (mark_in order other))) ≡ false
           → GoesBefore run w other.strip (mark_of run other.strip other.round) one.strip (mark_of run one.strip one.round)
-      by_test true p true q h = inr (sym (owns_is other) ∙ q ∙ sym p ∙ owns_is one, not_less h)
+      by_test true p true q h = inr (sym other_is ∙ q ∙ sym p ∙ one_is, not_less h)
       by_test true p false q h = cc
-      by_test false p true q h = inl (sym (owns_is other) ∙ q, sym (owns_is one) ∙ p)
-      by_test false p false q h = inr (sym (owns_is other) ∙ q ∙ sym p ∙ owns_is one, not_less h)
+      by_test false p true q h = inl (sym other_is ∙ q, sym one_is ∙ p)
+      by_test false p false q h = inr (sym other_is ∙ q ∙ sym p ∙ one_is, not_less h)
 
 -- ---- the scan, by the counters seen
 
@@ -92,6 +89,7 @@ next_by run counters h = mark_of run h (counters h)
 pub record IsBest (run : SharedRun) (w limit : ℕ) (counters : ℕ → ℕ) (n : ℕ) (b : Next) : Type 0 where
   pub strip : b.strip < n
   pub round : b.round ≡ counters b.strip
+  pub own : b.own ≡ is_own run w b.strip
   pub low : mark_of run b.strip b.round < limit
   pub first : (h : ℕ) → h < n → next_by run counters h < limit → GoesBefore run w b.strip (mark_of run b.strip b.round) h (next_by run counters h)
 
@@ -103,9 +101,9 @@ abbrev pub Scanned : SharedRun → ℕ → ℕ → (ℕ → ℕ) → ℕ → Opt
 Scanned run w limit counters n best = MatchOption best (NoneOpen run limit counters n) (IsBest run w limit counters n)
 
 module _ (order : ClaimOrder) (run : SharedRun) (w limit : ℕ) (of_run : IsOrderOf order run w limit) (before after : ℕ → ℕ) (n round : ℕ)
-    (here : after n ≡ round) (others : (h : ℕ) → h ≢ n → after h ≡ before h) where
+    (own : Bool) (own_is : own ≡ is_own run w n) (here : after n ≡ round) (others : (h : ℕ) → h ≢ n → after h ≡ before h) where
   abbrev next : Next
-  next = record { strip = n; round = round }
+  next = record { strip = n; round = round; own = own }
 
   next_here : next_by run after n ≡ mark_of run n round
   next_here = ap (mark_of run n) here
@@ -120,6 +118,7 @@ module _ (order : ClaimOrder) (run : SharedRun) (w limit : ℕ) (of_run : IsOrde
   still_best b best over = record {
     strip = omega (arith, best.strip);
     round = best.round ∙ sym (others b.strip (λ e. omega (arith, best.strip, e)));
+    own = best.own;
     low = best.low;
     first = λ h low open_h.
         elim (cases_eq h n) [
@@ -141,6 +140,7 @@ module _ (order : ClaimOrder) (run : SharedRun) (w limit : ℕ) (of_run : IsOrde
   new_best low over = record {
     strip = omega arith;
     round = sym here;
+    own = own_is;
     low = low;
     first = λ h below open_h.
         elim (cases_eq h n) [
@@ -185,12 +185,12 @@ module _ (order : ClaimOrder) (run : SharedRun) (w limit : ℕ) (of_run : IsOrde
       open_more (Some b) best low =
           elim (cases_Bool (goes_first order next b)) [
             | inl e ↦ (
-                let over = GoesBefore-first order run w limit of_run next b e in
+                let over = GoesBefore-first order run w limit of_run next b own_is best.own e in
                 subst (Scanned run w limit after (n + 1)) (sym (ap (λ t. cond t (Some next) (Some b)) e))
                 (new_best low (λ h below open_h. GoesBefore-trans run w n (mark_of run n round) b.strip (mark_of run b.strip b.round) h
                 (next_by run before h) over (best.first h below open_h))))
             | inr e ↦ (
-                let under = GoesBefore-other order run w limit of_run next b e in
+                let under = GoesBefore-other order run w limit of_run next b own_is best.own e in
                 subst (Scanned run w limit after (n + 1)) (sym (ap (λ t. cond t (Some next) (Some b)) e))
                 (still_best b best (λ open_n. subst (λ m. GoesBefore run w b.strip (mark_of run b.strip b.round) n m) (sym next_here) under)))
           ]

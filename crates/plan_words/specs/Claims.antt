@@ -93,14 +93,11 @@ pub record IsLeastOpen (view : View) (k : ℕ) : Type 0 where
 abbrev pub mark_in : ClaimOrder → Next → ℕ
 mark_in order next = mark_by_strips order.strips next.strip next.round
 
-abbrev pub owns : ClaimOrder → Next → Bool
-owns order next = next.strip % order.workers == order.worker
-
 -- the one mark goes strictly before the other
 abbrev pub goes_first : ClaimOrder → Next → Next → Bool
 goes_first order one other =
-    if owns order one then (if owns order other then nat_lt (mark_in order one) (mark_in order other) else true) else
-    (if owns order other then false else nat_lt (mark_in order one) (mark_in order other))
+    if one.own then (if other.own then nat_lt (mark_in order one) (mark_in order other) else true) else
+    (if other.own then false else nat_lt (mark_in order one) (mark_in order other))
 
 -- the better of the best so far and one below the limit
 abbrev pub better_open : ClaimOrder → Option Next → Next → Option Next

@@ -1,6 +1,6 @@
 //! Claims: the next mark of a strip is put into the hand of one pass.
 
-ghost use Rattle.std.specs.Prelude.{◌≡◌, ℕ, ◌+◌, ◌<◌, ◌≤◌, ◌==◌, if◌then◌else◌, length, None, IfNone, IfSome, MatchOption};
+ghost use Rattle.std.specs.Prelude.{◌≡◌, ℕ, ◌+◌, ◌%◌, ◌<◌, ◌≤◌, ◌==◌, if◌then◌else◌, length, None, IfNone, IfSome, MatchOption};
 ghost use Rattle.plan_words.specs.Claims.{AllFull, AllLoaded, IsClaimed, IsLeastOpen, IsOpen, KeepsHand, OwnsAllStrips, RaisesCounter, SeesAsBefore};
 ghost use Rattle.plan_words.specs.Claims.{better_of, goes_first};
 ghost use Rattle.plan_words.specs.States.{BelongsTo, GoesOn, HasWholeShare, run_in, with_view, worker_of};
@@ -16,19 +16,18 @@ use crate::shared::Shared;
 use plan_model::{Point, mark_of};
 use step_core::{Hand, Stage};
 
-/// The next mark of a strip: how many of its marks come before it.
+/// The next mark of a strip: how many of its marks come before it, and whether the strip is one of the worker's own.
 #[derive(Clone, Copy)]
 pub(crate) struct Next {
     pub(crate) strip: u32,
     pub(crate) round: u32,
+    pub(crate) own: bool,
 }
 
 /// Which of two next marks a worker takes.
 #[derive(Clone, Copy)]
 pub(crate) struct ClaimOrder {
     pub(crate) strips: u32,
-    pub(crate) workers: u32,
-    pub(crate) worker: u32,
     pub(crate) limit: u32,
 }
 
@@ -85,14 +84,16 @@ impl Shared {
     {
         let order = ClaimOrder {
             strips: self.task.scene.strips,
-            workers: self.workers,
-            worker: pass.worker(),
             limit,
         };
+        let worker = pass.worker();
+        let mut owner = 0;
         let mut best = None;
         for strip in 0..order.strips {
             let round = self.taken(pass, strip);
-            best = order.better(best, Next { strip, round });
+            let own = owner == worker;
+            best = order.better(best, Next { strip, round, own });
+            owner = next_owner(owner, self.workers);
         }
         best
     }
@@ -137,12 +138,11 @@ impl Shared {
 
 impl ClaimOrder {
     ghost use Rattle.plan_model.specs.declared.limits.TheConstants.{MOST_STRIPS};
-    ghost use Rattle.plan_words.specs.Claims.{mark_in, owns};
+    ghost use Rattle.plan_words.specs.Claims.{mark_in};
 
     /// The better of the best so far and one more.
     fn better(self, best: Option<Next>, next: Next) -> Option<Next>
         requires strips { self.strips ≤ MOST_STRIPS }
-        requires workers { 0 < self.workers }
         requires strip { next.strip < self.strips }
         requires best { IfSome best (λ b. b.strip < self.strips) }
         ensures { result ≡ better_of self best next }
@@ -171,26 +171,25 @@ impl ClaimOrder {
         mark_of(self.strips, next.strip, next.round)
     }
 
-    /// Whether its strip is one of the worker's own.
-    fn owns(self, next: Next) -> bool
-        requires { 0 < self.workers }
-        ensures { result ≡ owns self next }
-    {
-        next.strip % self.workers == self.worker
-    }
-
     /// Whether the one mark goes before the other.
     fn goes_first(self, one: Next, other: Next) -> bool
         requires strips { self.strips ≤ MOST_STRIPS }
-        requires workers { 0 < self.workers }
         requires strip { one.strip < self.strips }
         requires strip_too { other.strip < self.strips }
         ensures { result ≡ goes_first self one other }
     {
-        match (self.owns(one), self.owns(other)) {
+        match (one.own, other.own) {
             (true, false) => true,
             (false, true) => false,
             _ => self.mark(one) < self.mark(other),
         }
     }
+}
+
+/// The worker that owns the next strip: strips are dealt out to the workers in turns.
+fn next_owner(owner: u32, workers: u32) -> u32
+    requires { owner < workers }
+    ensures { result ≡ (owner + 1) % workers }
+{
+    if owner + 1 == workers { 0 } else { owner + 1 }
 }

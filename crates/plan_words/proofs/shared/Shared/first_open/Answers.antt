@@ -1,13 +1,26 @@
-use Rattle.std.proofs.Common.{refl, ap, arith, inl, inr}
+use Rattle.std.proofs.Common.{◌≡◌, ℕ, ◌%◌, ◌+◌, suc, refl, sym, ap, ◌∙◌, arith, inl, inr}
+use Rattle.std.proofs.Math.Nat.{suc-mod, zero-mod}
+use Rattle.std.specs.Prelude.{◌==◌}
 use Rattle.plan_words.proofs.Claiming.{best_strip, counters_changed, kept_loaded, loaded_more, scan_ends, scan_more, view_alone-more}
 use Rattle.plan_words.proofs.GoingOn.{BelongsTo-later, GoesOn-more}
 use Rattle.plan_words.proofs.WholeClaims.{whole_loaded}
 use Rattle.plan_words.proofs.shared.Shared.first_open.Goals as goal
+use Rattle.plan_words.specs.Claims.{is_own}
+use Rattle.plan_words.specs.States.{worker_of}
+use Rattle.step_core.specs.declared.views.SharedRun.{SharedRun}
 use Rattle.step_core.proofs.LaterViews.{IsLater-refl, IsLater-trans}
+
+-- the strips are dealt out in turns
+next_owner : (strip workers owner : ℕ) → owner ≡ strip % workers → (owner + 1) % workers ≡ (strip + 1) % workers
+next_owner strip workers owner is =
+    let more : owner + 1 ≡ suc (strip % workers) = omega (arith, is) in
+    let next : suc strip ≡ strip + 1 = omega arith in
+    ap (λ n. n % workers) more ∙ sym (suc-mod strip workers) ∙ ap (λ n. n % workers) next
 
 pub loop-strip-init : goal.loop-strip-init
 loop-strip-init c = record {
   belongs = c.requires.belongs;
+  owner = sym (zero-mod c.args.self.now.workers);
   kept = record { crew = refl; most = refl; hand = refl };
   later = IsLater-refl c.args.pass.now.view;
   goes_on = inl (refl, refl);
@@ -30,8 +43,13 @@ loop-strip-preserved c =
     let told = c.taken-round.ensures in
     let strips = ap (λ s. s.task.scene.strips) c.self.view_is in
     let workers = ap (λ s. s.workers) c.self.view_is in
+    let own : (c.loop-strip.owner == c.worker-worker.result) ≡ is_own c.loop-strip.pass.view.run (worker_of c.args.pass.now.view.crew) c.loop-strip.strip =
+    ap (λ o. o == c.worker-worker.result) (kept.owner ∙ ap (λ (r : SharedRun). c.loop-strip.strip % r.workers) (sym kept.belongs.run))
+    ∙ ap (λ w. c.loop-strip.strip % c.loop-strip.pass.view.run.workers == w) c.worker-worker.ensures.number in
     record {
       belongs = BelongsTo-later _ _ _ (ap (λ p. p.table) told.view) told.goes_on kept.belongs;
+      owner = c.next_owner-owner.ensures ∙ ap (λ w. (c.loop-strip.owner + 1) % w) workers
+          ∙ next_owner c.loop-strip.strip c.args.self.now.workers c.loop-strip.owner kept.owner;
       kept = kept_loaded _ _ _ _ _ told.view kept.kept;
       later = IsLater-trans _ _ _ kept.later told.goes_on.later;
       goes_on = inr (elim kept.goes_on [
@@ -42,8 +60,7 @@ loop-strip-preserved c =
       alone = view_alone-more c.args.pass.now c.loop-strip.pass c.taken-round.new.pass _ kept.alone told.view;
       whole = whole_loaded c.args.pass.now.view c.loop-strip.pass c.taken-round.new.pass _ _ kept.kept kept.later.run kept.whole told.seen told.whole;
       loaded = loaded_more _ _ _ _ kept.loaded told.looked kept.later.steps told.goes_on.later;
-      scanned = scan_more _ _ _ c.worker.result _ _ _ _ _ _ c.loop-strip.best kept.belongs strips workers c.worker.ensures.number told.view told.seen
-          kept.scanned c.better-best.ensures;
+      scanned = scan_more _ _ _ _ _ _ _ _ _ c.loop-strip.best kept.belongs strips own told.view told.seen kept.scanned c.better-best.ensures;
     }
 
 pub returns-clause-belongs : goal.returns-clause-belongs

@@ -1,4 +1,4 @@
-use Rattle.std.proofs.Common.{◌≡◌, ◌<◌, ◌⊎◌, ℕ}
+use Rattle.std.proofs.Common.{◌≡◌, ◌%◌, ◌<◌, ◌⊎◌, ℕ}
 use Rattle.plan_words.specs.Claims.{KeepsHand, SeesAsBefore}
 use Rattle.plan_words.specs.States.{BelongsTo, GoesOn, HasWholeShare, with_view, worker_of}
 use Rattle.plan_words.proofs.Scanning.{Scanned}
@@ -11,6 +11,7 @@ use Rattle.step_core.specs.WordNames.Word.{Counter}
 abbrev pub invariant-loop-strip : goal.invariant-loop-strip
 invariant-loop-strip l = record {
   belongs : BelongsTo l.pass l.self;
+  owner : l.owner ≡ l.strip % l.self.workers;
   kept : KeepsHand l.fn.pass.view l.pass.view;
   later : IsLater l.fn.pass.view l.pass.view;
   goes_on : ((l.strip ≡ 0) × (l.pass.view ≡ l.fn.pass.view)) ⊎ GoesOn l.fn.pass.view l.pass.view;
