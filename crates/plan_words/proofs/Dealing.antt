@@ -96,10 +96,11 @@ module _ (opening : Opening) where
 
 -- at first it stands for all
 pub StandsFor-all :
-    (shared : SharedState) (first : PassState) → 0 < shared.workers → BelongsTo first shared
+    (shared : SharedState) (first : PassState) → BelongsTo first shared
     → first.view.crew ≡ crew_from (run_in shared) (sees first.view) 0 shared.workers → first.view.hand ≡ None
     → first ≡ new_pass first.table first.view → StandsFor shared first 1 first
-StandsFor-all shared first some_worker belongs crew hand lists =
+StandsFor-all shared first belongs crew hand lists =
+    let some_worker : 0 < shared.workers = omega (arith, belongs.lawful.run.workers.0, ap (λ run. run.workers) belongs.run) in
     let all : shared.workers ≡ shared.workers - 0 = omega arith in
     record {
       belongs = belongs;

@@ -94,7 +94,6 @@ impl Shared {
 
     /// The passes of all workers, made from the one that stands for them all.
     fn hand_out(&self, first: Pass, turns: &[u32]) -> Result<Vec<Pass>, AllocError>
-        requires some { 1 ≤ self.now.workers }
         requires belongs { BelongsTo first self.now }
         requires crew { first.view.crew ≡ crew_from (run_in self.now) (sees first.view) 0 self.now.workers }
         requires hand { first.view.hand ≡ None }

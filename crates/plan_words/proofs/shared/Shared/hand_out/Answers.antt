@@ -5,7 +5,7 @@ use Rattle.plan_words.specs.Dealt.{IsPassOf}
 
 pub hand_on_all-requires-clause-stands : goal.hand_on_all-requires-clause-stands
 hand_on_all-requires-clause-stands c =
-    StandsFor-all c.args.self.now c.args.first (omega (arith, c.requires.some)) c.requires.belongs c.requires.crew c.requires.hand c.requires.lists
+    StandsFor-all c.args.self.now c.args.first c.requires.belongs c.requires.crew c.requires.hand c.requires.lists
 
 pub returns-clause-count : goal.returns-clause-count
 returns-clause-count c = omega (arith, ap (λ l. length l) c.in_ok-insert.ensures.items, c.in_ok-passes.ensures.count)
