@@ -1,4 +1,6 @@
 pub mod PresentNumbers
+pub mod LeastIndices
+pub mod NearestNodes
 pub mod ScannedLists
 pub mod ChangedLinks
 pub mod Children

@@ -1,7 +1,7 @@
 -- What a mark adds to a sound tree handles it, by its outcome.
 use Rattle.std.proofs.Common.{◌≡◌, ℕ, suc, ◌+◌, ◌*◌, ◌^◌, ◌≤◌, List, [], ◌∷◌, ◌++◌, length, Option, Some, None, arith, refl, sym, ap, ◌∙◌, subst}
 use Rattle.std.specs.Prelude.{All, ◌≢◌}
-use Rattle.std.proofs.lemmas.List.Elements.{All-cons, All-contains, All-nil}
+use Rattle.std.proofs.lemmas.List.Elements.{All-cons, All-contains}
 use Rattle.plan_model.specs.declared.geometry.Point.{Point}
 use Rattle.plan_model.specs.declared.trees.Twig.{Twig}
 use Rattle.plan_model.specs.declared.scenes.Scene.{Scene}
@@ -29,7 +29,7 @@ use Rattle.seq_planner.specs.declared.extensions.Extension.{Extension}
 use Rattle.edge_cost.specs.LeastParents.{IsLeastParent}
 use Rattle.edge_cost.specs.declared.parents.Parent.{Parent}
 use Rattle.seq_planner.specs.declared.search_tree.SearchTree.{SearchTree}
-use Rattle.seq_planner.specs.SearchTrees.{IsExtensionOf, Fits}
+use Rattle.seq_planner.specs.SearchTrees.{AddsRewired, IsExtensionOf, Fits}
 
 -- The next mark, of number k, steers from its nearest node, which stands at from, to the point.
 pub record Steers (scene : Scene) (tree : SearchTree) (mark : Point) (k nearest : ℕ) (from point : Point) : Type 0 where
@@ -73,29 +73,28 @@ fits_none : (nodes : Nodes) (node : Option Twig) (cost : ℕ) → node ≡ None 
 fits_none nodes o cost e f = (let P : Option Twig → Type 0 = λ n. Fits nodes n cost in subst P (sym e) f)
 
 unplaced :
-    (scene : Scene) (tree : SearchTree) (mark : Point) (extension : Extension) (entry : Record) (ns : List ℕ) → ns ≡ []
+    (scene : Scene) (tree : SearchTree) (mark : Point) (extension : Extension) (entry : Record) (ns : List ℕ)
+    → All (IsPresent (points_of tree.nodes)) ns
     → Handles (setup_of scene) tree.nodes (length tree.records.items) mark entry (tree.nodes ++ None ∷ [])
     → IsUnplaced extension entry → IsExtensionOf scene tree mark extension ns
-unplaced scene tree mark extension entry ns none handles h =
+unplaced scene tree mark extension entry ns present handles h =
     let k : ℕ = length tree.records.items in
     let E : Record → Nodes → Type 0 = λ r after. Handles (setup_of scene) tree.nodes k mark r after in
-    let put : Option Twig → Nodes = λ node. tree.nodes ++ node ∷ [] in
     record {
       fits = fits_none tree.nodes extension.node extension.cost h.node h.cost;
-      handles = λ after rewired.
-          let R : List ℕ → Type 0 = λ is. Rewires (space_of scene) (put extension.node) (length tree.nodes) is after in
-          let same : after ≡ put None = subst R none rewired ∙ ap put h.node in
+      handles = λ after added.
+          let A : Option Twig → Type 0 = λ node. AddsRewired (space_of scene) tree.nodes node ns after in
+          let same : after ≡ tree.nodes ++ None ∷ [] = subst A h.node added in
           subst (λ (r : Record). E r after) (sym h.recorded) (subst (E entry) (sym same) handles);
-      present = subst (All (IsPresent (points_of tree.nodes))) (sym none) (All-nil (IsPresent (points_of tree.nodes)));
-      none_near = λ e. none;
+      present = present;
     }
 
 module _ {scene : Scene} {tree : SearchTree} {mark : Point} {k nearest : ℕ} {from point : Point} (h : Steers scene tree mark k nearest from point) where
   -- the nearest node stands at the point already
   pub IsExtensionOf-same :
-      {extension : Extension} {ns : List ℕ} → ns ≡ [] → point ≡ from → IsUnplaced extension (same_record k nearest nearest)
-      → IsExtensionOf scene tree mark extension ns
-  IsExtensionOf-same {extension = extension} {ns = ns} none same own =
+      {extension : Extension} {ns : List ℕ} → All (IsPresent (points_of tree.nodes)) ns → point ≡ from
+      → IsUnplaced extension (same_record k nearest nearest) → IsExtensionOf scene tree mark extension ns
+  IsExtensionOf-same {extension = extension} {ns = ns} present same own =
       let P : ℕ → Type 0 = λ n. Handles (setup_of scene) tree.nodes n mark (same_record k nearest nearest) (tree.nodes ++ None ∷ []) in
       let ends : P k = record {
         point = point;
@@ -104,13 +103,13 @@ module _ {scene : Scene} {tree : SearchTree} {mark : Point} {k nearest : ℕ} {f
         recorded = refl;
         added = refl;
       } in
-      unplaced scene tree mark extension (same_record k nearest nearest) ns none (subst P h.turn ends) own
+      unplaced scene tree mark extension (same_record k nearest nearest) ns present (subst P h.turn ends) own
 
   -- the segment to the point is not clear
   pub IsExtensionOf-blocked :
-      {extension : Extension} {ns : List ℕ} → ns ≡ [] → point ≢ from → ¬ Clear (space_of scene) from point
+      {extension : Extension} {ns : List ℕ} → All (IsPresent (points_of tree.nodes)) ns → point ≢ from → ¬ Clear (space_of scene) from point
       → IsUnplaced extension (blocked_record k nearest) → IsExtensionOf scene tree mark extension ns
-  IsExtensionOf-blocked {extension = extension} {ns = ns} none apart blocked own =
+  IsExtensionOf-blocked {extension = extension} {ns = ns} present apart blocked own =
       let P : ℕ → Type 0 = λ n. Handles (setup_of scene) tree.nodes n mark (blocked_record k nearest) (tree.nodes ++ None ∷ []) in
       let Q : Point → Type 0 = λ p. ¬ Clear (space_of scene) p point in
       let ends : P k = record {
@@ -121,7 +120,7 @@ module _ {scene : Scene} {tree : SearchTree} {mark : Point} {k nearest : ℕ} {f
         recorded = refl;
         added = refl;
       } in
-      unplaced scene tree mark extension (blocked_record k nearest) ns none (subst P h.turn ends) own
+      unplaced scene tree mark extension (blocked_record k nearest) ns present (subst P h.turn ends) own
 
 -- ---- a mark that is placed
 
@@ -203,17 +202,16 @@ module _ {scene : Scene} {tree : SearchTree} {mark : Point} {k nearest : ℕ} {f
   pub IsExtensionOf-placed : IsExtensionOf scene tree mark extension ns
   IsExtensionOf-placed =
       let F : Option Twig → Type 0 = λ node. Fits tree.nodes node extension.cost in
-      let rewires : Option Twig → ℕ → Nodes → Type 0 = λ node n after. Rewires (space_of scene) (tree.nodes ++ node ∷ []) n ns after in
+      let adds : Nodes → Option Twig → Type 0 = λ after node. AddsRewired (space_of scene) tree.nodes node ns after in
+      let rewires : Nodes → ℕ → Type 0 = λ after n. Rewires (space_of scene) (tree.nodes ++ Some new_node ∷ []) n ns after in
       let handled : ℕ → Nodes → Type 0 = λ n after. Handles (setup_of scene) tree.nodes n mark extension.entry after in
       let points : List (Option Point) = points_of tree.nodes in
       record {
         fits = subst F (sym own.node) fits_new;
         handles = λ after rewired.
             let number : length tree.nodes ≡ suc k = omega (arith, h.turn, h.numbers) in
-            let with_node : rewires (Some new_node) (length tree.nodes) after =
-            subst (λ (n : Option Twig). rewires n (length tree.nodes) after) own.node rewired in
-            let with_number : rewires (Some new_node) (suc k) after = subst (λ (n : ℕ). rewires (Some new_node) n after) number with_node in
+            let with_node : rewires after (length tree.nodes) = subst (adds after) own.node rewired in
+            let with_number : rewires after (suc k) = subst (rewires after) number with_node in
             subst (λ (n : ℕ). handled n after) h.turn (handles_placed after with_number);
         present = subst (All (IsPresent points)) (sym own.are_near) (near-present points point (radius_of scene.step scene.gamma (node_count points)));
-        none_near = λ e. (let never : Some new_node ≡ None = sym own.node ∙ e in cc);
       }

@@ -1,10 +1,11 @@
 -- A mark is handled: its node is put at the end, and near nodes are rewired.
-use Rattle.std.proofs.Common.{◌≡◌, ℕ, ◌+◌, List, [], ◌∷◌, ◌++◌, length, Option, Some, None, false, refl, sym, ap, ◌∙◌, subst}
+use Rattle.std.proofs.Common.{◌≡◌, ℕ, ◌+◌, List, [], ◌∷◌, ◌++◌, length, Option, Some, None, true, false, sym, ap, ◌∙◌, subst}
 use Rattle.std.specs.Prelude.{All, is_some, option_map}
 use Rattle.std.proofs.lemmas.List.Elements.{All-weaker}
 use Rattle.plan_model.specs.declared.geometry.Point.{Point}
 use Rattle.plan_model.specs.declared.trees.Twig.{Twig}
 use Rattle.plan_model.specs.declared.scenes.Scene.{Scene}
+use Rattle.plan_model.specs.declared.configuration_spaces.ConfigurationSpace.{ConfigurationSpace}
 use Rattle.plan_model.specs.Spaces.ConfigurationSpace.{space_of}
 use Rattle.plan_model.specs.Trees.PointsByNumber.{IsPresent}
 use Rattle.plan_model.specs.Trees.NodeLists.{points_of}
@@ -13,7 +14,7 @@ use Rattle.plan_model.proofs.TreeChanges.{points_of-push}
 use Rattle.plan_model.proofs.DistinctPoints.{IsPresent-push}
 use Rattle.seq_planner.specs.declared.extensions.Extension.{Extension}
 use Rattle.seq_planner.specs.declared.search_tree.SearchTree.{SearchTree}
-use Rattle.seq_planner.specs.SearchTrees.{IsExtensionOf, GrowsByMark}
+use Rattle.seq_planner.specs.SearchTrees.{AddsRewired, IsExtensionOf, GrowsByMark}
 
 -- present nodes are present beside one more number
 pub present-put :
@@ -25,16 +26,25 @@ present-put tree after node ns e h =
     All-weaker (IsPresent (points_of tree)) (IsPresent (points_of after))
     (λ i present. subst (λ ps. IsPresent ps i) (sym points) (IsPresent-push (points_of tree) _ i present)) ns h
 
--- no node was put
-pub none-put : (node : Option Twig) → is_some node ≡ false → node ≡ None
-none-put None e = refl
-none-put (Some node) e = cc
+-- a node was put, and near ones are rewired
+pub AddsRewired-some :
+    (space : ConfigurationSpace) (tree after : Nodes) (node : Option Twig) (ns : List ℕ) → is_some node ≡ true
+    → Rewires space (tree ++ node ∷ []) (length tree) ns after → AddsRewired space tree node ns after
+AddsRewired-some space tree after None ns e h = cc
+AddsRewired-some space tree after (Some node) ns e h = h
+
+-- none was
+pub AddsRewired-none :
+    (space : ConfigurationSpace) (tree after : Nodes) (node : Option Twig) (ns : List ℕ) → is_some node ≡ false
+    → after ≡ tree ++ node ∷ [] → AddsRewired space tree node ns after
+AddsRewired-none space tree after None ns e h = h
+AddsRewired-none space tree after (Some node) ns e h = cc
 
 -- the mark is handled by what rewiring leaves
 pub GrowsByMark-put :
     (scene : Scene) (tree after : SearchTree) (mark : Point) (extension : Extension) (ns : List ℕ) → IsExtensionOf scene tree mark extension ns
     → after.records.items ≡ tree.records.items ++ extension.entry ∷ []
-    → Rewires (space_of scene) (tree.nodes ++ extension.node ∷ []) (length tree.nodes) ns after.nodes
+    → AddsRewired (space_of scene) tree.nodes extension.node ns after.nodes
     → length after.nodes ≡ length tree.nodes + 1 → GrowsByMark scene tree mark after
 GrowsByMark-put scene tree after mark extension ns h recorded rewired count = record {
   entry = extension.entry;

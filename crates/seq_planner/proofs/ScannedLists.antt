@@ -1,25 +1,26 @@
 -- Scans over the nodes that are present, index after index: for the nearest to a mark, and for those near a point.
 use Rattle.std.proofs.Common.{◌≡◌, ℕ, ◌+◌, ◌*◌, ◌<◌, ◌≤◌, leb, Bool, true, false, cond, List, [], ◌∷◌, ◌++◌, length, get_or, take, Option, Some}
-use Rattle.std.proofs.Common.{arith, refl, sym, ap, ◌∙◌, inl, inr}
-use Rattle.std.specs.Prelude.{is_some, filter, Contains}
-use Rattle.std.specs.List.{range_with_len, AllPairs}
-use Rattle.std.proofs.lemmas.Bool.{cases_order, le-leb, lt-leb}
-use Rattle.std.proofs.lemmas.List.{append-nil, get_or-map, get_or_default, get_or_read, take_all}
-use Rattle.std.proofs.lemmas.List.Elements.{All-get_or, filter_more}
+use Rattle.std.proofs.Common.{zero, suc, arith, refl, sym, ap, ◌∙◌, subst}
+use Rattle.std.specs.Prelude.{is_some, filter, All, Contains}
+use Rattle.std.specs.List.{range_with_len}
+use Rattle.std.specs.List.Sorted.{IsStrictlyIncreasing}
+use Rattle.std.proofs.lemmas.Bool.{le-leb, lt-leb}
+use Rattle.std.proofs.lemmas.List.{append-nil, get_or-map, get_or_read, take_all}
+use Rattle.std.proofs.lemmas.List.Elements.{All-contains, All-nil, All-get_or, filter_more}
 use Rattle.std.proofs.lemmas.List.FromFn.{length-range_with_len, get_or-range_with_len}
-use Rattle.std.proofs.lemmas.List.Kept.{AllPairs-from_increasing}
 use Rattle.plan_model.specs.Geometry.Plane.{squared_distance}
 use Rattle.plan_model.specs.Trees.LeastPairs.{IsFirstLeast}
 use Rattle.plan_model.specs.Trees.Nearness.{distance_to, IsNearest, is_within, near}
 use Rattle.plan_model.specs.Trees.PointsByNumber.{point_at, StandsAt, IsPresent, point_of, IsFree}
 use Rattle.plan_model.specs.declared.geometry.Point.{Point}
-use Rattle.plan_model.proofs.DistinctPoints.{IsPresent-below, within_present}
+use Rattle.plan_model.proofs.DistinctPoints.{IsPresent-below, near-present, within_present}
 use Rattle.plan_model.proofs.FreePoints.{is_near_free, filter-none}
-use Rattle.plan_model.proofs.LeastScans.{IsFirstLeastBelow, IsFirstLeast-scanned}
+use Rattle.plan_model.proofs.LeastPairLaws.{IsFirstLeast-among}
 use Rattle.plan_model.proofs.NearNodes.{Contains-filter}
-use Rattle.plan_model.proofs.NewNodes.{IsPresent-stands, point_of-stands, StandsAt-present}
-use Rattle.seq_planner.specs.PlacedLists.{present_numbers, ArePlaced}
+use Rattle.plan_model.proofs.NewNodes.{point_of-stands, StandsAt-present}
+use Rattle.seq_planner.specs.PlacedLists.{present_numbers, ArePlaced, listed_near}
 use Rattle.seq_planner.specs.declared.placed_points.PlacedPoints.{PlacedPoints}
+use Rattle.seq_planner.proofs.LeastIndices.{IsLeastIndex, IsFirstLeast-index, IsFirstLeast-listed}
 use Rattle.seq_planner.proofs.PresentNumbers.{ArePlaced-numbered, present_numbers-present, present_numbers-rising}
 
 -- ---- slots
@@ -45,29 +46,11 @@ present_numbers-all points n h =
     Contains-filter (λ i. is_some (point_at points i)) (range_with_len 0 (length points)) n h
     (n, omega (arith, below, length-range_with_len 0 (length points)), itself)
 
--- later slots have greater numbers
-numbers_rise :
-    (points : List (Option Point)) (placed : PlacedPoints) (i j : ℕ) → ArePlaced points placed → i ≤ j → j < length placed.numbers.items
-    → get_or placed.numbers.items i 0 ≤ get_or placed.numbers.items j 0
-numbers_rise points placed i j h le below =
-    let low : j < length (present_numbers points) = omega (arith, below, ap length h.numbers) in
-    let pairs : AllPairs (λ m n. m < n) (present_numbers points) = AllPairs-from_increasing (present_numbers points) (present_numbers-rising points) in
-    rw h.numbers (elim (cases_order i j) [
-      | inl e ↦ omega (arith, ap (λ k. get_or (present_numbers points) k 0) e)
-      | inr (inl before) ↦ omega (arith, pairs i j 0 before low)
-      | inr (inr after) ↦ absurd (omega arith)
-    ])
-
 -- ---- the nearest
 
 -- the squared distance of the point at a index to a mark
 abbrev pub distance_at : List Point → Point → ℕ → ℕ
 distance_at ps mark index = squared_distance (get_or ps index (record { x = 0; y = 0 })) mark
-
--- the point at the best index is the nearest to the mark of itself and those before the limit, at this squared distance
-pub record IsNearestIndex (ps : List Point) (mark : Point) (limit best least : ℕ) : Type 0 where
-  pub scanned : IsFirstLeastBelow (distance_at ps mark) (λ index. index < length ps) limit best
-  pub is : least ≡ distance_at ps mark best
 
 -- the distance of the node at a index
 distance_at-index :
@@ -81,33 +64,31 @@ distance_at-index points placed mark index h below =
 -- the scan went over all slots
 pub IsNearest-all :
     (points : List (Option Point)) (placed : PlacedPoints) (mark : Point) (limit best least : ℕ) → ArePlaced points placed
-    → IsNearestIndex placed.points.items mark limit best least → length placed.points.items ≤ limit
+    → IsLeastIndex (distance_at placed.points.items mark) (length placed.points.items) limit best least → length placed.points.items ≤ limit
     → IsNearest points mark (get_or placed.numbers.items best 0)
 IsNearest-all points placed mark limit best least h scan all =
     let ps : List Point = placed.points.items in
     let numbers : List ℕ = placed.numbers.items in
+    let key : ℕ → ℕ = distance_to mark points in
+    let lengths : length numbers ≡ length ps = ArePlaced-numbered points placed h in
     let first : IsFirstLeast (distance_at ps mark) (λ index. index < length ps) best =
-    IsFirstLeast-scanned (distance_at ps mark) (λ index. index < length ps) limit best scan.scanned (λ i l. omega (arith, l, all)) in
-    let stands = StandsAt-index points placed best (record { x = 0; y = 0 }) h first.member in
-    let same : distance_at ps mark best ≡ distance_to mark points (get_or numbers best 0) = distance_at-index points placed mark best h first.member in
-    record {
-      member = IsPresent-stands points (get_or numbers best 0) (get_or ps best (record { x = 0; y = 0 })) stands;
-      not_above = λ i own. (
-          let at = present_numbers-all points i own in
-          let k : ℕ = at.0 in
-          let lengths : length numbers ≡ length ps = ArePlaced-numbered points placed h in
-          let low : k < length numbers = omega (arith, at.1, ap length h.numbers) in
-          let below : k < length ps = omega (arith, low, lengths) in
-          let number : get_or numbers k 0 ≡ i = get_or_default numbers k 0 i low ∙ ap (λ ns. get_or ns k i) h.numbers ∙ at.2 in
-          let there : distance_at ps mark k ≡ distance_to mark points i =
-          distance_at-index points placed mark k h below ∙ ap (distance_to mark points) number in
+    IsFirstLeast-index (distance_at ps mark) (length ps) limit best least scan all in
+    let same = distance_at-index points placed mark best h first.member in
+    let listed : IsFirstLeast key (Contains numbers) (get_or numbers best 0) =
+    IsFirstLeast-listed key numbers best (subst IsStrictlyIncreasing (sym h.numbers) (present_numbers-rising points)) (record {
+      member = omega (arith, first.member, lengths);
+      not_above = λ i l. (
+          let below : i < length ps = omega (arith, l, lengths) in
+          let there = distance_at-index points placed mark i h below in
           record {
-            least = omega (arith, same, there, (first.not_above k below).least);
-            first = λ e. (
-                let before : best ≤ k = (first.not_above k below).first (there ∙ e ∙ sym same) in
-                omega (arith, number, numbers_rise points placed best k h before low));
+            least = omega (arith, same, there, (first.not_above i below).least);
+            first = λ e. (first.not_above i below).first (there ∙ e ∙ sym same);
           });
-    }
+    }) in
+    let P : List ℕ → ℕ → Type 0 = λ ns n. Contains ns n in
+    IsFirstLeast-among key (Contains numbers) (IsPresent points) (get_or numbers best 0)
+    (λ i own. All-contains (IsPresent points) (present_numbers points) i (present_numbers-present points) (subst (λ ns. P ns i) h.numbers own))
+    (λ i own. subst (λ ns. P ns i) (sym h.numbers) (present_numbers-all points i own)) listed
 
 -- ---- those near a point
 
@@ -175,7 +156,32 @@ near-all points placed p r index h all =
     ap (filter test) (take_all index placed.numbers.items (omega (arith, all, ArePlaced-numbered points placed h)) ∙ h.numbers)
     ∙ filter-filter (λ n. is_some (point_at points n)) test (range_with_len 0 (length points)) (λ n own. within_present p r (point_at points n) own)
 
--- no node is at most 0 away from a free point
-pub near-none : (points : List (Option Point)) (p : Point) → IsFree points p → near points p 0 ≡ []
-near-none points p free =
-    filter-none (λ i. is_within p 0 (point_at points i)) (range_with_len 0 (length points)) (λ i. is_near_free points p i free (point_at points i) refl)
+-- ---- those that are listed as near
+
+-- with radius 0 there are none
+pub listed_near-zero : (points : List (Option Point)) (p : Point) (r : ℕ) → r ≡ 0 → listed_near points p r ≡ []
+listed_near-zero points p r e = ap (listed_near points p) e
+
+-- with a greater one there are all
+pub listed_near-above : (points : List (Option Point)) (p : Point) (r : ℕ) → 0 < r → listed_near points p r ≡ near points p r
+listed_near-above points p zero h = absurd (omega arith)
+listed_near-above points p (suc r) h = refl
+
+-- so there are if there is one
+pub near-listed :
+    (points : List (Option Point)) (p : Point) (r : ℕ) (ns : List ℕ) → ns ≡ listed_near points p r → 0 < length ns → ns ≡ near points p r
+near-listed points p zero ns e some = absurd (omega (arith, some, ap length e))
+near-listed points p (suc r) ns e some = e
+
+-- in any case they are present
+pub listed_near-present :
+    (points : List (Option Point)) (p : Point) (r : ℕ) (ns : List ℕ) → ns ≡ listed_near points p r → All (IsPresent points) ns
+listed_near-present points p zero ns e = subst (All (IsPresent points)) (sym e) (All-nil (IsPresent points))
+listed_near-present points p (suc r) ns e = subst (All (IsPresent points)) (sym e) (near-present points p (suc r))
+
+-- and at a free point, at most 0 away from which there is no node
+pub listed_near-free : (points : List (Option Point)) (p : Point) (r : ℕ) → IsFree points p → listed_near points p r ≡ near points p r
+listed_near-free points p zero free =
+    sym (filter-none (λ i. is_within p 0 (point_at points i)) (range_with_len 0 (length points))
+    (λ i. is_near_free points p i free (point_at points i) refl))
+listed_near-free points p (suc r) free = refl

@@ -1,7 +1,8 @@
 -- The nodes that are present, in a list of their own.
-use Rattle.std.specs.Prelude.{◌≡◌, ℕ, is_some, Option, List, length, map, filter}
+use Rattle.std.specs.Prelude.{◌≡◌, ℕ, zero, suc, is_some, Option, List, [], length, map, filter}
 use Rattle.std.specs.List.{range_with_len}
 use Rattle.plan_model.specs.declared.geometry.Point.{Point}
+use Rattle.plan_model.specs.Trees.Nearness.{near}
 use Rattle.plan_model.specs.Trees.PointsByNumber.{point_at, point_of}
 use Rattle.seq_planner.specs.declared.placed_points.PlacedPoints.{PlacedPoints}
 
@@ -13,3 +14,8 @@ present_numbers points = filter (λ n. is_some (point_at points n)) (range_with_
 pub record ArePlaced (nodes : List (Option Point)) (placed : PlacedPoints) : Type 0 where
   pub numbers : placed.numbers.items ≡ present_numbers nodes
   pub points : placed.points.items ≡ map (point_of nodes) (present_numbers nodes)
+
+-- the nodes near a point that are listed: with radius 0 none is, though one may stand there
+abbrev pub listed_near : List (Option Point) → Point → ℕ → List ℕ
+listed_near points p zero = []
+listed_near points p (suc r) = near points p (suc r)

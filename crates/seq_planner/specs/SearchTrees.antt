@@ -7,6 +7,7 @@ use Rattle.plan_model.specs.declared.trees.Knot.{Knot}
 use Rattle.plan_model.specs.declared.scenes.Scene.{Scene}
 use Rattle.plan_model.specs.declared.records.Record.{Record}
 use Rattle.plan_model.specs.Geometry.Bounds.{IsBounded}
+use Rattle.plan_model.specs.declared.configuration_spaces.ConfigurationSpace.{ConfigurationSpace}
 use Rattle.plan_model.specs.Spaces.ConfigurationSpace.{space_of}
 use Rattle.plan_model.specs.Trees.PointsByNumber.{StandsAt, IsPresent, IsFree, AreDistinct, node_count}
 use Rattle.plan_model.specs.Trees.NodeLists.{points_of, CostsFall, AreTight}
@@ -58,14 +59,18 @@ Fits nodes (Some node) cost =
     × (cost ≡ cost_through nodes node.point node.parent)
     × (cost ≤ node_count (points_of nodes) * 2 ^ 29)
 
+-- The tree after a mark: near nodes are rewired to the node that is added, if there is one.
+abbrev pub AddsRewired : ConfigurationSpace → Nodes → Option Twig → List ℕ → Nodes → Type 0
+AddsRewired space tree None near after = after ≡ tree ++ None ∷ []
+AddsRewired space tree (Some node) near after = Rewires space (tree ++ Some node ∷ []) (length tree) near after
+
 -- The next mark is handled by adding this node and this record, and by rewiring these near nodes.
 pub record IsExtensionOf (scene : Scene) (tree : SearchTree) (mark : Point) (extension : Extension) (near : List ℕ) : Type 0 where
   pub fits : Fits tree.nodes extension.node extension.cost
   pub handles :
-      (after : Nodes) → Rewires (space_of scene) (tree.nodes ++ extension.node ∷ []) (length tree.nodes) near after
+      (after : Nodes) → AddsRewired (space_of scene) tree.nodes extension.node near after
       → Handles (setup_of scene) tree.nodes (length tree.records.items) mark extension.entry after
   pub present : All (IsPresent (points_of tree.nodes)) near
-  pub none_near : extension.node ≡ None → near ≡ []
 
 -- The next mark is handled, and its record is the last.
 pub record GrowsByMark (scene : Scene) (tree : SearchTree) (mark : Point) (after : SearchTree) : Type 0 where

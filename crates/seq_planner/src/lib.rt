@@ -12,6 +12,7 @@
 mod cost_spreading;
 mod extensions;
 mod linked_tree;
+mod nearest_nodes;
 mod parent_choice;
 mod placed_points;
 mod search_tree;

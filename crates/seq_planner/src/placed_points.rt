@@ -1,18 +1,18 @@
-//! The points of the nodes that are present, and the two scans over them.
+//! The points of the nodes that are present, and the scans over them for the nearest node and for the near ones.
 
 ghost use Rattle.std.specs.Prelude.{◌≡◌, ◌<◌, Option, List, Some, [], ◌∷◌, ◌++◌, length, All, IfOk, OnOk};
 ghost use Rattle.plan_model.specs.Geometry.Bounds.{IsBounded};
-ghost use Rattle.plan_model.specs.Trees.Nearness.{IsNearest, near};
-ghost use Rattle.plan_model.specs.Trees.PointsByNumber.{IsFree, node_count};
+ghost use Rattle.plan_model.specs.Trees.Nearness.{IsNearest};
+ghost use Rattle.plan_model.specs.Trees.PointsByNumber.{node_count};
 ghost use Rattle.plan_model.specs.declared.geometry.Point.{Point};
-ghost use Rattle.seq_planner.specs.PlacedLists.{ArePlaced};
+ghost use Rattle.seq_planner.specs.PlacedLists.{ArePlaced, listed_near};
 
 use plan_model::{Memory, Point};
 use std::alloc::Global;
 
 /// The points of the nodes that are present, in rising number.
 ///
-/// They are kept apart from the rest of the nodes, so that the two scans of a mark run over nothing but points.
+/// They are kept apart from the rest of the nodes, so that a scan runs over nothing but points.
 #[derive(Drop)]
 pub(crate) struct PlacedPoints {
     /// Where each node stands.
@@ -79,8 +79,8 @@ impl PlacedPoints {
         self.numbers[best]
     }
 
-    /// Fills a list with the nodes at most `radius` away from a point at which no node stands, in rising number. O(n)
-    /// for n nodes; with radius 0 there are none, and nothing is scanned.
+    /// Fills a list with the nodes at most `radius` away from a point, in rising number. O(n) for n nodes; with radius 0
+    /// nothing is scanned, and none is listed.
     ///
     /// # Errors
     ///
@@ -90,8 +90,8 @@ impl PlacedPoints {
         requires numbered { length self.now.numbers.items ≡ length self.now.points.items }
         requires nodes { All IsBounded self.now.points.items }
         requires bounded { IsBounded point }
-        ensures { OnOk result ((points : List (Option Point)) → ArePlaced points self.now → IsFree points point
-            → found.new.items ≡ near points point radius) }
+        ensures { OnOk result ((points : List (Option Point)) → ArePlaced points self.now
+            → found.new.items ≡ listed_near points point radius) }
     {
         found.clear();
         if radius == 0 {

@@ -139,6 +139,10 @@ impl SearchTree {
 
     /// What the next mark adds, with the nodes near a new one: the nearest node steers towards the mark, and a node is
     /// placed at the point that this leads to, unless it is the nearest node's own or the segment is not clear.
+    ///
+    /// The nodes near the mark are looked for first. The nearest of them is the nearest of all and steers to the mark
+    /// itself, since no radius is longer than the step, so they are the nodes near the point. Only if there are none all
+    /// nodes are scanned for the nearest, and again for those near the point.
     fn extension<C: Clearing>(
         &self,
         scene: &Scene,
@@ -156,9 +160,11 @@ impl SearchTree {
         requires bounded { IsBounded mark }
         ensures { IfOk result (λ extension. IsExtensionOf scene.now self.now mark extension near.new.items) }
     {
-        near.clear();
         let turn = self.records.len() as u32;
-        let nearest = self.placed.nearest(mark);
+        let present = self.placed.count();
+        let radius = radii.at(present);
+        self.placed.near(mark, radius, near)?;
+        let nearest = self.nearest(mark, near);
         let from = self.nodes.point(nearest);
         let point = steer(from, mark, scene.step);
         // no other node stands there: the point is nearer to the mark than the nearest node
@@ -168,8 +174,10 @@ impl SearchTree {
         if !hall.clear(from, point) {
             return Ok(Extension::blocked(turn, nearest));
         }
-        let present = self.placed.count();
-        self.placed.near(point, radii.at(present), near)?;
+        // otherwise the point is the mark
+        if near.is_empty() {
+            self.placed.near(point, radius, near)?;
+        }
         let parent = self.choose(hall, point, nearest, near);
         Ok(Extension::placed(turn, nearest, point, parent, class(present)))
     }

@@ -1,14 +1,12 @@
 use Rattle.std.proofs.Common.{◌≡◌, ◌*◌, ◌<◌, [], ◌∷◌, ◌++◌, length, get_or, ap, sym, ◌∙◌, arith}
 use Rattle.plan_model.specs.Geometry.Plane.{squared_distance}
-use Rattle.plan_model.specs.Trees.Nearness.{near}
 use Rattle.plan_model.specs.declared.geometry.Point.{Point}
-use Rattle.seq_planner.proofs.ScannedLists.{near_more_inside, near_more_outside, near-all, near-none}
+use Rattle.seq_planner.proofs.ScannedLists.{near_more_inside, near_more_outside, near-all, listed_near-zero, listed_near-above}
 use Rattle.seq_planner.proofs.placed_points.PlacedPoints.near.Goals as goal
 use Rattle.seq_planner.proofs.placed_points.PlacedPoints.near.Goals.{then-squared_distance-most+in_ok-push, else-squared_distance-most}
 
 pub returns-then-radius-eq0 : goal.returns-then-radius-eq0
-returns-then-radius-eq0 c = λ points h free.
-    c.clear.ensures.items ∙ sym (near-none points c.args.point free) ∙ ap (near points c.args.point) (sym c.if-radius-eq0.true)
+returns-then-radius-eq0 c = λ points h. c.clear.ensures.items ∙ sym (listed_near-zero points c.args.point c.args.radius c.if-radius-eq0.true)
 
 pub loop-index-preserved : goal.loop-index-preserved
 loop-index-preserved c = λ points h. (
@@ -33,7 +31,8 @@ loop-index-preserved c = λ points h. (
     ])
 
 pub returns : goal.returns
-returns c = λ points h free.
+returns c = λ points h.
     c.loop-index.invariant points h
     ∙ near-all points c.args.self.now c.args.point c.args.radius c.loop-index.index h
     (omega (arith, c.loop-index-test.false, ap length c.deref-other-items.ensures.value))
+    ∙ sym (listed_near-above points c.args.point c.args.radius (omega (arith, c.if-radius-eq0.false)))

@@ -1,8 +1,8 @@
 use Rattle.std.proofs.Common.{◌≡◌, ◌+◌, ◌<◌, ◌≤◌, length, get_or, sym, ap, ◌∙◌, rules, subst, arith}
 use Rattle.std.proofs.lemmas.List.{get_or_read}
 use Rattle.plan_model.specs.Trees.Nearness.{IsNearest}
-use Rattle.plan_model.proofs.LeastScans.{IsFirstLeastBelow-keeps, IsFirstLeastBelow-takes}
-use Rattle.seq_planner.proofs.ScannedLists.{IsNearest-all, IsNearestIndex, distance_at}
+use Rattle.seq_planner.proofs.LeastIndices.{IsLeastIndex, IsLeastIndex-keeps, IsLeastIndex-takes}
+use Rattle.seq_planner.proofs.ScannedLists.{IsNearest-all, distance_at}
 use Rattle.seq_planner.proofs.placed_points.PlacedPoints.nearest.Goals as goal
 use Rattle.seq_planner.proofs.placed_points.PlacedPoints.nearest.Goals.{then-distance-least, else-distance-least}
 
@@ -23,20 +23,13 @@ loop-index-preserved c =
     let l = c.loop-index in
     let here : c.squared_distance-distance.result ≡ distance_at ps mark l.index = search rules in
     let below : l.index < length ps = omega (arith, c.loop-index-test.true, ap length c.deref-point-items.ensures.value) in
-    let old = l.invariant in
+    let key = distance_at ps mark in
     elim c.if-distance-least.branch [
       | then-distance-least w ↦
-          subst (λ b. IsNearestIndex ps mark (l.index + 1) b c.if-distance-least.least) (sym w.best-is)
-          (record {
-            scanned = IsFirstLeastBelow-takes (distance_at ps mark) (λ i. i < length ps) l.index l.best old.scanned below
-                (omega (arith, here, old.is, w.if-distance-least));
-            is = w.least-is ∙ here;
-          })
+          subst (λ b. IsLeastIndex key (length ps) (l.index + 1) b c.if-distance-least.least) (sym w.best-is)
+          (IsLeastIndex-takes key (length ps) l.index l.best l.least c.if-distance-least.least l.invariant below (omega (arith, w.least-is, w.if-distance-least))
+          (w.least-is ∙ here))
       | else-distance-least w ↦
-          subst (λ b. IsNearestIndex ps mark (l.index + 1) b c.if-distance-least.least) (sym w.best-is)
-          (record {
-            scanned = IsFirstLeastBelow-keeps (distance_at ps mark) (λ i. i < length ps) l.index l.best old.scanned
-                (omega (arith, here, old.is, w.if-distance-least));
-            is = w.least-is ∙ old.is;
-          })
+          subst (λ b. IsLeastIndex key (length ps) (l.index + 1) b c.if-distance-least.least) (sym w.best-is)
+          (IsLeastIndex-keeps key (length ps) l.index l.best l.least c.if-distance-least.least l.invariant (omega (arith, here, w.if-distance-least)) w.least-is)
     ]

@@ -1,76 +1,70 @@
-use Rattle.std.proofs.Common.{◌≡◌, ℕ, List, ◌∷◌, true, arith, rules, sym, ap, ◌∙◌, subst}
+use Rattle.std.proofs.Common.{◌≡◌, ◌<◌, ℕ, List, ◌∷◌, length, true, arith, rules, sym, ap, ◌∙◌, subst}
 use Rattle.std.specs.Prelude.{All}
 use Rattle.plan_model.specs.declared.geometry.Point.{Point}
 use Rattle.plan_model.specs.declared.configuration_spaces.ConfigurationSpace.{ConfigurationSpace}
 use Rattle.plan_model.specs.Spaces.ConfigurationSpace.{space_of}
 use Rattle.plan_model.specs.Spaces.Clearance.{Clear}
 use Rattle.edge_cost.specs.LeastParents.{IsLeastParent}
-use Rattle.plan_model.specs.Trees.Nearness.{near}
 use Rattle.plan_model.specs.Trees.OpenNodes.{IsOpenTo}
 use Rattle.plan_model.specs.Trees.PointsByNumber.{IsPresent, node_count}
 use Rattle.plan_model.specs.Geometry.Radius.{class_of, radius_of}
 use Rattle.plan_model.specs.Runs.Textbook.{setup_of, near_new, cost_through}
 use Rattle.plan_model.specs.Trees.NodeLists.{points_of}
-use Rattle.plan_model.proofs.DistinctPoints.{near-present}
 use Rattle.plan_model.proofs.SamePoints.{same_point-true, same_point-false}
-use Rattle.seq_planner.proofs.PresentNumbers.{ArePlaced-bounded, ArePlaced-count, ArePlaced-numbered}
+use Rattle.seq_planner.proofs.PresentNumbers.{ArePlaced-bounded, ArePlaced-numbered}
 use Rattle.seq_planner.proofs.ReadCosts.{through-bound}
 use Rattle.seq_planner.proofs.SoundTrees.{IsBounded-present, few_present, some_present}
-use Rattle.seq_planner.proofs.ReadSteering.{Steers-read, IsBounded-steered}
-use Rattle.seq_planner.proofs.MarkExtensions.{is_free, IsExtensionOf-same, IsExtensionOf-blocked, IsExtensionOf-placed}
+use Rattle.seq_planner.proofs.ReadSteering.{Steers-read, IsBounded-steered, near_new-found, near_new-kept}
+use Rattle.seq_planner.proofs.ScannedLists.{listed_near-present}
+use Rattle.seq_planner.proofs.MarkExtensions.{IsExtensionOf-same, IsExtensionOf-blocked, IsExtensionOf-placed}
 use Rattle.seq_planner.proofs.search_tree.SearchTree.extension.Goals as goal
+use Rattle.seq_planner.proofs.search_tree.SearchTree.extension.Goals.{then-is_empty+in_ok-near-2, else-is_empty}
 
 pub overflow_cast-turn : goal.overflow_cast-turn
 overflow_cast-turn g c = omega (arith, c.len-turn.ensures, c.requires.turn, c.requires.few, c.args.self.now.records.ok.0)
 
-pub nearest-nearest-requires-clause-some : goal.nearest-nearest-requires-clause-some
-nearest-nearest-requires-clause-some g c =
-    let tree = c.args.self.now in
-    omega (
-      arith,
-      ArePlaced-count (points_of tree.nodes) tree.placed c.requires.sound.are_placed,
-      some_present tree.nodes tree.costs.items tree.placed c.requires.sound,
-    )
-
-pub nearest-nearest-requires-clause-numbered : goal.nearest-nearest-requires-clause-numbered
-nearest-nearest-requires-clause-numbered g c = ArePlaced-numbered (points_of c.args.self.now.nodes) c.args.self.now.placed c.requires.sound.are_placed
-
-pub nearest-nearest-requires-clause-nodes : goal.nearest-nearest-requires-clause-nodes
-nearest-nearest-requires-clause-nodes g c =
-    ArePlaced-bounded (points_of c.args.self.now.nodes) c.args.self.now.placed c.requires.sound.are_placed c.requires.sound.bounded
-
 pub point-from-requires : goal.point-from-requires
-point-from-requires g c = (c.nearest-nearest.ensures (points_of c.args.self.now.nodes) c.requires.sound.are_placed).member
+point-from-requires g c = (c.nearest-nearest.ensures).member
 
 pub steer-point-requires-clause-from : goal.steer-point-requires-clause-from
 steer-point-requires-clause-from g c =
     let tree = c.args.self.now in
     IsBounded-present tree.nodes tree.costs.items tree.placed c.nearest-nearest.result c.point-from.result c.requires.sound
-    (c.nearest-nearest.ensures (points_of tree.nodes) c.requires.sound.are_placed).member c.point-from.ensures
+    c.nearest-nearest.ensures.member c.point-from.ensures
+
+pub nearest-nearest-requires-clause-near : goal.nearest-nearest-requires-clause-near
+nearest-nearest-requires-clause-near g c =
+    let points = points_of c.args.self.now.nodes in
+    (c.at-radius.result, c.deref.ensures.value ∙ c.in_ok-near.ensures points c.requires.sound.are_placed)
 
 pub returns-then-eq : goal.returns-then-eq
 returns-then-eq g c =
     let steers =
-    Steers-read c.args.scene.now c.args.self.now c.args.mark c.len-turn.result c.requires.sound (search (rules, c.len-turn.ensures))
+    Steers-read c.args.scene.now c.args.self.now c.args.mark c.len-turn.result (search (rules, c.len-turn.ensures))
     c.requires.turn c.nearest-nearest.ensures c.point-from.ensures c.steer-point.ensures.value in
-    IsExtensionOf-same steers c.clear.ensures.items (same_point-true c.steer-point.result c.point-from.result (sym c.eq.ensures ∙ c.if-eq.true))
+    IsExtensionOf-same steers
+    (listed_near-present (points_of c.args.self.now.nodes) c.args.mark c.at-radius.result c.near.new.found.items
+    (c.in_ok-near.ensures (points_of c.args.self.now.nodes) c.requires.sound.are_placed))
+    (same_point-true c.steer-point.result c.point-from.result (sym c.eq.ensures ∙ c.if-eq.true))
     (record { node = c.same.ensures.node; cost = c.same.ensures.cost; recorded = c.same.ensures.entry })
 
 pub returns-then-not-clear : goal.returns-then-not-clear
 returns-then-not-clear g c =
     let steers =
-    Steers-read c.args.scene.now c.args.self.now c.args.mark c.len-turn.result c.requires.sound (search (rules, c.len-turn.ensures))
+    Steers-read c.args.scene.now c.args.self.now c.args.mark c.len-turn.result (search (rules, c.len-turn.ensures))
     c.requires.turn c.nearest-nearest.ensures c.point-from.ensures c.steer-point.ensures.value in
-    IsExtensionOf-blocked steers c.clear.ensures.items
+    IsExtensionOf-blocked steers
+    (listed_near-present (points_of c.args.self.now.nodes) c.args.mark c.at-radius.result c.near.new.found.items
+    (c.in_ok-near.ensures (points_of c.args.self.now.nodes) c.requires.sound.are_placed))
     (same_point-false c.steer-point.result c.point-from.result (sym c.eq.ensures ∙ c.if-eq.false))
     (λ clear. (
-    let yes : c.clear-2.result ≡ true =
-    c.clear-2.ensures.1 (subst (λ (space : ConfigurationSpace). Clear space c.point-from.result c.steer-point.result) (sym c.requires.hall) clear) in
+    let yes : c.clear.result ≡ true =
+    c.clear.ensures.1 (subst (λ (space : ConfigurationSpace). Clear space c.point-from.result c.steer-point.result) (sym c.requires.hall) clear) in
     cc))
     (record { node = c.blocked.ensures.node; cost = c.blocked.ensures.cost; recorded = c.blocked.ensures.entry })
 
-pub at-requires-clause-some : goal.at-requires-clause-some
-at-requires-clause-some g c =
+pub at-radius-requires-clause-some : goal.at-radius-requires-clause-some
+at-radius-requires-clause-some g c =
     let tree = c.args.self.now in
     omega (
       arith,
@@ -78,8 +72,8 @@ at-requires-clause-some g c =
       some_present tree.nodes tree.costs.items tree.placed c.requires.sound,
     )
 
-pub at-requires-clause-most : goal.at-requires-clause-most
-at-requires-clause-most g c =
+pub at-radius-requires-clause-most : goal.at-radius-requires-clause-most
+at-radius-requires-clause-most g c =
     let tree = c.args.self.now in
     omega (arith, c.count-present.ensures (points_of tree.nodes) c.requires.sound.are_placed, few_present tree.nodes, c.requires.few)
 
@@ -90,35 +84,40 @@ pub near-requires-clause-nodes : goal.near-requires-clause-nodes
 near-requires-clause-nodes g c =
     ArePlaced-bounded (points_of c.args.self.now.nodes) c.args.self.now.placed c.requires.sound.are_placed c.requires.sound.bounded
 
-pub near-requires-clause-bounded : goal.near-requires-clause-bounded
-near-requires-clause-bounded g c =
+pub near-requires-then-is_empty-clause-nodes : goal.near-requires-then-is_empty-clause-nodes
+near-requires-then-is_empty-clause-nodes g c =
+    ArePlaced-bounded (points_of c.args.self.now.nodes) c.args.self.now.placed c.requires.sound.are_placed c.requires.sound.bounded
+
+pub near-requires-then-is_empty-clause-bounded : goal.near-requires-then-is_empty-clause-bounded
+near-requires-then-is_empty-clause-bounded g c =
     let steers =
-    Steers-read c.args.scene.now c.args.self.now c.args.mark c.len-turn.result c.requires.sound (search (rules, c.len-turn.ensures))
+    Steers-read c.args.scene.now c.args.self.now c.args.mark c.len-turn.result (search (rules, c.len-turn.ensures))
     c.requires.turn c.nearest-nearest.ensures c.point-from.ensures c.steer-point.ensures.value in
     IsBounded-steered steers c.requires.sound c.requires.bounded c.steer-point.ensures.right c.steer-point.ensures.top
 
 pub choose-parent-requires-clause-bounded : goal.choose-parent-requires-clause-bounded
 choose-parent-requires-clause-bounded g c κs within =
     let steers =
-    Steers-read c.args.scene.now c.args.self.now c.args.mark c.len-turn.result c.requires.sound (search (rules, c.len-turn.ensures))
+    Steers-read c.args.scene.now c.args.self.now c.args.mark c.len-turn.result (search (rules, c.len-turn.ensures))
     c.requires.turn c.nearest-nearest.ensures c.point-from.ensures c.steer-point.ensures.value in
     IsBounded-steered steers c.requires.sound c.requires.bounded c.steer-point.ensures.right c.steer-point.ensures.top
 
 pub choose-parent-requires-clause-clear : goal.choose-parent-requires-clause-clear
 choose-parent-requires-clause-clear g c κs within =
     subst (λ (p : Point). Clear (g.C.Clearing.space c.args.hall.now) p c.steer-point.result) c.point-from.ensures
-    (c.clear-2.ensures.0 c.if-not-clear.false)
+    (c.clear.ensures.0 c.if-not-clear.false)
 
 pub choose-parent-requires-clause-near : goal.choose-parent-requires-clause-near
 choose-parent-requires-clause-near g c κs within =
     let points = points_of c.args.self.now.nodes in
-    let steers =
-    Steers-read c.args.scene.now c.args.self.now c.args.mark c.len-turn.result c.requires.sound (search (rules, c.len-turn.ensures))
-    c.requires.turn c.nearest-nearest.ensures c.point-from.ensures c.steer-point.ensures.value in
-    let free = is_free steers (same_point-false c.steer-point.result c.point-from.result (sym c.eq.ensures ∙ c.if-eq.false)) in
-    let found : c.deref.result.now ≡ near points c.steer-point.result c.at.result =
-    c.deref.ensures.value ∙ c.in_ok-near.ensures points c.requires.sound.are_placed free in
-    subst (All (IsPresent points)) (sym found) (near-present points c.steer-point.result c.at.result)
+    let placed = c.requires.sound.are_placed in
+    let r = c.at-radius.result in
+    let present : All (IsPresent points) c.if-is_empty.near.items = elim c.if-is_empty.branch [
+      | then-is_empty+in_ok-near-2 w ↦
+          rw w.near-is (listed_near-present points c.steer-point.result r w.near-then-is_empty.new.found.items (w.in_ok-near-2.ensures points placed))
+      | else-is_empty w ↦ rw w.near-is (listed_near-present points c.args.mark r c.near.new.found.items (c.in_ok-near.ensures points placed))
+    ] in
+    subst (All (IsPresent points)) (sym c.deref-2.ensures.value) present
 
 pub class-requires : goal.class-requires
 class-requires g c =
@@ -134,23 +133,29 @@ returns g c =
     let tree = c.args.self.now in
     let scene = c.args.scene.now in
     let points = points_of tree.nodes in
+    let placed = c.requires.sound.are_placed in
     let steers =
-    Steers-read c.args.scene.now c.args.self.now c.args.mark c.len-turn.result c.requires.sound (search (rules, c.len-turn.ensures))
+    Steers-read c.args.scene.now c.args.self.now c.args.mark c.len-turn.result (search (rules, c.len-turn.ensures))
     c.requires.turn c.nearest-nearest.ensures c.point-from.ensures c.steer-point.ensures.value in
     let apart = same_point-false c.steer-point.result c.point-from.result (sym c.eq.ensures ∙ c.if-eq.false) in
-    let free = is_free steers apart in
-    let count : c.count-present.result ≡ node_count points = c.count-present.ensures points c.requires.sound.are_placed in
-    let radius : c.at.result ≡ radius_of scene.step scene.gamma (node_count points) =
-    c.at.ensures ∙ ap (λ s. radius_of s c.args.radii.now.gamma c.count-present.result) c.requires.step
+    let count : c.count-present.result ≡ node_count points = c.count-present.ensures points placed in
+    let radius : c.at-radius.result ≡ radius_of scene.step scene.gamma (node_count points) =
+    c.at-radius.ensures ∙ ap (λ s. radius_of s c.args.radii.now.gamma c.count-present.result) c.requires.step
     ∙ ap (λ e. radius_of scene.step e c.count-present.result) c.requires.gamma ∙ ap (radius_of scene.step scene.gamma) count in
-    let are_near : c.near.new.found.items ≡ near_new (setup_of scene) points c.steer-point.result =
-    c.in_ok-near.ensures points c.requires.sound.are_placed free ∙ ap (near points c.steer-point.result) radius in
+    let are_near : c.if-is_empty.near.items ≡ near_new (setup_of scene) points c.steer-point.result = elim c.if-is_empty.branch [
+      | then-is_empty+in_ok-near-2 w ↦
+          rw w.near-is
+          (near_new-found steers apart c.at-radius.result w.near-then-is_empty.new.found.items radius (w.in_ok-near-2.ensures points placed))
+      | else-is_empty w ↦ (
+          let some : 0 < length c.near.new.found.items = search rules in
+          rw w.near-is (near_new-kept steers c.at-radius.result c.near.new.found.items radius (c.in_ok-near.ensures points placed) some))
+    ] in
     let S : ConfigurationSpace → List ℕ → Type 0 =
     λ space ns. IsLeastParent (cost_through tree.nodes c.steer-point.result) (IsOpenTo space points c.steer-point.result (c.nearest-nearest.result ∷ ns))
     c.choose-parent.result in
-    let best : S (space_of scene) c.near.new.found.items =
-    subst (λ (space : ConfigurationSpace). S space c.near.new.found.items) c.requires.hall
-    (subst (S (g.C.Clearing.space c.args.hall.now)) c.deref.ensures.value c.choose-parent.ensures) in
+    let best : S (space_of scene) c.if-is_empty.near.items =
+    subst (λ (space : ConfigurationSpace). S space c.if-is_empty.near.items) c.requires.hall
+    (subst (S (g.C.Clearing.space c.args.hall.now)) c.deref-2.ensures.value c.choose-parent.ensures) in
     let bounded = IsBounded-steered steers c.requires.sound c.requires.bounded c.steer-point.ensures.right c.steer-point.ensures.top in
     IsExtensionOf-placed steers c.choose-parent.result c.class.result
     (record {
@@ -164,4 +169,4 @@ returns g c =
     })
     apart
     (subst (λ (space : ConfigurationSpace). Clear space c.point-from.result c.steer-point.result) c.requires.hall
-    (c.clear-2.ensures.0 c.if-not-clear.false))
+    (c.clear.ensures.0 c.if-not-clear.false))

@@ -1,11 +1,11 @@
-use Rattle.std.proofs.Common.{◌≡◌, ℕ, List, [], ◌∷◌, ◌++◌, length, length-append, arith, sym, ap, ◌∙◌, subst}
+use Rattle.std.proofs.Common.{ℕ, List, [], ◌∷◌, ◌++◌, length, length-append, arith, sym, ap, ◌∙◌, subst}
 use Rattle.std.specs.Prelude.{All}
 use Rattle.plan_model.specs.declared.configuration_spaces.ConfigurationSpace.{ConfigurationSpace}
 use Rattle.plan_model.specs.Spaces.ConfigurationSpace.{space_of}
 use Rattle.plan_model.specs.Trees.PointsByNumber.{IsPresent}
 use Rattle.plan_model.specs.Trees.NodeLists.{points_of}
 use Rattle.plan_model.specs.Runs.Textbook.{Nodes, Rewires}
-use Rattle.seq_planner.proofs.PutNodes.{present-put, none-put, GrowsByMark-put}
+use Rattle.seq_planner.proofs.PutNodes.{present-put, AddsRewired-some, AddsRewired-none, GrowsByMark-put}
 use Rattle.seq_planner.proofs.search_tree.SearchTree.handle.Goals as goal
 
 pub rewire-requires-clause-near : goal.rewire-requires-clause-near
@@ -33,7 +33,8 @@ returns-in_ok-rewire-clause-handles g c =
     let rewired : R (space_of c.args.scene.now) put (length tree.nodes) near =
     subst (λ (t : Nodes). R (space_of c.args.scene.now) t (length tree.nodes) near) c.in_ok-number.ensures.nodes numbered in
     GrowsByMark-put c.args.scene.now tree after c.args.mark extension near c.in_ok-extension.ensures
-    (c.in_ok-rewire.ensures.records ∙ c.in_ok-number.ensures.records) rewired
+    (c.in_ok-rewire.ensures.records ∙ c.in_ok-number.ensures.records)
+    (AddsRewired-some (space_of c.args.scene.now) tree.nodes after.nodes extension.node near (sym c.is_some.ensures ∙ c.if-is_some.true) rewired)
     (omega (arith, c.in_ok-rewire.ensures.count, ap length c.in_ok-number.ensures.nodes, length-append tree.nodes (extension.node ∷ [])))
 
 pub returns-else-is_some-clause-handles : goal.returns-else-is_some-clause-handles
@@ -41,9 +42,8 @@ returns-else-is_some-clause-handles g c =
     let tree = c.args.self.now in
     let extension = c.in_ok-extension.extension in
     let near = c.extension.new.near.items in
-    let none : near ≡ [] = c.in_ok-extension.ensures.none_near (none-put extension.node (sym c.is_some.ensures ∙ c.if-is_some.false)) in
-    let put : Nodes = tree.nodes ++ extension.node ∷ [] in
-    let R : List ℕ → Type 0 = λ ns. Rewires (space_of c.args.scene.now) put (length tree.nodes) ns c.push.new.self.nodes in
     GrowsByMark-put c.args.scene.now tree c.push.new.self c.args.mark extension near c.in_ok-extension.ensures
-    c.in_ok-number.ensures.records (subst R (sym none) c.in_ok-number.ensures.nodes)
+    c.in_ok-number.ensures.records
+    (AddsRewired-none (space_of c.args.scene.now) tree.nodes c.push.new.self.nodes extension.node near (sym c.is_some.ensures ∙ c.if-is_some.false)
+    c.in_ok-number.ensures.nodes)
     (omega (arith, ap length c.in_ok-number.ensures.nodes, length-append tree.nodes (extension.node ∷ [])))

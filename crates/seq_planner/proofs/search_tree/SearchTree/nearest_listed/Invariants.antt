@@ -1,0 +1,9 @@
+use Rattle.std.proofs.Common.{length, get_or}
+use Rattle.plan_model.specs.Trees.Nearness.{distance_to}
+use Rattle.plan_model.specs.Trees.NodeLists.{points_of}
+use Rattle.seq_planner.proofs.LeastIndices.{IsLeastIndex}
+use Rattle.seq_planner.proofs.search_tree.SearchTree.nearest_listed.Given as goal
+
+-- the best so far is the index of the nearest of the earlier nodes
+abbrev pub invariant-loop-index : goal.invariant-loop-index
+invariant-loop-index l = IsLeastIndex (λ i. distance_to l.mark (points_of l.self.nodes) (get_or l.list i 0)) (length l.list) l.index l.best l.least
