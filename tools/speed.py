@@ -3,7 +3,7 @@
 
 Usage: speed.py PROGRAM [ROUNDS [OTHER]]. The commands are run in turns, ROUNDS times (5 if left out), and the least time of
 each counts: wall time, and processor time of all threads. `plain` looks at all nodes for each mark, so on the greatest scene,
-where that takes minutes, it is run once. With OTHER, a second program that takes the same words, each command is run with
+where that takes half a minute, it is run once. With OTHER, a second program that takes the same words, each command is run with
 both in turns, and the ratio of the second to the first is printed. Measure on a machine that does nothing else.
 """
 

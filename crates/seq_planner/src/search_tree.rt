@@ -39,7 +39,7 @@ pub(crate) struct SearchTree {
 /// Lists that the handling of a mark fills, kept from mark to mark for their memory.
 #[derive(Drop)]
 pub(crate) struct Lists {
-    /// The nodes near a new one.
+    /// The nodes near a mark or a new node.
     near: Vec<u32>,
     /// The nodes whose costs are still to be lowered.
     pending: Vec<u32>,

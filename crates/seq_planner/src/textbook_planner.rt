@@ -18,11 +18,11 @@ use swept_check::Clearing;
 /// RRT* over the marks (the samples) of a task in rising number, from its start, which is clear. Without a mark the run is
 /// the start alone.
 ///
-/// The points of all nodes are looked at once for each mark near which there is a node, and at most three times for any
-/// other, once for it if gamma is 0: O(n) for each of n marks. Besides, a mark costs a root for each parent that is tried and each node that is
-/// rewired, and O(1) for each node whose cost is lowered. `hall` is the collision checker of the scene; it is asked about the
-/// edge from the nearest node, and about those to near nodes that would be cheaper. The closed run is packed once, in
-/// O(n * d) for d nodes on the longest way through its kd-tree.
+/// The points of all nodes are looked at once for each mark with a node within the rewiring radius. For any other mark it
+/// is at most three times, and once if gamma is 0: O(n) for each of n marks. Besides, a mark costs a root for each parent
+/// that is tried and each node that is rewired, and O(1) for each node whose cost is lowered. `hall` is the collision
+/// checker of the scene; it is asked about the edge from the nearest node, and about those to near nodes that would be
+/// cheaper. The closed run is packed once, in O(n * d) for d nodes on the longest way through its kd-tree.
 ///
 /// # Errors
 ///

@@ -27,9 +27,10 @@ loop-index-preserved c =
     elim c.if-distance-least.branch [
       | then-distance-least w ↦
           subst (λ b. IsLeastIndex key (length ps) (l.index + 1) b c.if-distance-least.least) (sym w.best-is)
-          (IsLeastIndex-takes key (length ps) l.index l.best l.least c.if-distance-least.least l.invariant below (omega (arith, w.least-is, w.if-distance-least))
-          (w.least-is ∙ here))
+          (IsLeastIndex-takes key (length ps) l.index l.best l.least c.if-distance-least.least l.invariant below
+          (omega (arith, w.least-is, w.if-distance-least)) (w.least-is ∙ here))
       | else-distance-least w ↦
           subst (λ b. IsLeastIndex key (length ps) (l.index + 1) b c.if-distance-least.least) (sym w.best-is)
-          (IsLeastIndex-keeps key (length ps) l.index l.best l.least c.if-distance-least.least l.invariant (omega (arith, here, w.if-distance-least)) w.least-is)
+          (IsLeastIndex-keeps key (length ps) l.index l.best l.least c.if-distance-least.least l.invariant
+          (omega (arith, here, w.if-distance-least)) w.least-is)
     ]
