@@ -4,4 +4,5 @@ pub mod SettlingSteps
 pub mod CostOrderLaws
 pub mod GrownPaths
 pub mod NumberedLines
+pub mod TightNodes
 pub mod CountedMarks

@@ -7,7 +7,8 @@
 //! [`best`] is the cheapest node in the goal, and [`path_to`] the points from the start to a node. [`report`] is the text,
 //! short or full; [`push_node_line`] and [`push_mark_line`] append one line of it, from the numbers of a node or a mark.
 //! [`deliver`] writes a text to a sink.
-//! Each takes a number of steps that is linear in the run and its text, but for the sort of the nodes by their costs.
+//! Each takes a number of steps that is linear in the run and its text, but for the sort by costs of the nodes of a run that is
+//! not settled.
 #![tactic(auto)]
 
 mod best_node;

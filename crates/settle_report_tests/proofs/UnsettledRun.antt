@@ -1,5 +1,5 @@
 -- A run that is closed and not settled: node 3 was rewired to the start and node 2 to node 3, and both are kept at more than their
--- costs-to-come. With gamma 0 no node is a neighbour, so no record says that they were lowered.
+-- costs-to-come, node 3 alone at more than through its parent. With gamma 0 no node is a neighbour, so no record says that they were lowered.
 use Rattle.std.proofs.Common.{◌≡◌, ℕ, zero, suc, ◌<◌, ◌≤◌, Option, Some, None, List, [], ◌∷◌, arith, refl, sym, ap, ◌∙◌, subst}
 use Rattle.std.specs.Prelude.{◌↔◌, IsSome, unwrap_or}
 use Rattle.plan_model.specs.declared.geometry.Point.{Point}
@@ -37,7 +37,7 @@ abbrev knot : ℕ → ℕ → ℕ → ℕ → Option Knot
 knot x y parent cost = Some (record { point = at x y; parent = parent; cost = cost })
 
 abbrev pub unsettled_knots : List (Option Knot)
-unsettled_knots = knot 0 0 0 0 ∷ knot 0 50 0 12800 ∷ knot 40 79 3 25449 ∷ knot 40 30 0 12900 ∷ []
+unsettled_knots = knot 0 0 0 0 ∷ knot 0 50 0 12800 ∷ knot 40 79 3 25444 ∷ knot 40 30 0 12900 ∷ []
 
 abbrev first : Record
 first = placed_record 0 0 0 12800 1

@@ -1,4 +1,5 @@
-//! A run for tests, in which two nodes are kept at more than their costs-to-come.
+//! A run for tests, in which two nodes are kept at more than their costs-to-come, and the last alone at more than through its
+//! parent.
 //! Runs and lists end by calls of `drop`: the proof of a call is shared, and that of the end of a scope is each function's own.
 
 ghost use Rattle.std.specs.Prelude.{◌≡◌, ◌∷◌, [], IfOk, IsTrue, Ok, Some, length};
@@ -37,6 +38,14 @@ pub(crate) fn settle_run<R: Abort>(rt: &R, alloc: Global, grown: &mut Grown)
     ensures { IsSettled (state_of_grown grown.new) }
 {
     sure(rt, settle(alloc, grown));
+}
+
+/// Settles a run that is settled, for which it takes no memory.
+pub(crate) fn settle_again(alloc: Global, grown: &mut Grown)
+    requires { IsSettled (state_of_grown grown.old) }
+    ensures { grown.new ≡ grown.old }
+{
+    settle(alloc, grown).unwrap();
 }
 
 /// The task of these marks for a point body in an empty room, from (0, 0) by steps of 50; nothing is rewired.
@@ -122,13 +131,13 @@ fn unsettled_knots() -> [Option<Knot>; 4]
     ensures { result
         ≡ Some (record { point = at 0 0; parent = 0; cost = 0 })
         ∷ Some (record { point = at 0 50; parent = 0; cost = 12800 })
-        ∷ Some (record { point = at 40 79; parent = 3; cost = 25449 })
+        ∷ Some (record { point = at 40 79; parent = 3; cost = 25444 })
         ∷ Some (record { point = at 40 30; parent = 0; cost = 12900 }) ∷ [] }
 {
     [
         node(0, 0, 0, 0),
         node(0, 50, 0, 12_800),
-        node(40, 79, 3, 25_449),
+        node(40, 79, 3, 25_444),
         node(40, 30, 0, 12_900),
     ]
 }
@@ -147,7 +156,8 @@ fn unsettled_records() -> [Record; 3]
 /// A run of three marks. Nodes 1 at (0, 50) and 3 at (40, 30) have the start as their parent, at (0, 0), and node 2 at
 /// (40, 79) has node 3.
 ///
-/// Node 3 is kept at 12,900 and node 2 at 25,449, but the start is 12,800 from node 3, and that is 12,544 from node 2.
+/// Node 3 is kept at 12,900, but the start is 12,800 from it. It is 12,544 from node 2, which is kept at no more than through it,
+/// 25,444. So node 3 alone is not tight, the last one, and node 2 costs less too once that is settled.
 pub(crate) fn unsettled_run<R: Abort>(rt: &R, alloc: Global, goal: Goal) -> Grown
     requires { IsTrue (is_goal 1 goal) }
 {
