@@ -1,4 +1,4 @@
-use Rattle.std.proofs.Common.{arith, inl, inr, subst, sym}
+use Rattle.std.proofs.Common.{rules, arith, inl, inr, subst, sym}
 use Rattle.std.proofs.lemmas.Bool.{cases_eq}
 use Rattle.step_core.specs.GrownRuns.{state_of_grown}
 use Rattle.settle_report.specs.TightNodes.{IsTight}
@@ -13,7 +13,7 @@ returns-then-not-is_tight c = (
 
 pub returns : goal.returns
 returns c = (
-  (λ yes. IsSettled-tight c.args.grown.now (λ n other within. c.loop-node.invariant n other (omega (arith, within, c.limit-node-end.ensures)))),
+  (λ yes. IsSettled-tight c.args.grown.now (λ n other within. c.loop-node.invariant n other (search rules))),
   (λ settled. cc),
 )
 
@@ -22,7 +22,7 @@ returns-else-not-is_tight c = (
   (λ yes. IsSettled-tight c.args.grown.now (λ n other within.
       elim (cases_eq n c.loop-node.node) [
         | inl last ↦ subst (IsTight (state_of_grown c.args.grown.now)) (sym last) (c.is_tight.ensures.0 cc)
-        | inr before ↦ c.loop-node.invariant n other (omega (arith, within, before, c.limit-node-end.ensures))
+        | inr before ↦ c.loop-node.invariant n other (search rules)
       ])),
   (λ settled. cc),
 )
