@@ -36,7 +36,7 @@ one_more_of : (e z c : Vertex) (w s t : ℕ) (x y : ℤ) → t ≡ w + s
     ((e.x *ℤ (y -ℤ (pos s *ℤ z.y))) -ℤ (e.y *ℤ (x -ℤ (pos s *ℤ z.x))))
 one_more_of e z c w s t x y h = rw h (one_more e z c w s x y)
 
-sum-cons : (w : ℕ) (ws : List ℕ) → sum (w ∷ ws) ≡ w + sum ws
+pub sum-cons : (w : ℕ) (ws : List ℕ) → sum (w ∷ ws) ≡ w + sum ws
 sum-cons w ws = sum_by-cons (λ n. n) w ws
 
 no_corner : (e z : Vertex) → pos 0 ≤ℤ ((e.x *ℤ (pos 0 -ℤ (pos 0 *ℤ z.y))) -ℤ (e.y *ℤ (pos 0 -ℤ (pos 0 *ℤ z.x))))
@@ -58,25 +58,25 @@ left_sum e z (w ∷ ws) (c ∷ cs) l h =
     rw (one_more_of e z c w (sum ws) (sum (w ∷ ws)) (weighted (λ v. v.x) ws cs) (weighted (λ v. v.y) ws cs) (sum-cons w ws)) (omega (arith, ints))
 
 -- the weights with one more at a corner
-bump : ℕ → ℕ → List ℕ → List ℕ
+pub bump : ℕ → ℕ → List ℕ → List ℕ
 bump k u [] = []
 bump zero u (w ∷ ws) = (w + u) ∷ ws
 bump (suc k) u (w ∷ ws) = w ∷ bump k u ws
 
-length-bump : (k u : ℕ) (ws : List ℕ) → length (bump k u ws) ≡ length ws
+pub length-bump : (k u : ℕ) (ws : List ℕ) → length (bump k u ws) ≡ length ws
 unfolding bump
 length-bump k u [] = refl
 length-bump zero u (w ∷ ws) = refl
 length-bump (suc k) u (w ∷ ws) = ap suc (length-bump k u ws)
 
-sum-bump : (k u : ℕ) (ws : List ℕ) → k < length ws → sum (bump k u ws) ≡ sum ws + u
+pub sum-bump : (k u : ℕ) (ws : List ℕ) → k < length ws → sum (bump k u ws) ≡ sum ws + u
 unfolding bump
 sum-bump k u [] h = absurd (omega arith)
 sum-bump zero u (w ∷ ws) h = omega (arith, sum-cons (w + u) ws, sum-cons w ws)
 sum-bump (suc k) u (w ∷ ws) h =
     omega (arith, sum-bump k u ws (omega arith), sum-cons w (bump k u ws), sum-cons w ws)
 
-weighted-bump : (f : Vertex → ℤ) (k u : ℕ) (ws : List ℕ) (corners : List Vertex) → length ws ≡ length corners → k < length corners
+pub weighted-bump : (f : Vertex → ℤ) (k u : ℕ) (ws : List ℕ) (corners : List Vertex) → length ws ≡ length corners → k < length corners
     → weighted f (bump k u ws) corners ≡ (weighted f ws corners +ℤ (pos u *ℤ f (corner_at corners k)))
 unfolding bump
 weighted-bump f k u [] [] l h = absurd (omega arith)
@@ -89,34 +89,34 @@ weighted-bump f (suc k) u (w ∷ ws) (c ∷ cs) l h =
     let e = weighted-bump f k u ws cs (omega arith) (omega arith) in
     rw e (omega (arith, ints))
 
-zeros : List Vertex → List ℕ
+pub zeros : List Vertex → List ℕ
 zeros [] = []
 zeros (c ∷ cs) = 0 ∷ zeros cs
 
-length-zeros : (corners : List Vertex) → length (zeros corners) ≡ length corners
+pub length-zeros : (corners : List Vertex) → length (zeros corners) ≡ length corners
 unfolding zeros
 length-zeros [] = refl
 length-zeros (c ∷ cs) = ap suc (length-zeros cs)
 
-sum-zeros : (corners : List Vertex) → sum (zeros corners) ≡ 0
+pub sum-zeros : (corners : List Vertex) → sum (zeros corners) ≡ 0
 unfolding zeros
 sum-zeros [] = refl
 sum-zeros (c ∷ cs) = omega (arith, sum-zeros cs, sum-cons 0 (zeros cs))
 
-weighted-zeros : (f : Vertex → ℤ) (corners : List Vertex) → weighted f (zeros corners) corners ≡ pos 0
+pub weighted-zeros : (f : Vertex → ℤ) (corners : List Vertex) → weighted f (zeros corners) corners ≡ pos 0
 unfolding zeros
 weighted-zeros f [] = refl
 weighted-zeros f (c ∷ cs) = let e = weighted-zeros f cs in omega (arith, ints)
 
 -- weights on a polygon's corners that stand for weights on three of them
-record Weights (corners : List Vertex) (i j k u v w : ℕ) : Type 0 where
-  on : List ℕ
-  corners_number : length on ≡ length corners
-  total : sum on ≡ u + v + w
-  sums : (f : Vertex → ℤ) → weighted f on corners ≡
+pub record Weights (corners : List Vertex) (i j k u v w : ℕ) : Type 0 where
+  pub on : List ℕ
+  pub corners_number : length on ≡ length corners
+  pub total : sum on ≡ u + v + w
+  pub sums : (f : Vertex → ℤ) → weighted f on corners ≡
       (((pos u *ℤ f (corner_at corners i)) +ℤ (pos v *ℤ f (corner_at corners j))) +ℤ (pos w *ℤ f (corner_at corners k)))
 
-weights : (corners : List Vertex) (i j k u v w : ℕ) → i < length corners → j < length corners → k < length corners → Weights corners i j k u v w
+pub weights : (corners : List Vertex) (i j k u v w : ℕ) → i < length corners → j < length corners → k < length corners → Weights corners i j k u v w
 weights cs i j k u v w p q r =
     let none = zeros cs in
     let first = bump i u none in

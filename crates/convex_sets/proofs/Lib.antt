@@ -11,4 +11,8 @@ pub mod Turns
 pub mod ClosedPaths
 pub mod Lows
 pub mod Turned
+pub mod MergedSides
 pub mod ZoneLaws
+pub mod Squares
+pub mod WidenedBodies
+pub mod Made

@@ -4,8 +4,8 @@ use Rattle.std.proofs.Common.{sym, ap, subst, ◌∙◌, inl, inr, arith}
 use Rattle.std.specs.Prelude.{ℤ, pos, ◌≤ℤ◌}
 use Rattle.std.specs.List.{list_all}
 use Rattle.std.proofs.lemmas.Int.{ints, by_lt_z}
-use Rattle.plan_model.specs.declared.limits.TheConstants.{LEAST_BODY_COORDINATE, LEAST_CORNER_COORDINATE, LEAST_SUMMAND_COORDINATE}
-use Rattle.plan_model.specs.declared.limits.TheConstants.{MOST_BODY_COORDINATE, MOST_CORNER_COORDINATE, MOST_SUMMAND_COORDINATE}
+use Rattle.plan_model.specs.declared.limits.TheConstants.{LEAST_CORNER_COORDINATE, LEAST_SUMMAND_COORDINATE}
+use Rattle.plan_model.specs.declared.limits.TheConstants.{MOST_CORNER_COORDINATE, MOST_SUMMAND_COORDINATE}
 use Rattle.plan_model.specs.declared.geometry.Vertex.{Vertex}
 use Rattle.plan_model.specs.Geometry.Convexity.{corner_at, next_corner, is_strictly_convex}
 use Rattle.plan_model.specs.Geometry.Plane.{orientation}
@@ -16,12 +16,11 @@ use Rattle.plan_model.specs.Spaces.RoomOfConfigurations.{Rational}
 use Rattle.plan_model.specs.Spaces.Zones.{IsZoneOf, IsLowerOrLeft}
 use Rattle.convex_sets.specs.Bounds.{AreBoundedCorners}
 use Rattle.convex_sets.specs.Edges.{cross, from_to}
-use Rattle.convex_sets.specs.Outlines.{both, reflection, IsMerged, IsOutlineOf, IsSum}
+use Rattle.convex_sets.specs.Outlines.{reflection, IsMerged, IsOutlineOf, IsSum}
 use Rattle.plan_model.proofs.Ring.{var, minus, times, opposite, same}
 use Rattle.plan_model.proofs.Tests.{true_at, true_of_all}
-use Rattle.convex_sets.proofs.Corners.{within_of, bounded_of, bounded_corner, bounded_at}
-use Rattle.convex_sets.proofs.MergeSteps.{zero_vector}
-use Rattle.convex_sets.proofs.MergedPaths.{cross-sums}
+use Rattle.convex_sets.proofs.Corners.{within_of, of_within, bounded_of, bounded_corner, bounded_at}
+use Rattle.convex_sets.proofs.MergedSides.{first_left, second_left}
 use Rattle.convex_sets.proofs.ConvexPolygons.{IsConvex, IsConvex-from_test, test-from_IsConvex, next_within}
 use Rattle.convex_sets.proofs.Fans.{fan, out_to}
 use Rattle.convex_sets.proofs.Hulls.{difference, turned_back, meets_left, IsDifference, Meets-mean}
@@ -62,22 +61,27 @@ IsConvex-reflected corners h =
           ) (h.left i k inside other a (rw number at b));
     }
 
--- a body or an obstacle has bounded corners
-pub bounded_corners : (low high : ℤ) (corners : List Vertex) → LEAST_CORNER_COORDINATE ≤ℤ low → high ≤ℤ MOST_CORNER_COORDINATE
-    → list_all (is_corner_between low high) corners ≡ true → AreBoundedCorners corners
-bounded_corners low high corners p q h =
-    true_of_all (is_corner_between LEAST_CORNER_COORDINATE MOST_CORNER_COORDINATE) corners (record { x = pos 0; y = pos 0 }) (λ i l.
+-- corners between two numbers are between wider ones
+pub between_wider : (low high least most : ℤ) (corners : List Vertex) → least ≤ℤ low → high ≤ℤ most
+    → list_all (is_corner_between low high) corners ≡ true → list_all (is_corner_between least most) corners ≡ true
+between_wider low high least most corners p q h =
+    true_of_all (is_corner_between least most) corners (record { x = pos 0; y = pos 0 }) (λ i l.
     let w = within_of low high (corner_at corners i) (true_at (is_corner_between low high) corners i (record { x = pos 0; y = pos 0 }) h l) in
     let left = w.left in
     let right = w.right in
     let bottom = w.bottom in
     let top = w.top in
-    bounded_of (corner_at corners i) (record {
+    of_within least most (corner_at corners i) (record {
       left = omega (arith, ints);
       right = omega (arith, ints);
       bottom = omega (arith, ints);
       top = omega (arith, ints);
     }))
+
+-- a body or an obstacle has bounded corners
+pub bounded_corners : (low high : ℤ) (corners : List Vertex) → LEAST_CORNER_COORDINATE ≤ℤ low → high ≤ℤ MOST_CORNER_COORDINATE
+    → list_all (is_corner_between low high) corners ≡ true → AreBoundedCorners corners
+bounded_corners low high corners p q h = between_wider low high LEAST_CORNER_COORDINATE MOST_CORNER_COORDINATE corners p q h
 
 pub bounded-reflected : (corners : List Vertex) → AreBoundedCorners corners → AreBoundedCorners (map reflection corners)
 bounded-reflected corners h =
@@ -122,52 +126,6 @@ back_to_back e a b =
 
 -- the merged outline z of the outlines a of the obstacle and b of the reflected body
 module _ (body obstacle a b z : List Vertex) (first : IsOutlineOf obstacle a) (second : IsOutlineOf (map reflection body) b) (merged : IsMerged a b z) where
-  edge : ℕ → Vertex
-  edge i = from_to (corner_at z i) (corner_at z (next_corner (length z) i))
-
-  -- each sum of corners lies to the left of each edge: at a corner of the outline, its two parts apart
-  on_left : (i : ℕ) (p : i < length z) (t : ℕ) → t < length obstacle
-      → pos 0 ≤ℤ cross (from_to (corner_at z i) (corner_at z (next_corner (length z) i)))
-      (from_to (corner_at a (merged.sums i p).first) (corner_at obstacle t))
-  on_left i p t q =
-      let s = merged.sums i p in
-      let k = first.all t q in
-      let e = from_to (corner_at z i) (corner_at z (next_corner (length z) i)) in
-      let f = merged.supports i k.0 s.second p k.1 s.within_second in
-      let g : from_to (corner_at z i) (both (corner_at a k.0) (corner_at b s.second)) ≡ from_to (both (corner_at a s.first) (corner_at b s.second))
-      (both (corner_at a k.0) (corner_at b s.second)) = ap (λ v. from_to v (both (corner_at a k.0) (corner_at b s.second))) s.is in
-      let h : pos 0 ≤ℤ cross e (from_to (both (corner_at a s.first) (corner_at b s.second)) (both (corner_at a k.0) (corner_at b s.second))) = subst
-      (λ (v : Vertex). pos 0 ≤ℤ cross e v) g f in
-      rw k.2 (omega (
-        arith,
-        ints,
-        h,
-        cross-sums e (corner_at a s.first) (corner_at b s.second) (corner_at a k.0) (corner_at b s.second),
-        zero_vector e
-            (corner_at b s.second),
-      ))
-
-  on_right : (i : ℕ) (p : i < length z) (t : ℕ) → t < length (map reflection body)
-      → pos 0 ≤ℤ cross (from_to (corner_at z i) (corner_at z (next_corner (length z) i)))
-      (from_to (corner_at b (merged.sums i p).second) (corner_at (map reflection body) t))
-  on_right i p t q =
-      let s = merged.sums i p in
-      let k = second.all t q in
-      let e = from_to (corner_at z i) (corner_at z (next_corner (length z) i)) in
-      let f = merged.supports i s.first k.0 p s.within_first k.1 in
-      let g : from_to (corner_at z i) (both (corner_at a s.first) (corner_at b k.0)) ≡ from_to (both (corner_at a s.first) (corner_at b s.second))
-      (both (corner_at a s.first) (corner_at b k.0)) = ap (λ v. from_to v (both (corner_at a s.first) (corner_at b k.0))) s.is in
-      let h : pos 0 ≤ℤ cross e (from_to (both (corner_at a s.first) (corner_at b s.second)) (both (corner_at a s.first) (corner_at b k.0))) = subst
-      (λ (v : Vertex). pos 0 ≤ℤ cross e v) g f in
-      rw k.2 (omega (
-        arith,
-        ints,
-        h,
-        cross-sums e (corner_at a s.first) (corner_at b s.second) (corner_at a s.first) (corner_at b k.0),
-        zero_vector e
-            (corner_at a s.first),
-      ))
-
   inside : (q : Rational) → Meets 0 body q obstacle → IsInside z q
   inside q m = λ i p.
       let e = from_to (corner_at z i) (corner_at z (next_corner (length z) i)) in
@@ -181,10 +139,10 @@ module _ (body obstacle a b z : List Vertex) (first : IsOutlineOf obstacle a) (s
       let is : corner_at z i ≡ difference o c = s.is ∙ rw (f.2, under) in
       let left : (t : ℕ) → t < length obstacle
       → pos 0 ≤ℤ cross e (from_to o (corner_at obstacle t)) = λ t r. subst (λ (v : Vertex). pos 0 ≤ℤ cross e (from_to v (corner_at obstacle t)))
-      f.2 (on_left i p t r) in
+      f.2 (first_left obstacle (map reflection body) a b z first second merged i p t r) in
       let right : (t : ℕ) → t < length body → pos 0 ≤ℤ cross (turned_back e) (from_to c (corner_at body t)) = λ t r.
       let reflected = subst (λ (v : Vertex). pos 0 ≤ℤ cross e (from_to v (corner_at (map reflection body) t))) under
-      (on_right i p t (omega (arith, length-reflected body))) in
+      (second_left obstacle (map reflection body) a b z first second merged i p t (omega (arith, length-reflected body))) in
       let there = subst (λ (v : Vertex). pos 0 ≤ℤ cross e (from_to (reflection c) v)) (reflected-at body t r) reflected in
       rw (back_to_back e c (corner_at body t)) there in
       subst (λ (v : Vertex). pos 0 ≤ℤ cross e (out_to v q)) (sym is) (meets_left e o c body q obstacle m left right)
@@ -202,7 +160,7 @@ module _ (body obstacle a b z : List Vertex) (first : IsOutlineOf obstacle a) (s
       (IsDifference-sum body obstacle a b (corner_at z (suc (suc k))) first second (merged.sums (suc (suc k)) small))
 
   -- the zone of a body and an obstacle in the ranges of a sum has bounded corners
-  bounded : list_all (is_corner_between LEAST_BODY_COORDINATE MOST_BODY_COORDINATE) body ≡ true
+  bounded : list_all (is_corner_between LEAST_SUMMAND_COORDINATE MOST_SUMMAND_COORDINATE) body ≡ true
       → list_all (is_corner_between LEAST_SUMMAND_COORDINATE MOST_SUMMAND_COORDINATE) obstacle ≡ true → AreBoundedCorners z
   bounded p q =
       true_of_all (is_corner_between LEAST_CORNER_COORDINATE MOST_CORNER_COORDINATE) z (record { x = pos 0; y = pos 0 }) (λ i l.
@@ -210,8 +168,8 @@ module _ (body obstacle a b z : List Vertex) (first : IsOutlineOf obstacle a) (s
       let o = within_of LEAST_SUMMAND_COORDINATE MOST_SUMMAND_COORDINATE (corner_at obstacle d.on_obstacle)
       (true_at (is_corner_between LEAST_SUMMAND_COORDINATE MOST_SUMMAND_COORDINATE) obstacle d.on_obstacle (record { x = pos 0; y = pos 0 }) q
       d.within_obstacle) in
-      let c = within_of LEAST_BODY_COORDINATE MOST_BODY_COORDINATE (corner_at body d.on_body)
-      (true_at (is_corner_between LEAST_BODY_COORDINATE MOST_BODY_COORDINATE) body d.on_body (record { x = pos 0; y = pos 0 }) p d.within_body) in
+      let c = within_of LEAST_SUMMAND_COORDINATE MOST_SUMMAND_COORDINATE (corner_at body d.on_body)
+      (true_at (is_corner_between LEAST_SUMMAND_COORDINATE MOST_SUMMAND_COORDINATE) body d.on_body (record { x = pos 0; y = pos 0 }) p d.within_body) in
       let horizontal = d.horizontal in
       let vertical = d.vertical in
       bounded_of (corner_at z i) (record {
@@ -232,14 +190,14 @@ module _ (body obstacle a b z : List Vertex) (first : IsOutlineOf obstacle a) (s
   IsZoneOf-merged h = record { exact = λ q. (inside q, meets q); convex = merged.convex; first = lowest h }
 
 pub zone_is : (body obstacle a b z : List Vertex) → IsOutlineOf obstacle a → IsOutlineOf (map reflection body) b → IsMerged a b z
-    → list_all (is_corner_between LEAST_BODY_COORDINATE MOST_BODY_COORDINATE) body ≡ true
+    → list_all (is_corner_between LEAST_SUMMAND_COORDINATE MOST_SUMMAND_COORDINATE) body ≡ true
     → list_all (is_corner_between LEAST_SUMMAND_COORDINATE MOST_SUMMAND_COORDINATE) obstacle ≡ true
     → IsZoneOf 0 body obstacle z
 zone_is body obstacle a b z first second merged p q = IsZoneOf-merged body obstacle a b z first second merged
     (bounded body obstacle a b z first second merged p q)
 
 pub zone_bounded : (body obstacle a b z : List Vertex) → IsOutlineOf obstacle a → IsOutlineOf (map reflection body) b → IsMerged a b z
-    → list_all (is_corner_between LEAST_BODY_COORDINATE MOST_BODY_COORDINATE) body ≡ true
+    → list_all (is_corner_between LEAST_SUMMAND_COORDINATE MOST_SUMMAND_COORDINATE) body ≡ true
     → list_all (is_corner_between LEAST_SUMMAND_COORDINATE MOST_SUMMAND_COORDINATE) obstacle ≡ true
     → AreBoundedCorners z
 zone_bounded body obstacle a b z first second merged p q = bounded body obstacle a b z first second merged p q

@@ -4,6 +4,8 @@
 #[cfg(test)]
 mod bounding_boxes;
 #[cfg(test)]
+mod clearances;
+#[cfg(test)]
 mod is_convex;
 #[cfg(test)]
 mod support;

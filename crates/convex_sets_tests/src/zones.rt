@@ -1,4 +1,4 @@
-//! Zones of small bodies and obstacles.
+//! Zones of small bodies and obstacles, without a clearance.
 
 ghost use Rattle.std.specs.Prelude.{◌≡◌, ◌==◌, ◌||◌, IsTrue, length, true};
 ghost use Rattle.std.specs.List.{list_all};
@@ -8,29 +8,20 @@ ghost use Rattle.plan_model.specs.Scenes.Limits.{is_corner_between};
 ghost use Rattle.plan_model.specs.declared.limits.TheConstants.{LEAST_BODY_COORDINATE, LEAST_SUMMAND_COORDINATE};
 ghost use Rattle.plan_model.specs.declared.limits.TheConstants.{MOST_BODY_COORDINATE, MOST_SUMMAND_COORDINATE};
 
-use crate::support::{sure, zone_of};
+use crate::support::{expect_box, expect_corners, expect_points, sure, zone_of};
 use convex_sets::{Zone, is_convex};
 use plan_model::{Memory, Point, Vertex};
 use std::alloc::Global;
 use std::process::Abort;
 
-/// Asserts the corners of the zone of a body and an obstacle.
+/// Asserts the corners of the zone of a body and an obstacle without a clearance.
 fn expect<R: Abort>(rt: &R, alloc: Global, body: &[Vertex], obstacle: &[Vertex], want: &[Vertex])
     requires body { IsTrue (length body.now == 1 || is_strictly_convex body.now) }
     requires body_within { IsTrue (list_all (is_corner_between LEAST_BODY_COORDINATE MOST_BODY_COORDINATE) body.now) }
     requires obstacle { is_strictly_convex obstacle.now ≡ true }
     requires obstacle_within { IsTrue (list_all (is_corner_between LEAST_SUMMAND_COORDINATE MOST_SUMMAND_COORDINATE) obstacle.now) }
 {
-    let zone = sure(rt, zone_of(alloc, body, obstacle));
-    assert!(rt; zone.corners() == want);
-    drop(zone);
-}
-
-/// Asserts the least box round a zone, by its corners.
-fn expect_box<R: Abort>(rt: &R, zone: &Zone, low: Vertex, high: Vertex) {
-    let bounds = zone.bounding_box();
-    assert!(rt; bounds.low == low);
-    assert!(rt; bounds.high == high);
+    expect_corners(rt, alloc, body, obstacle, 0, want);
 }
 
 static SQUARE: [Vertex; 4] = [
@@ -184,16 +175,9 @@ static BY_CORNERS: [(Point, bool); 5] = [
     ),
 ];
 
-/// Asserts which points a zone has.
-fn expect_points<R: Abort>(rt: &R, zone: &Zone, cases: &[(Point, bool)]) {
-    for case in cases {
-        assert!(rt; zone.has(case.0) == case.1);
-    }
-}
-
 #[test]
 fn touching_at_a_corner_is_meeting(rt: HostRuntime) {
-    let zone = sure(&rt, zone_of(rt.alloc(), &TRIANGLE, &GREAT_TRIANGLE));
+    let zone = sure(&rt, zone_of(rt.alloc(), &TRIANGLE, &GREAT_TRIANGLE, 0));
     expect_points(&rt, &zone, &BY_CORNERS);
     expect_box(&rt, &zone, Vertex { x: 8, y: 8 }, Vertex { x: 20, y: 20 });
     drop(zone);
@@ -298,7 +282,7 @@ fn checked_zone(alloc: Global, body: &[Vertex], obstacle: &[Vertex]) -> Result<O
     if !is_convex(obstacle) {
         return Ok(None);
     }
-    Ok(Some(zone_of(alloc, body, obstacle)?))
+    Ok(Some(zone_of(alloc, body, obstacle, 0)?))
 }
 
 /// The zone of polygons that both pass the test.

@@ -1,10 +1,12 @@
 //! A scene with more obstacles than stand side by side below one box.
 
-ghost use Rattle.std.specs.Prelude.{◌<◌};
+ghost use Rattle.std.specs.Prelude.{◌<◌, ◌≤◌};
+ghost use Rattle.plan_model.specs.declared.limits.TheConstants.{MOST_CLEARANCE};
 
 use crate::support::{boxes_of, obstacles, scene, sure};
 use obstacle_boxes::Boxes;
 use plan_model::{Point, Vertex};
+use std::alloc::Global;
 use std::process::Abort;
 use swept_check::{Clearing, Hall};
 
@@ -160,16 +162,29 @@ fn clear_count<R: Abort>(rt: &R, hall: &Hall, boxes: &Boxes) -> u32 {
     count
 }
 
-#[test]
-fn boxes_answer_as_the_hall(rt: HostRuntime) {
-    let twenty = obstacles(&rt, rt.alloc(), &TWENTY);
-    let scene = scene(&rt, rt.alloc(), twenty);
-    assert!(rt; scene.clearance == 0);
-    let hall = sure(&rt, Hall::new(rt.alloc(), &scene));
-    let boxes = boxes_of(&rt, rt.alloc(), &scene);
+/// The same among the twenty obstacles with a clearance.
+fn clear_with<R: Abort>(rt: &R, alloc: Global, clearance: u32) -> u32
+    requires { clearance ≤ MOST_CLEARANCE }
+{
+    let twenty = obstacles(rt, alloc, &TWENTY);
+    let scene = scene(rt, alloc, twenty, clearance);
+    let hall = sure(rt, Hall::new(alloc, &scene));
+    let boxes = boxes_of(rt, alloc, &scene);
     drop(scene);
-    let count = clear_count(&rt, &hall, &boxes);
+    let count = clear_count(rt, &hall, &boxes);
     drop(hall);
     drop(boxes);
+    count
+}
+
+#[test]
+fn boxes_answer_as_the_hall(rt: HostRuntime) {
+    let count = clear_with(&rt, rt.alloc(), 0);
     assert!(rt; count == 258);
+}
+
+#[test]
+fn boxes_answer_as_the_hall_with_a_clearance(rt: HostRuntime) {
+    let count = clear_with(&rt, rt.alloc(), 2);
+    assert!(rt; count == 135);
 }

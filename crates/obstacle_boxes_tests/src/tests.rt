@@ -7,6 +7,7 @@ ghost use Rattle.std.specs.Prelude.{◌≡◌, ◌+◌, ◌<◌, ◌≤◌, IfOk
 ghost use Rattle.plan_model.specs.Spaces.RoomOfConfigurations.{InRoom, at_lattice};
 ghost use Rattle.plan_model.specs.Geometry.Bounds.{IsBounded};
 ghost use Rattle.plan_model.specs.Scenes.Limits.{are_obstacles};
+ghost use Rattle.plan_model.specs.declared.limits.TheConstants.{MOST_CLEARANCE};
 ghost use Rattle.obstacle_boxes.specs.NearZones.{AreZoneBoxes, near_count};
 
 use crate::support::{boxes_of, polygon, scene, sure};
@@ -107,7 +108,7 @@ static TRIANGLE: [Vertex; 3] = [
 
 /// A square, and a small triangle beside it.
 fn two<R: Abort>(rt: &R, alloc: Global) -> Polys
-    ensures { IsTrue (are_obstacles 1 result) }
+    ensures { IsTrue (are_obstacles 2 result) }
 {
     let square = polygon(rt, alloc, &SQUARE);
     let triangle = polygon(rt, alloc, &TRIANGLE);
@@ -117,12 +118,21 @@ fn two<R: Abort>(rt: &R, alloc: Global) -> Polys
 /// The ends of a segment, whether it is clear, and how many boxes meet its own.
 type Case = ((u32, u32), (u32, u32), bool, usize);
 
-static CASES: [Case; 4] = [
+static WITHOUT_CLEARANCE: [Case; 4] = [
     ((30, 61), (70, 61), true, 0),
     ((30, 5), (9, 26), true, 1),
     ((30, 0), (70, 61), false, 1),
     // an end outside of the room: no step, whichever boxes are near
     ((0, 0), (101, 0), false, 1),
+];
+
+/// With a clearance of 5.
+static WITH_CLEARANCE: [Case; 5] = [
+    ((30, 61), (70, 61), false, 1),
+    ((30, 66), (70, 66), true, 0),
+    ((30, 5), (9, 26), false, 1),
+    ((31, 10), (10, 31), true, 1),
+    ((26, 0), (34, 100), true, 0),
 ];
 
 /// Asserts the answer to the segment of a case.
@@ -135,22 +145,34 @@ fn expect(rt: &impl Abort, boxes: &Boxes, all: &[BoundingBox], case: &Case)
 }
 
 /// The same of each case.
-fn expect_each(rt: &impl Abort, boxes: &Boxes, all: &[BoundingBox])
+fn expect_each(rt: &impl Abort, boxes: &Boxes, all: &[BoundingBox], cases: &[Case])
     requires { AreZoneBoxes boxes.now all.now }
 {
-    for case in &CASES {
+    for case in cases {
         expect(rt, boxes, all, case);
     }
 }
 
-#[test]
-fn zones_whose_boxes_are_apart_are_not_tested(rt: HostRuntime) {
-    let obstacles = two(&rt, rt.alloc());
-    let scene = scene(&rt, rt.alloc(), obstacles);
-    let boxes = boxes_of(&rt, rt.alloc(), &scene);
+/// Asserts each case in a scene with a clearance.
+fn expect_with<R: Abort>(rt: &R, alloc: Global, clearance: u32, cases: &[Case])
+    requires { clearance ≤ MOST_CLEARANCE }
+{
+    let obstacles = two(rt, alloc);
+    let scene = scene(rt, alloc, obstacles, clearance);
+    let boxes = boxes_of(rt, alloc, &scene);
     drop(scene);
-    let all = sure(&rt, zone_boxes(rt.alloc(), &boxes));
-    expect_each(&rt, &boxes, all.as_slice());
+    let all = sure(rt, zone_boxes(alloc, &boxes));
+    expect_each(rt, &boxes, all.as_slice(), cases);
     drop(all);
     drop(boxes);
+}
+
+#[test]
+fn zones_whose_boxes_are_apart_are_not_tested(rt: HostRuntime) {
+    expect_with(&rt, rt.alloc(), 0, &WITHOUT_CLEARANCE);
+}
+
+#[test]
+fn the_boxes_are_those_of_the_zones_with_the_clearance(rt: HostRuntime) {
+    expect_with(&rt, rt.alloc(), 5, &WITH_CLEARANCE);
 }

@@ -56,19 +56,18 @@ impl Hall {
     ghost use Rattle.plan_model.specs.Spaces.Clearance.{ClearAt};
     ghost use Rattle.swept_check.specs.Halls.{AreZonesOf};
 
-    /// The collision checker of a scene's room, body and obstacles, for a scene without a clearance; without an obstacle the
-    /// walls alone count. O(n) for n corners in all of the zones.
+    /// The collision checker of a scene's room, body, obstacles and clearance; without an obstacle the walls alone count.
+    /// O(n) for n corners in all of the zones.
     ///
     /// # Errors
     ///
     /// `Memory` if out of memory for the zones or for the copies of the body and the obstacles.
     pub fn new(alloc: Global, scene: &Scene) -> Result<Hall, Memory>
-        requires { scene.now.clearance ≡ 0 }
         ensures { IfOk result (λ hall. hall ≡ space_of scene.now) }
     {
         let mut zones = Vec::new(alloc);
         for obstacle in scene.obstacles.as_slice() {
-            zones.push(Zone::sum(alloc, &scene.body, obstacle)?)?;
+            zones.push(Zone::sum(alloc, &scene.body, obstacle, scene.clearance)?)?;
         }
         Ok(Hall {
             space: ConfigurationSpace::of(alloc, scene)?,
@@ -77,8 +76,9 @@ impl Hall {
         })
     }
 
-    /// Whether the body is clear of the walls and the obstacles at a configuration. Touching an obstacle collides; touching a
-    /// wall does not. As fast as [`clear`](Clearing::clear) from the point to itself; no memory.
+    /// Whether the body is clear of the walls and the obstacles at a configuration. Touching an obstacle collides, and so does
+    /// coming within the clearance of it; touching a wall does not. As fast as [`clear`](Clearing::clear) from the point to
+    /// itself; no memory.
     pub fn clear_at(&self, p: Point) -> bool
         ensures { IsTrue result ↔ ClearAt self.now p }
     {

@@ -3,41 +3,12 @@
 ghost use Rattle.std.specs.Prelude.{IsTrue};
 ghost use Rattle.plan_model.specs.Scenes.Limits.{is_body, is_obstacle};
 
-use crate::support::{hall_of_two, sure};
+use crate::support::{CLEAR, COLLIDES, Case, expect_each, hall_of_two, sure};
 use plan_model::{Point, Vertex};
 use std::alloc::Global;
 use std::process::Abort;
-use swept_check::{Clearing, Hall};
 
-/// The two ends of a segment, and whether the body is clear along it.
-type Case = ((u32, u32), (u32, u32), bool);
-
-const CLEAR: bool = true;
-
-const COLLIDES: bool = false;
-
-/// Asserts that the body is clear along the segment of the case with this number or collides, whichever end it sets out from.
-fn expect<R: Abort>(rt: &R, hall: &Hall, number: usize, case: &Case) {
-    let a = Point {
-        x: case.0.0,
-        y: case.0.1,
-    };
-    let b = Point {
-        x: case.1.0,
-        y: case.1.1,
-    };
-    let is_same = hall.clear(a, b) == case.2 && hall.clear(b, a) == case.2;
-    assert!(rt; is_same, "case {number}");
-}
-
-/// The same of each case.
-fn expect_each<R: Abort>(rt: &R, hall: &Hall, cases: &[Case]) {
-    for (number, case) in cases.iter().enumerate() {
-        expect(rt, hall, number, case);
-    }
-}
-
-/// The same in the hall of a body and one obstacle.
+/// Asserts each case in the hall of a body and one obstacle.
 fn expect_beside<R: Abort>(
     rt: &R,
     alloc: Global,

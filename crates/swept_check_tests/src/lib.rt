@@ -2,6 +2,8 @@
 #![tactic(auto)]
 
 #[cfg(test)]
+mod clearances;
+#[cfg(test)]
 mod crosses;
 #[cfg(test)]
 mod hall;

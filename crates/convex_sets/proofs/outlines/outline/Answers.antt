@@ -1,13 +1,10 @@
-use Rattle.std.proofs.Common.{List, Result, Ok, Err, IfOk}
+use Rattle.std.proofs.Common.{List}
 use Rattle.plan_model.specs.declared.geometry.Vertex.{Vertex}
 use Rattle.convex_sets.specs.Outlines.{IsTurned}
+use Rattle.convex_sets.proofs.Made.{IfOk-map}
 use Rattle.convex_sets.proofs.Turned.{IsRound, IsRound-point, IsRound-polygon}
 use Rattle.convex_sets.proofs.outlines.outline.Goals as goal
 use Rattle.convex_sets.proofs.outlines.outline.Goals.{then-corners-eq1, else-corners-eq1}
-
-IfOk-map : {A E : Type 0} (r : Result A E) (P Q : A → Type 0) → IfOk r P → ((v : A) → P v → Q v) → IfOk r Q
-IfOk-map (Ok v) P Q h f = f v h
-IfOk-map (Err e) P Q h f = h
 
 round : (c : goal.After-turned) (r : List Vertex) → IsTurned c.args.corners.now r c.lowest-first.result c.if-corners-eq1.count → IsRound c.args.corners.now r
 round c r turned =

@@ -1,6 +1,7 @@
 use Rattle.std.proofs.Common.{◌≡◌, ◌<◌, [], length, get_or, arith, ◌∙◌}
 use Rattle.std.proofs.lemmas.List.{get_or_default}
 use Rattle.plan_model.specs.Spaces.ConfigurationSpace.{space_of}
+use Rattle.plan_model.proofs.SceneBounds.{clearance-counted}
 use Rattle.swept_check.proofs.SceneSummands.{obstacle_within, AreFirstZones-more}
 use Rattle.swept_check.proofs.hall.Hall.new.Goals as goal
 
@@ -15,6 +16,9 @@ sum-requires-clause-obstacle_within c =
     let is : c.obstacle-item.result ≡ get_or scene.obstacles i [] = rw items at item in
     rw is (obstacle_within scene.version scene.obstacles i scene.obstacles_within l)
 
+pub sum-requires-clause-clearance : goal.sum-requires-clause-clearance
+sum-requires-clause-clearance c = clearance-counted c.args.scene.now
+
 pub loop-obstacle-preserved : goal.loop-obstacle-preserved
 loop-obstacle-preserved c =
     let scene = c.args.scene.now in
@@ -24,7 +28,5 @@ loop-obstacle-preserved c =
     let l : i < length scene.obstacles = rw items at within in
     let item : c.obstacle-item.result ≡ get_or c.as_slice-obstacle-items.result.now i [] = c.obstacle-item.is ∙ get_or_default _ i _ [] within in
     let is : c.obstacle-item.result ≡ get_or scene.obstacles i [] = rw items at item in
-    let no_clearance : (space_of scene).clearance ≡ 0 = c.requires in
-    let zone = rw is at c.in_ok-sum.ensures.zone in
     AreFirstZones-more (space_of scene) c.loop-obstacle.zones.items c.push.new.self.items i _ c.loop-obstacle.invariant c.in_ok-push.ensures.items
-    (rw no_clearance zone)
+    (rw is at c.in_ok-sum.ensures.zone)
