@@ -35,7 +35,7 @@ static TO_2: [Point; 3] = [
 
 #[test]
 fn leads_from_the_start_by_the_parents(rt: HostRuntime) {
-    let grown = unsettled_run(&rt, rt.alloc(), GOAL);
+    let grown = unsettled_run(&rt, rt.alloc(), &[GOAL]);
     assert_path(&rt, rt.alloc(), &grown, 0, &START);
     assert_path(&rt, rt.alloc(), &grown, 1, &TO_1);
     assert_path(&rt, rt.alloc(), &grown, 2, &TO_2);
@@ -44,7 +44,7 @@ fn leads_from_the_start_by_the_parents(rt: HostRuntime) {
 
 #[test]
 fn of_the_start_is_the_start_alone(rt: HostRuntime) {
-    let grown = start_alone(&rt, rt.alloc(), GOAL);
+    let grown = start_alone(&rt, rt.alloc(), &[GOAL]);
     assert_path(&rt, rt.alloc(), &grown, 0, &START);
     assert_path(&rt, rt.alloc(), &grown, 1, &[]);
     drop(grown);

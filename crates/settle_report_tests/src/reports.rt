@@ -14,7 +14,7 @@ use step_core::Grown;
 fn goal_at(x: u32, y: u32) -> Goal
     requires right { x ≤ 100 }
     requires top { y ≤ 100 }
-    ensures { IsTrue (is_goal 1 result) }
+    ensures { IsTrue (is_goal 2 result) }
 {
     let point = Point { x, y };
     Goal {
@@ -56,7 +56,7 @@ fn reports_the_path_and_each_node_and_mark(rt: HostRuntime) {
                 mark 2 worker 0 turn 2 nearest 1 placed class 2 first 1 24249\n";
     let short = "path 3 cost 25344\n0 0\n40 30\n40 79\nnodes 4 placed 3 same 0 blocked 0\n";
     let brief = "path 3 cost 25344\nnodes 4 placed 3 same 0 blocked 0\n";
-    let grown = unsettled_run(&rt, rt.alloc(), goal_at(40, 79));
+    let grown = unsettled_run(&rt, rt.alloc(), &[goal_at(40, 79)]);
     assert_reports(&rt, rt.alloc(), grown, full, short, brief);
 }
 
@@ -66,7 +66,7 @@ fn reports_the_start_alone_as_a_path(rt: HostRuntime) {
                 node 0 at 0 0 parent 0 cost 0\n";
     let short = "path 1 cost 0\n0 0\nnodes 1 placed 0 same 0 blocked 0\n";
     let brief = "path 1 cost 0\nnodes 1 placed 0 same 0 blocked 0\n";
-    let grown = start_alone(&rt, rt.alloc(), goal_at(0, 0));
+    let grown = start_alone(&rt, rt.alloc(), &[goal_at(0, 0)]);
     assert_reports(&rt, rt.alloc(), grown, full, short, brief);
 }
 
@@ -75,6 +75,21 @@ fn reports_no_path_from_a_start_beside_the_goal(rt: HostRuntime) {
     let full = "no path\nnodes 1 placed 0 same 0 blocked 0\n\
                 node 0 at 0 0 parent 0 cost 0\n";
     let short = "no path\nnodes 1 placed 0 same 0 blocked 0\n";
-    let grown = start_alone(&rt, rt.alloc(), goal_at(0, 1));
+    let grown = start_alone(&rt, rt.alloc(), &[goal_at(0, 1)]);
     assert_reports(&rt, rt.alloc(), grown, full, short, short);
+}
+
+#[test]
+fn reports_the_path_to_the_cheapest_of_the_goals(rt: HostRuntime) {
+    let full = "path 2 cost 12800\n0 0\n40 30\nnodes 4 placed 3 same 0 blocked 0\n\
+                node 0 at 0 0 parent 0 cost 0\nnode 1 at 0 50 parent 0 cost 12800\n\
+                node 2 at 40 79 parent 3 cost 25344\nnode 3 at 40 30 parent 0 cost 12800\n\
+                mark 0 worker 0 turn 0 nearest 0 placed class 1 first 0 12800\n\
+                mark 1 worker 0 turn 1 nearest 1 placed class 2 first 1 25449\n\
+                mark 2 worker 0 turn 2 nearest 1 placed class 2 first 1 24249\n";
+    let short = "path 2 cost 12800\n0 0\n40 30\nnodes 4 placed 3 same 0 blocked 0\n";
+    let brief = "path 2 cost 12800\nnodes 4 placed 3 same 0 blocked 0\n";
+    let goals = [goal_at(40, 79), goal_at(40, 30)];
+    let grown = unsettled_run(&rt, rt.alloc(), &goals);
+    assert_reports(&rt, rt.alloc(), grown, full, short, brief);
 }

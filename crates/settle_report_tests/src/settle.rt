@@ -54,7 +54,7 @@ fn assert_settled<R: Abort>(rt: &R, grown: Grown) {
 
 #[test]
 fn lowers_the_last_node_and_the_one_below_it(rt: HostRuntime) {
-    let mut grown = unsettled_run(&rt, rt.alloc(), GOAL);
+    let mut grown = unsettled_run(&rt, rt.alloc(), &[GOAL]);
     assert_kept(&rt, &grown, &UNSETTLED);
     settle_run(&rt, rt.alloc(), &mut grown);
     assert_settled(&rt, grown);
@@ -62,7 +62,7 @@ fn lowers_the_last_node_and_the_one_below_it(rt: HostRuntime) {
 
 #[test]
 fn changes_nothing_and_takes_no_memory_the_second_time(rt: HostRuntime) {
-    let mut grown = unsettled_run(&rt, rt.alloc(), GOAL);
+    let mut grown = unsettled_run(&rt, rt.alloc(), &[GOAL]);
     settle_run(&rt, rt.alloc(), &mut grown);
     settle_again(rt.alloc(), &mut grown);
     assert_settled(&rt, grown);
@@ -70,7 +70,7 @@ fn changes_nothing_and_takes_no_memory_the_second_time(rt: HostRuntime) {
 
 #[test]
 fn leaves_the_start_alone(rt: HostRuntime) {
-    let mut grown = start_alone(&rt, rt.alloc(), GOAL);
+    let mut grown = start_alone(&rt, rt.alloc(), &[GOAL]);
     settle_run(&rt, rt.alloc(), &mut grown);
     assert_kept(&rt, &grown, &[Some((0, 0)), None]);
     drop(grown);

@@ -7,7 +7,7 @@ ghost use Rattle.plan_model.specs.Spaces.Clearance.{ClearAt};
 ghost use Rattle.plan_model.specs.Runs.ClosedLaw.{IsClosed};
 ghost use Rattle.plan_model.specs.Spaces.ConfigurationSpace.{space_of};
 ghost use Rattle.plan_model.specs.Spaces.EmptyRooms.{empty_room};
-ghost use Rattle.plan_model.specs.Scenes.Limits.{is_goal, is_plan};
+ghost use Rattle.plan_model.specs.Scenes.Limits.{are_goals, is_plan};
 ghost use Rattle.plan_model.specs.Runs.Textbook.{placed_record, setup_of};
 ghost use Rattle.plan_model.specs.Trees.TreeStates.{IsSettled};
 ghost use Rattle.plan_model.specs.Vectors.Shapes.{at};
@@ -16,7 +16,8 @@ ghost use Rattle.step_core.specs.GrownRuns.{state_of_grown};
 ghost use Rattle.step_core.specs.PackedRuns.{state_of_lists};
 
 use plan_model::{
-    Goal, Knot, Knots, Memory, Outcome, Point, Record, Records, Sequence, SmallScene, Task,
+    Goal, Knot, Knots, Marks, Memory, Outcome, Point, Record, Records, Scene, Sequence, Task,
+    Vertex,
 };
 use settle_report::settle;
 use std::alloc::Global;
@@ -48,24 +49,49 @@ pub(crate) fn settle_again(alloc: Global, grown: &mut Grown)
     settle(alloc, grown).unwrap();
 }
 
-/// The task of these marks for a point body in an empty room, from (0, 0) by steps of 50; nothing is rewired.
-fn task_of<R: Abort>(rt: &R, alloc: Global, goal: Goal, marks: &[Point]) -> Task
-    requires goal { IsTrue (is_goal 1 goal) }
-    requires marks { IsTrue (is_plan 1 (Listed marks.now)) }
-    ensures setup { setup_of result.scene ≡ record { space = empty_room (at 100 100); start = at 0 0; step = 50; gamma = 0; goals = [] } }
-    ensures marks { result.marks ≡ marks.now }
-    ensures clear { ClearAt (space_of result.scene) result.scene.start }
+/// The scene of these marks for a point body in an empty room, from (0, 0) by steps of 50; nothing is rewired.
+fn scene_of(alloc: Global, goals: &[Goal], marks: &[Point]) -> Result<Scene, Memory>
+    requires goals { IsTrue (are_goals 2 goals.now) }
+    requires marks { IsTrue (is_plan 2 (Listed marks.now)) }
+    ensures setup { IfOk result (λ scene. setup_of scene ≡ record { space = empty_room (at 100 100); start = at 0 0; step = 50; gamma = 0; goals = [] }) }
+    ensures plan { IfOk result (λ scene. scene.plan ≡ Listed marks.now) }
 {
-    let small = SmallScene {
+    Ok(Scene {
+        version: 2,
         room: Point { x: 100, y: 100 },
+        body: Sequence::from_vec(vec![in alloc; Vertex { x: 0, y: 0 }]?),
+        obstacles: Sequence::from_vec(Vec::new(alloc)),
+        clearance: 0,
         start: Point { x: 0, y: 0 },
-        goal,
+        goals: Sequence::from_vec(Vec::from_slice(alloc, goals)?),
         step: 50,
         gamma: 0,
         seed: 0,
         strips: 3,
-    };
-    sure(rt, small.task(alloc, marks))
+        informed: false,
+        plan: Marks::Listed(Sequence::from_vec(Vec::from_slice(alloc, marks)?)),
+    })
+}
+
+/// Its task, to reach one of these goals.
+fn task_of<R: Abort>(rt: &R, alloc: Global, goals: &[Goal], marks: &[Point]) -> Task
+    requires goals { IsTrue (are_goals 2 goals.now) }
+    requires marks { IsTrue (is_plan 2 (Listed marks.now)) }
+    ensures setup { setup_of result.scene ≡ record { space = empty_room (at 100 100); start = at 0 0; step = 50; gamma = 0; goals = [] } }
+    ensures marks { result.marks ≡ marks.now }
+    ensures clear { ClearAt (space_of result.scene) result.scene.start }
+{
+    Task {
+        scene: sure(rt, scene_of(alloc, goals, marks)),
+        marks: Sequence::from_vec(sure(rt, listed(alloc, marks))),
+    }
+}
+
+/// A list of these marks.
+fn listed(alloc: Global, marks: &[Point]) -> Result<Vec<Point>, Memory>
+    ensures { IfOk result (λ list. list.items ≡ marks.now) }
+{
+    Ok(Vec::from_slice(alloc, marks)?)
 }
 
 /// A list of these nodes.
@@ -158,22 +184,22 @@ fn unsettled_records() -> [Record; 3]
 ///
 /// Node 3 is kept at 12,900, but the start is 12,800 from it. It is 12,544 from node 2, which is kept at no more than through it,
 /// 25,444. So node 3 alone is not tight, the last one, and node 2 costs less too once that is settled.
-pub(crate) fn unsettled_run<R: Abort>(rt: &R, alloc: Global, goal: Goal) -> Grown
-    requires { IsTrue (is_goal 1 goal) }
+pub(crate) fn unsettled_run<R: Abort>(rt: &R, alloc: Global, goals: &[Goal]) -> Grown
+    requires { IsTrue (are_goals 2 goals.now) }
 {
     let marks = [
         Point { x: 0, y: 50 },
         Point { x: 40, y: 79 },
         Point { x: 40, y: 30 },
     ];
-    let task = task_of(rt, alloc, goal, &marks);
+    let task = task_of(rt, alloc, goals, &marks);
     packed(rt, alloc, task, &unsettled_knots(), &unsettled_records())
 }
 
 /// A run of one mark in the same room that has handled none.
-pub(crate) fn start_alone<R: Abort>(rt: &R, alloc: Global, goal: Goal) -> Grown
-    requires { IsTrue (is_goal 1 goal) }
+pub(crate) fn start_alone<R: Abort>(rt: &R, alloc: Global, goals: &[Goal]) -> Grown
+    requires { IsTrue (are_goals 2 goals.now) }
 {
-    let task = task_of(rt, alloc, goal, &[Point { x: 0, y: 50 }]);
+    let task = task_of(rt, alloc, goals, &[Point { x: 0, y: 50 }]);
     sure(rt, Grown::new(alloc, task))
 }
