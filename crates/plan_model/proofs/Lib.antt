@@ -15,6 +15,8 @@ pub mod ThreeMarks
 pub mod RewiredRun
 pub mod RunLaws
 pub mod SceneBounds
+pub mod ConvertedRuns
+pub mod WiderRanges
 pub mod MarkBounds
 pub mod FreePoints
 pub mod GammaZero

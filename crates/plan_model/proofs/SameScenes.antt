@@ -1,4 +1,5 @@
--- A text spells one scene at most: its fields are those of the lines, and each fact about them has one proof at most.
+-- Scenes with the same version and the same fields are the same, as each fact about them has one proof at most. So a text spells one scene at
+-- most, and a scene is converted to one.
 use Rattle.std.proofs.Common.{◌≡◌, Bool, ℕ, List, Option, Some, ◌≤◌, IsTrue, sym, ◌∙◌}
 use Rattle.std.proofs.Props.{props}
 use mathlib.Core.HLevel.{is_prop→PathP}
@@ -6,6 +7,7 @@ use Rattle.plan_model.specs.declared.geometry.Point.{Point}
 use Rattle.plan_model.specs.declared.scenes.Scene.{Scene}
 use Rattle.plan_model.specs.Scenes.Limits.{IsBetween, are_goals, are_obstacles, is_body, is_plan, may_be_informed, most_clearance, most_side, most_step}
 use Rattle.plan_model.specs.declared.limits.TheConstants.{LEAST_SIDE, LEAST_STEP, MOST_GAMMA, MOST_SEED, MOST_STRIPS}
+use Rattle.plan_model.specs.Scenes.ConvertedScenes.{IsConverted}
 use Rattle.plan_model.specs.Texts.LineChecks.{Format, Given}
 use Rattle.plan_model.specs.Texts.SceneGrammar.{HasFields, Spells}
 
@@ -15,27 +17,41 @@ IsBetween-prop low high p = hlevel props
 le-prop : (m n : ℕ) → IsProp (m ≤ n)
 le-prop m n = hlevel props
 
-same_version : (read : Option ℕ) (m n : ℕ) → read ≡ Some m → read ≡ Some n → m ≡ n
-same_version read m n e f = cc
-
 test-prop : (b : Bool) → IsProp (IsTrue b)
 test-prop b = hlevel props
 
-pub same_fields : (read : Option ℕ) (given : Given) (one other : Scene) → HasFields read given one → HasFields read given other → one ≡ other
-same_fields read given one other a b =
-    let version : one.version ≡ other.version = same_version read one.version other.version a.version b.version in
-    let room : one.room ≡ other.room = a.room ∙ sym b.room in
-    let body : one.body ≡ other.body = a.body ∙ sym b.body in
-    let obstacles : one.obstacles ≡ other.obstacles = a.obstacles ∙ sym b.obstacles in
-    let clearance : one.clearance ≡ other.clearance = a.clearance ∙ sym b.clearance in
-    let start : one.start ≡ other.start = a.start ∙ sym b.start in
-    let goals : one.goals ≡ other.goals = a.goals ∙ sym b.goals in
-    let step : one.step ≡ other.step = a.step ∙ sym b.step in
-    let gamma : one.gamma ≡ other.gamma = a.gamma ∙ sym b.gamma in
-    let seed : one.seed ≡ other.seed = a.seed ∙ sym b.seed in
-    let strips : one.strips ≡ other.strips = a.strips ∙ sym b.strips in
-    let informed : one.informed ≡ other.informed = a.informed ∙ sym b.informed in
-    let plan : one.plan ≡ other.plan = a.plan ∙ sym b.plan in
+-- two scenes have the same version and the same fields
+pub record HaveSameParts (one other : Scene) : Type 0 where
+  pub version : one.version ≡ other.version
+  pub room : one.room ≡ other.room
+  pub body : one.body ≡ other.body
+  pub obstacles : one.obstacles ≡ other.obstacles
+  pub clearance : one.clearance ≡ other.clearance
+  pub start : one.start ≡ other.start
+  pub goals : one.goals ≡ other.goals
+  pub step : one.step ≡ other.step
+  pub gamma : one.gamma ≡ other.gamma
+  pub seed : one.seed ≡ other.seed
+  pub strips : one.strips ≡ other.strips
+  pub informed : one.informed ≡ other.informed
+  pub plan : one.plan ≡ other.plan
+
+-- so they are the same scene
+pub same_parts : (one other : Scene) → HaveSameParts one other → one ≡ other
+same_parts one other h =
+    let version = h.version in
+    let room = h.room in
+    let body = h.body in
+    let obstacles = h.obstacles in
+    let clearance = h.clearance in
+    let start = h.start in
+    let goals = h.goals in
+    let step = h.step in
+    let gamma = h.gamma in
+    let seed = h.seed in
+    let strips = h.strips in
+    let informed = h.informed in
+    let plan = h.plan in
     λ i. record {
       version = version i;
       room = room i;
@@ -75,5 +91,64 @@ same_fields read given one other a b =
           other.plan_within i;
     }
 
+-- ---- the scene of a text
+
+same_version : (read : Option ℕ) (m n : ℕ) → read ≡ Some m → read ≡ Some n → m ≡ n
+same_version read m n e f = cc
+
+same_fields : (read : Option ℕ) (given : Given) (one other : Scene) → HasFields read given one → HasFields read given other → one ≡ other
+same_fields read given one other a b = same_parts one other (record {
+  version = same_version read one.version other.version a.version b.version;
+  room = a.room ∙ sym b.room;
+  body = a.body ∙ sym b.body;
+  obstacles = a.obstacles ∙ sym b.obstacles;
+  clearance = a.clearance ∙ sym b.clearance;
+  start = a.start ∙ sym b.start;
+  goals = a.goals ∙ sym b.goals;
+  step = a.step ∙ sym b.step;
+  gamma = a.gamma ∙ sym b.gamma;
+  seed = a.seed ∙ sym b.seed;
+  strips = a.strips ∙ sym b.strips;
+  informed = a.informed ∙ sym b.informed;
+  plan = a.plan ∙ sym b.plan;
+})
+
 pub Spells-one_scene : (format : Format) (text : List ℕ) (one other : Scene) → Spells format text one → Spells format text other → one ≡ other
 Spells-one_scene format text one other a b = same_fields _ _ one other a.fields b.fields
+
+-- ---- a scene that is converted to version 2
+
+pub IsConverted-alone : (scene one other : Scene) → IsConverted scene one → IsConverted scene other → one ≡ other
+IsConverted-alone scene one other a b = same_parts one other (record {
+  version = a.version ∙ sym b.version;
+  room = a.room ∙ sym b.room;
+  body = a.body ∙ sym b.body;
+  obstacles = a.obstacles ∙ sym b.obstacles;
+  clearance = a.clearance ∙ sym b.clearance;
+  start = a.start ∙ sym b.start;
+  goals = a.goals ∙ sym b.goals;
+  step = a.step ∙ sym b.step;
+  gamma = a.gamma ∙ sym b.gamma;
+  seed = a.seed ∙ sym b.seed;
+  strips = a.strips ∙ sym b.strips;
+  informed = a.informed ∙ sym b.informed;
+  plan = a.plan ∙ sym b.plan;
+})
+
+-- a scene of version 2 is converted to itself
+pub IsConverted-itself : (scene converted : Scene) → scene.version ≡ 2 → IsConverted scene converted → converted ≡ scene
+IsConverted-itself scene converted second h = same_parts converted scene (record {
+  version = h.version ∙ sym second;
+  room = h.room;
+  body = h.body;
+  obstacles = h.obstacles;
+  clearance = h.clearance;
+  start = h.start;
+  goals = h.goals;
+  step = h.step;
+  gamma = h.gamma;
+  seed = h.seed;
+  strips = h.strips;
+  informed = h.informed;
+  plan = h.plan;
+})

@@ -91,7 +91,7 @@ clearance-first scene is =
 
 -- ---- obstacles
 
--- a corner between two numbers is between wider ones
+-- corners between two numbers are between wider ones
 widened_corner : (low high least most : ℤ) (v : Vertex) → least ≤ℤ low → high ≤ℤ most → is_corner_between low high v ≡ true
     → is_corner_between least most v ≡ true
 widened_corner low high least most v f g h =
@@ -108,7 +108,7 @@ widened_corner low high least most v f g h =
     let d : int_le v.y most ≡ true = sym (omega (arith, ints)) in
     and_from _ _ a (and_from _ _ b (and_from _ _ c d))
 
-widened : (low high least most : ℤ) (corners : List Vertex) → least ≤ℤ low → high ≤ℤ most → list_all (is_corner_between low high) corners ≡ true
+pub widened : (low high least most : ℤ) (corners : List Vertex) → least ≤ℤ low → high ≤ℤ most → list_all (is_corner_between low high) corners ≡ true
     → list_all (is_corner_between least most) corners ≡ true
 widened low high least most [] f g h = refl
 widened low high least most (v ∷ corners) f g h =

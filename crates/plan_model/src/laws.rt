@@ -2,6 +2,7 @@
 
 mod clearance;
 mod closed_runs;
+mod converted_scenes;
 mod costs;
 mod marks;
 mod paths;

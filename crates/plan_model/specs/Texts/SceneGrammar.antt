@@ -111,9 +111,9 @@ abbrev pub is_supported : Key → Bool
 is_supported keys.Informed = false
 is_supported key = true
 
--- what the reader reads: version 1 alone, with the keys that are supported
+-- what the reader reads: both versions, with the keys that are supported
 abbrev pub supported : Format
-supported = record { reads = λ version. version == 1; built = is_supported }
+supported = record { reads = λ version. true; built = is_supported }
 
 -- the grammar of both versions, with every key
 abbrev pub whole_format : Format

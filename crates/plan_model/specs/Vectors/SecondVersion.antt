@@ -3,30 +3,29 @@ use Rattle.std.specs.Prelude.{◌≡◌, true, false, List, ℕ, [], ◌∷◌, 
 use Rattle.std.specs.List.{concat}
 use Rattle.plan_model.specs.declared.scenes.Scene.{Scene}
 use Rattle.plan_model.specs.declared.text_terms.Kind.TheVariants as kinds
-use Rattle.plan_model.specs.Texts.LineChecks.{Format}
-use Rattle.plan_model.specs.Texts.SceneGrammar.{is_supported, supported, whole_format, Refused, Spells}
+use Rattle.plan_model.specs.Texts.SceneGrammar.{supported, whole_format, Refused, Spells}
 use Rattle.plan_model.specs.Texts.CanonicalText.{canonical_text}
 use Rattle.plan_model.specs.Vectors.Shapes.{at}
 
--- both versions, with the keys that are supported
-abbrev pub both_versions : Format
-both_versions = record { reads = λ version. true; built = is_supported }
-
--- so many lines of a goal after the version
-abbrev pub text_of_goals : ℕ → List ℕ
-text_of_goals n = codes "prrt 2\n" ++ concat (replicate n (codes "goal 1 1 2 2\n"))
+-- so many lines of a goal after the version, and then these bytes
+abbrev pub goals_and : ℕ → List ℕ → List ℕ
+goals_and n bytes = codes "prrt 2\n" ++ (concat (replicate n (codes "goal 1 1 2 2\n")) ++ bytes)
 
 pub record SecondVersionVectors : Type 0 where
-  pub not_read : Refused supported (codes "prrt 2\nroom 9 9\n") 1 kinds.Version
-  pub no_version : Refused both_versions (codes "prrt 3\n") 1 kinds.Version
-  pub version_in_digits : Refused both_versions (codes "prrt 02\n") 1 kinds.Version
-  pub clearance_of_first : Refused both_versions (codes "prrt 1\nclearance 1\n") 2 kinds.Key
+  pub no_version : Refused supported (codes "prrt 3\n") 1 kinds.Version
+  pub version_in_digits : Refused supported (codes "prrt 02\n") 1 kinds.Version
+  pub clearance_of_first : Refused supported (codes "prrt 1\nclearance 1\n") 2 kinds.Key
   pub informed_of_first : Refused whole_format (codes "prrt 1\ninformed 1\n") 2 kinds.Key
-  pub not_supported : Refused both_versions (codes "prrt 2\ninformed 1\n") 2 kinds.Unbuilt
-  pub clearance_twice : Refused both_versions (codes "prrt 2\nclearance 1\nclearance 1\n") 3 kinds.Repeat
-  pub second_goal_of_first : Refused both_versions (codes "prrt 1\ngoal 1 1 2 2\ngoal 1 1 2 2\n") 3 kinds.Repeat
-  pub too_many_goals : Refused both_versions (text_of_goals 17) 18 kinds.Many
-  pub goal_missing : Refused both_versions (codes "prrt 2\nroom 9 9\nstart 0 0\nstep 4\n") 5 kinds.Missing
+  pub not_supported : Refused supported (codes "prrt 2\ninformed x y\n") 2 kinds.Unbuilt
+  pub clearance_twice : Refused supported (codes "prrt 2\nclearance 1\nclearance x y\n") 3 kinds.Repeat
+  pub second_goal_of_first : Refused supported (codes "prrt 1\ngoal 1 1 2 2\ngoal 1 1 2 2\n") 3 kinds.Repeat
+  pub second_goal_before_words : Refused supported (codes "prrt 1\nroom 9 9\ngoal 1 1 2 2\ngoal x\n") 4 kinds.Repeat
+  pub too_many_goals : Refused supported (goals_and 16 (codes "goal 1 1 2 2\n")) 18 kinds.Many
+  pub words_before_many : Refused supported (goals_and 16 (codes "goal 1 1 2\n")) 18 kinds.Words
+  pub many_before_number : Refused supported (goals_and 16 (codes "goal a b c d\n")) 18 kinds.Many
+  pub many_before_range : Refused supported (goals_and 16 (codes "goal 2 2 1 1\n")) 18 kinds.Many
+  pub clearance_too_great : Refused supported (codes "prrt 2\nclearance 4097\n") 2 kinds.Range
+  pub goal_missing : Refused supported (codes "prrt 2\nroom 9 9\nstart 0 0\nstep 4\n") 5 kinds.Missing
 
 abbrev pub small_text : List ℕ
 small_text =
@@ -35,7 +34,7 @@ small_text =
 -- a text of version 2 with what each scene needs, and no more
 pub record SecondVersionSpelling : Type 0 where
   pub scene : Scene
-  pub spelled : Spells both_versions small_text scene
+  pub spelled : Spells supported small_text scene
   pub version : scene.version ≡ 2
   pub goals : scene.goals ≡ record { low = at 1 1; high = at 2 2 } ∷ []
   pub clearance : scene.clearance ≡ 0

@@ -14,7 +14,7 @@ without_keys = record { reads = λ version. version == 1; built = λ key. false 
 
 pub record RefusalVectors : Type 0 where
   pub empty_text : Refused supported [] 1 kinds.Version
-  pub other_version : Refused supported (codes "# a scene\n\nprrt 2\n") 3 kinds.Version
+  pub other_version : Refused supported (codes "# a scene\n\nprrt 3\n") 3 kinds.Version
   pub not_a_key : Refused supported (codes "prrt 1\nroom 10 10\nstar\n") 3 kinds.Key
   pub not_supported : Refused without_keys (codes "prrt 1\nroom 10 10\n") 2 kinds.Unbuilt
   pub repeated : Refused supported (codes "prrt 1\nroom 10 10\nstep 4\nstep 4\n") 4 kinds.Repeat

@@ -11,7 +11,7 @@ pub returns : goal.returns
 unfolding are_sound
 returns c = record {
   empty_text = (0, refl, (λ i h. absurd (omega arith)), inr (refl, refl));
-  other_version = refused_at_line supported (codes "# a scene\n\nprrt 2\n") 2 kinds.Version refl (omega arith) refl;
+  other_version = refused_at_line supported (codes "# a scene\n\nprrt 3\n") 2 kinds.Version refl (omega arith) refl;
   not_a_key = refused_at_line supported (codes "prrt 1\nroom 10 10\nstar\n") 2 kinds.Key refl (omega arith) refl;
   not_supported = refused_at_line without_keys (codes "prrt 1\nroom 10 10\n") 1 kinds.Unbuilt refl (omega arith) refl;
   repeated = refused_at_line supported (codes "prrt 1\nroom 10 10\nstep 4\nstep 4\n") 3 kinds.Repeat refl (omega arith) refl;

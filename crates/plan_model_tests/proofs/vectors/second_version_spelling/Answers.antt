@@ -2,9 +2,10 @@ use Rattle.std.proofs.Common.{false, [], ◌∷◌, arith, refl}
 use Rattle.std.specs.Fmt.{digits}
 use Rattle.plan_model.specs.declared.scenes.Scene.{Scene}
 use Rattle.plan_model.specs.declared.scenes.Marks.TheVariants.{Listed}
+use Rattle.plan_model.specs.Texts.SceneGrammar.{supported}
 use Rattle.plan_model.specs.Texts.TextLines.{lines_of}
 use Rattle.plan_model.specs.Vectors.Shapes.{at, corner}
-use Rattle.plan_model.specs.Vectors.SecondVersion.{both_versions, small_text}
+use Rattle.plan_model.specs.Vectors.SecondVersion.{small_text}
 use Rattle.plan_model.proofs.Soundness.{are_sound, IsSoundBelow-from_test}
 use Rattle.plan_model_tests.proofs.vectors.second_version_spelling.Goals as goal
 
@@ -46,7 +47,7 @@ unfolding the_scene are_sound digits
 returns c = record {
   scene = the_scene;
   spelled = record {
-    sound = IsSoundBelow-from_test both_versions (lines_of small_text) 5 refl;
+    sound = IsSoundBelow-from_test supported (lines_of small_text) 5 refl;
     complete = refl;
     fields = record {
       version = refl;
