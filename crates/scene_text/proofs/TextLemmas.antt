@@ -24,8 +24,9 @@ line-pushed before named spaced after word zs e f g =
     rw (line-spaced word zs, g, f, e, append_assoc, append_assoc) refl
 
 -- the lines of statements, written one part after another
-pub lines-written : (whole fourth third second first : List ℕ) (version room body : List (List ℕ)) (obstacles task plan : List (List (List ℕ)))
-    → whole ≡ fourth ++ flat_map line plan → fourth ≡ third ++ flat_map line task → third ≡ second ++ flat_map line obstacles
-    → second ≡ first ++ line body → first ≡ flat_map line (version ∷ room ∷ [])
-    → whole ≡ flat_map line (version ∷ room ∷ body ∷ (obstacles ++ (task ++ plan)))
-lines-written whole fourth third second first version room body obstacles task plan e f g h k = grind (arith, common_steps)
+pub lines-written : (whole fifth fourth third second first : List ℕ) (version room body : List (List ℕ))
+    (obstacles clearance task plan : List (List (List ℕ)))
+    → whole ≡ fifth ++ flat_map line plan → fifth ≡ fourth ++ flat_map line task → fourth ≡ third ++ flat_map line clearance
+    → third ≡ second ++ flat_map line obstacles → second ≡ first ++ line body → first ≡ flat_map line (version ∷ room ∷ [])
+    → whole ≡ flat_map line (version ∷ room ∷ body ∷ (obstacles ++ (clearance ++ (task ++ plan))))
+lines-written whole fifth fourth third second first version room body obstacles clearance task plan e f g h k l = grind (arith, common_steps)

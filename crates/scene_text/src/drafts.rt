@@ -56,14 +56,7 @@ fn numbered_version(word: &[u8]) -> Option<u8>
     }
 }
 
-/// Whether the version is read: version 1 alone.
-fn is_read(version: u8) -> bool
-    ensures { result ≡ supported.reads version }
-{
-    version == 1
-}
-
-/// The version that the first statement gives, by its first word and the words after it, if it is one that is read.
+/// The version that the first statement gives, by its first word and the words after it.
 fn version_of(word: &[u8], words: &[u8]) -> Option<u8>
     ensures { result ≡ version_of supported.reads (word.now ∷ words_of words.now) }
 {
@@ -71,12 +64,7 @@ fn version_of(word: &[u8], words: &[u8]) -> Option<u8>
     if word != FORMAT_NAME.as_bytes() || next_word(rest).is_some() {
         return None;
     }
-    let version = numbered_version(second)?;
-    if is_read(version) {
-        Some(version)
-    } else {
-        None
-    }
+    numbered_version(second)
 }
 
 /// The body, or without a line for it the point at the origin.

@@ -3,10 +3,11 @@
 //! A text is read line by line: each line is cut into words, and its checks are made over what the lines before it give.
 //! The grammar is a relation over the list of lines, in `plan_model`. `read_scene` returns the one scene that the text
 //! spells by the grammar, or the first line that fails a check, with the first check that it fails. `write_scene` returns
-//! the canonical text of a scene, and that text spells the scene, so that it is read again as the same one (`laws`).
-//! `fetch` reads a whole text from a source.
+//! the canonical text of a scene, and that text spells the scene, so that it is read again as the same one (`text_laws`).
+//! `as_version_2` gives a scene of version 1 the version 2. `fetch` reads a whole text from a source.
 #![tactic(auto)]
 
+mod converted_scenes;
 mod drafts;
 mod fetching;
 mod field_words;
@@ -17,6 +18,7 @@ mod scene_reader;
 mod scene_writer;
 pub mod text_laws;
 
+pub use converted_scenes::as_version_2;
 pub use fetching::{FetchFault, fetch};
 pub use refusals::{SceneFault, SceneRefusal};
 pub use scene_reader::read_scene;

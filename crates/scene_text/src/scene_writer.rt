@@ -1,47 +1,63 @@
 //! The writer of a scene's canonical text.
 
-ghost use Rattle.std.specs.Prelude.{◌≡◌, ◌≤◌, [], ◌∷◌, ◌++◌, length, map, flat_map, string_bytes, IfOk, OnOk};
+ghost use Rattle.std.specs.Prelude.{◌≡◌, ◌≤◌, [], ◌∷◌, ◌++◌, false, length, map, flat_map, string_bytes, IfOk, OnOk};
 ghost use Rattle.std.specs.Fmt.{signed_decimal};
-ghost use Rattle.plan_model.specs.Texts.CanonicalText.{canonical_text, corner_numbers, goal_statement, mark_statement, obstacle_statement};
+ghost use Rattle.plan_model.specs.Texts.CanonicalText.{canonical_text, clearance_statements, corner_numbers, goal_statement, mark_statement, obstacle_statement};
 ghost use Rattle.plan_model.specs.Texts.CanonicalText.{informed_statements, plan_statements, point_numbers, search_statements, statement, task_statements};
 ghost use Rattle.plan_model.specs.Texts.CanonicalText.{version_statement};
 ghost use Rattle.plan_model.specs.declared.text_terms.Key.TheVariants as keys;
 ghost use Rattle.plan_model.specs.Reports.ReportText.{line};
-ghost use Rattle.plan_model.specs.Texts.SceneGrammar.{Spells, supported};
+ghost use Rattle.plan_model.specs.Texts.SceneGrammar.{Spells, supported, whole_format};
 ghost use Rattle.plan_model.specs.declared.limits.TheConstants.{MOST_TEXT_BYTES};
 
 use plan_model::{Goal, Marks, Memory, Point, Poly, Scene, Vertex};
 use std::alloc::{AllocError, Global};
 
-/// The canonical text of a scene of version 1: one text for each scene, with a line for each field, one space between words
-/// and a line feed at the end of each line. It is never too long to be read. O(n) for n bytes of it.
+/// The canonical text of a scene, in its version: one text for each scene, with a line for each field, one space between words and a line
+/// feed at the end of each line. It is never too long to be read. O(n) for n bytes of it.
+///
+/// That of an informed scene has a line with `informed`, a key of the grammar that the reader does not support.
 ///
 /// # Errors
 ///
 /// `Memory` if out of memory for the text.
 pub fn write_scene(alloc: Global, scene: &Scene) -> Result<Vec<u8>, Memory>
-    requires first { scene.now.version ≡ 1 }
     ensures text { IfOk result (λ text. text.items ≡ canonical_text scene.now) }
-    // read again, it gives this scene
-    ensures spells { IfOk result (λ text. Spells supported text.items scene.now) }
+    // by the whole grammar it gives this scene
+    ensures whole { IfOk result (λ text. Spells whole_format text.items scene.now) }
+    // and read again, unless it has the key that is not supported
+    ensures spells { scene.now.informed ≡ false → IfOk result (λ text. Spells supported text.items scene.now) }
     ensures fits { IfOk result (λ text. length text.items ≤ MOST_TEXT_BYTES) }
 {
     let mut text = String::new(alloc);
-    push_head(&mut text, scene.room)?;
+    push_head(&mut text, scene)?;
     push_polygon(&mut text, "body", scene.body.as_slice())?;
     push_obstacles(&mut text, scene.obstacles.as_slice())?;
+    push_clearance(&mut text, scene)?;
     push_task(&mut text, scene)?;
     push_plan(&mut text, &scene.plan)?;
     Ok(text.into_bytes())
 }
 
-/// The lines of version 1 and of the room.
-fn push_head(text: &mut String, room: Point) -> Result<(), AllocError>
+/// The lines of the version and of the room.
+fn push_head(text: &mut String, scene: &Scene) -> Result<(), AllocError>
     ensures { OnOk result (string_bytes text.new ≡ string_bytes text.old
-        ++ flat_map line (version_statement 1 ∷ statement keys.Room (point_numbers room) ∷ [])) }
+        ++ flat_map line (version_statement scene.now.version ∷ statement keys.Room (point_numbers scene.now.room) ∷ [])) }
 {
-    text.push_str("prrt 1\n")?;
-    push_room(text, room)
+    push_version(text, scene.version)?;
+    push_room(text, scene.room)
+}
+
+/// The line of the version.
+fn push_version(text: &mut String, version: u8) -> Result<(), AllocError>
+    ensures { OnOk result (string_bytes text.new ≡ string_bytes text.old ++ line (version_statement version)) }
+{
+    if version == 1 {
+        text.push_str("prrt 1\n")?;
+    } else {
+        text.push_str("prrt 2\n")?;
+    }
+    Ok(())
 }
 
 /// The line of the room.
@@ -80,6 +96,16 @@ fn push_obstacles(text: &mut String, obstacles: &[Poly]) -> Result<(), AllocErro
 {
     for obstacle in obstacles {
         push_polygon(text, "obstacle", obstacle.as_slice())?;
+    }
+    Ok(())
+}
+
+/// The line of the clearance, which a scene of version 1 does not have.
+fn push_clearance(text: &mut String, scene: &Scene) -> Result<(), AllocError>
+    ensures { OnOk result (string_bytes text.new ≡ string_bytes text.old ++ flat_map line (clearance_statements scene.now)) }
+{
+    if scene.version != 1 {
+        write!(text, "clearance {}\n", scene.clearance)?;
     }
     Ok(())
 }
