@@ -8,6 +8,8 @@ mod read_scene;
 #[cfg(test)]
 mod refusals;
 #[cfg(test)]
+mod second_version;
+#[cfg(test)]
 mod support;
 #[cfg(test)]
 mod write_scene;

@@ -1,8 +1,7 @@
 //! Scenes that are read, and texts that are refused.
 
-use crate::support::{POLYGONS, read, scene_of, sure};
+use crate::support::{POLYGONS, assert_each_refused, assert_refused, repeated, scene_of, sure};
 use plan_model::{Goal, Kind, Marks, Point, Scene, Vertex};
-use scene_text::{SceneFault, SceneRefusal};
 use std::alloc::Global;
 use std::process::Abort;
 
@@ -92,32 +91,10 @@ fn reads_drawn_marks(rt: HostRuntime) {
     assert_drawn(&rt, rt.alloc(), MOST_DRAWN_MARKS, 262_143);
 }
 
-// Asserts that a text is refused at this line, for a fault of this kind.
-fn assert_refused<R: Abort>(rt: &R, alloc: Global, text: &str, line: u32, kind: Kind) {
-    let fault = SceneFault { line, kind };
-    match read(rt, alloc, text) {
-        Err(refusal) => assert!(rt; refusal == SceneRefusal::Fault(fault)),
-        Ok(_) => panic!(rt; "read"),
-    }
-}
-
-// Asserts that each text is refused at its line, for a fault of its kind.
-fn assert_each_refused<R: Abort>(rt: &R, alloc: Global, cases: &[(&str, u32, Kind)]) {
-    for case in cases {
-        assert_refused(rt, alloc, case.0, case.1, case.2);
-    }
-}
-
-static FIRST_FAULTS: [(&str, u32, Kind); 26] = [
+static FIRST_FAULTS: [(&str, u32, Kind); 21] = [
     ("prrt 1\nroom 10 10\nstart 5 5\nstep 4\n", 5, Kind::Missing),
     ("prrt 1\nroom 10 10\nstep 4\nstep 4\n", 4, Kind::Repeat),
     ("", 1, Kind::Version),
-    // what version 2 has is refused in version 1, and so is version 2
-    ("prrt 2\nroom 9 9\n", 1, Kind::Version),
-    ("prrt 3\n", 1, Kind::Version),
-    ("prrt 1\nclearance 1\n", 2, Kind::Key),
-    ("prrt 1\ninformed 1\n", 2, Kind::Key),
-    ("prrt 1\ngoal 1 1 2 2\ngoal 1 1 2 2\n", 3, Kind::Repeat),
     ("prrt 1\nroom 10 10\nstar\n", 3, Kind::Key),
     ("prrt 1\nstep 04\n", 2, Kind::Number),
     ("prrt 1\nstep 99999999999999999999999\n", 2, Kind::Range),
@@ -181,14 +158,6 @@ static POLYGONS_REFUSED: [(&str, u32, Kind); 17] = [
 #[test]
 fn refuses_polygons(rt: HostRuntime) {
     assert_each_refused(&rt, rt.alloc(), &POLYGONS_REFUSED);
-}
-
-// A text, and then a piece of text so many times.
-fn repeated<R: Abort>(rt: &R, alloc: Global, before: &str, piece: &str, count: usize) -> String {
-    let pieces = sure(rt, piece.repeat(alloc, count));
-    let text = sure(rt, [before, pieces.as_str()].concat(alloc));
-    drop(pieces);
-    text
 }
 
 const TRIANGLE: &str = "obstacle 0 0 9 0 0 9\n";

@@ -1,10 +1,10 @@
-//! What the tests of the reader and the writer share: values that memory lasts for, texts with their scenes, and how a refusal is
-//! shown.
+//! What the tests of the reader and the writer share: values that memory lasts for, texts with their scenes, texts that are refused, scenes
+//! that are written, and how a refusal is shown.
 
-ghost use Rattle.std.specs.Prelude.{◌≡◌, IfOk, Ok};
+ghost use Rattle.std.specs.Prelude.{◌≡◌, false, IfOk, Ok};
 
-use plan_model::{MOST_TEXT_BYTES, Scene};
-use scene_text::{SceneRefusal, read_scene};
+use plan_model::{Kind, MOST_TEXT_BYTES, Scene};
+use scene_text::{SceneFault, SceneRefusal, read_scene, write_scene};
 use std::alloc::Global;
 use std::fmt;
 use std::process::Abort;
@@ -25,7 +25,7 @@ pub(crate) const POLYGONS: &str =
 
 /// The scene of a text, or why it is refused.
 pub(crate) fn read(rt: &impl Abort, alloc: Global, text: &str) -> Result<Scene, SceneRefusal>
-    ensures { IfOk result (λ scene. scene.version ≡ 1) }
+    ensures { IfOk result (λ scene. scene.informed ≡ false) }
 {
     assert!(rt; text.len() <= MOST_TEXT_BYTES);
     read_scene(alloc, text.as_bytes())
@@ -33,9 +33,46 @@ pub(crate) fn read(rt: &impl Abort, alloc: Global, text: &str) -> Result<Scene, 
 
 /// The scene of a text that is not refused.
 pub(crate) fn scene_of(rt: &impl Abort, alloc: Global, text: &str) -> Scene
-    ensures { result.version ≡ 1 }
+    ensures { result.informed ≡ false }
 {
     sure(rt, read(rt, alloc, text))
+}
+
+/// Asserts that a text is refused at this line, for a fault of this kind.
+pub(crate) fn assert_refused<R: Abort>(rt: &R, alloc: Global, text: &str, line: u32, kind: Kind) {
+    let fault = SceneFault { line, kind };
+    match read(rt, alloc, text) {
+        Err(refusal) => assert!(rt; refusal == SceneRefusal::Fault(fault)),
+        Ok(_) => panic!(rt; "read"),
+    }
+}
+
+/// Asserts that each text is refused at its line, for a fault of its kind.
+pub(crate) fn assert_each_refused<R: Abort>(rt: &R, alloc: Global, cases: &[(&str, u32, Kind)]) {
+    for case in cases {
+        assert_refused(rt, alloc, case.0, case.1, case.2);
+    }
+}
+
+/// A text, and then a piece of text so many times.
+pub(crate) fn repeated<R: Abort>(
+    rt: &R,
+    alloc: Global,
+    before: &str,
+    piece: &str,
+    count: usize,
+) -> String {
+    let pieces = sure(rt, piece.repeat(alloc, count));
+    let text = sure(rt, [before, pieces.as_str()].concat(alloc));
+    drop(pieces);
+    text
+}
+
+/// Asserts the canonical text of a scene.
+pub(crate) fn assert_written<R: Abort>(rt: &R, alloc: Global, scene: &Scene, want: &str) {
+    let text = sure(rt, write_scene(alloc, scene));
+    assert!(rt; text.as_slice() == want.as_bytes());
+    drop(text);
 }
 
 /// Asserts how a fault or a refusal is shown.
