@@ -1,10 +1,11 @@
 #!/usr/bin/env python3
 """Runs a built program against the programs of this folder on random scenes, and prints counts.
 
-Usage: compare.py PROGRAM [FIRST [COUNT]]. For each number from FIRST on (0 and 200 if left out):
+Usage: compare.py PROGRAM [FIRST [COUNT]]. For each number from FIRST on (0 and 200 if left out), of each version:
 - `plain`, `plan 1`, `plain full` and `plan 1 full` write what textbook.py writes, and end with its status;
 - `plan W full`, for W of WORKERS, writes a report that judge.py finds lawful;
-- `show` writes the canonical text, and for a text with faults the line and the kind of the first;
+- `show` writes the canonical text, `convert` that of the scene in version 2, and both for a text with faults the line and the kind of
+  the first;
 - the judge refuses a report in which one number is changed, or the change is counted as one that is lawful too.
 
 It ends with 1 if there was any difference, and names the numbers.
@@ -44,9 +45,9 @@ class Comparison:
         if not same:
             self.differences.append((number, what))
 
-    def compare_plans(self, number):
+    def compare_plans(self, number, version):
         """Compares the planners on the scene of a number."""
-        scene = scene_of(number)
+        scene = scene_of(number, version)
         text = scene.text().encode()
         for full in (False, True):
             wanted = answer(text, full)
@@ -70,22 +71,25 @@ class Comparison:
         changed = report[: place.start()] + str(int(place[0]) + rng.choice([1, 1, 2, 64])) + report[place.end() :]
         self.counts["mutant refused" if verdict(scene, changed) != "lawful" else "mutant lawful"] += 1
 
-    def compare_texts(self, number):
+    def compare_texts(self, number, version):
         """Compares what is read of the scene of a number, and of a text with faults."""
-        for what, text in (("show", scene_of(number).text().encode()), ("show, with faults", with_faults(number))):
+        for what, text in (("", scene_of(number, version).text().encode()), (", with faults", with_faults(number, version))):
             try:
-                wanted = read(text).text(), 0
+                scene = read(text)
+                wanted = {"show": (scene.text(), 0), "convert": (scene.converted().text(), 0)}
             except Fault as fault:
-                wanted = f"{fault}\n", 3
-            self.note(number, what, self.run("show", text) == wanted)
+                wanted = dict.fromkeys(("show", "convert"), (f"{fault}\n", 3))
+            for words, answer_wanted in wanted.items():
+                self.note(number, words + what, self.run(words, text) == answer_wanted)
 
 
 def main(program, first=0, count=200):
     """Compares on so many numbers, and gives the exit status."""
     comparison = Comparison(program)
     for number in range(int(first), int(first) + int(count)):
-        comparison.compare_plans(number)
-        comparison.compare_texts(number)
+        for version in (1, 2):
+            comparison.compare_plans(number, version)
+            comparison.compare_texts(number, version)
     for what, times in sorted(comparison.counts.items()):
         print(f"{what}: {times}")
     for number, what in comparison.differences:

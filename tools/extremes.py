@@ -1,13 +1,14 @@
 #!/usr/bin/env python3
-"""Runs a built program on the longest texts that it takes, and on the greatest scene, and prints a table of both.
+"""Runs a built program on the longest texts that it takes, and on the greatest scene of each version, and prints a table of both.
 
 Usage: extremes.py PROGRAM [texts | scene]; without a second word it does both. Each text has 16,777,216 bytes, the most that a text
 may have, or one more. What is written of it and the status are worked out here, from the rules of docs/scene-format.md. A run that
 takes more than a second is tried twice more, and the least time counts; it is not to be longer.
 
 The greatest scene has the most of everything at once: bytes, obstacles and their corners, corners of the body, marks, strips, and
-workers, in the greatest room. `show` writes its canonical text. It is planned by 1, 4 and 64 workers, whose reports are held to
-judge.py: a short one as far as it shows, and a full one at 500 of its nodes and of its marks.
+workers, in the greatest room, in version 2 with as many goals and as great a clearance as there may be. `show` writes its canonical
+text, and `convert` that in version 2. It is planned by 1, 4 and 64 workers, whose reports are held to judge.py: a short one as far as
+it shows, and a full one at 500 of its nodes and of its marks.
 
 Each line has the time, the processor time and the most memory of a run. It ends with 1 if anything was wrong.
 """
@@ -23,11 +24,14 @@ from math import atan2, gcd
 from judge import verdict
 from scene import KEYS, KINDS, MOST_CORNERS, MOST_TEXT_BYTES, Scene
 
-MOST_MARKS = KEYS[b"mark"][2]
-MOST_OBSTACLES = KEYS[b"obstacle"][2]
+MOST_MARKS = KEYS[2][b"mark"][2]
+MOST_OBSTACLES = KEYS[2][b"obstacle"][2]
+MOST_GOALS = KEYS[2][b"goal"][2]
+MOST_CLEARANCE = KEYS[2][b"clearance"][1][1]
 MOST_WORKERS = MOST_STRIPS = 64
-ROOM = 65_535
+ROOMS = {1: 65_535, 2: 1_048_575}
 FIRST = b"prrt 1\n"
+SECOND = b"prrt 2\n"
 NEEDED = b"room 9 9\nstart 0 0\ngoal 1 1 2 2\nstep 4\n"
 MOST_SECONDS = 1
 TRIES = 3
@@ -154,6 +158,17 @@ def many_obstacles(size):
     yield "obstacles, one too many", padded(FIRST, lines, size, lines[0][:-1]), refused(MOST_OBSTACLES + 2, 8)
 
 
+def second_version(size):
+    """Texts of version 2 with a fault in what only this version has."""
+    marks = [b"mark 1 1048575\n"] * (MOST_MARKS - 1)
+    yield "marks, at last 1048576", padded(SECOND, marks, size, b"mark 1 1048576"), refused(MOST_MARKS + 1, 5)
+    goals = [b"goal 1 1 2 2\n"] * (MOST_GOALS - 1)
+    yield "goals, one too many", padded(SECOND + NEEDED, goals, size, b"goal 1 1 2 2"), refused(MOST_GOALS + 5, 8)
+    yield "`informed`, words", filled(SECOND + b"informed", b" 1", size)[0], refused(2, 10)
+    start = SECOND + b"clearance "
+    yield "`clearance`, digits", start + b"9" * (size - len(start)), refused(2, 5)
+
+
 def too_long(size):
     """Texts of one byte too many."""
     more = size + 1
@@ -163,7 +178,7 @@ def too_long(size):
         yield f"{what}, one byte more", text, b"text too long\n"
 
 
-FAMILIES = (one_line, many_words, many_lines, many_marks, many_obstacles, too_long)
+FAMILIES = (one_line, many_words, many_lines, many_marks, many_obstacles, second_version, too_long)
 
 
 def refusals(size=MOST_TEXT_BYTES):
@@ -174,12 +189,13 @@ def refusals(size=MOST_TEXT_BYTES):
 
 def accepted(size=MOST_TEXT_BYTES):
     """Texts of this size that are scenes: what they are, the text, and its canonical one."""
-    small = Scene(room=(9, 9), start=(0, 0), goal=(1, 1, 2, 2), step=4)
+    small = Scene(room=(9, 9), start=(0, 0), goals=[(1, 1, 2, 2)], step=4)
     yield "a scene, empty lines", filled(FIRST + NEEDED, b"\n", size)[0], small.text().encode()
     yield "a scene, comments of null bytes", filled(FIRST + NEEDED, b"#\0\n", size)[0], small.text().encode()
     yield "a scene, spaces between its words", filled(FIRST + NEEDED + b"seed", b" ", size, b"0")[0], small.text().encode()
     small.marks = [(1, 2)] * MOST_MARKS
     yield "a scene of marks", padded(FIRST + NEEDED, [b"mark 1 2\n"] * MOST_MARKS, size, b""), small.text().encode()
+    yield "a scene of marks, version 2", padded(SECOND + NEEDED, [b"mark 1 2\n"] * MOST_MARKS, size, b""), small.converted().text().encode()
 
 
 def polygon(count, scale=1, x=0, y=0, skipped=0):
@@ -199,27 +215,36 @@ def polygon(count, scale=1, x=0, y=0, skipped=0):
     return corners
 
 
-def greatest():
+def greatest(version):
     """A scene of the most of everything: obstacles in rows, a body that fits between them, and marks in the whole room.
 
-    No edge of the body is parallel to one of an obstacle, so the zones have the most corners, too.
+    No edge of the body is parallel to one of an obstacle, so the zones have the most corners, too. In version 2 all but the start is 16
+    times as long, and of as many goals as there may be one can be reached.
     """
     rng = random.Random(1)
-    rows, side = 32, (ROOM + 1) // 32
-    obstacles = [polygon(64, 16, side * (n % rows) + 900, side * (n // rows) + 400) for n in range(MOST_OBSTACLES)]
+    room = ROOMS[version]
+    scale = (room + 1) // (ROOMS[1] + 1)
+    rows, side = 32, (room + 1) // 32
+    places = [(side * (n % rows) + 900 * scale, side * (n // rows) + 400 * scale) for n in range(MOST_OBSTACLES)]
+    obstacles = [polygon(64, 16 * scale, *place) for place in places]
     rng.shuffle(obstacles)
-    return Scene(
-        room=(ROOM, ROOM),
+    scene = Scene(
+        room=(room, room),
         start=(100, 100),
-        goal=(64_000, 64_000, 65_400, 65_400),
-        step=4_096,
-        body=polygon(16, 2, skipped=16),
+        goals=[(64_000 * scale, 64_000 * scale, 65_400 * scale, 65_400 * scale)],
+        step=4_096 * scale,
+        body=polygon(16, 2 * scale, skipped=16),
         obstacles=obstacles,
-        gamma=46_000,
+        gamma=46_000 * scale,
         seed=(1 << 64) - 1,
         strips=MOST_STRIPS,
-        marks=[(rng.randint(0, ROOM), rng.randint(0, ROOM)) for _ in range(MOST_MARKS)],
+        marks=[(rng.randint(0, room), rng.randint(0, room)) for _ in range(MOST_MARKS)],
     )
+    if version == 2:
+        scene.start, scene.clearance = (500, 500), MOST_CLEARANCE
+        scene.goals = [(n, n, n, n) for n in range(MOST_GOALS - 1)] + scene.goals
+        scene = scene.converted()
+    return scene
 
 
 def compare_texts(program):
@@ -245,14 +270,17 @@ def is_wrong(program, words, what, text, wanted):
     return bool(faults)
 
 
-def compare_greatest(program):
-    """Runs the program on the greatest scene, and gives how many runs were wrong."""
-    scene = greatest()
+def compare_greatest(program, version):
+    """Runs the program on the greatest scene of a version, and gives how many runs were wrong."""
+    scene, wrong = greatest(version), 0
+    name = f"the greatest scene of version {version}"
     canonical = scene.text().encode()
     text = canonical + b"#" * (MOST_TEXT_BYTES - len(canonical))
-    shown = run(program, "show", text)
-    wrong = (shown.status, shown.output) != (0, canonical)
-    print(f"{'show':12} {'the greatest scene':40} {len(text):9} {shown}  {'another text' if wrong else 'its canonical text'}")
+    for words, wanted in (("show", canonical), ("convert", scene.converted().text().encode())):
+        shown = run(program, words, text)
+        same = (shown.status, shown.output) == (0, wanted)
+        wrong += not same
+        print(f"{words:12} {name:40} {len(text):9} {shown}  {'its canonical text' if same else 'another text'}", flush=True)
     for words in COMMANDS:
         done = run(program, words, text)
         report = done.output.decode(errors="replace")
@@ -260,7 +288,7 @@ def compare_greatest(program):
         wrong += found != "lawful" or done.status != (1 if report.startswith("no path\n") else 0)
         counts = next((line for line in report.splitlines() if line.startswith("nodes ")), "")
         first = report.split("\n", 1)[0]
-        print(f"{words:12} {'the greatest scene':40} {len(text):9} {done}  {first}, {counts}: {found}", flush=True)
+        print(f"{words:12} {name:40} {len(text):9} {done}  {first}, {counts}: {found}", flush=True)
     return wrong
 
 
@@ -268,7 +296,7 @@ def main(program, part="both"):
     """Prints the tables, and gives the exit status."""
     print(f"{'words':12} {'text':40} {'bytes':>9} {'status':>6} {'s':>8} {'cpu s':>8} {'MB':>8}  what is written")
     wrong = compare_texts(program) if part != "scene" else 0
-    wrong += compare_greatest(program) if part != "texts" else 0
+    wrong += sum(compare_greatest(program, version) for version in ROOMS) if part != "texts" else 0
     print(f"{wrong} wrong")
     return 1 if wrong else 0
 

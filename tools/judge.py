@@ -94,7 +94,7 @@ class Judge:
             need((record.outcome == "placed") == (k + 1 in self.tree.points), f"mark {k} and node {k + 1} do not agree")
         for k in self.drawn(range(len(self.records))):
             self.check_record(k, self.records[k])
-        need(self.head == head_lines(self.tree, self.records, self.scene.goal), "the short report is another one")
+        need(self.head == head_lines(self.tree, self.records, self.scene), "the short report is another one")
 
     def edge(self, a, b, what):
         """The cost of an edge that has to be clear and no longer than the step."""
@@ -194,22 +194,17 @@ def check_short(scene, text):
     marks = len(scene.marks) if scene.drawn is None else scene.drawn
     need(nodes == handled[0] + 1 and sum(handled) == marks, "the counts do not add up")
     if first == "no path":
-        need(not middle and not is_in(scene.goal, scene.start), "there is a path")
+        need(not middle and not scene.is_goal_point(scene.start), "there is a path")
         return
     matches = [PATH.fullmatch(first), *(POINT.fullmatch(line) for line in middle)]
     need(all(matches), "not the lines of a path")
     path = [(int(match[1]), int(match[2])) for match in matches[1:]]
     need(len(path) == int(matches[0][1]) >= 1, "the path has another number of points")
-    need(path[0] == scene.start and is_in(scene.goal, path[-1]), "the path does not lead from the start into the goal")
+    need(path[0] == scene.start and scene.is_goal_point(path[-1]), "the path does not lead from the start into a goal")
     space, edges = Space(scene), list(zip(path, path[1:]))
     need(space.is_clear(path[0], path[0]) and all(space.is_clear(a, b) for a, b in edges), "the path is not clear")
     need(all(squared_distance(a, b) <= scene.step**2 for a, b in edges), "an edge of the path is too long")
     need(sum(cost(a, b) for a, b in edges) == int(matches[0][2]), "the cost of the path is not its sum")
-
-
-def is_in(goal, point):
-    """Whether a point lies in the goal."""
-    return goal[0] <= point[0] <= goal[2] and goal[1] <= point[1] <= goal[3]
 
 
 def verdict(scene, text, full=True, most=None):

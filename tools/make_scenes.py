@@ -1,16 +1,18 @@
 #!/usr/bin/env python3
 """Makes random scenes on small lattices, where ties, touching and blocked edges are frequent; and texts with faults.
 
-Usage: make_scenes.py NUMBER writes the text of the scene of that number; the same number gives the same scene.
+Usage: make_scenes.py NUMBER [VERSION] writes the text of the scene of that number, in version 1 or 2; the same words give the same
+scene. A scene of version 2 is that of version 1 with more goals and a clearance.
 """
 
 import random
 import sys
 
 from geometry import hull
-from scene import Scene
+from scene import KEYS, Scene
 
-MOST = {"room": 65_535, "obstacle": 131_071, "body": 4_096}
+MOST_BODY = 4_096
+MOST_CLEARANCE = 4_096
 
 
 def polygon(rng, low, high, most_corners):
@@ -55,7 +57,7 @@ def small_scene(rng):
     scene = Scene(
         room=(width, height),
         start=(rng.randint(0, width), rng.randint(0, height)),
-        goal=(*low, low[0] + rng.randint(0, 6), low[1] + rng.randint(0, 6)),
+        goals=[(*low, low[0] + rng.randint(0, 6), low[1] + rng.randint(0, 6))],
         step=rng.choice([4, 5, 7, 10, 25, 50]),
         body=body(rng, reach),
         obstacles=[small_obstacle(rng, *box) for _ in range(rng.choice([0, 1, 1, 2, 3, 5]))],
@@ -76,36 +78,53 @@ def small_obstacle(rng, columns, rows):
     return polygon(rng, (x, x + size), (y, y + size), 64)
 
 
-def large_scene(rng):
-    """A scene with coordinates near the greatest that a text may have."""
+def large_scene(rng, version):
+    """A scene with coordinates near the greatest that a text of the version may have."""
     scene = small_scene(rng)
-    factor = MOST["room"] // max(*scene.room, *scene.goal, *(c for mark in scene.marks for c in mark), 45)
+    most_side, most_step = KEYS[version][b"room"][1][1], KEYS[version][b"step"][1][1]
+    factor = most_side // max(*scene.room, *scene.goals[0], *(c for mark in scene.marks for c in mark), 45)
     grown = lambda points: [(x * factor, y * factor) for x, y in points]
     scene.room, scene.start = grown([scene.room, scene.start])
-    scene.goal = tuple(c * factor for c in scene.goal)
+    scene.goals = [tuple(c * factor for c in goal) for goal in scene.goals]
     scene.marks, scene.obstacles = grown(scene.marks), [grown(obstacle) for obstacle in scene.obstacles]
     most = max(abs(c) for corner in scene.body for c in corner)
-    scale = min(factor, MOST["body"] // max(1, most))
+    scale = min(factor, MOST_BODY // max(1, most))
     scene.body = [(x * scale, y * scale) for x, y in scene.body]
-    scene.step = rng.choice([4, 4_096, min(4_096, scene.step * factor)])
+    scene.step = rng.choice([4, most_step, min(most_step, scene.step * factor)])
     scene.gamma = rng.choice([0, 4_096, 16_777_215])
     return scene
 
 
-def scene_of(number):
-    """The scene of a number; one in eight has large coordinates."""
+def as_second(rng, scene):
+    """The scene in version 2, with up to 15 more goals, some of them there already or outside the room, and with a clearance."""
+    width, height = scene.room
+    for _ in range(rng.choice([0, 0, 1, 2, 15])):
+        x, y = rng.randint(0, width), rng.randint(0, height)
+        far = min(KEYS[2][b"goal"][1][1], x + rng.randint(0, width // 3)), min(KEYS[2][b"goal"][1][1], y + rng.randint(0, height // 3))
+        scene.goals.insert(rng.randint(0, len(scene.goals)), rng.choice([(x, y, *far), (x, y, x, y), scene.goals[0]]))
+    scene.clearance = rng.choice([0, 0, 1, min(MOST_CLEARANCE, max(1, min(scene.room) // 20)), min(MOST_CLEARANCE, min(scene.room) // 4)])
+    return scene.converted()
+
+
+def scene_of(number, version=1):
+    """The scene of a number in a version; one in eight has large coordinates."""
     rng = random.Random(number)
-    return large_scene(rng) if number % 8 == 7 else small_scene(rng)
+    scene = large_scene(rng, version) if number % 8 == 7 else small_scene(rng)
+    return scene if version == 1 else as_second(rng, scene)
 
 
-def with_faults(number):
+def with_faults(number, version=1):
     """The bytes of a scene text in which some words or lines are changed: mostly a text with faults."""
-    rng = random.Random(f"faults {number}")
-    lines = [line.split() for line in scene_of(number).text().splitlines()]
+    rng = random.Random(f"faults {number}" if version == 1 else f"faults {number} {version}")
+    lines = [line.split() for line in scene_of(number, version).text().splitlines()]
     for _ in range(rng.randint(1, 3)):
         change(rng, lines)
     text = "\n".join(rng.choice([" ", "  "]).join(words) for words in lines)
     return (text + rng.choice(["", "\n", "\n\n"])).encode()
+
+
+# Lines that a change puts in.
+ADDED = ["", "# note", "#", "marks 3", "mark 1 1", "clearance 1", "goal 1 1 2 2", "goal 1 1", "informed 1", "informed x", "gaol 1"]
 
 
 def change(rng, lines):
@@ -119,14 +138,14 @@ def change(rng, lines):
         del lines[i]
     elif kind == 2 and words:
         words[rng.randrange(len(words))] = rng.choice(
-            ["-0", "+1", "04", "-", "x", "1.5", "-1", "65536", "131072", "99999999999999999999999", "#", "prrt", "2", "\t3"]
+            ["-0", "+1", "04", "-", "x", "1.5", "-1", "65536", "131072", "1048576", "99999999999999999999999", "#", "prrt", "1", "2", "\t3"]
         )
     elif kind == 3:
         words.append(rng.choice(["0", "1", "7"]))
     elif kind == 4 and words:
         words.pop()
     elif kind == 5:
-        lines.insert(i, rng.choice([[], ["#", "note"], ["#"], ["marks", "3"], ["mark", "1", "1"], ["clearance", "1"], ["gaol", "1"]]))
+        lines.insert(i, rng.choice(ADDED).split())
     elif kind == 6:
         words[1:] = reversed(words[1:])
     elif kind == 7:
@@ -137,4 +156,4 @@ def change(rng, lines):
 
 
 if __name__ == "__main__":
-    sys.stdout.write(scene_of(int(sys.argv[1])).text())
+    sys.stdout.write(scene_of(*map(int, sys.argv[1:])).text())

@@ -21,6 +21,7 @@ NO_PATH = b"prrt 1\nroom 10 10\nstart 5 5\ngoal 0 0 1 1\nstep 4\n"
 BLOCKED = b"prrt 1\nroom 10 10\nobstacle 4 4 6 4 6 6 4 6\nstart 5 5\ngoal 0 0 1 1\nstep 4\n"
 LONG = FOUND + b"\n" * (MOST_TEXT_BYTES + 1 - len(FOUND))
 PATH = b"path 2 cost 12800\n0 0\n30 40\nnodes 2 placed 1 same 0 blocked 0\n"
+CONVERTED = b"prrt 2\nroom 10 10\nbody 0 0\nclearance 0\nstart 5 5\ngoal 0 0 1 1\nstep 4\ngamma 0\nseed 0\nstrips 1\n"
 NONE = b"no path\nnodes 1 placed 0 same 0 blocked 0\n"
 # More than the program takes to begin, and less than it and a text of so many bytes take.
 FEW_BYTES = 16 << 20
@@ -51,6 +52,8 @@ CASES = [
     Case("a word that is no text", [b"\xff"], FOUND, 2, b"words refused\n"),
     Case("a word too many that is no text", ["plain", b"\xff"], FOUND, 2, b"words refused\n"),
     Case("no scene", ["plain"], b"prrt 0\n" + FOUND[7:], 3, b"line 1 kind 1 Version\n"),
+    Case("a scene to convert", ["convert"], NO_PATH, 0, CONVERTED),
+    Case("no scene to convert", ["convert"], b"prrt 3\n", 3, b"line 1 kind 1 Version\n"),
     Case("no scene to show", ["show"], b"prrt 0\n" + FOUND[7:], 3, b"line 1 kind 1 Version\n"),
     Case("a text that is too long", ["plain"], LONG, 3, b"text too long\n"),
     Case("a start that is not clear", ["plain"], BLOCKED, 4, b"start blocked\n"),

@@ -29,7 +29,7 @@ def scene_in(rng, width, height, **fields):
     """A scene in a room of this size; whatever is not given is drawn."""
     drawn = {
         "start": (rng.randint(0, width), rng.randint(0, height)),
-        "goal": (0, 0, rng.randint(0, width), rng.randint(0, height)),
+        "goals": [(0, 0, rng.randint(0, width), rng.randint(0, height))],
         "step": rng.choice([4, 5, 9, 30]),
         "gamma": rng.choice([0, 10, 100, 10_000]),
         "seed": rng.getrandbits(64),

@@ -76,15 +76,15 @@ def handle(tree, scene, space, k, mark):
     return Record(0, k, nearest, "placed", digits, parent, first_cost)
 
 
-def best_node(tree, goal):
+def best_node(tree, scene):
     """The goal node with the least pair of sum and number, or None."""
-    inside = [n for n, (x, y) in tree.points.items() if goal[0] <= x <= goal[2] and goal[1] <= y <= goal[3]]
+    inside = [n for n, p in tree.points.items() if scene.is_goal_point(p)]
     return min(inside, key=lambda n: (tree.sum(n), n), default=None)
 
 
-def head_lines(tree, records, goal):
+def head_lines(tree, records, scene):
     """The lines of the short report."""
-    best = best_node(tree, goal)
+    best = best_node(tree, scene)
     if best is None:
         lines = ["no path"]
     else:
@@ -104,9 +104,9 @@ def mark_line(k, record):
     return f"mark {k} worker {record.worker} turn {record.turn} nearest {record.nearest} {outcome}"
 
 
-def report(tree, records, goal, full):
+def report(tree, records, scene, full):
     """The report as text."""
-    lines = head_lines(tree, records, goal)
+    lines = head_lines(tree, records, scene)
     if full:
         for n, (x, y) in sorted(tree.points.items()):
             lines.append(f"node {n} at {x} {y} parent {tree.parents[n]} cost {tree.sum(n)}")
@@ -126,8 +126,8 @@ def answer(text, full):
     if not space.is_clear(scene.start, scene.start):
         return "start blocked\n", 4
     tree, records = plan(scene, space, mark_points(scene, space))
-    status = 1 if best_node(tree, scene.goal) is None else 0
-    return report(tree, records, scene.goal, full), status
+    status = 1 if best_node(tree, scene) is None else 0
+    return report(tree, records, scene, full), status
 
 
 if __name__ == "__main__":
