@@ -1,5 +1,4 @@
 pub mod Causes
-pub mod ReadClearances
 pub mod DecidedStatuses
 pub mod Successes
 pub mod GivenAnswers

@@ -12,7 +12,9 @@ use Rattle.planner_main.specs.Inputs.{Input, nothing, one_scene, reads_bytes}
 -- the command that one word asks for, if it asks for one
 abbrev pub command_of_word : List ℕ → Option Command
 command_of_word word =
-    if bytes_eq word (codes "plain") then Some (commands.Plain false) else (if bytes_eq word (codes "show") then Some commands.Show else None)
+    if bytes_eq word (codes "plain") then Some (commands.Plain false)
+    else (if bytes_eq word (codes "show") then Some commands.Show
+    else (if bytes_eq word (codes "convert") then Some commands.Convert else None))
 
 -- The number that a word stands for, if it is one from `least` to `most`: spelled as the numbers of a scene text are.
 abbrev pub number_in : ℕ → ℕ → List ℕ → Option ℕ
@@ -54,6 +56,7 @@ abbrev pub IsNumbered : Command → Type 0
 IsNumbered (commands.Plain full) = Unit {0}
 IsNumbered (commands.Plan workers full) = (1 ≤ workers) × (workers ≤ MOST_WORKERS)
 IsNumbered commands.Show = Unit {0}
+IsNumbered commands.Convert = Unit {0}
 IsNumbered (commands.Gen number) = number ≤ MOST_GENERATED
 IsNumbered (commands.Trial number) = number ≤ MOST_GENERATED
 
@@ -62,6 +65,7 @@ abbrev pub input_of : Command → Input
 input_of (commands.Plain full) = one_scene
 input_of (commands.Plan workers full) = one_scene
 input_of commands.Show = one_scene
+input_of commands.Convert = one_scene
 input_of (commands.Gen number) = nothing
 input_of (commands.Trial number) = nothing
 
@@ -74,6 +78,7 @@ abbrev pub plans : Command → Bool
 plans (commands.Plain full) = true
 plans (commands.Plan workers full) = true
 plans commands.Show = false
+plans commands.Convert = false
 plans (commands.Gen number) = false
 plans (commands.Trial number) = true
 
@@ -86,5 +91,6 @@ abbrev pub greatest_success : Command → ℕ
 greatest_success (commands.Plain full) = NO_PATH
 greatest_success (commands.Plan workers full) = NO_PATH
 greatest_success commands.Show = DONE
+greatest_success commands.Convert = DONE
 greatest_success (commands.Gen number) = DONE
 greatest_success (commands.Trial number) = NO_PATH

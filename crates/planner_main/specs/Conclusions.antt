@@ -5,6 +5,7 @@ use Rattle.plan_model.specs.declared.records.Record.{Record}
 use Rattle.plan_model.specs.declared.scenes.Scene.{Scene}
 use Rattle.plan_model.specs.Spaces.ConfigurationSpace.{space_of}
 use Rattle.plan_model.specs.Spaces.Clearance.{ClearAt}
+use Rattle.plan_model.specs.Scenes.ConvertedScenes.{IsConverted}
 use Rattle.plan_model.specs.Scenes.MarkPoints.{mark_points}
 use Rattle.plan_model.specs.Runs.ClosedLaw.{IsClosed}
 use Rattle.plan_model.specs.Runs.SameRuns.{IsOfTextbookRun}
@@ -74,11 +75,18 @@ pub record WritesScene (scene : Scene) (done : Done) (text : List ℕ) : Type 0 
   pub status : done.status ≡ DONE
   pub nothing : HandsOutNothing done
 
+-- the text is the canonical text of the scene in version 2
+pub record WritesConverted (scene : Scene) (done : Done) (text : List ℕ) : Type 0 where
+  pub converted : Scene
+  pub of_scene : IsConverted scene converted
+  pub written : WritesScene converted done text
+
 -- the scene of a command: that which the bytes spell, or the generated one of its number
 abbrev pub IsSceneOf : Command → List ℕ → Scene → Type 0
 IsSceneOf (commands.Plain full) bytes scene = IsTextOf scene bytes
 IsSceneOf (commands.Plan workers full) bytes scene = IsTextOf scene bytes
 IsSceneOf commands.Show bytes scene = IsTextOf scene bytes
+IsSceneOf commands.Convert bytes scene = IsTextOf scene bytes
 IsSceneOf (commands.Gen number) bytes scene = IsGenerated number scene
 IsSceneOf (commands.Trial number) bytes scene = IsGenerated number scene
 
@@ -94,6 +102,7 @@ abbrev pub Succeeds : Command → List ℕ → Done → List ℕ → Type 0
 Succeeds (commands.Plain full) bytes done text = OfScene (commands.Plain full) bytes (λ scene. ReportsScene (report_text full) scene done text)
 Succeeds (commands.Plan workers full) bytes done text = OfScene (commands.Plan workers full) bytes (λ scene. ReportsPlan workers full scene done text)
 Succeeds commands.Show bytes done text = OfScene commands.Show bytes (λ scene. WritesScene scene done text)
+Succeeds commands.Convert bytes done text = OfScene commands.Convert bytes (λ scene. WritesConverted scene done text)
 Succeeds (commands.Gen number) bytes done text = OfScene (commands.Gen number) bytes (λ scene. WritesScene scene done text)
 Succeeds (commands.Trial number) bytes done text = OfScene (commands.Trial number) bytes (λ scene. ReportsScene summary scene done text)
 

@@ -27,7 +27,7 @@ use crate::top_call::Done;
 use obstacle_boxes::Boxes;
 use plan_model::{Memory, Scene, Source, Task};
 use plan_work::{Gate, grow};
-use scene_text::{fetch, read_scene, write_scene};
+use scene_text::{as_version_2, fetch, read_scene, write_scene};
 use seq_planner::textbook;
 use settle_report::{best, report_by_best, settle, summary_by_best};
 use std::alloc::Global;
@@ -84,6 +84,7 @@ fn perform<R: Threads + Sync, S: Source, G: Gate>(
         Command::Plain { full } => plain(alloc, full, source),
         Command::Plan { workers, full } => plan(rt, alloc, workers, full, source, gate),
         Command::Show => show(alloc, source),
+        Command::Convert => convert(alloc, source),
         Command::Gen(number) => Ok(generate(alloc, number)?),
         Command::Trial(number) => Ok(trial(alloc, number)?),
     }
@@ -127,13 +128,21 @@ fn show<S: Source>(alloc: Global, source: &mut S) -> Result<Answer, Refusal>
     Ok(text_of(alloc, &scene)?)
 }
 
+/// Shows the scene that is read, in version 2.
+fn convert<S: Source>(alloc: Global, source: &mut S) -> Result<Answer, Refusal>
+    requires { (S.state source.old).has_ended ≡ false }
+    ensures { Answers (Some Command.Convert) (S.state source.old) (S.state source.new) result }
+{
+    let scene = scene_for(alloc, Command::Convert, source)?;
+    let converted = as_version_2(scene);
+    Ok(text_of(alloc, &converted)?)
+}
+
 /// The scene that a command asks for, read from the source.
 fn scene_for<S: Source>(alloc: Global, command: Command, source: &mut S) -> Result<Scene, Refusal>
     requires reads { input_of command ≡ one_scene }
     requires unended { (S.state source.old).has_ended ≡ false }
     ensures scene { IfOk result (HasScene (S.state source.old) (S.state source.new)) }
-    ensures version { IfOk result (λ scene. scene.version ≡ 1) }
-    ensures clearance { IfOk result (λ scene. scene.clearance ≡ 0) }
     ensures refusal { IfErr result (IsCaused (Some command) (S.state source.old) (S.state source.new)) }
     ensures within { ReadsWithin (S.state source.old).bytes_left (S.state source.new).bytes_left }
 {
@@ -245,9 +254,8 @@ fn answer_of(grown: Grown, best: Option<u32>, text: Vec<u8>) -> Answer
     Answer { done, text }
 }
 
-/// The answer that writes the canonical text of a scene, which has version 1.
+/// The answer that writes the canonical text of a scene.
 fn text_of(alloc: Global, scene: &Scene) -> Result<Answer, Memory>
-    requires { scene.now.version ≡ 1 }
     ensures { IfOk result (λ answer. WritesScene scene.now answer.done answer.text.items) }
 {
     let text = write_scene(alloc, scene)?;
@@ -268,7 +276,6 @@ fn generate(alloc: Global, number: u32) -> Result<Answer, Memory>
 
 /// The collision checker of a scene.
 fn boxes_of(alloc: Global, scene: &Scene) -> Result<Boxes, Memory>
-    requires { scene.now.clearance ≡ 0 }
     ensures { IfOk result (λ boxes. boxes ≡ space_of scene.now) }
 {
     Boxes::new(alloc, Hall::new(alloc, scene)?)

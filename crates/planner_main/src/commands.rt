@@ -24,6 +24,8 @@ pub enum Command {
     },
     /// `show`: the canonical text of the scene that is read.
     Show,
+    /// `convert`: the canonical text of the scene that is read, in version 2.
+    Convert,
     /// `gen N`: the canonical text of the generated scene of this number.
     Gen(u32),
     /// `trial N`: the summary of the textbook run of the generated scene of this number.
@@ -51,6 +53,7 @@ fn command_of_word(word: &str) -> Option<Command>
     match word {
         "plain" => Some(Command::Plain { full: false }),
         "show" => Some(Command::Show),
+        "convert" => Some(Command::Convert),
         _ => None,
     }
 }

@@ -42,7 +42,7 @@ impl Done {
 ///   report to the sink. `plain full` writes the full report.
 /// - `plan W` and `plan W full` do the same, but `W` workers grow the run, each in a thread of its own if one can be made.
 ///   The gate is told of their turns.
-/// - `show` reads a scene and writes its canonical text.
+/// - `show` reads a scene and writes its canonical text. `convert` writes that of the scene in version 2.
 /// - `gen N` reads nothing and writes the canonical text of a generated scene.
 /// - `trial N` reads nothing, plans a generated scene as `plain` does, and writes the report without the points of its path.
 ///

@@ -377,7 +377,7 @@ fn plans_for_a_body(rt: HostRuntime) {
     expect_each(&rt, rt.alloc(), &["plain"], &WITH_BODY);
 }
 
-static READERS: [&[&str]; 3] = [&["plain"], &["plan", "2"], &["show"]];
+static READERS: [&[&str]; 4] = [&["plain"], &["plan", "2"], &["show"], &["convert"]];
 
 // Compares the answer to a case by the commands that read a scene.
 fn expect_by_readers<R: Threads + Sync + Abort>(rt: &R, alloc: Global, case: &Case) {
@@ -576,7 +576,7 @@ fn expect_each_refused<R: Threads + Sync + Abort>(rt: &R, alloc: Global, forms: 
     }
 }
 
-static NO_COMMANDS: [&[&str]; 20] = [
+static NO_COMMANDS: [&[&str]; 22] = [
     &[],
     &["plain full"],
     &["plain  full"],
@@ -589,6 +589,8 @@ static NO_COMMANDS: [&[&str]; 20] = [
     &["trial", "3", "full"],
     &["show", "show"],
     &["Show"],
+    &["convert", "full"],
+    &["Convert"],
     &["gen"],
     &["gen", "10000"],
     &["gen", "01"],
@@ -679,3 +681,4 @@ mod full_reports;
 mod limits;
 mod plans;
 mod runs;
+mod second_version;

@@ -2,8 +2,6 @@ use Rattle.std.proofs.Common.{refl, ap}
 use Rattle.planner_main.specs.Conclusions.{IsCaused}
 use Rattle.planner_main.specs.Inputs.{reads_bytes}
 use Rattle.planner_main.proofs.Causes.{fetch-caused, IfErr-only}
-use Rattle.planner_main.proofs.ReadClearances.{clearance-spelled}
-use Rattle.scene_text.proofs.CoveredScenes.{first-spelled}
 use Rattle.planner_main.proofs.answers.scene_for.Goals as goal
 
 pub returns-in_err-text-clause-refusal : goal.returns-in_err-text-clause-refusal
@@ -14,9 +12,3 @@ returns-in_err-text-clause-refusal g c =
     IfErr-only c.from_residual.result _ (IsCaused _ before now) c.from_residual.ensures.1
     (fetch-caused c.args.command before now _ c.in_err-text.field-0.0 refl (ap reads_bytes c.requires.reads) fetched.no_end fetched.came
     fetched.read fetched.one_fault fetched.no_fault)
-
-pub returns-clause-version : goal.returns-clause-version
-returns-clause-version g c = first-spelled _ _ c.in_ok-scene.ensures.scene
-
-pub returns-clause-clearance : goal.returns-clause-clearance
-returns-clause-clearance g c = clearance-spelled _ _ c.in_ok-scene.ensures.scene

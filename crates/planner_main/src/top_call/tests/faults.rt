@@ -56,7 +56,7 @@ pub fn expect_early_faults<R: Threads + Sync + Abort>(rt: &R, alloc: Global, wor
     expect_read_faults(rt, alloc, words, ONE_MARK, 10, &EARLY);
 }
 
-static READING: [&[&str]; 3] = [&["plain"], &["plain", "full"], &["show"]];
+static READING: [&[&str]; 4] = [&["plain"], &["plain", "full"], &["show"], &["convert"]];
 
 #[test]
 fn refuses_a_source_that_fails_early(rt: HostRuntime) {
@@ -124,7 +124,7 @@ fn expect_cut<R: Threads + Sync + Abort>(rt: &R, alloc: Global, room: usize, cut
     drop(called);
 }
 
-static CUTS: [Cut; 10] = [
+static CUTS: [Cut; 11] = [
     Cut {
         words: &["plain", "full"],
         fails: 1,
@@ -165,6 +165,12 @@ static CUTS: [Cut; 10] = [
         words: &["show"],
         fails: 1,
         taken: "",
+        run: None,
+    },
+    Cut {
+        words: &["convert"],
+        fails: 3,
+        taken: "prrt 2\nroom 100 100\n",
         run: None,
     },
     Cut {

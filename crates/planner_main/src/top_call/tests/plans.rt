@@ -306,7 +306,7 @@ static NO_SCENES: [Case; 3] = [
     },
     Case {
         shows: "a version that there is not",
-        scene: "prrt 2\n",
+        scene: "prrt 3\n",
         status: 3,
         text: "line 1 kind 1 Version\n",
         run: None,

@@ -14,7 +14,7 @@ const IN_GOAL: &str = "prrt 1\nroom 10 10\nstart 5 5\ngoal 0 0 9 9\nstep 4\n";
 const NO_MARK: &str = "prrt 1\nroom 10 10\nstart 5 5\ngoal 0 0 1 1\nstep 4\n";
 
 // Words, the text that is read, the status, and how many nodes and marks the run has, if one is handed out.
-static RUNS: [(&[&str], &str, u8, Option<(u32, u32)>); 14] = [
+static RUNS: [(&[&str], &str, u8, Option<(u32, u32)>); 16] = [
     (&["plain"], ON_NODE, 0, Some((2, 2))),
     (&["plain"], PAST_STEP, 1, Some((4, 3))),
     (&["plain"], NO_MARK, 1, Some((1, 0))),
@@ -22,11 +22,13 @@ static RUNS: [(&[&str], &str, u8, Option<(u32, u32)>); 14] = [
     (&["plain", "full"], PAST_STEP, 1, Some((4, 3))),
     (&["plain", "full"], NO_MARK, 1, Some((1, 0))),
     (&["show"], IN_GOAL, 0, None),
+    (&["convert"], IN_GOAL, 0, None),
     (&["gen", "7"], IN_GOAL, 0, None),
     (&["full"], IN_GOAL, 2, None),
-    (&["plain"], "prrt 2\n", 3, None),
+    (&["plain"], "prrt 3\n", 3, None),
     (&["plain", "full"], "prrt 1\n", 3, None),
     (&["show"], "prrt 1\n", 3, None),
+    (&["convert"], "prrt 2\n", 3, None),
     (&["plain"], BLOCKED_START, 4, None),
     (&["plain", "full"], BLOCKED_START, 4, None),
 ];
