@@ -5,7 +5,7 @@ ghost use Rattle.planner_main.specs.FixedNumbers.{FixedNumbers};
 /// The command is done; for `plain` and `plan W`, in short or in full, and for `trial`, a path was found.
 pub const DONE: u8 = 0;
 
-/// `plain` and `plan W`, in short or in full, and `trial`: no node of the tree lies in the goal.
+/// `plain` and `plan W`, in short or in full, and `trial`: no node of the tree lies in a goal.
 pub const NO_PATH: u8 = 1;
 
 /// The words of the command line ask for no command.
