@@ -48,7 +48,7 @@ def tiny_scene(rng):
         step, is_ring = rng.choice([4, 4, 4, 5, 6, 12]), rng.random() < 0.5
         width = rng.choice([step, width]) if is_ring else width
         place = lambda: (rng.randint(0, width), rng.randint(0, height))
-        scene = Scene(room=(width, height), start=(0, 0) if is_ring else place(), goal=(0, 0, 0, 0), step=step)
+        scene = Scene(room=(width, height), start=(0, 0) if is_ring else place(), goals=[(0, 0, 0, 0)], step=step)
         scene.gamma = rng.choice([0, 4, 10, 100, 100])
         scene.strips = rng.choice([1, 1, 2, 3, 4])
         for _ in range(rng.choice([0, 0, 1, 2])):
