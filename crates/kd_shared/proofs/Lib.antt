@@ -1,7 +1,6 @@
 pub mod Searching
 pub mod VisitedOnce
 pub mod LoadedChildren
-pub mod NearestSearch
 pub mod SortedNear
 pub mod NearSearch
 pub mod SearchResults
@@ -10,5 +9,8 @@ pub mod PassLooks
 pub mod Finding
 pub mod PlacedNodes
 pub mod LinkedSights
-pub mod NearestPasses
 pub mod NearPasses
+pub mod PoppedNodes
+pub mod WalkedOnce
+pub mod NearestSearch
+pub mod NearestPasses

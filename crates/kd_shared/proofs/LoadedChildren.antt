@@ -1,66 +1,109 @@
--- A loaded child goes onto a stack, or into a queue with its point.
-use Rattle.std.proofs.Common.{◌≡◌, ℕ, zero, suc, ◌*◌, ◌<◌, Bool, not, List, [], ◌∷◌, ◌++◌, Some, None, arith, refl, ◌∙◌, inl, inr}
+-- A loaded child is queued with its point.
+use Rattle.std.proofs.Common.{◌≡◌, ℕ, zero, suc, ◌*◌, ◌<◌, ◌≤◌, Bool, true, false, not, List, [], ◌∷◌, ◌++◌, Some, None, arith, refl, sym, ap, ◌∙◌, subst, inl, inr}
+use Rattle.std.specs.Prelude.{◌==◌, if◌then◌else◌, MatchOption}
+use Rattle.std.proofs.lemmas.Bool.{cases_eq, ne_eqb}
 use Rattle.std.proofs.lemmas.Nat.{mul-le}
-use Rattle.plan_model.specs.Seen.Sights.{KeepsSight, Sight}
-use Rattle.plan_model.proofs.SightLaws.{IsLaterMoment-refl, IsLaterMoment-trans}
-use Rattle.kd_shared.specs.Loads.{LoadsChild, LoadsPoint}
-use Rattle.kd_shared.specs.Spots.{LeavesChild, Puts, QueuesChild, StacksChild}
-use Rattle.plan_words.specs.declared.scratch.Spot.{Spot}
+use Rattle.plan_model.specs.declared.geometry.Point.{Point}
+use Rattle.plan_model.specs.Seen.Sights.{IsLaterMoment, KeepsSight, Sight}
+use Rattle.plan_model.specs.Trees.PointsByNumber.{point_at, point_of}
+use Rattle.plan_model.proofs.NewNodes.{StandsAt-present}
+use Rattle.plan_model.proofs.SightLaws.{IsLaterMoment-trans}
+use Rattle.kd_shared.specs.Loads.{FindsEmpty, KeepsPoints, LoadsChild, LoadsPoint}
+use Rattle.kd_shared.specs.Spots.{IsWithin, LeavesChild, QueuesChild, QueuesWithin}
+use Rattle.plan_words.specs.declared.spots.Spot.{Spot}
+use Rattle.step_core.specs.GrownWords.{child_of_word}
+use Rattle.step_core.specs.ViewTrees.{SeesNode}
+use Rattle.step_core.specs.Views.{tree_seen}
+use Rattle.step_core.specs.declared.views.View.{View}
 
-module _ (before after : Sight) (spots put : List Spot) (spot : Spot) (side : Bool) where
-  -- there is no child
-  pub StacksChild-none : (gap : ℕ) → LoadsChild before after spot.node side None → put ≡ spots → StacksChild before after spots put spot side gap
-  StacksChild-none gap load same = record {
-    later = load.later;
-    keeps = load.keeps;
-    opens = inl (load.finds, same);
-    points = load.points;
-  }
+-- the child that was loaded is seen, and so is node 0
+pub SeesNode-within : (view : View) (n gap r child chosen : ℕ) (side : Bool) (Empty : Type 0)
+    → MatchOption (child_of_word child) Empty (λ c. ((tree_seen view).child n side ≡ Some c) × SeesNode view c) → IsWithin gap r child chosen
+    → SeesNode view chosen
+SeesNode-within view n gap r child chosen side Empty found (inl (beyond, is)) = inl is
+SeesNode-within view n gap r zero chosen side Empty found (inr (near, is)) = inl is
+SeesNode-within view n gap r (suc c) chosen side Empty found (inr (near, is)) = subst (SeesNode view) (sym is) found.1
 
-  pub QueuesChild-none : LoadsChild before after spot.node side None → put ≡ spots → QueuesChild before after spots put spot side
-  QueuesChild-none load same = record {
-    later = load.later;
-    keeps = load.keeps;
-    queues = inl (load.finds, same, load.points);
-  }
+mul-lt : (r gap : ℕ) → r < gap → r * r < gap * gap
+mul-lt r (suc gap) less = (let le = mul-le r r gap gap (omega (arith, less)) (omega (arith, less)) in omega (arith, le))
+mul-lt r zero less = absurd (omega (arith, less))
 
-  -- or one that goes last
-  module _ (child : Spot) (by_rows : child.by_rows ≡ not spot.by_rows) (last : put ≡ spots ++ child ∷ []) where
-    abbrev puts : (gap : ℕ) → child.gap ≡ gap → after.seen.child spot.node side ≡ Some child.node → Puts after spots put spot side gap
-    puts gap gap_is link = record { child = child; link = link; by_rows = by_rows; gap_is = gap_is; last = last }
+module _ (before mid after : Sight) (keeps : KeepsSight before) where
+  -- what was found empty is so since
+  FindsEmpty-then : (n : ℕ) (side : Bool) → before.steps ≤ mid.steps → IsLaterMoment mid after → FindsEmpty before mid n side → FindsEmpty before after n side
+  FindsEmpty-then n side past later empty =
+      elim (later.empty n side) [
+        | inl same ↦ omega (arith, empty, same)
+        | inr (since, none) ↦ omega (arith, past, since)
+      ]
 
-    pub StacksChild-some : (gap : ℕ) → child.gap ≡ gap → LoadsChild before after spot.node side (Some child.node)
-        → StacksChild before after spots put spot side gap
-    StacksChild-some gap gap_is load = record {
-      later = load.later;
-      keeps = load.keeps;
-      opens = inr (puts gap gap_is load.finds);
-      points = load.points;
+  -- the point of node 0 was seen before
+  KeepsPoints-start : (p : Point) → KeepsPoints before mid → IsLaterMoment before mid → LoadsPoint mid after 0 p → KeepsPoints before after
+  KeepsPoints-start p points later load n =
+      let KeepsAt : ℕ → Type 0 = λ m. point_at after.seen.points m ≡ point_at before.seen.points m in
+      elim (cases_eq n 0) [
+        | inl start ↦ (
+            let stands = StandsAt-present before.seen.points 0 keeps.rooted.start in
+            let still = load.later.seen.places.nodes 0 (point_of before.seen.points 0)
+            (later.seen.places.nodes 0 (point_of before.seen.points 0) stands) in
+            subst KeepsAt (sym start) (still ∙ sym stands))
+        | inr apart ↦ load.others n apart ∙ points n
+      ]
+
+  module _ (spots put : List Spot) (spot : Spot) (side : Bool) (gap r child chosen : ℕ) (p : Point)
+      (load : LoadsChild before mid spot.node side (child_of_word child)) (point : LoadsPoint mid after chosen p) where
+    abbrev here : Spot
+    here = record { node = chosen; by_rows = not spot.by_rows; point = p }
+
+    later_then : IsLaterMoment before after
+    later_then = IsLaterMoment-trans before mid after load.later point.later
+
+    keeps_points : chosen ≡ 0 → KeepsPoints before after
+    keeps_points none = KeepsPoints-start p load.points load.later (subst (λ n. LoadsPoint mid after n p) none point)
+
+    -- there is none, or one that waits now,
+    queues_found : (word : ℕ) → chosen ≡ word → child ≡ word → put ≡ (if not (word == 0) then spots ++ here ∷ [] else spots)
+        → QueuesChild before after spots put spot side
+    queues_found zero none is same = record {
+      later = later_then;
+      keeps = point.keeps;
+      queues = inl (
+        FindsEmpty-then spot.node side load.later.steps point.later (subst (λ w. LoadsChild before mid spot.node side (child_of_word w)) is load).finds,
+        same,
+        keeps_points none,
+      );
     }
-
-    pub QueuesChild-some : (mid : Sight) → child.gap ≡ 0 → LoadsChild before mid spot.node side (Some child.node)
-        → LoadsPoint mid after child.node child.point → QueuesChild before after spots put spot side
-    QueuesChild-some mid gap_is load point = record {
-      later = IsLaterMoment-trans before mid after load.later point.later;
+    queues_found (suc c) some is same = record {
+      later = later_then;
       keeps = point.keeps;
       queues = inr (
-        puts 0 gap_is (point.later.seen.places.children spot.node child.node side load.finds),
+        record {
+          child = here;
+          link = point.later.seen.places.children spot.node chosen side
+              ((subst (λ w. LoadsChild before mid spot.node side (child_of_word w)) is load).finds ∙ ap Some (sym some));
+          by_rows = refl;
+          last = same ∙ ap (λ b. if not b then spots ++ here ∷ [] else spots) (ne_eqb (suc c) 0 (λ e. cc));
+        },
         point.stands,
         (λ n apart. point.others n apart ∙ load.points n),
       );
     }
 
--- A child is left out, as the line that splits the two sides is farther than r.
-pub LeavesChild-beyond : (now : Sight) (queue put : List Spot) (gap r : ℕ) → KeepsSight now → r < gap → put ≡ queue
-    → LeavesChild now now queue put (gap * gap) (r * r)
-LeavesChild-beyond now queue put gap r keeps beyond same = record {
-  later = IsLaterMoment-refl now;
-  keeps = keeps;
-  beyond = mul-lt r gap beyond;
-  same = same;
-  points = λ n. refl;
-}
-  where
-    mul-lt : (r gap : ℕ) → r < gap → r * r < gap * gap
-    mul-lt r (suc gap) less = (let le = mul-le r r gap gap (omega (arith, less)) (omega (arith, less)) in omega (arith, le))
-    mul-lt r zero less = absurd (omega (arith, less))
+    -- or it is left out, as the line that splits the two sides is farther than r.
+    pub QueuesWithin-loaded : IsWithin gap r child chosen → put ≡ (if not (chosen == 0) then spots ++ here ∷ [] else spots)
+        → QueuesWithin before after spots put spot side (gap * gap) (r * r)
+    QueuesWithin-loaded (inl (beyond, none)) same = inl (record {
+      later = later_then;
+      keeps = point.keeps;
+      beyond = mul-lt r gap beyond;
+      same = same ∙ ap (λ n. if not (n == 0) then spots ++ here ∷ [] else spots) none;
+      points = keeps_points none;
+    })
+    QueuesWithin-loaded (inr (near, is)) same =
+        inr (queues_found child is refl (same ∙ ap (λ n. if not (n == 0) then spots ++ here ∷ [] else spots) is))
+
+-- the near side is never left out
+pub QueuesWithin-near : (before after : Sight) (queue put : List Spot) (spot : Spot) (side : Bool) (r : ℕ)
+    → QueuesWithin before after queue put spot side (0 * 0) (r * r) → QueuesChild before after queue put spot side
+QueuesWithin-near before after queue put spot side r (inl leaves) = absurd (omega (arith, leaves.beyond))
+QueuesWithin-near before after queue put spot side r (inr queues) = queues

@@ -1,168 +1,191 @@
--- The search of a pass for all near nodes: what its queue and its near list hold at each stage.
-use Rattle.std.proofs.Common.{◌≡◌, ℕ, suc, ◌+◌, ◌*◌, ◌<◌, Bool, false, not, [], ◌∷◌, length, arith, refl, sym, ap, ◌∙◌, subst}
-use Rattle.std.specs.List.Sorted.{IsNonDecreasing, IsPermutation}
+-- The search of a pass for all near nodes: what waits and what is found at each stage.
+use Rattle.std.proofs.Common.{◌≡◌, ℕ, suc, ◌+◌, ◌*◌, ◌<◌, ◌≤◌, Bool, false, not, List, [], ◌∷◌, length, arith, refl, sym, ap, ◌∙◌, subst}
 use Rattle.plan_model.specs.declared.geometry.Point.{Point}
-use Rattle.plan_model.specs.declared.limits.TheConstants.{MOST_NODES}
 use Rattle.plan_model.specs.Geometry.Bounds.{IsBounded}
 use Rattle.plan_model.specs.Geometry.Plane.{squared_distance}
 use Rattle.plan_model.specs.Seen.Sights.{KeepsSight}
+use Rattle.plan_words.specs.SearchLists.{SearchLists}
 use Rattle.plan_words.specs.States.{BelongsTo, PassState, SharedState}
-use Rattle.plan_words.specs.declared.scratch.Spot.{Spot}
+use Rattle.plan_words.specs.declared.spots.Found.{Found}
+use Rattle.plan_words.specs.declared.spots.Spot.{Spot}
+use Rattle.step_core.specs.KdSides.{goes_right_by}
 use Rattle.step_core.specs.LaterViews.{IsLawfulView}
 use Rattle.step_core.specs.ViewTrees.{SeesNode, sight_in}
 use Rattle.step_core.proofs.LawfulSights.{IsBounded-seen, KeepsSight-lawful}
+use Rattle.kd_shared.specs.FarSides.{line_square}
 use Rattle.kd_shared.specs.Loads.{LoadsPoint}
-use Rattle.kd_shared.specs.Looking.{KeepsLists, OnlyLooks, PassLooks}
-use Rattle.kd_shared.specs.Searches.{AreNearSeen}
-use Rattle.step_core.specs.KdSides.{goes_right_by}
-use Rattle.kd_shared.specs.Spots.{HasRoomFor, Notes, QueuesChild, QueuesWithin}
 use Rattle.kd_shared.specs.LookLaws.{OnlyLooks-trans}
+use Rattle.kd_shared.specs.Looking.{KeepsLists, OnlyLooks, PassLooks, searched}
+use Rattle.kd_shared.specs.Searches.{AreGathered}
+use Rattle.kd_shared.specs.Spots.{Notes, QueuesChild, QueuesWithin}
 use Rattle.kd_shared.proofs.Looking.{SeesNode-later}
-use Rattle.kd_shared.proofs.NearSearch.{IsGathering, IsGathering-all_visited, IsGathering-begins, IsGathering-ends, IsGathering-room, IsGathering-room_far}
-use Rattle.kd_shared.proofs.NearSearch.{IsGathering-room_near, IsGathering-seen, IsGathering-stands, IsGathering-visits, line_square}
+use Rattle.kd_shared.proofs.NearSearch.{IsGathering, IsGathering-begins, IsGathering-ends, IsGathering-few_found, IsGathering-room_far}
+use Rattle.kd_shared.proofs.NearSearch.{IsGathering-room_near, IsGathering-seen, IsGathering-stands, IsGathering-visits}
 
--- The pass only looks, and its second list stays. So many spots of its queue were visited, and its near list has those that are near.
-pub record IsGatheringPass (shared : SharedState) (entry now : PassState) (p : Point) (r visits : ℕ) : Type 0 where
+-- The pass only looks, and its other lists stay. So many spots of its queue were visited, and those are found that are near.
+pub record IsGatheringPass (shared : SharedState) (entry now : PassState) (p : Point) (r : ℕ) : Type 0 where
   pub belongs : BelongsTo now shared
   pub looks : OnlyLooks entry.view now.view
-  pub around : now.around ≡ entry.around
-  pub gathers : IsGathering (sight_in entry.view) (sight_in now.view) p r now.spots now.near visits
+  pub lists : KeepsLists entry now
+  pub gathers : IsGathering (sight_in entry.view) (sight_in now.view) p r now.lists.search.spots now.lists.search.found now.lists.search.taken
 
--- It has come to its end: none waits.
-pub record HasGathered (shared : SharedState) (entry now : PassState) (p : Point) (r visits : ℕ) : Type 0 where
-  pub pass : IsGatheringPass shared entry now p r visits
-  pub none : now.spots ≡ []
+-- a pass whose search alone changes keeps its other lists
+pub KeepsLists-searched : (entry before after : PassState) (search : SearchLists) → KeepsLists entry before → after ≡ searched before after.view search
+    → KeepsLists entry after
+KeepsLists-searched entry before after search lists is = record {
+  table = ap (λ (s : PassState). s.table) is ∙ lists.table;
+  near = ap (λ (s : PassState). s.lists.near) is ∙ lists.near;
+  around = ap (λ (s : PassState). s.lists.around) is ∙ lists.around;
+  waiting = ap (λ (s : PassState). s.lists.waiting) is ∙ lists.waiting;
+}
+
+pub KeepsLists-looks : (shared : SharedState) (entry first : PassState) → PassLooks shared entry first → KeepsLists entry first
+KeepsLists-looks shared entry first passes = record {
+  table = ap (λ (s : PassState). s.table) passes.view_alone;
+  near = ap (λ (s : PassState). s.lists.near) passes.view_alone;
+  around = ap (λ (s : PassState). s.lists.around) passes.view_alone;
+  waiting = ap (λ (s : PassState). s.lists.waiting) passes.view_alone;
+}
 
 -- The start is loaded, and waits alone.
 pub IsGatheringPass-begins : (shared : SharedState) (entry first now : PassState) (p : Point) (r : ℕ) (spot : Spot)
     → PassLooks shared entry first → LoadsPoint (sight_in entry.view) (sight_in first.view) 0 spot.point
-    → now ≡ record first { spots = spot ∷ []; near = [] } → spot.node ≡ 0 → spot.by_rows ≡ false → spot.gap ≡ 0
-    → IsGatheringPass shared entry now p r 0
-IsGatheringPass-begins shared entry first now p r spot passes load is node by_rows gap =
-    subst (λ state. IsGatheringPass shared entry state p r 0) (sym is) (record {
+    → now ≡ searched first first.view (record { spots = spot ∷ []; taken = 0; found = [] }) → spot.node ≡ 0 → spot.by_rows ≡ false
+    → IsGatheringPass shared entry now p r
+IsGatheringPass-begins shared entry first now p r spot passes load is node by_rows =
+    subst (λ state. IsGatheringPass shared entry state p r) (sym is) (record {
       belongs = record { table = passes.belongs.table; run = passes.belongs.run; lawful = passes.belongs.lawful };
       looks = passes.looks;
-      around = ap (λ (s : PassState). s.around) passes.view_alone;
-      gathers = IsGathering-begins (sight_in entry.view) (sight_in first.view) p r spot (spot ∷ []) [] load node by_rows gap refl refl;
+      lists = KeepsLists-searched entry first (searched first first.view (record { spots = spot ∷ []; taken = 0; found = [] }))
+          (record { spots = spot ∷ []; taken = 0; found = [] }) (KeepsLists-looks shared entry first passes) refl;
+      gathers = IsGathering-begins (sight_in entry.view) (sight_in first.view) p r spot (spot ∷ []) [] load node by_rows refl refl;
     })
 
-module _ (shared : SharedState) (entry now : PassState) (p : Point) (r visits : ℕ) (h : IsGatheringPass shared entry now p r visits) where
+module _ (shared : SharedState) (entry now : PassState) (p : Point) (r : ℕ) (h : IsGatheringPass shared entry now p r) where
   lawful_now : IsLawfulView now.view
   lawful_now = h.looks.looks.goes_on.lawful
 
   keeps_now : KeepsSight (sight_in now.view)
   keeps_now = KeepsSight-lawful now.view lawful_now
 
-  -- none waits when as many were visited as there can be nodes,
-  pub IsGatheringPass-all_visited : ¬ (visits < MOST_NODES) → HasGathered shared entry now p r visits
-  IsGatheringPass-all_visited all = record {
-    pass = h;
-    none = IsGathering-all_visited (sight_in entry.view) (sight_in now.view) p r now.spots now.near visits h.gathers (length now.view.run.marks)
-        lawful_now.within (omega (arith, all, lawful_now.run.marks));
-  }
+  -- none is taken
+  module _ (same : PassState) (is : same ≡ now) (none : now.lists.search.spots ≡ []) where
+    pub ended_belongs : BelongsTo same shared
+    ended_belongs = subst (λ (s : PassState). BelongsTo s shared) (sym is) h.belongs
 
-  -- the near list is sorted then
-  module _ (sorted : PassState) (same : sorted ≡ record now { near = sorted.near }) where
-    pub sorted_belongs : BelongsTo sorted shared
-    sorted_belongs =
-        subst (λ (s : PassState). BelongsTo s shared) (sym same)
-        (record { table = h.belongs.table; run = h.belongs.run; lawful = h.belongs.lawful })
+    pub ended_looks : OnlyLooks entry.view same.view
+    ended_looks = subst (λ (s : PassState). OnlyLooks entry.view s.view) (sym is) h.looks
 
-    pub sorted_looks : OnlyLooks entry.view sorted.view
-    sorted_looks = subst (λ (s : PassState). OnlyLooks entry.view s.view) (sym same) h.looks
+    pub ended_lists : KeepsLists entry same
+    ended_lists = subst (KeepsLists entry) (sym is) h.lists
 
-    pub sorted_around : sorted.around ≡ entry.around
-    sorted_around = ap (λ (s : PassState). s.around) same ∙ h.around
+    pub ended_gathered : AreGathered (sight_in entry.view) (sight_in same.view) p r same.lists.search.found
+    ended_gathered =
+        subst (λ (s : PassState). AreGathered (sight_in entry.view) (sight_in s.view) p r s.lists.search.found) (sym is)
+        (IsGathering-ends (sight_in entry.view) (sight_in now.view) p r now.lists.search.spots now.lists.search.found now.lists.search.taken h.gathers
+        none (KeepsSight-lawful entry.view h.looks.looks.goes_on.was_lawful) keeps_now lawful_now.distinct)
 
-    pub sorted_near : now.spots ≡ [] → IsPermutation now.near sorted.near → IsNonDecreasing sorted.near
-        → AreNearSeen (sight_in entry.view) (sight_in sorted.view) p r sorted.near
-    sorted_near none moved rising =
-        subst (λ (s : PassState). AreNearSeen (sight_in entry.view) (sight_in s.view) p r sorted.near) (sym same)
-        (IsGathering-ends (sight_in entry.view) (sight_in now.view) p r now.spots now.near visits h.gathers none
-        (KeepsSight-lawful entry.view h.looks.looks.goes_on.was_lawful) keeps_now lawful_now.distinct sorted.near moved rising)
+    pub ended_few : length same.lists.search.found ≤ length same.view.run.marks + 1
+    ended_few =
+        subst (λ (s : PassState). length s.lists.search.found ≤ length s.view.run.marks + 1) (sym is)
+        (let few = IsGathering-few_found (sight_in entry.view) (sight_in now.view) p r now.lists.search.spots now.lists.search.found
+        now.lists.search.taken h.gathers (length now.view.run.marks) lawful_now.within in
+        omega (arith, few))
 
-  -- or when no spot is taken
-  module _ (taken : PassState) (same : taken ≡ record now { spots = taken.spots }) where
-    pub IsGatheringPass-none : now.spots ≡ [] → now.spots ≡ taken.spots → HasGathered shared entry taken p r visits
-    IsGatheringPass-none none is = record {
-      pass = subst (λ state. IsGatheringPass shared entry state p r visits) (sym (same ∙ ap (λ xs. record now { spots = xs }) (sym is))) (record {
-        belongs = record { table = h.belongs.table; run = h.belongs.run; lawful = h.belongs.lawful };
-        looks = h.looks;
-        around = h.around;
-        gathers = h.gathers;
-      });
-      none = sym is ∙ none;
-    }
+  -- the first spot is taken
+  module _ (spot : Spot) (rest : List Spot) (is : now.lists.search.spots ≡ spot ∷ rest) where
+    pub spot_bounded : IsBounded spot.point
+    spot_bounded =
+        IsBounded-seen now.view spot.node spot.point
+        (IsGathering-stands (sight_in entry.view) (sight_in now.view) p r now.lists.search.spots now.lists.search.found now.lists.search.taken h.gathers
+        spot rest is)
 
-    -- the first spot is taken
-    module _ (spot : Spot) (is : now.spots ≡ spot ∷ taken.spots) where
-      pub spot_bounded : IsBounded spot.point
-      spot_bounded =
-          IsBounded-seen now.view spot.node spot.point
-          (IsGathering-stands (sight_in entry.view) (sight_in now.view) p r now.spots now.near visits h.gathers spot taken.spots is)
+    room_now : suc now.lists.search.taken + length rest ≤ suc (length now.view.run.marks)
+    room_now =
+        IsGathering-room_far (sight_in entry.view) (sight_in now.view) p r now.lists.search.spots now.lists.search.found now.lists.search.taken h.gathers
+        spot rest is (length now.view.run.marks) lawful_now.within
 
-      pub near_room : length taken.near < length taken.view.run.marks + 1
-      near_room =
-          let few =
-          IsGathering-room (sight_in entry.view) (sight_in now.view) p r now.spots now.near visits h.gathers spot taken.spots is
-          (length now.view.run.marks) keeps_now lawful_now.within in
-          let same_near = ap (λ (s : PassState). length s.near) same in
-          let same_marks = ap (λ (s : PassState). length s.view.run.marks) same in
-          omega (arith, few, same_near, same_marks)
+    -- (fewer are left to visit)
+    pub fewer_left : now.lists.search.taken < suc (length entry.view.run.marks)
+    fewer_left = omega (arith, room_now, ap (λ run. length run.marks) h.looks.looks.goes_on.later.run)
 
-      -- its node is noted if it is near
+    -- and noted if it is near
+    module _
+        (noted : PassState) (visits : ℕ) (found : List Found) (more : visits ≡ suc now.lists.search.taken)
+        (same : noted ≡ searched now now.view (record { spots = rest; taken = visits; found = found }))
+        (notes : Notes now.lists.search.found found spot (squared_distance spot.point p) (r * r)) where
+      noted_looks : OnlyLooks entry.view noted.view
+      noted_looks = subst (λ (s : PassState). OnlyLooks entry.view s.view) (sym same) h.looks
+
+      pub noted_belongs : BelongsTo noted shared
+      noted_belongs =
+          subst (λ (s : PassState). BelongsTo s shared) (sym same)
+          (record { table = h.belongs.table; run = h.belongs.run; lawful = h.belongs.lawful })
+
+      pub noted_seen : SeesNode noted.view spot.node
+      noted_seen =
+          subst (λ (s : PassState). SeesNode s.view spot.node) (sym same)
+          (IsGathering-seen (sight_in entry.view) (sight_in now.view) p r now.lists.search.spots now.lists.search.found now.lists.search.taken h.gathers
+          spot rest is)
+
+      pub noted_room : noted.lists.search.taken + length noted.lists.search.spots ≤ length noted.view.run.marks + 1
+      noted_room =
+          subst (λ (s : PassState). s.lists.search.taken + length s.lists.search.spots ≤ length s.view.run.marks + 1) (sym same)
+          (omega (arith, room_now, more))
+
+      -- and its children are queued
       module _
-          (noted : PassState) (same_noted : noted ≡ record taken { near = noted.near })
-          (notes : Notes taken.near noted.near spot.node (squared_distance spot.point p) (r * r)) where
-        whole : noted ≡ record now { spots = taken.spots; near = noted.near }
-        whole = same_noted ∙ ap (λ (s : PassState). record s { near = noted.near }) same
+          (half : PassState) (right : Bool) (own : right ≡ goes_right_by spot.by_rows spot.point p) (far_looks : OnlyLooks noted.view half.view)
+          (half_is : half ≡ searched noted half.view (record noted.lists.search { spots = half.lists.search.spots }))
+          (far_side : QueuesWithin (sight_in noted.view) (sight_in half.view) noted.lists.search.spots half.lists.search.spots spot (not right)
+          (line_square spot p) (r * r)) where
+        far_here : QueuesWithin (sight_in now.view) (sight_in half.view) rest half.lists.search.spots spot (not right) (line_square spot p) (r * r)
+        far_here =
+            subst
+            (λ (s : PassState). QueuesWithin (sight_in s.view) (sight_in half.view) s.lists.search.spots half.lists.search.spots spot (not right)
+            (line_square spot p) (r * r))
+            same far_side
 
-        notes_here : Notes now.near noted.near spot.node (squared_distance spot.point p) (r * r)
-        notes_here =
-            subst (λ (s : PassState). Notes s.near noted.near spot.node (squared_distance spot.point p) (r * r)) same notes
+        taken_half : half.lists.search.taken ≡ visits
+        taken_half = ap (λ (s : PassState). s.lists.search.taken) half_is ∙ ap (λ (s : PassState). s.lists.search.taken) same
 
-        pub noted_looks : OnlyLooks entry.view noted.view
-        noted_looks = subst (λ (s : PassState). OnlyLooks entry.view s.view) (sym whole) h.looks
+        found_half : half.lists.search.found ≡ found
+        found_half = ap (λ (s : PassState). s.lists.search.found) half_is ∙ ap (λ (s : PassState). s.lists.search.found) same
 
-        pub noted_seen : SeesNode noted.view spot.node
-        noted_seen =
-            subst (λ (s : PassState). SeesNode s.view spot.node) (sym whole)
-            (IsGathering-seen (sight_in entry.view) (sight_in now.view) p r now.spots now.near visits h.gathers spot taken.spots is)
+        pub half_seen : SeesNode half.view spot.node
+        half_seen = SeesNode-later noted.view half.view spot.node far_looks.looks.goes_on.later noted_seen
 
-        pub noted_room : (side : Bool) → HasRoomFor (sight_in noted.view) (length noted.view.run.marks) spot side (length noted.spots)
-        noted_room side =
-            subst (λ (s : PassState). HasRoomFor (sight_in s.view) (length s.view.run.marks) spot side (length s.spots)) (sym whole)
-            (IsGathering-room_far (sight_in entry.view) (sight_in now.view) p r now.spots now.near visits h.gathers spot taken.spots is
-            (length now.view.run.marks) side)
+        pub half_room : half.lists.search.taken + length half.lists.search.spots ≤ length half.view.run.marks + 1
+        half_room =
+            let room =
+            IsGathering-room_near (sight_in entry.view) (sight_in now.view) p r now.lists.search.spots now.lists.search.found now.lists.search.taken
+            h.gathers spot rest is (sight_in half.view) half.lists.search.spots found right keeps_now own notes far_here (length half.view.run.marks)
+            far_looks.looks.goes_on.lawful.within in
+            omega (arith, room, more, taken_half)
 
-        -- and its children are queued
-        module _
-            (half : PassState) (right : Bool) (own : right ≡ goes_right_by spot.by_rows spot.point p) (far_looks : OnlyLooks noted.view half.view)
-            (far_side : QueuesWithin (sight_in noted.view) (sight_in half.view) noted.spots half.spots spot (not right) (line_square spot p) (r * r)) where
-          far_here : QueuesWithin (sight_in now.view) (sight_in half.view) taken.spots half.spots spot (not right) (line_square spot p) (r * r)
-          far_here =
-              subst
-              (λ (s : PassState). QueuesWithin (sight_in s.view) (sight_in half.view) s.spots half.spots spot (not right) (line_square spot p) (r * r))
-              whole far_side
+        pub IsGatheringPass-visits : (after : PassState) → BelongsTo after shared → OnlyLooks half.view after.view
+            → after ≡ searched half after.view (record half.lists.search { spots = after.lists.search.spots })
+            → QueuesChild (sight_in half.view) (sight_in after.view) half.lists.search.spots after.lists.search.spots spot right
+            → IsGatheringPass shared entry after p r
+        IsGatheringPass-visits after belongs near_looks after_is near_side = record {
+          belongs = belongs;
+          looks = OnlyLooks-trans entry.view noted.view after.view noted_looks
+              (OnlyLooks-trans noted.view half.view after.view far_looks near_looks);
+          lists = KeepsLists-searched entry half after (record half.lists.search { spots = after.lists.search.spots })
+              (KeepsLists-searched entry noted half (record noted.lists.search { spots = half.lists.search.spots })
+              (KeepsLists-searched entry now noted (record { spots = rest; taken = visits; found = found }) h.lists
+              (same ∙ ap (λ v. searched now v (record { spots = rest; taken = visits; found = found })) (sym (ap (λ (s : PassState). s.view) same))))
+              half_is)
+              after_is;
+          gathers = subst
+              (λ (fs : List Found). IsGathering (sight_in entry.view) (sight_in after.view) p r after.lists.search.spots fs after.lists.search.taken)
+              (sym (ap (λ (s : PassState). s.lists.search.found) after_is ∙ found_half))
+              (IsGathering-visits (sight_in entry.view) (sight_in now.view) p r now.lists.search.spots now.lists.search.found now.lists.search.taken
+              h.gathers spot rest is (sight_in half.view) half.lists.search.spots found right keeps_now own notes far_here (sight_in after.view)
+              after.lists.search.spots after.lists.search.taken (ap (λ (s : PassState). s.lists.search.taken) after_is ∙ taken_half ∙ more) near_side);
+        }
 
-          pub half_seen : SeesNode half.view spot.node
-          half_seen = SeesNode-later noted.view half.view spot.node far_looks.looks.goes_on.later noted_seen
-
-          pub half_room : HasRoomFor (sight_in half.view) (length half.view.run.marks) spot right (length half.spots)
-          half_room =
-              IsGathering-room_near (sight_in entry.view) (sight_in now.view) p r now.spots now.near visits h.gathers spot taken.spots is
-              (sight_in half.view) half.spots noted.near right keeps_now own notes_here far_here (length half.view.run.marks)
-
-          pub IsGatheringPass-visits : (after : PassState) (next : ℕ) → next ≡ suc visits → BelongsTo after shared → OnlyLooks half.view after.view
-              → KeepsLists noted half → KeepsLists half after
-              → QueuesChild (sight_in half.view) (sight_in after.view) half.spots after.spots spot right → IsGatheringPass shared entry after p r next
-          IsGatheringPass-visits after next more belongs near_looks far_lists near_lists near_side = record {
-            belongs = belongs;
-            looks = OnlyLooks-trans entry.view noted.view after.view noted_looks
-                (OnlyLooks-trans noted.view half.view after.view far_looks near_looks);
-            around = near_lists.around ∙ far_lists.around ∙ ap (λ (s : PassState). s.around) whole ∙ h.around;
-            gathers = subst (λ ns. IsGathering (sight_in entry.view) (sight_in after.view) p r after.spots ns next)
-                (sym (near_lists.near ∙ far_lists.near))
-                (IsGathering-visits (sight_in entry.view) (sight_in now.view) p r now.spots now.near visits h.gathers spot taken.spots is
-                (sight_in half.view) half.spots noted.near right keeps_now own notes_here far_here (sight_in after.view) after.spots next more near_side);
-          }
+        -- a visit more
+        pub taken_more : (after : PassState) → after ≡ searched half after.view (record half.lists.search { spots = after.lists.search.spots })
+            → after.lists.search.taken ≡ suc now.lists.search.taken
+        taken_more after after_is = ap (λ (s : PassState). s.lists.search.taken) after_is ∙ taken_half ∙ more

@@ -1,10 +1,9 @@
 -- The search for all near nodes, by a queue whose front is visited: the nodes found, and the points that wait.
-use Rattle.std.proofs.Common.{◌≡◌, ◌⊎◌, ℕ, suc, ◌*◌, ◌≤◌, Bool, true, false, not, List, [], ◌∷◌, ◌++◌, length, arith}
-use Rattle.std.proofs.Common.{sym, ap, ◌∙◌, subst, inl, inr}
+use Rattle.std.proofs.Common.{◌≡◌, ◌⊎◌, ℕ, suc, ◌+◌, ◌*◌, ◌≤◌, Bool, true, false, not, List, [], ◌∷◌, ◌++◌, length, arith}
+use Rattle.std.proofs.Common.{refl, sym, ap, ◌∙◌, subst, inl, inr}
 use Rattle.std.specs.Prelude.{Contains}
-use Rattle.std.specs.List.Sorted.{IsNonDecreasing, IsPermutation}
 use Rattle.std.proofs.lemmas.Bool.{cases_eq}
-use Rattle.std.proofs.lemmas.List.{append-nil, nil_from_length}
+use Rattle.std.proofs.lemmas.List.{append-nil, length-map, map-append}
 use Rattle.std.proofs.lemmas.List.Elements.{Contains-append_left, Contains-push, Contains-push_cases}
 use Rattle.plan_model.specs.declared.geometry.Point.{Point}
 use Rattle.plan_model.specs.Geometry.Plane.{squared_distance}
@@ -15,23 +14,26 @@ use Rattle.plan_model.specs.Seen.Sights.{IsLaterMoment, KeepsSight, Sight}
 use Rattle.plan_model.proofs.NewNodes.{IsPresent-stands, StandsAt-unique}
 use Rattle.plan_model.proofs.SightLaws.{IsFree-ends, IsLaterMoment-trans}
 use Rattle.kd_shared.specs.Loads.{KeepsPoints, LoadsPoint}
-use Rattle.kd_shared.specs.Searches.{AreNearSeen}
-use Rattle.step_core.specs.KdSides.{goes_right_by, split_distance}
-use Rattle.kd_shared.specs.Spots.{HasRoomFor, LeavesChild, Notes, Opens, QueuesChild, QueuesWithin}
-use Rattle.plan_words.specs.declared.scratch.Spot.{Spot}
+use Rattle.kd_shared.specs.Searches.{AreGathered}
+use Rattle.step_core.specs.KdSides.{goes_right_by}
+use Rattle.kd_shared.specs.FarSides.{line_square}
+use Rattle.kd_shared.specs.Spots.{LeavesChild, Notes, Opens, QueuesChild, QueuesWithin}
+use Rattle.plan_words.specs.SearchLists.{noted, numbers_of}
+use Rattle.plan_words.specs.declared.spots.Found.{Found}
+use Rattle.plan_words.specs.declared.spots.Spot.{Spot}
 use Rattle.plan_model.proofs.ListMembers.{Contains-after, Contains-first}
-use Rattle.step_core.proofs.DistinctNumbers.{AreDifferent, AreDifferent-few, AreDifferent-within, Contains-cases}
+use Rattle.step_core.proofs.DistinctNumbers.{AreDifferent, AreDifferent-few, AreDifferent-within, Contains-cases, IsDistinct-from_different}
 use Rattle.step_core.proofs.DistinctNumbers.{Contains-none, length-one_more}
 use Rattle.kd_shared.proofs.Searching.{GoesBelow, GoesTo, IsMet, IsSearch, IsSearch-begins, IsSearch-ends, IsSearch-leaves, IsSearch-opens_far}
 use Rattle.kd_shared.proofs.Searching.{IsSearch-opens_near, IsSearch-takes, IsSearch-visits, Nothing}
-use Rattle.kd_shared.proofs.SortedNear.{is_within-close, is_within-near, near-sorted}
-use Rattle.kd_shared.proofs.VisitedOnce.{AreOnce, AreOnce-leaves, AreOnce-opens_far, AreOnce-opens_near, AreOnce-takes, HasRoomFor-far, HasRoomFor-near}
-use Rattle.kd_shared.proofs.VisitedOnce.{IsDone, IsDoneOrAt, is_not_done, IsVisiting, IsVisiting-begins, IsVisiting-beside, IsVisiting-few, Opens-few}
+use Rattle.kd_shared.proofs.SortedNear.{is_within-close}
+use Rattle.kd_shared.proofs.VisitedOnce.{AreOnce, AreOnce-few, AreOnce-low, AreOnce-leaves, AreOnce-opens_far, AreOnce-opens_near, AreOnce-takes}
+use Rattle.kd_shared.proofs.VisitedOnce.{IsDone, IsDoneOrAt, is_not_done, IsVisiting, IsVisiting-begins, IsVisiting-few}
 
 -- ---- the points of what waits, and of what is found
 
 QueuesChild-opens : (before after : Sight) (queue put : List Spot) (spot : Spot) (side : Bool) → QueuesChild before after queue put spot side
-    → Opens before after queue put spot side 0
+    → Opens before after queue put spot side
 QueuesChild-opens before after queue put spot side h =
     elim h.queues [
       | inl (empty, same, points) ↦ inl (empty, same)
@@ -97,73 +99,80 @@ module _ (now after : Sight) (queue put : List Spot) (spot : Spot) (side : Bool)
 
 -- ---- a node is noted, if it is near
 
-module _ (found noted : List ℕ) (node distance bound : ℕ) (notes : Notes found noted node distance bound) where
-  Notes-old : (n : ℕ) → Contains found n → Contains noted n
+numbers_of-push : (found : List Found) (spot : Spot) → numbers_of (found ++ noted spot ∷ []) ≡ numbers_of found ++ spot.node ∷ []
+numbers_of-push found spot = map-append (λ (f : Found). f.node) found (noted spot ∷ [])
+
+module _ (found after : List Found) (spot : Spot) (distance bound : ℕ) (notes : Notes found after spot distance bound) where
+  Notes-old : (n : ℕ) → Contains (numbers_of found) n → Contains (numbers_of after) n
   Notes-old n k =
       elim notes [
-        | inl (near, is) ↦ subst (λ ns. Contains ns n) (sym is) (Contains-append_left found (node ∷ []) n k)
-        | inr (far, is) ↦ subst (λ ns. Contains ns n) (sym is) k
+        | inl (near, is) ↦ subst (λ ns. Contains ns n) (sym (ap numbers_of is ∙ numbers_of-push found spot))
+            (Contains-append_left (numbers_of found) (spot.node ∷ []) n k)
+        | inr (far, is) ↦ subst (λ fs. Contains (numbers_of fs) n) (sym is) k
       ]
 
-  Notes-new : distance ≤ bound → Contains noted node
+  Notes-new : distance ≤ bound → Contains (numbers_of after) spot.node
   Notes-new close =
       elim notes [
-        | inl (near, is) ↦ subst (λ ns. Contains ns node) (sym is) (Contains-push found node)
+        | inl (near, is) ↦ subst (λ ns. Contains ns spot.node) (sym (ap numbers_of is ∙ numbers_of-push found spot)) (Contains-push (numbers_of found) spot.node)
         | inr (far, is) ↦ absurd (omega (arith, close, far))
       ]
 
-  Notes-cases : (n : ℕ) → Contains noted n → Contains found n ⊎ ((node ≡ n) × (distance ≤ bound))
+  Notes-cases : (n : ℕ) → Contains (numbers_of after) n → Contains (numbers_of found) n ⊎ (spot.node ≡ n)
   Notes-cases n k =
       elim notes [
-        | inl (near, is) ↦ elim (Contains-push_cases found node n (subst (λ ns. Contains ns n) is k)) [
+        | inl (near, is) ↦ Contains-push_cases (numbers_of found) spot.node n (subst (λ ns. Contains ns n) (ap numbers_of is ∙ numbers_of-push found spot) k)
+        | inr (far, is) ↦ inl (subst (λ fs. Contains (numbers_of fs) n) is k)
+      ]
+
+  Notes-spots : (f : Found) → Contains after f → Contains found f ⊎ ((noted spot ≡ f) × (distance ≤ bound))
+  Notes-spots f k =
+      elim notes [
+        | inl (near, is) ↦ elim (Contains-push_cases found (noted spot) f (subst (λ fs. Contains fs f) is k)) [
           | inl old ↦ inl old
           | inr same ↦ inr (same, near)
         ]
-        | inr (far, is) ↦ inl (subst (λ ns. Contains ns n) is k)
+        | inr (far, is) ↦ inl (subst (λ fs. Contains fs f) is k)
       ]
 
-  Notes-different : AreDifferent found → ¬ Contains found node → AreDifferent noted
+  Notes-different : AreDifferent (numbers_of found) → ¬ Contains (numbers_of found) spot.node → AreDifferent (numbers_of after)
   Notes-different h new =
       elim notes [
         | inl (near, is) ↦ (
-            let whole : found ++ [] ≡ found = append-nil found in
-            subst AreDifferent (sym is)
-            (AreDifferent-within node found [] (subst AreDifferent (sym whole) h) (λ k. new (subst (λ ns. Contains ns node) whole k))))
-        | inr (far, is) ↦ subst AreDifferent (sym is) h
+            let whole : numbers_of found ++ [] ≡ numbers_of found = append-nil (numbers_of found) in
+            subst AreDifferent (sym (ap numbers_of is ∙ numbers_of-push found spot))
+            (AreDifferent-within spot.node (numbers_of found) [] (subst AreDifferent (sym whole) h)
+            (λ k. new (subst (λ ns. Contains ns spot.node) whole k))))
+        | inr (far, is) ↦ subst (λ fs. AreDifferent (numbers_of fs)) (sym is) h
       ]
 
 -- ---- the search
 
 -- So many spots were visited, and those of the queue wait with their points. The nodes found are visited ones, different, and near, and
 -- each near node whose point was seen since the search began is found, or waits.
-pub record IsGathering (before now : Sight) (target : Point) (r : ℕ) (queue : List Spot) (found : List ℕ) (visits : ℕ) : Type 0 where
-  pub search : IsSearch before now target (r * r) (λ n q. Contains found n) queue Nothing
+pub record IsGathering (before now : Sight) (target : Point) (r : ℕ) (queue : List Spot) (found : List Found) (visits : ℕ) : Type 0 where
+  pub search : IsSearch before now target (r * r) (λ n q. Contains (numbers_of found) n) queue Nothing
   pub visiting : IsVisiting now queue visits
   pub stand : AreSeenSpots now queue
-  pub different : AreDifferent found
-  pub among : (n : ℕ) → Contains found n → Contains visiting.done n
-  pub only : (n : ℕ) → Contains found n → (q : Point) × StandsAt now.seen.points n q × (squared_distance q target ≤ r * r)
-  pub fresh : AreFreshFound before now target (r * r) found queue
-
--- the squared distance of the target from the line that splits the children of a spot
-abbrev pub line_square : Spot → Point → ℕ
-line_square spot target = split_distance spot.by_rows spot.point target * split_distance spot.by_rows spot.point target
+  pub different : AreDifferent (numbers_of found)
+  pub among : (n : ℕ) → Contains (numbers_of found) n → Contains visiting.done n
+  pub only : (f : Found) → Contains found f → StandsAt now.seen.points f.node f.point × (squared_distance f.point target ≤ r * r) × (f.edge ≡ 0)
+  pub fresh : AreFreshFound before now target (r * r) (numbers_of found) queue
 
 -- After the far side of a node: it is noted, and its far child is left out or waits.
-pub record IsHalfWay (before now half : Sight) (target : Point) (bound : ℕ) (mid : List Spot) (noted done : List ℕ) (spot : Spot) (right : Bool)
+pub record IsHalfWay (before now half : Sight) (target : Point) (bound : ℕ) (mid : List Spot) (numbers done : List ℕ) (spot : Spot) (right : Bool)
     : Type 0 where
   pub later : IsLaterMoment now half
   pub keeps : KeepsSight half
-  pub few : length mid ≤ suc (length done)
-  pub search : IsSearch before half target bound (λ n q. Contains noted n) mid (GoesTo half target spot spot.point right)
+  pub search : IsSearch before half target bound (λ n q. Contains numbers n) mid (GoesTo half spot spot.point right)
   pub once : AreOnce half mid (spot.node ∷ done) (IsDoneOrAt done spot.node (not right))
   pub stand : AreSeenSpots half mid
-  pub fresh : AreFreshFound before half target bound noted mid
+  pub fresh : AreFreshFound before half target bound numbers mid
 
 begins_with : (before now : Sight) (target : Point) (r : ℕ) (spot : Spot) → LoadsPoint before now 0 spot.point → spot.node ≡ 0
-    → spot.by_rows ≡ false → spot.gap ≡ 0 → IsGathering before now target r (spot ∷ []) [] 0
-begins_with before now target r spot load node by_rows gap = record {
-  search = IsSearch-begins before now target (r * r) (λ n q. Contains {X = ℕ} [] n) spot load.later node by_rows gap;
+    → spot.by_rows ≡ false → IsGathering before now target r (spot ∷ []) [] 0
+begins_with before now target r spot load node by_rows = record {
+  search = IsSearch-begins before now target (r * r) (λ n q. Contains {X = ℕ} [] n) spot load.later node by_rows;
   visiting = IsVisiting-begins now spot node;
   stand = λ other k. elim (Contains-cases spot other [] k) [
     | inl is ↦
@@ -172,7 +181,7 @@ begins_with before now target r spot load node by_rows gap = record {
   ];
   different = tt;
   among = λ n k. absurd (Contains-none n k);
-  only = λ n k. absurd (Contains-none n k);
+  only = λ f k. absurd (Contains-none f k);
   fresh = λ n q own close. elim (cases_eq n 0) [
     | inl start ↦ inr (inr (spot, Contains-first spot [], node ∙ sym start))
     | inr apart ↦ inl (sym (load.others n apart) ∙ own)
@@ -180,14 +189,14 @@ begins_with before now target r spot load node by_rows gap = record {
 }
 
 -- It begins at node 0.
-pub IsGathering-begins : (before now : Sight) (target : Point) (r : ℕ) (spot : Spot) (queue : List Spot) (found : List ℕ)
-    → LoadsPoint before now 0 spot.point → spot.node ≡ 0 → spot.by_rows ≡ false → spot.gap ≡ 0 → queue ≡ spot ∷ [] → found ≡ []
+pub IsGathering-begins : (before now : Sight) (target : Point) (r : ℕ) (spot : Spot) (queue : List Spot) (found : List Found)
+    → LoadsPoint before now 0 spot.point → spot.node ≡ 0 → spot.by_rows ≡ false → queue ≡ spot ∷ [] → found ≡ []
     → IsGathering before now target r queue found 0
-IsGathering-begins before now target r spot queue found load node by_rows gap only none =
+IsGathering-begins before now target r spot queue found load node by_rows only none =
     subst (λ xs. IsGathering before now target r xs found 0) (sym only)
-    (subst (λ ns. IsGathering before now target r (spot ∷ []) ns 0) (sym none) (begins_with before now target r spot load node by_rows gap))
+    (subst (λ ns. IsGathering before now target r (spot ∷ []) ns 0) (sym none) (begins_with before now target r spot load node by_rows))
 
-module _ (before now : Sight) (target : Point) (r : ℕ) (queue : List Spot) (found : List ℕ) (visits : ℕ)
+module _ (before now : Sight) (target : Point) (r : ℕ) (queue : List Spot) (found : List Found) (visits : ℕ)
     (h : IsGathering before now target r queue found visits) where
   -- The first spot that waits is taken,
   module _ (spot : Spot) (rest : List Spot) (first_waits : queue ≡ spot ∷ rest) where
@@ -207,54 +216,43 @@ module _ (before now : Sight) (target : Point) (r : ℕ) (queue : List Spot) (fo
     taken : AreOnce now rest (spot.node ∷ done) (IsDone done)
     taken = AreOnce-takes now spot queue rest done h.visiting.once first_waits
 
-    beside : length rest ≤ length done
-    beside = IsVisiting-beside now queue rest visits (ap (λ (xs : List Spot). length xs) first_waits) h.visiting
-
-    not_found : ¬ Contains found spot.node
+    not_found : ¬ Contains (numbers_of found) spot.node
     not_found k = is_not_done now rest spot.node done (IsDone done) taken (h.among spot.node k)
 
-    -- There is room in the list for one more node.
-    pub IsGathering-room : (marks : ℕ) → KeepsSight now → ((n : ℕ) → IsSeen now.seen n → n ≤ marks) → length found ≤ marks
-    IsGathering-room marks keeps within =
-        let low : (n : ℕ) → Contains (spot.node ∷ found) n → n ≤ marks =
-        λ n k. elim (Contains-cases spot.node n found k) [
-          | inl is ↦ subst (λ m. m ≤ marks) is (within spot.node IsGathering-seen)
-          | inr old ↦ (let own = h.only n old in within n (keeps.rooted.points n (IsPresent-stands now.seen.points n own.0 own.1)))
-        ] in
-        omega (arith, AreDifferent-few (spot.node ∷ found) marks (not_found, h.different) low, length-one_more spot.node found)
-
-    -- There is room in the queue for a child of the node, if there is one.
-    pub IsGathering-room_far : (marks : ℕ) (side : Bool) → HasRoomFor now marks spot side (length rest)
-    IsGathering-room_far marks side = HasRoomFor-far now spot done marks rest side beside taken
+    -- Those that are visited, with it, and those that wait are no more than there are nodes.
+    pub IsGathering-room_far : (marks : ℕ) → ((n : ℕ) → IsSeen now.seen n → n ≤ marks) → suc visits + length rest ≤ suc marks
+    IsGathering-room_far marks within =
+        let few = AreOnce-few now marks within rest (spot.node ∷ done) (IsDone done) taken in
+        omega (arith, few, h.visiting.count, length-one_more spot.node done)
 
     -- ---- one visit
 
-    module _ (half : Sight) (mid : List Spot) (noted : List ℕ) (right : Bool) (keeps : KeepsSight now)
+    module _ (half : Sight) (mid : List Spot) (more_found : List Found) (right : Bool) (keeps : KeepsSight now)
         (own : right ≡ goes_right_by spot.by_rows spot.point target)
-        (notes : Notes found noted spot.node (squared_distance spot.point target) (r * r))
+        (notes : Notes found more_found spot (squared_distance spot.point target) (r * r))
         (far_side : QueuesWithin now half rest mid spot (not right) (line_square spot target) (r * r)) where
-      visited : IsSearch before now target (r * r) (λ n q. Contains noted n) rest (GoesBelow now target spot spot.point)
+      visited : IsSearch before now target (r * r) (λ n q. Contains (numbers_of more_found) n) rest (GoesBelow now spot spot.point)
       visited =
-          IsSearch-visits before now target (r * r) (λ n q. Contains found n) spot rest spot.point (r * r) (λ n q. Contains noted n)
-          IsGathering-stands (omega arith) (λ n q. Notes-old found noted spot.node (squared_distance spot.point target) (r * r) notes n)
-          (Notes-new found noted spot.node (squared_distance spot.point target) (r * r) notes)
-          (IsSearch-takes before now target (r * r) (λ n q. Contains found n) spot queue rest first_waits h.search)
+          IsSearch-visits before now target (r * r) (λ n q. Contains (numbers_of found) n) spot rest spot.point (r * r) (λ n q. Contains (numbers_of more_found) n)
+          IsGathering-stands (omega arith) (λ n q. Notes-old found more_found spot (squared_distance spot.point target) (r * r) notes n)
+          (Notes-new found more_found spot (squared_distance spot.point target) (r * r) notes)
+          (IsSearch-takes before now target (r * r) (λ n q. Contains (numbers_of found) n) spot queue rest first_waits h.search)
 
       stand_rest : AreSeenSpots now rest
       stand_rest other k = h.stand other (subst (λ xs. Contains xs other) (sym first_waits) (Contains-after spot rest other k))
 
-      fresh_noted : AreFreshFound before now target (r * r) noted rest
+      fresh_noted : AreFreshFound before now target (r * r) (numbers_of more_found) rest
       fresh_noted n q stands close =
           elim (cases_eq n spot.node) [
             | inl here ↦ (
                 let same : q ≡ spot.point =
                 StandsAt-unique now.seen.points spot.node q spot.point (subst (λ m. StandsAt now.seen.points m q) here stands) IsGathering-stands in
                 let near : squared_distance spot.point target ≤ r * r = subst (λ p. squared_distance p target ≤ r * r) same close in
-                inr (inl (subst (Contains noted) (sym here)
-                (Notes-new found noted spot.node (squared_distance spot.point target) (r * r) notes near))))
+                inr (inl (subst (Contains (numbers_of more_found)) (sym here)
+                (Notes-new found more_found spot (squared_distance spot.point target) (r * r) notes near))))
             | inr apart ↦ elim (h.fresh n q stands close) [
               | inl entry ↦ inl entry
-              | inr (inl k) ↦ inr (inl (Notes-old found noted spot.node (squared_distance spot.point target) (r * r) notes n k))
+              | inr (inl k) ↦ inr (inl (Notes-old found more_found spot (squared_distance spot.point target) (r * r) notes n k))
               | inr (inr (other, k, is)) ↦ elim (Contains-cases spot other rest (subst (λ xs. Contains xs other) first_waits k)) [
                 | inl first ↦ absurd (apart (sym is ∙ ap (λ (s : Spot). s.node) (sym first)))
                 | inr later ↦ inr (inr (other, later, is))
@@ -263,39 +261,36 @@ module _ (before now : Sight) (target : Point) (r : ℕ) (queue : List Spot) (fo
           ]
 
       half_way-leaves : LeavesChild now half rest mid (line_square spot target) (r * r)
-          → IsHalfWay before now half target (r * r) mid noted done spot right
+          → IsHalfWay before now half target (r * r) mid (numbers_of more_found) done spot right
       half_way-leaves leaves =
-          let long = ap (λ (xs : List Spot). length xs) leaves.same in
           record {
             later = leaves.later;
             keeps = leaves.keeps;
-            few = omega (arith, beside, long);
-            search = subst (λ xs. IsSearch before half target (r * r) (λ n q. Contains noted n) xs (GoesTo half target spot spot.point right))
+            search = subst (λ xs. IsSearch before half target (r * r) (λ n q. Contains (numbers_of more_found) n) xs (GoesTo half spot spot.point right))
                 (sym leaves.same)
-                (IsSearch-leaves before now half target (r * r) (λ n q. Contains noted n) spot spot.point IsGathering-stands leaves.later keeps right own
+                (IsSearch-leaves before now half target (r * r) (λ n q. Contains (numbers_of more_found) n) spot spot.point IsGathering-stands leaves.later keeps right own
                 rest leaves.beyond visited);
             once = subst (λ xs. AreOnce half xs (spot.node ∷ done) (IsDoneOrAt done spot.node (not right))) (sym leaves.same)
                 (AreOnce-leaves now half leaves.later rest spot done (not right) taken);
             stand = AreSeenSpots-same now half leaves.later rest mid leaves.same leaves.points stand_rest;
-            fresh = AreFreshFound-same now half leaves.later rest mid leaves.same leaves.points before target (r * r) noted fresh_noted;
+            fresh = AreFreshFound-same now half leaves.later rest mid leaves.same leaves.points before target (r * r) (numbers_of more_found) fresh_noted;
           }
 
       half_way-queues : QueuesChild now half rest mid spot (not right)
-          → IsHalfWay before now half target (r * r) mid noted done spot right
+          → IsHalfWay before now half target (r * r) mid (numbers_of more_found) done spot right
       half_way-queues queues =
           let opens = QueuesChild-opens now half rest mid spot (not right) queues in
           record {
             later = queues.later;
             keeps = queues.keeps;
-            few = omega (arith, beside, Opens-few now half rest mid spot (not right) 0 opens);
-            search = IsSearch-opens_far before now half target (r * r) (λ n q. Contains noted n) spot spot.point IsGathering-stands queues.later keeps
-                right own rest mid 0 (inl (omega arith)) opens visited;
-            once = AreOnce-opens_far now half queues.later rest spot done queues.keeps mid (not right) 0 taken opens;
+            search = IsSearch-opens_far before now half target (r * r) (λ n q. Contains (numbers_of more_found) n) spot spot.point IsGathering-stands queues.later keeps
+                right own rest mid opens visited;
+            once = AreOnce-opens_far now half queues.later rest spot done queues.keeps mid (not right) taken opens;
             stand = QueuesChild-stands now half rest mid spot (not right) queues stand_rest;
-            fresh = QueuesChild-fresh now half rest mid spot (not right) queues before target (r * r) noted fresh_noted;
+            fresh = QueuesChild-fresh now half rest mid spot (not right) queues before target (r * r) (numbers_of more_found) fresh_noted;
           }
 
-      half_way : IsHalfWay before now half target (r * r) mid noted done spot right
+      half_way : IsHalfWay before now half target (r * r) mid (numbers_of more_found) done spot right
       half_way =
           elim far_side [
             | inl leaves ↦ half_way-leaves leaves
@@ -303,72 +298,81 @@ module _ (before now : Sight) (target : Point) (r : ℕ) (queue : List Spot) (fo
           ]
 
       -- There is room for a child of the near side, too.
-      pub IsGathering-room_near : (marks : ℕ) → HasRoomFor half marks spot right (length mid)
-      IsGathering-room_near marks = HasRoomFor-near half spot done marks mid right half_way.few half_way.once
+      pub IsGathering-room_near : (marks : ℕ) → ((n : ℕ) → IsSeen half.seen n → n ≤ marks) → suc visits + length mid ≤ suc marks
+      IsGathering-room_near marks within =
+          let few = AreOnce-few half marks within mid (spot.node ∷ done) (IsDoneOrAt done spot.node (not right)) half_way.once in
+          omega (arith, few, h.visiting.count, length-one_more spot.node done)
 
       -- The node is noted, and then its children are queued.
       pub IsGathering-visits : (after : Sight) (put : List Spot) (next : ℕ) → next ≡ suc visits → QueuesChild half after mid put spot right
-          → IsGathering before after target r put noted next
+          → IsGathering before after target r put more_found next
       IsGathering-visits after put next more near_side =
           let opens = QueuesChild-opens half after mid put spot right near_side in
           let later = IsLaterMoment-trans now half after half_way.later near_side.later in
           let distance : ℕ = squared_distance spot.point target in
           record {
-            search = IsSearch-opens_near before half after target (r * r) (λ n q. Contains noted n) spot spot.point
-                (half_way.later.seen.places.nodes spot.node spot.point IsGathering-stands) near_side.later half_way.keeps right mid put 0 (omega arith)
+            search = IsSearch-opens_near before half after target (r * r) (λ n q. Contains (numbers_of more_found) n) spot spot.point
+                (half_way.later.seen.places.nodes spot.node spot.point IsGathering-stands) near_side.later half_way.keeps right mid put
                 opens half_way.search;
             visiting = record {
               done = spot.node ∷ done;
               count = ap suc h.visiting.count ∙ sym more;
-              few = omega (arith, half_way.few, Opens-few half after mid put spot right 0 opens, h.visiting.count, more);
-              once = AreOnce-opens_near half after near_side.later mid spot done near_side.keeps put right 0 half_way.once opens;
+              once = AreOnce-opens_near half after near_side.later mid spot done near_side.keeps put right half_way.once opens;
             };
             stand = QueuesChild-stands half after mid put spot right near_side half_way.stand;
-            different = Notes-different found noted spot.node distance (r * r) notes h.different not_found;
-            among = λ n k. elim (Notes-cases found noted spot.node distance (r * r) notes n k) [
+            different = Notes-different found more_found spot distance (r * r) notes h.different not_found;
+            among = λ n k. elim (Notes-cases found more_found spot distance (r * r) notes n k) [
               | inl old ↦ Contains-after spot.node done n (h.among n old)
-              | inr (same, near) ↦ (0, omega arith, same)
+              | inr same ↦ (0, omega arith, same)
             ];
-            only = λ n k. elim (Notes-cases found noted spot.node distance (r * r) notes n k) [
-              | inl old ↦ (let seen = h.only n old in (seen.0, later.seen.places.nodes n seen.0 seen.1, seen.2))
-              | inr (same, near) ↦
-                  (spot.point, later.seen.places.nodes n spot.point (subst (λ m. StandsAt now.seen.points m spot.point) same IsGathering-stands), near)
+            only = λ f k. elim (Notes-spots found more_found spot distance (r * r) notes f k) [
+              | inl old ↦ (let own = h.only f old in (later.seen.places.nodes f.node f.point own.0, own.1, own.2))
+              | inr (same, near) ↦ subst
+                  (λ (g : Found). StandsAt after.seen.points g.node g.point × (squared_distance g.point target ≤ r * r) × (g.edge ≡ 0)) same
+                  (later.seen.places.nodes spot.node spot.point IsGathering-stands, near, refl)
             ];
-            fresh = QueuesChild-fresh half after mid put spot right near_side before target (r * r) noted half_way.fresh;
+            fresh = QueuesChild-fresh half after mid put spot right near_side before target (r * r) (numbers_of more_found) half_way.fresh;
           }
 
-  -- After as many visits as there are marks, and node 0, nothing waits.
-  pub IsGathering-all_visited : (marks : ℕ) → ((n : ℕ) → IsSeen now.seen n → n ≤ marks) → suc marks ≤ visits → queue ≡ []
-  IsGathering-all_visited marks within all =
-      nil_from_length queue (omega (arith, IsVisiting-few now marks within queue visits h.visiting, all))
+  -- No more are visited and wait than there are nodes.
+  pub IsGathering-few : (marks : ℕ) → ((n : ℕ) → IsSeen now.seen n → n ≤ marks) → length queue + visits ≤ suc marks
+  IsGathering-few marks within = IsVisiting-few now marks within queue visits h.visiting
 
-  -- It ends when nothing waits: sorted, the list has the near nodes.
+  -- Nor are more found.
+  pub IsGathering-few_found : (marks : ℕ) → ((n : ℕ) → IsSeen now.seen n → n ≤ marks) → length found ≤ suc marks
+  IsGathering-few_found marks within =
+      omega (
+        arith,
+        AreDifferent-few (numbers_of found) marks h.different low,
+        length-map found (λ (f : Found). f.node),
+      )
+    where
+      low : (n : ℕ) → Contains (numbers_of found) n → n ≤ marks
+      low n k = AreOnce-low now marks within queue h.visiting.done (IsDone h.visiting.done) h.visiting.once n (h.among n k)
+
+  -- It ends when nothing waits: the near nodes are found.
   module _ (none_waits : queue ≡ []) (sight : KeepsSight before) (keeps : KeepsSight now) (distinct : AreDistinct now.seen.points) where
-    met : (q : Point) → squared_distance q target ≤ r * r → IsMet before now (λ n p. Contains found n) q
-    met = IsSearch-ends before now target (r * r) (λ n q. Contains found n) queue none_waits h.search
+    met : (q : Point) → squared_distance q target ≤ r * r → IsMet before now (λ n p. Contains (numbers_of found) n) q
+    met = IsSearch-ends before now target (r * r) (λ n q. Contains (numbers_of found) n) queue none_waits h.search
 
-    all_found : (n : ℕ) (q : Point) → StandsAt now.seen.points n q → squared_distance q target ≤ r * r → Contains found n
+    all_found : (n : ℕ) (q : Point) → StandsAt now.seen.points n q → squared_distance q target ≤ r * r → Contains (numbers_of found) n
     all_found n q stands close =
         elim (h.fresh n q stands close) [
           | inl entry ↦ elim (met q close) [
-            | inl (m, own, k) ↦ subst (Contains found) (distinct m n q own stands) k
+            | inl (m, own, k) ↦ subst (Contains (numbers_of found)) (distinct m n q own stands) k
             | inr ends ↦ absurd (IsFree-ends before now h.search.later sight keeps q ends n entry)
           ]
           | inr (inl k) ↦ k
           | inr (inr (spot, k, is)) ↦ absurd (Contains-none spot (subst (λ xs. Contains xs spot) none_waits k))
         ]
 
-    pub IsGathering-ends : (list : List ℕ) → IsPermutation found list → IsNonDecreasing list → AreNearSeen before now target r list
-    IsGathering-ends list moved sorted = record {
-      all = near-sorted now.seen.points target r found list h.different moved sorted only_within within_found;
+    pub IsGathering-ends : AreGathered before now target r found
+    IsGathering-ends = record {
+      once = IsDistinct-from_different (numbers_of found) h.different;
+      all = λ n within. (let own = is_within-close target r (point_at now.seen.points n) within in all_found n own.0 own.1 own.2);
+      only = h.only;
       swept = λ q close free. elim (met q close) [
         | inl (m, own, k) ↦ absurd (free m own)
         | inr ends ↦ ends
       ];
     }
-      where
-        only_within : (n : ℕ) → Contains found n → is_within target r (point_at now.seen.points n) ≡ true
-        only_within n k = (let own = h.only n k in ap (is_within target r) own.1 ∙ is_within-near target r own.0 own.2)
-
-        within_found : (n : ℕ) → is_within target r (point_at now.seen.points n) ≡ true → Contains found n
-        within_found n within = (let own = is_within-close target r (point_at now.seen.points n) within in all_found n own.0 own.1 own.2)

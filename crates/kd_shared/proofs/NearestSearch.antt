@@ -1,29 +1,34 @@
--- The search for the nearest node, by a stack: the nearest so far, and the points that wait.
-use Rattle.std.proofs.Common.{◌≡◌, ◌⊎◌, ℕ, suc, ◌*◌, ◌<◌, ◌≤◌, Bool, false, not, List, [], ◌∷◌}
-use Rattle.std.proofs.Common.{◌++◌, length, length-append, arith, sym, ap, ◌∙◌, subst, inl, inr}
+-- The walk to the nearest node: the nearest so far, and the points that are left.
+use Rattle.std.proofs.Common.{◌≡◌, ◌⊎◌, ℕ, suc, ◌*◌, ◌<◌, ◌≤◌, Bool, false, not, Option, Some, None, List, [], ◌∷◌}
+use Rattle.std.proofs.Common.{◌++◌, arith, refl, sym, ap, ◌∙◌, subst, inl, inr}
 use Rattle.std.specs.Prelude.{Contains}
 use Rattle.std.proofs.lemmas.Bool.{cases_eq, cases_lt}
-use Rattle.std.proofs.lemmas.List.Elements.{Contains-push}
+use Rattle.std.proofs.lemmas.List.Elements.{Contains-append_cases, Contains-append_left, Contains-append_right, Contains-push, Contains-push_cases}
 use Rattle.plan_model.specs.declared.geometry.Point.{Point}
 use Rattle.plan_model.specs.Geometry.Plane.{squared_distance}
 use Rattle.plan_model.specs.Trees.LeastPairs.{IsNotAbove, IsPairNotAbove}
 use Rattle.plan_model.specs.Trees.Nearness.{distance_to}
 use Rattle.plan_model.specs.Trees.PointsByNumber.{point_of, AreDistinct, StandsAt}
 use Rattle.plan_model.specs.Seen.SeenTrees.{IsSeen}
-use Rattle.plan_model.specs.Seen.Sights.{KeepsSight, Sight}
+use Rattle.plan_model.specs.Seen.Sights.{IsLaterMoment, KeepsSight, Sight}
+use Rattle.plan_model.proofs.ListMembers.{Contains-first}
 use Rattle.plan_model.proofs.NewNodes.{IsPresent-stands, point_of-stands, StandsAt-present, StandsAt-unique}
-use Rattle.plan_model.proofs.SightLaws.{IsFree-ends}
-use Rattle.plan_words.specs.declared.scratch.Spot.{Spot}
+use Rattle.plan_model.proofs.SamePoints.{same_or_other}
+use Rattle.plan_model.proofs.SightLaws.{IsFree-ends, IsLaterMoment-trans}
+use Rattle.plan_words.specs.declared.spots.Spot.{Spot}
 use Rattle.step_core.specs.KdSides.{goes_right_by, split_distance}
 use Rattle.step_core.specs.MeasuredNodes.{IsNearerOf}
 use Rattle.step_core.specs.declared.measured_nodes.MeasuredNode.{MeasuredNode}
-use Rattle.kd_shared.specs.Loads.{LoadsPoint}
+use Rattle.step_core.proofs.DistinctNumbers.{Contains-cases, Contains-none}
+use Rattle.step_core.proofs.SplitSides.{split_distance-le, two_sides}
+use Rattle.kd_shared.specs.FarSides.{far_side, IsChildSpot, IsFinished, line_square, LoadsSpot, near_side, PopsFar, StacksFar, WalksOn}
+use Rattle.kd_shared.specs.Loads.{FindsEmpty, KeepsPoints, LoadsPoint}
 use Rattle.kd_shared.specs.Searches.{IsNearestSeen}
-use Rattle.kd_shared.specs.Spots.{HasRoomFor, StacksChild}
-use Rattle.kd_shared.proofs.Searching.{GoesTo, IsMet, IsSearch, IsSearch-begins, IsSearch-ends, IsSearch-later, IsSearch-opens_far, IsSearch-opens_near}
-use Rattle.kd_shared.proofs.Searching.{IsSearch-pops, IsSearch-skips, IsSearch-visits, Nothing, WaitsAt, WaitsAt-later}
-use Rattle.kd_shared.proofs.VisitedOnce.{AreOnce, AreOnce-later, AreOnce-opens_far, AreOnce-opens_near, AreOnce-pops, HasRoomFor-far, HasRoomFor-near}
-use Rattle.kd_shared.proofs.VisitedOnce.{IsDone, IsDoneOrAt, IsVisiting, IsVisiting-begins, IsVisiting-beside, IsVisiting-skips, Opens-few}
+use Rattle.kd_shared.specs.Spots.{Puts}
+use Rattle.kd_shared.proofs.PoppedNodes.{IsFinished-begun}
+use Rattle.kd_shared.proofs.Searching.{ends_here, GoesBelow, GoesBelow-later, GoesTo, IsMet, IsSearch, IsSearch-begins, IsSearch-ends, IsSearch-shifts}
+use Rattle.kd_shared.proofs.Searching.{Nothing, Waits, WaitsAt, waits_at_child, WaitsAt-later}
+use Rattle.kd_shared.proofs.WalkedOnce.{IsWalking, IsWalking-begins, IsWalking-far, IsWalking-near}
 
 -- ---- the nearest so far
 
@@ -61,205 +66,383 @@ IsPairNotAbove-trans a i b j c k one two = record {
       omega (arith, one.first one_key, two.first other_key);
 }
 
--- The nearest so far is seen, the search by a stack goes on, and nodes whose points were seen since it began are not nearer.
-pub record IsSeeking (before now : Sight) (target : Point) (distance best : ℕ) (stack : List Spot) (visits : ℕ) : Type 0 where
+-- ---- what is left
+
+-- the way of q goes to the far side of a node on the stack
+abbrev pub IsLeft : Sight → Point → List Spot → Point → Type 0
+IsLeft now target stack q = (spot : Spot) × Contains stack spot × GoesTo now spot spot.point (far_side spot target) q
+
+-- the points of these nodes are seen
+abbrev pub AreStanding : Sight → List Spot → Type 0
+AreStanding now spots = (spot : Spot) → Contains spots spot → StandsAt now.seen.points spot.node spot.point
+
+-- The nearest so far is seen. Points that are not met wait at the next node, or on the far side of one on the stack. Nodes whose points were
+-- seen since the walk began are not nearer, but the next one may be.
+pub record IsSeeking (before now : Sight) (target : Point) (distance best : ℕ) (here : Spot) (stack : List Spot) (visits : ℕ) : Type 0 where
   pub best_is : IsBest now target distance best
-  pub search : IsSearch before now target distance (IsOutdone target distance best) stack Nothing
+  pub search : IsSearch before now target distance (IsOutdone target distance best) (here ∷ []) (IsLeft now target stack)
+  pub stands : StandsAt now.seen.points here.node here.point
+  pub stack_stands : AreStanding now stack
+  pub fresh : (n : ℕ) (q : Point) → StandsAt now.seen.points n q
+      → (StandsAt before.seen.points n q ⊎ IsOutdone target distance best n q) ⊎ (n ≡ here.node)
+  pub walking : IsWalking now target (here ∷ []) stack visits
+
+-- It is over: nothing is left.
+pub record HasSought (before now : Sight) (target : Point) (distance best : ℕ) : Type 0 where
+  pub best_is : IsBest now target distance best
+  pub search : IsSearch before now target distance (IsOutdone target distance best) [] Nothing
   pub fresh : (n : ℕ) (q : Point) → StandsAt now.seen.points n q → StandsAt before.seen.points n q ⊎ IsOutdone target distance best n q
-  pub visiting : IsVisiting now stack visits
 
--- ---- the stages
+-- It begins at node 0.
+pub IsSeeking-begins : (before now : Sight) (target : Point) (distance : ℕ) (here : Spot) → LoadsPoint before now 0 here.point
+    → distance ≡ squared_distance here.point target → here.node ≡ 0 → here.by_rows ≡ false → IsSeeking before now target distance 0 here [] 0
+IsSeeking-begins before now target distance here load is node by_rows =
+    let begun = IsSearch-begins before now target distance (IsOutdone target distance 0) here load.later node by_rows in
+    record {
+      best_is = record { point = here.point; stands = load.stands; distance_is = is };
+      search = record {
+        later = begun.later;
+        seen = begun.seen;
+        all = λ q close. elim (begun.all q close) [
+          | inl met ↦ inl met
+          | inr (inl waits) ↦ inr (inl waits)
+          | inr (inr left) ↦ absurd left
+        ];
+      };
+      stands = subst (λ n. StandsAt now.seen.points n here.point) (sym node) load.stands;
+      stack_stands = λ spot k. absurd (Contains-none spot k);
+      fresh = λ n q own. elim (cases_eq n 0) [
+        | inl start ↦ inr (start ∙ sym node)
+        | inr apart ↦ inl (inl (sym (load.others n apart) ∙ own))
+      ];
+      walking = IsWalking-begins now target here node;
+    }
 
-begins_with : (before now : Sight) (target p : Point) (distance : ℕ) (spot : Spot) → LoadsPoint before now 0 p
-    → distance ≡ squared_distance p target → spot.node ≡ 0 → spot.by_rows ≡ false → spot.gap ≡ 0
-    → IsSeeking before now target distance 0 (spot ∷ []) 0
-begins_with before now target p distance spot load is node by_rows gap = record {
-  best_is = record { point = p; stands = load.stands; distance_is = is };
-  search = IsSearch-begins before now target distance (IsOutdone target distance 0) spot load.later node by_rows gap;
-  fresh = λ n q own. elim (cases_eq n 0) [
-    | inl start ↦ (
-        let same : q ≡ p = StandsAt-unique now.seen.points 0 q p (subst (λ m. StandsAt now.seen.points m q) start own) load.stands in
-        inr (record { least = omega (arith, is, ap (λ r. squared_distance r target) same); first = λ e. omega arith }))
-    | inr apart ↦ inl (sym (load.others n apart) ∙ own)
-  ];
-  visiting = IsVisiting-begins now spot node;
-}
+-- ---- one visit
 
--- It begins at node 0,
-pub IsSeeking-begins : (before now : Sight) (target p : Point) (distance : ℕ) (spot : Spot) (stack : List Spot) → LoadsPoint before now 0 p
-    → distance ≡ squared_distance p target → spot.node ≡ 0 → spot.by_rows ≡ false → spot.gap ≡ 0 → stack ≡ spot ∷ []
-    → IsSeeking before now target distance 0 stack 0
-IsSeeking-begins before now target p distance spot stack load is node by_rows gap only =
-    subst (λ xs. IsSeeking before now target distance 0 xs 0) (sym only) (begins_with before now target p distance spot load is node by_rows gap)
+module _ (before now half : Sight) (target : Point) (distance best less nearer : ℕ) (here : Spot) (stack put : List Spot) (visits : ℕ)
+    (h : IsSeeking before now target distance best here stack visits) (keeps : KeepsSight now)
+    (nearest : IsNearer distance best (squared_distance here.point target) here.node less nearer)
+    (stacks : StacksFar now half target less stack put here) where
+  still_outdone : (n : ℕ) (q : Point) → IsOutdone target distance best n q → IsOutdone target less nearer n q
+  still_outdone n q = IsPairNotAbove-trans less nearer distance best (squared_distance q target) n nearest.before
 
-module _ (before now : Sight) (target : Point) (distance best : ℕ) (stack : List Spot) (visits : ℕ)
-    (h : IsSeeking before now target distance best stack visits) where
-  -- the node that is popped is seen
-  pub IsSeeking-seen : (spot : Spot) (rest : List Spot) → stack ≡ rest ++ spot ∷ [] → IsSeen now.seen spot.node
-  IsSeeking-seen spot rest is = h.search.seen spot (subst (λ xs. Contains xs spot) (sym is) (Contains-push rest spot))
+  best_half : IsBest half target less nearer
+  best_half =
+      elim nearest.one_of [
+        | inl (same, as_before) ↦ record {
+          point = h.best_is.point;
+          stands = stacks.later.seen.places.nodes nearer h.best_is.point
+              (subst (λ n. StandsAt now.seen.points n h.best_is.point) (sym as_before) h.best_is.stands);
+          distance_is = same ∙ h.best_is.distance_is;
+        }
+        | inr (is, node) ↦ record {
+          point = here.point;
+          stands = stacks.later.seen.places.nodes nearer here.point (subst (λ n. StandsAt now.seen.points n here.point) (sym node) h.stands);
+          distance_is = is;
+        }
+      ]
 
-  module _ (spot : Spot) (rest : List Spot) (is : stack ≡ rest ++ spot ∷ []) where
-    beside : length rest ≤ length h.visiting.done
-    beside =
-        let e = ap (λ (xs : List Spot). length xs) is in
-        IsVisiting-beside now stack rest visits (omega (arith, e, length-append rest (spot ∷ []))) h.visiting
+  stack_cases : (put ≡ stack) ⊎ (put ≡ stack ++ here ∷ [])
+  stack_cases =
+      elim stacks.stacks [
+        | inl (finished, same) ↦ inl same
+        | inr last ↦ inr last
+      ]
 
-    once_popped : (found : Sight) (p : Point) → LoadsPoint now found spot.node p → AreOnce found rest (spot.node ∷ h.visiting.done) (IsDone h.visiting.done)
-    once_popped found p load =
-        AreOnce-later now found load.later (spot.node ∷ h.visiting.done) (IsDone h.visiting.done) (IsDone h.visiting.done) (λ a side used. used) rest
-        (AreOnce-pops now spot stack rest h.visiting.done h.visiting.once is)
+  in_put : (spot : Spot) → Contains stack spot → Contains put spot
+  in_put spot k =
+      elim stack_cases [
+        | inl same ↦ subst (λ xs. Contains xs spot) (sym same) k
+        | inr last ↦ subst (λ xs. Contains xs spot) (sym last) (Contains-append_left stack (here ∷ []) spot k)
+      ]
 
-    -- and the stack has room for a child of it, once its point is loaded
-    pub IsSeeking-room_far : (found : Sight) (p : Point) (marks : ℕ) (side : Bool) → LoadsPoint now found spot.node p
-        → HasRoomFor found marks spot side (length rest)
-    IsSeeking-room_far found p marks side load =
-        HasRoomFor-far found spot h.visiting.done marks rest side beside (once_popped found p load)
+  -- (the points of those on the stack are seen)
+  pub stands_half : AreStanding half put
+  stands_half spot k =
+      elim stack_cases [
+        | inl same ↦
+            stacks.later.seen.places.nodes spot.node spot.point (h.stack_stands spot (subst (λ xs. Contains xs spot) same k))
+        | inr last ↦ elim (Contains-push_cases stack here spot (subst (λ xs. Contains xs spot) last k)) [
+          | inl old ↦ stacks.later.seen.places.nodes spot.node spot.point (h.stack_stands spot old)
+          | inr is ↦ subst (λ (s : Spot). StandsAt half.seen.points s.node s.point) is (stacks.later.seen.places.nodes here.node here.point h.stands)
+        ]
+      ]
 
-  -- pops a spot that is too far,
-  pub IsSeeking-skips : (spot : Spot) (rest : List Spot) (next : ℕ) → stack ≡ rest ++ spot ∷ [] → next ≡ suc visits
-      → distance < spot.gap * spot.gap → IsSeeking before now target distance best rest next
-  IsSeeking-skips spot rest next is more too_far = record {
-    best_is = h.best_is;
-    search = IsSearch-skips before now target distance (IsOutdone target distance best) spot rest too_far
-        (IsSearch-pops before now target distance (IsOutdone target distance best) spot stack rest is h.search);
-    fresh = h.fresh;
-    visiting = IsVisiting-skips now spot stack rest visits next is more h.visiting;
+  fresh_half : (n : ℕ) (q : Point) → StandsAt half.seen.points n q → StandsAt before.seen.points n q ⊎ IsOutdone target less nearer n q
+  fresh_half n q stands =
+      let there : StandsAt now.seen.points n q = sym (stacks.points n) ∙ stands in
+      elim (h.fresh n q there) [
+        | inl (inl entry) ↦ inl entry
+        | inl (inr outdone) ↦ inr (still_outdone n q outdone)
+        | inr node ↦ (
+            let same : q ≡ here.point = StandsAt-unique now.seen.points here.node q here.point (subst (λ m. StandsAt now.seen.points m q) node there) h.stands in
+            inr (subst (IsOutdone target less nearer n) (sym same)
+            (subst (λ m. IsOutdone target less nearer m here.point) (sym node) nearest.one_more)))
+      ]
+
+  -- to the near side of the node, or to a far side
+  abbrev LeftHalf : Point → Type 0
+  LeftHalf q = GoesTo half here here.point (near_side here target) q ⊎ IsLeft half target put q
+
+  left_here : (q : Point) → squared_distance q target ≤ less → WaitsAt now here q
+      → IsMet before half (IsOutdone target less nearer) q ⊎ (Waits half [] q ⊎ LeftHalf q)
+  left_here q close waits =
+      elim (same_or_other here.point q) [
+        | inl same ↦ inl (inl (
+          here.node,
+          stacks.later.seen.places.nodes here.node here.point h.stands ∙ ap Some same,
+          subst (λ r. IsOutdone target less nearer here.node r) same nearest.one_more,
+        ))
+        | inr other ↦ (
+            let below : GoesBelow now here here.point q = record { waits = waits; other = other } in
+            elim (two_sides (goes_right_by here.by_rows here.point q) (near_side here target)) [
+              | inl goes ↦ inr (inr (inl (GoesBelow-later now half stacks.later here here.point q below, goes)))
+              | inr goes ↦ elim stacks.stacks [
+                | inl (inl empty, same) ↦
+                    inl (inr (ends_here before now half here here.point h.stands stacks.later (far_side here target) q h.search.later.steps empty (below, goes)))
+                | inl (inr too_far, same) ↦ absurd (omega (arith, split_distance-le here.by_rows here.point q target goes, close, too_far))
+                | inr last ↦ inr (inr (inr (
+                  here,
+                  subst (λ xs. Contains xs here) (sym last) (Contains-push stack here),
+                  (GoesBelow-later now half stacks.later here here.point q below, goes),
+                )))
+              ]
+            ])
+      ]
+
+  search_half : IsSearch before half target less (IsOutdone target less nearer) [] LeftHalf
+  search_half =
+      IsSearch-shifts before now half target distance less (IsOutdone target distance best) (IsOutdone target less nearer) stacks.later keeps
+      (here ∷ []) [] (IsLeft now target stack) LeftHalf nearest.before.least still_outdone (λ spot k. absurd (Contains-none spot k))
+      (λ q close left. elim left [
+        | inl (spot, k, waits) ↦ elim (Contains-cases here spot [] k) [
+          | inl is ↦ left_here q close (subst (λ s. WaitsAt now s q) (sym is) waits)
+          | inr none ↦ absurd (Contains-none spot none)
+        ]
+        | inr (spot, k, goes) ↦
+            inr (inr (inr (spot, in_put spot k, (GoesBelow-later now half stacks.later spot spot.point q goes.0, goes.1))))
+      ])
+      h.search
+
+  best_later : (after : Sight) → IsLaterMoment half after → IsBest after target less nearer
+  best_later after later = record {
+    point = best_half.point;
+    stands = later.seen.places.nodes nearer best_half.point best_half.stands;
+    distance_is = best_half.distance_is;
   }
 
-  -- or visits its node: it loads the point, and then the child of the far side
-  module _ (found half : Sight) (p : Point) (spot : Spot) (rest mid : List Spot) (far less nearer : ℕ) (right : Bool)
-      (keeps : KeepsSight now) (is : stack ≡ rest ++ spot ∷ []) (load : LoadsPoint now found spot.node p)
-      (nearest : IsNearer distance best (squared_distance p target) spot.node less nearer)
-      (own : right ≡ goes_right_by spot.by_rows p target) (far_is : (far ≤ spot.gap) ⊎ (far ≤ split_distance spot.by_rows p target))
-      (far_side : StacksChild found half rest mid spot (not right) far) where
-    abbrev done : List ℕ
-    done = h.visiting.done
+  -- ---- the child on the near side is next
 
-    nearest_half : IsBest half target less nearer
-    nearest_half =
-        elim nearest.one_of [
-          | inl (same, as_before) ↦ record {
-            point = h.best_is.point;
-            stands = far_side.later.seen.places.nodes nearer h.best_is.point
-                (load.later.seen.places.nodes nearer h.best_is.point
-                (subst (λ n. StandsAt now.seen.points n h.best_is.point) (sym as_before) h.best_is.stands));
-            distance_is = same ∙ h.best_is.distance_is;
-          }
-          | inr (here, node) ↦ record {
-            point = p;
-            stands = far_side.later.seen.places.nodes nearer p (subst (λ n. StandsAt found.seen.points n p) (sym node) load.stands);
-            distance_is = here;
-          }
-        ]
+  module _ (after : Sight) (child : Spot) (load : LoadsSpot half after here (near_side here target) (Some child)) where
+    abbrev puts_near : Puts after [] (child ∷ []) here (near_side here target)
+    puts_near = record { child = child; link = load.finds.link; by_rows = load.finds.by_rows; last = refl }
 
-    still_outdone : (n : ℕ) (q : Point) → IsOutdone target distance best n q → IsOutdone target less nearer n q
-    still_outdone n q = IsPairNotAbove-trans less nearer distance best (squared_distance q target) n nearest.before
+    search_near : IsSearch before after target less (IsOutdone target less nearer) (child ∷ []) (IsLeft after target put)
+    search_near =
+        IsSearch-shifts before half after target less less (IsOutdone target less nearer) (IsOutdone target less nearer) load.later stacks.keeps
+        [] (child ∷ []) LeftHalf (IsLeft after target put) (omega arith) (λ n q own. own)
+        (λ spot k. elim (Contains-cases child spot [] k) [
+          | inl is ↦ subst (λ (s : Spot). IsSeen after.seen s.node) is (inr (here.node, near_side here target, load.finds.link))
+          | inr none ↦ absurd (Contains-none spot none)
+        ])
+        (λ q close left. elim left [
+          | inl (spot, k, waits) ↦ absurd (Contains-none spot k)
+          | inr (inl goes) ↦ inr (inl (
+            child,
+            Contains-first child [],
+            waits_at_child before half after here here.point (stacks.later.seen.places.nodes here.node here.point h.stands) load.later [] (child ∷ [])
+                (near_side here target) puts_near q goes,
+          ))
+          | inr (inr (spot, k, goes)) ↦ inr (inr (spot, k, (GoesBelow-later half after load.later spot spot.point q goes.0, goes.1)))
+        ])
+        search_half
 
-    search_half : IsSearch before half target less (IsOutdone target less nearer) mid (GoesTo half target spot p right)
-    search_half =
-        let Taken : ℕ → Point → Type 0 = IsOutdone target less nearer in
-        let popped = IsSearch-pops before now target distance (IsOutdone target distance best) spot stack rest is h.search in
-        let loaded = IsSearch-later target now found load.later before keeps distance (IsOutdone target distance best) rest (WaitsAt now target spot)
-        (WaitsAt found target spot) (λ q close waits. WaitsAt-later target now found load.later spot q waits) popped in
-        let visited = IsSearch-visits before found target distance (IsOutdone target distance best) spot rest p less Taken load.stands
-        nearest.before.least still_outdone (λ close. nearest.one_more) loaded in
-        IsSearch-opens_far before found half target less Taken spot p load.stands far_side.later load.keeps right own rest mid far far_is
-        far_side.opens visited
-
-    once_half : AreOnce half mid (spot.node ∷ done) (IsDoneOrAt done spot.node (not right))
-    once_half =
-        AreOnce-opens_far found half far_side.later rest spot done far_side.keeps mid (not right) far (once_popped spot rest is found p load)
-        far_side.opens
-
-    few_half : length mid ≤ suc (length done)
-    few_half = omega (arith, beside spot rest is, Opens-few found half rest mid spot (not right) far far_side.opens)
-
-    fresh_half : (n : ℕ) (q : Point) → StandsAt half.seen.points n q → StandsAt before.seen.points n q ⊎ IsOutdone target less nearer n q
-    fresh_half n q stands =
-        let here : StandsAt found.seen.points n q = sym (far_side.points n) ∙ stands in
-        elim (cases_eq n spot.node) [
-          | inl node ↦ (
-              let same : q ≡ p = StandsAt-unique found.seen.points spot.node q p (subst (λ m. StandsAt found.seen.points m q) node here) load.stands in
-              inr (subst (IsOutdone target less nearer n) (sym same)
-              (subst (λ m. IsOutdone target less nearer m p) (sym node) nearest.one_more)))
-          | inr apart ↦ elim (h.fresh n q (sym (load.others n apart) ∙ here)) [
-            | inl entry ↦ inl entry
-            | inr outdone ↦ inr (still_outdone n q outdone)
-          ]
-        ]
-
-    -- (the stack has room for another)
-    pub IsSeeking-room_near : (marks : ℕ) → HasRoomFor half marks spot right (length mid)
-    IsSeeking-room_near marks = HasRoomFor-near half spot done marks mid right few_half once_half
-
-    -- and that of the near side,
-    pub IsSeeking-visits : (after : Sight) (put : List Spot) (near next : ℕ) → StacksChild half after mid put spot right near → near ≤ spot.gap
-        → next ≡ suc visits → IsSeeking before after target less nearer put next
-    IsSeeking-visits after put near next near_side near_is more = record {
-      best_is = record {
-        point = nearest_half.point;
-        stands = near_side.later.seen.places.nodes nearer nearest_half.point nearest_half.stands;
-        distance_is = nearest_half.distance_is;
-      };
-      search = IsSearch-opens_near before half after target less (IsOutdone target less nearer) spot p
-          (far_side.later.seen.places.nodes spot.node p load.stands) near_side.later far_side.keeps right mid put near near_is near_side.opens search_half;
-      fresh = λ n q stands. fresh_half n q (sym (near_side.points n) ∙ stands);
-      visiting = record {
-        done = spot.node ∷ done;
-        count = ap suc h.visiting.count ∙ sym more;
-        few = omega (arith, few_half, Opens-few half after mid put spot right near near_side.opens, h.visiting.count, more);
-        once = AreOnce-opens_near half after near_side.later mid spot done near_side.keeps put right near once_half near_side.opens;
-      };
-    }
-
-  -- and ends when nothing waits.
-  module _ (none : stack ≡ []) (sight : KeepsSight before) (keeps : KeepsSight now) (distinct : AreDistinct now.seen.points) where
-    met : (q : Point) → squared_distance q target ≤ distance → IsMet before now (IsOutdone target distance best) q
-    met = IsSearch-ends before now target distance (IsOutdone target distance best) stack none h.search
-
-    entry_outdone : (n : ℕ) (q : Point) → StandsAt before.seen.points n q → IsOutdone target distance best n q
-    entry_outdone n q stands =
-        elim (cases_lt distance (squared_distance q target)) [
-          | inl further ↦ record { least = omega (arith, further); first = λ e. absurd (omega (arith, further, e)) }
-          | inr close ↦ elim (met q close) [
-            | inl (m, own, outdone) ↦
-                subst (λ k. IsOutdone target distance best k q) (distinct m n q own (h.search.later.seen.places.nodes n q stands)) outdone
-            | inr ends ↦ absurd (IsFree-ends before now h.search.later sight keeps q ends n stands)
-          ]
-        ]
-
-    distance_of : distance_to target now.seen.points best ≡ distance
-    distance_of =
-        ap (λ r. squared_distance r target) (point_of-stands now.seen.points best h.best_is.point h.best_is.stands) ∙ sym h.best_is.distance_is
-
-    not_above : (n : ℕ) (q : Point) → StandsAt now.seen.points n q → IsOutdone target distance best n q
-        → IsNotAbove (distance_to target now.seen.points) best n
-    not_above n q stands outdone =
-        let there : distance_to target now.seen.points n ≡ squared_distance q target =
-        ap (λ r. squared_distance r target) (point_of-stands now.seen.points n q stands) in
-        record {
-          least = omega (arith, distance_of, there, outdone.least);
-          first = λ e. outdone.first (sym there ∙ e ∙ distance_of);
-        }
-
-    pub IsSeeking-ends : IsNearestSeen before now target best
-    IsSeeking-ends = record {
-      nearest = record {
-        member = IsPresent-stands now.seen.points best h.best_is.point h.best_is.stands;
-        not_above = λ n present.
-            let q : Point = point_of now.seen.points n in
-            let stands = StandsAt-present now.seen.points n present in
-            elim (h.fresh n q stands) [
-              | inl entry ↦ not_above n q stands (entry_outdone n q entry)
-              | inr outdone ↦ not_above n q stands outdone
-            ];
-      };
-      not_above = λ n present.
-          let q : Point = point_of before.seen.points n in
-          let stands = StandsAt-present before.seen.points n present in
-          not_above n q (h.search.later.seen.places.nodes n q stands) (entry_outdone n q stands);
-      swept = λ q close free. elim (met q (omega (arith, close, distance_of))) [
-        | inl (m, own, outdone) ↦ absurd (free m own)
-        | inr ends ↦ ends
+    pub IsSeeking-near : IsSeeking before after target less nearer child put (suc visits)
+    IsSeeking-near = record {
+      best_is = best_later after load.later;
+      search = search_near;
+      stands = load.finds.stands;
+      stack_stands = λ spot k. load.later.seen.places.nodes spot.node spot.point (stands_half spot k);
+      fresh = λ n q stands. elim (cases_eq n child.node) [
+        | inl is ↦ inr is
+        | inr apart ↦ inl (fresh_half n q (sym (load.finds.others n apart) ∙ stands))
       ];
+      walking = IsWalking-near now target here stack visits h.walking put stack_cases half after stacks.later load.later load.keeps child puts_near;
     }
+
+  -- ---- or there is none, and nodes are popped
+
+  module _ (mid after : Sight) (near : LoadsSpot half mid here (near_side here target) None) (rest : List Spot) where
+    stands_mid : AreStanding mid put
+    stands_mid spot k = near.later.seen.places.nodes spot.node spot.point (stands_half spot k)
+
+    search_mid : IsSearch before mid target less (IsOutdone target less nearer) [] (IsLeft mid target put)
+    search_mid =
+        IsSearch-shifts before half mid target less less (IsOutdone target less nearer) (IsOutdone target less nearer) near.later stacks.keeps
+        [] [] LeftHalf (IsLeft mid target put) (omega arith) (λ n q own. own) (λ spot k. absurd (Contains-none spot k))
+        (λ q close left. elim left [
+          | inl (spot, k, waits) ↦ absurd (Contains-none spot k)
+          | inr (inl goes) ↦ inl (inr (ends_here before half mid here here.point (stacks.later.seen.places.nodes here.node here.point h.stands) near.later
+              (near_side here target) q search_half.later.steps near.finds.0 goes))
+          | inr (inr (spot, k, goes)) ↦ inr (inr (spot, k, (GoesBelow-later half mid near.later spot spot.point q goes.0, goes.1)))
+        ])
+        search_half
+
+    -- a far side that is finished
+    met_far : IsLaterMoment mid after → (spot : Spot) → Contains put spot → IsFinished mid after target less spot → (q : Point)
+        → squared_distance q target ≤ less → GoesTo mid spot spot.point (far_side spot target) q → IsMet before after (IsOutdone target less nearer) q
+    met_far later spot k (inl empty) q close goes =
+        inr (ends_here before mid after spot spot.point (stands_mid spot k) later (far_side spot target) q search_mid.later.steps empty goes)
+    met_far later spot k (inr too_far) q close goes =
+        absurd (omega (arith, split_distance-le spot.by_rows spot.point q target goes.1, close, too_far))
+
+    fresh_mid : (n : ℕ) (q : Point) → StandsAt mid.seen.points n q → StandsAt before.seen.points n q ⊎ IsOutdone target less nearer n q
+    fresh_mid n q stands = fresh_half n q (sym (near.finds.1 n) ∙ stands)
+
+    -- None has a child.
+    pub HasSought-popped : PopsFar mid after target less put rest None → HasSought before after target less nearer
+    HasSought-popped pops = record {
+      best_is = best_later after (IsLaterMoment-trans half mid after near.later pops.later);
+      search = IsSearch-shifts before mid after target less less (IsOutdone target less nearer) (IsOutdone target less nearer) pops.later near.keeps
+          [] [] (IsLeft mid target put) Nothing (omega arith) (λ n q own. own) (λ spot k. absurd (Contains-none spot k))
+          (λ q close left. elim left [
+            | inl (spot, k, waits) ↦ absurd (Contains-none spot k)
+            | inr (spot, k, goes) ↦ inl (met_far pops.later spot k
+                (pops.finished spot (subst (λ xs. Contains xs spot) pops.found.1 k)) q close goes)
+          ])
+          search_mid;
+      fresh = λ n q stands. fresh_mid n q (sym (pops.found.2 n) ∙ stands);
+    }
+
+    -- One has.
+    module _ (child : Spot) (pops : PopsFar mid after target less put rest (Some child)) where
+      abbrev above : Spot
+      above = pops.found.0
+
+      child_is : IsChildSpot mid after above (far_side above target) child
+      child_is = pops.found.2
+
+      abbrev puts_far : Puts after [] (child ∷ []) above (far_side above target)
+      puts_far = record { child = child; link = child_is.link; by_rows = child_is.by_rows; last = refl }
+
+      in_all : (spot : Spot) → Contains rest spot → Contains put spot
+      in_all spot k = subst (λ xs. Contains xs spot) (sym pops.found.1) (Contains-append_left rest (above ∷ pops.popped) spot k)
+
+      above_in : Contains put above
+      above_in =
+          subst (λ xs. Contains xs above) (sym pops.found.1)
+          (Contains-append_right rest (above ∷ pops.popped) above (Contains-first above pops.popped))
+
+      left_far : (q : Point) → squared_distance q target ≤ less → (spot : Spot) → Contains put spot
+          → GoesTo mid spot spot.point (far_side spot target) q
+          → IsMet before after (IsOutdone target less nearer) q ⊎ (Waits after (child ∷ []) q ⊎ IsLeft after target rest q)
+      left_far q close spot k goes =
+          elim (Contains-append_cases rest (above ∷ pops.popped) spot (subst (λ xs. Contains xs spot) pops.found.1 k)) [
+            | inl kept ↦ inr (inr (spot, kept, (GoesBelow-later mid after pops.later spot spot.point q goes.0, goes.1)))
+            | inr more ↦ elim (Contains-cases above spot pops.popped more) [
+              | inl is ↦ inr (inl (
+                child,
+                Contains-first child [],
+                waits_at_child before mid after above above.point (stands_mid above above_in) pops.later [] (child ∷ []) (far_side above target) puts_far q
+                    (subst (λ s. GoesTo mid s s.point (far_side s target) q) (sym is) goes),
+              ))
+              | inr popped ↦ inl (met_far pops.later spot k (pops.finished spot popped) q close goes)
+            ]
+          ]
+
+      search_far : IsSearch before after target less (IsOutdone target less nearer) (child ∷ []) (IsLeft after target rest)
+      search_far =
+          IsSearch-shifts before mid after target less less (IsOutdone target less nearer) (IsOutdone target less nearer) pops.later near.keeps
+          [] (child ∷ []) (IsLeft mid target put) (IsLeft after target rest) (omega arith) (λ n q own. own)
+          (λ spot k. elim (Contains-cases child spot [] k) [
+            | inl is ↦ subst (λ (s : Spot). IsSeen after.seen s.node) is (inr (above.node, far_side above target, child_is.link))
+            | inr none ↦ absurd (Contains-none spot none)
+          ])
+          (λ q close left. elim left [
+            | inl (spot, k, waits) ↦ absurd (Contains-none spot k)
+            | inr (spot, k, goes) ↦ left_far q close spot k goes
+          ])
+          search_mid
+
+      pub IsSeeking-far : IsSeeking before after target less nearer child rest (suc visits)
+      IsSeeking-far =
+          let later = IsLaterMoment-trans half mid after near.later pops.later in
+          record {
+            best_is = best_later after later;
+            search = search_far;
+            stands = child_is.stands;
+            stack_stands = λ spot k. pops.later.seen.places.nodes spot.node spot.point (stands_mid spot (in_all spot k));
+            fresh = λ n q stands. elim (cases_eq n child.node) [
+              | inl is ↦ inr is
+              | inr apart ↦ inl (fresh_mid n q (sym (child_is.others n apart) ∙ stands))
+            ];
+            walking = IsWalking-far now target here stack visits h.walking put stack_cases half after stacks.later later pops.keeps child above rest
+                pops.popped pops.found.1 puts_far;
+          }
+
+  -- So the walk goes on, or is over.
+  pub IsSeeking-walks : (after : Sight) (rest : List Spot) (child : Spot) → WalksOn half after target less here put rest (Some child)
+      → IsSeeking before after target less nearer child rest (suc visits)
+  IsSeeking-walks after rest child (inl (c, is, same, load)) =
+      subst (λ xs. IsSeeking before after target less nearer child xs (suc visits)) (sym same)
+      (IsSeeking-near after child (subst (λ s. LoadsSpot half after here (near_side here target) s) (sym is) load))
+  IsSeeking-walks after rest child (inr (mid, near, pops)) = IsSeeking-far mid after near rest child pops
+
+  pub HasSought-walks : (after : Sight) (rest : List Spot) → WalksOn half after target less here put rest None → HasSought before after target less nearer
+  HasSought-walks after rest (inl (c, is, same, load)) = cc
+  HasSought-walks after rest (inr (mid, near, pops)) = HasSought-popped mid after near rest pops
+
+-- ---- it is over
+
+module _ (before now : Sight) (target : Point) (distance best : ℕ) (h : HasSought before now target distance best)
+    (sight : KeepsSight before) (keeps : KeepsSight now) (distinct : AreDistinct now.seen.points) where
+  met : (q : Point) → squared_distance q target ≤ distance → IsMet before now (IsOutdone target distance best) q
+  met = IsSearch-ends before now target distance (IsOutdone target distance best) [] refl h.search
+
+  entry_outdone : (n : ℕ) (q : Point) → StandsAt before.seen.points n q → IsOutdone target distance best n q
+  entry_outdone n q stands =
+      elim (cases_lt distance (squared_distance q target)) [
+        | inl further ↦ record { least = omega (arith, further); first = λ e. absurd (omega (arith, further, e)) }
+        | inr close ↦ elim (met q close) [
+          | inl (m, own, outdone) ↦
+              subst (λ k. IsOutdone target distance best k q) (distinct m n q own (h.search.later.seen.places.nodes n q stands)) outdone
+          | inr ends ↦ absurd (IsFree-ends before now h.search.later sight keeps q ends n stands)
+        ]
+      ]
+
+  distance_of : distance_to target now.seen.points best ≡ distance
+  distance_of =
+      ap (λ r. squared_distance r target) (point_of-stands now.seen.points best h.best_is.point h.best_is.stands) ∙ sym h.best_is.distance_is
+
+  not_above : (n : ℕ) (q : Point) → StandsAt now.seen.points n q → IsOutdone target distance best n q
+      → IsNotAbove (distance_to target now.seen.points) best n
+  not_above n q stands outdone =
+      let there : distance_to target now.seen.points n ≡ squared_distance q target =
+      ap (λ r. squared_distance r target) (point_of-stands now.seen.points n q stands) in
+      record {
+        least = omega (arith, distance_of, there, outdone.least);
+        first = λ e. outdone.first (sym there ∙ e ∙ distance_of);
+      }
+
+  pub HasSought-nearest : IsNearestSeen before now target best
+  HasSought-nearest = record {
+    nearest = record {
+      member = IsPresent-stands now.seen.points best h.best_is.point h.best_is.stands;
+      not_above = λ n present.
+          let q : Point = point_of now.seen.points n in
+          let stands = StandsAt-present now.seen.points n present in
+          elim (h.fresh n q stands) [
+            | inl entry ↦ not_above n q stands (entry_outdone n q entry)
+            | inr outdone ↦ not_above n q stands outdone
+          ];
+    };
+    not_above = λ n present.
+        let q : Point = point_of before.seen.points n in
+        let stands = StandsAt-present before.seen.points n present in
+        not_above n q (h.search.later.seen.places.nodes n q stands) (entry_outdone n q stands);
+    swept = λ q close free. elim (met q (omega (arith, close, distance_of))) [
+      | inl (m, own, outdone) ↦ absurd (free m own)
+      | inr ends ↦ ends
+    ];
+  }

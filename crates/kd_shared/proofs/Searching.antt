@@ -2,7 +2,6 @@
 use Rattle.std.proofs.Common.{◌≡◌, ◌⊎◌, ℕ, suc, ◌*◌, ◌<◌, ◌≤◌, Bool, false, not, List, [], ◌∷◌, ◌++◌, Some, arith, refl, sym, ap, ◌∙◌, subst, inl, inr}
 use Rattle.std.specs.Prelude.{◌≢◌, Contains}
 use Rattle.std.proofs.lemmas.List.Elements.{Contains-append_left, Contains-push, Contains-push_cases}
-use Rattle.std.proofs.lemmas.Nat.{mul-le}
 use Rattle.plan_model.specs.declared.geometry.Point.{Point}
 use Rattle.plan_model.specs.Geometry.Plane.{squared_distance}
 use Rattle.plan_model.specs.Trees.PointsByNumber.{StandsAt}
@@ -16,7 +15,7 @@ use Rattle.plan_model.proofs.SightLaws.{EndsSince-later, IsLaterMoment-trans}
 use Rattle.step_core.specs.KdSides.{goes_right_by, is_by_rows, split_distance}
 use Rattle.kd_shared.specs.Loads.{FindsEmpty}
 use Rattle.kd_shared.specs.Spots.{Opens, Puts}
-use Rattle.plan_words.specs.declared.scratch.Spot.{Spot}
+use Rattle.plan_words.specs.declared.spots.Spot.{Spot}
 use Rattle.plan_model.proofs.ListMembers.{Contains-after}
 use Rattle.step_core.proofs.DistinctNumbers.{Contains-cases, Contains-none}
 use Rattle.step_core.proofs.SplitSides.{goes_right-by, is_by_rows-next, split_distance-le, two_sides}
@@ -24,24 +23,23 @@ use Rattle.step_core.proofs.SeenWays.{IsOnWay-later}
 
 -- ---- where a point is
 
--- The way of q comes to the node of a spot, and q is at least as far from the target as its gap.
-pub record WaitsAt (now : Sight) (target : Point) (spot : Spot) (q : Point) : Type 0 where
+-- The way of q comes to the node of a spot.
+pub record WaitsAt (now : Sight) (spot : Spot) (q : Point) : Type 0 where
   pub depth : ℕ
   pub by_rows : spot.by_rows ≡ is_by_rows depth
   pub on_way : IsOnWay now.seen.child now.seen.points q depth spot.node
-  pub far : spot.gap * spot.gap ≤ squared_distance q target
 
-abbrev pub Waits : Sight → Point → List Spot → Point → Type 0
-Waits now target spots q = (spot : Spot) × Contains spots spot × WaitsAt now target spot q
+abbrev pub Waits : Sight → List Spot → Point → Type 0
+Waits now spots q = (spot : Spot) × Contains spots spot × WaitsAt now spot q
 
 -- the way of q goes on below the node of a spot, which is at p
-pub record GoesBelow (now : Sight) (target : Point) (spot : Spot) (p q : Point) : Type 0 where
-  pub waits : WaitsAt now target spot q
+pub record GoesBelow (now : Sight) (spot : Spot) (p q : Point) : Type 0 where
+  pub waits : WaitsAt now spot q
   pub other : p ≢ q
 
 -- and to this side of it
-abbrev pub GoesTo : Sight → Point → Spot → Point → Bool → Point → Type 0
-GoesTo now target spot p side q = GoesBelow now target spot p q × (goes_right_by spot.by_rows p q ≡ side)
+abbrev pub GoesTo : Sight → Spot → Point → Bool → Point → Type 0
+GoesTo now spot p side q = GoesBelow now spot p q × (goes_right_by spot.by_rows p q ≡ side)
 
 -- A node is seen at q that the search has taken, or the way of q has ended.
 abbrev pub IsMet : Sight → Sight → (ℕ → Point → Type 0) → Point → Type 0
@@ -55,23 +53,22 @@ pub record IsSearch (before now : Sight) (target : Point) (bound : ℕ) (Taken :
     : Type 0 where
   pub later : IsLaterMoment before now
   pub seen : (spot : Spot) → Contains spots spot → IsSeen now.seen spot.node
-  pub all : (q : Point) → squared_distance q target ≤ bound → IsMet before now Taken q ⊎ (Waits now target spots q ⊎ Left q)
+  pub all : (q : Point) → squared_distance q target ≤ bound → IsMet before now Taken q ⊎ (Waits now spots q ⊎ Left q)
 
 -- ---- later moments
 
-module _ (target : Point) (now after : Sight) (later : IsLaterMoment now after) where
-  pub WaitsAt-later : (spot : Spot) (q : Point) → WaitsAt now target spot q → WaitsAt after target spot q
+module _ (now after : Sight) (later : IsLaterMoment now after) where
+  pub WaitsAt-later : (spot : Spot) (q : Point) → WaitsAt now spot q → WaitsAt after spot q
   WaitsAt-later spot q h = record {
     depth = h.depth;
     by_rows = h.by_rows;
     on_way = IsOnWay-later now after later q h.depth spot.node h.on_way;
-    far = h.far;
   }
 
-  pub GoesBelow-later : (spot : Spot) (p q : Point) → GoesBelow now target spot p q → GoesBelow after target spot p q
+  pub GoesBelow-later : (spot : Spot) (p q : Point) → GoesBelow now spot p q → GoesBelow after spot p q
   GoesBelow-later spot p q h = record { waits = WaitsAt-later spot q h.waits; other = h.other }
 
-  module _ (before : Sight) (keeps : KeepsSight now) (bound : ℕ) (Taken : ℕ → Point → Type 0) where
+  module _ (before : Sight) (target : Point) (keeps : KeepsSight now) (bound : ℕ) (Taken : ℕ → Point → Type 0) where
     IsMet-later : (q : Point) → IsMet before now Taken q → IsMet before after Taken q
     IsMet-later q (inl (n, stands, own)) = inl (n, later.seen.places.nodes n q stands, own)
     IsMet-later q (inr ends) = inr (EndsSince-later now after later keeps before.steps q ends)
@@ -93,9 +90,9 @@ module _ (target : Point) (now after : Sight) (later : IsLaterMoment now after) 
 
 module _ (before now : Sight) (target : Point) (bound : ℕ) (Taken : ℕ → Point → Type 0) where
   -- At first all points wait at node 0.
-  pub IsSearch-begins : (spot : Spot) → IsLaterMoment before now → spot.node ≡ 0 → spot.by_rows ≡ false → spot.gap ≡ 0
+  pub IsSearch-begins : (spot : Spot) → IsLaterMoment before now → spot.node ≡ 0 → spot.by_rows ≡ false
       → IsSearch before now target bound Taken (spot ∷ []) Nothing
-  IsSearch-begins spot later node by_rows gap = record {
+  IsSearch-begins spot later node by_rows = record {
     later = later;
     seen = λ other k. elim (Contains-cases spot other [] k) [
       | inl is ↦ inl (ap (λ (s : Spot). s.node) (sym is) ∙ node)
@@ -108,61 +105,31 @@ module _ (before now : Sight) (target : Point) (bound : ℕ) (Taken : ℕ → Po
         depth = 0;
         by_rows = by_rows;
         on_way = subst (IsOnWay now.seen.child now.seen.points q 0) (sym node) begins;
-        far = subst (λ g. g * g ≤ squared_distance q target) (sym gap) (omega arith);
       },
     ));
   }
 
-  -- The last spot of a stack is taken,
-  pub IsSearch-pops : (spot : Spot) (spots rest : List Spot) → spots ≡ rest ++ spot ∷ [] → IsSearch before now target bound Taken spots Nothing
-      → IsSearch before now target bound Taken rest (WaitsAt now target spot)
-  IsSearch-pops spot spots rest is h = record {
-    later = h.later;
-    seen = λ other k. h.seen other (subst (λ xs. Contains xs other) (sym is) (Contains-append_left rest (spot ∷ []) other k));
-    all = λ q close. elim (h.all q close) [
-      | inl met ↦ inl met
-      | inr (inl (other, k, waits)) ↦ elim (Contains-push_cases rest spot other (subst (λ xs. Contains xs other) is k)) [
-        | inl old ↦ inr (inl (other, old, waits))
-        | inr same ↦ inr (inr (subst (λ s. WaitsAt now target s q) (sym same) waits))
-      ]
-      | inr (inr left) ↦ absurd left
-    ];
-  }
-
-  -- or the first of a queue.
+  -- The first of those that wait is taken,
   pub IsSearch-takes : (spot : Spot) (spots rest : List Spot) → spots ≡ spot ∷ rest → IsSearch before now target bound Taken spots Nothing
-      → IsSearch before now target bound Taken rest (WaitsAt now target spot)
+      → IsSearch before now target bound Taken rest (WaitsAt now spot)
   IsSearch-takes spot spots rest is h = record {
     later = h.later;
     seen = λ other k. h.seen other (subst (λ xs. Contains xs other) (sym is) (Contains-after spot rest other k));
     all = λ q close. elim (h.all q close) [
       | inl met ↦ inl met
       | inr (inl (other, k, waits)) ↦ elim (Contains-cases spot other rest (subst (λ xs. Contains xs other) is k)) [
-        | inl same ↦ inr (inr (subst (λ s. WaitsAt now target s q) (sym same) waits))
+        | inl same ↦ inr (inr (subst (λ s. WaitsAt now s q) (sym same) waits))
         | inr old ↦ inr (inl (other, old, waits))
       ]
       | inr (inr left) ↦ absurd left
     ];
   }
 
-  -- What waits at a spot that is too far is left out.
-  pub IsSearch-skips : (spot : Spot) (rest : List Spot) → bound < spot.gap * spot.gap
-      → IsSearch before now target bound Taken rest (WaitsAt now target spot) → IsSearch before now target bound Taken rest Nothing
-  IsSearch-skips spot rest too_far h = record {
-    later = h.later;
-    seen = h.seen;
-    all = λ q close. elim (h.all q close) [
-      | inl met ↦ inl met
-      | inr (inl waits) ↦ inr (inl waits)
-      | inr (inr left) ↦ absurd (omega (arith, left.far, close, too_far))
-    ];
-  }
-
-  -- The node of a spot is visited, and taken if it is within the bound, which may have fallen.
+  -- and its node is visited, and taken if it is within the bound, which may have fallen.
   pub IsSearch-visits : (spot : Spot) (rest : List Spot) (p : Point) (less : ℕ) (Now : ℕ → Point → Type 0) → StandsAt now.seen.points spot.node p
       → less ≤ bound → ((n : ℕ) (q : Point) → Taken n q → Now n q) → (squared_distance p target ≤ less → Now spot.node p)
-      → IsSearch before now target bound Taken rest (WaitsAt now target spot)
-      → IsSearch before now target less Now rest (GoesBelow now target spot p)
+      → IsSearch before now target bound Taken rest (WaitsAt now spot)
+      → IsSearch before now target less Now rest (GoesBelow now spot p)
   IsSearch-visits spot rest p less Now stands falls still here h = record {
     later = h.later;
     seen = h.seen;
@@ -191,18 +158,35 @@ module _ (before now : Sight) (target : Point) (bound : ℕ) (Taken : ℕ → Po
         | inr (inr left) ↦ absurd left
       ]
 
+-- ---- one stage of a search
+
+-- Each point that waited, or was left to do, is met, waits or is still left. The bound may have fallen.
+pub IsSearch-shifts : (before now after : Sight) (target : Point) (bound less : ℕ) (Taken Now : ℕ → Point → Type 0) → IsLaterMoment now after
+    → KeepsSight now → (spots put : List Spot) (Left Still : Point → Type 0) → less ≤ bound → ((n : ℕ) (q : Point) → Taken n q → Now n q)
+    → ((spot : Spot) → Contains put spot → IsSeen after.seen spot.node)
+    → ((q : Point) → squared_distance q target ≤ less → Waits now spots q ⊎ Left q → IsMet before after Now q ⊎ (Waits after put q ⊎ Still q))
+    → IsSearch before now target bound Taken spots Left → IsSearch before after target less Now put Still
+IsSearch-shifts before now after target bound less Taken Now later keeps spots put Left Still falls still seen goes h = record {
+  later = IsLaterMoment-trans before now after h.later later;
+  seen = seen;
+  all = λ q close. elim (h.all q (omega (arith, falls, close))) [
+    | inl (inl (n, own, taken)) ↦ inl (inl (n, later.seen.places.nodes n q own, still n q taken))
+    | inl (inr ends) ↦ inl (inr (EndsSince-later now after later keeps before.steps q ends))
+    | inr left ↦ goes q close left
+  ];
+}
+
 -- ---- the children of a visited node are loaded
 
 module _
-    (before now after : Sight) (target : Point) (bound : ℕ) (Taken : ℕ → Point → Type 0) (spot : Spot) (p : Point)
-    (stands : StandsAt now.seen.points spot.node p) (later : IsLaterMoment now after) (keeps : KeepsSight now) where
+    (before now after : Sight) (spot : Spot) (p : Point) (stands : StandsAt now.seen.points spot.node p) (later : IsLaterMoment now after) where
   -- the way of a point that goes to this side
-  side_is : (side : Bool) (q : Point) (h : GoesTo now target spot p side q) → goes_right h.0.waits.depth p q ≡ side
+  side_is : (side : Bool) (q : Point) (h : GoesTo now spot p side q) → goes_right h.0.waits.depth p q ≡ side
   side_is side q (below, goes) =
       goes_right-by below.waits.depth p q ∙ ap (λ b. goes_right_by b p q) (sym below.waits.by_rows) ∙ goes
 
   -- ends if there is no child,
-  ends_here : (side : Bool) (q : Point) → before.steps ≤ now.steps → FindsEmpty now after spot.node side → GoesTo now target spot p side q
+  pub ends_here : (side : Bool) (q : Point) → before.steps ≤ now.steps → FindsEmpty now after spot.node side → GoesTo now spot p side q
       → EndsSince after before.steps q
   ends_here side q past empty goes =
       let below = goes.0 in
@@ -217,9 +201,9 @@ module _
       }
 
   -- and else comes to the child
-  waits_at_child : (spots put : List Spot) (side : Bool) (gap : ℕ) (h : Puts after spots put spot side gap) (q : Point)
-      → GoesTo now target spot p side q → gap * gap ≤ squared_distance q target → WaitsAt after target h.child q
-  waits_at_child spots put side gap h q goes far =
+  pub waits_at_child : (spots put : List Spot) (side : Bool) (h : Puts after spots put spot side) (q : Point) → GoesTo now spot p side q
+      → WaitsAt after h.child q
+  waits_at_child spots put side h q goes =
       let below = goes.0 in
       record {
         depth = suc below.waits.depth;
@@ -227,19 +211,20 @@ module _
         on_way = goes_on below.waits.depth spot.node h.child.node p
             (IsOnWay-later now after later q below.waits.depth spot.node below.waits.on_way)
             (later.seen.places.nodes spot.node p stands) below.other (ap (after.seen.child spot.node) (side_is side q goes) ∙ h.link);
-        far = subst (λ g. g * g ≤ squared_distance q target) (sym h.gap_is) far;
       }
 
+module _
+    (before now after : Sight) (target : Point) (bound : ℕ) (Taken : ℕ → Point → Type 0) (spot : Spot) (p : Point)
+    (stands : StandsAt now.seen.points spot.node p) (later : IsLaterMoment now after) (keeps : KeepsSight now) where
   -- what is left before and after the child on one side was loaded
-  abbrev Splits : (Left Still : Point → Type 0) → Bool → ℕ → Type 0
-  Splits Left Still side gap =
-      (q : Point) → squared_distance q target ≤ bound → Left q → Still q ⊎ (GoesTo now target spot p side q × (gap * gap ≤ squared_distance q target))
+  abbrev Splits : (Left Still : Point → Type 0) → Bool → Type 0
+  Splits Left Still side = (q : Point) → squared_distance q target ≤ bound → Left q → Still q ⊎ GoesTo now spot p side q
 
   -- A child is loaded: the points that go there are met, or wait at it.
-  pub IsSearch-opens : (spots put : List Spot) (side : Bool) (gap : ℕ) (Left Still : Point → Type 0) → Opens now after spots put spot side gap
-      → Splits Left Still side gap → IsSearch before now target bound Taken spots Left → IsSearch before after target bound Taken put Still
-  IsSearch-opens spots put side gap Left Still (inl (empty, same)) splits h =
-      let old = IsSearch-later target now after later before keeps bound Taken spots Left Left (λ q close left. left) h in
+  pub IsSearch-opens : (spots put : List Spot) (side : Bool) (Left Still : Point → Type 0) → Opens now after spots put spot side
+      → Splits Left Still side → IsSearch before now target bound Taken spots Left → IsSearch before after target bound Taken put Still
+  IsSearch-opens spots put side Left Still (inl (empty, same)) splits h =
+      let old = IsSearch-later now after later before target keeps bound Taken spots Left Left (λ q close left. left) h in
       record {
         later = old.later;
         seen = λ other k. old.seen other (subst (λ xs. Contains xs other) same k);
@@ -248,12 +233,12 @@ module _
           | inr (inl (other, k, waits)) ↦ inr (inl (other, subst (λ xs. Contains xs other) (sym same) k, waits))
           | inr (inr left) ↦ elim (splits q close left) [
             | inl still ↦ inr (inr still)
-            | inr (goes, far) ↦ inl (inr (ends_here side q h.later.steps empty goes))
+            | inr goes ↦ inl (inr (ends_here before now after spot p stands later side q h.later.steps empty goes))
           ]
         ];
       }
-  IsSearch-opens spots put side gap Left Still (inr new) splits h =
-      let old = IsSearch-later target now after later before keeps bound Taken spots Left Left (λ q close left. left) h in
+  IsSearch-opens spots put side Left Still (inr new) splits h =
+      let old = IsSearch-later now after later before target keeps bound Taken spots Left Left (λ q close left. left) h in
       record {
         later = old.later;
         seen = λ other k. elim (Contains-push_cases spots new.child other (subst (λ xs. Contains xs other) new.last k)) [
@@ -266,10 +251,10 @@ module _
               inr (inl (other, subst (λ xs. Contains xs other) (sym new.last) (Contains-append_left spots (new.child ∷ []) other k), waits))
           | inr (inr left) ↦ elim (splits q close left) [
             | inl still ↦ inr (inr still)
-            | inr (goes, far) ↦ inr (inl (
+            | inr goes ↦ inr (inl (
               new.child,
               subst (λ xs. Contains xs new.child) (sym new.last) (Contains-push spots new.child),
-              waits_at_child spots put side gap new q goes far,
+              waits_at_child before now after spot p stands later spots put side new q goes,
             ))
           ]
         ];
@@ -281,38 +266,29 @@ module _
         → split_distance spot.by_rows p target * split_distance spot.by_rows p target ≤ squared_distance q target
     beyond q goes = split_distance-le spot.by_rows p q target (goes ∙ ap not own)
 
-    far_gap : (gap : ℕ) (q : Point) → (gap ≤ spot.gap) ⊎ (gap ≤ split_distance spot.by_rows p target) → GoesTo now target spot p (not right) q
-        → gap * gap ≤ squared_distance q target
-    far_gap gap q (inl low) goes = omega (arith, mul-le gap gap spot.gap spot.gap low low, goes.0.waits.far)
-    far_gap gap q (inr low) goes =
-        let line : ℕ = split_distance spot.by_rows p target in
-        omega (arith, mul-le gap gap line line low low, beyond q goes.1)
-
     -- First the child of the far side is loaded,
-    pub IsSearch-opens_far : (spots put : List Spot) (gap : ℕ) → (gap ≤ spot.gap) ⊎ (gap ≤ split_distance spot.by_rows p target)
-        → Opens now after spots put spot (not right) gap → IsSearch before now target bound Taken spots (GoesBelow now target spot p)
-        → IsSearch before after target bound Taken put (GoesTo after target spot p right)
-    IsSearch-opens_far spots put gap low opens =
-        IsSearch-opens spots put (not right) gap (GoesBelow now target spot p) (GoesTo after target spot p right) opens
+    pub IsSearch-opens_far : (spots put : List Spot) → Opens now after spots put spot (not right) → IsSearch before now target bound Taken spots (GoesBelow now spot p)
+        → IsSearch before after target bound Taken put (GoesTo after spot p right)
+    IsSearch-opens_far spots put opens =
+        IsSearch-opens spots put (not right) (GoesBelow now spot p) (GoesTo after spot p right) opens
         (λ q close below. elim (two_sides (goes_right_by spot.by_rows p q) right) [
-          | inl goes ↦ inl (GoesBelow-later target now after later spot p q below, goes)
-          | inr goes ↦ inr ((below, goes), far_gap gap q low (below, goes))
+          | inl goes ↦ inl (GoesBelow-later now after later spot p q below, goes)
+          | inr goes ↦ inr (below, goes)
         ])
 
     -- or left out as it is beyond the bound;
     pub IsSearch-leaves : (spots : List Spot) → bound < split_distance spot.by_rows p target * split_distance spot.by_rows p target
-        → IsSearch before now target bound Taken spots (GoesBelow now target spot p)
-        → IsSearch before after target bound Taken spots (GoesTo after target spot p right)
+        → IsSearch before now target bound Taken spots (GoesBelow now spot p)
+        → IsSearch before after target bound Taken spots (GoesTo after spot p right)
     IsSearch-leaves spots too_far =
-        IsSearch-later target now after later before keeps bound Taken spots (GoesBelow now target spot p) (GoesTo after target spot p right)
+        IsSearch-later now after later before target keeps bound Taken spots (GoesBelow now spot p) (GoesTo after spot p right)
         (λ q close below. elim (two_sides (goes_right_by spot.by_rows p q) right) [
-          | inl goes ↦ (GoesBelow-later target now after later spot p q below, goes)
+          | inl goes ↦ (GoesBelow-later now after later spot p q below, goes)
           | inr goes ↦ absurd (omega (arith, beyond q goes, close, too_far))
         ])
 
   -- then that of the near side.
-  pub IsSearch-opens_near : (right : Bool) (spots put : List Spot) (gap : ℕ) → gap ≤ spot.gap → Opens now after spots put spot right gap
-      → IsSearch before now target bound Taken spots (GoesTo now target spot p right) → IsSearch before after target bound Taken put Nothing
-  IsSearch-opens_near right spots put gap low opens =
-      IsSearch-opens spots put right gap (GoesTo now target spot p right) Nothing opens
-      (λ q close goes. inr (goes, omega (arith, mul-le gap gap spot.gap spot.gap low low, goes.0.waits.far)))
+  pub IsSearch-opens_near : (right : Bool) (spots put : List Spot) → Opens now after spots put spot right
+      → IsSearch before now target bound Taken spots (GoesTo now spot p right) → IsSearch before after target bound Taken put Nothing
+  IsSearch-opens_near right spots put opens =
+      IsSearch-opens spots put right (GoesTo now spot p right) Nothing opens (λ q close goes. inr goes)

@@ -2,7 +2,7 @@
 use Rattle.std.proofs.Common.{◌≡◌, ℕ, suc, ◌+◌, ◌*◌, ◌<◌, ◌≤◌, Bool, true, false, eqb, eq-eqb, List, [], ◌∷◌, length, Option, Some, None, arith, refl, sym}
 use Rattle.std.proofs.Common.{ap, ◌∙◌, inl, inr}
 use Rattle.std.specs.Prelude.{Contains, nat_le}
-use Rattle.std.specs.List.{range_with_len}
+use Rattle.std.specs.List.{IsDistinct, range_with_len}
 use Rattle.std.specs.List.Sorted.{IsNonDecreasing, IsPermutation, IsStrictlyIncreasing}
 use Rattle.std.specs.Ordering.{nat_cmp}
 use Rattle.std.proofs.lemmas.Bool.{eqb-true, leb-false, leb-true}
@@ -17,9 +17,13 @@ use Rattle.plan_model.specs.declared.geometry.Point.{Point}
 use Rattle.plan_model.specs.Geometry.Plane.{squared_distance}
 use Rattle.plan_model.specs.Trees.Nearness.{is_within, near}
 use Rattle.plan_model.specs.Trees.PointsByNumber.{point_at}
+use Rattle.plan_model.specs.Seen.Sights.{Sight}
+use Rattle.plan_words.specs.SearchLists.{numbers_of}
+use Rattle.plan_words.specs.declared.spots.Found.{Found}
+use Rattle.kd_shared.specs.Searches.{AreGathered, AreNearSeen}
 use Rattle.plan_model.proofs.NearNodes.{Contains-near}
 use Rattle.plan_model.proofs.ListMembers.{Contains-after, Contains-first}
-use Rattle.step_core.proofs.DistinctNumbers.{AreDifferent, Contains-cases, Contains-none, IsDistinct-from_different}
+use Rattle.step_core.proofs.DistinctNumbers.{Contains-cases, Contains-none}
 
 -- ---- lists in rising order
 
@@ -98,12 +102,34 @@ module _ (points : List (Option Point)) (p : Point) (r : ℕ) where
       (filter_passes (λ m. is_within p r (point_at points m)) (range_with_len 0 (length points)))
 
   -- Exactly the near nodes were found, each once; the list is sorted.
-  pub near-sorted : (found list : List ℕ) → AreDifferent found → IsPermutation found list → IsNonDecreasing list
+  pub near-sorted : (found list : List ℕ) → IsDistinct eqb found → IsPermutation found list → IsNonDecreasing list
       → ((n : ℕ) → Contains found n → is_within p r (point_at points n) ≡ true)
       → ((n : ℕ) → is_within p r (point_at points n) ≡ true → Contains found n) → list ≡ near points p r
-  near-sorted found list different moved sorted only all =
-      let distinct = IsDistinct-IsPermutation eqb eqb-swap found list moved (IsDistinct-from_different found different) in
+  near-sorted found list once moved sorted only all =
+      let distinct = IsDistinct-IsPermutation eqb eqb-swap found list moved once in
       let rising = IsStrictlyIncreasing-from_distinct list sorted distinct in
       same_numbers list (near points p r) (sorted_from_strictly_increasing list rising) near-rises
       (λ n own. Contains-near points p r n (only n (Contains-permutation list found n (IsPermutation-sym found list moved) own)))
       (λ n own. Contains-permutation found list n moved (all n (near-within n own)))
+
+Contains-number : (found : List Found) (n : ℕ) → Contains (numbers_of found) n → (f : Found) × Contains found f × (f.node ≡ n)
+Contains-number [] n k = absurd (Contains-none n k)
+Contains-number (f ∷ found) n k =
+    elim (Contains-cases f.node n (numbers_of found) k) [
+      | inl is ↦ (f, Contains-first f found, is)
+      | inr more ↦ (let own = Contains-number found n more in (own.0, Contains-after f found own.0 own.1, own.2))
+    ]
+
+-- The list of what a search gathered, once it is sorted.
+pub AreNearSeen-gathered : (before after : Sight) (p : Point) (r : ℕ) (found : List Found) (list : List ℕ) → AreGathered before after p r found
+    → IsPermutation (numbers_of found) list → IsNonDecreasing list → AreNearSeen before after p r list
+AreNearSeen-gathered before after p r found list h moved sorted = record {
+  all = near-sorted after.seen.points p r (numbers_of found) list h.once moved sorted only h.all;
+  swept = h.swept;
+}
+  where
+    only : (n : ℕ) → Contains (numbers_of found) n → is_within p r (point_at after.seen.points n) ≡ true
+    only n k =
+        let own = Contains-number found n k in
+        let here = h.only own.0 own.1 in
+        ap (λ m. is_within p r (point_at after.seen.points m)) (sym own.2) ∙ ap (is_within p r) here.0 ∙ is_within-near p r own.0.point here.1

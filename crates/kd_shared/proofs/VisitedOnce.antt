@@ -3,10 +3,11 @@ use Rattle.std.proofs.Common.{◌≡◌, ◌⊎◌, ℕ, suc, ◌+◌, ◌≤◌
 use Rattle.std.proofs.Common.{subst, inl, inr}
 use Rattle.std.specs.Prelude.{Contains, map}
 use Rattle.std.proofs.lemmas.List.{length-map}
+use Rattle.std.proofs.lemmas.List.Elements.{Contains-append_right}
 use Rattle.plan_model.specs.Seen.SeenTrees.{IsSeen}
 use Rattle.plan_model.specs.Seen.Sights.{IsLaterMoment, KeepsSight, Sight}
-use Rattle.kd_shared.specs.Spots.{HasRoomFor, Opens}
-use Rattle.plan_words.specs.declared.scratch.Spot.{Spot}
+use Rattle.kd_shared.specs.Spots.{Opens}
+use Rattle.plan_words.specs.declared.spots.Spot.{Spot}
 use Rattle.plan_model.proofs.ListMembers.{Contains-first}
 use Rattle.step_core.proofs.DistinctNumbers.{AreDifferent, AreDifferent-after, AreDifferent-few, AreDifferent-within, Contains-cases}
 use Rattle.plan_model.proofs.ListMembers.{Contains-after}
@@ -63,31 +64,11 @@ module _ (now after : Sight) (later : IsLaterMoment now after) (done : List ℕ)
               unused (subst (λ m. Used m side) same.0 (subst (Used a) same.1 used)))
         ]
 
-    -- so there is room for it.
-    pub AreOnce-room_for : (marks child : ℕ) → ((n : ℕ) → IsSeen after.seen n → n ≤ marks) → after.seen.child node side ≡ Some child
-        → length spots + length done ≤ marks
-    AreOnce-room_for marks child within link =
-        let known : (n : ℕ) → Contains (child ∷ (nodes_of spots ++ done)) n → n ≤ marks =
-        λ n k. elim (Contains-cases child n (nodes_of spots ++ done) k) [
-          | inl is ↦ within n (inr (node, side, link ∙ ap Some is))
-          | inr old ↦ elim (stays_known n (h.known n old)) [
-            | inl start ↦ within n (inl start)
-            | inr (a, other, used, there) ↦ within n (inr (a, other, there))
-          ]
-        ] in
-        omega (
-          arith,
-          AreDifferent-few (child ∷ (nodes_of spots ++ done)) marks (is_new child link, h.different) known,
-          length-append (nodes_of spots) done,
-          length-nodes_of spots,
-          length-one_more child (nodes_of spots ++ done),
-        )
-
     -- The child in a place that was not used is loaded.
-    pub AreOnce-opens : (spot : Spot) (put : List Spot) (gap : ℕ) → spot.node ≡ node → Still node side → Opens now after spots put spot side gap
+    pub AreOnce-opens : (spot : Spot) (put : List Spot) → spot.node ≡ node → Still node side → Opens now after spots put spot side
         → AreOnce after put done Still
-    AreOnce-opens spot put gap is uses (inl (empty, same)) = subst (λ xs. AreOnce after xs done Still) (sym same) (AreOnce-later spots h)
-    AreOnce-opens spot put gap is uses (inr new) =
+    AreOnce-opens spot put is uses (inl (empty, same)) = subst (λ xs. AreOnce after xs done Still) (sym same) (AreOnce-later spots h)
+    AreOnce-opens spot put is uses (inr new) =
         let link : after.seen.child node side ≡ Some new.child.node = ap (λ a. after.seen.child a side) (sym is) ∙ new.link in
         let same : nodes_of put ++ done ≡ nodes_of spots ++ new.child.node ∷ done =
         ap (λ xs. nodes_of xs ++ done) new.last ∙ nodes_of-push spots new.child done in
@@ -138,11 +119,11 @@ is_not_done now spots node done Used h = AreDifferent-after node (nodes_of spots
 
 module _ (now after : Sight) (later : IsLaterMoment now after) (spots : List Spot) (spot : Spot) (done : List ℕ) where
   -- First the child on the one side is loaded,
-  pub AreOnce-opens_far : KeepsSight after → (put : List Spot) (side : Bool) (gap : ℕ) → AreOnce now spots (spot.node ∷ done) (IsDone done)
-      → Opens now after spots put spot side gap → AreOnce after put (spot.node ∷ done) (IsDoneOrAt done spot.node side)
-  AreOnce-opens_far keeps put side gap h opens =
+  pub AreOnce-opens_far : KeepsSight after → (put : List Spot) (side : Bool) → AreOnce now spots (spot.node ∷ done) (IsDone done)
+      → Opens now after spots put spot side → AreOnce after put (spot.node ∷ done) (IsDoneOrAt done spot.node side)
+  AreOnce-opens_far keeps put side h opens =
       AreOnce-opens now after later (spot.node ∷ done) (IsDone done) (IsDoneOrAt done spot.node side) (λ a b used. inl used) spots h keeps
-      spot.node side (is_not_done now spots spot.node done (IsDone done) h) spot put gap refl (inr (refl, refl)) opens
+      spot.node side (is_not_done now spots spot.node done (IsDone done) h) spot put refl (inr (refl, refl)) opens
 
   -- or left out,
   pub AreOnce-leaves : (side : Bool) → AreOnce now spots (spot.node ∷ done) (IsDone done)
@@ -157,62 +138,29 @@ module _ (now after : Sight) (later : IsLaterMoment now after) (spots : List Spo
   is_other_side false h (inr (same, side)) = cc
 
   -- then the child on the other side. The node is done.
-  pub AreOnce-opens_near : KeepsSight after → (put : List Spot) (right : Bool) (gap : ℕ)
-      → AreOnce now spots (spot.node ∷ done) (IsDoneOrAt done spot.node (not right)) → Opens now after spots put spot right gap
+  pub AreOnce-opens_near : KeepsSight after → (put : List Spot) (right : Bool)
+      → AreOnce now spots (spot.node ∷ done) (IsDoneOrAt done spot.node (not right)) → Opens now after spots put spot right
       → AreOnce after put (spot.node ∷ done) (IsDone (spot.node ∷ done))
-  AreOnce-opens_near keeps put right gap h opens =
+  AreOnce-opens_near keeps put right h opens =
       AreOnce-opens now after later (spot.node ∷ done) (IsDoneOrAt done spot.node (not right)) (IsDone (spot.node ∷ done))
       (λ a b used. elim used [
         | inl old ↦ Contains-after spot.node done a old
         | inr (same, side) ↦ (0, omega arith, sym same)
       ])
-      spots h keeps spot.node right (is_other_side right h) spot put gap refl (Contains-first spot.node done) opens
-
--- ---- room for the children
-
--- one more waits at most
-pub Opens-few : (before after : Sight) (spots put : List Spot) (spot : Spot) (side : Bool) (gap : ℕ) → Opens before after spots put spot side gap
-    → length put ≤ suc (length spots)
-Opens-few before after spots put spot side gap (inl (empty, same)) = let e = ap (λ (xs : List Spot). length xs) same in omega (arith, e)
-Opens-few before after spots put spot side gap (inr new) =
-    let e = ap (λ (xs : List Spot). length xs) new.last in
-    omega (arith, e, length-append spots (new.child ∷ []))
-
--- A node is visited. Half of the nodes may wait: those that do and those that are done are no more than all, and no more wait than are done.
-module _ (now : Sight) (spot : Spot) (done : List ℕ) (marks : ℕ) where
-  -- So there is room for the child on the one side,
-  pub HasRoomFor-far : (rest : List Spot) (side : Bool) → length rest ≤ length done → AreOnce now rest (spot.node ∷ done) (IsDone done)
-      → HasRoomFor now marks spot side (length rest)
-  HasRoomFor-far rest side few once seen child later keeps within link =
-      let room =
-      AreOnce-room_for now seen later (spot.node ∷ done) (IsDone done) (IsDone done) (λ a b used. used) rest once keeps spot.node side
-      (is_not_done now rest spot.node done (IsDone done) once) marks child within link in
-      omega (arith, few, room, length-one_more spot.node done)
-
-  -- and then for that on the other.
-  pub HasRoomFor-near : (mid : List Spot) (right : Bool) → length mid ≤ suc (length done)
-      → AreOnce now mid (spot.node ∷ done) (IsDoneOrAt done spot.node (not right)) → HasRoomFor now marks spot right (length mid)
-  HasRoomFor-near mid right few once seen child later keeps within link =
-      let Used : ℕ → Bool → Type 0 = IsDoneOrAt done spot.node (not right) in
-      let room =
-      AreOnce-room_for now seen later (spot.node ∷ done) Used Used (λ a b used. used) mid once keeps spot.node right
-      (is_other_side now seen later mid spot done right once) marks child within link in
-      omega (arith, few, room, length-one_more spot.node done)
+      spots h keeps spot.node right (is_other_side right h) spot put refl (Contains-first spot.node done) opens
 
 -- ---- so many visits
 
--- So many nodes are done, and those that wait are others, at most one more than are done.
+-- So many nodes are done, and those that wait are others.
 pub record IsVisiting (now : Sight) (spots : List Spot) (visits : ℕ) : Type 0 where
   pub done : List ℕ
   pub count : length done ≡ visits
-  pub few : length spots ≤ suc visits
   pub once : AreOnce now spots done (IsDone done)
 
 pub IsVisiting-begins : (now : Sight) (spot : Spot) → spot.node ≡ 0 → IsVisiting now (spot ∷ []) 0
 IsVisiting-begins now spot node = record {
   done = [];
   count = refl;
-  few = omega arith;
   once = record {
     different = (Contains-none spot.node, tt);
     known = λ n k. elim (Contains-cases spot.node n [] k) [
@@ -222,44 +170,28 @@ IsVisiting-begins now spot node = record {
   };
 }
 
--- a spot of the stack is left out
-pub IsVisiting-skips : (now : Sight) (spot : Spot) (spots rest : List Spot) (visits next : ℕ) → spots ≡ rest ++ spot ∷ [] → next ≡ suc visits
-    → IsVisiting now spots visits → IsVisiting now rest next
-IsVisiting-skips now spot spots rest visits next is more h = record {
-  done = spot.node ∷ h.done;
-  count = ap suc h.count ∙ sym more;
-  few = omega (arith, h.few, more, popped_few);
-  once = record {
-    different = (AreOnce-pops now spot spots rest h.done h.once is).different;
-    known = λ n k. elim ((AreOnce-pops now spot spots rest h.done h.once is).known n k) [
-      | inl start ↦ inl start
-      | inr (a, side, old, link) ↦ inr (a, side, Contains-after spot.node h.done a old, link)
-    ];
-  };
-}
-  where
-    popped_few : length rest ≤ length spots
-    popped_few = (let e = ap (λ (xs : List Spot). length xs) is in omega (arith, e, length-append rest (spot ∷ [])))
+module _ (now : Sight) (marks : ℕ) (within : (n : ℕ) → IsSeen now.seen n → n ≤ marks) (spots : List Spot) (done : List ℕ) (Used : ℕ → Bool → Type 0)
+    (h : AreOnce now spots done Used) where
+  is_low : (n : ℕ) → Contains (nodes_of spots ++ done) n → n ≤ marks
+  is_low n k =
+      elim (h.known n k) [
+        | inl start ↦ within n (inl start)
+        | inr (a, side, used, link) ↦ within n (inr (a, side, link))
+      ]
 
--- no more wait beside the spot that is taken than are done
-pub IsVisiting-beside : (now : Sight) (spots rest : List Spot) (visits : ℕ) → length spots ≡ suc (length rest) → (h : IsVisiting now spots visits)
-    → length rest ≤ length h.done
-IsVisiting-beside now spots rest visits one_less h = omega (arith, one_less, h.few, h.count)
+  -- The number of a node that is done is one of the run's.
+  pub AreOnce-low : (n : ℕ) → Contains done n → n ≤ marks
+  AreOnce-low n k = is_low n (Contains-append_right (nodes_of spots) done n k)
 
--- No more nodes wait and are done than there are marks, and node 0.
-pub AreOnce-few : (now : Sight) (marks : ℕ) → ((n : ℕ) → IsSeen now.seen n → n ≤ marks) → (spots : List Spot) (done : List ℕ) (Used : ℕ → Bool → Type 0)
-    → AreOnce now spots done Used → length spots + length done ≤ suc marks
-AreOnce-few now marks within spots done Used h =
-    omega (
-      arith,
-      AreDifferent-few (nodes_of spots ++ done) marks h.different
-          (λ n k. elim (h.known n k) [
-            | inl start ↦ within n (inl start)
-            | inr (a, side, used, link) ↦ within n (inr (a, side, link))
-          ]),
-      length-append (nodes_of spots) done,
-      length-nodes_of spots,
-    )
+  -- No more nodes wait and are done than there are marks, and node 0.
+  pub AreOnce-few : length spots + length done ≤ suc marks
+  AreOnce-few =
+      omega (
+        arith,
+        AreDifferent-few (nodes_of spots ++ done) marks h.different is_low,
+        length-append (nodes_of spots) done,
+        length-nodes_of spots,
+      )
 
 pub IsVisiting-few : (now : Sight) (marks : ℕ) → ((n : ℕ) → IsSeen now.seen n → n ≤ marks) → (spots : List Spot) (visits : ℕ)
     → IsVisiting now spots visits → length spots + visits ≤ suc marks

@@ -1,5 +1,6 @@
 pub mod Loads
 pub mod Spots
+pub mod FarSides
 pub mod Searches
 pub mod Looking
 pub mod Placings

@@ -2,6 +2,7 @@
 use Rattle.std.specs.Prelude.{◌≡◌}
 use Rattle.plan_words.specs.Claims.{KeepsHand, SeesAsBefore}
 use Rattle.plan_words.specs.Nodes.{NamesChildOrPoint}
+use Rattle.plan_words.specs.SearchLists.{SearchLists}
 use Rattle.plan_words.specs.States.{BelongsTo, GoesOn, HasWholeShare, PassState, SharedState, with_view}
 use Rattle.step_core.specs.Views.{sees}
 use Rattle.step_core.specs.WordNames.{ChangesOnly}
@@ -18,11 +19,16 @@ pub record OnlyLooks (before after : View) : Type 0 where
   pub kept : KeepsHand before after
   pub whole : HasWholeShare before → SeesAsBefore before after
 
--- the pass is that of the same tree, and its lists of found nodes stay
+-- the pass is that of the same tree, and all its lists but that of searches stay
 pub record KeepsLists (before after : PassState) : Type 0 where
   pub table : after.table ≡ before.table
-  pub near : after.near ≡ before.near
-  pub around : after.around ≡ before.around
+  pub near : after.lists.near ≡ before.lists.near
+  pub around : after.lists.around ≡ before.lists.around
+  pub waiting : after.lists.waiting ≡ before.lists.waiting
+
+-- the pass with another view and other lists of its search
+abbrev pub searched : PassState → View → SearchLists → PassState
+searched pass view search = record pass { view = view; lists = record pass.lists { search = search } }
 
 -- A pass of this tree only looks, and nothing but its view changes.
 pub record PassLooks (shared : SharedState) (before after : PassState) : Type 0 where

@@ -32,7 +32,7 @@ pub mod search_laws;
 mod shared_looks;
 mod squares;
 
-pub use near_search::{around, near};
+pub use near_search::{around, gather, near};
 pub use nearest_search::nearest;
 pub use placing::{Placing, place};
 pub use point_search::find;

@@ -1,15 +1,15 @@
 //! The search for the nodes within a radius.
 
-ghost use Rattle.std.specs.Prelude.{◌≡◌, ◌*◌, ◌+◌, ◌<◌, length};
-ghost use Rattle.kd_shared.specs.Looking.{KeepsLists, OnlyLooks};
-ghost use Rattle.kd_shared.specs.Searches.{AreNearSeen};
-ghost use Rattle.kd_shared.specs.Spots.{HasRoomFor, Notes, QueuesChild, QueuesWithin};
+ghost use Rattle.std.specs.Prelude.{◌≡◌, ◌*◌, ◌+◌, ◌<◌, ◌≤◌, length};
+ghost use Rattle.kd_shared.specs.Looking.{KeepsLists, OnlyLooks, searched};
+ghost use Rattle.kd_shared.specs.Searches.{AreGathered, AreNearSeen};
+ghost use Rattle.kd_shared.specs.Spots.{IsWithin, Notes, QueuesWithin};
 ghost use Rattle.plan_model.specs.Geometry.Bounds.{IsBounded};
 ghost use Rattle.plan_words.specs.States.{BelongsTo};
 ghost use Rattle.step_core.specs.ViewTrees.{SeesNode, sight_in};
 
 use crate::squares::square;
-use plan_model::{MOST_NODES, Point};
+use plan_model::Point;
 use plan_words::{Pass, Shared, Spot};
 use step_core::{distance_to_split, goes_right};
 
@@ -17,37 +17,17 @@ use step_core::{distance_to_split, goes_right};
 /// of a point, in rising number; with a radius of 0 with the node at the point, if one is seen. Each point within the radius is
 /// swept. The radius is in lattice steps, and no coordinate is above `MOST_COORDINATE`.
 ///
-/// It goes breadth first, so that the loads of one depth need not wait for one another, and leaves out a side of a node only if its
-/// line is farther than the radius: O(log n + k log k) on average for k found of n random nodes, O(n log n) at worst.
+/// O(log n + k log k) on average for k found of n random nodes, O(n log n) at worst.
 pub fn near(shared: &Shared, pass: &mut Pass, p: Point, r: u32)
     requires belongs { BelongsTo pass.old shared.now }
     requires bounded { IsBounded p }
     ensures belongs { BelongsTo pass.new shared.now }
     ensures looks { OnlyLooks pass.old.view pass.new.view }
-    ensures around_list { pass.new.around ≡ pass.old.around }
-    ensures near { AreNearSeen (sight_in pass.old.view) (sight_in pass.new.view) p r pass.new.near }
+    ensures around_list { pass.new.lists.around ≡ pass.old.lists.around }
+    ensures near { AreNearSeen (sight_in pass.old.view) (sight_in pass.new.view) p r pass.new.lists.near }
 {
-    let most = square(r);
-    let start = shared.point(pass, 0);
-    pass.clear_near();
-    pass.clear_spots();
-    pass.push_spot(Spot {
-        node: 0,
-        by_rows: false,
-        gap: 0,
-        point: start,
-    });
-    'visits: for _visit in 0..MOST_NODES {
-        let Some(spot) = pass.take_first_spot() else {
-            break;
-        };
-        note(pass, spot.node, spot.point.squared_distance(p), most);
-        let right = goes_right(spot.by_rows, spot.point, p);
-        let gap = distance_to_split(spot.by_rows, spot.point, p);
-        queue_unless_far(shared, pass, spot, !right, gap, r);
-        queue_child(shared, pass, spot, right);
-    }
-    pass.sort_near();
+    gather(shared, pass, p, r);
+    pass.fill_near();
 }
 
 /// The same with the second list of the pass; the near list stays.
@@ -56,57 +36,87 @@ pub fn around(shared: &Shared, pass: &mut Pass, p: Point, r: u32)
     requires bounded { IsBounded p }
     ensures belongs { BelongsTo pass.new shared.now }
     ensures looks { OnlyLooks pass.old.view pass.new.view }
-    ensures near_list { pass.new.near ≡ pass.old.near }
-    ensures near { AreNearSeen (sight_in pass.old.view) (sight_in pass.new.view) p r pass.new.around }
+    ensures near_list { pass.new.lists.near ≡ pass.old.lists.near }
+    ensures near { AreNearSeen (sight_in pass.old.view) (sight_in pass.new.view) p r pass.new.lists.around }
 {
-    pass.swap_lists();
-    near(shared, pass, p, r);
-    pass.swap_lists();
+    gather(shared, pass, p, r);
+    pass.fill_around();
 }
 
-/// Puts a node on the near list, if its squared distance is not above the most.
-fn note(pass: &mut Pass, node: u32, distance: u64, most: u64)
-    requires room { length pass.old.near < length pass.old.view.run.marks + 1 }
-    ensures near_list { pass.new ≡ record pass.old { near = pass.new.near } }
-    ensures notes { Notes pass.old.near pass.new.near node distance most }
-{
-    if distance <= most {
-        pass.push_near(node);
-    }
-}
-
-/// Queues the child on one side, unless the line of that side is farther than the radius.
-fn queue_unless_far(shared: &Shared, pass: &mut Pass, spot: Spot, right: bool, gap: u32, r: u32)
+/// Finds the nodes within a radius of a point: the pass has them in the order in which they were found, until its next search.
+///
+/// It goes breadth first, so that the loads of one depth need not wait for one another, and leaves out a side of a node only if its
+/// line is farther than the radius. No jump depends on what was loaded, as many of them would be guessed wrongly. O(log n + k) on
+/// average for k found of n random nodes, O(n) at worst.
+pub fn gather(shared: &Shared, pass: &mut Pass, p: Point, r: u32)
     requires belongs { BelongsTo pass.old shared.now }
-    requires seen { SeesNode pass.old.view spot.node }
-    requires room { HasRoomFor (sight_in pass.old.view) (length pass.old.view.run.marks) spot right (length pass.old.spots) }
+    requires bounded { IsBounded p }
     ensures belongs { BelongsTo pass.new shared.now }
     ensures looks { OnlyLooks pass.old.view pass.new.view }
     ensures lists { KeepsLists pass.old pass.new }
-    ensures queues { QueuesWithin (sight_in pass.old.view) (sight_in pass.new.view) pass.old.spots pass.new.spots spot right (gap * gap) (r * r) }
+    ensures gathered { AreGathered (sight_in pass.old.view) (sight_in pass.new.view) p r pass.new.lists.search.found }
+    ensures few { length pass.new.lists.search.found ≤ length pass.new.view.run.marks + 1 }
 {
-    if gap <= r {
-        queue_child(shared, pass, spot, right);
+    let most = square(r);
+    let start = shared.point(pass, 0);
+    pass.clear_search();
+    pass.put_spot_if(
+        Spot {
+            node: 0,
+            by_rows: false,
+            point: start,
+        },
+        true,
+    );
+    'visits: while let Some(spot) = pass.take_spot() {
+        note(pass, spot, spot.point.squared_distance(p), most);
+        let right = goes_right(spot.by_rows, spot.point, p);
+        let gap = distance_to_split(spot.by_rows, spot.point, p);
+        queue_child(shared, pass, spot, !right, gap, r);
+        queue_child(shared, pass, spot, right, 0, r);
     }
 }
 
-/// Queues the child on one side with its point, if there is one.
-fn queue_child(shared: &Shared, pass: &mut Pass, spot: Spot, right: bool)
+/// Notes the node of a spot, if its squared distance is not above the most.
+#[inline]
+fn note(pass: &mut Pass, spot: Spot, distance: u64, most: u64)
+    requires room { length pass.old.lists.search.found < pass.old.lists.search.taken }
+    ensures others { pass.new ≡ searched pass.old pass.old.view (record pass.old.lists.search { found = pass.new.lists.search.found }) }
+    ensures notes { Notes pass.old.lists.search.found pass.new.lists.search.found spot distance most }
+{
+    pass.note_if(spot, distance <= most);
+}
+
+/// Queues the child on one side with its point, if there is one, and the line of that side is no farther than the radius. A child that
+/// is left out is replaced by node 0 before its point is loaded.
+#[inline]
+fn queue_child(shared: &Shared, pass: &mut Pass, spot: Spot, right: bool, gap: u32, r: u32)
     requires belongs { BelongsTo pass.old shared.now }
     requires seen { SeesNode pass.old.view spot.node }
-    requires room { HasRoomFor (sight_in pass.old.view) (length pass.old.view.run.marks) spot right (length pass.old.spots) }
+    requires room { pass.old.lists.search.taken + length pass.old.lists.search.spots ≤ length pass.old.view.run.marks + 1 }
     ensures belongs { BelongsTo pass.new shared.now }
     ensures looks { OnlyLooks pass.old.view pass.new.view }
-    ensures lists { KeepsLists pass.old pass.new }
-    ensures queues { QueuesChild (sight_in pass.old.view) (sight_in pass.new.view) pass.old.spots pass.new.spots spot right }
+    ensures others { pass.new ≡ searched pass.old pass.new.view (record pass.old.lists.search { spots = pass.new.lists.search.spots }) }
+    ensures queues { QueuesWithin (sight_in pass.old.view) (sight_in pass.new.view) pass.old.lists.search.spots pass.new.lists.search.spots spot right
+        (gap * gap) (r * r) }
 {
-    if let Some(child) = shared.child(pass, spot.node, right) {
-        let point = shared.point(pass, child);
-        pass.push_spot(Spot {
+    let child = child_within(shared.child_or_start(pass, spot.node, right), gap, r);
+    let point = shared.point(pass, child);
+    let by_rows = !spot.by_rows;
+    pass.put_spot_if(
+        Spot {
             node: child,
-            by_rows: !spot.by_rows,
-            gap: 0,
+            by_rows,
             point,
-        });
-    }
+        },
+        child != 0,
+    );
+}
+
+/// The child, or node 0 if its side is farther than the radius.
+#[inline]
+fn child_within(child: u32, gap: u32, r: u32) -> u32
+    ensures { IsWithin gap r child result }
+{
+    if gap <= r { child } else { 0 }
 }

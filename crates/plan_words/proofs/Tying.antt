@@ -197,7 +197,7 @@ IsTied-looker view lawful = record { member_is = refl; hand_is = refl; lawful = 
 -- lists with room for one more than there are marks have room for each node
 pub HasRoom-new :
     (places : WordPlaces) (run own : SharedRun) (nodes for_spots for_near for_around for_waiting : ℕ) → sizes_in places ≡ run_sizes run → own ≡ run
-    → nodes ≡ (sizes_in places).marks + 1 → (nodes ≤ 2 * for_spots) × (nodes ≤ for_near) × (nodes ≤ for_around) × (for_waiting ≡ nodes)
+    → nodes ≡ (sizes_in places).marks + 1 → (nodes < for_spots) × (nodes ≤ for_near) × (nodes ≤ for_around) × (for_waiting ≡ nodes)
     → HasRoom own for_spots for_near for_around for_waiting
 HasRoom-new places run own nodes for_spots for_near for_around for_waiting same own_is nodes_is (spots, near, around, waiting) =
     let marks : length own.marks + 1 ≡ nodes = ap (λ r. length r.marks + 1) own_is ∙ sym (ap (λ s. s.marks + 1) same) ∙ sym nodes_is in

@@ -6,3 +6,4 @@ pub mod Nodes
 pub mod Parents
 pub mod SeenChains
 pub mod Waiting
+pub mod SearchLists

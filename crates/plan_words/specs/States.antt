@@ -3,7 +3,7 @@ use Rattle.std.specs.Prelude.{◌≡◌, ℕ, ◌+◌, ◌*◌, ◌<◌, ◌≤�
 use Rattle.atomic_table.specs.Seated.{TableId}
 use Rattle.plan_model.specs.declared.tasks.Task.{Task}
 use Rattle.plan_words.specs.declared.openings.Opening.{Opening}
-use Rattle.plan_words.specs.declared.scratch.Spot.{Spot}
+use Rattle.plan_words.specs.SearchLists.{SearchLists, no_search}
 use Rattle.step_core.specs.GrownRuns.{words_of_grown}
 use Rattle.step_core.specs.LaterViews.{IsLater, IsLawfulView}
 use Rattle.step_core.specs.PlacesOfWords.{sizes_in}
@@ -31,18 +31,25 @@ pub record SharedState : Type 0 where
 abbrev pub run_in : SharedState → SharedRun
 run_in shared = run_of shared.task shared.workers shared.opening
 
+-- The scratch lists of a pass: the near list, the second list, the nodes that wait to be looked at, and those of its search.
+pub record Lists : Type 0 where
+  pub near : List ℕ
+  pub around : List ℕ
+  pub waiting : List ℕ
+  pub search : SearchLists
+
+abbrev pub no_lists : Lists
+no_lists = record { near = []; around = []; waiting = []; search = no_search }
+
 -- A pass: its table and its view, and its scratch lists, which no step of the pass changes.
 pub record PassState : Type 0 where
   pub table : TableId
   pub view : View
-  pub spots : List Spot
-  pub near : List ℕ
-  pub around : List ℕ
-  pub waiting : List ℕ
+  pub lists : Lists
 
 -- one whose lists are empty
 abbrev pub new_pass : TableId → View → PassState
-new_pass table view = record { table = table; view = view; spots = []; near = []; around = []; waiting = [] }
+new_pass table view = record { table = table; view = view; lists = no_lists }
 
 -- The pass was made or split from this very tree. What the law says of a view holds of that of each such pass.
 pub record BelongsTo (pass : PassState) (shared : SharedState) : Type 0 where
@@ -63,6 +70,10 @@ HasWholeShare view = share view ≡ view.run.workers
 -- the pass, whose view is another now
 abbrev pub with_view : PassState → View → PassState
 with_view pass view = record pass { view = view }
+
+-- the pass, whose lists are others now
+abbrev pub with_lists : PassState → Lists → PassState
+with_lists pass lists = record pass { lists = lists }
 
 -- Steps of a pass lead from the one view to the other: what the law says of a view holds of both, and the second is a later one.
 pub record GoesOn (before after : View) : Type 0 where
@@ -123,9 +134,9 @@ pub record HasPairs (view : View) (pairs : List ℕ) : Type 0 where
   pub for_each : length pairs ≡ length view.run.marks + 1
   pub seen : (n : ℕ) → n ≤ length view.run.marks → slice_index pairs n ≡ sees view (TreeOf n)
 
--- each list of found nodes may hold as many as the run may have nodes, that of spots half as many, and each node may wait
+-- each list of found nodes may hold as many as the run may have nodes, that of spots one more, and each node may wait
 pub record HasRoom (run : SharedRun) (for_spots for_near for_around for_waiting : ℕ) : Type 0 where
-  pub spots : length run.marks + 1 ≤ 2 * for_spots
+  pub spots : length run.marks + 1 < for_spots
   pub near : length run.marks + 1 ≤ for_near
   pub around : length run.marks + 1 ≤ for_around
   pub waiting : length run.marks + 1 ≡ for_waiting

@@ -54,7 +54,7 @@ impl Shared {
             member: _,
             hand: _,
             pairs: _,
-            scratch: _,
+            lists: _,
         } = pass;
         let closed = table.close_with(seat);
         let mut words = spare;

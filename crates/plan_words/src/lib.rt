@@ -30,11 +30,13 @@ mod parent_steps;
 mod passes;
 mod rules;
 mod scratch;
+mod search_store;
 mod seen_pairs;
 mod shared;
+mod spots;
 mod starts;
 mod waiting;
 
 pub use passes::Pass;
-pub use scratch::Spot;
 pub use shared::Shared;
+pub use spots::{Found, Spot};

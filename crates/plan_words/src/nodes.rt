@@ -36,9 +36,25 @@ impl Shared {
         // a pass with the whole share finds nothing new
         ensures whole { HasWholeShare pass.old.view → unwrap_or result 0 ≡ sees pass.old.view (ChildOf node right) }
     {
+        child_in(self.child_or_start(pass, node, right))
+    }
+
+    /// The same child, or node 0 if there is none: no node has that as its child, and each pass sees it. So whoever loads what is there
+    /// need not ask whether there is a child.
+    #[inline]
+    pub fn child_or_start(&self, pass: &mut Pass, node: u32, right: bool) -> u32
+        requires belongs { BelongsTo pass.old self.now }
+        requires seen_node { SeesNode pass.old.view node }
+        ensures view { pass.new ≡ with_view pass.old (loaded pass.old.view (ChildOf node right) result) }
+        ensures goes_on { GoesOn pass.old.view pass.new.view }
+        ensures seen { WritesWord (ChildOf node right) result (sees pass.old.view) (sees pass.new.view) }
+        ensures found { MatchOption (child_of_word result) (pass.old.view.steps < (sight_in pass.new.view).found_empty node right)
+            (λ c. ((tree_seen pass.new.view).child node right ≡ Some c) × SeesNode pass.new.view c) }
+        ensures whole { HasWholeShare pass.old.view → result ≡ sees pass.old.view (ChildOf node right) }
+    {
         let seat = &mut pass.seat;
         let place = self.places.child(node as usize, right);
-        child_in(self.table.shared.load::<Load>(seat, place))
+        self.table.shared.load::<Load>(seat, place) as u32
     }
 
     /// The point of a seen node, which is seen there then.
@@ -183,14 +199,13 @@ impl Shared {
 }
 
 /// The child that a word names.
-fn child_in(word: u64) -> Option<u32>
-    requires { word < 2 ^ 32 }
+fn child_in(word: u32) -> Option<u32>
     ensures { result ≡ child_of_word word }
 {
     if word == 0 {
         return None;
     }
-    Some(word as u32)
+    Some(word)
 }
 
 /// The hand after a link was tried, by what the word was.

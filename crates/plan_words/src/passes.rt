@@ -27,12 +27,11 @@ pub struct Pass {
     pub(crate) hand: Option<Hand>,
     /// The tree word of each node as it saw that last, 0 if it did not.
     pub(crate) pairs: SeenPairs,
-    pub(crate) scratch: Scratch,
+    pub(crate) lists: Scratch,
 }
 
 impl Model for Pass {
     ghost use Rattle.std.specs.Prelude.{◌≡◌, [], vec_capacity};
-    ghost use Rattle.std.specs.VecDeque.{deque_capacity};
     ghost use Rattle.plan_words.specs.States.{HasPairs, HasRoom, IsTied, PassState};
 
     ghost Value = { PassState };
@@ -40,15 +39,17 @@ impl Model for Pass {
     ghost view = { λ p. record {
       table = p.seat.table_id;
       view = p.seat.me.0;
-      spots = p.scratch.spots.items;
-      near = p.scratch.near.items;
-      around = p.scratch.around.items;
-      waiting = p.scratch.waiting.nodes;
+      lists = record {
+        near = p.lists.near.items;
+        around = p.lists.around.items;
+        waiting = p.lists.waiting.nodes;
+        search = p.lists.search.lists;
+      };
     } };
 
     ghost invariant = { λ p. (p.seat.me.1 ≡ []) × IsTied p.seat.me.0 p.member p.hand
-        × HasRoom p.seat.me.0.run (deque_capacity p.scratch.spots) (vec_capacity p.scratch.near)
-        (vec_capacity p.scratch.around) p.scratch.waiting.size
+        × HasRoom p.seat.me.0.run p.lists.search.room (vec_capacity p.lists.near)
+        (vec_capacity p.lists.around) p.lists.waiting.size
         × HasPairs p.seat.me.0 p.pairs };
 }
 

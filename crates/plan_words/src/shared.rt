@@ -142,14 +142,14 @@ impl Shared {
         ensures belongs_too { IfOk result (λ other. BelongsTo other self.now) }
     {
         let pairs = pass.pairs.copy(self.alloc)?;
-        let scratch = Scratch::new(self.alloc, self.places.marks() + 1)?;
+        let lists = Scratch::new(self.alloc, self.places.marks() + 1)?;
         let seat = self.table.shared.split_seat::<Look>(&mut pass.seat);
         Ok(Pass {
             seat,
             member: None,
             hand: None,
             pairs,
-            scratch,
+            lists,
         })
     }
 
@@ -175,7 +175,7 @@ impl Shared {
             member,
             hand: _,
             pairs,
-            scratch: _,
+            lists: _,
         } = other;
         self.table
             .shared

@@ -138,14 +138,14 @@ impl Shared {
         ensures belongs_too { IfOk result (λ other. BelongsTo other self.now) }
     {
         let pairs = pass.pairs.copy(self.alloc)?;
-        let scratch = Scratch::new(self.alloc, self.places.marks() + 1)?;
+        let lists = Scratch::new(self.alloc, self.places.marks() + 1)?;
         let seat = self.table.shared.split_seat::<HandOn>(&mut pass.seat);
         Ok(Pass {
             seat,
             member: Some(Member { worker, turn }),
             hand: None,
             pairs,
-            scratch,
+            lists,
         })
     }
 }
@@ -180,13 +180,13 @@ fn first_pass(
     requires pairs { HasPairs seat.me.0 pairs }
     ensures { IfOk result (λ pass. pass ≡ new_pass seat.table_id seat.me.0) }
 {
-    let scratch = Scratch::new(alloc, pairs.len() as usize)?;
+    let lists = Scratch::new(alloc, pairs.len() as usize)?;
     Ok(Pass {
         seat,
         member: Some(Member { worker: 0, turn }),
         hand: None,
         pairs,
-        scratch,
+        lists,
     })
 }
 

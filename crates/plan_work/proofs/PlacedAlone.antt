@@ -70,7 +70,7 @@ point_kept before after run n same =
 module _
     (shared : SharedState) (before tried done : PassState) (k m j : ℕ) (p : Point) (hanging : Hanging) (entry : Record)
     (may : MayPlace shared before k m p) (keeps : KeepsRecords shared before tried) (is_tried : IsTried before tried may.hand (Same j) hanging)
-    (whole : IsTriedWhole (space_of shared.task.scene) before.view tried.view k p m before.near (Same j) hanging)
+    (whole : IsTriedWhole (space_of shared.task.scene) before.view tried.view k p m before.lists.near (Same j) hanging)
     (recorded : HasRecorded shared tried done entry) (is : entry ≡ own_unplaced tried.view m (SameNode j))
     (steers : IsSteeredWhole before.view k m p) (alone : WorksAlone before.view k) (book : SeesTextbook before.view k) where
   same_run : KeepsRun before.view tried.view k
@@ -119,9 +119,9 @@ own_by nearest parent worker turn cost class =
 module _
     (shared : SharedState) (before tried : PassState) (k m : ℕ) (p : Point) (hanging : Hanging) (may : MayPlace shared before k m p)
     (keeps : KeepsRecords shared before tried) (is_tried : IsTried before tried may.hand Placed hanging)
-    (whole : IsTriedWhole (space_of shared.task.scene) before.view tried.view k p m before.near Placed hanging)
-    (reach : All (IsInReach before.view p) before.near) (steers : IsSteeredWhole before.view k m p)
-    (filled : IsFilledWhole before.view p hanging.class before.near) (book : SeesTextbook before.view k)
+    (whole : IsTriedWhole (space_of shared.task.scene) before.view tried.view k p m before.lists.near Placed hanging)
+    (reach : All (IsInReach before.view p) before.lists.near) (steers : IsSteeredWhole before.view k m p)
+    (filled : IsFilledWhole before.view p hanging.class before.lists.near) (book : SeesTextbook before.view k)
     (start_clear : ClearAt (setup_in before.view.run).space before.view.run.start) where
   abbrev tree : Nodes
   tree = book.tree
@@ -157,14 +157,14 @@ module _
   steers_tree : SteersTo setup (points_of tree) (mark_at before.view.run.marks k) m p
   steers_tree = SteersTo-mirrored before.view tree book.nodes (mark_at before.view.run.marks k) p m steers
 
-  near_is : before.near ≡ near_new setup (points_of tree) p
+  near_is : before.lists.near ≡ near_new setup (points_of tree) p
   near_is = filled.near_is ∙ near_new-same (tree_seen before.view).points (points_of tree) book.nodes.points setup p
 
   parent : IsBestParent setup tree m p f
   parent =
-      IsBestParent-mirrored before.view tree book.nodes p m f before.near near_is
-      (All-cons (IsPresent (tree_seen before.view).points) m before.near steers.nearest.member (λ i d below. (reach i d below).present))
-      (subst (λ s. IsFirstLeast (seen_cost_through before.view p) (IsOpenTo s (tree_seen before.view).points p (m ∷ before.near)) f) space whole.best.least)
+      IsBestParent-mirrored before.view tree book.nodes p m f before.lists.near near_is
+      (All-cons (IsPresent (tree_seen before.view).points) m before.lists.near steers.nearest.member (λ i d below. (reach i d below).present))
+      (subst (λ s. IsFirstLeast (seen_cost_through before.view p) (IsOpenTo s (tree_seen before.view).points p (m ∷ before.lists.near)) f) space whole.best.least)
 
   f_present : IsPresent (points_of tree) f
   f_present = (candidate-reachable setup (points_of tree) (mark_at before.view.run.marks k) m p f steers_tree parent.member).present
@@ -218,7 +218,7 @@ module _
 
   module _
       (after done : PassState) (entry : Record) (seen : SeesAnew NamesTreeOrPoint tried.view after.view) (now : Nodes)
-      (rewired : Rewires (space_of shared.task.scene) (book.tree ++ Some (record { point = p; parent = hanging.parent }) ∷ []) (suc k) tried.near now)
+      (rewired : Rewires (space_of shared.task.scene) (book.tree ++ Some (record { point = p; parent = hanging.parent }) ∷ []) (suc k) tried.lists.near now)
       (mirrors : Mirrors after.view now) (recorded : HasRecorded shared after done entry) (is : entry ≡ own_placed after.view m hanging)
       (alone : WorksAlone before.view k) where
     crew : after.view.crew ≡ record { worker = 0; turn = k } ∷ []
@@ -247,7 +247,7 @@ module _
     handles =
         Handles-placed setup tree k m (mark_at before.view.run.marks k) p entry steers_tree f now free clear_tree parent entry_is
         (subst (λ ns. Rewires setup.space (tree ++ Some (record { point = p; parent = f }) ∷ []) (suc k) ns now) (is_tried.near ∙ near_is)
-        (subst (λ s. Rewires s (tree ++ Some (record { point = p; parent = f }) ∷ []) (suc k) tried.near now) space rewired))
+        (subst (λ s. Rewires s (tree ++ Some (record { point = p; parent = f }) ∷ []) (suc k) tried.lists.near now) space rewired))
 
     held : after.view.hand ≡ Some counted_hand
     held = seen.kept.hand ∙ is_tried.came.counted

@@ -97,20 +97,20 @@ HasFilledNear-still before mid after p class near goes_on count filled =
 
 -- the near list of a pass stays filled while other words are seen anew than records and the count
 pub IsFilledSince-still : (shared : SharedState) (first mid after : PassState) (p : Point) (class : ℕ) → KeepsRecords shared mid after
-    → sees after.view Count ≡ sees mid.view Count → after.near ≡ mid.near → IsFilledSince shared first mid p class
+    → sees after.view Count ≡ sees mid.view Count → after.lists.near ≡ mid.lists.near → IsFilledSince shared first mid p class
     → IsFilledSince shared first after p class
 IsFilledSince-still shared first mid after p class keeps count near since = record {
   keeps = KeepsRecords-trans shared first mid after since.keeps keeps;
   filled = subst (HasFilledNear first.view after.view p class) (sym near)
-      (HasFilledNear-still first.view mid.view after.view p class mid.near keeps.goes_on count since.filled);
+      (HasFilledNear-still first.view mid.view after.view p class mid.lists.near keeps.goes_on count since.filled);
 }
 
 -- the node in hand was hung by its near list, and tried to be placed
 pub IsTried-placing :
     (shared : SharedState) (before hanging_at after : PassState) (hand : Hand) (placing : Placing) (hanging : Hanging)
-    → KeepsRecords shared before hanging_at → GoesOnPlacing hanging_at.view after.view → hanging_at.near ≡ before.near
-    → after.near ≡ hanging_at.near → sees hanging_at.view Count ≡ sees before.view Count
-    → IsHung before.view.steps hanging_at.view hand (hanging.parent, hanging.cost) before.near → IsPlacing after.view (hung_by hand hanging) placing
+    → KeepsRecords shared before hanging_at → GoesOnPlacing hanging_at.view after.view → hanging_at.lists.near ≡ before.lists.near
+    → after.lists.near ≡ hanging_at.lists.near → sees hanging_at.view Count ≡ sees before.view Count
+    → IsHung before.view.steps hanging_at.view hand (hanging.parent, hanging.cost) before.lists.near → IsPlacing after.view (hung_by hand hanging) placing
     → IsTried before after hand placing hanging
 IsTried-placing shared before hanging_at after hand placing hanging keeps goes_on near last count hung came = record {
   mid = hanging_at.view;

@@ -72,7 +72,7 @@ pub record IsNearestOf (view : View) (p : Point) (near among : List ℕ) (m : �
 -- The near list of a pass was filled for p since this moment, and no record was seen anew.
 pub record IsFilledSince (shared : SharedState) (first pass : PassState) (p : Point) (class : ℕ) : Type 0 where
   pub keeps : KeepsRecords shared first pass
-  pub filled : HasFilledNear first.view pass.view p class pass.near
+  pub filled : HasFilledNear first.view pass.view p class pass.lists.near
 
 -- ---- placing
 
@@ -118,9 +118,9 @@ hung_by hand hanging = record hand { stage = Treed; parent = hanging.parent; cos
 pub record IsTried (before after : PassState) (hand : Hand) (placing : Placing) (hanging : Hanging) : Type 0 where
   pub mid : View
   pub begun : GoesOn before.view mid
-  pub near : after.near ≡ before.near
+  pub near : after.lists.near ≡ before.lists.near
   pub counted : sees mid Count ≡ sees before.view Count
-  pub hung : IsHung before.view.steps mid hand (hanging.parent, hanging.cost) after.near
+  pub hung : IsHung before.view.steps mid hand (hanging.parent, hanging.cost) after.lists.near
   pub ended : GoesOn mid after.view
   pub count : sees after.view Count ≡ sees mid Count
   pub came : IsPlacing after.view (hung_by hand hanging) placing

@@ -46,13 +46,13 @@ fn choose_and_write<C: Clearing>(
     requires pointed { IfSome pass.old.view.hand (λ hand. IsPointed hand nearest p) }
     requires nearest { IsInReach pass.old.view p nearest }
     requires clear { Clear (space_of shared.now.task.scene) (point_of (tree_seen pass.old.view).points nearest) p }
-    requires near { All (IsInReach pass.old.view p) pass.old.near }
+    requires near { All (IsInReach pass.old.view p) pass.old.lists.near }
     ensures keeps { KeepsRecords shared.now pass.old pass.new }
-    ensures near_list { pass.new.near ≡ pass.old.near }
+    ensures near_list { pass.new.lists.near ≡ pass.old.lists.near }
     ensures count { sees pass.new.view Count ≡ sees pass.old.view Count }
-    ensures hung { IfSome pass.old.view.hand (λ hand. IsHung pass.old.view.steps pass.new.view hand result pass.old.near) }
+    ensures hung { IfSome pass.old.view.hand (λ hand. IsHung pass.old.view.steps pass.new.view hand result pass.old.lists.near) }
     ensures whole { HasWholeShare pass.old.view → SeesAsBefore pass.old.view pass.new.view
-        × IsBestHanging (space_of shared.now.task.scene) pass.old.view p nearest pass.old.near result }
+        × IsBestHanging (space_of shared.now.task.scene) pass.old.view p nearest pass.old.lists.near result }
 {
     let (parent, cost) = choose(shared, pass, hall, p, nearest);
     shared.write_tree(pass, parent, cost);
@@ -69,13 +69,13 @@ fn choose_and_place<C: Clearing>(
     class: u32,
 ) -> (Placing, Hanging)
     requires may { MayPlace shared.now pass.old k steering.nearest steering.point }
-    requires near { All (IsInReach pass.old.view steering.point) pass.old.near }
+    requires near { All (IsInReach pass.old.view steering.point) pass.old.lists.near }
     requires hall { C.space hall.now ≡ space_of shared.now.task.scene }
     ensures keeps { KeepsRecords shared.now pass.old pass.new }
     ensures tried { IfSome pass.old.view.hand (λ hand. IsTried pass.old pass.new hand result.0 result.1) }
     ensures class { result.1.class ≡ class }
     ensures whole { HasWholeShare pass.old.view
-        → IsTriedWhole (space_of shared.now.task.scene) pass.old.view pass.new.view k steering.point steering.nearest pass.old.near result.0 result.1 }
+        → IsTriedWhole (space_of shared.now.task.scene) pass.old.view pass.new.view k steering.point steering.nearest pass.old.lists.near result.0 result.1 }
 {
     let (parent, cost) = choose_and_write(shared, pass, hall, steering.point, steering.nearest);
     let placing = place(shared, pass, k);
@@ -109,7 +109,7 @@ pub(crate) fn place_rewire_and_record<C: Clearing>(
         → EndsWritten first.view pass.new.view k result steering.point result.outcome }
     // a pass that works alone does so as in the textbook
     ensures textbook { IsSteeredWhole pass.old.view k steering.nearest steering.point
-        → IsFilledWhole pass.old.view steering.point class pass.old.near
+        → IsFilledWhole pass.old.view steering.point class pass.old.lists.near
         → WorksAlone pass.old.view k → SeesTextbook pass.old.view k → WorksAlone pass.new.view (suc k) × SeesTextbook pass.new.view (suc k) }
 {
     let (placing, hanging) = choose_and_place(shared, pass, hall, k, steering, class);

@@ -62,10 +62,10 @@ fn fill_near(shared: &Shared, pass: &mut Pass, radii: &Radii, p: Point) -> u32
     requires bounded { IsBounded p }
     ensures keeps { KeepsRecords shared.now pass.old pass.new }
     ensures hand { pass.new.view.hand ≡ pass.old.view.hand }
-    ensures filled { HasFilledNear pass.old.view pass.new.view p result pass.new.near }
+    ensures filled { HasFilledNear pass.old.view pass.new.view p result pass.new.lists.near }
     // with the whole share it is that of the textbook
     ensures whole { HasWholeShare pass.old.view → HasCounted pass.old.view
-        → SeesButCount pass.old.view pass.new.view × IsFilledWhole pass.new.view p result pass.new.near }
+        → SeesButCount pass.old.view pass.new.view × IsFilledWhole pass.new.view p result pass.new.lists.near }
 {
     let nodes = u64::from(shared.number(pass));
     near(shared, pass, p, radii.at(nodes));
@@ -77,9 +77,9 @@ fn fill_near(shared: &Shared, pass: &mut Pass, radii: &Radii, p: Point) -> u32
 fn nearest_listed(shared: &Shared, pass: &mut Pass, p: Point) -> Option<MeasuredNode>
     requires belongs { BelongsTo pass.old shared.now }
     requires bounded { IsBounded p }
-    requires present { All (IsPresent (tree_seen pass.old.view).points) pass.old.near }
+    requires present { All (IsPresent (tree_seen pass.old.view).points) pass.old.lists.near }
     ensures steps { PassSees NamesNothing shared.now pass.old pass.new }
-    ensures some { IfSome result (λ best. IsNearestOf pass.old.view p pass.old.near pass.old.near best.node best.at) }
+    ensures some { IfSome result (λ best. IsNearestOf pass.old.view p pass.old.lists.near pass.old.lists.near best.node best.at) }
 {
     let count = pass.near_count();
     if count == 0 {
@@ -123,10 +123,10 @@ fn steer_among_near(shared: &Shared, pass: &mut Pass, radii: &Radii, k: u32) -> 
     ensures keeps { KeepsRecords shared.now pass.old pass.new }
     ensures hand { pass.new.view.hand ≡ pass.old.view.hand }
     ensures steered { HasSteered pass.old.view pass.new.view k result.0.nearest result.0.from result.0.point }
-    ensures filled { HasFilledNear pass.old.view pass.new.view result.0.point result.1 pass.new.near }
+    ensures filled { HasFilledNear pass.old.view pass.new.view result.0.point result.1 pass.new.lists.near }
     ensures bounded { IsBounded result.0.point }
     ensures whole { HasWholeShare pass.old.view → HasCounted pass.old.view
-        → SeesButCount pass.old.view pass.new.view × IsFilledWhole pass.new.view result.0.point result.1 pass.new.near }
+        → SeesButCount pass.old.view pass.new.view × IsFilledWhole pass.new.view result.0.point result.1 pass.new.lists.near }
 {
     let mark = shared.task().marks.as_slice()[k as usize];
     let class = fill_near(shared, pass, radii, mark);
@@ -151,8 +151,8 @@ fn renew_near(shared: &Shared, pass: &mut Pass, radii: &Radii, p: Point, old: u3
     ensures keeps { KeepsRecords shared.now pass.old pass.new }
     ensures hand { pass.new.view.hand ≡ pass.old.view.hand }
     ensures filled { (first : PassState) → IsFilledSince shared.now first pass.old p old → IsFilledSince shared.now first pass.new p result }
-    ensures whole { HasWholeShare pass.old.view → HasCounted pass.old.view → IsFilledWhole pass.old.view p old pass.old.near
-        → SeesButCount pass.old.view pass.new.view × IsFilledWhole pass.new.view p result pass.new.near }
+    ensures whole { HasWholeShare pass.old.view → HasCounted pass.old.view → IsFilledWhole pass.old.view p old pass.old.lists.near
+        → SeesButCount pass.old.view pass.new.view × IsFilledWhole pass.new.view p result pass.new.lists.near }
 {
     let class = class(u64::from(shared.number(pass)));
     if class == old {
@@ -178,10 +178,10 @@ pub(crate) fn steer_and_test<C: Clearing>(
     ensures keeps { KeepsRecords shared.now pass.old pass.new }
     ensures hand { pass.new.view.hand ≡ pass.old.view.hand }
     ensures steered { HasSteered pass.old.view pass.new.view k result.0.nearest result.0.from result.0.point }
-    ensures filled { HasFilledNear pass.old.view pass.new.view result.0.point result.1 pass.new.near }
+    ensures filled { HasFilledNear pass.old.view pass.new.view result.0.point result.1 pass.new.lists.near }
     ensures bounded { IsBounded result.0.point }
     ensures whole { HasWholeShare pass.old.view → HasCounted pass.old.view
-        → SeesButCount pass.old.view pass.new.view × IsFilledWhole pass.new.view result.0.point result.1 pass.new.near }
+        → SeesButCount pass.old.view pass.new.view × IsFilledWhole pass.new.view result.0.point result.1 pass.new.lists.near }
     ensures clear { IsTrue result.2 ↔ Clear (C.space hall.now) result.0.from result.0.point }
 {
     let (steering, begun) = steer_among_near(shared, pass, radii, k);

@@ -154,9 +154,9 @@ pub PassLowers-sees : (shared : SharedState) (before after : PassState) → Pass
 PassLowers-sees shared before after one = record {
   belongs = one.belongs;
   sees_anew = one.sees_anew;
-  near = ap (λ p. p.near) one.view_alone;
-  around = ap (λ p. p.around) one.view_alone;
-  spots = ap (λ p. p.spots) one.view_alone;
+  near = ap (λ p. p.lists.near) one.view_alone;
+  around = ap (λ p. p.lists.around) one.view_alone;
+  search = ap (λ p. p.lists.search) one.view_alone;
 }
 
 pub PassLowers-trans : (shared : SharedState) (before mid after : PassState) → PassLowers shared before mid → PassLowers shared mid after
@@ -166,21 +166,21 @@ PassLowers-trans shared before mid after one other = record {
   sees_anew = SeesAnew-trans NamesTreeOrPoint before.view mid.view after.view one.sees_anew other.sees_anew;
   near = other.near ∙ one.near;
   around = other.around ∙ one.around;
-  spots = other.spots ∙ one.spots;
+  search = other.search ∙ one.search;
 }
 
 -- nothing but the list of those that wait changes
 pub PassLowers-lists : (shared : SharedState) (before after : PassState) → BelongsTo before shared → after.table ≡ before.table
-    → after.view ≡ before.view → after.near ≡ before.near → after.around ≡ before.around → after.spots ≡ before.spots
+    → after.view ≡ before.view → after.lists.near ≡ before.lists.near → after.lists.around ≡ before.lists.around → after.lists.search ≡ before.lists.search
     → PassLowers shared before after
-PassLowers-lists shared before after belongs table view near around spots =
+PassLowers-lists shared before after belongs table view near around search =
     let sees_anew = subst (SeesAnew NamesTreeOrPoint before.view) (sym view) (SeesAnew-refl NamesTreeOrPoint before.view belongs.lawful) in
     record {
       belongs = BelongsTo-later shared before after table sees_anew.goes_on belongs;
       sees_anew = sees_anew;
       near = near;
       around = around;
-      spots = spots;
+      search = search;
     }
 
 -- ---- if no word is seen anew, costs and points are the same

@@ -108,16 +108,16 @@ weigh-falls (suc n) i before after low others falls =
 -- ---- one visit
 
 -- A node was taken off the list of those that wait, and then settled.
-module _ (before now popped after : PassState) (n : ℕ) (view_is : popped.view ≡ now.view) (waiting_is : after.waiting ≡ popped.waiting)
+module _ (before now popped after : PassState) (n : ℕ) (view_is : popped.view ≡ now.view) (waiting_is : after.lists.waiting ≡ popped.lists.waiting)
     (goes_on : GoesOn now.view after.view) (same : KeepsPairs before.view now.view) (settled : IsWithinSeenParent after.view n)
-    (waited : (m : ℕ) → IsOn now.waiting m → IsOn before.waiting m)
-    (rest : (m : ℕ) → IsOn before.waiting m → IsOn now.waiting m ⊎ IsWithinSeenParent now.view m)
-    (keeps : (m : ℕ) → IsOn now.waiting m → IsOn popped.waiting m ⊎ (Some n ≡ Some m))
-    (only : (m : ℕ) → IsOn popped.waiting m → IsOn now.waiting m) where
-  pub waited_still : (m : ℕ) → IsOn after.waiting m → IsOn before.waiting m
+    (waited : (m : ℕ) → IsOn now.lists.waiting m → IsOn before.lists.waiting m)
+    (rest : (m : ℕ) → IsOn before.lists.waiting m → IsOn now.lists.waiting m ⊎ IsWithinSeenParent now.view m)
+    (keeps : (m : ℕ) → IsOn now.lists.waiting m → IsOn popped.lists.waiting m ⊎ (Some n ≡ Some m))
+    (only : (m : ℕ) → IsOn popped.lists.waiting m → IsOn now.lists.waiting m) where
+  pub waited_still : (m : ℕ) → IsOn after.lists.waiting m → IsOn before.lists.waiting m
   waited_still m on = waited m (only m (subst (λ ns. IsOn ns m) waiting_is on))
 
-  waits_or_is : (m : ℕ) → IsOn now.waiting m → IsOn after.waiting m ⊎ (n ≡ m)
+  waits_or_is : (m : ℕ) → IsOn now.lists.waiting m → IsOn after.lists.waiting m ⊎ (n ≡ m)
   waits_or_is m on = elim (keeps m on) [
     | inl still ↦ inl (subst (λ ns. IsOn ns m) (sym waiting_is) still)
     | inr is ↦ inr cc
@@ -163,7 +163,7 @@ module _ (before now popped after : PassState) (n : ℕ) (view_is : popped.view 
     pub same_still : KeepsPairs before.view after.view
     same_still m = stays_now m ∙ same m
 
-    pub rest_still : (m : ℕ) → IsOn before.waiting m → IsOn after.waiting m ⊎ IsWithinSeenParent after.view m
+    pub rest_still : (m : ℕ) → IsOn before.lists.waiting m → IsOn after.lists.waiting m ⊎ IsWithinSeenParent after.view m
     rest_still m on = elim (rest m on) [
       | inl waits ↦ elim (waits_or_is m waits) [
         | inl still ↦ inl still
@@ -210,8 +210,8 @@ IsSpreading-begins node view waiting given all only = record {
 
 -- the cost of node n falls, and then its children wait too
 pub IsSpreading-falls : (node n : ℕ) (before : View) (now mid : PassState) (waiting : List ℕ) → GoesOn before now.view → GoesOn now.view mid.view
-    → HasFallen now mid n → ((c : ℕ) → HasSeenParent mid.view n c → IsOn waiting c) → ((c : ℕ) → IsOn mid.waiting c → IsOn waiting c)
-    → ((c : ℕ) → IsOn waiting c → IsOn mid.waiting c ⊎ HasSeenParent mid.view n c) → IsSpreading node before now.view now.waiting
+    → HasFallen now mid n → ((c : ℕ) → HasSeenParent mid.view n c → IsOn waiting c) → ((c : ℕ) → IsOn mid.lists.waiting c → IsOn waiting c)
+    → ((c : ℕ) → IsOn waiting c → IsOn mid.lists.waiting c ⊎ HasSeenParent mid.view n c) → IsSpreading node before now.view now.lists.waiting
     → IsSpreading node before mid.view waiting
 IsSpreading-falls node n before now mid waiting was goes_on fallen all keeps only h = record {
   given = h.given;
@@ -245,7 +245,7 @@ IsSpreading-falls node n before now mid waiting was goes_on fallen all keeps onl
     ]
 
     -- a child of node n waits, and any other was looked at before
-    looked : (c : ℕ) → c ≢ n → IsLooked now.view now.waiting c → IsLooked mid.view waiting c
+    looked : (c : ℕ) → c ≢ n → IsLooked now.view now.lists.waiting c → IsLooked mid.view waiting c
     looked c other was =
         let same = fallen.others c other in
         let written = SeesPair-later now.view mid.view goes_on c was.written in
@@ -292,7 +292,7 @@ IsSpreading-falls node n before now mid waiting was goes_on fallen all keeps onl
 
 -- at last none waits
 pub HasSpread-ends : (node : ℕ) (before : View) (now after : PassState) → GoesOn before now.view → GoesOn now.view after.view → HasSettledAll now after
-    → IsSpreading node before now.view now.waiting → HasSpread node before after.view
+    → IsSpreading node before now.view now.lists.waiting → HasSpread node before after.view
 HasSpread-ends node before now after was goes_on all h c pair source =
     elim (cases_eq c 0) [
       | inl start ↦ subst (IsWithinParent after.view) (sym start) (IsWithinParent-start after.view goes_on.lawful
@@ -317,7 +317,7 @@ HasSpread-ends node before now after was goes_on all h c pair source =
         ]
 
 pub HasSettledChanges-ends : (node : ℕ) (before : View) (now after : PassState) → GoesOn now.view after.view → HasSettledAll now after
-    → IsSpreading node before now.view now.waiting → HasSettledChanges before after.view
+    → IsSpreading node before now.view now.lists.waiting → HasSettledChanges before after.view
 HasSettledChanges-ends node before now after goes_on all h c changed =
     let same = all.same c in
     elim (h.changed c (λ e. changed (same ∙ e))).rest [

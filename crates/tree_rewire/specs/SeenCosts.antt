@@ -73,10 +73,10 @@ pub record PassSees (which : Word → Type 0) (shared : SharedState) (before aft
   pub sees_anew : SeesAnew which before.view after.view
   pub view_alone : after ≡ with_view before after.view
 
--- A pass of this tree sees parents, costs and points anew. Its near list, its second list and its spots stay.
+-- A pass of this tree sees parents, costs and points anew. Its near list, its second list and that of its search stay.
 pub record PassLowers (shared : SharedState) (before after : PassState) : Type 0 where
   pub belongs : BelongsTo after shared
   pub sees_anew : SeesAnew NamesTreeOrPoint before.view after.view
-  pub near : after.near ≡ before.near
-  pub around : after.around ≡ before.around
-  pub spots : after.spots ≡ before.spots
+  pub near : after.lists.near ≡ before.lists.near
+  pub around : after.lists.around ≡ before.lists.around
+  pub search : after.lists.search ≡ before.lists.search

@@ -72,12 +72,12 @@ KeepsPairs before after = (m : ℕ) → sees after (TreeOf m) ≡ sees before (T
 
 -- all that wait are seen with their parents and costs
 abbrev pub SeesWaiting : PassState → Type 0
-SeesWaiting pass = (n : ℕ) → IsOn pass.waiting n → SeesPair pass.view n
+SeesWaiting pass = (n : ℕ) → IsOn pass.lists.waiting n → SeesPair pass.view n
 
 -- All that waited are settled, and no cost fell.
 pub record HasSettledAll (before after : PassState) : Type 0 where
   pub same : KeepsPairs before.view after.view
-  pub settled : (n : ℕ) → IsOn before.waiting n → IsWithinSeenParent after.view n
+  pub settled : (n : ℕ) → IsOn before.lists.waiting n → IsWithinSeenParent after.view n
 
 -- The cost of node n alone fell, and it is settled. Of those that waited each waits still, or is a child of node n, or is settled.
 pub record HasFallen (before after : PassState) (n : ℕ) : Type 0 where
@@ -85,5 +85,5 @@ pub record HasFallen (before after : PassState) (n : ℕ) : Type 0 where
   pub fell : cost_seen after.view n < cost_seen before.view n
   pub others : OnlyAt n before.view after.view
   pub settled : IsWithinSeenParent after.view n
-  pub waited : (m : ℕ) → IsOn after.waiting m → IsOn before.waiting m
-  pub rest : (m : ℕ) → IsOn before.waiting m → IsOn after.waiting m ⊎ (parent_seen after.view m ≡ n) ⊎ IsWithinSeenParent after.view m
+  pub waited : (m : ℕ) → IsOn after.lists.waiting m → IsOn before.lists.waiting m
+  pub rest : (m : ℕ) → IsOn before.lists.waiting m → IsOn after.lists.waiting m ⊎ (parent_seen after.view m ≡ n) ⊎ IsWithinSeenParent after.view m

@@ -41,15 +41,15 @@ pub fn choose<C: Clearing>(
     requires hall { C.space hall.now ≡ space_of shared.now.task.scene }
     requires nearest { IsInReach pass.old.view p nearest }
     requires clear { Clear (space_of shared.now.task.scene) (point_of (tree_seen pass.old.view).points nearest) p }
-    requires near { All (IsInReach pass.old.view p) pass.old.near }
+    requires near { All (IsInReach pass.old.view p) pass.old.lists.near }
     ensures belongs { BelongsTo pass.new shared.now }
     ensures seen { SeesAnew NamesTree pass.old.view pass.new.view }
     ensures view_alone { pass.new ≡ with_view pass.old pass.new.view }
-    ensures pairs { All (SeesPair pass.new.view) (nearest ∷ pass.old.near) }
+    ensures pairs { All (SeesPair pass.new.view) (nearest ∷ pass.old.lists.near) }
     // each cost was loaded in this call
-    ensures loaded { All (IsLoadedSince pass.old.view.steps pass.new.view) (nearest ∷ pass.old.near) }
+    ensures loaded { All (IsLoadedSince pass.old.view.steps pass.new.view) (nearest ∷ pass.old.lists.near) }
     ensures least { IsFirstLeast (seen_cost_through pass.new.view p)
-        (IsOpenTo (space_of shared.now.task.scene) (tree_seen pass.new.view).points p (nearest ∷ pass.old.near)) result.0 }
+        (IsOpenTo (space_of shared.now.task.scene) (tree_seen pass.new.view).points p (nearest ∷ pass.old.lists.near)) result.0 }
     ensures cost { result.1 ≡ seen_cost_through pass.new.view p result.0 }
     // so the new node may hang below it
     ensures below { IsCostBelow pass.new.view p result.0 result.1 }
@@ -65,12 +65,12 @@ pub fn choose<C: Clearing>(
 /// Loads the costs of a node and of those on the near list.
 fn load_costs(shared: &Shared, pass: &mut Pass, nearest: u32, count: usize)
     requires belongs { BelongsTo pass.old shared.now }
-    requires count { count ≡ length pass.old.near }
+    requires count { count ≡ length pass.old.lists.near }
     requires nearest { IsPresent (tree_seen pass.old.view).points nearest }
-    requires near { All (IsPresent (tree_seen pass.old.view).points) pass.old.near }
+    requires near { All (IsPresent (tree_seen pass.old.view).points) pass.old.lists.near }
     ensures steps { PassSees NamesTree shared.now pass.old pass.new }
-    ensures pairs { All (SeesPair pass.new.view) (nearest ∷ pass.old.near) }
-    ensures loaded { All (IsLoadedSince pass.old.view.steps pass.new.view) (nearest ∷ pass.old.near) }
+    ensures pairs { All (SeesPair pass.new.view) (nearest ∷ pass.old.lists.near) }
+    ensures loaded { All (IsLoadedSince pass.old.view.steps pass.new.view) (nearest ∷ pass.old.lists.near) }
     ensures whole { HasWholeShare pass.old.view → SeesAsBefore pass.old.view pass.new.view }
 {
     let _pair = shared.tree(pass, nearest);
@@ -91,14 +91,14 @@ fn least<C: Clearing>(
 ) -> Parent
     requires belongs { BelongsTo pass.old shared.now }
     requires bounded { IsBounded p }
-    requires count { count ≡ length pass.old.near }
+    requires count { count ≡ length pass.old.lists.near }
     requires nearest { IsPresent (tree_seen pass.old.view).points nearest }
     requires clear { Clear (C.space hall.now) (point_of (tree_seen pass.old.view).points nearest) p }
-    requires near { All (IsPresent (tree_seen pass.old.view).points) pass.old.near }
-    requires pairs { All (SeesPair pass.old.view) (nearest ∷ pass.old.near) }
+    requires near { All (IsPresent (tree_seen pass.old.view).points) pass.old.lists.near }
+    requires pairs { All (SeesPair pass.old.view) (nearest ∷ pass.old.lists.near) }
     ensures steps { PassSees NamesNothing shared.now pass.old pass.new }
     ensures least { IsLeastParent (seen_cost_through pass.old.view p)
-        (IsOpenTo (C.space hall.now) (tree_seen pass.old.view).points p (nearest ∷ pass.old.near)) result }
+        (IsOpenTo (C.space hall.now) (tree_seen pass.old.view).points p (nearest ∷ pass.old.lists.near)) result }
 {
     let mut best = as_parent(shared, pass, p, nearest);
     'choices: for index in 0..count {

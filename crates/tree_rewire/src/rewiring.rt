@@ -39,21 +39,21 @@ pub fn rewire<C: Clearing>(shared: &Shared, pass: &mut Pass, hall: &C, k: u32)
     requires hall { C.space hall.now ≡ space_of shared.now.task.scene }
     requires hand { IsSome pass.old.view.hand }
     requires placed { IfSome pass.old.view.hand (λ hand. HasPlaced pass.old.view k hand) }
-    requires near { IfSome pass.old.view.hand (λ hand. All (IsInReach pass.old.view hand.point) pass.old.near) }
+    requires near { IfSome pass.old.view.hand (λ hand. All (IsInReach pass.old.view hand.point) pass.old.lists.near) }
     ensures belongs { BelongsTo pass.new shared.now }
     ensures seen { SeesAnew NamesTreeOrPoint pass.old.view pass.new.view }
-    ensures lists { (pass.new.near ≡ pass.old.near) × (pass.new.around ≡ pass.old.around) × (pass.new.spots ≡ pass.old.spots) }
-    ensures pairs { All (SeesPair pass.new.view) pass.old.near }
+    ensures lists { (pass.new.lists.near ≡ pass.old.lists.near) × (pass.new.lists.around ≡ pass.old.lists.around) × (pass.new.lists.search ≡ pass.old.lists.search) }
+    ensures pairs { All (SeesPair pass.new.view) pass.old.lists.near }
     // each near node with a clear edge costs no more than through the new node, by the cost that this was placed at
-    ensures rewired { IfSome pass.old.view.hand (λ hand. (i : ℕ) → Contains pass.old.near i
+    ensures rewired { IfSome pass.old.view.hand (λ hand. (i : ℕ) → Contains pass.old.lists.near i
         → Clear (space_of shared.now.task.scene) hand.point (point_of (tree_seen pass.old.view).points i)
         → cost_seen pass.new.view i ≤ hand.cost + cost_of hand.point (point_of (tree_seen pass.old.view).points i)) }
     // each node whose cost fell, or whose parent's did, costs no more than through its parent, by what is seen then, unless it is a near
     // node to which the new one is a shortcut and which hangs elsewhere, as another pass has lowered it
-    ensures spread { HasSpreadFalls (space_of shared.now.task.scene) (Contains pass.old.near) (suc k) pass.old.view pass.new.view }
+    ensures spread { HasSpreadFalls (space_of shared.now.task.scene) (Contains pass.old.lists.near) (suc k) pass.old.view pass.new.view }
     // a pass with the whole share sees a tree, and then that tree rewired as in the textbook
     ensures whole { HasWholeShare pass.old.view → (tree : Nodes) → Mirrors pass.old.view tree
-        → (after : Nodes) × Rewires (space_of shared.now.task.scene) tree (suc k) pass.old.near after × Mirrors pass.new.view after }
+        → (after : Nodes) × Rewires (space_of shared.now.task.scene) tree (suc k) pass.old.lists.near after × Mirrors pass.new.view after }
 {
     let count = pass.near_count();
     let from = pass.hand_point();

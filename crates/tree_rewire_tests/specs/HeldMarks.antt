@@ -26,7 +26,7 @@ pub record HoldsMark (shared : SharedState) (k : ℕ) (stage : Stage) (nearest :
 
 -- all on the near list are at most a step from the point in hand
 abbrev pub HasNearInReach : PassState → Type 0
-HasNearInReach pass = IfSome pass.view.hand (λ hand. All (IsInReach pass.view hand.point) pass.near)
+HasNearInReach pass = IfSome pass.view.hand (λ hand. All (IsInReach pass.view hand.point) pass.lists.near)
 
 -- a pass whose near nodes may be rewired below the node of mark k
 pub record MayRewire (shared : SharedState) (k : ℕ) (pass : PassState) : Type 0 where

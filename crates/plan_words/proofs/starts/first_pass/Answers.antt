@@ -3,7 +3,7 @@ use Rattle.plan_words.proofs.starts.first_pass.Goals as goal
 
 pub invariant_of-result : goal.invariant_of-result
 invariant_of-result c =
-    let room = c.in_ok-scratch.ensures.room in
+    let room = c.in_ok-lists.ensures.room in
     let nodes = c.len.ensures in (
       c.requires.slots,
       c.requires.tied,

@@ -2,7 +2,7 @@ use Rattle.std.specs.Prelude.{IfSome}
 use Rattle.std.proofs.Common.{◌≡◌, false, refl, sym, ap, ◌∙◌, subst}
 use Rattle.plan_model.specs.Spaces.Clearance.{Clear}
 use Rattle.plan_model.specs.Trees.PointsByNumber.{point_of}
-use Rattle.plan_words.specs.States.{PassState, with_view}
+use Rattle.plan_words.specs.States.{PassState, with_lists, with_view}
 use Rattle.step_core.specs.ViewSteps.{pointed}
 use Rattle.step_core.specs.ViewTrees.{SeesPoint}
 use Rattle.step_core.specs.Views.{sees, setup_in, tree_seen}
@@ -40,7 +40,8 @@ steered g c =
     let steer = c.steer_and_test-class.ensures in
     HasLooked-looks c.args.shared.now c.args.pass.now c.clear_near.new.self c.steer_and_test-class.new.pass c.steer_and_test-class.new.pass c.args.k
     c.steer_and_test-class.result.0.nearest c.steer_and_test-class.result.0.from c.steer_and_test-class.result.0.point
-    c.clear_near.ensures.near c.requires.may.hand c.requires.may.mark steer.keeps steer.hand steer.keeps.belongs
+    (c.clear_near.ensures.others ∙ ap (with_lists c.args.pass.now) c.clear_near.ensures.near)
+    c.requires.may.hand c.requires.may.mark steer.keeps steer.hand steer.keeps.belongs
     (OnlyLooks-refl c.steer_and_test-class.new.pass.view steer.keeps.belongs.lawful) steer.steered
 
 -- the nearest node stands at the point that it steers to, if that is where it stands
@@ -66,7 +67,8 @@ looked g c =
     let steer = c.steer_and_test-class.ensures in
     HasLooked-looks c.args.shared.now c.args.pass.now c.clear_near.new.self c.steer_and_test-class.new.pass c.find.new.pass c.args.k
     c.steer_and_test-class.result.0.nearest c.steer_and_test-class.result.0.from c.steer_and_test-class.result.0.point
-    c.clear_near.ensures.near c.requires.may.hand c.requires.may.mark steer.keeps steer.hand c.find.ensures.belongs c.find.ensures.looks steer.steered
+    (c.clear_near.ensures.others ∙ ap (with_lists c.args.pass.now) c.clear_near.ensures.near)
+    c.requires.may.hand c.requires.may.mark steer.keeps steer.hand c.find.ensures.belongs c.find.ensures.looks steer.steered
 
 blocked : (g : Over) (c : After-find g)
     → ¬ Clear (setup_in c.find.new.pass.view.run).space (point_of (tree_seen c.find.new.pass.view).points c.steer_and_test-class.result.0.nearest)
@@ -149,7 +151,8 @@ filled g c looked =
     IsFilledSince-written c.args.shared.now c.args.pass.now c.steer_and_test-class.new.pass looked.hand c.args.k c.steer_and_test-class.result.0.nearest
     c.steer_and_test-class.result.0.from c.steer_and_test-class.result.0.point looked.keeps looked.steers looked.held looked.mark c.write_point.new.pass
     c.write_point.ensures.goes_on (writes g c looked) c.clear_near.new.self c.steer_and_test-class.new.pass c.steer_and_test-class.result.1
-    c.clear_near.ensures.near c.steer_and_test-class.ensures.keeps c.steer_and_test-class.ensures.filled looked.goes_on refl refl
+    (c.clear_near.ensures.others ∙ ap (with_lists c.args.pass.now) c.clear_near.ensures.near)
+    c.steer_and_test-class.ensures.keeps c.steer_and_test-class.ensures.filled looked.goes_on refl refl
 
 pub place_rewire_and_record-requires-clause-may : goal.place_rewire_and_record-requires-clause-may
 place_rewire_and_record-requires-clause-may g c κs within =
@@ -173,14 +176,14 @@ abbrev IsWhole : (g : Over) → After-steer_and_test-class g → Type 0
 IsWhole g c =
     SeesButCount c.args.pass.now.view c.steer_and_test-class.new.pass.view
     × IsFilledWhole c.steer_and_test-class.new.pass.view c.steer_and_test-class.result.0.point c.steer_and_test-class.result.1
-    c.steer_and_test-class.new.pass.near
+    c.steer_and_test-class.new.pass.lists.near
 
 whole_steered : (g : Over) (c : After-steer_and_test-class g) → WorksAlone c.args.pass.now.view c.args.k → IsWhole g c
 whole_steered g c alone =
     let before = c.args.pass.now.view in
     let emptied = c.clear_near.new.self.view in
     let looked = steered g c in
-    let view : emptied ≡ before = ap (λ (x : PassState). x.view) c.clear_near.ensures.near in
+    let view : emptied ≡ before = ap (λ (x : PassState). x.view) c.clear_near.ensures.others in
     let claimed = HasCounted-claimed before looked.hand looked.was_held
     (of_held before (λ hand. hand.stage ≡ Claimed) looked.hand looked.was_held c.requires.may.claimed) in
     let got = c.steer_and_test-class.ensures.whole (subst HasWholeShare (sym view) alone.whole)

@@ -26,7 +26,7 @@ write_tree-requires-clause-may g c =
     let present = present_still before after goes_on c.args.nearest c.requires.nearest.present in
     let clear = subst (λ q. Clear space q c.args.p) (sym (point_still before after goes_on c.args.nearest c.requires.nearest.present)) c.requires.clear in
     if_held after (λ hand. MayHang after hand c.choose-parent.result.0 c.choose-parent.result.1) own.hand (c.choose-parent.ensures.seen.kept.hand ∙ own.held)
-    (MayHang-chosen space after own.hand c.args.p c.args.nearest c.choose-parent.result.0 c.choose-parent.result.1 c.args.pass.now.near own.says
+    (MayHang-chosen space after own.hand c.args.p c.args.nearest c.choose-parent.result.0 c.choose-parent.result.1 c.args.pass.now.lists.near own.says
     c.choose-parent.ensures.least c.choose-parent.ensures.cost present (c.choose-parent.ensures.pairs 0 0 (omega arith)) clear c.choose-parent.ensures.below)
 
 pub returns-clause-keeps : goal.returns-clause-keeps
@@ -57,11 +57,11 @@ returns-clause-hung g c =
     let held = c.choose-parent.ensures.seen.kept.hand ∙ own.held in
     let written = of_held mid.view _ own.hand held c.write_tree.ensures.view in
     let run = ap (λ (r : SharedRun). (setup_in r).space) c.choose-parent.ensures.belongs.run in
-    if_held before.view (λ hand. IsHung before.view.steps c.write_tree.new.pass.view hand c.choose-parent.result c.args.pass.now.near) own.hand own.held
-    (IsHung-written space mid.view own.hand c.args.nearest c.args.p c.choose-parent.result c.args.pass.now.near c.write_tree.new.pass.view own.says
+    if_held before.view (λ hand. IsHung before.view.steps c.write_tree.new.pass.view hand c.choose-parent.result c.args.pass.now.lists.near) own.hand own.held
+    (IsHung-written space mid.view own.hand c.args.nearest c.args.p c.choose-parent.result c.args.pass.now.lists.near c.write_tree.new.pass.view own.says
     (ap (λ (p : PassState). p.view) written) (sym run) c.choose-parent.ensures.pairs before.view.steps c.choose-parent.ensures.loaded
     c.write_tree.ensures.goes_on
-    (chosen_near space mid.view own.hand c.args.p c.args.nearest c.choose-parent.result.0 c.choose-parent.result.1 c.args.pass.now.near own.says
+    (chosen_near space mid.view own.hand c.args.p c.args.nearest c.choose-parent.result.0 c.choose-parent.result.1 c.args.pass.now.lists.near own.says
     c.choose-parent.ensures.least c.choose-parent.ensures.cost))
 
 -- with the share of all workers, the costs are those that were seen
@@ -74,6 +74,6 @@ returns-clause-whole g c = λ whole.
     let written = of_held mid.view _ own.hand held c.write_tree.ensures.view in
     let unshown = c.choose-parent.ensures.whole whole in (
       λ name. ap (λ (x : PassState). sees x.view name) written ∙ unshown name,
-      IsBestHanging-before (space_of c.args.shared.now.task.scene) before.view mid.view c.args.p c.args.nearest before.near c.choose-parent.result
+      IsBestHanging-before (space_of c.args.shared.now.task.scene) before.view mid.view c.args.p c.args.nearest before.lists.near c.choose-parent.result
           c.choose-parent.ensures.seen.goes_on.later.run unshown c.choose-parent.ensures.least c.choose-parent.ensures.cost,
     )

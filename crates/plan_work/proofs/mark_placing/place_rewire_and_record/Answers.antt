@@ -40,8 +40,8 @@ rewire-requires-clause-near g c κs within =
     may.held c.choose_and_place-placing.ensures.tried in
     let placed = subst (λ placing. IsTried before after may.hand placing c.choose_and_place-placing.result.1) c.in-Placed.is tried in
     let filled = c.requires.filled.1.filled in
-    if_held after.view (λ hand. All (IsInReach after.view hand.point) after.near) _ placed.came.counted
-    (subst (λ q. All (IsInReach after.view q) after.near) (sym may.pointed.point)
+    if_held after.view (λ hand. All (IsInReach after.view hand.point) after.lists.near) _ placed.came.counted
+    (subst (λ q. All (IsInReach after.view q) after.lists.near) (sym may.pointed.point)
     (subst (All (IsInReach after.view c.args.steering.point)) (sym placed.near)
     (λ k d below.
     IsInReach-later before.view after.view c.args.steering.point _ c.choose_and_place-placing.ensures.keeps.goes_on (filled.in_reach k d below))))
@@ -154,10 +154,10 @@ returns-in-Placed-clause-textbook g c = λ steers filled alone book.
     let tried = of_held before.view (λ hand. IsTried before after hand c.choose_and_place-placing.result.0 hanging) may.hand may.held
     c.choose_and_place-placing.ensures.tried in
     let placed = subst (λ placing. IsTried before after may.hand placing hanging) c.in-Placed.is tried in
-    let whole = subst (λ placing. IsTriedWhole (space_of shared.task.scene) before.view after.view c.args.k p m before.near placing hanging) c.in-Placed.is
+    let whole = subst (λ placing. IsTriedWhole (space_of shared.task.scene) before.view after.view c.args.k p m before.lists.near placing hanging) c.in-Placed.is
     (c.choose_and_place-placing.ensures.whole alone.whole) in
     let reach = c.requires.filled.1.filled.in_reach in
-    let filled_class = subst (λ n. IsFilledWhole before.view p n before.near) (sym c.choose_and_place-placing.ensures.class) filled in
+    let filled_class = subst (λ n. IsFilledWhole before.view p n before.lists.near) (sym c.choose_and_place-placing.ensures.class) filled in
     let start_clear = (keeps.goes_on.was_lawful.order alone.whole).start_clear in
     let mirrors = Mirrors-tried shared before after c.args.k m p hanging may keeps placed whole reach steers filled_class book start_clear in
     let rewired = c.rewire.ensures.whole (HasWholeShare-kept shared before after keeps alone.whole) _ mirrors in
@@ -176,7 +176,7 @@ returns-in-Same-clause-textbook g c = λ steers filled alone book.
     c.choose_and_place-placing.ensures.tried in
     let same = subst (λ placing. IsTried before after may.hand placing hanging) c.in-Same.is tried in
     let whole = subst (λ placing. IsTriedWhole
-    (space_of shared.task.scene) before.view after.view c.args.k c.args.steering.point c.args.steering.nearest before.near placing hanging)
+    (space_of shared.task.scene) before.view after.view c.args.k c.args.steering.point c.args.steering.nearest before.lists.near placing hanging)
     c.in-Same.is (c.choose_and_place-placing.ensures.whole alone.whole) in
     AloneNext-same shared before after c.record_unplaced.new.pass c.args.k c.args.steering.nearest c.in-Same.node c.args.steering.point hanging
     c.record_unplaced.result may c.choose_and_place-placing.ensures.keeps same whole c.record_unplaced.ensures.recorded c.record_unplaced.ensures.entry steers

@@ -47,10 +47,10 @@ returns-clause-filled c =
     (c.requires.radii.step ∙ ap (λ (r : SharedRun). r.step) (sym run))
     ∙ ap (λ n. radius_of_class after.run.step n (class_of c.from-nodes.result)) (c.requires.radii.gamma ∙ ap (λ (r : SharedRun). r.gamma) (sym run))
     ∙ ap (radius_of_class after.run.step after.run.gamma) (sym c.class.ensures.value) in
-    HasFilledNear-found before mid after c.number.ensures.goes_on c.near.ensures.looks.looks.goes_on c.args.p nodes c.class.result c.near.new.pass.near
+    HasFilledNear-found before mid after c.number.ensures.goes_on c.near.ensures.looks.looks.goes_on c.args.p nodes c.class.result c.near.new.pass.lists.near
     (looks_at_count c.args.pass.now c.number.new.pass nodes c.number.ensures.view c.number.ensures.goes_on) c.number.ensures.own count
     (c.class.ensures.value ∙ ap class_of c.from-nodes.ensures)
-    (subst (λ r. AreNearSeen (sight_in mid) (sight_in after) c.args.p r c.near.new.pass.near) radius c.near.ensures.near)
+    (subst (λ r. AreNearSeen (sight_in mid) (sight_in after) c.args.p r c.near.new.pass.lists.near) radius c.near.ensures.near)
 
 -- by the number of nodes seen, which the count is
 pub returns-clause-whole : goal.returns-clause-whole
@@ -72,6 +72,6 @@ returns-clause-whole c = λ whole counted.
     (c.requires.radii.step ∙ ap (λ (r : SharedRun). r.step) (sym own))
     ∙ ap (λ n. radius_of_class after.view.run.step n (class_of c.from-nodes.result)) (c.requires.radii.gamma ∙ ap (λ (r : SharedRun). r.gamma) (sym own)) in (
       same,
-      IsFilledWhole-found after.view c.args.p c.from-nodes.result c.class.result after.near c.class.ensures.value nodes
+      IsFilledWhole-found after.view c.args.p c.from-nodes.result c.class.result after.lists.near c.class.ensures.value nodes
           (c.near.ensures.near.all ∙ ap (near (tree_seen after.view).points c.args.p) radius),
     )

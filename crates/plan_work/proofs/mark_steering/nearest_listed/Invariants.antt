@@ -7,5 +7,5 @@ use Rattle.plan_work.proofs.mark_steering.nearest_listed.Given as goal
 abbrev pub invariant-others : goal.invariant-others
 invariant-others l = record {
   steps : PassSees NamesNothing l.shared l.fn.pass l.pass;
-  best : IsBestOf l.fn.pass.view l.p l.fn.pass.near (take l.index l.fn.pass.near) l.best;
+  best : IsBestOf l.fn.pass.view l.p l.fn.pass.lists.near (take l.index l.fn.pass.lists.near) l.best;
 }

@@ -24,16 +24,16 @@ returns-then-class-old-clause-filled c = λ first since.
     let after = c.number.new.pass in
     let goes_on = c.number.ensures.goes_on in
     let same : c.class-class.result ≡ c.args.old = omega (arith, c.if-class-old.true) in
-    let was = subst (λ n. HasFilledNear first.view before.view c.args.p n before.near) (sym same) since.filled in
+    let was = subst (λ n. HasFilledNear first.view before.view c.args.p n before.lists.near) (sym same) since.filled in
     let is = c.class-class.ensures.value ∙ ap class_of (c.from.ensures ∙ sym c.number.ensures.seen.here) in
-    let near = ap (λ (x : PassState). x.near) c.number.ensures.view in
+    let near = ap (λ (x : PassState). x.lists.near) c.number.ensures.view in
     record {
       keeps =
           KeepsRecords-trans c.args.shared.now first before after since.keeps
           (KeepsRecords-number c.args.shared.now before after _ _ c.requires.belongs c.number.ensures.view goes_on c.number.ensures.seen);
       filled =
           subst (HasFilledNear first.view after.view c.args.p c.class-class.result) (sym near)
-          (HasFilledNear-recounted first.view before.view after.view c.args.p c.class-class.result before.near goes_on is was);
+          (HasFilledNear-recounted first.view before.view after.view c.args.p c.class-class.result before.lists.near goes_on is was);
     }
 
 pub returns-clause-keeps : goal.returns-clause-keeps
@@ -52,7 +52,7 @@ returns-clause-filled c = λ first since.
     record {
       keeps = KeepsRecords-trans c.args.shared.now first mid after counted c.fill_near.ensures.keeps;
       filled =
-          HasFilledNear-begun first.view mid.view after.view counted.goes_on counted.records c.args.p c.fill_near.result after.near
+          HasFilledNear-begun first.view mid.view after.view counted.goes_on counted.records c.args.p c.fill_near.result after.lists.near
           c.fill_near.ensures.filled;
     }
 
@@ -65,9 +65,9 @@ returns-then-class-old-clause-whole c = λ whole counted filled.
     let shown : SeesButCount before.view after.view = λ name other. c.number.ensures.seen.others name other in
     let same : c.class-class.result ≡ c.args.old = omega (arith, c.if-class-old.true) in (
       shown,
-      subst (IsFilledWhole after.view c.args.p c.class-class.result) (sym (ap (λ (x : PassState). x.near) c.number.ensures.view))
-          (subst (λ n. IsFilledWhole after.view c.args.p n before.near) (sym same)
-          (IsFilledWhole-still before.view after.view c.number.ensures.goes_on.later.run (λ n. shown (PointOf n) (λ e. cc)) c.args.p c.args.old before.near
+      subst (IsFilledWhole after.view c.args.p c.class-class.result) (sym (ap (λ (x : PassState). x.lists.near) c.number.ensures.view))
+          (subst (λ n. IsFilledWhole after.view c.args.p n before.lists.near) (sym same)
+          (IsFilledWhole-still before.view after.view c.number.ensures.goes_on.later.run (λ n. shown (PointOf n) (λ e. cc)) c.args.p c.args.old before.lists.near
           filled)),
     )
 

@@ -54,7 +54,7 @@ returns-in-Some-clause-steered c =
     let mark = mark_shown c.args.shared.now before c.as_slice.result.now c.args.k c.requires.belongs shown in
     let mark_mid = mark ∙ ap (λ (r : SharedRun). mark_at r.marks c.args.k) (sym one.later.run) in
     HasSteered-still before.view mid.view after.view one two c.args.k c.in-Some.best.node c.in-Some.best.at _
-    (HasSteered-listed before.view mid.view one c.args.k c.in-Some.best.node c.fill_near-class.result c.in-Some.best.at _ mid.near mark_mid
+    (HasSteered-listed before.view mid.view one c.args.k c.in-Some.best.node c.fill_near-class.result c.in-Some.best.at _ mid.lists.near mark_mid
     c.fill_near-class.ensures.filled c.in-Some.ensures.some)
 
 pub returns-in-Some-clause-filled : goal.returns-in-Some-clause-filled
@@ -63,8 +63,8 @@ returns-in-Some-clause-filled c =
     let mid = c.fill_near-class.new.pass in
     let after = c.nearest_listed.new.pass in
     let steps = c.nearest_listed.ensures.steps in
-    subst (HasFilledNear before.view after.view _ c.fill_near-class.result) (sym (ap (λ (x : PassState). x.near) steps.view_alone))
-    (HasFilledNear-still before.view mid.view after.view _ c.fill_near-class.result mid.near steps.sees_anew.goes_on
+    subst (HasFilledNear before.view after.view _ c.fill_near-class.result) (sym (ap (λ (x : PassState). x.lists.near) steps.view_alone))
+    (HasFilledNear-still before.view mid.view after.view _ c.fill_near-class.result mid.lists.near steps.sees_anew.goes_on
     (steps.sees_anew.others Count (λ no. no)) c.fill_near-class.ensures.filled)
 
 -- no near node was found, so the nearest one is looked for
@@ -119,7 +119,7 @@ returns-clause-filled c =
     (KeepsRecords-anew NamesNothing shared c.fill_near-class.new.pass listed (λ j no. no) (λ g no. no) steps.belongs steps.sees_anew)
     (KeepsRecords-looks shared listed mid c.steer_from_nearest-steering.ensures.belongs looks)) in
     HasFilledNear-begun c.args.pass.now.view mid.view c.fill_near-class-2.new.pass.view keeps.goes_on keeps.records
-    c.steer_from_nearest-steering.result.point c.fill_near-class-2.result c.fill_near-class-2.new.pass.near c.fill_near-class-2.ensures.filled
+    c.steer_from_nearest-steering.result.point c.fill_near-class-2.result c.fill_near-class-2.new.pass.lists.near c.fill_near-class-2.ensures.filled
 
 -- ---- with the share of all workers
 
@@ -132,8 +132,8 @@ returns-in-Some-clause-whole c = λ whole counted.
     let filled = c.fill_near-class.ensures.whole whole counted in
     let same : SeesAsBefore mid.view after.view = λ name. steps.sees_anew.others name (λ no. no) in (
       SeesButCount-trans before mid.view after.view filled.0 (SeesButCount-all mid.view after.view same),
-      subst (IsFilledWhole after.view _ c.fill_near-class.result) (sym (ap (λ (x : PassState). x.near) steps.view_alone))
-          (IsFilledWhole-still mid.view after.view steps.sees_anew.goes_on.later.run (λ n. same (PointOf n)) _ c.fill_near-class.result mid.near filled.1),
+      subst (IsFilledWhole after.view _ c.fill_near-class.result) (sym (ap (λ (x : PassState). x.lists.near) steps.view_alone))
+          (IsFilledWhole-still mid.view after.view steps.sees_anew.goes_on.later.run (λ n. same (PointOf n)) _ c.fill_near-class.result mid.lists.near filled.1),
     )
 
 pub returns-clause-whole : goal.returns-clause-whole

@@ -38,9 +38,9 @@ pub least-best-requires-clause-near : goal.least-best-requires-clause-near
 least-best-requires-clause-near g c κs within =
     let steps = c.load_costs.ensures.steps in
     let goes_on = steps.sees_anew.goes_on in
-    let all : All (IsPresent (tree_seen c.load_costs.new.pass.view).points) c.args.pass.now.near =
+    let all : All (IsPresent (tree_seen c.load_costs.new.pass.view).points) c.args.pass.now.lists.near =
     λ k d below. IsPresent-later c.args.pass.now.view c.load_costs.new.pass.view goes_on.later.run goes_on.later.seen _ (c.requires.near k d below).present in
-    subst (All (IsPresent (tree_seen c.load_costs.new.pass.view).points)) (sym (ap (λ p. p.near) steps.view_alone)) all
+    subst (All (IsPresent (tree_seen c.load_costs.new.pass.view).points)) (sym (ap (λ p. p.lists.near) steps.view_alone)) all
 
 pub returns-clause-seen : goal.returns-clause-seen
 returns-clause-seen g c =
@@ -61,12 +61,12 @@ returns-clause-least g c =
     let own = subst
     (λ ns. IsFirstLeast (seen_cost_through c.load_costs.new.pass.view c.args.p)
     (IsOpenTo (g.C.Clearing.space c.args.hall.now) (tree_seen c.load_costs.new.pass.view).points c.args.p (c.args.nearest ∷ ns)) c.least-best.result.node)
-    (ap (λ p. p.near) c.load_costs.ensures.steps.view_alone) best in
+    (ap (λ p. p.lists.near) c.load_costs.ensures.steps.view_alone) best in
     IsFirstLeast-after (space_of c.args.shared.now.task.scene) c.load_costs.new.pass.view c.least-best.new.pass.view c.least-best.ensures.steps.sees_anew
-    c.args.p (c.args.nearest ∷ c.args.pass.now.near) c.least-best.result.node
+    c.args.p (c.args.nearest ∷ c.args.pass.now.lists.near) c.least-best.result.node
     (subst
     (λ s. IsFirstLeast (seen_cost_through c.load_costs.new.pass.view c.args.p)
-    (IsOpenTo s (tree_seen c.load_costs.new.pass.view).points c.args.p (c.args.nearest ∷ c.args.pass.now.near)) c.least-best.result.node)
+    (IsOpenTo s (tree_seen c.load_costs.new.pass.view).points c.args.p (c.args.nearest ∷ c.args.pass.now.lists.near)) c.least-best.result.node)
     c.requires.hall own)
 
 pub returns-clause-cost : goal.returns-clause-cost
@@ -78,10 +78,10 @@ pub returns-clause-below : goal.returns-clause-below
 returns-clause-below g c =
     let goes_on = GoesOn-trans c.args.pass.now.view c.load_costs.new.pass.view c.least-best.new.pass.view c.load_costs.ensures.steps.sees_anew.goes_on
     c.least-best.ensures.steps.sees_anew.goes_on in
-    let among = c.args.nearest ∷ c.args.pass.now.near in
+    let among = c.args.nearest ∷ c.args.pass.now.lists.near in
     IsCostBelow-best c.args.shared.now c.args.pass.now.view c.least-best.new.pass.view c.args.p among c.least-best.result.node c.least-best.result.cost
     c.least-best.ensures.steps.belongs.run goes_on
-    (All-cons (IsInReach c.args.pass.now.view c.args.p) c.args.nearest c.args.pass.now.near c.requires.nearest c.requires.near)
+    (All-cons (IsInReach c.args.pass.now.view c.args.p) c.args.nearest c.args.pass.now.lists.near c.requires.nearest c.requires.near)
     (λ k d below. SeesPair-later c.load_costs.new.pass.view c.least-best.new.pass.view c.least-best.ensures.steps.sees_anew.goes_on _
     (c.load_costs.ensures.pairs k d below))
     (returns-clause-least g c).member (returns-clause-cost g c)

@@ -34,16 +34,16 @@ better-best-requires-clause-node g c κs within =
     let steps = c.choices.invariant.steps in
     let goes_on = steps.sees_anew.goes_on in
     IsPresent-later c.args.pass.now.view c.choices.pass.view goes_on.later.run goes_on.later.seen c.near_node-node.result
-    (near_read (IsPresent (tree_seen c.args.pass.now.view).points) c.args.pass.now.near c.choices.pass.near c.choices.index c.near_node-node.result
-    (ap (λ p. p.near) steps.view_alone) c.near_node-node.ensures c.requires.near)
+    (near_read (IsPresent (tree_seen c.args.pass.now.view).points) c.args.pass.now.lists.near c.choices.pass.lists.near c.choices.index c.near_node-node.result
+    (ap (λ p. p.lists.near) steps.view_alone) c.near_node-node.ensures c.requires.near)
 
 pub better-best-requires-clause-pair : goal.better-best-requires-clause-pair
 better-best-requires-clause-pair g c κs within =
     let steps = c.choices.invariant.steps in
     SeesPair-later c.args.pass.now.view c.choices.pass.view steps.sees_anew.goes_on c.near_node-node.result
-    (near_read (SeesPair c.args.pass.now.view) c.args.pass.now.near c.choices.pass.near c.choices.index c.near_node-node.result
-    (ap (λ p. p.near) steps.view_alone) c.near_node-node.ensures
-    (All-tail (SeesPair c.args.pass.now.view) c.args.nearest c.args.pass.now.near c.requires.pairs))
+    (near_read (SeesPair c.args.pass.now.view) c.args.pass.now.lists.near c.choices.pass.lists.near c.choices.index c.near_node-node.result
+    (ap (λ p. p.lists.near) steps.view_alone) c.near_node-node.ensures
+    (All-tail (SeesPair c.args.pass.now.view) c.args.nearest c.args.pass.now.lists.near c.requires.pairs))
 
 pub better-best-requires-clause-best : goal.better-best-requires-clause-best
 better-best-requires-clause-best g c κs within =
@@ -53,8 +53,8 @@ better-best-requires-clause-best g c κs within =
 pub choices-preserved : goal.choices-preserved
 choices-preserved g c =
     let h = c.choices.invariant in
-    let near = c.args.pass.now.near in
-    let more = take_read near c.choices.pass.near c.choices.index c.near_node-node.result (ap (λ p. p.near) h.steps.view_alone)
+    let near = c.args.pass.now.lists.near in
+    let more = take_read near c.choices.pass.lists.near c.choices.index c.near_node-node.result (ap (λ p. p.lists.near) h.steps.view_alone)
     c.near_node-node.ensures in
     record {
       steps = PassSees-trans NamesNothing c.args.shared.now c.args.pass.now c.choices.pass c.better-best.new.pass h.steps c.better-best.ensures.steps;
@@ -65,7 +65,7 @@ choices-preserved g c =
 
 pub returns-clause-least : goal.returns-clause-least
 returns-clause-least g c =
-    let all = take_all c.choices.index c.args.pass.now.near (omega (arith, c.choices-test.false, c.requires.count)) in
+    let all = take_all c.choices.index c.args.pass.now.lists.near (omega (arith, c.choices-test.false, c.requires.count)) in
     subst
     (λ ns. IsLeastParent (seen_cost_through c.args.pass.now.view c.args.p)
     (IsOpenTo (g.C.Clearing.space c.args.hall.now) (tree_seen c.args.pass.now.view).points c.args.p (c.args.nearest ∷ ns)) c.choices.best)

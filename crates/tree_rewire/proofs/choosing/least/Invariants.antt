@@ -10,5 +10,5 @@ abbrev pub invariant-choices : goal.invariant-choices
 invariant-choices g l = record {
   steps : PassSees NamesNothing l.shared l.fn.pass l.pass;
   best : IsLeastParent (seen_cost_through l.fn.pass.view l.p)
-      (IsOpenTo (g.C.Clearing.space l.hall) (tree_seen l.fn.pass.view).points l.p (l.nearest ∷ take l.index l.fn.pass.near)) l.best;
+      (IsOpenTo (g.C.Clearing.space l.hall) (tree_seen l.fn.pass.view).points l.p (l.nearest ∷ take l.index l.fn.pass.lists.near)) l.best;
 }

@@ -32,8 +32,8 @@ tree-pair-requires-in-loads-clause-seen_node c =
     let steps = c.loads.invariant.steps in
     let goes_on = steps.sees_anew.goes_on in
     let n = c.near_node-node.result in
-    let present = near_read (IsPresent (tree_seen c.args.pass.now.view).points) c.args.pass.now.near c.loads.pass.near c.loads.index n
-    (ap (λ p. p.near) steps.view_alone) c.near_node-node.ensures c.requires.near in
+    let present = near_read (IsPresent (tree_seen c.args.pass.now.view).points) c.args.pass.now.lists.near c.loads.pass.lists.near c.loads.index n
+    (ap (λ p. p.lists.near) steps.view_alone) c.near_node-node.ensures c.requires.near in
     SeesNode-present c.loads.pass.view n goes_on.lawful
     (IsPresent-later c.args.pass.now.view c.loads.pass.view goes_on.later.run goes_on.later.seen n present)
 
@@ -43,8 +43,8 @@ loads-preserved c =
     let load = c.tree-pair-in-loads.ensures in
     let then = c.tree-pair-in-loads.new.pass in
     let n = c.near_node-node.result in
-    let stands = near_read (IsPresent (tree_seen c.args.pass.now.view).points) c.args.pass.now.near c.loads.pass.near c.loads.index n
-    (ap (λ p. p.near) steps.view_alone) c.near_node-node.ensures c.requires.near in
+    let stands = near_read (IsPresent (tree_seen c.args.pass.now.view).points) c.args.pass.now.lists.near c.loads.pass.lists.near c.loads.index n
+    (ap (λ p. p.lists.near) steps.view_alone) c.near_node-node.ensures c.requires.near in
     let later = steps.sees_anew.goes_on.later in
     let node = SeesNode-present c.loads.pass.view n steps.sees_anew.goes_on.lawful
     (IsPresent-later c.args.pass.now.view c.loads.pass.view later.run later.seen n stands) in
@@ -55,11 +55,11 @@ loads-preserved c =
       first = SeesPair-later c.loads.pass.view then.view load.goes_on c.args.nearest c.loads.invariant.first;
       first_loaded = IsLoadedSince-later c.loads.pass.view then.view load.goes_on c.args.pass.now.view.steps c.args.nearest later.steps
           c.loads.invariant.first_loaded;
-      earlier = All-more (SeesPair then.view) (take c.loads.index c.args.pass.now.near) _ n
-          (take_read c.args.pass.now.near c.loads.pass.near c.loads.index n (ap (λ p. p.near) steps.view_alone) c.near_node-node.ensures)
+      earlier = All-more (SeesPair then.view) (take c.loads.index c.args.pass.now.lists.near) _ n
+          (take_read c.args.pass.now.lists.near c.loads.pass.lists.near c.loads.index n (ap (λ p. p.lists.near) steps.view_alone) c.near_node-node.ensures)
           (λ k d below. SeesPair-later c.loads.pass.view then.view load.goes_on _ (c.loads.invariant.earlier k d below)) load.found.written;
-      earlier_loaded = All-more (IsLoadedSince c.args.pass.now.view.steps then.view) (take c.loads.index c.args.pass.now.near) _ n
-          (take_read c.args.pass.now.near c.loads.pass.near c.loads.index n (ap (λ p. p.near) steps.view_alone) c.near_node-node.ensures)
+      earlier_loaded = All-more (IsLoadedSince c.args.pass.now.view.steps then.view) (take c.loads.index c.args.pass.now.lists.near) _ n
+          (take_read c.args.pass.now.lists.near c.loads.pass.lists.near c.loads.index n (ap (λ p. p.lists.near) steps.view_alone) c.near_node-node.ensures)
           (λ k d below. IsLoadedSince-later c.loads.pass.view then.view load.goes_on c.args.pass.now.view.steps _ later.steps
           (c.loads.invariant.earlier_loaded k d below)) (omega (arith, here, later.steps));
       whole = λ all.
@@ -70,12 +70,12 @@ loads-preserved c =
 
 pub returns-clause-pairs : goal.returns-clause-pairs
 returns-clause-pairs c =
-    let all = take_all c.loads.index c.args.pass.now.near (omega (arith, c.loads-test.false, c.requires.count)) in
-    All-cons (SeesPair c.loads.pass.view) c.args.nearest c.args.pass.now.near c.loads.invariant.first
+    let all = take_all c.loads.index c.args.pass.now.lists.near (omega (arith, c.loads-test.false, c.requires.count)) in
+    All-cons (SeesPair c.loads.pass.view) c.args.nearest c.args.pass.now.lists.near c.loads.invariant.first
     (subst (All (SeesPair c.loads.pass.view)) all c.loads.invariant.earlier)
 
 pub returns-clause-loaded : goal.returns-clause-loaded
 returns-clause-loaded c =
-    let all = take_all c.loads.index c.args.pass.now.near (omega (arith, c.loads-test.false, c.requires.count)) in
-    All-cons (IsLoadedSince c.args.pass.now.view.steps c.loads.pass.view) c.args.nearest c.args.pass.now.near c.loads.invariant.first_loaded
+    let all = take_all c.loads.index c.args.pass.now.lists.near (omega (arith, c.loads-test.false, c.requires.count)) in
+    All-cons (IsLoadedSince c.args.pass.now.view.steps c.loads.pass.view) c.args.nearest c.args.pass.now.lists.near c.loads.invariant.first_loaded
     (subst (All (IsLoadedSince c.args.pass.now.view.steps c.loads.pass.view)) all c.loads.invariant.earlier_loaded)

@@ -9,7 +9,7 @@ invariant-loads l = record {
   steps : PassSees NamesTree l.shared l.fn.pass l.pass;
   first : SeesPair l.pass.view l.nearest;
   first_loaded : IsLoadedSince l.fn.pass.view.steps l.pass.view l.nearest;
-  earlier : All (SeesPair l.pass.view) (take l.index l.fn.pass.near);
-  earlier_loaded : All (IsLoadedSince l.fn.pass.view.steps l.pass.view) (take l.index l.fn.pass.near);
+  earlier : All (SeesPair l.pass.view) (take l.index l.fn.pass.lists.near);
+  earlier_loaded : All (IsLoadedSince l.fn.pass.view.steps l.pass.view) (take l.index l.fn.pass.lists.near);
   whole : HasWholeShare l.fn.pass.view → SeesAsBefore l.fn.pass.view l.pass.view;
 }

@@ -22,9 +22,9 @@ use Rattle.tree_rewire.proofs.rewiring.rewire.Goals.{After-near_node-node}
 reach : (g : Over) (c : After-near_node-node g) → IsInReach c.args.pass.now.view c.hand_point-from.result c.near_node-node.result
 reach g c =
     let held = some_hand c.args.pass.now.view.hand c.requires.hand in
-    near_read (IsInReach c.args.pass.now.view c.hand_point-from.result) c.args.pass.now.near c.nodes.pass.near c.nodes.index c.near_node-node.result
+    near_read (IsInReach c.args.pass.now.view c.hand_point-from.result) c.args.pass.now.lists.near c.nodes.pass.lists.near c.nodes.index c.near_node-node.result
     c.nodes.invariant.steps.near c.near_node-node.ensures
-    (placed_near c.args.pass.now.view c.args.k c.hand_point-from.result held.0 held.1 c.requires.placed c.hand_point-from.ensures c.args.pass.now.near
+    (placed_near c.args.pass.now.view c.args.k c.hand_point-from.result held.0 held.1 c.requires.placed c.hand_point-from.ensures c.args.pass.now.lists.near
     c.requires.near)
 
 pub nodes-init : goal.nodes-init
@@ -33,7 +33,7 @@ nodes-init g c =
     record {
       steps = PassLowers-lists c.args.shared.now pass pass c.requires.belongs refl refl refl refl refl;
       earlier = All-nil (IsRewired (g.C.Clearing.space c.args.hall.now) pass.view pass.view c.hand_point-from.result (cost_seen pass.view (c.args.k + 1)));
-      spread = HasSpreadFalls-none (g.C.Clearing.space c.args.hall.now) (Contains pass.near) (c.args.k + 1) pass.view pass.view (λ n pair. refl);
+      spread = HasSpreadFalls-none (g.C.Clearing.space c.args.hall.now) (Contains pass.lists.near) (c.args.k + 1) pass.view pass.view (λ n pair. refl);
       whole = λ all tree mirrors. record { now = tree; mirrors = mirrors; leads = λ last r. r };
     }
 
@@ -66,54 +66,54 @@ nodes-preserved g c =
     let held = some_hand before.hand c.requires.hand in
     record {
       steps = PassLowers-trans c.args.shared.now c.args.pass.now c.nodes.pass new h.steps done.steps;
-      earlier = All-more (IsRewired space before new.view from (cost_seen before (c.args.k + 1))) (take c.nodes.index c.args.pass.now.near) _ n
-          (take_read c.args.pass.now.near c.nodes.pass.near c.nodes.index n h.steps.near c.near_node-node.ensures)
+      earlier = All-more (IsRewired space before new.view from (cost_seen before (c.args.k + 1))) (take c.nodes.index c.args.pass.now.lists.near) _ n
+          (take_read c.args.pass.now.lists.near c.nodes.pass.lists.near c.nodes.index n h.steps.near c.near_node-node.ensures)
           (λ k d below. IsRewired-later space before c.nodes.pass.view new.view from _ _ done.steps.sees_anew.goes_on (h.earlier k d below))
           (IsRewired-looked space before c.nodes.pass.view new.view from (c.args.k + 1) n h.steps.sees_anew.goes_on
           (reach g (goal.at.nodes-preserved g c).After-near_node-node).present
           (placed_pair before c.args.k from held.0 held.1 c.requires.placed c.hand_point-from.ensures) done.pair done.rewired);
-      spread = HasSpreadFalls-more space (Contains c.args.pass.now.near) (c.args.k + 1) n before c.nodes.pass.view new.view
+      spread = HasSpreadFalls-more space (Contains c.args.pass.now.lists.near) (c.args.k + 1) n before c.nodes.pass.view new.view
           h.steps.sees_anew.goes_on done.steps.sees_anew.goes_on
-          (near_read (Contains c.args.pass.now.near) c.args.pass.now.near c.nodes.pass.near c.nodes.index n h.steps.near c.near_node-node.ensures
-          (All-contains_itself c.args.pass.now.near))
+          (near_read (Contains c.args.pass.now.lists.near) c.args.pass.now.lists.near c.nodes.pass.lists.near c.nodes.index n h.steps.near c.near_node-node.ensures
+          (All-contains_itself c.args.pass.now.lists.near))
           (reach g (goal.at.nodes-preserved g c).After-near_node-node).present
           (ap is_some (placed_stands before c.args.k from held.0 held.1 c.requires.placed c.hand_point-from.ensures))
           (placed_pair before c.args.k from held.0 held.1 c.requires.placed c.hand_point-from.ensures) h.spread done.spread;
       whole = λ all tree mirrors.
           let was = h.whole all tree mirrors in
-          IsRewiring-more space tree (c.args.k + 1) n c.args.pass.now.near (drop c.nodes.index c.args.pass.now.near)
-          (drop (c.nodes.index + 1) c.args.pass.now.near) c.nodes.pass.view new.view
-          (drop_read c.args.pass.now.near c.nodes.pass.near c.nodes.index n h.steps.near c.near_node-node.ensures) was
+          IsRewiring-more space tree (c.args.k + 1) n c.args.pass.now.lists.near (drop c.nodes.index c.args.pass.now.lists.near)
+          (drop (c.nodes.index + 1) c.args.pass.now.lists.near) c.nodes.pass.view new.view
+          (drop_read c.args.pass.now.lists.near c.nodes.pass.lists.near c.nodes.index n h.steps.near c.near_node-node.ensures) was
           (done.whole (HasWholeShare-later NamesTreeOrPoint before c.nodes.pass.view h.steps.sees_anew all) was.now was.mirrors);
     }
 
 pub returns-clause-pairs : goal.returns-clause-pairs
 returns-clause-pairs g c =
-    let all = take_all c.nodes.index c.args.pass.now.near (omega (arith, c.nodes-test.false, c.near_count-count.ensures.count)) in
+    let all = take_all c.nodes.index c.args.pass.now.lists.near (omega (arith, c.nodes-test.false, c.near_count-count.ensures.count)) in
     subst (All (SeesPair c.nodes.pass.view)) all (λ k d below. (c.nodes.invariant.earlier k d below).pair)
 
 pub returns-clause-rewired : goal.returns-clause-rewired
 returns-clause-rewired g c =
     let before = c.args.pass.now.view in
     let from = c.hand_point-from.result in
-    let all = take_all c.nodes.index c.args.pass.now.near (omega (arith, c.nodes-test.false, c.near_count-count.ensures.count)) in
+    let all = take_all c.nodes.index c.args.pass.now.lists.near (omega (arith, c.nodes-test.false, c.near_count-count.ensures.count)) in
     let held = some_hand before.hand c.requires.hand in
-    let own = subst (λ s. All (IsRewired s before c.nodes.pass.view from (cost_seen before (c.args.k + 1))) (take c.nodes.index c.args.pass.now.near))
+    let own = subst (λ s. All (IsRewired s before c.nodes.pass.view from (cost_seen before (c.args.k + 1))) (take c.nodes.index c.args.pass.now.lists.near))
     c.requires.hall c.nodes.invariant.earlier in
     all_rewired before c.args.k from held.0 held.1 c.requires.placed c.hand_point-from.ensures (space_of c.args.shared.now.task.scene)
-    c.nodes.pass.view c.args.pass.now.near c.requires.belongs.lawful
+    c.nodes.pass.view c.args.pass.now.lists.near c.requires.belongs.lawful
     (subst (All (IsRewired (space_of c.args.shared.now.task.scene) before c.nodes.pass.view from (cost_seen before (c.args.k + 1)))) all own)
 
 pub returns-clause-spread : goal.returns-clause-spread
 returns-clause-spread g c =
     let next : c.args.k + 1 ≡ suc c.args.k = omega arith in
-    subst (λ s. HasSpreadFalls s (Contains c.args.pass.now.near) (suc c.args.k) c.args.pass.now.view c.nodes.pass.view) c.requires.hall
-    (subst (λ n. HasSpreadFalls (g.C.Clearing.space c.args.hall.now) (Contains c.args.pass.now.near) n c.args.pass.now.view c.nodes.pass.view) next
+    subst (λ s. HasSpreadFalls s (Contains c.args.pass.now.lists.near) (suc c.args.k) c.args.pass.now.view c.nodes.pass.view) c.requires.hall
+    (subst (λ n. HasSpreadFalls (g.C.Clearing.space c.args.hall.now) (Contains c.args.pass.now.lists.near) n c.args.pass.now.view c.nodes.pass.view) next
     c.nodes.invariant.spread)
 
 pub returns-clause-whole : goal.returns-clause-whole
 returns-clause-whole g c =
-    let near = c.args.pass.now.near in
+    let near = c.args.pass.now.lists.near in
     let none : drop c.nodes.index near ≡ [] = drop_all c.nodes.index near (omega (arith, c.nodes-test.false, c.near_count-count.ensures.count)) in
     let next : c.args.k + 1 ≡ suc c.args.k = omega arith in
     λ all tree mirrors.

@@ -14,8 +14,8 @@ abbrev pub invariant-nodes : goal.invariant-nodes
 invariant-nodes g l = record {
   steps : PassLowers l.shared l.fn.pass l.pass;
   earlier : All (IsRewired (g.C.Clearing.space l.hall) l.fn.pass.view l.pass.view l.from (cost_seen l.fn.pass.view (l.k + 1)))
-      (take l.index l.fn.pass.near);
-  spread : HasSpreadFalls (g.C.Clearing.space l.hall) (Contains l.fn.pass.near) (l.k + 1) l.fn.pass.view l.pass.view;
+      (take l.index l.fn.pass.lists.near);
+  spread : HasSpreadFalls (g.C.Clearing.space l.hall) (Contains l.fn.pass.lists.near) (l.k + 1) l.fn.pass.view l.pass.view;
   whole : HasWholeShare l.fn.pass.view → (tree : Nodes) → Mirrors l.fn.pass.view tree
-      → IsRewiring (g.C.Clearing.space l.hall) tree (l.k + 1) l.fn.pass.near (drop l.index l.fn.pass.near) l.pass.view;
+      → IsRewiring (g.C.Clearing.space l.hall) tree (l.k + 1) l.fn.pass.lists.near (drop l.index l.fn.pass.lists.near) l.pass.view;
 }

@@ -120,7 +120,7 @@ returns-then-clear-clause-steps g c =
       sees_anew = c.spread.ensures.seen;
       near = c.spread.ensures.lists.0;
       around = c.spread.ensures.lists.1;
-      spots = c.spread.ensures.lists.2;
+      search = c.spread.ensures.lists.2;
     } in
     PassLowers-trans shared c.args.pass.now c.improve.new.pass c.spread.new.pass
     (PassLowers-sees shared c.args.pass.now c.improve.new.pass

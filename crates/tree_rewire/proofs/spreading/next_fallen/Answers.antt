@@ -1,5 +1,5 @@
 use Rattle.std.proofs.Common.{ap, inl, inr, subst, sym, ◌∙◌}
-use Rattle.plan_words.specs.States.{HasWholeShare}
+use Rattle.plan_words.specs.States.{HasWholeShare, with_lists}
 use Rattle.plan_words.specs.Waiting.{IsOn}
 use Rattle.step_core.specs.Views.{sees}
 use Rattle.step_core.specs.WordNames.Word.{TreeOf}
@@ -16,18 +16,18 @@ use Rattle.tree_rewire.proofs.spreading.next_fallen.Goals.{After-pop_waiting, Af
 pops : (c : After-pop_waiting) → PassLowers c.args.shared.now c.visits.pass c.pop_waiting.new.self
 pops c =
     let h = c.visits.invariant in
-    let is = c.pop_waiting.ensures.others in
+    let is = c.pop_waiting.ensures.others ∙ ap (with_lists c.visits.pass) c.pop_waiting.ensures.waiting in
     PassLowers-lists c.args.shared.now c.visits.pass c.pop_waiting.new.self h.steps.belongs (ap (λ p. p.table) is)
-    (ap (λ p. p.view) is) (ap (λ p. p.near) is) (ap (λ p. p.around) is) (ap (λ p. p.spots) is)
+    (ap (λ p. p.view) is) (ap (λ p. p.lists.near) is) (ap (λ p. p.lists.around) is) (ap (λ p. p.lists.search) is)
 
 -- and settled
 settles : (c : After-settle) → PassLowers c.args.shared.now c.visits.pass c.settle.new.pass
 settles c =
     let h = c.visits.invariant in
-    let is = c.pop_waiting.ensures.others in
+    let is = c.pop_waiting.ensures.others ∙ ap (with_lists c.visits.pass) c.pop_waiting.ensures.waiting in
     PassLowers-trans c.args.shared.now c.visits.pass c.pop_waiting.new.self c.settle.new.pass
     (PassLowers-lists c.args.shared.now c.visits.pass c.pop_waiting.new.self h.steps.belongs (ap (λ p. p.table) is)
-    (ap (λ p. p.view) is) (ap (λ p. p.near) is) (ap (λ p. p.around) is) (ap (λ p. p.spots) is))
+    (ap (λ p. p.view) is) (ap (λ p. p.lists.near) is) (ap (λ p. p.lists.around) is) (ap (λ p. p.lists.search) is))
     (PassLowers-sees c.args.shared.now c.pop_waiting.new.self c.settle.new.pass c.settle.ensures.steps)
 
 -- a pass with the whole share keeps the parents
@@ -63,7 +63,7 @@ returns-then-settle-clause-some c =
     let h = c.visits.invariant in
     let n = c.in-Some.node in
     HasFallen-settles c.args.pass.now c.visits.pass c.pop_waiting.new.self c.settle.new.pass n (ap (λ p. p.view) c.pop_waiting.ensures.others)
-    (ap (λ p. p.waiting) c.settle.ensures.steps.view_alone) (settles (goal.at.returns-then-settle-clause-some c).After-settle).sees_anew.goes_on h.same
+    (ap (λ p. p.lists.waiting) c.settle.ensures.steps.view_alone) (settles (goal.at.returns-then-settle-clause-some c).After-settle).sees_anew.goes_on h.same
     c.settle.ensures.settled h.waited h.rest c.in-Some.ensures.keeps c.pop_waiting.ensures.only c.settle.ensures.others
     (c.requires.waiting n (h.waited n c.in-Some.ensures.was_on)) (c.settle.ensures.fell c.if-settle.true)
 
@@ -73,7 +73,7 @@ visits-preserved c =
     let n = c.in-Some.node in
     let step = settles (goal.at.visits-preserved c).After-settle in
     let view_is = ap (λ p. p.view) c.pop_waiting.ensures.others in
-    let waiting_is = ap (λ p. p.waiting) c.settle.ensures.steps.view_alone in
+    let waiting_is = ap (λ p. p.lists.waiting) c.settle.ensures.steps.view_alone in
     let stays = c.settle.ensures.same c.if-settle.false in
     record {
       steps = PassLowers-trans c.args.shared.now c.args.pass.now c.visits.pass c.settle.new.pass h.steps step;

@@ -10,11 +10,11 @@ abbrev pub invariant-visits : goal.invariant-visits
 invariant-visits l = record {
   steps : PassLowers l.shared l.fn.pass l.pass;
   same : KeepsPairs l.fn.pass.view l.pass.view;
-  waited : (m : ℕ) → IsOn l.pass.waiting m → IsOn l.fn.pass.waiting m;
-  rest : (m : ℕ) → IsOn l.fn.pass.waiting m → IsOn l.pass.waiting m ⊎ IsWithinSeenParent l.pass.view m;
+  waited : (m : ℕ) → IsOn l.pass.lists.waiting m → IsOn l.fn.pass.lists.waiting m;
+  rest : (m : ℕ) → IsOn l.fn.pass.lists.waiting m → IsOn l.pass.lists.waiting m ⊎ IsWithinSeenParent l.pass.view m;
   whole : HasWholeShare l.fn.pass.view → KeepsParents l.fn.pass.view l.pass.view;
 }
 
 -- how many wait
 abbrev pub decreases-visits : goal.decreases-visits
-decreases-visits l = length l.pass.waiting
+decreases-visits l = length l.pass.lists.waiting

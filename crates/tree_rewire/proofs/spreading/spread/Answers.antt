@@ -1,5 +1,5 @@
 use Rattle.std.proofs.Common.{◌≡◌, ◌⊎◌, ◌≤◌, ◌<◌, ◌+◌, ℕ, [], ap, arith, length, refl, subst, sym, ◌∙◌}
-use Rattle.plan_words.specs.States.{HasWholeShare}
+use Rattle.plan_words.specs.States.{HasWholeShare, with_lists}
 use Rattle.plan_words.specs.Waiting.{HasSeenParent, IsOn}
 use Rattle.step_core.specs.declared.views.View.{View}
 use Rattle.tree_rewire.specs.SeenCosts.{NamesTreeOrPoint}
@@ -14,7 +14,7 @@ use Rattle.tree_rewire.proofs.spreading.spread.Goals.{After-next_fallen}
 
 pub queue_children-requires : goal.queue_children-requires
 queue_children-requires c =
-    let view_is = ap (λ p. p.view) c.clear_waiting.ensures.waiting in
+    let view_is = ap (λ p. p.view) c.clear_waiting.ensures.others in
     record {
       low = subst (λ (v : View). c.args.node ≤ length v.run.marks) (sym view_is)
           (pair_low c.args.pass.now.view c.args.node c.requires.belongs.lawful c.requires.pair);
@@ -29,23 +29,23 @@ falls_whole c all =
 
 pub falls-init : goal.falls-init
 falls-init c =
-    let clear = c.clear_waiting.ensures.waiting in
-    let queue = c.queue_children.ensures.others in
+    let clear = c.clear_waiting.ensures.others ∙ ap (with_lists c.args.pass.now) c.clear_waiting.ensures.waiting in
+    let queue = c.queue_children.ensures.others ∙ ap (with_lists c.clear_waiting.new.self) c.queue_children.ensures.waiting in
     let old = c.args.pass.now in
     let mid = c.clear_waiting.new.self in
     let new = c.queue_children.new.self in
     let view_is : mid.view ≡ old.view = ap (λ p. p.view) clear in
-    let one = PassLowers-lists c.args.shared.now old mid c.requires.belongs (ap (λ p. p.table) clear) view_is (ap (λ p. p.near) clear)
-    (ap (λ p. p.around) clear) (ap (λ p. p.spots) clear) in
+    let one = PassLowers-lists c.args.shared.now old mid c.requires.belongs (ap (λ p. p.table) clear) view_is (ap (λ p. p.lists.near) clear)
+    (ap (λ p. p.lists.around) clear) (ap (λ p. p.lists.search) clear) in
     let other = PassLowers-lists c.args.shared.now mid new one.belongs (ap (λ p. p.table) queue)
-    (ap (λ p. p.view) queue) (ap (λ p. p.near) queue) (ap (λ p. p.around) queue) (ap (λ p. p.spots) queue) in
-    let only : (n : ℕ) → IsOn new.waiting n → IsOn [] n ⊎ HasSeenParent old.view c.args.node n =
+    (ap (λ p. p.view) queue) (ap (λ p. p.lists.near) queue) (ap (λ p. p.lists.around) queue) (ap (λ p. p.lists.search) queue) in
+    let only : (n : ℕ) → IsOn new.lists.waiting n → IsOn [] n ⊎ HasSeenParent old.view c.args.node n =
     λ n on. subst (λ v. IsOn [] n ⊎ HasSeenParent v c.args.node n) view_is
-    (subst (λ ns. IsOn ns n ⊎ HasSeenParent mid.view c.args.node n) (ap (λ p. p.waiting) clear) (c.queue_children.ensures.only n on)) in
+    (subst (λ ns. IsOn ns n ⊎ HasSeenParent mid.view c.args.node n) (ap (λ p. p.lists.waiting) clear) (c.queue_children.ensures.only n on)) in
     record {
       steps = PassLowers-trans c.args.shared.now old mid new one other;
-      spreads = subst (λ v. IsSpreading c.args.node old.view v new.waiting) (sym (ap (λ p. p.view) queue ∙ view_is))
-          (IsSpreading-begins c.args.node old.view new.waiting c.requires.pair
+      spreads = subst (λ v. IsSpreading c.args.node old.view v new.lists.waiting) (sym (ap (λ p. p.view) queue ∙ view_is))
+          (IsSpreading-begins c.args.node old.view new.lists.waiting c.requires.pair
           (λ n own. c.queue_children.ensures.all n (subst (λ v. HasSeenParent v c.args.node n) (sym view_is) own)) only);
       whole = λ all. subst (KeepsParents old.view) (sym (ap (λ p. p.view) queue ∙ view_is)) (KeepsParents-same old.view old.view (λ name. refl));
     }
@@ -78,13 +78,13 @@ falls-preserved c =
     let new = c.queue_children-in-Some.new.self in
     let next = c.next_fallen.ensures.steps in
     let queue = c.queue_children-in-Some.ensures in
-    let is = queue.others in
+    let is = queue.others ∙ ap (with_lists mid) queue.waiting in
     let last = PassLowers-lists c.args.shared.now mid new next.belongs (ap (λ p. p.table) is) (ap (λ p. p.view) is)
-    (ap (λ p. p.near) is) (ap (λ p. p.around) is) (ap (λ p. p.spots) is) in
+    (ap (λ p. p.lists.near) is) (ap (λ p. p.lists.around) is) (ap (λ p. p.lists.search) is) in
     record {
       steps = PassLowers-trans c.args.shared.now old now new h.steps (PassLowers-trans c.args.shared.now now mid new next last);
-      spreads = subst (λ v. IsSpreading c.args.node old.view v new.waiting) (sym (ap (λ p. p.view) is))
-          (IsSpreading-falls c.args.node c.in-Some.fallen old.view now mid new.waiting h.steps.sees_anew.goes_on next.sees_anew.goes_on
+      spreads = subst (λ v. IsSpreading c.args.node old.view v new.lists.waiting) (sym (ap (λ p. p.view) is))
+          (IsSpreading-falls c.args.node c.in-Some.fallen old.view now mid new.lists.waiting h.steps.sees_anew.goes_on next.sees_anew.goes_on
           c.in-Some.ensures.some queue.all queue.keeps queue.only h.spreads);
       whole = λ all. subst (KeepsParents old.view) (sym (ap (λ p. p.view) is)) (falls_whole (goal.at.falls-preserved c).After-next_fallen all);
     }

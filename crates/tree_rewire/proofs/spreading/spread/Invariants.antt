@@ -8,7 +8,7 @@ use Rattle.tree_rewire.proofs.spreading.spread.Given as goal
 abbrev pub invariant-falls : goal.invariant-falls
 invariant-falls l = record {
   steps : PassLowers l.shared l.fn.pass l.pass;
-  spreads : IsSpreading l.node l.fn.pass.view l.pass.view l.pass.waiting;
+  spreads : IsSpreading l.node l.fn.pass.view l.pass.view l.pass.lists.waiting;
   whole : HasWholeShare l.fn.pass.view → KeepsParents l.fn.pass.view l.pass.view;
 }
 

@@ -22,7 +22,7 @@ returns-clause-near c =
     let after = c.near.new.pass in
     let near = c.near.ensures in
     let p_is = at_hand (λ hand. c.hand_point-p.result ≡ hand.point) c.args.pass.now.view.hand holds.hand holds.held c.hand_point-p.ensures in
-    let all = All-in_reach (sight_in c.args.pass.now.view) after.view c.hand_point-p.result c.args.radius after.near near.near
+    let all = All-in_reach (sight_in c.args.pass.now.view) after.view c.hand_point-p.result c.args.radius after.lists.near near.near
     (omega (arith, c.requires.short, ap (λ run. run.step) near.belongs.run)) in
-    if_hand (λ hand. All (IsInReach after.view hand.point) after.near) after.view.hand holds.hand (near.looks.kept.hand ∙ holds.held)
-    (subst (λ p. All (IsInReach after.view p) after.near) p_is all)
+    if_hand (λ hand. All (IsInReach after.view hand.point) after.lists.near) after.view.hand holds.hand (near.looks.kept.hand ∙ holds.held)
+    (subst (λ p. All (IsInReach after.view p) after.lists.near) p_is all)

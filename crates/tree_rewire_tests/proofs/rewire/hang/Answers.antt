@@ -53,10 +53,10 @@ pub choose-parent-requires-clause-near : goal.choose-parent-requires-clause-near
 choose-parent-requires-clause-near c κs =
     let holds = c.requires.holds in
     let before = c.args.pass.now in
-    let all = at_hand (λ hand. All (IsInReach before.view hand.point) before.near) before.view.hand holds.hand holds.held c.requires.near in
-    All-in_reach-later before.view c.point-from.new.pass.view c.hand_point-p.result before.near c.point-from.new.pass.near c.point-from.ensures.goes_on
-    (ap (λ (s : PassState). s.near) c.point-from.ensures.view)
-    (subst (λ p. All (IsInReach before.view p) before.near) (sym (p_is c.requires.holds c.hand_point-p.ensures)) all)
+    let all = at_hand (λ hand. All (IsInReach before.view hand.point) before.lists.near) before.view.hand holds.hand holds.held c.requires.near in
+    All-in_reach-later before.view c.point-from.new.pass.view c.hand_point-p.result before.lists.near c.point-from.new.pass.lists.near c.point-from.ensures.goes_on
+    (ap (λ (s : PassState). s.lists.near) c.point-from.ensures.view)
+    (subst (λ p. All (IsInReach before.view p) before.lists.near) (sym (p_is c.requires.holds c.hand_point-p.ensures)) all)
 
 pub write_tree-requires-clause-may : goal.write_tree-requires-clause-may
 write_tree-requires-clause-may c =
@@ -72,10 +72,10 @@ write_tree-requires-clause-may c =
     let from_is = points_later mid.view now.view c.args.nearest choice.seen.goes_on near_reach.present
     ∙ point_of-stands (tree_seen mid.view).points c.args.nearest c.point-from.result c.point-from.ensures.found in
     if_hand (λ hand. MayHang now.view hand c.choose-parent.result.0 c.choose-parent.result.1) now.view.hand holds.hand held
-    (MayHang-chosen now.view space holds.hand c.hand_point-p.result c.args.nearest mid.near c.choose-parent.result.0 c.choose-parent.result.1
+    (MayHang-chosen now.view space holds.hand c.hand_point-p.result c.args.nearest mid.lists.near c.choose-parent.result.0 c.choose-parent.result.1
     (p_is c.requires.holds c.hand_point-p.ensures) (sym holds.nearest_is)
     (IsInReach-later mid.view now.view c.hand_point-p.result c.args.nearest choice.seen.goes_on near_reach).present
-    (All-head (SeesPair now.view) c.args.nearest mid.near choice.pairs) (subst (λ q. Clear space q c.hand_point-p.result) (sym from_is) free) choice.least
+    (All-head (SeesPair now.view) c.args.nearest mid.lists.near choice.pairs) (subst (λ q. Clear space q c.hand_point-p.result) (sym from_is) free) choice.least
     choice.cost choice.below)
 
 pub returns-clause-near : goal.returns-clause-near
@@ -93,12 +93,12 @@ returns-clause-near c =
     (treed (half now.view hand c.choose-parent.result.0 c.choose-parent.result.1)
     (record hand { stage = Half; parent = c.choose-parent.result.0; cost = c.choose-parent.result.1 })))
     now.view.hand holds.hand held c.write_tree.ensures.view in
-    let all = at_hand (λ hand. All (IsInReach before.view hand.point) before.near) before.view.hand holds.hand holds.held c.requires.near in
-    if_hand (λ hand. All (IsInReach after.view hand.point) after.near) after.view.hand hung (ap (λ (s : PassState). s.view.hand) is)
-    (All-in_reach-later now.view after.view holds.hand.point now.near after.near c.write_tree.ensures.goes_on (ap (λ (s : PassState). s.near) is)
-    (All-in_reach-later mid.view now.view holds.hand.point mid.near now.near choice.seen.goes_on (ap (λ (s : PassState). s.near) choice.view_alone)
-    (All-in_reach-later before.view mid.view holds.hand.point before.near mid.near c.point-from.ensures.goes_on
-    (ap (λ (s : PassState). s.near) c.point-from.ensures.view) all)))
+    let all = at_hand (λ hand. All (IsInReach before.view hand.point) before.lists.near) before.view.hand holds.hand holds.held c.requires.near in
+    if_hand (λ hand. All (IsInReach after.view hand.point) after.lists.near) after.view.hand hung (ap (λ (s : PassState). s.view.hand) is)
+    (All-in_reach-later now.view after.view holds.hand.point now.lists.near after.lists.near c.write_tree.ensures.goes_on (ap (λ (s : PassState). s.lists.near) is)
+    (All-in_reach-later mid.view now.view holds.hand.point mid.lists.near now.lists.near choice.seen.goes_on (ap (λ (s : PassState). s.lists.near) choice.view_alone)
+    (All-in_reach-later before.view mid.view holds.hand.point before.lists.near mid.lists.near c.point-from.ensures.goes_on
+    (ap (λ (s : PassState). s.lists.near) c.point-from.ensures.view) all)))
 
 pub returns-clause-holds : goal.returns-clause-holds
 returns-clause-holds c =

@@ -5,10 +5,10 @@ use Rattle.plan_words.proofs.passes.Pass.pop_waiting.Goals as goal
 use Rattle.plan_words.specs.Waiting.{IsOn}
 
 pub returns-clause-popped : goal.returns-clause-popped
-returns-clause-popped c = sym (ap (λ p. p.waiting) c.self.view_is) ∙ c.pop.ensures.popped
+returns-clause-popped c = sym (ap (λ p. p.lists.waiting) c.self.view_is) ∙ c.pop.ensures.popped
 
 pub returns-clause-none : goal.returns-clause-none
-returns-clause-none c none = sym (ap (λ p. p.waiting) c.self.view_is) ∙ c.pop.ensures.none none
+returns-clause-none c none = sym (ap (λ p. p.lists.waiting) c.self.view_is) ∙ c.pop.ensures.none none
 
 pub returns-clause-low : goal.returns-clause-low
 returns-clause-low c =
@@ -23,7 +23,7 @@ returns-clause-keeps c = IsOn-unless_popped _ c.pop.new.self.nodes c.pop.result 
 
 pub returns-clause-only : goal.returns-clause-only
 returns-clause-only c n on =
-    subst (λ p. IsOn p.waiting n) c.self.view_is (subst (λ l. IsOn l n) (sym c.pop.ensures.popped) (IsOn-before c.pop.new.self.nodes _ n on))
+    subst (λ p. IsOn p.lists.waiting n) c.self.view_is (subst (λ l. IsOn l n) (sym c.pop.ensures.popped) (IsOn-before c.pop.new.self.nodes _ n on))
 
 pub returns-clause-shorter : goal.returns-clause-shorter
 returns-clause-shorter c = shorter-popped _ c.pop.new.self.nodes c.pop.result (returns-clause-popped c)

@@ -10,5 +10,5 @@ returns-clause-all c n seen =
 
 pub returns-clause-only : goal.returns-clause-only
 returns-clause-only c n on =
-    subst (λ p. IsOn p.waiting n ⊎ HasSeenParent p.view c.args.node n) c.self.view_is
+    subst (λ p. IsOn p.lists.waiting n ⊎ HasSeenParent p.view c.args.node n) c.self.view_is
     (⊎_elim (λ before. inl before) (λ chain. inr (HasSeenParent-chain _ _ c.args.node n c.self.invariant.3 chain)) (c.queue_children.ensures.only n on))

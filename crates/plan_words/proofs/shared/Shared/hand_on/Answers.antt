@@ -32,7 +32,7 @@ invariant_of-result c =
       subst (λ v. IsTied v (Some (record { worker = c.args.worker; turn = c.args.turn })) None) (sym (ap (λ m. m.0) told))
           (IsTied-apart _ _ c.pass.invariant.1.lawful second),
       HasRoom-new c.self.inside.places _ _ _ _ _ _ _ c.self.invariant.places_are (ap (λ m. m.0.run) told ∙ own) (ap (λ n. n + 1) c.marks.ensures)
-          c.in_ok-scratch.ensures.room,
+          c.in_ok-lists.ensures.room,
       subst (HasPairs _) (sym c.in_ok-pairs.ensures)
           (HasPairs-kept _ _ _ (ap (λ m. m.0.run) told) (λ n. ap (λ m. sees m.0 (TreeOf n)) told) c.pass.invariant.3),
     )

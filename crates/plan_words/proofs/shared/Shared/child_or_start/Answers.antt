@@ -1,9 +1,9 @@
 use Rattle.plan_words.proofs.KeptPairs.{keeps_saw}
-use Rattle.std.proofs.Common.{◌≡◌, ◌<◌, ◌≤◌, Some, ap, sym, subst, refl, ◌∙◌}
-use Rattle.std.specs.Prelude.{MatchOption, unwrap_or}
-use Rattle.plan_words.proofs.LookedNodes.{child_fits, child_found, place_here, seen_low, unwrap_or-child}
+use Rattle.std.proofs.Common.{◌≡◌, ◌<◌, ◌≤◌, Some, ap, sym, subst, refl, ◌∙◌, arith}
+use Rattle.std.specs.Prelude.{MatchOption}
+use Rattle.plan_words.proofs.LookedNodes.{child_fits, child_found, place_here, seen_low}
 use Rattle.plan_words.proofs.Owning.{found_whole, may_load_here, same_run, same_table, sees_told}
-use Rattle.plan_words.proofs.shared.Shared.child.Goals as goal
+use Rattle.plan_words.proofs.shared.Shared.child_or_start.Goals as goal
 use Rattle.step_core.specs.GrownWords.{child_of_word}
 use Rattle.step_core.specs.ViewTrees.{SeesNode}
 use Rattle.step_core.specs.Views.{last_zero, sees, tree_seen}
@@ -26,13 +26,14 @@ load-requires c =
     let place = c.child-place.ensures ∙ ap (λ s. place_of s (ChildOf c.args.node c.args.right)) c.self.invariant.places_are in
     may_load_here _ _ _ _ c.self.invariant _ _ _ _ (ChildOf c.args.node c.args.right) same own low seen place
 
-pub child_in-requires : goal.child_in-requires
-child_in-requires c =
+pub overflow_cast-result : goal.overflow_cast-result
+overflow_cast-result c =
     let own = same_run _ _ _ _ c.pass.view_is c.self.view_is c.requires.belongs in
     let seen = subst (λ p. SeesNode p.view c.args.node) (sym c.pass.view_is) c.requires.seen_node in
     let place = place_here c.self.inside.places _ c.pass.inside.seat.me.0
     (ChildOf c.args.node c.args.right) _ c.self.invariant.places_are own c.child-place.ensures in
-    child_fits _ _ c.args.node c.args.right _ _ c.pass.invariant.1.lawful seen place refl c.load.ensures.2.told.goes_on.lawful
+    let few = child_fits _ _ c.args.node c.args.right _ _ c.pass.invariant.1.lawful seen place refl c.load.ensures.2.told.goes_on.lawful in
+    omega (arith, few)
 
 pub returns-clause-seen : goal.returns-clause-seen
 returns-clause-seen c =
@@ -41,10 +42,8 @@ returns-clause-seen c =
     let lawful = c.pass.invariant.1.lawful in
     let place = place_here c.self.inside.places _ c.pass.inside.seat.me.0
     (ChildOf c.args.node c.args.right) _ c.self.invariant.places_are own c.child-place.ensures in
-    let word = ap (λ o. unwrap_or o 0) c.child_in.ensures ∙ unwrap_or-child c.load.result in
-    subst (λ w. WritesWord (ChildOf c.args.node c.args.right) w (sees c.args.pass.now.view) (sees c.load.new.seat.me.0)) (sym word)
-    (sees_told _ _ _ (ChildOf c.args.node c.args.right) _ _ (ap (λ p. p.view) c.pass.view_is) lawful (lawful.within c.args.node seen) place
-    c.load.ensures.2.told.view_is)
+    sees_told _ _ _ (ChildOf c.args.node c.args.right) _ _ (ap (λ p. p.view) c.pass.view_is) lawful (lawful.within c.args.node seen) place
+    c.load.ensures.2.told.view_is
 
 pub returns-clause-found : goal.returns-clause-found
 returns-clause-found c =
@@ -54,14 +53,10 @@ returns-clause-found c =
     (ChildOf c.args.node c.args.right) _ c.self.invariant.places_are own c.child-place.ensures in
     let then = c.load.new.seat.me.0 in
     subst
-    (λ o. MatchOption o (c.args.pass.now.view.steps < last_zero then (ChildOf c.args.node c.args.right))
-    (λ child. ((tree_seen then).child c.args.node c.args.right ≡ Some child) × SeesNode then child))
-    (sym c.child_in.ensures)
-    (subst
     (λ p. MatchOption (child_of_word c.load.result) (p.view.steps < last_zero then (ChildOf c.args.node c.args.right))
     (λ child. ((tree_seen then).child c.args.node c.args.right ≡ Some child) × SeesNode then child))
     c.pass.view_is
-    (child_found _ then c.args.node c.args.right _ _ c.pass.invariant.1.lawful seen place c.load.ensures.2.told.view_is))
+    (child_found _ then c.args.node c.args.right _ _ c.pass.invariant.1.lawful seen place c.load.ensures.2.told.view_is)
 
 pub invariant_of-pass : goal.invariant_of-pass
 invariant_of-pass c =
@@ -78,5 +73,4 @@ returns-clause-whole c all =
     let seen = subst (λ p. SeesNode p.view c.args.node) (sym c.pass.view_is) c.requires.seen_node in
     let view = c.pass.inside.seat.me.0 in
     let place = place_here c.self.inside.places _ view (ChildOf c.args.node c.args.right) _ c.self.invariant.places_are own c.child-place.ensures in
-    ap (λ o. unwrap_or o 0) c.child_in.ensures ∙ unwrap_or-child c.load.result
-    ∙ found_whole _ _ (ChildOf c.args.node c.args.right) _ _ (ap (λ p. p.view) c.pass.view_is) c.load.ensures.2.whole (λ e. cc) seen place all
+    found_whole _ _ (ChildOf c.args.node c.args.right) _ _ (ap (λ p. p.view) c.pass.view_is) c.load.ensures.2.whole (λ e. cc) seen place all

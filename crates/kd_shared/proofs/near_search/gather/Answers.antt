@@ -1,0 +1,157 @@
+use Rattle.std.proofs.Common.{◌≡◌, suc, ◌+◌, ◌*◌, not, List, [], ◌∷◌, ◌++◌, length, false, arith, refl, sym, ap, ◌∙◌, subst}
+use Rattle.std.specs.Prelude.{if◌then◌else◌, option_to_list}
+use Rattle.plan_words.specs.SearchLists.{no_search}
+use Rattle.plan_words.specs.States.{PassState, with_lists}
+use Rattle.plan_words.specs.declared.spots.Spot.{Spot}
+use Rattle.plan_model.specs.Geometry.Plane.{squared_distance}
+use Rattle.step_core.specs.KdSides.{split_distance}
+use Rattle.step_core.specs.ViewTrees.{sight_in}
+use Rattle.step_core.specs.WordNames.Word.{PointOf}
+use Rattle.kd_shared.specs.Looking.{searched}
+use Rattle.kd_shared.specs.Spots.{Notes, QueuesWithin}
+use Rattle.kd_shared.proofs.LoadedChildren.{QueuesWithin-near}
+use Rattle.kd_shared.proofs.Looking.{LoadsPoint-point}
+use Rattle.kd_shared.proofs.NearPasses.{ended_few, ended_gathered, fewer_left, half_room, half_seen, IsGatheringPass, IsGatheringPass-begins}
+use Rattle.kd_shared.proofs.NearPasses.{IsGatheringPass-visits, noted_room, noted_seen, spot_bounded, taken_more}
+use Rattle.kd_shared.proofs.PassLooks.{PassLooks-load}
+use Rattle.kd_shared.proofs.near_search.gather.Goals as goal
+use Rattle.kd_shared.proofs.near_search.gather.Goals.{After-note, After-queue_child, After-take_spot}
+
+pub visits-init : goal.visits-init
+visits-init c =
+    let spot : Spot = record { node = 0; by_rows = false; point = c.point-start.result } in
+    let first = PassLooks-load c.args.shared.now c.args.pass.now c.point-start.new.pass (PointOf 0) _ _ c.requires.belongs tt
+    c.point-start.ensures.view c.point-start.ensures.goes_on c.point-start.ensures.seen c.point-start.ensures.whole in
+    let load = LoadsPoint-point c.args.pass.now.view c.point-start.new.pass.view 0 c.point-start.ensures.goes_on c.point-start.result
+    c.point-start.ensures.found c.point-start.ensures.seen.others in
+    let cleared = c.clear_search.ensures.others ∙ ap (with_lists c.point-start.new.pass) c.clear_search.ensures.search in
+    let alone = c.put_spot_if.ensures.others
+    ∙ ap (with_lists c.clear_search.new.self) c.put_spot_if.ensures.put
+    ∙ ap (λ (s : PassState). with_lists s (record s.lists { search = record s.lists.search { spots = s.lists.search.spots ++ spot ∷ [] } })) cleared in
+    record {
+      most_is = c.square-most.ensures;
+      gathers = IsGatheringPass-begins c.args.shared.now c.args.pass.now c.point-start.new.pass c.put_spot_if.new.self c.args.p c.args.r spot first load
+          alone refl refl;
+    }
+
+-- ---- nothing waits
+
+-- it is as it was
+untaken : (c : After-take_spot) → [] ≡ option_to_list c.take_spot.result → c.take_spot.new.self ≡ c.visits.pass
+untaken c none =
+    let spots = c.take_spot.ensures.taken ∙ ap (λ xs. xs ++ c.take_spot.new.self.lists.search.spots) (sym none) in
+    let count = c.take_spot.ensures.count ∙ ap (λ (xs : List Spot). c.visits.pass.lists.search.taken + length xs) (sym none) in
+    c.take_spot.ensures.others
+    ∙ ap (with_lists c.visits.pass) c.take_spot.ensures.search
+    ∙ ap
+    (λ xs. searched c.visits.pass c.visits.pass.view (record c.visits.pass.lists.search { spots = xs; taken = c.take_spot.new.self.lists.search.taken }))
+    (sym spots)
+    ∙ ap (λ n. searched c.visits.pass c.visits.pass.view (record c.visits.pass.lists.search { taken = n })) (omega (arith, count))
+
+pub returns-clause-gathered : goal.returns-clause-gathered
+returns-clause-gathered c =
+    ended_gathered c.args.shared.now c.args.pass.now c.visits.pass c.args.p c.args.r c.visits.invariant.gathers c.take_spot.new.self
+    (untaken (goal.at.returns-clause-gathered c).After-take_spot (ap option_to_list (sym c.in_default.is))) (c.take_spot.ensures.none c.in_default.is)
+
+pub returns-clause-few : goal.returns-clause-few
+returns-clause-few c =
+    ended_few c.args.shared.now c.args.pass.now c.visits.pass c.args.p c.args.r c.visits.invariant.gathers c.take_spot.new.self
+    (untaken (goal.at.returns-clause-few c).After-take_spot (ap option_to_list (sym c.in_default.is))) (c.take_spot.ensures.none c.in_default.is)
+
+-- ---- a spot is taken
+
+pub squared_distance-requires-clause-from : goal.squared_distance-requires-clause-from
+squared_distance-requires-clause-from c =
+    spot_bounded c.args.shared.now c.args.pass.now c.visits.pass c.args.p c.args.r c.visits.invariant.gathers c.in-Some.spot
+    c.take_spot.new.self.lists.search.spots c.in-Some.ensures.taken
+
+noted_is : (c : After-note) → c.note.new.pass ≡ searched c.visits.pass c.visits.pass.view (record {
+  spots = c.take_spot.new.self.lists.search.spots;
+  taken = c.take_spot.new.self.lists.search.taken;
+  found = c.note.new.pass.lists.search.found;
+})
+noted_is c =
+    c.note.ensures.others
+    ∙ ap (λ (s : PassState). searched s s.view (record s.lists.search { found = c.note.new.pass.lists.search.found }))
+    (c.take_spot.ensures.others ∙ ap (with_lists c.visits.pass) c.take_spot.ensures.search)
+
+notes : (c : After-note) → Notes c.visits.pass.lists.search.found c.note.new.pass.lists.search.found c.in-Some.spot c.squared_distance.result
+    (c.args.r * c.args.r)
+notes c =
+    subst (λ b. Notes c.visits.pass.lists.search.found c.note.new.pass.lists.search.found c.in-Some.spot c.squared_distance.result b)
+    c.visits.invariant.most_is
+    (subst (λ fs. Notes fs c.note.new.pass.lists.search.found c.in-Some.spot c.squared_distance.result c.square-most.result)
+    (ap (λ l. l.search.found) c.take_spot.ensures.search) c.note.ensures.notes)
+
+taken_one : (c : After-note) → c.take_spot.new.self.lists.search.taken ≡ suc c.visits.pass.lists.search.taken
+taken_one c = omega (arith, c.in-Some.ensures.count)
+
+-- its far side is queued, or left out
+
+far_side : (c : After-queue_child) → QueuesWithin (sight_in c.note.new.pass.view) (sight_in c.queue_child.new.pass.view)
+    c.note.new.pass.lists.search.spots c.queue_child.new.pass.lists.search.spots c.in-Some.spot (not c.goes_right-right.result)
+    (split_distance c.in-Some.spot.by_rows c.in-Some.spot.point c.args.p * split_distance c.in-Some.spot.by_rows c.in-Some.spot.point c.args.p)
+    (c.args.r * c.args.r)
+far_side c =
+    subst
+    (λ g. QueuesWithin (sight_in c.note.new.pass.view) (sight_in c.queue_child.new.pass.view) c.note.new.pass.lists.search.spots
+    c.queue_child.new.pass.lists.search.spots c.in-Some.spot (not c.goes_right-right.result) (g * g) (c.args.r * c.args.r))
+    c.distance_to_split-gap.ensures c.queue_child.ensures.queues
+
+near_notes : (c : After-note) → Notes c.visits.pass.lists.search.found c.note.new.pass.lists.search.found c.in-Some.spot
+    (squared_distance c.in-Some.spot.point c.args.p) (c.args.r * c.args.r)
+near_notes c =
+    subst (λ d. Notes c.visits.pass.lists.search.found c.note.new.pass.lists.search.found c.in-Some.spot d (c.args.r * c.args.r))
+    c.squared_distance.ensures.value (notes c)
+
+pub queue_child-requires-clause-seen : goal.queue_child-requires-clause-seen
+queue_child-requires-clause-seen c =
+    noted_seen c.args.shared.now c.args.pass.now c.visits.pass c.args.p c.args.r c.visits.invariant.gathers c.in-Some.spot
+    c.take_spot.new.self.lists.search.spots c.in-Some.ensures.taken c.note.new.pass c.take_spot.new.self.lists.search.taken
+    c.note.new.pass.lists.search.found (taken_one (goal.at.queue_child-requires-clause-seen c).After-note) (noted_is (goal.at.queue_child-requires-clause-seen c).After-note) (near_notes (goal.at.queue_child-requires-clause-seen c).After-note)
+
+pub queue_child-requires-clause-room : goal.queue_child-requires-clause-room
+queue_child-requires-clause-room c =
+    noted_room c.args.shared.now c.args.pass.now c.visits.pass c.args.p c.args.r c.visits.invariant.gathers c.in-Some.spot
+    c.take_spot.new.self.lists.search.spots c.in-Some.ensures.taken c.note.new.pass c.take_spot.new.self.lists.search.taken
+    c.note.new.pass.lists.search.found (taken_one (goal.at.queue_child-requires-clause-room c).After-note) (noted_is (goal.at.queue_child-requires-clause-room c).After-note) (near_notes (goal.at.queue_child-requires-clause-room c).After-note)
+
+-- and then its near side
+
+pub queue_child-requires-in-Some-clause-seen : goal.queue_child-requires-in-Some-clause-seen
+queue_child-requires-in-Some-clause-seen c =
+    half_seen c.args.shared.now c.args.pass.now c.visits.pass c.args.p c.args.r c.visits.invariant.gathers c.in-Some.spot
+    c.take_spot.new.self.lists.search.spots c.in-Some.ensures.taken c.note.new.pass c.take_spot.new.self.lists.search.taken
+    c.note.new.pass.lists.search.found (taken_one (goal.at.queue_child-requires-in-Some-clause-seen c).After-note) (noted_is (goal.at.queue_child-requires-in-Some-clause-seen c).After-note) (near_notes (goal.at.queue_child-requires-in-Some-clause-seen c).After-note) c.queue_child.new.pass c.goes_right-right.result
+    c.goes_right-right.ensures c.queue_child.ensures.looks c.queue_child.ensures.others (far_side (goal.at.queue_child-requires-in-Some-clause-seen c).After-queue_child)
+
+pub queue_child-requires-in-Some-clause-room : goal.queue_child-requires-in-Some-clause-room
+queue_child-requires-in-Some-clause-room c =
+    half_room c.args.shared.now c.args.pass.now c.visits.pass c.args.p c.args.r c.visits.invariant.gathers c.in-Some.spot
+    c.take_spot.new.self.lists.search.spots c.in-Some.ensures.taken c.note.new.pass c.take_spot.new.self.lists.search.taken
+    c.note.new.pass.lists.search.found (taken_one (goal.at.queue_child-requires-in-Some-clause-room c).After-note) (noted_is (goal.at.queue_child-requires-in-Some-clause-room c).After-note) (near_notes (goal.at.queue_child-requires-in-Some-clause-room c).After-note) c.queue_child.new.pass c.goes_right-right.result
+    c.goes_right-right.ensures c.queue_child.ensures.looks c.queue_child.ensures.others (far_side (goal.at.queue_child-requires-in-Some-clause-room c).After-queue_child)
+
+pub visits-preserved : goal.visits-preserved
+visits-preserved c = record {
+  most_is = c.visits.invariant.most_is;
+  gathers = IsGatheringPass-visits c.args.shared.now c.args.pass.now c.visits.pass c.args.p c.args.r c.visits.invariant.gathers c.in-Some.spot
+      c.take_spot.new.self.lists.search.spots c.in-Some.ensures.taken c.note.new.pass c.take_spot.new.self.lists.search.taken
+      c.note.new.pass.lists.search.found (taken_one (goal.at.visits-preserved c).After-note) (noted_is (goal.at.visits-preserved c).After-note) (near_notes (goal.at.visits-preserved c).After-note) c.queue_child.new.pass c.goes_right-right.result
+      c.goes_right-right.ensures c.queue_child.ensures.looks c.queue_child.ensures.others (far_side (goal.at.visits-preserved c).After-queue_child) c.queue_child-in-Some.new.pass
+      c.queue_child-in-Some.ensures.belongs c.queue_child-in-Some.ensures.looks c.queue_child-in-Some.ensures.others
+      (QueuesWithin-near (sight_in c.queue_child.new.pass.view) (sight_in c.queue_child-in-Some.new.pass.view)
+      c.queue_child.new.pass.lists.search.spots c.queue_child-in-Some.new.pass.lists.search.spots c.in-Some.spot c.goes_right-right.result c.args.r
+      c.queue_child-in-Some.ensures.queues);
+}
+
+pub visits-smaller : goal.visits-smaller
+visits-smaller c =
+    let left = fewer_left c.args.shared.now c.args.pass.now c.visits.pass c.args.p c.args.r c.visits.invariant.gathers c.in-Some.spot
+    c.take_spot.new.self.lists.search.spots c.in-Some.ensures.taken in
+    let visited = taken_more c.args.shared.now c.args.pass.now c.visits.pass c.args.p c.args.r c.visits.invariant.gathers c.in-Some.spot
+    c.take_spot.new.self.lists.search.spots c.in-Some.ensures.taken c.note.new.pass c.take_spot.new.self.lists.search.taken
+    c.note.new.pass.lists.search.found (taken_one (goal.at.visits-smaller c).After-note) (noted_is (goal.at.visits-smaller c).After-note) (near_notes (goal.at.visits-smaller c).After-note) c.queue_child.new.pass c.goes_right-right.result
+    c.goes_right-right.ensures c.queue_child.ensures.looks c.queue_child.ensures.others (far_side (goal.at.visits-smaller c).After-queue_child) c.queue_child-in-Some.new.pass
+    c.queue_child-in-Some.ensures.others in
+    omega (arith, left, visited)

@@ -1,0 +1,31 @@
+use Rattle.std.proofs.Common.{ℕ, not, Option, Some, None, inl, inr, refl, sym, ap, ◌∙◌, subst, arith}
+use Rattle.std.specs.Prelude.{nat_le}
+use Rattle.std.proofs.lemmas.Bool.{leb-false}
+use Rattle.plan_model.specs.declared.geometry.Point.{Point}
+use Rattle.plan_model.specs.Seen.Sights.{Sight}
+use Rattle.plan_model.proofs.SightLaws.{IsLaterMoment-refl}
+use Rattle.plan_words.specs.declared.spots.Spot.{Spot}
+use Rattle.step_core.specs.ViewTrees.{sight_in}
+use Rattle.step_core.proofs.LawfulSights.{KeepsSight-lawful}
+use Rattle.kd_shared.specs.FarSides.{far_side, line_square, LoadsFar, LoadsSpot}
+use Rattle.kd_shared.proofs.nearest_search.far_spot.Goals as goal
+
+pub returns-then-not-reaches-clause-loads : goal.returns-then-not-reaches-clause-loads
+returns-then-not-reaches-clause-loads c =
+    let too_far = leb-false (line_square c.args.above c.args.p) c.args.bound (sym c.reaches.ensures ∙ c.if-not-reaches.true) in
+    record {
+      later = IsLaterMoment-refl (sight_in c.args.pass.now.view);
+      keeps = KeepsSight-lawful c.args.pass.now.view c.requires.belongs.lawful;
+      finds = (inr (omega (arith, too_far)), (λ n. refl));
+    }
+
+LoadsFar-spot : (before after : Sight) (target : Point) (bound : ℕ) (spot : Spot) (child : Option Spot)
+    → LoadsSpot before after spot (far_side spot target) child → LoadsFar before after target bound spot child
+LoadsFar-spot before after target bound spot None h = record { later = h.later; keeps = h.keeps; finds = (inl h.finds.0, h.finds.1) }
+LoadsFar-spot before after target bound spot (Some child) h = record { later = h.later; keeps = h.keeps; finds = h.finds }
+
+pub returns-clause-loads : goal.returns-clause-loads
+returns-clause-loads c =
+    LoadsFar-spot (sight_in c.args.pass.now.view) (sight_in c.child_spot.new.pass.view) c.args.p c.args.bound c.args.above c.child_spot.result
+    (subst (λ side. LoadsSpot (sight_in c.args.pass.now.view) (sight_in c.child_spot.new.pass.view) c.args.above (not side) c.child_spot.result)
+    c.goes_right-right.ensures c.child_spot.ensures.loads)

@@ -1,0 +1,52 @@
+-- What a search keeps in a pass: the nodes that wait, how many were taken off, and those that it found among these.
+use Rattle.std.specs.Prelude.{◌≡◌, ℕ, ◌≤◌, ◌==◌, if◌then◌else◌, List, [], drop, length, map, take}
+use Rattle.plan_words.specs.declared.spots.Cell.{Cell}
+use Rattle.plan_words.specs.declared.spots.Found.{Found}
+use Rattle.plan_words.specs.declared.spots.Spot.{Spot}
+
+-- The spots that wait, in the order in which they came, how many were taken off before them, and the nodes found.
+pub record SearchLists : Type 0 where
+  pub spots : List Spot
+  pub taken : ℕ
+  pub found : List Found
+
+-- one that has not begun
+abbrev pub no_search : SearchLists
+no_search = record { spots = []; taken = 0; found = [] }
+
+-- What contracts see of their store: the lists, and for how many spots, waiting and taken, it has room.
+pub record SearchState : Type 0 where
+  pub lists : SearchLists
+  pub room : ℕ
+
+-- ---- the cells
+
+abbrev pub cell_of : Spot → Cell
+cell_of spot = record { node = spot.node; tag = if spot.by_rows then 1 else 0; point = spot.point }
+
+abbrev pub spot_in : Cell → Spot
+spot_in cell = record { node = cell.node; by_rows = cell.tag == 1; point = cell.point }
+
+abbrev pub found_cell_of : Found → Cell
+found_cell_of found = record { node = found.node; tag = found.edge; point = found.point }
+
+abbrev pub found_in : Cell → Found
+found_in cell = record { node = cell.node; edge = cell.tag; point = cell.point }
+
+-- The first cells are those of found nodes, and those past as many as were taken are those of spots that wait.
+abbrev pub lists_in : List Cell → ℕ → ℕ → SearchLists
+lists_in cells taken count = record { spots = map spot_in (drop taken cells); taken = taken; found = map found_in (take count cells) }
+
+-- No more are found than were taken.
+pub record IsSearchStore (cells : List Cell) (taken count : ℕ) : Type 0 where
+  pub few : count ≤ taken
+  pub within : taken ≤ length cells
+
+-- ---- what is found
+
+-- the node as it is noted
+abbrev pub noted : Spot → Found
+noted spot = record { node = spot.node; edge = 0; point = spot.point }
+
+abbrev pub numbers_of : List Found → List ℕ
+numbers_of found = map (λ (f : Found). f.node) found

@@ -1,0 +1,130 @@
+//! What a search keeps: the nodes that wait to be visited, and those that it found.
+
+ghost use Rattle.std.specs.Prelude.{◌≡◌, ◌<◌, ◌≤◌, ◌+◌, ◌++◌, ◌∷◌, [], if◌then◌else◌};
+ghost use Rattle.std.specs.Prelude.{IfOk, IfSome, None, Some, length, option_to_list, slice_get};
+ghost use Rattle.plan_words.specs.SearchLists.{no_search, noted};
+
+use crate::spots::{Cell, Found, Spot};
+use std::alloc::{AllocError, Global};
+use std::marker::Model;
+
+/// A plain list of cells of which so many were taken off; the rest are the spots that wait. In front, where cells were taken off, stand
+/// the nodes that were found, never more than were taken.
+#[derive(Drop)]
+pub(crate) struct SearchStore {
+    cells: Vec<Cell>,
+    taken: usize,
+    count: usize,
+}
+
+impl Model for SearchStore {
+    ghost use Rattle.std.specs.Prelude.{vec_capacity};
+    ghost use Rattle.plan_words.specs.SearchLists.{IsSearchStore, SearchState, lists_in};
+
+    ghost Value = { SearchState };
+
+    ghost view = { λ s. record { lists = lists_in s.cells.items s.taken s.count; room = vec_capacity s.cells } };
+
+    ghost invariant = { λ s. IsSearchStore s.cells.items s.taken s.count };
+}
+
+impl SearchStore {
+    /// An empty store with room for so many spots.
+    pub(crate) fn new(alloc: Global, spots: usize) -> Result<SearchStore, AllocError>
+        ensures empty { IfOk result (λ r. r.lists ≡ no_search) }
+        ensures room { IfOk result (λ r. spots ≤ r.room) }
+    {
+        Ok(SearchStore {
+            cells: Vec::with_capacity(alloc, spots)?,
+            taken: 0,
+            count: 0,
+        })
+    }
+
+    /// Empties it.
+    pub(crate) fn clear(&mut self)
+        ensures { self.new ≡ record self.old { lists = no_search } }
+    {
+        self.cells.clear();
+        self.taken = 0;
+        self.count = 0;
+    }
+
+    /// Puts a spot at the end of those that wait, if it is wanted. It is always written, so that no jump depends on that.
+    pub(crate) fn put_if(&mut self, spot: Spot, wanted: bool)
+        requires { self.old.lists.taken + length self.old.lists.spots < self.old.room }
+        ensures { self.new ≡ record self.old {
+          lists = record self.old.lists {
+            spots = if wanted then self.old.lists.spots ++ spot ∷ [] else self.old.lists.spots;
+          };
+        } }
+    {
+        self.cells.push_reserved(Cell::of(spot));
+        if !wanted {
+            let _last = self.cells.pop();
+        }
+    }
+
+    /// Takes the first spot that waits.
+    pub(crate) fn take(&mut self) -> Option<Spot>
+        ensures others { self.new ≡ record self.old {
+          lists = record self.old.lists {
+            spots = self.new.lists.spots;
+            taken = self.new.lists.taken;
+          };
+        } }
+        ensures taken { self.old.lists.spots ≡ option_to_list result ++ self.new.lists.spots }
+        ensures none { result ≡ None → self.old.lists.spots ≡ [] }
+        ensures count { self.new.lists.taken ≡ self.old.lists.taken + length (option_to_list result) }
+        ensures room { IfSome result (λ _. length self.new.lists.found < self.new.lists.taken) }
+    {
+        let cell = *self.cells.as_slice().get(self.taken)?;
+        self.taken += 1;
+        Some(cell.spot())
+    }
+
+    /// Takes the last spot that waits.
+    pub(crate) fn pop(&mut self) -> Option<Spot>
+        ensures others { self.new ≡ record self.old { lists = record self.old.lists { spots = self.new.lists.spots } } }
+        ensures popped { self.old.lists.spots ≡ self.new.lists.spots ++ option_to_list result }
+        ensures none { result ≡ None → self.old.lists.spots ≡ [] }
+    {
+        if self.cells.len() == self.taken {
+            return None;
+        }
+        let cell = self.cells.pop()?;
+        Some(cell.spot())
+    }
+
+    /// Puts the node of a spot at the end of those found, if it is wanted. It is always written.
+    pub(crate) fn note_if(&mut self, spot: Spot, wanted: bool)
+        requires { length self.old.lists.found < self.old.lists.taken }
+        ensures { self.new ≡ record self.old {
+          lists = record self.old.lists {
+            found = if wanted then self.old.lists.found ++ noted spot ∷ [] else self.old.lists.found;
+          };
+        } }
+    {
+        self.cells[self.count] = Cell::of_found(Found {
+            node: spot.node,
+            edge: 0,
+            point: spot.point,
+        });
+        self.count += usize::from(wanted);
+    }
+
+    /// How many were found.
+    pub(crate) fn found_count(&self) -> usize
+        ensures { result ≡ length self.now.lists.found }
+    {
+        self.count
+    }
+
+    /// The found node at this index.
+    pub(crate) fn found(&self, index: usize) -> Found
+        requires { index < length self.now.lists.found }
+        ensures { slice_get self.now.lists.found index ≡ Some result }
+    {
+        self.cells[index].found()
+    }
+}
