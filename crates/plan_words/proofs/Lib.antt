@@ -22,3 +22,4 @@ pub mod Ending
 pub mod MarkedNodes
 pub mod ChainWalks
 pub mod SeenChildren
+pub mod SeenLists

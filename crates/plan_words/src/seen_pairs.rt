@@ -1,7 +1,8 @@
 //! The parents and costs that a pass saw last, with the children of each node by them.
 
 ghost use Rattle.std.specs.Prelude.{◌≡◌, ℕ, suc, ◌<◌, ◌≤◌, ◌^◌, ◌⊎◌, length, slice_index, slice_set, IfOk, replicate};
-ghost use Rattle.plan_words.specs.SeenChains.{sibling_chain_in, chain_of};
+ghost use Rattle.std.specs.Vec.{vec_capacity};
+ghost use Rattle.plan_words.specs.SeenChains.{MayReach, Reaches, chain_of, sibling_chain_in};
 ghost use Rattle.plan_words.specs.Waiting.{IsOn};
 ghost use Rattle.step_core.specs.Words.{parent_in};
 
@@ -12,22 +13,27 @@ use step_core::{ChildIndex, read_tree};
 
 /// The tree word of each node as a pass saw it last, 0 if it did not, with an index from each node to those that have it as their
 /// parent by these words. To a contract it is the list of the words.
+///
+/// The lists have room for all nodes, and an entry for each up to the greatest that was seen, as a node or as a parent.
 #[derive(Drop)]
 pub(crate) struct SeenPairs {
+    /// How many nodes there may be.
+    nodes: u32,
+    /// The words of the first of them. All others are not seen, and have no child.
     words: Vec<u64>,
     children: ChildIndex,
 }
 
 impl Model for SeenPairs {
-    ghost use Rattle.std.specs.Prelude.{◌<◌, ◌^◌, ℕ, List, length};
-    ghost use Rattle.plan_words.specs.SeenChains.{sibling_chain_in};
-    ghost use Rattle.step_core.specs.ChildChains.{IndexesChains};
+    ghost use Rattle.std.specs.Prelude.{ℕ, List};
+    ghost use Rattle.std.specs.Vec.{vec_capacity};
+    ghost use Rattle.plan_words.specs.SeenChains.{AreSeenFirst, seen_words};
 
     ghost Value = { List ℕ };
 
-    ghost view = { λ p. p.words.items };
+    ghost view = { λ p. seen_words p.nodes p.words.items };
 
-    ghost invariant = { λ p. (length p.words.items < 2 ^ 32) × IndexesChains (length p.words.items) (sibling_chain_in p.words.items) p.children };
+    ghost invariant = { λ p. AreSeenFirst p.nodes p.words.items (vec_capacity p.words) p.children };
 }
 
 impl SeenPairs {
@@ -37,25 +43,35 @@ impl SeenPairs {
         requires few { nodes < 2 ^ 32 }
         ensures { IfOk result (λ r. r ≡ replicate nodes 0) }
     {
-        let words = Vec::from_elem(alloc, 0u64, nodes)?;
+        let mut words = Vec::with_capacity(alloc, nodes)?;
+        words.push_reserved(0u64);
         let children = ChildIndex::new(alloc, nodes)?;
-        Ok(SeenPairs { words, children })
+        Ok(SeenPairs {
+            nodes: nodes as u32,
+            words,
+            children,
+        })
     }
 
-    /// The same words again.
+    /// The same words again. O(n) for n entries.
     pub(crate) fn copy(&self, alloc: Global) -> Result<SeenPairs, AllocError>
         ensures { IfOk result (λ r. r ≡ self.now) }
     {
-        let words = Vec::from_slice(alloc, self.words.as_slice())?;
-        let children = self.children.copy(alloc)?;
-        Ok(SeenPairs { words, children })
+        let mut words = Vec::with_capacity(alloc, self.nodes as usize)?;
+        words.extend_from_slice(self.words.as_slice())?;
+        let children = self.children.copy(alloc, self.nodes as usize)?;
+        Ok(SeenPairs {
+            nodes: self.nodes,
+            words,
+            children,
+        })
     }
 
     /// How many nodes there may be.
     pub(crate) fn len(&self) -> u32
         ensures { result ≡ length self.now }
     {
-        self.words.len() as u32
+        self.nodes
     }
 
     /// The word of a node.
@@ -63,21 +79,29 @@ impl SeenPairs {
         requires { node < length self.now }
         ensures { result ≡ slice_index self.now node }
     {
-        self.words[node as usize]
+        match self.words.get(node as usize) {
+            Some(word) => *word,
+            None => 0,
+        }
     }
 
-    /// A node is seen with this word. O(1).
+    /// A node is seen with this word. O(1), and O(n) once if the lists get longer by n entries.
     pub(crate) fn set(&mut self, node: u32, word: u64)
         requires node { node < length self.old }
         requires parent { 2 ^ 63 ≤ word → parent_in word < length self.old }
         ensures { self.new ≡ slice_set self.old node word }
     {
-        let before = self.words[node as usize];
+        let before = self.word(node);
         if before == word {
             return;
         }
-        self.children
-            .relink(node, chain_of(node, before), chain_of(node, word));
+        let chain = chain_of(node, word);
+        reach(
+            &mut self.words,
+            &mut self.children,
+            chain.max(node + 1) as usize,
+        );
+        self.children.relink(node, chain_of(node, before), chain);
         self.words[node as usize] = word;
     }
 
@@ -90,6 +114,9 @@ impl SeenPairs {
         ensures keeps { (n : ℕ) → IsOn waiting.old.nodes n → IsOn waiting.new.nodes n }
         ensures only { (n : ℕ) → IsOn waiting.new.nodes n → IsOn waiting.old.nodes n ⊎ (sibling_chain_in self.now n ≡ suc parent) }
     {
+        if parent as usize >= self.words.len() {
+            return;
+        }
         let mut child = self.children.first_child(parent);
         while child != 0 {
             waiting.push(child);
@@ -108,5 +135,28 @@ fn chain_of(node: u32, word: u64) -> u32
     match read_tree(word) {
         Some((parent, _)) => parent + 1,
         None => 0,
+    }
+}
+
+/// Makes the lists as long as so many nodes need.
+fn reach(words: &mut Vec<u64>, children: &mut ChildIndex, nodes: usize)
+    requires { MayReach nodes words.old.items (vec_capacity words.old) children.old }
+    ensures { Reaches nodes words.old.items (vec_capacity words.old) children.old words.new.items (vec_capacity words.new) children.new }
+{
+    if words.len() < nodes {
+        lengthen(words, children, nodes);
+    }
+}
+
+/// Puts nodes that are not seen at the end of the lists, until they are as long as so many need. It is called seldom, and so out of
+/// line.
+#[inline(never)]
+fn lengthen(words: &mut Vec<u64>, children: &mut ChildIndex, nodes: usize)
+    requires { MayReach nodes words.old.items (vec_capacity words.old) children.old }
+    ensures { Reaches nodes words.old.items (vec_capacity words.old) children.old words.new.items (vec_capacity words.new) children.new }
+{
+    while words.len() < nodes {
+        words.push_reserved(0);
+        children.push_reserved();
     }
 }

@@ -1,9 +1,9 @@
 -- A node goes out of its chain of children, and comes to the front of another.
-use Rattle.std.proofs.Common.{◌≡◌, ◌≢◌, ℕ, zero, suc, ◌<◌, ◌≤◌, List, length, refl, sym, ap, ◌∙◌, subst, ⊎_elim, arith, le_refl}
+use Rattle.std.proofs.Common.{◌≡◌, ◌≢◌, ℕ, zero, suc, ◌<◌, ◌≤◌, List, [], ◌∷◌, length, refl, sym, ap, ◌∙◌, subst, ⊎_elim, arith, le_refl}
 use Rattle.std.proofs.Common.{◌==◌, Bool, cond, eq-eqb}
-use Rattle.std.specs.Prelude.{replicate, slice_index, slice_set}
+use Rattle.std.specs.Prelude.{slice_index, slice_set}
 use Rattle.std.proofs.lemmas.Bool.{cases_eq, ne_eqb}
-use Rattle.std.proofs.lemmas.List.{get_or-set_other, get_or-set_same, length-replicate, length-set}
+use Rattle.std.proofs.lemmas.List.{get_or-set_other, get_or-set_same, length-set}
 use Rattle.step_core.specs.ChildChains.{AreChained, HasInChain, IsIndex, MovesNode, OnlyMoves, front_in}
 use Rattle.step_core.specs.declared.child_index.ChildIndex.{ChildIndex}
 
@@ -484,41 +484,34 @@ IsIndex-same nodes chain now first next previous x same =
       };
     }
 
-pub index-zeros : (count i : ℕ) → slice_index (replicate count 0) i ≡ 0
-index-zeros zero i = refl
-index-zeros (suc count) zero = refl
-index-zeros (suc count) (suc i) = index-zeros count i
-
--- no node has a child
-pub IsIndex-none : (nodes : ℕ) → 0 < nodes → IsIndex nodes (λ n. 0) (replicate nodes 0) (replicate nodes 0) (replicate nodes 0)
-IsIndex-none nodes some =
-    let none : (n : ℕ) → slice_index (replicate nodes 0) n ≡ 0 = λ n. index-zeros nodes n in
-    let no_front : (l : ℕ) → front_in (replicate nodes 0) l ≡ 0 = fronts nodes in
-    record {
-      firsts = length-replicate nodes 0;
-      nexts = length-replicate nodes 0;
-      previouses = length-replicate nodes 0;
-      some = some;
-      within = λ n more. absurd (omega (arith, more));
-      rank = λ n. 0;
-      chained = record {
-        none = refl;
-        bottom = refl;
-        high = λ n. omega arith;
-        top = λ n more. absurd (omega (arith, more));
-        head = λ l more. absurd (omega (arith, more, no_front l));
-        falls = λ n more. absurd (omega (arith, more));
-        after = λ n more past. absurd (omega (arith, more));
-        down = λ m n more both lower. absurd (omega (arith, more));
-        back = λ n more past. absurd (omega (arith, more));
-        first = λ n more leads. absurd (omega (arith, more));
-        apart = λ m n more both level. absurd (omega (arith, more));
-      };
-    }
+-- number 0 alone has no child
+pub IsIndex-alone : IsIndex 1 (λ n. 0) (0 ∷ []) (0 ∷ []) (0 ∷ [])
+IsIndex-alone = record {
+  firsts = refl;
+  nexts = refl;
+  previouses = refl;
+  some = omega arith;
+  within = λ n more. absurd (omega (arith, more));
+  rank = λ n. 0;
+  chained = record {
+    none = refl;
+    bottom = refl;
+    high = λ n. omega arith;
+    top = λ n more. absurd (omega (arith, more));
+    head = λ l more. absurd (omega (arith, more, no_front l));
+    falls = λ n more. absurd (omega (arith, more));
+    after = λ n more past. absurd (omega (arith, more));
+    down = λ m n more both lower. absurd (omega (arith, more));
+    back = λ n more past. absurd (omega (arith, more));
+    first = λ n more leads. absurd (omega (arith, more));
+    apart = λ m n more both level. absurd (omega (arith, more));
+  };
+}
   where
-    fronts : (count l : ℕ) → front_in (replicate count 0) l ≡ 0
-    fronts count zero = refl
-    fronts count (suc l) = index-zeros count l
+    no_front : (l : ℕ) → front_in (0 ∷ []) l ≡ 0
+    no_front zero = refl
+    no_front (suc zero) = refl
+    no_front (suc (suc l)) = refl
 
 -- ---- a move in two steps
 

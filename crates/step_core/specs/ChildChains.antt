@@ -1,5 +1,6 @@
 -- The children of each number, in chains that are linked both ways.
 use Rattle.std.specs.Prelude.{◌≡◌, ◌≢◌, ℕ, zero, suc, ◌+◌, ◌<◌, ◌≤◌, ◌==◌, List, [], ◌∷◌, length, slice_index, count_by}
+use Rattle.std.specs.Vec.{vec_capacity}
 use Rattle.step_core.specs.declared.child_index.ChildIndex.{ChildIndex}
 
 -- Each number is in one chain, or in none, which is chain 0; the chain of the children of a number is 1 more than that. A chain begins with its
@@ -40,6 +41,23 @@ IndexesChains nodes chain index = IsIndex nodes chain index.first.items index.ne
 -- how many numbers an index has
 abbrev pub size_of : ChildIndex → ℕ
 size_of index = length index.first.items
+
+-- so many numbers fit the index in the room that it has
+pub record FitsNumbers (index : ChildIndex) (numbers : ℕ) : Type 0 where
+  pub first : numbers ≤ vec_capacity index.first
+  pub next : numbers ≤ vec_capacity index.next
+  pub previous : numbers ≤ vec_capacity index.previous
+
+-- one number more fits the index
+pub record FitsOneMore (index : ChildIndex) : Type 0 where
+  pub nodes : ℕ
+  pub chain : ℕ → ℕ
+  pub chains : IndexesChains nodes chain index
+  pub fits : FitsNumbers index (nodes + 1)
+
+-- the room is as great as before
+abbrev pub KeepsRoom : ChildIndex → ChildIndex → Type 0
+KeepsRoom before after = (numbers : ℕ) → FitsNumbers before numbers → FitsNumbers after numbers
 
 -- the number is in this chain of some index
 pub record HasInChain (index : ChildIndex) (node l : ℕ) : Type 0 where

@@ -1,8 +1,10 @@
 //! An index from each number to its children: first child and next sibling (Knuth, The Art of Computer Programming, volume 1,
 //! section 2.3.2), with the sibling before besides.
 
-ghost use Rattle.std.specs.Prelude.{◌≡◌, ℕ, suc, ◌∷◌, ◌<◌, ◌≤◌, IfOk, OnErr, OnOk};
-ghost use Rattle.step_core.specs.ChildChains.{AreMembers, HasInChain, HasOneMore, HasSameChains, IndexesChains, MovesNode, siblings_from, size_of};
+ghost use Rattle.std.specs.Prelude.{◌≡◌, ℕ, suc, [], ◌∷◌, ◌<◌, ◌≤◌, IfOk, OnErr, OnOk};
+ghost use Rattle.std.specs.Vec.{vec_capacity, vec_len};
+ghost use Rattle.step_core.specs.ChildChains.{AreMembers, FitsNumbers, FitsOneMore, HasInChain, HasOneMore, HasSameChains};
+ghost use Rattle.step_core.specs.ChildChains.{IndexesChains, KeepsRoom, MovesNode, siblings_from, size_of};
 
 use std::alloc::{AllocError, Global};
 
@@ -20,34 +22,36 @@ pub struct ChildIndex {
 }
 
 impl ChildIndex {
-    /// So many numbers, of which none has a child. O(n) for n numbers.
+    /// Number 0 alone, which has no child, with room for so many numbers. O(1).
     ///
     /// # Errors
     ///
     /// `AllocError` if out of memory.
-    pub fn new(alloc: Global, nodes: usize) -> Result<ChildIndex, AllocError>
-        requires { 0 < nodes }
-        ensures { IfOk result (λ r. IndexesChains nodes (λ n. 0) r) }
+    pub fn new(alloc: Global, room: usize) -> Result<ChildIndex, AllocError>
+        requires { 0 < room }
+        ensures chains { IfOk result (λ r. IndexesChains 1 (λ n. 0) r) }
+        ensures room { IfOk result (λ r. FitsNumbers r room) }
     {
         Ok(ChildIndex {
-            first: Vec::from_elem(alloc, 0u32, nodes)?,
-            next: Vec::from_elem(alloc, 0u32, nodes)?,
-            previous: Vec::from_elem(alloc, 0u32, nodes)?,
+            first: one_number(alloc, room)?,
+            next: one_number(alloc, room)?,
+            previous: one_number(alloc, room)?,
         })
     }
 
-    /// The same index again. O(n) for n numbers.
+    /// The same index again, with room for so many numbers. O(n) for n numbers.
     ///
     /// # Errors
     ///
     /// `AllocError` if out of memory.
-    pub fn copy(&self, alloc: Global) -> Result<ChildIndex, AllocError>
-        ensures { IfOk result (λ r. HasSameChains self.now r) }
+    pub fn copy(&self, alloc: Global, room: usize) -> Result<ChildIndex, AllocError>
+        ensures chains { IfOk result (λ r. HasSameChains self.now r) }
+        ensures room { IfOk result (λ r. FitsNumbers r room) }
     {
         Ok(ChildIndex {
-            first: Vec::from_slice(alloc, self.first.as_slice())?,
-            next: Vec::from_slice(alloc, self.next.as_slice())?,
-            previous: Vec::from_slice(alloc, self.previous.as_slice())?,
+            first: copy_numbers(alloc, self.first.as_slice(), room)?,
+            next: copy_numbers(alloc, self.next.as_slice(), room)?,
+            previous: copy_numbers(alloc, self.previous.as_slice(), room)?,
         })
     }
 
@@ -63,10 +67,17 @@ impl ChildIndex {
         self.first.reserve(1)?;
         self.next.reserve(1)?;
         self.previous.reserve(1)?;
-        self.first.push_reserved(0);
-        self.next.push_reserved(0);
-        self.previous.push_reserved(0);
+        self.append();
         Ok(())
+    }
+
+    /// Adds the next number, which has no child and is nobody's, in the room that is there. O(1).
+    pub fn push_reserved(&mut self)
+        requires { FitsOneMore self.old }
+        ensures more { HasOneMore self.old self.new }
+        ensures room { KeepsRoom self.old self.new }
+    {
+        self.append();
     }
 
     /// Moves a number from one chain to the front of another. O(1).
@@ -74,7 +85,8 @@ impl ChildIndex {
         requires here { HasInChain self.old node from }
         requires root { node ≡ 0 → to ≡ 0 }
         requires parent { to ≤ size_of self.old }
-        ensures { MovesNode node from to self.old self.new }
+        ensures moves { MovesNode node from to self.old self.new }
+        ensures room { KeepsRoom self.old self.new }
     {
         if from == to {
             return;
@@ -101,10 +113,24 @@ impl ChildIndex {
         self.next[node as usize]
     }
 
+    /// Makes each of the lists longer by a number.
+    fn append(&mut self)
+        requires first { vec_len self.old.first < vec_capacity self.old.first }
+        requires next { vec_len self.old.next < vec_capacity self.old.next }
+        requires previous { vec_len self.old.previous < vec_capacity self.old.previous }
+        ensures more { HasOneMore self.old self.new }
+        ensures room { KeepsRoom self.old self.new }
+    {
+        self.first.push_reserved(0);
+        self.next.push_reserved(0);
+        self.previous.push_reserved(0);
+    }
+
     /// Takes a number out of the chain that it is in, if it is in one.
     fn take_out(&mut self, node: u32, from: u32)
         requires here { HasInChain self.old node from }
-        ensures { MovesNode node from 0 self.old self.new }
+        ensures moves { MovesNode node from 0 self.old self.new }
+        ensures room { KeepsRoom self.old self.new }
     {
         if from == 0 {
             return;
@@ -123,7 +149,8 @@ impl ChildIndex {
         requires here { HasInChain self.old node 0 }
         requires root { node ≡ 0 → to ≡ 0 }
         requires parent { to ≤ size_of self.old }
-        ensures { MovesNode node 0 to self.old self.new }
+        ensures moves { MovesNode node 0 to self.old self.new }
+        ensures room { KeepsRoom self.old self.new }
     {
         if to == 0 {
             return;
@@ -135,4 +162,25 @@ impl ChildIndex {
         self.previous[node as usize] = 0;
         self.first[parent] = node;
     }
+}
+
+/// A list for number 0 alone, with room for so many numbers.
+fn one_number(alloc: Global, room: usize) -> Result<Vec<u32>, AllocError>
+    requires { 0 < room }
+    ensures items { IfOk result (λ list. list.items ≡ 0 ∷ []) }
+    ensures room { IfOk result (λ list. room ≤ vec_capacity list) }
+{
+    let mut list = Vec::with_capacity(alloc, room)?;
+    list.push_reserved(0);
+    Ok(list)
+}
+
+/// The same list again, with room for so many numbers.
+fn copy_numbers(alloc: Global, numbers: &[u32], room: usize) -> Result<Vec<u32>, AllocError>
+    ensures items { IfOk result (λ list. list.items ≡ numbers.now) }
+    ensures room { IfOk result (λ list. room ≤ vec_capacity list) }
+{
+    let mut list = Vec::with_capacity(alloc, room)?;
+    list.extend_from_slice(numbers)?;
+    Ok(list)
 }

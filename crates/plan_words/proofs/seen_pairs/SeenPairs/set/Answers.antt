@@ -1,35 +1,57 @@
-use Rattle.std.proofs.Common.{◌<◌, ◌^◌, length, sym, ap, ◌∙◌, subst}
+use Rattle.std.proofs.Common.{length, sym, ap, ◌∙◌, arith}
 use Rattle.std.specs.Prelude.{slice_set}
-use Rattle.std.proofs.lemmas.List.{get_or-set_other, get_or-set_same, get_or_default, length-set}
-use Rattle.plan_words.specs.SeenChains.{sibling_chain_in, chain_of}
-use Rattle.step_core.specs.ChildChains.{IndexesChains}
+use Rattle.std.specs.Vec.{vec_capacity}
+use Rattle.plan_words.proofs.SeenLists.{StandFor, StandFor-reached, StandFor-set, needed-within}
 use Rattle.plan_words.proofs.seen_pairs.SeenPairs.set.Goals as goal
+use Rattle.plan_words.specs.SeenChains.{chain_of, seen_words, sibling_chain_in}
+
+pub reach-requires : goal.reach-requires
+reach-requires c = (
+  c.self.inside.nodes,
+  needed-within _ _ c.args.node c.args.word _ _ _ c.self.invariant.within c.self.view_is c.requires.node c.requires.parent c.chain_of-chain.ensures
+      c.max.ensures,
+  c.self.invariant,
+)
+
+-- the longer lists stand for the same words
+stand : (c : goal.After-chain_of) → StandFor c.self.inside.nodes c.args.self.now c.reach.new.words.items (vec_capacity c.reach.new.words) c.reach.new.children
+stand c =
+    StandFor-reached _ _ _ _ _ _ _ _ _
+    (needed-within _ _ c.args.node c.args.word _ _ _ c.self.invariant.within c.self.view_is c.requires.node c.requires.parent c.chain_of-chain.ensures
+    c.max.ensures) c.self.view_is c.self.invariant c.reach.ensures
 
 pub relink-requires-clause-here : goal.relink-requires-clause-here
-relink-requires-clause-here c =
-    let words = c.self.inside.words.items in
-    let low : c.args.node < length words = subst (λ l. c.args.node < length l) (sym c.self.view_is) c.requires.node in
-    record {
-      nodes = length words;
-      chain = sibling_chain_in words;
-      chains = c.self.invariant.1;
-      here = sym (c.chain_of.ensures ∙ ap (chain_of c.args.node) (c.index-before.ensures ∙ get_or_default words c.args.node _ 0 low));
-      low = low;
-    }
+relink-requires-clause-here c = record {
+  nodes = length c.reach.new.words.items;
+  chain = sibling_chain_in (seen_words c.self.inside.nodes c.reach.new.words.items);
+  chains = (stand c).first.index;
+  here =
+      ap (λ l. sibling_chain_in l c.args.node) (stand c).same
+      ∙ sym (c.chain_of.ensures ∙ ap (chain_of c.args.node) c.word-before.ensures);
+  low = omega (arith, c.reach.ensures.long, c.max.ensures);
+}
+
+pub relink-requires-clause-parent : goal.relink-requires-clause-parent
+relink-requires-clause-parent c = omega (arith, c.reach.ensures.long, c.max.ensures, (stand c).first.index.firsts)
+
+pub index_mut-requires : goal.index_mut-requires
+index_mut-requires c = omega (arith, c.reach.ensures.long, c.max.ensures, c.reach.new.words.ok)
+
+-- and then for those with this word
+stand_set :
+    (c : goal.After-self-1)
+    → StandFor c.self.inside.nodes (slice_set c.args.self.now c.args.node c.args.word) (slice_set c.reach.new.words.items c.args.node c.args.word)
+    c.reach.new.words.cap c.relink.new.self
+stand_set c =
+    StandFor-set _ _ _ _ c.reach.new.children _ _ _ c.chain_of.result c.chain_of-chain.result
+    (StandFor-reached _ _ _ _ _ _ _ _ _
+    (needed-within _ _ c.args.node c.args.word _ _ _ c.self.invariant.within c.self.view_is c.requires.node c.requires.parent c.chain_of-chain.ensures
+    c.max.ensures) c.self.view_is c.self.invariant c.reach.ensures)
+    (omega (arith, c.reach.ensures.long, c.max.ensures))
+    (c.chain_of.ensures ∙ ap (chain_of c.args.node) c.word-before.ensures) c.chain_of-chain.ensures c.relink.ensures.moves c.relink.ensures.room
 
 pub invariant_of-self : goal.invariant_of-self
-invariant_of-self c =
-    let words = c.self.inside.words.items in
-    let node = c.args.node in
-    let word = c.args.word in
-    let children = c.relink.new.self in
-    let low : node < length words = subst (λ l. node < length l) (sym c.self.view_is) c.requires.node in
-    let sized = length-set words node word in
-    let was = ap (chain_of node) (c.index-before.ensures ∙ get_or_default words node _ 0 low) in
-    let now = ap (chain_of node) (get_or-set_same words node word 0 low) in (
-      subst (λ n. n < 2 ^ 32) (sym sized) c.self.invariant.0,
-      subst (λ n. IndexesChains n (sibling_chain_in (slice_set words node word)) children) (sym sized)
-          (c.relink.ensures (length words) (sibling_chain_in words) (sibling_chain_in (slice_set words node word)) c.self.invariant.1
-          (sym (c.chain_of.ensures ∙ was)) (now ∙ sym c.chain_of-2.ensures)
-          (λ n apart. ap (chain_of n) (get_or-set_other words node n word 0 apart))),
-    )
+invariant_of-self c = (stand_set c).first
+
+pub returns : goal.returns
+returns c = (stand_set c).same

@@ -30,7 +30,7 @@ invariant_of-self-in-Some c =
     let room : length tree < MOST_NODES = omega (arith, ap length c.self.view_is, c.requires.few) in
     rw (c.push_reserved.ensures.items, c.reserve.ensures.items, c.in-Some.is)
     (AreLinked-push tree c.in-Some.node c.self.inside.children c.push.new.self c.relink.new.self c.len-number.result number some room
-    c.in_ok-push.ensures.more c.relink.ensures c.self.invariant)
+    c.in_ok-push.ensures.more c.relink.ensures.moves c.self.invariant)
 
 pub invariant_of-self-in_default : goal.invariant_of-self-in_default
 invariant_of-self-in_default c =

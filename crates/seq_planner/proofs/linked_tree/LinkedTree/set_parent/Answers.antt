@@ -30,5 +30,5 @@ invariant_of-self c =
     let within : number < length tree = present_below tree number present in
     let here : get_or tree number None ≡ Some c.unwrap-former.result = sym (get_or_read tree _ _ within c.index.ensures None) ∙ c.unwrap-former.ensures in
     let node : Twig = record { point = c.unwrap-former.result.point; parent = c.args.parent } in
-    AreLinked-replace tree c.unwrap-former.result node c.self.inside.children c.relink.new.self number c.requires.child within here c.relink.ensures
+    AreLinked-replace tree c.unwrap-former.result node c.self.inside.children c.relink.new.self number c.requires.child within here c.relink.ensures.moves
     c.self.invariant

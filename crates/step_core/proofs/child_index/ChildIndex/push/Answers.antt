@@ -1,8 +1,5 @@
-use Rattle.step_core.proofs.AddedNumbers.{IsIndex-push}
 use Rattle.step_core.proofs.child_index.ChildIndex.push.Goals as goal
 
 pub returns-clause-more : goal.returns-clause-more
 returns-clause-more c nodes chain index =
-    rw (c.push_reserved.ensures.items, c.push_reserved-2.ensures.items, c.push_reserved-3.ensures.items)
-    (rw (c.reserve.ensures.items, c.reserve-2.ensures.items, c.reserve-3.ensures.items)
-    (IsIndex-push nodes chain c.args.self.now.first.items c.args.self.now.next.items c.args.self.now.previous.items index))
+    c.append.ensures.more nodes chain (rw (c.reserve.ensures.items, c.reserve-2.ensures.items, c.reserve-3.ensures.items) index)

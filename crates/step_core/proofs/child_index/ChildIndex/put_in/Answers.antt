@@ -5,8 +5,8 @@ use Rattle.step_core.specs.ChildChains.{MovesNode}
 use Rattle.step_core.proofs.MovedChildren.{IsIndex-put_in, MovesNode-none, front_within}
 use Rattle.step_core.proofs.child_index.ChildIndex.put_in.Goals as goal
 
-pub returns-then-to-eq0 : goal.returns-then-to-eq0
-returns-then-to-eq0 c =
+pub returns-then-to-eq0-clause-moves : goal.returns-then-to-eq0-clause-moves
+returns-then-to-eq0-clause-moves c =
     subst (λ l. MovesNode c.args.node 0 l c.args.self.now c.args.self.now) (sym c.if-to-eq0.true) (MovesNode-none c.args.node 0 c.args.self.now)
 
 pub index_mut-requires-2 : goal.index_mut-requires-2
@@ -17,8 +17,8 @@ index_mut-requires-2 c =
     let front = c.index-front.ensures ∙ get_or_default lists.first.items (c.args.to - 1) _ 0 low in
     omega (arith, front, index.previouses, front_within _ _ _ _ _ (suc (c.args.to - 1)) index, lists.previous.ok)
 
-pub returns : goal.returns
-returns c nodes chain now index free here others =
+pub returns-clause-moves : goal.returns-clause-moves
+returns-clause-moves c nodes chain now index free here others =
     let lists = c.args.self.now in
     let parent : c.args.to - 1 < length lists.first.items = omega (arith, c.requires.parent, c.if-to-eq0.false) in
     let low : c.args.node < nodes = omega (arith, c.requires.here.chains.firsts, index.firsts, c.requires.here.low) in

@@ -3,16 +3,19 @@ use Rattle.step_core.specs.ChildChains.{MovesNode}
 use Rattle.step_core.proofs.MovedChildren.{HasInChain-out, MovesNode-none, MovesNode-trans, length-out}
 use Rattle.step_core.proofs.child_index.ChildIndex.relink.Goals as goal
 
-pub returns-then-from-to : goal.returns-then-from-to
-returns-then-from-to c =
+pub returns-then-from-to-clause-moves : goal.returns-then-from-to-clause-moves
+returns-then-from-to-clause-moves c =
     subst (λ l. MovesNode c.args.node c.args.from l c.args.self.now c.args.self.now) c.if-from-to.true (MovesNode-none c.args.node c.args.from c.args.self.now)
 
 pub put_in-requires-clause-here : goal.put_in-requires-clause-here
-put_in-requires-clause-here c = HasInChain-out c.args.node c.args.from c.args.self.now c.take_out.new.self c.requires.here c.take_out.ensures
+put_in-requires-clause-here c = HasInChain-out c.args.node c.args.from c.args.self.now c.take_out.new.self c.requires.here c.take_out.ensures.moves
 
 pub put_in-requires-clause-parent : goal.put_in-requires-clause-parent
 put_in-requires-clause-parent c =
-    omega (arith, c.requires.parent, length-out c.args.node c.args.from c.args.self.now c.take_out.new.self c.requires.here c.take_out.ensures)
+    omega (arith, c.requires.parent, length-out c.args.node c.args.from c.args.self.now c.take_out.new.self c.requires.here c.take_out.ensures.moves)
 
-pub returns : goal.returns
-returns c = MovesNode-trans c.args.node c.args.from c.args.to c.args.self.now c.take_out.new.self c.put_in.new.self c.take_out.ensures c.put_in.ensures
+pub returns-clause-moves : goal.returns-clause-moves
+returns-clause-moves c = MovesNode-trans c.args.node c.args.from c.args.to c.args.self.now c.take_out.new.self c.put_in.new.self c.take_out.ensures.moves c.put_in.ensures.moves
+
+pub returns-clause-room : goal.returns-clause-room
+returns-clause-room c numbers fits = c.put_in.ensures.room numbers (c.take_out.ensures.room numbers fits)

@@ -4,8 +4,8 @@ use Rattle.step_core.specs.ChildChains.{MovesNode}
 use Rattle.step_core.proofs.MovedChildren.{IsIndex-taken_out, MovesNode-none, after_within, before_within}
 use Rattle.step_core.proofs.child_index.ChildIndex.take_out.Goals as goal
 
-pub returns-then-from-eq0 : goal.returns-then-from-eq0
-returns-then-from-eq0 c =
+pub returns-then-from-eq0-clause-moves : goal.returns-then-from-eq0-clause-moves
+returns-then-from-eq0-clause-moves c =
     subst (λ l. MovesNode c.args.node c.args.from l c.args.self.now c.args.self.now) c.if-from-eq0.true
     (MovesNode-none c.args.node c.args.from c.args.self.now)
 
@@ -51,8 +51,8 @@ index_mut-requires-then-before-eq0 c =
     let has = c.requires.here in
     omega (arith, c.if-from-eq0.false, has.here, has.chains.chained.high c.args.node, has.chains.firsts, c.args.self.now.first.ok)
 
-pub returns-then-before-eq0 : goal.returns-then-before-eq0
-returns-then-before-eq0 c nodes chain now index here out others =
+pub returns-then-before-eq0-clause-moves : goal.returns-then-before-eq0-clause-moves
+returns-then-before-eq0-clause-moves c nodes chain now index here out others =
     let lists = c.args.self.now in
     let node = c.args.node in
     let low = index.within node (omega (arith, here, c.if-from-eq0.false)) in
@@ -62,8 +62,8 @@ returns-then-before-eq0 c nodes chain now index here out others =
     (omega (arith, here, c.if-from-eq0.false)) out others
     (λ z. refl) (λ later. absurd (later (sym before ∙ c.if-before-eq0.true))))
 
-pub returns-else-before-eq0 : goal.returns-else-before-eq0
-returns-else-before-eq0 c nodes chain now index here out others =
+pub returns-else-before-eq0-clause-moves : goal.returns-else-before-eq0-clause-moves
+returns-else-before-eq0-clause-moves c nodes chain now index here out others =
     let lists = c.args.self.now in
     let node = c.args.node in
     let low = index.within node (omega (arith, here, c.if-from-eq0.false)) in
