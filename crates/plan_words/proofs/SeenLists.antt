@@ -90,7 +90,8 @@ StandFor-longer nodes seen words capacity children more low one_more keeps stand
 
 -- one more fits
 pub FitsOneMore-seen :
-    (nodes : ℕ) (words : List ℕ) (capacity : ℕ) (children : ChildIndex) → length words < nodes → AreSeenFirst nodes words capacity children → FitsOneMore children
+    (nodes : ℕ) (words : List ℕ) (capacity : ℕ) (children : ChildIndex) → length words < nodes → AreSeenFirst nodes words capacity children
+    → FitsOneMore children
 FitsOneMore-seen nodes words capacity children low are = record {
   nodes = length words;
   chain = sibling_chain_in (seen_words nodes words);

@@ -49,8 +49,8 @@ loop-child-preserved c =
     let pushed = c.push.ensures in
     record {
       walk =
-          IsWalk-step c.self.inside.children (sibling_chain_in (seen_words c.self.inside.nodes c.self.inside.words.items)) (suc c.args.parent) c.loop-child.child c.next_sibling-child.result
-          c.args.waiting.now.nodes c.loop-child.waiting.nodes c.push.new.self.nodes c.loop-child.invariant.walk c.next_sibling-child.ensures pushed.here
-          pushed.keeps pushed.only;
+          IsWalk-step c.self.inside.children (sibling_chain_in (seen_words c.self.inside.nodes c.self.inside.words.items)) (suc c.args.parent)
+          c.loop-child.child c.next_sibling-child.result c.args.waiting.now.nodes c.loop-child.waiting.nodes c.push.new.self.nodes c.loop-child.invariant.walk
+          c.next_sibling-child.ensures pushed.here pushed.keeps pushed.only;
       kept = pushed.kept ∙ ap {A = WaitingState} (λ w. record w { nodes = c.push.new.self.nodes }) c.loop-child.invariant.kept;
     }

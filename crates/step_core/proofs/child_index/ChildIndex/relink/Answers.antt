@@ -15,7 +15,8 @@ put_in-requires-clause-parent c =
     omega (arith, c.requires.parent, length-out c.args.node c.args.from c.args.self.now c.take_out.new.self c.requires.here c.take_out.ensures.moves)
 
 pub returns-clause-moves : goal.returns-clause-moves
-returns-clause-moves c = MovesNode-trans c.args.node c.args.from c.args.to c.args.self.now c.take_out.new.self c.put_in.new.self c.take_out.ensures.moves c.put_in.ensures.moves
+returns-clause-moves c =
+    MovesNode-trans c.args.node c.args.from c.args.to c.args.self.now c.take_out.new.self c.put_in.new.self c.take_out.ensures.moves c.put_in.ensures.moves
 
 pub returns-clause-room : goal.returns-clause-room
 returns-clause-room c numbers fits = c.put_in.ensures.room numbers (c.take_out.ensures.room numbers fits)
