@@ -74,7 +74,6 @@ fn two_passes<R: Abort>(rt: &R, alloc: Global, marks: &[Point]) -> Two
     ensures second { MayClaim result.0 result.3 }
 {
     let task = small_task(rt, alloc, marks);
-    assert!(rt; task.scene.clearance == 0);
     let hall = sure(rt, Hall::new(alloc, &task.scene));
     let (shared, mut passes) = shared_by_two(rt, alloc, task);
     let second = some(rt, last_pass(&shared, &mut passes));

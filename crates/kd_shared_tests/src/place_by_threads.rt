@@ -133,7 +133,6 @@ fn shared_by_workers<R: Abort>(rt: &R, alloc: Global, task: Task) -> (Shared, Ve
 /// The workers after each has placed all points in a thread of its own.
 fn workers_done<R: Threads + Sync + Abort>(rt: &R, alloc: Global) -> Vec<Worker> {
     let task = repeated_task(rt, alloc);
-    assert!(rt; task.scene.clearance == 0);
     let hall = sure(rt, Hall::new(alloc, &task.scene));
     let (shared, mut workers) = shared_by_workers(rt, alloc, task);
     work_all(rt, &shared, &hall, workers.as_mut_slice());

@@ -288,7 +288,6 @@ pub(crate) fn tree_of<R: Abort>(
     ensures { MayClaim result.0 result.1 }
 {
     let task = sure(rt, marks_round(alloc, start, 1, points));
-    assert!(rt; task.scene.clearance == 0);
     let hall = sure(rt, Hall::new(alloc, &task.scene));
     let (shared, mut pass) = shared_by_one(rt, alloc, task);
     let limit = points.len() as u32;

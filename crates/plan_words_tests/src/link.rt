@@ -364,7 +364,6 @@ fn link_at_one_place<R: Abort>(
     requires first { MayClaim shared.now first.old }
     requires second { MayClaim shared.now second.old }
 {
-    assert!(rt; shared.task().scene.clearance == 0);
     let hall = sure(rt, Hall::new(alloc, &shared.task().scene));
     hang_both(rt, shared, &hall, first, second);
     link_both(rt, shared, first, second);

@@ -137,7 +137,6 @@ fn walled_task<R: Abort>(rt: &R, alloc: Global, marks: &[Point]) -> Task
 fn assert_start_clear<R: Abort>(rt: &R, alloc: Global, scene: &Scene)
     ensures { ClearAt (space_of scene.now) scene.now.start }
 {
-    assert!(rt; scene.clearance == 0);
     let hall = sure(rt, Hall::new(alloc, scene));
     assert!(rt; hall.clear_at(scene.start));
     drop(hall);

@@ -46,7 +46,6 @@ fn run_of_four<R: Threads + Sync + Abort>(rt: &R, alloc: Global) -> (Grown, Hall
     ensures hall { result.1 ≡ space_of result.0.task.scene }
 {
     let task = seven_marks(rt, alloc);
-    assert!(rt; task.scene.clearance == 0);
     let hall = sure(rt, Hall::new(alloc, &task.scene));
     let fresh = sure(rt, Grown::new(alloc, task));
     let grown = sure(rt, grow(rt, alloc, fresh, &hall, 1, 4, &NoGate));

@@ -30,7 +30,6 @@ fn small_run<R: Threads + Sync + Abort, G: Gate>(
     ensures { result.limit ≡ limit }
 {
     let grown = sure(rt, Grown::new(alloc, small_task(rt, alloc, &TO_REWIRE)));
-    assert!(rt; grown.task().scene.clearance == 0);
     let hall = sure(rt, Hall::new(alloc, &grown.task().scene));
     let run = sure(rt, grow(rt, alloc, grown, &hall, workers, limit, gate));
     drop(hall);
@@ -120,7 +119,6 @@ static NARROW: [Point; 4] = [
 fn narrow_run<R: Threads + Sync + Abort>(rt: &R, alloc: Global) -> Grown {
     let task = task_to(rt, alloc, Point { x: 30, y: 20 }, 40, &NARROW);
     let grown = sure(rt, Grown::new(alloc, task));
-    assert!(rt; grown.task().scene.clearance == 0);
     let hall = sure(rt, Hall::new(alloc, &grown.task().scene));
     let run = sure(rt, grow(rt, alloc, grown, &hall, 1, 4, &NoGate));
     drop(hall);
@@ -193,7 +191,6 @@ fn grown_on<R: Threads + Sync + Abort>(rt: &R, alloc: Global, begun: Grown) -> G
     requires marks { length begun.task.marks ≡ 3 }
     ensures { result.limit ≡ 3 }
 {
-    assert!(rt; begun.task().scene.clearance == 0);
     let hall = sure(rt, Hall::new(alloc, &begun.task().scene));
     let grown = sure(rt, grow(rt, alloc, begun, &hall, 3, 3, &NoGate));
     drop(hall);

@@ -199,7 +199,6 @@ pub(crate) fn two_passes<R: Abort>(rt: &R, alloc: Global, task: Task) -> Two
     ensures first { HasShare result.0 1 result.2 }
     ensures second { HasShare result.0 1 result.3 }
 {
-    assert!(rt; task.scene.clearance == 0);
     let hall = sure(rt, Hall::new(alloc, &task.scene));
     let (shared, mut passes) = shared_by_two(rt, alloc, task);
     let second = some(rt, last_sharer(&shared, &mut passes));

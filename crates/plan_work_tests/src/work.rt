@@ -126,7 +126,6 @@ fn assert_met<R: Abort>(rt: &R, meeting: &Meeting, grown: &Grown) {
 #[test]
 fn a_node_is_placed_while_a_segment_is_tested(rt: HostRuntime) {
     let task = task_in_two_strips(&rt, rt.alloc());
-    assert!(rt; task.scene.clearance == 0);
     let meeting = Meeting::in_hall(sure(&rt, Hall::new(rt.alloc(), &task.scene)));
     let fresh = sure(&rt, Grown::new(rt.alloc(), task));
     let grown = sure(&rt, grow(&rt, rt.alloc(), fresh, &meeting, 2, 3, &meeting));

@@ -94,7 +94,6 @@ fn run_to<R: Threads + Sync + Abort>(rt: &R, alloc: Global, task: Task, limit: u
     ensures task { result.0.task ≡ task }
     ensures hall { result.1 ≡ space_of task.scene }
 {
-    assert!(rt; task.scene.clearance == 0);
     let hall = sure(rt, Hall::new(alloc, &task.scene));
     let fresh = sure(rt, Grown::new(alloc, task));
     let grown = sure(rt, grow(rt, alloc, fresh, &hall, 1, limit, &NoGate));
