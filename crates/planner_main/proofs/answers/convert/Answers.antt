@@ -12,5 +12,5 @@ returns g c =
       scene = scene;
       of_command = has.spelled;
       start = λ planned. absurd (false≢true planned);
-      meaning = record { converted = c.as_version_2.result; of_scene = c.as_version_2.ensures; written = c.in_ok-text_of.ensures };
+      meaning = record { converted = c.as_version_2-converted.result; of_scene = c.as_version_2-converted.ensures; written = c.in_ok-text_of.ensures };
     })
