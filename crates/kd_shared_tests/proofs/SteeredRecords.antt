@@ -1,49 +1,45 @@
 -- What may be recorded of a mark that was steered from the nearest node: that another node stands at its point, or, if the radius is 0,
 -- that its node was placed below the nearest.
-use Rattle.std.proofs.Common.{◌≡◌, ℕ, suc, ◌+◌, ◌-◌, ◌*◌, ◌<◌, ◌≤◌, ◌^◌, Bool, true, Option}
+use Rattle.std.proofs.Common.{◌≡◌, ℕ, zero, suc, refl, ◌+◌, ◌-◌, ◌*◌, ◌<◌, ◌≤◌, ◌^◌, true, Option}
 use Rattle.std.proofs.Common.{Some, None, length, inl, inr, sym, ap, ◌∙◌, subst, arith}
-use Rattle.std.specs.Prelude.{◌==◌, ◌&&◌, ◌⊎◌, IfSome, count_by, nat_le, nat_lt}
-use Rattle.std.specs.List.{range_with_len}
+use Rattle.std.specs.Prelude.{◌⊎◌, IfSome, nat_le}
+use Rattle.std.specs.List.{filter, range_with_len}
 use Rattle.std.proofs.Math.Nat.{mul-pos}
-use Rattle.std.proofs.lemmas.Bool.{and_parts, cases_lt, le-leb, leb-true}
+use Rattle.std.proofs.lemmas.Bool.{cases_lt, le-leb, leb-true}
 use Rattle.std.proofs.lemmas.Int.Digits.{length-digits_of-le}
-use Rattle.std.proofs.lemmas.List.Sums.{length-filter}
+use Rattle.std.proofs.lemmas.List.Elements.{filter_agree}
 use Rattle.std.proofs.lemmas.Nat.{pow_pos}
 use Rattle.plan_model.specs.Spaces.Clearance.{Clear}
 use Rattle.plan_model.specs.Runs.ClosedLaw.{mark_at}
 use Rattle.plan_model.specs.Trees.LeastPairs.{IsNotAbove}
 use Rattle.plan_model.specs.Trees.Nearness.{distance_to, is_within}
-use Rattle.plan_model.specs.Runs.Outcomes.{is_placed}
 use Rattle.plan_model.specs.Trees.PointsByNumber.{IsPresent, point_at, point_of}
 use Rattle.plan_model.specs.Geometry.Radius.{class_of, radius_of_class}
-use Rattle.plan_model.specs.Runs.RecordLaw.{is_earlier_record}
 use Rattle.plan_model.specs.Geometry.Steering.{steered}
-use Rattle.plan_model.specs.Runs.Turns.{is_of_worker}
 use Rattle.plan_model.specs.declared.geometry.Point.{Point}
 use Rattle.plan_model.specs.declared.records.Outcome.{Outcome}
 use Rattle.plan_model.specs.declared.records.Outcome.TheVariants.{Placed, Same}
 use Rattle.plan_model.specs.declared.records.Record.{Record}
-use Rattle.plan_model.proofs.CountsBelow.{count-first, count-wider}
 use Rattle.plan_model.proofs.FreePoints.{same-from_distance}
 use Rattle.plan_model.proofs.NewNodes.{point_of-stands}
 use Rattle.plan_model.proofs.RadiusLaws.{greatest-passes}
 use Rattle.plan_model.proofs.RecordLaws.{class_of-le}
-use Rattle.plan_words.specs.States.{turn_of, worker_of}
+use Rattle.plan_words.specs.States.{GoesOn}
 use Rattle.plan_words.proofs.KeptPairs.{if_hand}
-use Rattle.plan_words.proofs.Tying.{HasMember-held}
+use Rattle.step_core.proofs.LawfulRecords.{is_own_node-earlier}
 use Rattle.step_core.proofs.RecordedNodes.{own_recorded}
-use Rattle.step_core.specs.GrownWords.{has_node, record_at}
+use Rattle.step_core.specs.GrownWords.{has_node}
 use Rattle.step_core.specs.LaterViews.{IsLawfulView}
 use Rattle.step_core.specs.SeenRecords.{IsOwnNeighbour, MayBePlaced, MayEnd, MayRecord, MaySteer, is_own_node, own_count}
 use Rattle.step_core.specs.Stages.{has_link}
 use Rattle.step_core.specs.ViewTrees.{SeesPoint}
 use Rattle.step_core.specs.Views.{sees, setup_in, tree_seen}
-use Rattle.step_core.specs.WordNames.Word.{Count}
+use Rattle.step_core.specs.WordNames.Word.{Count, RecordOf}
 use Rattle.step_core.specs.declared.views.Hand.{Hand}
+use Rattle.step_core.specs.declared.views.SharedRun.{SharedRun}
 use Rattle.step_core.specs.declared.views.View.{View}
-use Rattle.kd_shared_tests.specs.HeldMarks.{HangsBelowNearest, IsClassBetween, SeesHandPoint, SteersFrom}
+use Rattle.kd_shared_tests.specs.HeldMarks.{HangsBelowNearest, SeesHandPoint, SteersFrom}
 use Rattle.kd_shared_tests.proofs.SteeredMarks.{present_nearest}
-use lib.ListN.{get_elem?}
 
 -- ---- classes and radii
 
@@ -76,28 +72,17 @@ within_zero p (Some q) near = ap Some (same-from_distance q p (omega (arith, leb
 
 -- ---- a worker's own nodes
 
--- the record of each is of the worker
-own_of_worker : (entry : Record) (o : Option Record) → is_earlier_record entry o ≡ true → is_of_worker entry.worker o ≡ true
-own_of_worker entry None h = h
-own_of_worker entry (Some other) h =
-    let parts = and_parts (is_placed other.outcome) (other.worker == entry.worker && nat_lt other.turn entry.turn) h in
-    (and_parts (other.worker == entry.worker) (nat_lt other.turn entry.turn) parts.1).0
-
--- they are no more than the start and the marks that the worker has handled
-own_count-turns :
-    (view : View) (hand : Hand) (entry : Record) → IsLawfulView view → view.hand ≡ Some hand → entry.worker ≡ worker_of view.crew
-    → own_count view entry ≤ turn_of view.crew + 1
-own_count-turns view hand entry lawful held worker =
-    let has = HasMember-held view hand lawful held in
-    let same : has.member.worker ≡ entry.worker = sym (worker ∙ ap worker_of has.crew_is) in
-    let turns = lawful.own_turn 0 has.member (ap (λ l. get_elem? l 0) has.crew_is) in
-    let marks : ℕ = length view.run.marks in
-    let next : marks + 1 ≡ suc marks = omega arith in
-    let of_worker : ℕ → Bool = λ k. is_of_worker entry.worker (record_at (sees view) k) in
-    let all = length-filter (is_own_node view entry) (range_with_len 0 (marks + 1)) ∙ ap (λ n. count_by (is_own_node view entry) (range_with_len 0 n)) next in
-    let wider = count-wider (λ k. is_own_node view entry (suc k)) of_worker marks (λ k own. own_of_worker entry (record_at (sees view) k) own) in
-    let mine = ap (λ w. count_by (λ k. is_of_worker w (record_at (sees view) k)) (range_with_len 0 marks)) same in
-    omega (arith, all, count-first (is_own_node view entry) marks, wider, mine, turns, ap turn_of has.crew_is)
+-- they are as many while no record is seen anew
+pub own_count-same :
+    (before after : View) (entry : Record) → GoesOn before after → ((k : ℕ) → sees after (RecordOf k) ≡ sees before (RecordOf k))
+    → own_count after entry ≡ own_count before entry
+own_count-same before after entry goes_on records =
+    ap (λ (r : SharedRun). length (filter (is_own_node after entry) (range_with_len 0 (length r.marks + 1)))) goes_on.later.run
+    ∙ ap length (filter_agree (is_own_node after entry) (is_own_node before entry) same (range_with_len 0 (length before.run.marks + 1)))
+  where
+    same : (n : ℕ) → is_own_node after entry n ≡ is_own_node before entry n
+    same zero = refl
+    same (suc k) = sym (is_own_node-earlier before (sees after) entry goes_on.later.seen (λ j of_worker. sym (records j)) (suc k))
 
 -- ---- records
 
@@ -148,19 +133,19 @@ module _ (view : View) (nearest cost : ℕ) (entry : Record) (lawful : IsLawfulV
       cc
 
   pub may_finish-placed :
-      entry.nearest ≡ nearest → entry.outcome ≡ Placed → entry.first_parent ≡ nearest → entry.first_cost ≡ cost → entry.worker ≡ worker_of view.crew
-      → IsClassBetween (turn_of view.crew + 1) (sees view Count) entry.class → IfSome view.hand (λ h. MayRecord view h entry)
-  may_finish-placed is outcome parent cost_is worker class =
+      entry.nearest ≡ nearest → entry.outcome ≡ Placed → entry.first_parent ≡ nearest → entry.first_cost ≡ cost
+      → ((e : Record) → own_count view e ≤ sees view Count) → entry.class ≡ class_of (sees view Count) → IfSome view.hand (λ h. MayRecord view h entry)
+  may_finish-placed is outcome parent cost_is counted class =
       let hand : Hand = hangs.steers.hand in
-      let few = class_of-le (own_count view entry) (turn_of view.crew + 1) (own_count-turns view hand entry lawful hangs.steers.held worker) in
+      let few = class_of-le (own_count view entry) (sees view Count) (counted entry) in
       let placed : MayBePlaced view hand entry =
       record {
         nearest_is = is ∙ sym hangs.steers.nearest_is;
         parent_is = parent ∙ sym hangs.parent_is;
         cost_is = cost_is ∙ sym hangs.cost_is;
         clear = subst (λ n. Clear (setup_in view.run).space (point_of (tree_seen view).points n) hand.point) (sym is) hangs.clear;
-        low = omega (arith, few, class.low);
-        high = class.high;
+        low = omega (arith, few, class);
+        high = omega (arith, class);
         chosen = λ i near. absurd (no_neighbour i near);
         rewired = λ i near. absurd (no_neighbour i near);
       } in

@@ -1,11 +1,10 @@
 -- Passes with a mark in hand, as the tests follow them.
-use Rattle.std.specs.Prelude.{◌≡◌, ◌≤◌, ℕ, suc, true, false, Some}
+use Rattle.std.specs.Prelude.{◌≡◌, ℕ, suc, true, false, Some}
 use Rattle.plan_model.specs.Spaces.Clearance.{Clear}
 use Rattle.plan_model.specs.Runs.ClosedLaw.{mark_at}
 use Rattle.plan_model.specs.Trees.LeastPairs.{IsNotAbove}
 use Rattle.plan_model.specs.Trees.Nearness.{distance_to}
 use Rattle.plan_model.specs.Trees.PointsByNumber.{point_of}
-use Rattle.plan_model.specs.Geometry.Radius.{class_of}
 use Rattle.plan_model.specs.declared.geometry.Point.{Point}
 use Rattle.plan_words.specs.States.{BelongsTo, PassState, SharedState}
 use Rattle.kd_shared.specs.declared.placing.Placing.{Placing}
@@ -57,8 +56,3 @@ pub record SeesHandPoint (view : View) (j : ℕ) : Type 0 where
 abbrev pub HoldsPlaced : SharedState → ℕ → Placing → PassState → Type 0
 HoldsPlaced shared k Placed pass = HoldsMark shared k Counted pass
 HoldsPlaced shared k (Same j) pass = HoldsMark shared k Treed pass × SeesHandPoint pass.view j
-
--- the class is that of a number of nodes between these two
-pub record IsClassBetween (least most class : ℕ) : Type 0 where
-  pub low : class_of least ≤ class
-  pub high : class ≤ class_of most

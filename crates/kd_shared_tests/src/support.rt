@@ -2,7 +2,7 @@
 //! Trees and passes end by calls of `drop`: the proof of a call is shared, and that of the end of a scope is each function's own.
 
 ghost use Rattle.std.specs.Prelude.{◌≡◌, ◌+◌, ◌<◌, ◌≤◌, All, IfNone, IfOk, IfSome, IsTrue, Ok, Some, length};
-ghost use Rattle.kd_shared_tests.specs.HeldMarks.{HangsBelowNearest, HoldsMark, HoldsPlaced, IsClassBetween, SeesHandPoint, SteersFrom};
+ghost use Rattle.kd_shared_tests.specs.HeldMarks.{HangsBelowNearest, HoldsMark, HoldsPlaced, SeesHandPoint, SteersFrom};
 ghost use Rattle.plan_model.specs.Spaces.Clearance.{ClearAt};
 ghost use Rattle.plan_model.specs.Spaces.ConfigurationSpace.{space_of};
 ghost use Rattle.plan_model.specs.Spaces.EmptyRooms.{IsInRoom};
@@ -156,22 +156,8 @@ pub(crate) fn place_mark(
     place(shared, pass, mark)
 }
 
-/// The class of so many nodes, if it is not below that of the nodes that a worker may have placed before this turn, and the start.
-fn class_seen(turn: u32, nodes: u32) -> Option<u32>
-    ensures { IfSome result (λ class. IsClassBetween (turn + 1) nodes class) }
-{
-    if nodes == 0 {
-        return None;
-    }
-    let seen = class(u64::from(nodes));
-    if seen < class(u64::from(turn) + 1) {
-        return None;
-    }
-    Some(seen)
-}
-
 /// Records that the mark in hand was placed below its nearest node, in a scene whose radius is 0. Returns `None` if there is
-/// another radius, or if fewer nodes are counted than the worker has handled marks.
+/// another radius, or no node is counted.
 fn finish_placed(shared: &Shared, pass: &mut Pass, mark: u32, closest: u32, cost: u64) -> Option<()>
     requires holds { HoldsMark shared.now mark Counted pass.old }
     requires hangs { HangsBelowNearest closest cost pass.old.view }
@@ -181,15 +167,17 @@ fn finish_placed(shared: &Shared, pass: &mut Pass, mark: u32, closest: u32, cost
         return None;
     }
     let nodes = shared.number(pass);
-    let turn = pass.turn();
+    if nodes == 0 {
+        return None;
+    }
     let entry = Record {
         worker: pass.worker(),
-        turn,
+        turn: pass.turn(),
         nearest: closest,
         outcome: Outcome::Placed,
         first_parent: closest,
         first_cost: cost,
-        class: class_seen(turn, nodes)?,
+        class: class(u64::from(nodes)),
     };
     shared.finish(pass, entry);
     Some(())

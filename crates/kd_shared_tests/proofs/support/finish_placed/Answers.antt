@@ -1,9 +1,9 @@
-use Rattle.std.proofs.Common.{◌≡◌, ◌+◌, ◌∙◌, ap, arith, refl, sym, true}
+use Rattle.std.proofs.Common.{◌≡◌, ◌∙◌, ap, arith, refl, sym, true}
 use Rattle.plan_model.specs.Geometry.Radius.{class_of}
 use Rattle.step_core.specs.Stages.{has_link}
 use Rattle.step_core.specs.WordNames.Word.{RecordOf}
 use Rattle.kd_shared_tests.proofs.SteeredMarks.{HangsBelowNearest-kept}
-use Rattle.kd_shared_tests.proofs.SteeredRecords.{may_finish-placed}
+use Rattle.kd_shared_tests.proofs.SteeredRecords.{may_finish-placed, own_count-same}
 use Rattle.kd_shared_tests.proofs.support.finish_placed.Goals as goal
 
 pub finish-requires-clause-may : goal.finish-requires-clause-may
@@ -20,8 +20,6 @@ finish-requires-clause-may c =
     let linked : has_link hangs.steers.hand.stage ≡ true = ap (λ h. has_link h.stage) (sym same) ∙ ap has_link holds.stage_is in
     let run = ap (λ p. p.view.run) step.view ∙ holds.belongs.run in
     let gamma : view.run.gamma ≡ 0 = omega (arith, ap (λ r. r.gamma) run, ap (λ t. t.scene.gamma) c.task.ensures, c.if-task-ne0.false) in
-    let class = c.in_ok-class_seen.ensures in
-    may_finish-placed view c.args.closest c.args.cost _ step.goes_on.lawful hangs linked gamma refl refl refl refl c.worker.ensures.number (record {
-      low = omega (arith, class.low, ap (λ t. class_of (t + 1)) c.turn-turn.ensures.number);
-      high = omega (arith, class.high, ap class_of step.seen.here);
-    })
+    may_finish-placed view c.args.closest c.args.cost _ step.goes_on.lawful hangs linked gamma refl refl refl refl
+    (λ e. omega (arith, step.own e, step.seen.here, own_count-same c.args.pass.now.view view e step.goes_on (λ k. step.seen.others (RecordOf k) (λ is. cc))))
+    (c.class.ensures.value ∙ ap class_of (c.from.ensures ∙ sym step.seen.here))
