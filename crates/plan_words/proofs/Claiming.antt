@@ -184,3 +184,7 @@ kept_exchanged old mid after g c limit x other is kept =
 pub IfNone-any : {A : Type 0} → (o : Option A) (claim : Type 0) → claim → IfNone o claim
 IfNone-any None claim holds = holds
 IfNone-any (Some a) claim holds = tt
+
+pub IfNone-then : {A : Type 0} → (o : Option A) {P Q : Type 0} → IfNone o P → (P → Q) → IfNone o Q
+IfNone-then None holds follows = follows holds
+IfNone-then (Some a) holds follows = tt

@@ -20,6 +20,9 @@ pub mod NearestParents
 pub mod WholeTrees
 pub mod Ending
 pub mod MarkedNodes
-pub mod ChainWalks
 pub mod SeenChildren
 pub mod SeenLists
+mod FirstPairs
+mod SeatSteps
+mod ChildCosts
+mod LoweredChains

@@ -182,3 +182,7 @@ AreMarked-none marked none = record {
     count_none [] none = refl
     count_none (true ∷ marked) none = (let off = none 0 in cc)
     count_none (false ∷ marked) none = count_none marked (λ n. none (suc n))
+
+-- so there are never more on the list than there may be
+pub few-marked : (nodes : List ℕ) (marked : List Bool) → AreMarked nodes marked → length nodes ≤ length marked
+few-marked nodes marked are = omega (arith, are.count, count-within marked)

@@ -4,7 +4,7 @@ use Rattle.std.specs.Prelude.{cond, nat_lt, slice_index}
 use Rattle.std.proofs.lemmas.Bool.{cases_lt, le-ltb, ltb-false}
 use Rattle.plan_words.specs.Parents.{HasParentsBelow}
 use Rattle.plan_words.specs.SeenChains.{sibling_chain_in, chain_of}
-use Rattle.plan_words.specs.States.{HasPairs}
+use Rattle.plan_words.specs.States.{HasFirstPairs, HasPairs}
 use Rattle.plan_words.specs.Waiting.{HasSeenParent}
 use Rattle.step_core.specs.LaterViews.{IsLawfulView}
 use Rattle.step_core.specs.Views.{run_sizes, sees}
@@ -32,12 +32,16 @@ low-written : (pairs : List ℕ) (n : ℕ) → 2 ^ 63 ≤ slice_index pairs n �
 low-written pairs n written = ⊎_elim
     (λ (low : n < length pairs). low) (λ (past : length pairs ≤ n). absurd (omega (arith, written, index-past pairs n past))) (cases_lt n (length pairs))
 
+-- those of all nodes are those of the first
+pub HasFirstPairs-all : (view : View) (pairs : List ℕ) → HasPairs view pairs → HasFirstPairs view pairs
+HasFirstPairs-all view pairs has = record { within = omega (arith, has.for_each); seen = has.seen }
+
 -- the list has the pair of each node that is written in either
-pub pair-seen : (view : View) (pairs : List ℕ) (n : ℕ) → HasPairs view pairs → 2 ^ 63 ≤ sees view (TreeOf n) → slice_index pairs n ≡ sees view (TreeOf n)
+pub pair-seen : (view : View) (pairs : List ℕ) (n : ℕ) → HasFirstPairs view pairs → 2 ^ 63 ≤ sees view (TreeOf n) → slice_index pairs n ≡ sees view (TreeOf n)
 pair-seen view pairs n has written = has.seen n (within-written view n written)
 
-pub pair-kept : (view : View) (pairs : List ℕ) (n : ℕ) → HasPairs view pairs → 2 ^ 63 ≤ slice_index pairs n → slice_index pairs n ≡ sees view (TreeOf n)
-pair-kept view pairs n has written = has.seen n (omega (arith, low-written pairs n written, has.for_each))
+pub pair-kept : (view : View) (pairs : List ℕ) (n : ℕ) → HasFirstPairs view pairs → 2 ^ 63 ≤ slice_index pairs n → slice_index pairs n ≡ sees view (TreeOf n)
+pair-kept view pairs n has written = has.seen n (omega (arith, low-written pairs n written, has.within))
 
 -- ---- chains
 
@@ -56,13 +60,13 @@ written-chain zero word m some written e = absurd (omega (arith, some))
 written-chain (suc n) word m some written e =
     ap (λ b. cond b 0 (parent_in word + 1)) (le-ltb word (2 ^ 63) written) ∙ (omega (arith, e))
 
-pub HasSeenParent-chain : (view : View) (pairs : List ℕ) (m n : ℕ) → HasPairs view pairs → sibling_chain_in pairs n ≡ suc m → HasSeenParent view m n
+pub HasSeenParent-chain : (view : View) (pairs : List ℕ) (m n : ℕ) → HasFirstPairs view pairs → sibling_chain_in pairs n ≡ suc m → HasSeenParent view m n
 HasSeenParent-chain view pairs m n has e =
     let (some, written, parent) = chain-written n (slice_index pairs n) m e in
     let same = pair-kept view pairs n has written in
     record { child = some; written = subst (λ w. 2 ^ 63 ≤ w) same written; parent = ap parent_in (sym same) ∙ parent }
 
-pub chain-HasSeenParent : (view : View) (pairs : List ℕ) (m n : ℕ) → HasPairs view pairs → HasSeenParent view m n → sibling_chain_in pairs n ≡ suc m
+pub chain-HasSeenParent : (view : View) (pairs : List ℕ) (m n : ℕ) → HasFirstPairs view pairs → HasSeenParent view m n → sibling_chain_in pairs n ≡ suc m
 chain-HasSeenParent view pairs m n has seen =
     let same = sym (pair-seen view pairs n has seen.written) in
     written-chain n (slice_index pairs n) m seen.child (subst (λ w. 2 ^ 63 ≤ w) same seen.written) (ap parent_in (sym same) ∙ seen.parent)
@@ -76,5 +80,5 @@ parent-below view pairs n lawful has written = omega (arith, has.for_each, (lawf
 
 pub HasParentsBelow-seen : (view : View) (pairs : List ℕ) → IsLawfulView view → HasPairs view pairs → HasParentsBelow (length pairs) pairs
 HasParentsBelow-seen view pairs lawful has n written =
-    let same = pair-kept view pairs n has written in
+    let same = pair-kept view pairs n (HasFirstPairs-all view pairs has) written in
     subst (λ w. parent_in w < length pairs) (sym same) (parent-below view pairs n lawful has (subst (λ w. 2 ^ 63 ≤ w) same written))

@@ -7,3 +7,4 @@ pub mod Parents
 pub mod SeenChains
 pub mod Waiting
 pub mod SearchLists
+pub mod LoweredChildren

@@ -134,6 +134,11 @@ pub record HasPairs (view : View) (pairs : List ℕ) : Type 0 where
   pub for_each : length pairs ≡ length view.run.marks + 1
   pub seen : (n : ℕ) → n ≤ length view.run.marks → slice_index pairs n ≡ sees view (TreeOf n)
 
+-- the same of a list of the words of the first nodes: no other is seen with a parent
+pub record HasFirstPairs (view : View) (pairs : List ℕ) : Type 0 where
+  pub within : length pairs ≤ length view.run.marks + 1
+  pub seen : (n : ℕ) → n ≤ length view.run.marks → slice_index pairs n ≡ sees view (TreeOf n)
+
 -- each list of found nodes may hold as many as the run may have nodes, that of spots one more, and each node may wait
 pub record HasRoom (run : SharedRun) (for_spots for_near for_around for_waiting : ℕ) : Type 0 where
   pub spots : length run.marks + 1 < for_spots

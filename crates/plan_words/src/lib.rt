@@ -17,13 +17,15 @@
 //! [`Shared::lower`]: one word holds both, so no other pass sees the one without the other, and no cost ever rises.
 //!
 //! If one pass has taken over all others, and no mark is left, [`Shared::end`] gives the closed run.
-//! A pass remembers the tree words that it saw, with an index from each node to its children by these words, and keeps a list
-//! of nodes that wait to be looked at: [`Pass::queue_children`] and [`Pass::pop_waiting`] are no steps on the table.
+//! A pass remembers the tree words that it saw, with an index from each node to its children by these words. So
+//! [`Shared::lower_children`] brings a lowered cost to the children of its node. Those whose cost fell are kept on a list of nodes
+//! that wait for the same: [`Pass::queue_parent`] and [`Pass::pop_waiting`] are no steps on the table.
 #![tactic(auto)]
 
 pub mod claim_laws;
 mod claims;
 mod ends;
+mod lowered_children;
 mod nodes;
 mod openings;
 mod parent_steps;

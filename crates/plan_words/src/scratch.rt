@@ -210,17 +210,21 @@ impl Pass {
         self.lists.waiting.clear();
     }
 
-    /// Puts all nodes on the list of those that wait that are not there and whose parent is this node, by their tree words as the pass
-    /// saw them last: none, if it saw no child. A node's number is at most that of marks. O(k) for k children.
-    pub fn queue_children(&mut self, node: u32)
+    /// Puts a node on the list of those that wait, if it has a child by the tree words that the pass saw last and is not there. A
+    /// node's number is at most that of marks. O(1).
+    pub fn queue_parent(&mut self, node: u32)
         requires low { node ≤ length self.old.view.run.marks }
         ensures others { self.new ≡ with_lists self.old self.new.lists }
         ensures waiting { self.new.lists ≡ record self.old.lists { waiting = self.new.lists.waiting } }
-        ensures all { (n : ℕ) → HasSeenParent self.old.view node n → IsOn self.new.lists.waiting n }
+        ensures parent { (n : ℕ) → HasSeenParent self.old.view node n → IsOn self.new.lists.waiting node }
         ensures keeps { (n : ℕ) → IsOn self.old.lists.waiting n → IsOn self.new.lists.waiting n }
-        ensures only { (n : ℕ) → IsOn self.new.lists.waiting n → IsOn self.old.lists.waiting n ⊎ HasSeenParent self.old.view node n }
+        ensures only { (n : ℕ) → IsOn self.new.lists.waiting n → IsOn self.old.lists.waiting n ⊎ (n ≡ node) }
+        // there are never more on it than there may be nodes
+        ensures few { (self.new.lists.waiting ≡ self.old.lists.waiting) ⊎ (length self.new.lists.waiting ≤ length self.old.view.run.marks + 1) }
     {
-        self.pairs.queue_children(node, &mut self.lists.waiting);
+        if self.pairs.has_child(node) {
+            self.lists.waiting.push(node);
+        }
     }
 
     /// Takes the last of the nodes that wait off their list; `None` exactly if none does. O(1).

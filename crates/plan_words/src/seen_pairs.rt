@@ -1,15 +1,24 @@
 //! The parents and costs that a pass saw last, with the children of each node by them.
 
-ghost use Rattle.std.specs.Prelude.{◌≡◌, ℕ, suc, ◌<◌, ◌≤◌, ◌^◌, ◌⊎◌, length, slice_index, slice_set, IfOk, replicate};
+ghost use Rattle.std.specs.Prelude.{◌≡◌, ◌⊎◌, ℕ, suc, ◌<◌, ◌≤◌, ◌^◌, length, slice_index, slice_set, IfNone, IfOk, IfSome, IsTrue, None, replicate};
 ghost use Rattle.std.specs.Vec.{vec_capacity};
+ghost use Rattle.plan_words.specs.LoweredChildren.{CostsAtMostThrough, HasQueued, IsFoundPair, IsSeenAbove, LooksOn, LowersChildren, SeesSamePoints, SitsAt};
+ghost use Rattle.plan_words.specs.Parents.{FindsLess};
 ghost use Rattle.plan_words.specs.SeenChains.{MayReach, Reaches, chain_of, sibling_chain_in};
-ghost use Rattle.plan_words.specs.Waiting.{IsOn};
-ghost use Rattle.step_core.specs.Words.{parent_in};
+ghost use Rattle.plan_words.specs.States.{HasPairs, HasWholeShare};
+ghost use Rattle.plan_words.specs.Waiting.{HasSeenParent, IsOn};
+ghost use Rattle.step_core.specs.Views.{sees, share};
+ghost use Rattle.step_core.specs.WordNames.Word.{TreeOf};
+ghost use Rattle.step_core.specs.Words.{cost_in, parent_in};
 
+use crate::lowered_children::{Above, lower_chain};
+use crate::openings::Aim;
+use crate::shared::Shared;
 use crate::waiting::Waiting;
+use atomic_table::Seat;
 use std::alloc::{AllocError, Global};
 use std::marker::Model;
-use step_core::{ChildIndex, read_tree};
+use step_core::{ChildIndex, View, read_tree};
 
 /// The tree word of each node as a pass saw it last, 0 if it did not, with an index from each node to those that have it as their
 /// parent by these words. To a contract it is the list of the words.
@@ -105,23 +114,56 @@ impl SeenPairs {
         self.words[node as usize] = word;
     }
 
-    /// Puts all children of a node on a list of nodes that wait.
-    pub(crate) fn queue_children(&self, parent: u32, waiting: &mut Waiting)
-        requires node { parent < length self.now }
-        requires size { waiting.old.size ≡ length self.now }
-        ensures kept { waiting.new ≡ record waiting.old { nodes = waiting.new.nodes } }
-        ensures all { (n : ℕ) → sibling_chain_in self.now n ≡ suc parent → IsOn waiting.new.nodes n }
-        ensures keeps { (n : ℕ) → IsOn waiting.old.nodes n → IsOn waiting.new.nodes n }
-        ensures only { (n : ℕ) → IsOn waiting.new.nodes n → IsOn waiting.old.nodes n ⊎ (sibling_chain_in self.now n ≡ suc parent) }
+    /// Whether a node has a child.
+    pub(crate) fn has_child(&self, parent: u32) -> bool
+        requires { parent < length self.now }
+        ensures { (n : ℕ) → sibling_chain_in self.now n ≡ suc parent → IsTrue result }
     {
-        if parent as usize >= self.words.len() {
-            return;
+        (parent as usize) < self.words.len() && self.children.first_child(parent) != 0
+    }
+
+    /// Lowers the children of a node.
+    pub(crate) fn lower_children(
+        &mut self,
+        shared: &Shared,
+        seat: &mut Seat<Aim, View>,
+        waiting: &mut Waiting,
+        above: Above,
+    ) -> Option<(u32, u64)>
+        requires sits { SitsAt shared.now seat.old.table_id seat.old.me }
+        requires part { 0 < share seat.old.me.0 }
+        requires pairs { HasPairs seat.old.me.0 self.old }
+        requires above { IsSeenAbove seat.old.me.0 above }
+        requires size { waiting.old.size ≡ length self.old }
+        ensures as_many { length self.new ≡ length self.old }
+        ensures sits { SitsAt shared.now seat.new.table_id seat.new.me }
+        ensures looks { LooksOn seat.old.me.0 seat.new.me.0 }
+        ensures pairs { IfNone result (HasPairs seat.new.me.0 self.new) }
+        ensures pairs_found { IfSome result (λ found. HasPairs seat.new.me.0 (slice_set self.new found.0 found.1)) }
+        ensures size { waiting.new ≡ record waiting.old { nodes = waiting.new.nodes } }
+        ensures lowered { LowersChildren (IsFoundPair result) seat.old.me.0 seat.new.me.0 above.node }
+        ensures all { IfNone result ((n : ℕ) → HasSeenParent seat.new.me.0 above.node n → CostsAtMostThrough seat.new.me.0 above.node n) }
+        ensures found { IfSome result (λ found. HasSeenParent seat.old.me.0 above.node found.0
+            × FindsLess (sees seat.old.me.0 (TreeOf found.0)) (sees seat.new.me.0 (TreeOf found.0))) }
+        ensures parents { (n m : ℕ) → ¬ IsFoundPair result n → ¬ IsFoundPair result m
+            → cost_in (sees seat.new.me.0 (TreeOf n)) < cost_in (sees seat.old.me.0 (TreeOf n)) → HasSeenParent seat.new.me.0 n m → IsOn waiting.new.nodes n }
+        ensures keeps { (n : ℕ) → IsOn waiting.old.nodes n → IsOn waiting.new.nodes n }
+        ensures only { (n : ℕ) → IsOn waiting.new.nodes n → IsOn waiting.old.nodes n ⊎ HasSeenParent seat.old.me.0 above.node n }
+        ensures same { (waiting.new.nodes ≡ waiting.old.nodes) ⊎ HasQueued seat.old.me.0 seat.new.me.0 waiting.new.nodes waiting.old.size }
+        ensures whole { HasWholeShare seat.old.me.0 → result ≡ None }
+        ensures points { HasWholeShare seat.old.me.0 → SeesSamePoints seat.old.me.0 seat.new.me.0 }
+    {
+        if above.node as usize >= self.words.len() {
+            return None;
         }
-        let mut child = self.children.first_child(parent);
-        while child != 0 {
-            waiting.push(child);
-            child = self.children.next_sibling(child);
-        }
+        lower_chain(
+            &mut self.words,
+            &self.children,
+            shared,
+            seat,
+            waiting,
+            above,
+        )
     }
 }
 

@@ -50,6 +50,7 @@ impl Waiting {
         ensures here { IsOn self.new.nodes node }
         ensures keeps { (n : ℕ) → IsOn self.old.nodes n → IsOn self.new.nodes n }
         ensures only { (n : ℕ) → IsOn self.new.nodes n → IsOn self.old.nodes n ⊎ (n ≡ node) }
+        ensures few { length self.new.nodes ≤ self.old.size }
     {
         if !self.marked[node as usize] {
             self.nodes.push_reserved(node);

@@ -9,3 +9,4 @@ pub mod WholeShares
 pub mod TightCosts
 pub mod MirroredTrees
 pub mod RewiredTrees
+pub mod LoweredBelow

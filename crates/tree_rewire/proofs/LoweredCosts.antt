@@ -1,12 +1,11 @@
 -- When a cost may be lowered, and when it need not.
-use Rattle.std.proofs.Common.{◌≡◌, ◌≢◌, ℕ, ◌+◌, ◌^◌, ◌<◌, ◌≤◌, is_some, arith, refl, sym, ap, ◌∙◌, subst}
+use Rattle.std.proofs.Common.{◌≡◌, ℕ, ◌+◌, ◌<◌, ◌≤◌, is_some, arith, refl, sym, ap, ◌∙◌, subst}
 use Rattle.plan_model.specs.declared.geometry.Point.{Point}
 use Rattle.plan_model.specs.Geometry.Cost.{cost_of}
 use Rattle.plan_model.specs.Runs.OrderLaw.{IsAllowedEdge}
 use Rattle.plan_model.specs.Trees.PointsByNumber.{IsPresent, point_of}
 use Rattle.plan_model.proofs.NewNodes.{point_of-stands}
 use Rattle.plan_words.specs.Parents.{IsPairIn}
-use Rattle.plan_words.specs.States.{GoesOn}
 use Rattle.step_core.specs.LaterViews.{IsLawfulView}
 use Rattle.step_core.specs.ViewSteps.{lowered}
 use Rattle.step_core.specs.ViewTrees.{MayLower, SeesPoint}
@@ -15,11 +14,10 @@ use Rattle.step_core.specs.WordNames.{WritesWord}
 use Rattle.step_core.specs.WordNames.Word.{TreeOf}
 use Rattle.step_core.specs.Words.{cost_in, parent_in, tree_word}
 use Rattle.step_core.specs.declared.views.View.{View}
-use Rattle.step_core.proofs.PackedWords.{cost_in-tree_word, parent_in-tree_word}
 use Rattle.step_core.proofs.SeenByViews.{WritesWord-saw}
 use Rattle.tree_rewire.specs.SeenCosts.{SeesPair, cost_seen, seen_cost_through, parent_seen}
 use Rattle.tree_rewire.specs.Spreads.{IsWithinSeenParent, IsWithinParent}
-use Rattle.tree_rewire.proofs.SeenCosts.{pair_low, stands_later}
+use Rattle.tree_rewire.proofs.SeenCosts.{pair_low}
 
 -- a node may be lowered to less than it was seen to cost, through a seen parent over an allowed edge
 pub MayLower-less : (view : View) (n parent cost : ℕ) (at from : Point) → SeesPoint view n at → SeesPair view n → SeesPoint view parent from
@@ -88,30 +86,3 @@ pub WritesWord-lowered : (before after : View) (n parent cost : ℕ) → IsLawfu
 WritesWord-lowered before after n parent cost lawful written is =
     subst (λ v. WritesWord (TreeOf n) (tree_word parent cost) (sees before) (sees v)) (sym is)
     (WritesWord-saw before.run before lawful.of_run (TreeOf n) (pair_low before n lawful written) (sees before (TreeOf n)) (tree_word parent cost))
-
--- It is settled then, as it costs what it does through its parent.
-module _ (before after : View) (n parent cost : ℕ) (lawful : IsLawfulView before) (may : MayLower before n parent cost)
-    (is : after ≡ lowered before n parent cost) (goes_on : GoesOn before after) where
-  writes : WritesWord (TreeOf n) (tree_word parent cost) (sees before) (sees after)
-  writes = WritesWord-lowered before after n parent cost lawful may.seen.written is
-
-  -- the parent is another node, since it costs less
-  apart : parent ≢ n
-  apart same = omega (arith, may.cheaper, may.seen.cost_is, may.below.cost_is, may.below.seen.cost_is, ap (cost_seen before) same)
-
-  parent_same : sees after (TreeOf parent) ≡ sees before (TreeOf parent)
-  parent_same = writes.others (TreeOf parent) (λ e. apart (let own : parent ≡ n = cc in own))
-
-  pub IsWithinSeenParent-lowered : IsWithinSeenParent after n
-  IsWithinSeenParent-lowered =
-      let small : parent < 2 ^ 18 = omega (arith, pair_low before parent lawful may.below.seen.written, lawful.run.marks) in
-      let low : cost < 2 ^ 44 = omega (arith, may.cheaper, may.seen.cost_is, (lawful.pairs n may.seen.written).low) in
-      IsWithinSeenParent-parent after after n parent cost (cost_seen after parent) (parent_seen after parent) may.at may.below.from goes_on.lawful (λ m. refl)
-      (record {
-        written = omega (arith, writes.here);
-        parent = sym (ap parent_in writes.here ∙ parent_in-tree_word parent cost small);
-        cost = sym (ap cost_in writes.here ∙ cost_in-tree_word parent cost small low);
-      })
-      (record { written = omega (arith, parent_same, may.below.seen.written); parent = refl; cost = refl })
-      (stands_later before after goes_on n may.at may.seen.stands) (stands_later before after goes_on parent may.below.from may.below.seen.stands)
-      (omega (arith, may.below.cost_is, may.below.seen.cost_is, ap cost_in parent_same))

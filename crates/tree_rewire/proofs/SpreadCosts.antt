@@ -1,11 +1,12 @@
 -- Costs that fall come to the nodes below.
-use Rattle.std.proofs.Common.{◌≡◌, ◌≢◌, ◌⊎◌, ℕ, zero, suc, ◌+◌, ◌<◌, ◌≤◌, ◌^◌, List, [], Some, is_some, arith, inl, inr, refl, sym, ap, ◌∙◌, subst}
+use Rattle.std.proofs.Common.{◌≡◌, ◌≢◌, ◌⊎◌, ℕ, zero, suc, ◌+◌, ◌<◌, ◌≤◌, ◌^◌, List, [], length, is_some, arith, inl, inr, refl, sym, ap, ◌∙◌, subst}
 use Rattle.std.proofs.lemmas.Bool.{cases_eq}
 use Rattle.plan_model.specs.Geometry.Cost.{cost_of}
 use Rattle.plan_model.specs.Trees.PointsByNumber.{IsPresent, point_of}
-use Rattle.plan_words.specs.States.{GoesOn, PassState}
+use Rattle.plan_words.specs.LoweredChildren.{LowersChildren}
+use Rattle.plan_words.specs.States.{GoesOn}
 use Rattle.plan_words.specs.Waiting.{HasSeenParent, IsOn}
-use Rattle.plan_words.proofs.GoingOn.{GoesOn-trans}
+use Rattle.plan_words.proofs.GoingOn.{GoesOn-refl, GoesOn-trans}
 use Rattle.step_core.specs.LaterViews.{IsLawfulView}
 use Rattle.step_core.specs.Views.{sees, tree_seen}
 use Rattle.step_core.specs.WordNames.Word.{TreeOf}
@@ -13,9 +14,9 @@ use Rattle.step_core.specs.Words.{cost_in, parent_in}
 use Rattle.step_core.specs.declared.views.View.{View}
 use Rattle.step_core.proofs.SeenViews.{IsPresent-later}
 use Rattle.tree_rewire.specs.SeenCosts.{SeesPair, cost_seen, seen_cost_through, parent_seen}
-use Rattle.tree_rewire.specs.Spreads.{HasFallen, HasSettledAll, HasSettledChanges, HasSpread, IsWithinSeenParent, IsSource, IsWithinParent, KeepsPairs, OnlyAt}
+use Rattle.tree_rewire.specs.Spreads.{HasSettledChanges, HasSpread, IsLooked, IsSource, IsSpreading, IsWithinParent, IsWithinSeenParent, NoneRises}
 use Rattle.tree_rewire.proofs.ChosenParents.{points_later}
-use Rattle.tree_rewire.proofs.SeenCosts.{SeesPair-later}
+use Rattle.tree_rewire.proofs.SeenCosts.{SeesPair-later, pair_low}
 
 -- ---- the start
 
@@ -84,243 +85,223 @@ abbrev pub weigh : ℕ → View → ℕ
 weigh zero view = 0
 weigh (suc n) view = cost_seen view n + weigh n view
 
-weigh-same : (n : ℕ) (before after : View) → ((m : ℕ) → m < n → sees after (TreeOf m) ≡ sees before (TreeOf m)) → weigh n after ≡ weigh n before
-weigh-same zero before after same = refl
-weigh-same (suc n) before after same =
-    omega (arith, ap cost_in (same n (omega arith)), weigh-same n before after (λ m low. same m (omega (arith, low))))
+-- it falls with the cost of one, while no other rises
+pub weigh-lower : (n : ℕ) (before after : View) → NoneRises before after → weigh n after ≤ weigh n before
+weigh-lower zero before after falls = omega arith
+weigh-lower (suc n) before after falls = omega (arith, falls n, weigh-lower n before after falls)
 
--- it falls with the cost of one
-pub weigh-falls : (n i : ℕ) (before after : View) → i < n → OnlyAt i before after → cost_seen after i < cost_seen before i → weigh n after < weigh n before
-weigh-falls zero i before after low others falls = absurd (omega (arith, low))
-weigh-falls (suc n) i before after low others falls =
+pub weigh-less : (n i : ℕ) (before after : View) → i < n → NoneRises before after → cost_seen after i < cost_seen before i → weigh n after < weigh n before
+weigh-less zero i before after low falls less = absurd (omega (arith, low))
+weigh-less (suc n) i before after low falls less =
     elim (cases_eq n i) [
       | inl e ↦
           omega (
             arith,
-            weigh-same n before after (λ m below. others m (λ is. omega (arith, is, e, below))),
-            falls,
+            weigh-lower n before after falls,
+            less,
             ap (cost_seen after) e,
             ap (cost_seen before) e,
           )
-      | inr apart ↦ omega (arith, weigh-falls n i before after (omega (arith, low, apart)) others falls, ap cost_in (others n apart))
+      | inr apart ↦ omega (arith, weigh-less n i before after (omega (arith, low, apart)) falls less, falls n)
     ]
 
--- ---- one visit
-
--- A node was taken off the list of those that wait, and then settled.
-module _ (before now popped after : PassState) (n : ℕ) (view_is : popped.view ≡ now.view) (waiting_is : after.lists.waiting ≡ popped.lists.waiting)
-    (goes_on : GoesOn now.view after.view) (same : KeepsPairs before.view now.view) (settled : IsWithinSeenParent after.view n)
-    (waited : (m : ℕ) → IsOn now.lists.waiting m → IsOn before.lists.waiting m)
-    (rest : (m : ℕ) → IsOn before.lists.waiting m → IsOn now.lists.waiting m ⊎ IsWithinSeenParent now.view m)
-    (keeps : (m : ℕ) → IsOn now.lists.waiting m → IsOn popped.lists.waiting m ⊎ (Some n ≡ Some m))
-    (only : (m : ℕ) → IsOn popped.lists.waiting m → IsOn now.lists.waiting m) where
-  pub waited_still : (m : ℕ) → IsOn after.lists.waiting m → IsOn before.lists.waiting m
-  waited_still m on = waited m (only m (subst (λ ns. IsOn ns m) waiting_is on))
-
-  waits_or_is : (m : ℕ) → IsOn now.lists.waiting m → IsOn after.lists.waiting m ⊎ (n ≡ m)
-  waits_or_is m on = elim (keeps m on) [
-    | inl still ↦ inl (subst (λ ns. IsOn ns m) (sym waiting_is) still)
-    | inr is ↦ inr cc
+-- only nodes of the run have a cost that may fall
+pub fallen_low : (before after : View) (n : ℕ) → IsLawfulView before → GoesOn before after → cost_seen after n < cost_seen before n
+    → n ≤ length before.run.marks
+fallen_low before after n lawful goes_on fell = elim (goes_on.later.seen (TreeOf n)) [
+  | inl none ↦ absurd (omega (arith, fell, ap cost_in none))
+  | inr falls ↦ elim falls [
+    | inl same ↦ absurd (omega (arith, fell, ap cost_in same))
+    | inr less ↦ subst (λ r. n ≤ length r.marks) goes_on.later.run (pair_low after n goes_on.lawful less.0)
   ]
-
-  -- its cost fell
-  module _ (others : OnlyAt n popped.view after.view) where
-    others_now : OnlyAt n now.view after.view
-    others_now m apart = others m apart ∙ ap (λ v. sees v (TreeOf m)) view_is
-
-    rest_fallen : (m : ℕ) → IsWithinSeenParent now.view m → (parent_seen after.view m ≡ n) ⊎ IsWithinSeenParent after.view m
-    rest_fallen m h = elim (cases_eq m n) [
-      | inl e ↦ inr (subst (IsWithinSeenParent after.view) (sym e) settled)
-      | inr other ↦ elim (cases_eq (parent_seen after.view m) n) [
-        | inl own ↦ inl own
-        | inr apart ↦
-            let level = others_now (parent_seen now.view m) (λ e. apart (ap parent_in (others_now m other) ∙ e)) in
-            inr (IsWithinSeenParent-later now.view after.view m goes_on (others_now m other) level h)
-      ]
-    ]
-
-    pub HasFallen-settles : SeesPair before.view n → cost_seen after.view n < cost_seen popped.view n → HasFallen before after n
-    HasFallen-settles pair fell = record {
-      pair = pair;
-      fell = omega (arith, fell, ap (λ v. cost_seen v n) view_is, ap cost_in (same n));
-      others = λ m apart. others_now m apart ∙ same m;
-      settled = settled;
-      waited = waited_still;
-      rest = λ m on. elim (rest m on) [
-        | inl waits ↦ elim (waits_or_is m waits) [
-          | inl still ↦ inl still
-          | inr is ↦ inr (inr (subst (IsWithinSeenParent after.view) is settled))
-        ]
-        | inr h ↦ inr (rest_fallen m h)
-      ];
-    }
-
-  -- no cost fell
-  module _ (stays : KeepsPairs popped.view after.view) where
-    stays_now : KeepsPairs now.view after.view
-    stays_now m = stays m ∙ ap (λ v. sees v (TreeOf m)) view_is
-
-    pub same_still : KeepsPairs before.view after.view
-    same_still m = stays_now m ∙ same m
-
-    pub rest_still : (m : ℕ) → IsOn before.lists.waiting m → IsOn after.lists.waiting m ⊎ IsWithinSeenParent after.view m
-    rest_still m on = elim (rest m on) [
-      | inl waits ↦ elim (waits_or_is m waits) [
-        | inl still ↦ inl still
-        | inr is ↦ inr (subst (IsWithinSeenParent after.view) is settled)
-      ]
-      | inr h ↦ inr (IsWithinSeenParent-later now.view after.view m goes_on (stays_now m) (stays_now (parent_seen now.view m)) h)
-    ]
+]
 
 -- ---- a spread
-
--- A child that is seen with its parent and its cost, and is settled or waits.
-pub record IsLooked (now : View) (waiting : List ℕ) (c : ℕ) : Type 0 where
-  pub child : 0 < c
-  pub written : SeesPair now c
-  pub rest : IsWithinSeenParent now c ⊎ IsOn waiting c
-
--- Each child of a source costs no more than through its parent, or it waits. Each node that is seen with another parent or cost is settled,
--- or it waits. All that wait are seen with their costs.
-pub record IsSpreading (node : ℕ) (before now : View) (waiting : List ℕ) : Type 0 where
-  pub given : SeesPair before node
-  pub loose : (c : ℕ) → 0 < c → SeesPair before c → IsSource node before now (parent_seen now c) → IsWithinParent now c ⊎ IsOn waiting c
-  pub changed : (c : ℕ) → sees now (TreeOf c) ≢ sees before (TreeOf c) → IsLooked now waiting c
-  pub pairs : (n : ℕ) → IsOn waiting n → SeesPair now n
 
 pub IsOn-none : (n : ℕ) → ¬ IsOn [] n
 IsOn-none n on = omega (arith, on.1)
 
--- at first the children of the node wait
-pub IsSpreading-begins : (node : ℕ) (view : View) (waiting : List ℕ) → SeesPair view node
-    → ((n : ℕ) → HasSeenParent view node n → IsOn waiting n) → ((n : ℕ) → IsOn waiting n → IsOn [] n ⊎ HasSeenParent view node n)
-    → IsSpreading node view view waiting
-IsSpreading-begins node view waiting given all only = record {
+-- at first the node waits, if it has a child
+pub IsSpreading-begins : (node : ℕ) (view : View) (waiting : List ℕ) → IsLawfulView view → SeesPair view node
+    → ((c : ℕ) → HasSeenParent view node c → IsOn waiting node) → ((n : ℕ) → IsOn waiting n → IsOn [] n ⊎ (n ≡ node))
+    → IsSpreading node view view (IsOn waiting)
+IsSpreading-begins node view waiting lawful given parent only = record {
+  goes_on = GoesOn-refl view lawful;
   given = given;
   loose = λ c child pair source. elim source [
-    | inl e ↦ inr (all c (record { child = child; written = pair; parent = e }))
+    | inl e ↦ inr (subst (IsOn waiting) (sym e) (parent c (record { child = child; written = pair; parent = e })))
     | inr fell ↦ absurd (omega (arith, fell))
   ];
   changed = λ c changed. absurd (changed refl);
   pairs = λ n on. elim (only n on) [
     | inl none ↦ absurd (IsOn-none n none)
-    | inr own ↦ own.written
+    | inr e ↦ subst (SeesPair view) (sym e) given
   ];
 }
 
--- the cost of node n falls, and then its children wait too
-pub IsSpreading-falls : (node n : ℕ) (before : View) (now mid : PassState) (waiting : List ℕ) → GoesOn before now.view → GoesOn now.view mid.view
-    → HasFallen now mid n → ((c : ℕ) → HasSeenParent mid.view n c → IsOn waiting c) → ((c : ℕ) → IsOn mid.lists.waiting c → IsOn waiting c)
-    → ((c : ℕ) → IsOn waiting c → IsOn mid.lists.waiting c ⊎ HasSeenParent mid.view n c) → IsSpreading node before now.view now.lists.waiting
-    → IsSpreading node before mid.view waiting
-IsSpreading-falls node n before now mid waiting was goes_on fallen all keeps only h = record {
+-- if others wait in their place, it goes on
+pub IsSpreading-waits : (node : ℕ) (before now : View) (waits more : ℕ → Type 0) → ((n : ℕ) → waits n → more n) → ((n : ℕ) → more n → SeesPair now n)
+    → IsSpreading node before now waits → IsSpreading node before now more
+IsSpreading-waits node before now waits more into pairs h = record {
+  goes_on = h.goes_on;
   given = h.given;
-  loose = λ c child pair source. elim (cases_eq (parent_seen mid.view c) n) [
-    | inl own ↦ inr (all c (record { child = child; written = SeesPair-later before mid.view whole c pair; parent = own }))
-    | inr apart ↦ elim (cases_eq c n) [
-      | inl e ↦ inl (subst (IsWithinSeenParent mid.view) (sym e) fallen.settled
-          (source_seen node before mid.view (parent_seen mid.view c) whole h.given source))
-      | inr other ↦ stays c child pair source apart other
-    ]
+  loose = λ c child pair source. elim (h.loose c child pair source) [
+    | inl within ↦ inl within
+    | inr on ↦ inr (into (parent_seen now c) on)
   ];
-  changed = λ c changed. elim (cases_eq c n) [
-    | inl e ↦ subst (IsLooked mid.view waiting) (sym e)
-        (record { child = lowest; written = SeesPair-later now.view mid.view goes_on n fallen.pair; rest = inl fallen.settled })
-    | inr other ↦ looked c other (h.changed c (λ e. changed (fallen.others c other ∙ e)))
-  ];
-  pairs = λ c on. elim (only c on) [
-    | inl waited ↦ SeesPair-later now.view mid.view goes_on c (h.pairs c (fallen.waited c waited))
-    | inr own ↦ own.written
-  ];
-}
-  where
-    whole : GoesOn before mid.view
-    whole = GoesOn-trans before now.view mid.view was goes_on
-
-    -- the start costs nothing, so it is another that fell
-    lowest : 0 < n
-    lowest = elim (cases_eq n 0) [
-      | inl e ↦ absurd (omega (arith, fallen.fell, ((goes_on.was_lawful.pairs n fallen.pair).start e).1))
-      | inr other ↦ omega (arith, other)
-    ]
-
-    -- a child of node n waits, and any other was looked at before
-    looked : (c : ℕ) → c ≢ n → IsLooked now.view now.lists.waiting c → IsLooked mid.view waiting c
-    looked c other was =
-        let same = fallen.others c other in
-        let written = SeesPair-later now.view mid.view goes_on c was.written in
-        elim (cases_eq (parent_seen mid.view c) n) [
-          | inl own ↦ record { child = was.child; written = written; rest = inr (all c (record { child = was.child; written = written; parent = own })) }
-          | inr apart ↦ record {
-            child = was.child;
-            written = written;
-            rest = elim was.rest [
-              | inl settled ↦ inl (IsWithinSeenParent-later now.view mid.view c goes_on same
-                  (fallen.others (parent_seen now.view c) (λ e. apart (ap parent_in same ∙ e))) settled)
-              | inr on ↦ elim (fallen.rest c on) [
-                | inl still ↦ inr (keeps c still)
-                | inr others ↦ elim others [
-                  | inl own ↦ absurd (apart own)
-                  | inr settled ↦ inl settled
-                ]
-              ]
+  changed = λ c changed.
+      let was = h.changed c changed in
+      record {
+        child = was.child;
+        written = was.written;
+        rest =
+            elim was.rest [
+              | inl settled ↦ inl settled
+              | inr on ↦ inr (into (parent_seen now c) on)
             ];
-          }
-        ]
+      };
+  pairs = pairs;
+}
 
-    stays : (c : ℕ) → 0 < c → SeesPair before c → IsSource node before mid.view (parent_seen mid.view c) → parent_seen mid.view c ≢ n → c ≢ n
-        → IsWithinParent mid.view c ⊎ IsOn waiting c
-    stays c child pair source apart other =
-        let same = fallen.others c other in
-        let up : parent_seen mid.view c ≡ parent_seen now.view c = ap parent_in same in
-        let level = fallen.others (parent_seen now.view c) (λ e. apart (up ∙ e)) in
-        let earlier : IsSource node before now.view (parent_seen now.view c) =
-        elim (subst (IsSource node before mid.view) up source) [
-          | inl e ↦ inl e
-          | inr fell ↦ inr (omega (arith, fell, ap cost_in level))
-        ] in
-        elim (h.loose c child pair earlier) [
-          | inl within ↦ inl (IsWithinParent-later now.view mid.view c goes_on same level within)
-          | inr on ↦ elim (fallen.rest c on) [
-            | inl still ↦ inr (keeps c still)
-            | inr others ↦ elim others [
-              | inl own ↦ absurd (apart own)
-              | inr settled ↦ inl (settled (source_seen node before mid.view (parent_seen mid.view c) whole h.given source))
-            ]
+-- The children of node m are lowered: those that are seen anew cost at most what they cost through it, but for some, which are settled then.
+module _ (node m : ℕ) (before now mid after : View) (waits more : ℕ → Type 0) (but : ℕ → Type 0) (decide : (n : ℕ) → but n ⊎ ¬ but n)
+    (h : IsSpreading node before now (λ p. waits p ⊎ (p ≡ m))) (to_mid : GoesOn now mid) (goes_on : GoesOn mid after)
+    (lowered : LowersChildren but now mid m) (others : (n : ℕ) → ¬ but n → sees after (TreeOf n) ≡ sees mid (TreeOf n))
+    (settled : (n : ℕ) → but n → (0 < n) × SeesPair after n × IsWithinSeenParent after n)
+    (parents : (n g : ℕ) → ¬ but n → ¬ but g → cost_seen mid n < cost_seen now n → HasSeenParent mid n g → more n)
+    (queued : (n g : ℕ) → but n → HasSeenParent after n g → more n) (keeps : (n : ℕ) → waits n → more n)
+    (pairs : (n : ℕ) → more n → SeesPair after n)
+    (own : (n : ℕ) → ¬ but n → HasSeenParent after m n → IsWithinSeenParent after n ⊎ more m) where
+  goes : GoesOn now after
+  goes = GoesOn-trans now mid after to_mid goes_on
+
+  whole : GoesOn before after
+  whole = GoesOn-trans before now after h.goes_on goes
+
+  -- a node that is seen as it was then, and hangs below another, or is a child of node m
+  unmoved : (c : ℕ) → ¬ but c → (sees after (TreeOf c) ≡ sees now (TreeOf c)) ⊎ HasSeenParent after m c
+  unmoved c off = elim (cases_eq (sees mid (TreeOf c)) (sees now (TreeOf c))) [
+    | inl same ↦ inl (others c off ∙ same)
+    | inr changed ↦
+        let is = (lowered c off changed).is in
+        inr (record {
+          child = is.child;
+          written = omega (arith, others c off, is.written);
+          parent = ap parent_in (others c off) ∙ is.parent;
+        })
+  ]
+
+  -- a child whose parent is seen as it was, or waits
+  parent_waits : (c : ℕ) → ¬ but c → HasSeenParent after (parent_seen after c) c
+      → (sees after (TreeOf (parent_seen after c)) ≡ sees now (TreeOf (parent_seen after c))) ⊎ more (parent_seen after c)
+  parent_waits c off child =
+      let parent : ℕ = parent_seen after c in
+      elim (decide parent) [
+        | inl is ↦ inr (queued parent c is child)
+        | inr other ↦ elim (cases_eq (sees mid (TreeOf parent)) (sees now (TreeOf parent))) [
+          | inl same ↦ inl (others parent other ∙ same)
+          | inr changed ↦
+              inr (parents parent c other off (lowered parent other changed).less
+              (record {
+                child = child.child;
+                written = omega (arith, others c off, child.written);
+                parent = ap parent_in (sym (others c off)) ∙ child.parent;
+              }))
+        ]
+      ]
+
+  -- a child that is seen as it was, and that was settled or whose parent waited
+  rest_of : (c : ℕ) → ¬ but c → HasSeenParent after (parent_seen after c) c → sees after (TreeOf c) ≡ sees now (TreeOf c)
+      → (sees after (TreeOf (parent_seen after c)) ≡ sees now (TreeOf (parent_seen after c))
+      → IsWithinSeenParent now c ⊎ (waits (parent_seen now c) ⊎ (parent_seen now c ≡ m)))
+      → IsWithinSeenParent after c ⊎ more (parent_seen after c)
+  rest_of c off child same was =
+      let up : parent_seen after c ≡ parent_seen now c = ap parent_in same in
+      elim (parent_waits c off child) [
+        | inr on ↦ inr on
+        | inl level ↦ elim (was level) [
+          | inl within ↦
+              inl (IsWithinSeenParent-later now after c goes same (subst (λ p. sees after (TreeOf p) ≡ sees now (TreeOf p)) up level) within)
+          | inr (inl on) ↦ inr (subst more (sym up) (keeps (parent_seen now c) on))
+          | inr (inr e) ↦ elim (own c off (subst (λ p. HasSeenParent after p c) (up ∙ e) child)) [
+            | inl within ↦ inl within
+            | inr on ↦ inr (subst more (sym (up ∙ e)) on)
           ]
         ]
+      ]
+
+  -- a child of node m
+  rest_own : (c : ℕ) → ¬ but c → HasSeenParent after m c → IsWithinSeenParent after c ⊎ more (parent_seen after c)
+  rest_own c off child = elim (own c off child) [
+    | inl within ↦ inl within
+    | inr on ↦ inr (subst more (sym child.parent) on)
+  ]
+
+  source_then : (p : ℕ) → sees after (TreeOf p) ≡ sees now (TreeOf p) → IsSource node before after p → IsSource node before now p
+  source_then p level source = elim source [
+    | inl e ↦ inl e
+    | inr fell ↦ inr (omega (arith, fell, ap cost_in level))
+  ]
+
+  loose_then : (c : ℕ) → 0 < c → SeesPair before c → IsSource node before after (parent_seen after c)
+      → IsWithinSeenParent after c ⊎ more (parent_seen after c)
+  loose_then c child pair source = elim (decide c) [
+    | inl is ↦ inl (settled c is).2
+    | inr off ↦ elim (unmoved c off) [
+      | inr below ↦ rest_own c off below
+      | inl same ↦
+          let up : parent_seen after c ≡ parent_seen now c = ap parent_in same in
+          rest_of c off (record { child = child; written = SeesPair-later before after whole c pair; parent = refl }) same
+          (λ level.
+          elim (h.loose c child pair (subst (IsSource node before now) up (source_then (parent_seen after c) level source))) [
+            | inl within ↦ inl (λ seen. within)
+            | inr on ↦ inr on
+          ])
+    ]
+  ]
+
+  changed_then : (c : ℕ) → sees after (TreeOf c) ≢ sees before (TreeOf c) → IsLooked after more c
+  changed_then c changed = elim (decide c) [
+    | inl is ↦ record { child = (settled c is).0; written = (settled c is).1; rest = inl (settled c is).2 }
+    | inr off ↦ elim (unmoved c off) [
+      | inr below ↦ record { child = below.child; written = below.written; rest = rest_own c off below }
+      | inl same ↦
+          let was = h.changed c (λ e. changed (same ∙ e)) in
+          let written : SeesPair after c = omega (arith, same, was.written) in
+          record {
+            child = was.child;
+            written = written;
+            rest = rest_of c off (record { child = was.child; written = written; parent = refl }) same (λ level. was.rest);
+          }
+    ]
+  ]
+
+  pub IsSpreading-lowers : IsSpreading node before after more
+  IsSpreading-lowers = record {
+    goes_on = whole;
+    given = h.given;
+    loose = λ c child pair source. elim (loose_then c child pair source) [
+      | inl within ↦ inl (within (source_seen node before after (parent_seen after c) whole h.given source))
+      | inr on ↦ inr on
+    ];
+    changed = changed_then;
+    pairs = pairs;
+  }
 
 -- at last none waits
-pub HasSpread-ends : (node : ℕ) (before : View) (now after : PassState) → GoesOn before now.view → GoesOn now.view after.view → HasSettledAll now after
-    → IsSpreading node before now.view now.lists.waiting → HasSpread node before after.view
-HasSpread-ends node before now after was goes_on all h c pair source =
+pub HasSpread-ends : (node : ℕ) (before now : View) → IsSpreading node before now (IsOn []) → HasSpread node before now
+HasSpread-ends node before now h c pair source =
     elim (cases_eq c 0) [
-      | inl start ↦ subst (IsWithinParent after.view) (sym start) (IsWithinParent-start after.view goes_on.lawful
-          (subst (SeesPair after.view) start (SeesPair-later before after.view (GoesOn-trans before now.view after.view was goes_on) c pair)))
-      | inr other ↦ child (omega (arith, other))
+      | inl start ↦ subst (IsWithinParent now) (sym start) (IsWithinParent-start now h.goes_on.lawful
+          (subst (SeesPair now) start (SeesPair-later before now h.goes_on c pair)))
+      | inr other ↦ elim (h.loose c (omega (arith, other)) pair source) [
+        | inl within ↦ within
+        | inr on ↦ absurd (IsOn-none (parent_seen now c) on)
+      ]
     ]
-  where
-    child : 0 < c → IsWithinParent after.view c
-    child below =
-        let same = all.same c in
-        let up : parent_seen after.view c ≡ parent_seen now.view c = ap parent_in same in
-        let level = all.same (parent_seen now.view c) in
-        let earlier : IsSource node before now.view (parent_seen now.view c) =
-        elim (subst (IsSource node before after.view) up source) [
-          | inl e ↦ inl e
-          | inr fell ↦ inr (omega (arith, fell, ap cost_in level))
-        ] in
-        elim (h.loose c below pair earlier) [
-          | inl within ↦ IsWithinParent-later now.view after.view c goes_on same level within
-          | inr on ↦ all.settled c on (source_seen node before after.view (parent_seen after.view c)
-              (GoesOn-trans before now.view after.view was goes_on) h.given source)
-        ]
 
-pub HasSettledChanges-ends : (node : ℕ) (before : View) (now after : PassState) → GoesOn now.view after.view → HasSettledAll now after
-    → IsSpreading node before now.view now.lists.waiting → HasSettledChanges before after.view
-HasSettledChanges-ends node before now after goes_on all h c changed =
-    let same = all.same c in
-    elim (h.changed c (λ e. changed (same ∙ e))).rest [
-      | inl settled ↦ IsWithinSeenParent-later now.view after.view c goes_on same (all.same (parent_seen now.view c)) settled
-      | inr on ↦ all.settled c on
-    ]
+pub HasSettledChanges-ends : (node : ℕ) (before now : View) → IsSpreading node before now (IsOn []) → HasSettledChanges before now
+HasSettledChanges-ends node before now h c changed = elim (h.changed c changed).rest [
+  | inl settled ↦ settled
+  | inr on ↦ absurd (IsOn-none (parent_seen now c) on)
+]

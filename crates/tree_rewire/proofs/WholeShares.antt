@@ -1,24 +1,19 @@
--- What steps of a pass with the whole share leave of what it has seen: loads show nothing new, and a lower keeps the parent.
-use Rattle.std.proofs.Common.{◌≡◌, ℕ, ◌<◌, ◌≤◌, ◌^◌, Result, Ok, Err, length, arith, inl, inr, sym, ap, ◌∙◌, subst}
+-- What steps of a pass with the whole share leave of what it has seen: loads show nothing new, and lowered children keep their parent.
+use Rattle.std.proofs.Common.{◌≡◌, ℕ, ◌≤◌, ◌⊎◌, Result, Ok, Err, length, arith, inl, inr, sym, ap, ◌∙◌}
 use Rattle.std.specs.Prelude.{IfOk, IsOk}
 use Rattle.std.proofs.lemmas.Bool.{cases_eq}
 use Rattle.plan_words.specs.Claims.{SeesAsBefore}
+use Rattle.plan_words.specs.LoweredChildren.{IsLoweredChild, LooksOn, LowersChildren, SeesSamePoints}
 use Rattle.plan_words.specs.States.{HasWholeShare}
-use Rattle.step_core.specs.LaterViews.{IsLawfulView}
-use Rattle.step_core.specs.ViewSteps.{lowered}
-use Rattle.step_core.specs.ViewTrees.{MayLower}
 use Rattle.step_core.specs.Views.{sees}
 use Rattle.step_core.specs.WordNames.{Word, WritesWord}
-use Rattle.step_core.specs.WordNames.Word.{TreeOf}
-use Rattle.step_core.specs.Words.{cost_in, parent_in, tree_word}
+use Rattle.step_core.specs.WordNames.Word.{ChildOf, Count, Counter, FirstOf, PointOf, RecordOf, TreeOf}
+use Rattle.step_core.specs.Words.{cost_in, parent_in}
 use Rattle.step_core.specs.declared.views.SharedRun.{SharedRun}
 use Rattle.step_core.specs.declared.views.View.{View}
 use Rattle.step_core.proofs.Looks.{same_name}
-use Rattle.step_core.proofs.PackedWords.{cost_in-tree_word, parent_in-tree_word}
 use Rattle.tree_rewire.specs.SeenCosts.{NamesNothing, NamesTree, SeesAnew, SeesPair, cost_seen, parent_seen}
 use Rattle.tree_rewire.specs.Spreads.{KeepsParents}
-use Rattle.tree_rewire.proofs.LoweredCosts.{WritesWord-lowered}
-use Rattle.tree_rewire.proofs.SeenCosts.{pair_low}
 
 -- the share stays whole
 pub HasWholeShare-later : (which : Word → Type 0) (before after : View) → SeesAnew which before after → HasWholeShare before → HasWholeShare after
@@ -65,51 +60,40 @@ KeepsParents-trans before mid after one other = record {
   others = λ name off. other.others name off ∙ one.others name off;
 }
 
--- a node is lowered below the parent that it has
-pub KeepsParents-lowered : (before after : View) (n parent cost : ℕ) → IsLawfulView before → MayLower before n parent cost
-    → after ≡ lowered before n parent cost → parent ≡ parent_seen before n → KeepsParents before after
-KeepsParents-lowered before after n parent cost lawful may is own = record { parents = parents; costs = costs; written = written; others = others }
+-- the children of a node are lowered below it
+pub KeepsParents-children : (before after : View) (m : ℕ) → LooksOn before after → SeesSamePoints before after
+    → LowersChildren (λ n. ⊥) before after m → KeepsParents before after
+KeepsParents-children before after m looks points lowered = record { parents = parents; costs = costs; written = written; others = others }
   where
-    writes : WritesWord (TreeOf n) (tree_word parent cost) (sees before) (sees after)
-    writes = WritesWord-lowered before after n parent cost lawful may.seen.written is
+    lowered_at : (n : ℕ) → (sees after (TreeOf n) ≡ sees before (TreeOf n)) ⊎ IsLoweredChild before after m n
+    lowered_at n = elim (cases_eq (sees after (TreeOf n)) (sees before (TreeOf n))) [
+      | inl same ↦ inl same
+      | inr changed ↦ inr (lowered n (λ no. no) changed)
+    ]
 
-    small : parent < 2 ^ 18
-    small = omega (arith, pair_low before parent lawful may.below.seen.written, lawful.run.marks)
+    parents : (n : ℕ) → parent_seen after n ≡ parent_seen before n
+    parents n = elim (lowered_at n) [
+      | inl same ↦ ap parent_in same
+      | inr child ↦ child.is.parent ∙ sym child.was.parent
+    ]
 
-    low : cost < 2 ^ 44
-    low = omega (arith, may.cheaper, may.seen.cost_is, (lawful.pairs n may.seen.written).low)
+    costs : (n : ℕ) → cost_seen after n ≤ cost_seen before n
+    costs n = elim (lowered_at n) [
+      | inl same ↦ omega (arith, ap cost_in same)
+      | inr child ↦ omega (arith, child.less)
+    ]
 
-    elsewhere : (m : ℕ) → ¬ (m ≡ n) → sees after (TreeOf m) ≡ sees before (TreeOf m)
-    elsewhere m apart = writes.others (TreeOf m) (λ e. apart (let same : m ≡ n = cc in same))
-
-    parents : (m : ℕ) → parent_seen after m ≡ parent_seen before m
-    parents m =
-        elim (cases_eq m n) [
-          | inl e ↦
-              ap (parent_seen after) e ∙ ap parent_in writes.here ∙ parent_in-tree_word parent cost small ∙ own ∙ sym (ap (parent_seen before) e)
-          | inr apart ↦ ap parent_in (elsewhere m apart)
-        ]
-
-    costs : (m : ℕ) → cost_seen after m ≤ cost_seen before m
-    costs m =
-        elim (cases_eq m n) [
-          | inl e ↦
-              omega (
-                arith,
-                ap (cost_seen after) e ∙ ap cost_in writes.here ∙ cost_in-tree_word parent cost small low,
-                may.cheaper,
-                may.seen.cost_is,
-                ap (cost_seen before) e,
-              )
-          | inr apart ↦ omega (arith, ap cost_in (elsewhere m apart))
-        ]
-
-    written : (m : ℕ) → SeesPair after m → SeesPair before m
-    written m h =
-        elim (cases_eq m n) [
-          | inl e ↦ subst (SeesPair before) (sym e) may.seen.written
-          | inr apart ↦ omega (arith, h, elsewhere m apart)
-        ]
+    written : (n : ℕ) → SeesPair after n → SeesPair before n
+    written n pair = elim (lowered_at n) [
+      | inl same ↦ omega (arith, pair, same)
+      | inr child ↦ child.was.written
+    ]
 
     others : (name : Word) → ¬ NamesTree name → sees after name ≡ sees before name
-    others name off = writes.others name (λ e. off (subst NamesTree (sym e) tt))
+    others (TreeOf n) off = absurd (off tt)
+    others (PointOf n) off = points n
+    others Count off = looks.others Count (λ n. (λ e. cc, λ e. cc))
+    others (Counter g) off = looks.others (Counter g) (λ n. (λ e. cc, λ e. cc))
+    others (ChildOf n side) off = looks.others (ChildOf n side) (λ m. (λ e. cc, λ e. cc))
+    others (FirstOf n) off = looks.others (FirstOf n) (λ m. (λ e. cc, λ e. cc))
+    others (RecordOf k) off = looks.others (RecordOf k) (λ n. (λ e. cc, λ e. cc))

@@ -1,7 +1,8 @@
 -- What is seen of a subtree after a cost was lowered: costs fall along parents, as far as the subtree was seen.
-use Rattle.std.specs.Prelude.{◌≡◌, ◌≢◌, ◌⊎◌, ℕ, ◌<◌, ◌≤◌}
+use Rattle.std.specs.Prelude.{◌≡◌, ◌≢◌, ◌⊎◌, ℕ, ◌+◌, ◌<◌, ◌≤◌, length}
 use Rattle.plan_model.specs.Trees.PointsByNumber.{IsPresent, point_of}
-use Rattle.plan_words.specs.States.{PassState}
+use Rattle.plan_words.specs.LoweredChildren.{HasQueued}
+use Rattle.plan_words.specs.States.{GoesOn, PassState}
 use Rattle.plan_words.specs.Waiting.{IsOn}
 use Rattle.step_core.specs.Views.{sees, tree_seen}
 use Rattle.step_core.specs.WordNames.{ChangesOnly}
@@ -64,26 +65,35 @@ pub record KeepsParents (before after : View) : Type 0 where
 abbrev pub OnlyAt : ℕ → View → View → Type 0
 OnlyAt n before after = (m : ℕ) → m ≢ n → sees after (TreeOf m) ≡ sees before (TreeOf m)
 
--- no node is seen with another parent or cost
-abbrev pub KeepsPairs : View → View → Type 0
-KeepsPairs before after = (m : ℕ) → sees after (TreeOf m) ≡ sees before (TreeOf m)
+-- ---- a spread
 
--- ---- nodes that wait to be settled
+-- Node c is a child that is seen with its parent and its cost. It is settled, or its parent waits.
+pub record IsLooked (now : View) (waits : ℕ → Type 0) (c : ℕ) : Type 0 where
+  pub child : 0 < c
+  pub written : SeesPair now c
+  pub rest : IsWithinSeenParent now c ⊎ waits (parent_seen now c)
 
--- all that wait are seen with their parents and costs
-abbrev pub SeesWaiting : PassState → Type 0
-SeesWaiting pass = (n : ℕ) → IsOn pass.lists.waiting n → SeesPair pass.view n
+-- Each child of a source costs no more than through its parent, or that waits. So does each node that is seen with another parent or cost, if
+-- its parent is seen with a cost. All that wait are seen with their costs.
+pub record IsSpreading (node : ℕ) (before now : View) (waits : ℕ → Type 0) : Type 0 where
+  pub goes_on : GoesOn before now
+  pub given : SeesPair before node
+  pub loose : (c : ℕ) → 0 < c → SeesPair before c → IsSource node before now (parent_seen now c)
+      → IsWithinParent now c ⊎ waits (parent_seen now c)
+  pub changed : (c : ℕ) → sees now (TreeOf c) ≢ sees before (TreeOf c) → IsLooked now waits c
+  pub pairs : (n : ℕ) → waits n → SeesPair now n
 
--- All that waited are settled, and no cost fell.
-pub record HasSettledAll (before after : PassState) : Type 0 where
-  pub same : KeepsPairs before.view after.view
-  pub settled : (n : ℕ) → IsOn before.lists.waiting n → IsWithinSeenParent after.view n
+-- whatever spread goes on while this node and those on the list wait goes on then, while those on the list wait
+abbrev pub SpreadsFrom : ℕ → PassState → PassState → Type 0
+SpreadsFrom n before after =
+    (node : ℕ) (first : View) → IsSpreading node first before.view (λ p. IsOn before.lists.waiting p ⊎ (p ≡ n))
+    → IsSpreading node first after.view (IsOn after.lists.waiting)
 
--- The cost of node n alone fell, and it is settled. Of those that waited each waits still, or is a child of node n, or is settled.
-pub record HasFallen (before after : PassState) (n : ℕ) : Type 0 where
-  pub pair : SeesPair before.view n
-  pub fell : cost_seen after.view n < cost_seen before.view n
-  pub others : OnlyAt n before.view after.view
-  pub settled : IsWithinSeenParent after.view n
-  pub waited : (m : ℕ) → IsOn after.lists.waiting m → IsOn before.lists.waiting m
-  pub rest : (m : ℕ) → IsOn before.lists.waiting m → IsOn after.lists.waiting m ⊎ (parent_seen after.view m ≡ n) ⊎ IsWithinSeenParent after.view m
+-- no node is seen to cost more
+abbrev pub NoneRises : View → View → Type 0
+NoneRises before after = (n : ℕ) → cost_seen after n ≤ cost_seen before n
+
+-- No more nodes wait, or a cost fell, and no more wait than there may be nodes.
+abbrev pub QueuesFallen : PassState → PassState → Type 0
+QueuesFallen before after =
+    (length after.lists.waiting ≤ length before.lists.waiting) ⊎ HasQueued before.view after.view after.lists.waiting (length before.view.run.marks + 1)

@@ -1,13 +1,12 @@
 //! A lowered cost comes to the subtree of its node.
 
-ghost use Rattle.std.specs.Prelude.{◌≡◌, ◌<◌, IfNone, IfSome, IsFalse, IsTrue};
-ghost use Rattle.plan_words.specs.Claims.{SeesAsBefore};
+ghost use Rattle.std.specs.Prelude.{◌≡◌, ◌<◌, IfNone, IfSome};
 ghost use Rattle.plan_words.specs.States.{BelongsTo, HasWholeShare};
 ghost use Rattle.step_core.specs.ViewTrees.{MayLower};
 ghost use Rattle.step_core.specs.Views.{share};
-ghost use Rattle.tree_rewire.specs.SeenCosts.{NamesPoint, NamesTreeOrPoint, PassLowers, PassSees, SeesAnew, SeesPair, cost_seen, parent_seen};
-ghost use Rattle.tree_rewire.specs.Spreads.{AllTight, AllTightBut, HasFallen, HasSettledAll, HasSettledChanges, HasSpread};
-ghost use Rattle.tree_rewire.specs.Spreads.{IsWithinSeenParent, KeepsPairs, KeepsParents, OnlyAt, SeesWaiting};
+ghost use Rattle.tree_rewire.specs.SeenCosts.{NamesPoint, NamesTreeOrPoint, PassLowers, PassSees, SeesAnew, SeesPair};
+ghost use Rattle.tree_rewire.specs.Spreads.{AllTight, AllTightBut, HasSettledChanges, HasSpread, IsWithinSeenParent, KeepsParents};
+ghost use Rattle.tree_rewire.specs.Spreads.{NoneRises, OnlyAt, QueuesFallen, SpreadsFrom};
 
 use edge_cost::{cost, costs_less_through};
 use plan_words::{Pass, Shared};
@@ -35,51 +34,43 @@ pub fn spread(shared: &Shared, pass: &mut Pass, node: u32)
     ensures whole_tight { HasWholeShare pass.old.view → AllTightBut node pass.old.view → AllTight pass.new.view }
 {
     pass.clear_waiting();
-    pass.queue_children(node);
-    'falls: while let Some(fallen) = next_fallen(shared, pass) {
-        pass.queue_children(fallen);
+    pass.queue_parent(node);
+    'falls: while let Some(fallen) = pass.pop_waiting() {
+        lower_below(shared, pass, fallen);
     }
 }
 
-/// Settles nodes that wait, until the cost of one falls, which it returns. `None` if none of them waits any more.
-fn next_fallen(shared: &Shared, pass: &mut Pass) -> Option<u32>
+/// Lowers the children of a node until each costs no more than through it. Those whose cost fell wait then, if they have children.
+fn lower_below(shared: &Shared, pass: &mut Pass, node: u32)
     requires belongs { BelongsTo pass.old shared.now }
     requires part { 0 < share pass.old.view }
-    requires waiting { SeesWaiting pass.old }
+    requires pair { SeesPair pass.old.view node }
     ensures steps { PassLowers shared.now pass.old pass.new }
-    ensures some { IfSome result (HasFallen pass.old pass.new) }
-    ensures none { IfNone result (HasSettledAll pass.old pass.new) }
+    ensures spreads { SpreadsFrom node pass.old pass.new }
+    ensures falls { NoneRises pass.old.view pass.new.view }
+    ensures queued { QueuesFallen pass.old pass.new }
     ensures whole { HasWholeShare pass.old.view → KeepsParents pass.old.view pass.new.view }
 {
-    'visits: while let Some(node) = pass.pop_waiting() {
-        if settle(shared, pass, node) {
-            return Some(node);
-        }
+    'tries: while let Some(child) = shared.lower_children(pass, node) {
+        // an exchange failed: another pass has lowered this child, with whatever parent
+        settle(shared, pass, child);
+        pass.queue_parent(child);
     }
-    None
 }
 
-/// Lowers a node until it costs no more than through its parent, both as seen last. Whether its cost fell.
-fn settle(shared: &Shared, pass: &mut Pass, node: u32) -> bool
+/// Lowers a node until it costs no more than through its parent, both as seen last.
+fn settle(shared: &Shared, pass: &mut Pass, node: u32)
     requires belongs { BelongsTo pass.old shared.now }
     requires part { 0 < share pass.old.view }
     requires pair { SeesPair pass.old.view node }
     ensures steps { PassSees NamesTreeOrPoint shared.now pass.old pass.new }
     ensures others { OnlyAt node pass.old.view pass.new.view }
     ensures settled { IsWithinSeenParent pass.new.view node }
-    ensures fell { IsTrue result → cost_seen pass.new.view node < cost_seen pass.old.view node }
-    ensures same { IsFalse result → KeepsPairs pass.old.view pass.new.view }
-    ensures whole { HasWholeShare pass.old.view → KeepsParents pass.old.view pass.new.view }
 {
-    let mut fell = false;
     'lowers: while let Some((parent, cost)) = looser(shared, pass, node) {
-        if let Ok(()) = shared.lower(pass, node, parent, cost) {
-            return true;
-        }
         // an exchange that fails finds a lower cost, with whatever parent
-        fell = true;
+        let _found = shared.lower(pass, node, parent, cost);
     }
-    fell
 }
 
 /// The parent of a node, and the cost through it, if that is less than the node's cost.
@@ -89,8 +80,6 @@ fn looser(shared: &Shared, pass: &mut Pass, node: u32) -> Option<(u32, u64)>
     ensures steps { PassSees NamesPoint shared.now pass.old pass.new }
     ensures some { IfSome result (λ lower. MayLower pass.new.view node lower.0 lower.1) }
     ensures none { IfNone result (IsWithinSeenParent pass.new.view node) }
-    ensures own_parent { IfSome result (λ lower. lower.0 ≡ parent_seen pass.new.view node) }
-    ensures whole { HasWholeShare pass.old.view → SeesAsBefore pass.old.view pass.new.view }
 {
     let (parent, kept_cost) = pass.pair(node).unwrap();
     let (_, above) = pass.pair(parent)?;

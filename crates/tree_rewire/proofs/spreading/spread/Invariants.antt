@@ -1,17 +1,19 @@
-use Rattle.std.proofs.Common.{◌+◌, length}
+use Rattle.std.proofs.Common.{◌+◌, ◌*◌, length}
 use Rattle.plan_words.specs.States.{HasWholeShare}
+use Rattle.plan_words.specs.Waiting.{IsOn}
 use Rattle.tree_rewire.specs.SeenCosts.{PassLowers}
-use Rattle.tree_rewire.specs.Spreads.{KeepsParents}
-use Rattle.tree_rewire.proofs.SpreadCosts.{IsSpreading, weigh}
+use Rattle.tree_rewire.specs.Spreads.{IsSpreading, KeepsParents}
+use Rattle.tree_rewire.proofs.SpreadCosts.{weigh}
 use Rattle.tree_rewire.proofs.spreading.spread.Given as goal
 
 abbrev pub invariant-falls : goal.invariant-falls
 invariant-falls l = record {
   steps : PassLowers l.shared l.fn.pass l.pass;
-  spreads : IsSpreading l.node l.fn.pass.view l.pass.view l.pass.lists.waiting;
+  spreads : IsSpreading l.node l.fn.pass.view l.pass.view (IsOn l.pass.lists.waiting);
   whole : HasWholeShare l.fn.pass.view → KeepsParents l.fn.pass.view l.pass.view;
 }
 
--- what all nodes were seen to cost together
+-- what all nodes were seen to cost together, and then how many wait
 abbrev pub decreases-falls : goal.decreases-falls
-decreases-falls l = weigh (length l.fn.pass.view.run.marks + 1) l.pass.view
+decreases-falls l =
+    weigh (length l.fn.pass.view.run.marks + 1) l.pass.view * (length l.fn.pass.view.run.marks + 1 + 1) + length l.pass.lists.waiting

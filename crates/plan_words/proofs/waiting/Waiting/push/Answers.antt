@@ -1,8 +1,8 @@
-use Rattle.std.proofs.Common.{◌≡◌, ◌⊎◌, ◌<◌, false, true, length, inl, sym, ◌∙◌, subst, arith}
+use Rattle.std.proofs.Common.{◌≡◌, ◌⊎◌, ◌<◌, false, true, ap, length, inl, sym, ◌∙◌, subst, arith}
 use Rattle.std.specs.Prelude.{slice_set}
 use Rattle.std.proofs.lemmas.List.{get_or_default, length-set}
 use Rattle.plan_words.specs.Waiting.{AreMarked, IsOn}
-use Rattle.plan_words.proofs.MarkedNodes.{AreMarked-push, IsOn-before, IsOn-cases, IsOn-end, room-push}
+use Rattle.plan_words.proofs.MarkedNodes.{AreMarked-push, IsOn-before, IsOn-cases, IsOn-end, few-marked, room-push}
 use Rattle.plan_words.proofs.waiting.Waiting.push.Goals as goal
 
 pub push_reserved-requires : goal.push_reserved-requires
@@ -51,3 +51,26 @@ returns-else-not-index-clause-keeps c n on = on
 
 pub returns-else-not-index-clause-only : goal.returns-else-not-index-clause-only
 returns-else-not-index-clause-only c n on = inl on
+
+pub returns-then-not-index-clause-few : goal.returns-then-not-index-clause-few
+returns-then-not-index-clause-few c =
+    let marked = c.self.inside.marked.items in
+    let are = c.self.invariant.marks in
+    let low : c.args.node < length marked = subst (λ w. c.args.node < w.size) (sym c.self.view_is) c.requires.low in
+    let free = sym (c.index.ensures ∙ get_or_default marked c.args.node _ false low) ∙ c.if-not-index.true in
+    omega (
+      arith,
+      few-marked _ _ (AreMarked-push c.self.inside.nodes.items marked c.args.node are low free),
+      length-set marked c.args.node true,
+      ap (λ l. length l) c.push_reserved.ensures.items,
+      ap (λ w. w.size) c.self.view_is,
+    )
+
+pub returns-else-not-index-clause-few : goal.returns-else-not-index-clause-few
+returns-else-not-index-clause-few c =
+    omega (
+      arith,
+      few-marked _ _ c.self.invariant.marks,
+      ap (λ w. w.size) c.self.view_is,
+      ap (λ w. length w.nodes) c.self.view_is,
+    )

@@ -1,0 +1,119 @@
+-- A child costs at most what it costs through its parent, or it may be lowered to that.
+use Rattle.std.proofs.Common.{◌≡◌, ◌≢◌, ℕ, ◌+◌, ◌<◌, ◌≤◌, ◌^◌, refl, sym, ap, ◌∙◌, subst, arith}
+use Rattle.plan_model.specs.declared.geometry.Point.{Point}
+use Rattle.plan_model.specs.Geometry.Cost.{cost_of}
+use Rattle.plan_words.specs.LoweredChildren.{CostsAtMostThrough, IsSeenAbove, LooksOn}
+use Rattle.plan_words.specs.States.{GoesOn}
+use Rattle.plan_words.specs.Waiting.{HasSeenParent}
+use Rattle.plan_words.specs.declared.lowered_children.Above.{Above}
+use Rattle.plan_words.proofs.KeptPairs.{fits_word}
+use Rattle.step_core.specs.LaterViews.{IsLawfulView}
+use Rattle.step_core.specs.ViewTrees.{IsCostBelow, MayLower, SeesPoint}
+use Rattle.step_core.specs.Views.{sees}
+use Rattle.step_core.specs.WordNames.Word.{TreeOf}
+use Rattle.step_core.specs.Words.{cost_in, parent_in, tree_word}
+use Rattle.step_core.specs.declared.views.View.{View}
+use Rattle.step_core.proofs.PackedWords.{cost_in-tree_word, parent_in-tree_word}
+use Rattle.step_core.proofs.SeenViews.{SeesPoint-later}
+
+-- a point that is seen stays
+pub stands_on : (before after : View) (n : ℕ) (p : Point) → GoesOn before after → SeesPoint before n p → SeesPoint after n p
+stands_on before after n p goes_on = SeesPoint-later before after goes_on.later.run goes_on.later.seen n p
+
+-- and so does a child whose word is seen as before
+pub HasSeenParent-kept : (before after : View) (m n : ℕ) → sees after (TreeOf n) ≡ sees before (TreeOf n) → HasSeenParent before m n → HasSeenParent after m n
+HasSeenParent-kept before after m n same own = record {
+  child = own.child;
+  written = omega (arith, same, own.written);
+  parent = ap parent_in same ∙ own.parent;
+}
+
+-- if neither word is seen anew, its cost stays at most what it is through the other
+pub CostsAtMostThrough-kept : (before after : View) (m n : ℕ) → GoesOn before after → sees after (TreeOf n) ≡ sees before (TreeOf n)
+    → sees after (TreeOf m) ≡ sees before (TreeOf m) → CostsAtMostThrough before m n → CostsAtMostThrough after m n
+CostsAtMostThrough-kept before after m n goes_on same level h = record {
+  from = h.from;
+  at = h.at;
+  above_stands = stands_on before after m h.from goes_on h.above_stands;
+  stands = stands_on before after n h.at goes_on h.stands;
+  most = omega (arith, h.most, ap cost_in same, ap cost_in level);
+}
+
+-- the node above stays, while its word does
+pub IsSeenAbove-kept : (before after : View) (above : Above) → GoesOn before after → sees after (TreeOf above.node) ≡ sees before (TreeOf above.node)
+    → IsSeenAbove before above → IsSeenAbove after above
+IsSeenAbove-kept before after above goes_on same h = record {
+  stands = stands_on before after above.node above.point goes_on h.stands;
+  bounded = h.bounded;
+  written = omega (arith, same, h.written);
+  cost = h.cost ∙ ap cost_in (sym same);
+}
+
+-- a child is another node than its parent
+pub apart_above : (view : View) (m n : ℕ) → IsLawfulView view → HasSeenParent view m n → m ≢ n
+apart_above view m n lawful own e = (lawful.pairs n own.written).other own.child (own.parent ∙ e)
+
+-- ---- the point of a child was loaded
+
+module _ (before mid : View) (above : Above) (n : ℕ) (at : Point) (looks : LooksOn before mid)
+    (same : (m : ℕ) → sees mid (TreeOf m) ≡ sees before (TreeOf m)) (seen_above : IsSeenAbove before above)
+    (own : HasSeenParent before above.node n) (stands : SeesPoint mid n at) where
+  above_mid : IsSeenAbove mid above
+  above_mid = IsSeenAbove-kept before mid above looks.goes_on (same above.node) seen_above
+
+  pub own_mid : HasSeenParent mid above.node n
+  own_mid = HasSeenParent-kept before mid above.node n (same n) own
+
+  pub CostsAtMostThrough-looked : cost_in (sees before (TreeOf n)) ≤ above.cost + cost_of above.point at → CostsAtMostThrough mid above.node n
+  CostsAtMostThrough-looked most = record {
+    from = above.point;
+    at = at;
+    above_stands = above_mid.stands;
+    stands = stands;
+    most = omega (arith, most, ap cost_in (same n), above_mid.cost);
+  }
+
+  -- it may be lowered if it is cheaper so
+  module _ (cost : ℕ) (cost_is : cost ≡ above.cost + cost_of above.point at) (less : cost < cost_in (sees before (TreeOf n))) where
+    below_parent : IsCostBelow mid at above.node cost
+    below_parent = record {
+      from = above.point;
+      parent_cost = above.cost;
+      seen = record { stands = above_mid.stands; written = above_mid.written; cost_is = above_mid.cost };
+      edge = (looks.goes_on.lawful.pairs n own_mid.written).edge at above.point stands
+          (subst (λ m. SeesPoint mid m above.point) (sym own_mid.parent) above_mid.stands);
+      cost_is = cost_is;
+    }
+
+    pub MayLower-child : MayLower mid n above.node cost
+    MayLower-child = record {
+      at = at;
+      old_cost = cost_in (sees mid (TreeOf n));
+      seen = record { stands = stands; written = own_mid.written; cost_is = refl };
+      below = below_parent;
+      cheaper = omega (arith, less, ap cost_in (same n));
+    }
+
+    -- and then it is a child still, at that cost
+    module _ (after : View) (goes_on : GoesOn mid after) (here : sees after (TreeOf n) ≡ tree_word above.node cost)
+        (others : (m : ℕ) → m ≢ n → sees after (TreeOf m) ≡ sees mid (TreeOf m)) where
+      fits : (above.node < 2 ^ 18) × (cost < 2 ^ 44)
+      fits = fits_word mid at above.node cost looks.goes_on.lawful below_parent
+
+      pub HasSeenParent-lowered : HasSeenParent after above.node n
+      HasSeenParent-lowered = record {
+        child = own.child;
+        written = omega (arith, here);
+        parent = ap parent_in here ∙ parent_in-tree_word above.node cost fits.0;
+      }
+
+      pub CostsAtMostThrough-lowered : CostsAtMostThrough after above.node n
+      CostsAtMostThrough-lowered =
+          let level = others above.node (apart_above before above.node n looks.goes_on.was_lawful own) in
+          record {
+            from = above.point;
+            at = at;
+            above_stands = stands_on mid after above.node above.point goes_on above_mid.stands;
+            stands = stands_on mid after n at goes_on stands;
+            most = omega (arith, ap cost_in here, cost_in-tree_word above.node cost fits.0 fits.1, cost_is, above_mid.cost, ap cost_in level);
+          }

@@ -1,0 +1,234 @@
+//! A lowered cost comes to the children of its node.
+
+ghost use Rattle.std.specs.Prelude.{◌≡◌, ◌≢◌, ◌⊎◌, ℕ, suc, ◌+◌, ◌<◌, ◌≤◌, ◌^◌, ◌==◌, if◌then◌else◌, IfErr, IfNone, IfOk, IfSome, IsOk, None, length, slice_index, slice_set};
+ghost use Rattle.std.specs.Vec.{vec_capacity};
+ghost use Rattle.plan_model.specs.Geometry.Bounds.{IsBounded};
+ghost use Rattle.plan_words.specs.Claims.{SeesAsBefore};
+ghost use Rattle.plan_words.specs.LoweredChildren.{CostsAtMostThrough, HasQueued, IsFound, IsFoundPair, IsSeenAbove, LooksOn, LowersChildren, SeesSamePoints, SitsAt};
+ghost use Rattle.plan_words.specs.Parents.{FindsLess};
+ghost use Rattle.plan_words.specs.SeenChains.{sibling_chain_in};
+ghost use Rattle.plan_words.specs.States.{BelongsTo, GoesOn, HasFirstPairs, HasWholeShare};
+ghost use Rattle.plan_words.specs.Waiting.{HasSeenParent, IsOn};
+ghost use Rattle.step_core.specs.ChildChains.{IndexesChains, size_of};
+ghost use Rattle.step_core.specs.ViewTrees.{MayLower, SeesNode, SeesPoint};
+ghost use Rattle.step_core.specs.Views.{sees, share};
+ghost use Rattle.step_core.specs.WordNames.{Word};
+ghost use Rattle.step_core.specs.WordNames.Word.{PointOf, TreeOf};
+ghost use Rattle.step_core.specs.Words.{cost_in, parent_in, tree_word};
+
+use crate::openings::Aim;
+use crate::passes::Pass;
+use crate::rules::{Load, Lower};
+use crate::shared::Shared;
+use crate::waiting::Waiting;
+use atomic_table::Seat;
+use edge_cost::{cost, costs_less_through};
+use plan_model::Point;
+use step_core::{ChildIndex, View, pack_tree, pair_in, point_in};
+
+/// A node with its point and its cost, as a pass has seen them last.
+#[derive(Clone, Copy)]
+pub(crate) struct Above {
+    pub(crate) node: u32,
+    pub(crate) point: Point,
+    pub(crate) cost: u64,
+}
+
+impl Shared {
+    /// Lowers each child of a node that costs more than through it, both as the pass has seen them last, to what it costs through it.
+    /// Those whose cost fell come on the list of the nodes that wait, if they have children themselves. The node is seen with its
+    /// parent and its cost, and the pass has a share. O(k) for k children.
+    ///
+    /// It loads no costs. An exchange that fails shows a child at a lower cost, with whatever parent: that child is returned, and the
+    /// others may not have been looked at. `None` if all were.
+    pub fn lower_children(&self, pass: &mut Pass, node: u32) -> Option<u32>
+        requires belongs { BelongsTo pass.old self.now }
+        requires part { 0 < share pass.old.view }
+        requires pair { 2 ^ 63 ≤ sees pass.old.view (TreeOf node) }
+        ensures belongs { BelongsTo pass.new self.now }
+        ensures looks { LooksOn pass.old.view pass.new.view }
+        ensures lists { (pass.new.lists.near ≡ pass.old.lists.near) × (pass.new.lists.around ≡ pass.old.lists.around) × (pass.new.lists.search ≡ pass.old.lists.search) }
+        ensures lowered { LowersChildren (IsFound result) pass.old.view pass.new.view node }
+        ensures all { IfNone result ((n : ℕ) → HasSeenParent pass.new.view node n → CostsAtMostThrough pass.new.view node n) }
+        // the child is one that was seen, and is found at less
+        ensures found { IfSome result (λ n. HasSeenParent pass.old.view node n × FindsLess (sees pass.old.view (TreeOf n)) (sees pass.new.view (TreeOf n))) }
+        // each whose cost fell and that has a child waits; the child that was found aside
+        ensures parents { (n m : ℕ) → ¬ IsFound result n → ¬ IsFound result m
+            → cost_in (sees pass.new.view (TreeOf n)) < cost_in (sees pass.old.view (TreeOf n)) → HasSeenParent pass.new.view n m → IsOn pass.new.lists.waiting n }
+        ensures keeps { (n : ℕ) → IsOn pass.old.lists.waiting n → IsOn pass.new.lists.waiting n }
+        ensures only { (n : ℕ) → IsOn pass.new.lists.waiting n → IsOn pass.old.lists.waiting n ⊎ HasSeenParent pass.old.view node n }
+        // if no cost fell, none came on the list, and there are never more on it than there may be nodes
+        ensures same { (pass.new.lists.waiting ≡ pass.old.lists.waiting)
+            ⊎ HasQueued pass.old.view pass.new.view pass.new.lists.waiting (length pass.old.view.run.marks + 1) }
+        // a pass with the whole share succeeds, and is shown no new point
+        ensures whole { HasWholeShare pass.old.view → result ≡ None }
+        ensures points { HasWholeShare pass.old.view → SeesSamePoints pass.old.view pass.new.view }
+    {
+        let point = self.point(pass, node);
+        let (_, cost) = pair_in(pass.pairs.word(node));
+        let above = Above { node, point, cost };
+        let (child, word) = pass
+            .pairs
+            .lower_children(self, &mut pass.seat, &mut pass.lists.waiting, above)?;
+        pass.pairs.set(child, word);
+        Some(child)
+    }
+
+    /// Lowers a child to what it costs through its parent, if that is less. Its word then, or the one of lower cost that was found.
+    fn lower_child(
+        &self,
+        seat: &mut Seat<Aim, View>,
+        above: Above,
+        child: u32,
+        seen: u64,
+    ) -> Result<u64, u64>
+        requires sits { SitsAt self.now seat.old.table_id seat.old.me }
+        requires part { 0 < share seat.old.me.0 }
+        requires above { IsSeenAbove seat.old.me.0 above }
+        requires child { HasSeenParent seat.old.me.0 above.node child }
+        requires seen { seen ≡ sees seat.old.me.0 (TreeOf child) }
+        ensures sits { SitsAt self.now seat.new.table_id seat.new.me }
+        ensures looks { LooksOn seat.old.me.0 seat.new.me.0 }
+        ensures others { (n : ℕ) → n ≢ child → sees seat.new.me.0 (TreeOf n) ≡ sees seat.old.me.0 (TreeOf n) }
+        ensures here { IfOk result (λ word. word ≡ sees seat.new.me.0 (TreeOf child)) }
+        ensures is { IfOk result (λ word. HasSeenParent seat.new.me.0 above.node child × CostsAtMostThrough seat.new.me.0 above.node child) }
+        ensures fell { IfOk result (λ word. (word ≡ seen) ⊎ FindsLess seen word) }
+        ensures found { IfErr result (λ word. (word ≡ sees seat.new.me.0 (TreeOf child)) × FindsLess seen word) }
+        ensures whole { HasWholeShare seat.old.me.0 → IsOk result }
+        ensures points { HasWholeShare seat.old.me.0 → SeesSamePoints seat.old.me.0 seat.new.me.0 }
+    {
+        let point = self.point_at(seat, child);
+        if !costs_less_through(above.cost, above.point, point, pair_in(seen).1) {
+            return Ok(seen);
+        }
+        let cost = above.cost + cost(above.point, point);
+        let found = self.exchange_at(seat, child, seen, above.node, cost);
+        if found == seen {
+            Ok(pack_tree(above.node, cost))
+        } else {
+            Err(found)
+        }
+    }
+
+    /// The point of a seen node.
+    fn point_at(&self, seat: &mut Seat<Aim, View>, node: u32) -> Point
+        requires sits { SitsAt self.now seat.old.table_id seat.old.me }
+        requires seen_node { SeesNode seat.old.me.0 node }
+        ensures sits { SitsAt self.now seat.new.table_id seat.new.me }
+        ensures looks { LooksOn seat.old.me.0 seat.new.me.0 }
+        ensures same { (n : ℕ) → sees seat.new.me.0 (TreeOf n) ≡ sees seat.old.me.0 (TreeOf n) }
+        ensures found { SeesPoint seat.new.me.0 node result }
+        ensures bounded { IsBounded result }
+        ensures whole { HasWholeShare seat.old.me.0 → SeesAsBefore seat.old.me.0 seat.new.me.0 }
+    {
+        let place = self.places.point(node as usize);
+        point_in(self.table.shared.load::<Load>(seat, place))
+    }
+
+    /// Exchanges the tree word of a node if it is the one that was seen last. Returns what it was.
+    fn exchange_at(
+        &self,
+        seat: &mut Seat<Aim, View>,
+        node: u32,
+        seen: u64,
+        parent: u32,
+        cost: u64,
+    ) -> u64
+        requires sits { SitsAt self.now seat.old.table_id seat.old.me }
+        requires part { 0 < share seat.old.me.0 }
+        requires may { MayLower seat.old.me.0 node parent cost }
+        requires seen { seen ≡ sees seat.old.me.0 (TreeOf node) }
+        ensures sits { SitsAt self.now seat.new.table_id seat.new.me }
+        ensures looks { LooksOn seat.old.me.0 seat.new.me.0 }
+        ensures here { sees seat.new.me.0 (TreeOf node) ≡ (if result == seen then tree_word parent cost else result) }
+        ensures others { (n : ℕ) → n ≢ node → sees seat.new.me.0 (TreeOf n) ≡ sees seat.old.me.0 (TreeOf n) }
+        ensures points { (n : ℕ) → sees seat.new.me.0 (PointOf n) ≡ sees seat.old.me.0 (PointOf n) }
+        ensures found { result ≢ seen → FindsLess seen result }
+        ensures whole { HasWholeShare seat.old.me.0 → result ≡ seen }
+    {
+        let place = self.places.tree(node as usize);
+        self.table
+            .shared
+            .compare_exchange::<Lower>(seat, place, seen, pack_tree(parent, cost))
+    }
+}
+
+/// Lowers the children of a node that are on its chain, and writes down their words. If another word was found at a child, that is
+/// not written down. The words are those of the first nodes, of which the node is one.
+pub(crate) fn lower_chain(
+    words: &mut Vec<u64>,
+    children: &ChildIndex,
+    shared: &Shared,
+    seat: &mut Seat<Aim, View>,
+    waiting: &mut Waiting,
+    above: Above,
+) -> Option<(u32, u64)>
+    requires index { IndexesChains (length words.old.items) (sibling_chain_in words.old.items) children.now }
+    requires sits { SitsAt shared.now seat.old.table_id seat.old.me }
+    requires part { 0 < share seat.old.me.0 }
+    requires pairs { HasFirstPairs seat.old.me.0 words.old.items }
+    requires low { above.node < length words.old.items }
+    requires above { IsSeenAbove seat.old.me.0 above }
+    requires size { length words.old.items ≤ waiting.old.size }
+    ensures chains { (n : ℕ) → sibling_chain_in words.new.items n ≡ sibling_chain_in words.old.items n }
+    ensures as_many { length words.new.items ≡ length words.old.items }
+    ensures capacity { vec_capacity words.new ≡ vec_capacity words.old }
+    ensures sits { SitsAt shared.now seat.new.table_id seat.new.me }
+    ensures looks { LooksOn seat.old.me.0 seat.new.me.0 }
+    ensures pairs { IfNone result (HasFirstPairs seat.new.me.0 words.new.items) }
+    ensures pairs_found { IfSome result (λ found. (found.0 < length words.old.items) × HasFirstPairs seat.new.me.0 (slice_set words.new.items found.0 found.1)) }
+    ensures size { waiting.new ≡ record waiting.old { nodes = waiting.new.nodes } }
+    ensures lowered { LowersChildren (IsFoundPair result) seat.old.me.0 seat.new.me.0 above.node }
+    ensures all { IfNone result ((n : ℕ) → HasSeenParent seat.new.me.0 above.node n → CostsAtMostThrough seat.new.me.0 above.node n) }
+    ensures found { IfSome result (λ found. HasSeenParent seat.old.me.0 above.node found.0
+        × FindsLess (sees seat.old.me.0 (TreeOf found.0)) (sees seat.new.me.0 (TreeOf found.0))) }
+    ensures parents { (n m : ℕ) → ¬ IsFoundPair result n → ¬ IsFoundPair result m
+        → cost_in (sees seat.new.me.0 (TreeOf n)) < cost_in (sees seat.old.me.0 (TreeOf n)) → HasSeenParent seat.new.me.0 n m → IsOn waiting.new.nodes n }
+    ensures keeps { (n : ℕ) → IsOn waiting.old.nodes n → IsOn waiting.new.nodes n }
+    ensures only { (n : ℕ) → IsOn waiting.new.nodes n → IsOn waiting.old.nodes n ⊎ HasSeenParent seat.old.me.0 above.node n }
+    ensures same { (waiting.new.nodes ≡ waiting.old.nodes) ⊎ HasQueued seat.old.me.0 seat.new.me.0 waiting.new.nodes waiting.old.size }
+    ensures whole { HasWholeShare seat.old.me.0 → result ≡ None }
+    ensures points { HasWholeShare seat.old.me.0 → SeesSamePoints seat.old.me.0 seat.new.me.0 }
+{
+    let mut child = children.first_child(above.node);
+    'children: while child != 0 {
+        let seen = words[child as usize];
+        let word = match shared.lower_child(seat, above, child, seen) {
+            Ok(word) => word,
+            Err(found) => return Some((child, found)),
+        };
+        write_down(words, children, waiting, child, word);
+        child = children.next_sibling(child);
+    }
+    None
+}
+
+/// Writes down the word of a node. If it is another than it was and the node has a child, the node waits then.
+fn write_down(
+    words: &mut Vec<u64>,
+    children: &ChildIndex,
+    waiting: &mut Waiting,
+    node: u32,
+    word: u64,
+)
+    requires low { node < length words.old.items }
+    requires indexed { node < size_of children.now }
+    requires room { node < waiting.old.size }
+    ensures words { words.new.items ≡ slice_set words.old.items node word }
+    ensures capacity { vec_capacity words.new ≡ vec_capacity words.old }
+    ensures kept { waiting.new ≡ record waiting.old { nodes = waiting.new.nodes } }
+    ensures keeps { (n : ℕ) → IsOn waiting.old.nodes n → IsOn waiting.new.nodes n }
+    ensures only { (n : ℕ) → IsOn waiting.new.nodes n → IsOn waiting.old.nodes n ⊎ (n ≡ node) }
+    ensures parent { (nodes : ℕ) (chain : ℕ → ℕ) (n : ℕ) → IndexesChains nodes chain children.now → chain n ≡ suc node
+        → word ≢ slice_index words.old.items node → IsOn waiting.new.nodes node }
+    ensures same { (waiting.new.nodes ≡ waiting.old.nodes)
+        ⊎ ((word ≢ slice_index words.old.items node) × (length waiting.new.nodes ≤ waiting.old.size)) }
+{
+    if words[node as usize] == word {
+        return;
+    }
+    words[node as usize] = word;
+    if children.first_child(node) != 0 {
+        waiting.push(node);
+    }
+}
