@@ -114,7 +114,8 @@ module _ (found after : List Found) (spot : Spot) (distance bound : ℕ) (notes 
   Notes-new : distance ≤ bound → Contains (numbers_of after) spot.node
   Notes-new close =
       elim notes [
-        | inl (near, is) ↦ subst (λ ns. Contains ns spot.node) (sym (ap numbers_of is ∙ numbers_of-push found spot)) (Contains-push (numbers_of found) spot.node)
+        | inl (near, is) ↦ subst (λ ns. Contains ns spot.node) (sym (ap numbers_of is ∙ numbers_of-push found spot))
+            (Contains-push (numbers_of found) spot.node)
         | inr (far, is) ↦ absurd (omega (arith, close, far))
       ]
 
@@ -233,7 +234,8 @@ module _ (before now : Sight) (target : Point) (r : ℕ) (queue : List Spot) (fo
         (far_side : QueuesWithin now half rest mid spot (not right) (line_square spot target) (r * r)) where
       visited : IsSearch before now target (r * r) (λ n q. Contains (numbers_of more_found) n) rest (GoesBelow now spot spot.point)
       visited =
-          IsSearch-visits before now target (r * r) (λ n q. Contains (numbers_of found) n) spot rest spot.point (r * r) (λ n q. Contains (numbers_of more_found) n)
+          IsSearch-visits before now target (r * r) (λ n q. Contains (numbers_of found) n) spot rest spot.point (r * r)
+          (λ n q. Contains (numbers_of more_found) n)
           IsGathering-stands (omega arith) (λ n q. Notes-old found more_found spot (squared_distance spot.point target) (r * r) notes n)
           (Notes-new found more_found spot (squared_distance spot.point target) (r * r) notes)
           (IsSearch-takes before now target (r * r) (λ n q. Contains (numbers_of found) n) spot queue rest first_waits h.search)
@@ -268,7 +270,8 @@ module _ (before now : Sight) (target : Point) (r : ℕ) (queue : List Spot) (fo
             keeps = leaves.keeps;
             search = subst (λ xs. IsSearch before half target (r * r) (λ n q. Contains (numbers_of more_found) n) xs (GoesTo half spot spot.point right))
                 (sym leaves.same)
-                (IsSearch-leaves before now half target (r * r) (λ n q. Contains (numbers_of more_found) n) spot spot.point IsGathering-stands leaves.later keeps right own
+                (IsSearch-leaves before now half target (r * r) (λ n q. Contains (numbers_of more_found) n) spot spot.point
+                IsGathering-stands leaves.later keeps right own
                 rest leaves.beyond visited);
             once = subst (λ xs. AreOnce half xs (spot.node ∷ done) (IsDoneOrAt done spot.node (not right))) (sym leaves.same)
                 (AreOnce-leaves now half leaves.later rest spot done (not right) taken);
@@ -283,7 +286,8 @@ module _ (before now : Sight) (target : Point) (r : ℕ) (queue : List Spot) (fo
           record {
             later = queues.later;
             keeps = queues.keeps;
-            search = IsSearch-opens_far before now half target (r * r) (λ n q. Contains (numbers_of more_found) n) spot spot.point IsGathering-stands queues.later keeps
+            search = IsSearch-opens_far before now half target (r * r) (λ n q. Contains (numbers_of more_found) n) spot spot.point
+                IsGathering-stands queues.later keeps
                 right own rest mid opens visited;
             once = AreOnce-opens_far now half queues.later rest spot done queues.keeps mid (not right) taken opens;
             stand = QueuesChild-stands now half rest mid spot (not right) queues stand_rest;

@@ -176,7 +176,8 @@ module _ (before now half : Sight) (target : Point) (distance best less nearer :
         | inl (inl entry) ↦ inl entry
         | inl (inr outdone) ↦ inr (still_outdone n q outdone)
         | inr node ↦ (
-            let same : q ≡ here.point = StandsAt-unique now.seen.points here.node q here.point (subst (λ m. StandsAt now.seen.points m q) node there) h.stands in
+            let same : q ≡ here.point =
+            StandsAt-unique now.seen.points here.node q here.point (subst (λ m. StandsAt now.seen.points m q) node there) h.stands in
             inr (subst (IsOutdone target less nearer n) (sym same)
             (subst (λ m. IsOutdone target less nearer m here.point) (sym node) nearest.one_more)))
       ]
@@ -200,7 +201,8 @@ module _ (before now half : Sight) (target : Point) (distance best less nearer :
               | inl goes ↦ inr (inr (inl (GoesBelow-later now half stacks.later here here.point q below, goes)))
               | inr goes ↦ elim stacks.stacks [
                 | inl (inl empty, same) ↦
-                    inl (inr (ends_here before now half here here.point h.stands stacks.later (far_side here target) q h.search.later.steps empty (below, goes)))
+                    inl (inr (ends_here before now half here here.point h.stands stacks.later (far_side here target) q
+                    h.search.later.steps empty (below, goes)))
                 | inl (inr too_far, same) ↦ absurd (omega (arith, split_distance-le here.by_rows here.point q target goes, close, too_far))
                 | inr last ↦ inr (inr (inr (
                   here,

@@ -267,7 +267,8 @@ module _
     beyond q goes = split_distance-le spot.by_rows p q target (goes ∙ ap not own)
 
     -- First the child of the far side is loaded,
-    pub IsSearch-opens_far : (spots put : List Spot) → Opens now after spots put spot (not right) → IsSearch before now target bound Taken spots (GoesBelow now spot p)
+    pub IsSearch-opens_far : (spots put : List Spot) → Opens now after spots put spot (not right)
+        → IsSearch before now target bound Taken spots (GoesBelow now spot p)
         → IsSearch before after target bound Taken put (GoesTo after spot p right)
     IsSearch-opens_far spots put opens =
         IsSearch-opens spots put (not right) (GoesBelow now spot p) (GoesTo after spot p right) opens

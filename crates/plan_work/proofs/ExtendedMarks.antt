@@ -91,7 +91,8 @@ pub record HasLooked (shared : SharedState) (before steering found : PassState) 
   pub steers : HasSteered before.view found.view k m from p
 
 pub HasLooked-looks :
-    (shared : SharedState) (before emptied steering found : PassState) (k m : ℕ) (from p : Point) → emptied ≡ record before { lists = record before.lists { near = [] } }
+    (shared : SharedState) (before emptied steering found : PassState) (k m : ℕ) (from p : Point)
+    → emptied ≡ record before { lists = record before.lists { near = [] } }
     → IsSome before.view.hand → IfSome before.view.hand (λ hand. hand.mark ≡ k) → KeepsRecords shared emptied steering
     → steering.view.hand ≡ emptied.view.hand → BelongsTo found shared → OnlyLooks steering.view found.view
     → HasSteered emptied.view steering.view k m from p → HasLooked shared before steering found k m from p
@@ -236,7 +237,8 @@ module _
     }
 
     -- the near list, filled by the search that steered, is filled still
-    pub IsFilledSince-written : (emptied steering : PassState) (class : ℕ) → emptied ≡ record before { lists = record before.lists { near = [] } } → KeepsRecords shared emptied steering
+    pub IsFilledSince-written : (emptied steering : PassState) (class : ℕ) → emptied ≡ record before { lists = record before.lists { near = [] } }
+        → KeepsRecords shared emptied steering
         → HasFilledNear emptied.view steering.view p class steering.lists.near → GoesOn steering.view found.view
         → sees found.view Count ≡ sees steering.view Count → found.lists.near ≡ steering.lists.near → IsFilledSince shared before written p class
     unfolding KeepsRecords-written

@@ -164,7 +164,8 @@ module _
   parent =
       IsBestParent-mirrored before.view tree book.nodes p m f before.lists.near near_is
       (All-cons (IsPresent (tree_seen before.view).points) m before.lists.near steers.nearest.member (λ i d below. (reach i d below).present))
-      (subst (λ s. IsFirstLeast (seen_cost_through before.view p) (IsOpenTo s (tree_seen before.view).points p (m ∷ before.lists.near)) f) space whole.best.least)
+      (subst (λ s. IsFirstLeast (seen_cost_through before.view p) (IsOpenTo s (tree_seen before.view).points p (m ∷ before.lists.near)) f)
+      space whole.best.least)
 
   f_present : IsPresent (points_of tree) f
   f_present = (candidate-reachable setup (points_of tree) (mark_at before.view.run.marks k) m p f steers_tree parent.member).present

@@ -142,8 +142,8 @@ pub IsSpreading-found : (n child : ℕ) (before mid after : PassState) (waiting 
     → ((g : ℕ) → HasSeenParent after.view child g → waiting child) → (node : ℕ) (first : View)
     → IsSpreading node first before.view (λ p. IsOn before.lists.waiting p ⊎ (p ≡ n)) → IsSpreading node first after.view (λ p. waiting p ⊎ (p ≡ n))
 IsSpreading-found n child before mid after waiting to_mid goes_on lowered own others settled parents keeps only more queued parent node first h =
-    IsSpreading-lowers node n first before.view mid.view after.view (IsOn before.lists.waiting) (λ p. waiting p ⊎ (p ≡ n)) (IsFound (Some child)) (cases_eq child)
-    h to_mid goes_on lowered (λ c off. others c (λ e. off (sym e)))
+    IsSpreading-lowers node n first before.view mid.view after.view (IsOn before.lists.waiting) (λ p. waiting p ⊎ (p ≡ n)) (IsFound (Some child))
+    (cases_eq child) h to_mid goes_on lowered (λ c off. others c (λ e. off (sym e)))
     (λ c is.
     subst (λ i. (0 < i) × SeesPair after.view i × IsWithinSeenParent after.view i) is (
       own.child,

@@ -106,52 +106,63 @@ near_notes c =
 
 pub queue_child-requires-clause-seen : goal.queue_child-requires-clause-seen
 queue_child-requires-clause-seen c =
+    let noted = (goal.at.queue_child-requires-clause-seen c).After-note in
     noted_seen c.args.shared.now c.args.pass.now c.visits.pass c.args.p c.args.r c.visits.invariant.gathers c.in-Some.spot
     c.take_spot.new.self.lists.search.spots c.in-Some.ensures.taken c.note.new.pass c.take_spot.new.self.lists.search.taken
-    c.note.new.pass.lists.search.found (taken_one (goal.at.queue_child-requires-clause-seen c).After-note) (noted_is (goal.at.queue_child-requires-clause-seen c).After-note) (near_notes (goal.at.queue_child-requires-clause-seen c).After-note)
+    c.note.new.pass.lists.search.found (taken_one noted) (noted_is noted) (near_notes noted)
 
 pub queue_child-requires-clause-room : goal.queue_child-requires-clause-room
 queue_child-requires-clause-room c =
+    let noted = (goal.at.queue_child-requires-clause-room c).After-note in
     noted_room c.args.shared.now c.args.pass.now c.visits.pass c.args.p c.args.r c.visits.invariant.gathers c.in-Some.spot
     c.take_spot.new.self.lists.search.spots c.in-Some.ensures.taken c.note.new.pass c.take_spot.new.self.lists.search.taken
-    c.note.new.pass.lists.search.found (taken_one (goal.at.queue_child-requires-clause-room c).After-note) (noted_is (goal.at.queue_child-requires-clause-room c).After-note) (near_notes (goal.at.queue_child-requires-clause-room c).After-note)
+    c.note.new.pass.lists.search.found (taken_one noted) (noted_is noted) (near_notes noted)
 
 -- and then its near side
 
 pub queue_child-requires-in-Some-clause-seen : goal.queue_child-requires-in-Some-clause-seen
 queue_child-requires-in-Some-clause-seen c =
+    let noted = (goal.at.queue_child-requires-in-Some-clause-seen c).After-note in
+    let half = (goal.at.queue_child-requires-in-Some-clause-seen c).After-queue_child in
     half_seen c.args.shared.now c.args.pass.now c.visits.pass c.args.p c.args.r c.visits.invariant.gathers c.in-Some.spot
     c.take_spot.new.self.lists.search.spots c.in-Some.ensures.taken c.note.new.pass c.take_spot.new.self.lists.search.taken
-    c.note.new.pass.lists.search.found (taken_one (goal.at.queue_child-requires-in-Some-clause-seen c).After-note) (noted_is (goal.at.queue_child-requires-in-Some-clause-seen c).After-note) (near_notes (goal.at.queue_child-requires-in-Some-clause-seen c).After-note) c.queue_child.new.pass c.goes_right-right.result
-    c.goes_right-right.ensures c.queue_child.ensures.looks c.queue_child.ensures.others (far_side (goal.at.queue_child-requires-in-Some-clause-seen c).After-queue_child)
+    c.note.new.pass.lists.search.found (taken_one noted) (noted_is noted) (near_notes noted) c.queue_child.new.pass c.goes_right-right.result
+    c.goes_right-right.ensures c.queue_child.ensures.looks c.queue_child.ensures.others (far_side half)
 
 pub queue_child-requires-in-Some-clause-room : goal.queue_child-requires-in-Some-clause-room
 queue_child-requires-in-Some-clause-room c =
+    let noted = (goal.at.queue_child-requires-in-Some-clause-room c).After-note in
+    let half = (goal.at.queue_child-requires-in-Some-clause-room c).After-queue_child in
     half_room c.args.shared.now c.args.pass.now c.visits.pass c.args.p c.args.r c.visits.invariant.gathers c.in-Some.spot
     c.take_spot.new.self.lists.search.spots c.in-Some.ensures.taken c.note.new.pass c.take_spot.new.self.lists.search.taken
-    c.note.new.pass.lists.search.found (taken_one (goal.at.queue_child-requires-in-Some-clause-room c).After-note) (noted_is (goal.at.queue_child-requires-in-Some-clause-room c).After-note) (near_notes (goal.at.queue_child-requires-in-Some-clause-room c).After-note) c.queue_child.new.pass c.goes_right-right.result
-    c.goes_right-right.ensures c.queue_child.ensures.looks c.queue_child.ensures.others (far_side (goal.at.queue_child-requires-in-Some-clause-room c).After-queue_child)
+    c.note.new.pass.lists.search.found (taken_one noted) (noted_is noted) (near_notes noted) c.queue_child.new.pass c.goes_right-right.result
+    c.goes_right-right.ensures c.queue_child.ensures.looks c.queue_child.ensures.others (far_side half)
 
 pub visits-preserved : goal.visits-preserved
-visits-preserved c = record {
-  most_is = c.visits.invariant.most_is;
-  gathers = IsGatheringPass-visits c.args.shared.now c.args.pass.now c.visits.pass c.args.p c.args.r c.visits.invariant.gathers c.in-Some.spot
-      c.take_spot.new.self.lists.search.spots c.in-Some.ensures.taken c.note.new.pass c.take_spot.new.self.lists.search.taken
-      c.note.new.pass.lists.search.found (taken_one (goal.at.visits-preserved c).After-note) (noted_is (goal.at.visits-preserved c).After-note) (near_notes (goal.at.visits-preserved c).After-note) c.queue_child.new.pass c.goes_right-right.result
-      c.goes_right-right.ensures c.queue_child.ensures.looks c.queue_child.ensures.others (far_side (goal.at.visits-preserved c).After-queue_child) c.queue_child-in-Some.new.pass
-      c.queue_child-in-Some.ensures.belongs c.queue_child-in-Some.ensures.looks c.queue_child-in-Some.ensures.others
-      (QueuesWithin-near (sight_in c.queue_child.new.pass.view) (sight_in c.queue_child-in-Some.new.pass.view)
-      c.queue_child.new.pass.lists.search.spots c.queue_child-in-Some.new.pass.lists.search.spots c.in-Some.spot c.goes_right-right.result c.args.r
-      c.queue_child-in-Some.ensures.queues);
-}
+visits-preserved c =
+    let noted = (goal.at.visits-preserved c).After-note in
+    let half = (goal.at.visits-preserved c).After-queue_child in
+    record {
+      most_is = c.visits.invariant.most_is;
+      gathers = IsGatheringPass-visits c.args.shared.now c.args.pass.now c.visits.pass c.args.p c.args.r c.visits.invariant.gathers c.in-Some.spot
+          c.take_spot.new.self.lists.search.spots c.in-Some.ensures.taken c.note.new.pass c.take_spot.new.self.lists.search.taken
+          c.note.new.pass.lists.search.found (taken_one noted) (noted_is noted) (near_notes noted) c.queue_child.new.pass c.goes_right-right.result
+          c.goes_right-right.ensures c.queue_child.ensures.looks c.queue_child.ensures.others (far_side half) c.queue_child-in-Some.new.pass
+          c.queue_child-in-Some.ensures.belongs c.queue_child-in-Some.ensures.looks c.queue_child-in-Some.ensures.others
+          (QueuesWithin-near (sight_in c.queue_child.new.pass.view) (sight_in c.queue_child-in-Some.new.pass.view)
+          c.queue_child.new.pass.lists.search.spots c.queue_child-in-Some.new.pass.lists.search.spots c.in-Some.spot c.goes_right-right.result c.args.r
+          c.queue_child-in-Some.ensures.queues);
+    }
 
 pub visits-smaller : goal.visits-smaller
 visits-smaller c =
+    let noted = (goal.at.visits-smaller c).After-note in
+    let half = (goal.at.visits-smaller c).After-queue_child in
     let left = fewer_left c.args.shared.now c.args.pass.now c.visits.pass c.args.p c.args.r c.visits.invariant.gathers c.in-Some.spot
     c.take_spot.new.self.lists.search.spots c.in-Some.ensures.taken in
     let visited = taken_more c.args.shared.now c.args.pass.now c.visits.pass c.args.p c.args.r c.visits.invariant.gathers c.in-Some.spot
     c.take_spot.new.self.lists.search.spots c.in-Some.ensures.taken c.note.new.pass c.take_spot.new.self.lists.search.taken
-    c.note.new.pass.lists.search.found (taken_one (goal.at.visits-smaller c).After-note) (noted_is (goal.at.visits-smaller c).After-note) (near_notes (goal.at.visits-smaller c).After-note) c.queue_child.new.pass c.goes_right-right.result
-    c.goes_right-right.ensures c.queue_child.ensures.looks c.queue_child.ensures.others (far_side (goal.at.visits-smaller c).After-queue_child) c.queue_child-in-Some.new.pass
+    c.note.new.pass.lists.search.found (taken_one noted) (noted_is noted) (near_notes noted) c.queue_child.new.pass c.goes_right-right.result
+    c.goes_right-right.ensures c.queue_child.ensures.looks c.queue_child.ensures.others (far_side half) c.queue_child-in-Some.new.pass
     c.queue_child-in-Some.ensures.others in
     omega (arith, left, visited)

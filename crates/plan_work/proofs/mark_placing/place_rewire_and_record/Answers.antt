@@ -154,7 +154,8 @@ returns-in-Placed-clause-textbook g c = λ steers filled alone book.
     let tried = of_held before.view (λ hand. IsTried before after hand c.choose_and_place-placing.result.0 hanging) may.hand may.held
     c.choose_and_place-placing.ensures.tried in
     let placed = subst (λ placing. IsTried before after may.hand placing hanging) c.in-Placed.is tried in
-    let whole = subst (λ placing. IsTriedWhole (space_of shared.task.scene) before.view after.view c.args.k p m before.lists.near placing hanging) c.in-Placed.is
+    let whole = subst (λ placing. IsTriedWhole (space_of shared.task.scene) before.view after.view c.args.k p m before.lists.near placing hanging)
+    c.in-Placed.is
     (c.choose_and_place-placing.ensures.whole alone.whole) in
     let reach = c.requires.filled.1.filled.in_reach in
     let filled_class = subst (λ n. IsFilledWhole before.view p n before.lists.near) (sym c.choose_and_place-placing.ensures.class) filled in

@@ -67,7 +67,8 @@ returns-then-class-old-clause-whole c = λ whole counted filled.
       shown,
       subst (IsFilledWhole after.view c.args.p c.class-class.result) (sym (ap (λ (x : PassState). x.lists.near) c.number.ensures.view))
           (subst (λ n. IsFilledWhole after.view c.args.p n before.lists.near) (sym same)
-          (IsFilledWhole-still before.view after.view c.number.ensures.goes_on.later.run (λ n. shown (PointOf n) (λ e. cc)) c.args.p c.args.old before.lists.near
+          (IsFilledWhole-still before.view after.view c.number.ensures.goes_on.later.run (λ n. shown (PointOf n) (λ e. cc)) c.args.p c.args.old
+          before.lists.near
           filled)),
     )
 

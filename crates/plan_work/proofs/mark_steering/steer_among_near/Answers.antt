@@ -133,7 +133,8 @@ returns-in-Some-clause-whole c = λ whole counted.
     let same : SeesAsBefore mid.view after.view = λ name. steps.sees_anew.others name (λ no. no) in (
       SeesButCount-trans before mid.view after.view filled.0 (SeesButCount-all mid.view after.view same),
       subst (IsFilledWhole after.view _ c.fill_near-class.result) (sym (ap (λ (x : PassState). x.lists.near) steps.view_alone))
-          (IsFilledWhole-still mid.view after.view steps.sees_anew.goes_on.later.run (λ n. same (PointOf n)) _ c.fill_near-class.result mid.lists.near filled.1),
+          (IsFilledWhole-still mid.view after.view steps.sees_anew.goes_on.later.run (λ n. same (PointOf n)) _
+          c.fill_near-class.result mid.lists.near filled.1),
     )
 
 pub returns-clause-whole : goal.returns-clause-whole

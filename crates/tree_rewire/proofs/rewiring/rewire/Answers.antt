@@ -74,7 +74,8 @@ nodes-preserved g c =
           (placed_pair before c.args.k from held.0 held.1 c.requires.placed c.hand_point-from.ensures) done.pair done.rewired);
       spread = HasSpreadFalls-more space (Contains c.args.pass.now.lists.near) (c.args.k + 1) n before c.nodes.pass.view new.view
           h.steps.sees_anew.goes_on done.steps.sees_anew.goes_on
-          (near_read (Contains c.args.pass.now.lists.near) c.args.pass.now.lists.near c.nodes.pass.lists.near c.nodes.index n h.steps.near c.near_node-node.ensures
+          (near_read (Contains c.args.pass.now.lists.near) c.args.pass.now.lists.near c.nodes.pass.lists.near c.nodes.index n
+          h.steps.near c.near_node-node.ensures
           (All-contains_itself c.args.pass.now.lists.near))
           (reach g (goal.at.nodes-preserved g c).After-near_node-node).present
           (ap is_some (placed_stands before c.args.k from held.0 held.1 c.requires.placed c.hand_point-from.ensures))

@@ -54,7 +54,8 @@ choose-parent-requires-clause-near c κs =
     let holds = c.requires.holds in
     let before = c.args.pass.now in
     let all = at_hand (λ hand. All (IsInReach before.view hand.point) before.lists.near) before.view.hand holds.hand holds.held c.requires.near in
-    All-in_reach-later before.view c.point-from.new.pass.view c.hand_point-p.result before.lists.near c.point-from.new.pass.lists.near c.point-from.ensures.goes_on
+    All-in_reach-later before.view c.point-from.new.pass.view c.hand_point-p.result before.lists.near c.point-from.new.pass.lists.near
+    c.point-from.ensures.goes_on
     (ap (λ (s : PassState). s.lists.near) c.point-from.ensures.view)
     (subst (λ p. All (IsInReach before.view p) before.lists.near) (sym (p_is c.requires.holds c.hand_point-p.ensures)) all)
 
@@ -95,8 +96,10 @@ returns-clause-near c =
     now.view.hand holds.hand held c.write_tree.ensures.view in
     let all = at_hand (λ hand. All (IsInReach before.view hand.point) before.lists.near) before.view.hand holds.hand holds.held c.requires.near in
     if_hand (λ hand. All (IsInReach after.view hand.point) after.lists.near) after.view.hand hung (ap (λ (s : PassState). s.view.hand) is)
-    (All-in_reach-later now.view after.view holds.hand.point now.lists.near after.lists.near c.write_tree.ensures.goes_on (ap (λ (s : PassState). s.lists.near) is)
-    (All-in_reach-later mid.view now.view holds.hand.point mid.lists.near now.lists.near choice.seen.goes_on (ap (λ (s : PassState). s.lists.near) choice.view_alone)
+    (All-in_reach-later now.view after.view holds.hand.point now.lists.near after.lists.near c.write_tree.ensures.goes_on
+    (ap (λ (s : PassState). s.lists.near) is)
+    (All-in_reach-later mid.view now.view holds.hand.point mid.lists.near now.lists.near choice.seen.goes_on
+    (ap (λ (s : PassState). s.lists.near) choice.view_alone)
     (All-in_reach-later before.view mid.view holds.hand.point before.lists.near mid.lists.near c.point-from.ensures.goes_on
     (ap (λ (s : PassState). s.lists.near) c.point-from.ensures.view) all)))
 
