@@ -21,6 +21,7 @@ from judge import verdict
 from make_scenes import scene_of, with_faults
 from scene import Fault, read
 from textbook import answer
+from usage import words_or_usage
 
 # How many workers plan each scene.
 WORKERS = (1, 2, 3, 4, 16, 64)
@@ -99,4 +100,4 @@ def main(program, first=0, count=200):
 
 
 if __name__ == "__main__":
-    sys.exit(main(*sys.argv[1:]))
+    sys.exit(main(*words_or_usage(__doc__)))

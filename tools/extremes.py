@@ -23,6 +23,7 @@ from math import atan2, gcd
 
 from judge import verdict
 from scene import KEYS, KINDS, MOST_CORNERS, MOST_TEXT_BYTES, Scene
+from usage import words_or_usage
 
 MOST_MARKS = KEYS[2][b"mark"][2]
 MOST_OBSTACLES = KEYS[2][b"obstacle"][2]
@@ -302,4 +303,4 @@ def main(program, part="both"):
 
 
 if __name__ == "__main__":
-    sys.exit(main(*sys.argv[1:]))
+    sys.exit(main(*words_or_usage(__doc__)))

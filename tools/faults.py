@@ -29,6 +29,7 @@ import tempfile
 
 from judge import verdict
 from scene import read
+from usage import words_or_usage
 
 HERE = os.path.dirname(os.path.abspath(__file__))
 REWIRED = b"""prrt 1
@@ -223,4 +224,4 @@ def main(program, *words):
 
 
 if __name__ == "__main__":
-    sys.exit(main(*sys.argv[1:]))
+    sys.exit(main(*words_or_usage(__doc__)))

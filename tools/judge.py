@@ -18,6 +18,7 @@ from geometry import Space, squared_distance
 from rules import class_of, cost, mark_points, radius_of_class, steer
 from scene import read
 from textbook import Record, Tree, head_lines
+from usage import words_or_usage
 
 MOST_WORKERS = 64
 N = r"(0|[1-9][0-9]*)"
@@ -220,7 +221,7 @@ def verdict(scene, text, full=True, most=None):
 
 
 if __name__ == "__main__":
-    with open(sys.argv[1], "rb") as file:
+    with open(words_or_usage(__doc__)[0], "rb") as file:
         answer = verdict(read(file.read()), sys.stdin.read())
     print(answer)
     sys.exit(0 if answer == "lawful" else 1)

@@ -10,6 +10,7 @@ import sys
 
 from geometry import hull
 from scene import KEYS, Scene
+from usage import words_or_usage
 
 MOST_BODY = 4_096
 MOST_CLEARANCE = 4_096
@@ -156,4 +157,4 @@ def change(rng, lines):
 
 
 if __name__ == "__main__":
-    sys.stdout.write(scene_of(*map(int, sys.argv[1:])).text())
+    sys.stdout.write(scene_of(*map(int, words_or_usage(__doc__))).text())

@@ -10,8 +10,11 @@ import os
 import sys
 import time
 
+from usage import words_or_usage
+
+words = words_or_usage(__doc__)
 begun = time.perf_counter()
-child = os.posix_spawnp(sys.argv[1], sys.argv[1:], os.environ)
+child = os.posix_spawnp(words[0], words, os.environ)
 _, status, usage = os.wait4(child, 0)
 seconds = time.perf_counter() - begun
 used = usage.ru_utime + usage.ru_stime

@@ -12,6 +12,8 @@ import subprocess
 import sys
 import time
 
+from usage import words_or_usage
+
 COMMANDS = ["plain", "plan 1", "plan 2", "plan 4", "plan 64"]
 MOST_MARKS = 262_143
 # A number of a generated scene, and how many marks it is to have; None leaves its own.
@@ -77,4 +79,4 @@ def main(program, rounds="5", other=None):
 
 
 if __name__ == "__main__":
-    main(*sys.argv[1:])
+    main(*words_or_usage(__doc__))

@@ -15,6 +15,7 @@ import sys
 from dataclasses import dataclass
 
 from scene import MOST_TEXT_BYTES
+from usage import words_or_usage
 
 FOUND = b"prrt 1\nroom 100 100\nstart 0 0\ngoal 30 40 30 40\nstep 100\nmark 30 40\n"
 NO_PATH = b"prrt 1\nroom 10 10\nstart 5 5\ngoal 0 0 1 1\nstep 4\n"
@@ -83,12 +84,10 @@ def ending(program, case):
     return done.returncode, done.stdout or b""
 
 
-def main():
-    if len(sys.argv) != 2:
-        sys.exit(__doc__)
+def main(program):
     wrong = 0
     for case in CASES:
-        status, written = ending(sys.argv[1], case)
+        status, written = ending(program, case)
         right = (status, written) == (case.status, case.written)
         wrong += not right
         print(f"{status:3}  {case.name}" + ("" if right else f": wrong, wrote {written[:80]!r} in place of {case.status} with {case.written!r}"))
@@ -97,4 +96,4 @@ def main():
 
 
 if __name__ == "__main__":
-    sys.exit(main())
+    sys.exit(main(*words_or_usage(__doc__)))

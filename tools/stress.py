@@ -20,6 +20,7 @@ from concurrent.futures import ProcessPoolExecutor
 
 from judge import verdict
 from scene import Scene
+from usage import words_or_usage
 
 MARK = re.compile(r"^mark (\d+) worker (\d+) turn \d+ nearest (\d+) (?:same (\d+)|placed class \d+ first (\d+) )?", re.MULTILINE)
 NODE = re.compile(r"^node (\d+) at \d+ \d+ parent (\d+) ", re.MULTILINE)
@@ -138,4 +139,4 @@ def main(program, runs="1000", seed="0", workers="64"):
 
 
 if __name__ == "__main__":
-    sys.exit(main(*sys.argv[1:]))
+    sys.exit(main(*words_or_usage(__doc__)))

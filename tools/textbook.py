@@ -2,7 +2,8 @@
 """Textbook RRT* from the rules alone (docs/planning.md): a scene on standard input, its report on standard output.
 
 It keeps no costs: every cost-to-come is the sum along the parents, taken anew. So it is slow, and has little to get wrong.
-Usage: textbook.py [full] < SCENE. It ends with the statuses of the planner: 0, 1, 3 and 4.
+Usage: textbook.py short < SCENE, or textbook.py full < SCENE, for the short or the full report. It ends with the
+statuses of the planner: 0, 1, 3 and 4.
 """
 
 import sys
@@ -11,6 +12,7 @@ from dataclasses import dataclass
 from geometry import Space, squared_distance
 from rules import class_of, cost, mark_points, radius_of_class, steer
 from scene import MOST_TEXT_BYTES, Fault, read
+from usage import words_or_usage
 
 
 @dataclass
@@ -131,6 +133,7 @@ def answer(text, full):
 
 
 if __name__ == "__main__":
-    output, code = answer(sys.stdin.buffer.read(), sys.argv[1:] == ["full"])
+    full = words_or_usage(__doc__) == ["full"]
+    output, code = answer(sys.stdin.buffer.read(), full)
     sys.stdout.write(output)
     sys.exit(code)

@@ -1,7 +1,7 @@
 #!/usr/bin/env python3
-"""Tries wrong bodies that the contracts must refuse, besides those that the gate tries: wrong_bodies.py [CRATE..]
+"""Tries wrong bodies that the contracts must refuse, besides those that the gate tries.
 
-Each is an edit of the form that CONTRIBUTING.md says, in wrong_bodies/CRATE/. A copy of the crates gets these in place of
+Usage: wrong_bodies.py all, or wrong_bodies.py CRATE.. for the wrong bodies of some crates. Each is an edit of the form that CONTRIBUTING.md says, in wrong_bodies/CRATE/. A copy of the crates gets these in place of
 the gate's, and `rt must-fail` tries them there. It ends with 1 if a crate is still proved with one of them.
 """
 
@@ -10,6 +10,8 @@ import shutil
 import subprocess
 import sys
 import tempfile
+
+from usage import words_or_usage
 
 TOOLS = os.path.dirname(os.path.abspath(__file__))
 TOP = os.path.dirname(TOOLS)
@@ -26,7 +28,7 @@ def copy_with_bodies(room, crates):
 
 
 def main(*names):
-    crates = names or sorted(os.listdir(BODIES))
+    crates = sorted(os.listdir(BODIES)) if names == ("all",) else names
     unknown = [name for name in crates if not os.path.isdir(f"{BODIES}/{name}")]
     if unknown:
         print(f"no wrong bodies of {' '.join(unknown)}", file=sys.stderr)
@@ -37,4 +39,4 @@ def main(*names):
 
 
 if __name__ == "__main__":
-    sys.exit(main(*sys.argv[1:]))
+    sys.exit(main(*words_or_usage(__doc__)))

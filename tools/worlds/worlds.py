@@ -1,17 +1,25 @@
 #!/usr/bin/env python3
-"""Plays shared runs at random, one atomic step at a time, and holds each world against the law of worlds. See docs/worlds.md.
+"""Plays shared runs at random, one atomic step at a time, and holds each world against the law of worlds.
 
-Usage: worlds.py [FIRST [COUNT]] plays the runs of so many numbers (0 and 50 if left out; with --bugs 0 and 300), changes worlds in between, and prints
-counts. `worlds.py --bugs [FIRST [COUNT]]` plants one bug after another into the steps; each is to be reported. It ends with 1
-if a lawful run was reported, a world was taken for lawful that is none, or a bug was not reported.
+See docs/worlds.md.
+
+Usage: worlds.py FIRST [COUNT] plays the runs of so many numbers (50 if left out) from the first on, changes worlds in
+between, and prints counts. `worlds.py --bugs [FIRST [COUNT]]` plants one bug after another into the steps (numbers 0
+and 300 if left out); each is to be reported. It ends with 1 if
+a lawful run was reported, a world was taken for lawful that is none, or a bug was not reported.
 """
 
 import random
 import sys
 from collections import Counter
+from pathlib import Path
+
+# what plays worlds shares exact geometry, rules and scenes with the scripts of the folder above
+sys.path.append(str(Path(__file__).resolve().parent.parent))
 
 from make_scenes import polygon
 from scene import Scene
+from usage import words_or_usage
 from world_bugs import BUGS
 from world_calls import Broken, Pass
 from world_law import are_behind, broken_parts, is_world
@@ -357,7 +365,8 @@ def report_of(number, bug):
 
 
 if __name__ == "__main__":
-    arguments = [word for word in sys.argv[1:] if word != "--bugs"]
+    words = words_or_usage(__doc__)
+    arguments = [word for word in words if word != "--bugs"]
     # a bug that shows in few runs gets more of them; most show in the first
-    play, count = (play_bugs, "300") if "--bugs" in sys.argv else (play_all, "50")
+    play, count = (play_bugs, "300") if "--bugs" in words else (play_all, "50")
     sys.exit(play(*(int(word) for word in arguments + ["0", count][len(arguments) :])))
