@@ -1,11 +1,11 @@
 //! The planner by several workers.
 
-ghost use Rattle.std.specs.Prelude.{◌≡◌, ◌+◌, ◌<◌, ◌≤◌, ℕ, [], ◌∷◌, All, IfOk, Some, length, slice_index_or};
+ghost use Rattle.std.specs.Prelude.{◌≡◌, ◌+◌, ◌<◌, ◌≤◌, ℕ, [], ◌∷◌, All, IfOk, List, Some, length, slice_index_or};
 ghost use Rattle.plan_model.specs.Spaces.ConfigurationSpace.{space_of};
 ghost use Rattle.plan_model.specs.Trees.TreeStates.{GrowsInto};
 ghost use Rattle.plan_model.specs.declared.limits.TheConstants.{MOST_WORKERS};
 ghost use Rattle.plan_model.specs.declared.records.Record.{Record};
-ghost use Rattle.plan_words.specs.States.{GoesOn, MayClaim, PassState};
+ghost use Rattle.plan_words.specs.States.{GoesOn, HasWholeShare, MayClaim, PassState};
 ghost use Rattle.plan_work.specs.OneWorker.{IsOfTextbook};
 ghost use Rattle.plan_work.specs.Workers.{HasDone, HasTakenOver};
 ghost use Rattle.step_core.specs.GrownRuns.{state_of_grown};
@@ -19,6 +19,7 @@ use std::thread;
 use std::thread::Threads;
 use step_core::Grown;
 use swept_check::Clearing;
+use tree_rewire::tighten;
 
 /// RRT* by 1 to `MOST_WORKERS` workers over the marks (the samples) of a task below a limit, which go on from a run. Each mark
 /// below the limit then has one record. Each worker has a thread of its own; if no thread can be made, they work one after
@@ -54,7 +55,8 @@ pub fn grow<R: Threads + Sync, C: Clearing, G: Gate>(
 {
     let (shared, mut passes) = Shared::start(alloc, grown, workers)?;
     work_all(rt, &shared, hall, limit, gate, passes.as_mut_slice());
-    let pass = take_over_all(&shared, passes);
+    let mut pass = take_over_all(&shared, passes);
+    lower_loose(&shared, &mut pass, workers);
     Ok(shared.end(pass))
 }
 
@@ -104,4 +106,16 @@ fn take_over_all(shared: &Shared, passes: Vec<Pass>) -> Pass
         shared.join(&mut pass, other);
     }
     pass
+}
+
+/// Lowers the nodes that several workers have left loose, so that settling finds none. One worker leaves none.
+fn lower_loose(shared: &Shared, pass: &mut Pass, workers: u32)
+    requires may_claim { MayClaim shared.now pass.old }
+    requires whole { HasWholeShare pass.old.view }
+    ensures taken { (passes : List PassState) → HasTakenOver shared.now passes pass.old → HasTakenOver shared.now passes pass.new }
+    ensures one { workers ≡ 1 → pass.new ≡ pass.old }
+{
+    if workers > 1 {
+        tighten(shared, pass);
+    }
 }

@@ -1,10 +1,12 @@
 //! Runs by one worker and by several, and what their gates are told.
 
 ghost use Rattle.std.specs.Prelude.{◌≡◌, ◌≤◌, length};
+ghost use Rattle.plan_model.specs.Spaces.Clearance.{ClearAt};
+ghost use Rattle.plan_model.specs.Spaces.ConfigurationSpace.{space_of};
 ghost use Rattle.plan_model.specs.declared.limits.TheConstants.{MOST_WORKERS};
 
 use crate::support::{Entry, TO_REWIRE, assert_node, assert_records, small_task, sure, task_to};
-use plan_model::{MOST_WORKERS, Outcome, Point, Record};
+use plan_model::{Goal, MOST_WORKERS, Outcome, Point, Record, SmallScene, Task};
 use plan_work::{Gate, NoGate, grow};
 use std::alloc::Global;
 use std::process::Abort;
@@ -325,18 +327,20 @@ fn gates_are_told_of_each_turn(rt: HostRuntime) {
     }
 }
 
-/// A gate for two workers: worker 0 goes on with its first mark only after worker 1 has handled one, and worker 1 only after
+/// A gate for two workers: worker 0 goes on with its first mark only after this turn of worker 1, and worker 1 only after
 /// worker 0 has come to one. One thread alone cannot pass it.
 #[derive(Drop)]
 struct OtherFirst {
+    turn: u32,
     come: AtomicBool,
     handled: AtomicBool,
     in_time: AtomicBool,
 }
 
 impl OtherFirst {
-    fn new() -> OtherFirst {
+    fn new(turn: u32) -> OtherFirst {
         OtherFirst {
+            turn,
             come: AtomicBool::new(false),
             handled: AtomicBool::new(false),
             in_time: AtomicBool::new(true),
@@ -366,7 +370,7 @@ impl Gate for OtherFirst {
     }
 
     fn after(&self, worker: u32, turn: u32) {
-        if (worker, turn) == (1, 0) {
+        if (worker, turn) == (1, self.turn) {
             self.handled.store(true, Ordering::SeqCst);
         }
     }
@@ -387,11 +391,68 @@ fn assert_both_at_work<R: Abort>(rt: &R, grown: &Grown)
 
 #[test]
 fn a_worker_goes_on_while_another_waits(rt: HostRuntime) {
-    let gate = OtherFirst::new();
+    let gate = OtherFirst::new(0);
     let grown = small_run(&rt, rt.alloc(), 2, 3, &gate);
     assert_handled(&rt, &gate);
     assert_whole(&rt, &grown, 2, 3);
     assert_both_at_work(&rt, &grown);
+    drop(grown);
+    drop(gate);
+}
+
+/// Where all begins in a wide room.
+const MIDDLE: Point = Point { x: 150, y: 150 };
+
+/// Eight marks above and below the middle. Each of the first two is to give a cheaper way to a node on its side, and another node hangs
+/// below that, too far away from the new one to be looked at.
+static FAR_BELOW: [Point; 8] = [
+    Point { x: 190, y: 180 },
+    Point { x: 110, y: 120 },
+    Point { x: 150, y: 200 },
+    Point { x: 190, y: 229 },
+    Point { x: 230, y: 249 },
+    Point { x: 150, y: 100 },
+    Point { x: 110, y: 71 },
+    Point { x: 70, y: 51 },
+];
+
+/// The task of these marks, by steps of 50, and with a gamma by which all nodes within a step are near.
+fn task_in_wide_room<R: Abort>(rt: &R, alloc: Global) -> Task
+    ensures clear { ClearAt (space_of result.scene) result.scene.start }
+    ensures marks { length result.marks ≡ 8 }
+{
+    let small = SmallScene {
+        room: Point { x: 300, y: 300 },
+        start: MIDDLE,
+        goal: Goal {
+            low: MIDDLE,
+            high: MIDDLE,
+        },
+        step: 50,
+        gamma: 1000,
+        seed: 0,
+        strips: 1,
+    };
+    sure(rt, small.task(alloc, &FAR_BELOW))
+}
+
+/// The run of these marks by two workers.
+fn far_below_run<R: Threads + Sync + Abort>(rt: &R, alloc: Global, gate: &OtherFirst) -> Grown {
+    let grown = sure(rt, Grown::new(alloc, task_in_wide_room(rt, alloc)));
+    let hall = sure(rt, Hall::new(alloc, &grown.task().scene));
+    let run = sure(rt, grow(rt, alloc, grown, &hall, 2, 8, gate));
+    drop(hall);
+    run
+}
+
+// Worker 0 has one of the first two marks in hand while worker 1 handles all others, so that it has not seen the last node on its side.
+#[test]
+fn no_node_is_left_loose(rt: HostRuntime) {
+    let gate = OtherFirst::new(6);
+    let grown = far_below_run(&rt, rt.alloc(), &gate);
+    assert_handled(&rt, &gate);
+    assert_node(&rt, &grown, 5, &Some((230, 249, 4, 36_793)));
+    assert_node(&rt, &grown, 8, &Some((70, 51, 7, 36_793)));
     drop(grown);
     drop(gate);
 }

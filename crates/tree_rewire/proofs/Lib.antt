@@ -10,3 +10,4 @@ pub mod TightCosts
 pub mod MirroredTrees
 pub mod RewiredTrees
 pub mod LoweredBelow
+pub mod TightenedCosts

@@ -2,7 +2,8 @@
 //!
 //! It is RRT* as Karaman and Frazzoli have it (Sampling-based Algorithms for Optimal Motion Planning, IJRR 2011), over the words
 //! of `plan_words`. [`choose`] finds the near node through which a new one has the least cost-to-come. [`rewire`] takes the new
-//! node as the parent of each near node that is then cheaper, and [`spread`] lowers the nodes of its subtree.
+//! node as the parent of each near node that is then cheaper, and [`spread`] lowers the nodes of its subtree. What is left loose when all
+//! passes are joined [`tighten`] lowers.
 //!
 //! Others lower costs meanwhile, so each promise speaks of costs as the pass has seen them last. A parent that is cheaper than it
 //! was seen to be does no harm: a node then costs more than through it, and never less.
@@ -15,7 +16,9 @@ pub mod fall_laws;
 mod rewiring;
 mod seen_costs;
 mod spreading;
+mod tightening;
 
 pub use choosing::choose;
 pub use rewiring::rewire;
 pub use spreading::spread;
+pub use tightening::tighten;

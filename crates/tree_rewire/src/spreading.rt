@@ -1,10 +1,11 @@
 //! A lowered cost comes to the subtree of its node.
 
 ghost use Rattle.std.specs.Prelude.{◌≡◌, ◌<◌, IfNone, IfSome};
+ghost use Rattle.plan_words.specs.Claims.{SeesAsBefore};
 ghost use Rattle.plan_words.specs.States.{BelongsTo, HasWholeShare};
 ghost use Rattle.step_core.specs.ViewTrees.{MayLower};
 ghost use Rattle.step_core.specs.Views.{share};
-ghost use Rattle.tree_rewire.specs.SeenCosts.{NamesPoint, NamesTreeOrPoint, PassLowers, PassSees, SeesAnew, SeesPair};
+ghost use Rattle.tree_rewire.specs.SeenCosts.{NamesPoint, NamesTreeOrPoint, PassLowers, PassSees, SeesAnew, SeesPair, parent_seen};
 ghost use Rattle.tree_rewire.specs.Spreads.{AllTight, AllTightBut, HasSettledChanges, HasSpread, IsWithinSeenParent, KeepsParents};
 ghost use Rattle.tree_rewire.specs.Spreads.{NoneRises, OnlyAt, QueuesFallen, SpreadsFrom};
 
@@ -74,12 +75,15 @@ fn settle(shared: &Shared, pass: &mut Pass, node: u32)
 }
 
 /// The parent of a node, and the cost through it, if that is less than the node's cost.
-fn looser(shared: &Shared, pass: &mut Pass, node: u32) -> Option<(u32, u64)>
+pub(crate) fn looser(shared: &Shared, pass: &mut Pass, node: u32) -> Option<(u32, u64)>
     requires belongs { BelongsTo pass.old shared.now }
     requires pair { SeesPair pass.old.view node }
     ensures steps { PassSees NamesPoint shared.now pass.old pass.new }
     ensures some { IfSome result (λ lower. MayLower pass.new.view node lower.0 lower.1) }
+    ensures parent { IfSome result (λ lower. lower.0 ≡ parent_seen pass.new.view node) }
     ensures none { IfNone result (IsWithinSeenParent pass.new.view node) }
+    // a pass with the whole share finds nothing new
+    ensures whole { HasWholeShare pass.old.view → SeesAsBefore pass.old.view pass.new.view }
 {
     let (parent, kept_cost) = pass.pair(node).unwrap();
     let (_, above) = pass.pair(parent)?;

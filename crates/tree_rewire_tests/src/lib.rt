@@ -9,3 +9,5 @@ mod spread;
 mod spread_by_threads;
 #[cfg(test)]
 mod support;
+#[cfg(test)]
+mod tighten;

@@ -13,7 +13,7 @@ use std::thread::Threads;
 use swept_check::Hall;
 
 /// A node that comes round to near the start.
-const CLOSE: Point = Point { x: 0, y: 40 };
+pub(crate) const CLOSE: Point = Point { x: 0, y: 40 };
 
 /// Nodes in a chain that goes round and comes back, and four below it.
 ///
@@ -40,7 +40,8 @@ static ROUND: [Point; 10] = [
 ];
 
 /// A pass over a tree of these nodes, each of which hangs below the one that was nearest.
-fn begun_round<R: Threads + Sync + Abort>(rt: &R, alloc: Global) -> Begun
+pub(crate) fn begun_round<R: Threads + Sync + Abort>(rt: &R, alloc: Global) -> Begun
+    ensures one { result.shared.workers ≡ 1 }
     ensures hall { result.hall ≡ space_of result.shared.task.scene }
     ensures works { IsAtWork result.shared result.pass }
 {

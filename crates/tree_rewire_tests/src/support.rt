@@ -113,6 +113,7 @@ pub(crate) fn passes_after<R: Threads + Sync + Abort>(
     requires some { 1 ≤ workers }
     requires few { workers ≤ MOST_WORKERS }
     ensures opening { result.0.opening ≡ limit }
+    ensures workers { result.0.workers ≡ workers }
     ensures task { result.0.task ≡ task }
     ensures hall { result.1 ≡ space_of result.0.task.scene }
     ensures may_claim { All (MayClaim result.0) result.2.items }
@@ -159,6 +160,7 @@ pub(crate) fn begun_after<R: Threads + Sync + Abort>(
     requires clear { ClearAt (space_of task.scene) task.scene.start }
     requires limit { limit ≤ length task.marks }
     ensures opening { result.shared.opening ≡ limit }
+    ensures one { result.shared.workers ≡ 1 }
     ensures task { result.shared.task ≡ task }
     ensures hall { result.hall ≡ space_of result.shared.task.scene }
     ensures may_claim { MayClaim result.shared result.pass }

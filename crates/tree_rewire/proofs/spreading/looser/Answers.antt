@@ -1,14 +1,18 @@
-use Rattle.std.proofs.Common.{◌+◌, arith, inl, inr, subst}
+use Rattle.std.proofs.Common.{◌+◌, ◌∙◌, ap, arith, inl, inr, subst, sym}
 use Rattle.std.specs.Prelude.{IfSome}
 use Rattle.std.proofs.lemmas.Bool.{cases_lt}
 use Rattle.plan_model.specs.Geometry.Cost.{cost_of}
+use Rattle.plan_words.specs.Claims.{SeesAsBefore}
 use Rattle.plan_words.specs.Parents.{IsPairIn}
+use Rattle.plan_words.specs.States.{HasWholeShare}
 use Rattle.step_core.specs.Views.{sees}
-use Rattle.step_core.specs.WordNames.Word.{TreeOf}
+use Rattle.step_core.specs.WordNames.Word.{PointOf, TreeOf}
+use Rattle.step_core.specs.Words.{parent_in}
 use Rattle.tree_rewire.specs.SeenCosts.{NamesPoint, PassSees}
 use Rattle.tree_rewire.proofs.CostSteps.{PassSees-any_point, PassSees-trans}
 use Rattle.tree_rewire.proofs.LoweredCosts.{IsWithinSeenParent-parent, MayLower-parent}
 use Rattle.tree_rewire.proofs.SeenCosts.{pair_low, stands_later}
+use Rattle.tree_rewire.proofs.WholeShares.{HasWholeShare-later, SeesAsBefore-loaded, SeesAsBefore-trans}
 use Rattle.tree_rewire.proofs.spreading.looser.Goals as goal
 use Rattle.tree_rewire.proofs.spreading.looser.Goals.{After-costs_less_through}
 
@@ -23,6 +27,31 @@ loads c =
     let other = PassSees-any_point c.args.shared.now c.point-here.new.pass c.point-there.new.pass c.unwrap-parent.result.0 _ _ one.belongs
     c.point-there.ensures.view c.point-there.ensures.goes_on c.point-there.ensures.seen in
     PassSees-trans NamesPoint c.args.shared.now c.args.pass.now c.point-here.new.pass c.point-there.new.pass one other
+
+-- with the whole share they are found as they were seen
+wholes : (c : After-costs_less_through) → HasWholeShare c.args.pass.now.view → SeesAsBefore c.args.pass.now.view c.point-there.new.pass.view
+wholes c all =
+    let old = c.args.pass.now.view in
+    let mid = c.point-here.new.pass.view in
+    let new = c.point-there.new.pass.view in
+    let one = PassSees-any_point c.args.shared.now c.args.pass.now c.point-here.new.pass c.args.node _ _ c.requires.belongs c.point-here.ensures.view
+    c.point-here.ensures.goes_on c.point-here.ensures.seen in
+    SeesAsBefore-trans old mid new
+    (SeesAsBefore-loaded old mid (PointOf c.args.node) _ c.point-here.ensures.seen (c.point-here.ensures.whole all))
+    (SeesAsBefore-loaded mid new (PointOf c.unwrap-parent.result.0) _ c.point-there.ensures.seen
+    (c.point-there.ensures.whole (HasWholeShare-later NamesPoint old mid one.sees_anew all)))
+
+pub returns-then-costs_less_through-clause-whole : goal.returns-then-costs_less_through-clause-whole
+returns-then-costs_less_through-clause-whole c all = wholes (goal.at.returns-then-costs_less_through-clause-whole c).After-costs_less_through all
+
+pub returns-else-costs_less_through-clause-whole : goal.returns-else-costs_less_through-clause-whole
+returns-else-costs_less_through-clause-whole c all = wholes (goal.at.returns-else-costs_less_through-clause-whole c).After-costs_less_through all
+
+pub returns-then-costs_less_through-clause-parent : goal.returns-then-costs_less_through-clause-parent
+returns-then-costs_less_through-clause-parent c =
+    let steps = loads (goal.at.returns-then-costs_less_through-clause-parent c).After-costs_less_through in
+    let pair = subst (λ o. IfSome o (IsPairIn (sees c.args.pass.now.view (TreeOf c.args.node)))) c.unwrap-parent.ensures c.pair.ensures.found in
+    pair.parent ∙ ap parent_in (sym (steps.sees_anew.others (TreeOf c.args.node) (λ no. no)))
 
 pub returns-then-costs_less_through-clause-steps : goal.returns-then-costs_less_through-clause-steps
 returns-then-costs_less_through-clause-steps c = loads (goal.at.returns-then-costs_less_through-clause-steps c).After-costs_less_through
