@@ -1,11 +1,10 @@
 -- Nodes that cost no more than through their parents, while a pass with the whole share lowers another and spreads that.
-use Rattle.std.proofs.Common.{◌≡◌, ◌≢◌, ℕ, ◌+◌, ◌<◌, ◌≤◌, length, arith, inl, inr, sym, ap, ◌∙◌, subst}
+use Rattle.std.proofs.Common.{◌≡◌, ◌≢◌, ℕ, ◌+◌, ◌<◌, ◌≤◌, ◌^◌, arith, inl, inr, sym, ap, ◌∙◌, subst}
 use Rattle.std.proofs.lemmas.Bool.{cases_eq, cases_lt}
 use Rattle.plan_model.specs.Geometry.Cost.{cost_of}
 use Rattle.plan_model.specs.Trees.PointsByNumber.{IsPresent, point_of}
 use Rattle.plan_words.specs.Claims.{SeesAsBefore}
-use Rattle.plan_words.specs.States.{GoesOn}
-use Rattle.step_core.specs.LaterViews.{IsLawfulView}
+use Rattle.plan_words.specs.States.{GoesOn, PassState, SharedState}
 use Rattle.step_core.specs.ViewTrees.{MayLower}
 use Rattle.step_core.specs.Views.{sees, tree_seen}
 use Rattle.step_core.specs.WordNames.{WritesWord}
@@ -14,12 +13,24 @@ use Rattle.step_core.specs.Words.{cost_in, parent_in, tree_word}
 use Rattle.step_core.specs.declared.views.View.{View}
 use Rattle.step_core.proofs.PackedWords.{cost_in-tree_word, parent_in-tree_word}
 use Rattle.step_core.proofs.SeenViews.{IsPresent-later, SeesPoint-later}
-use Rattle.tree_rewire.specs.SeenCosts.{NamesTree, SeesPair, cost_seen, parent_seen, seen_cost_through}
+use Rattle.tree_rewire.specs.SeenCosts.{NamesPoint, NamesTree, NamesTreeOrPoint, PassLowers, PassSees, SeesPair, cost_seen, parent_seen, seen_cost_through}
 use Rattle.tree_rewire.specs.Spreads.{HasSettledChanges, HasSpread, IsWithinIfSeen, IsWithinParent, IsWithinSeenParent, KeepsParents, KeepsWithin, OnlyAt}
 use Rattle.tree_rewire.proofs.ChosenParents.{points_later}
+use Rattle.tree_rewire.proofs.CostSteps.{PassLowers-sees, PassSees-more, TreeOrPoint-point, TreeOrPoint-tree}
 use Rattle.tree_rewire.proofs.LoweredCosts.{IsWithinParent-below}
-use Rattle.tree_rewire.proofs.SeenCosts.{SeesPair-later, pair_low}
 use Rattle.tree_rewire.proofs.SpreadCosts.{IsWithinSeenParent-later}
+
+-- ---- steps
+
+-- points alone are looked at
+pub PassLowers-points : (shared : SharedState) (before after : PassState) → PassSees NamesPoint shared before after → PassLowers shared before after
+PassLowers-points shared before after steps =
+    PassLowers-sees shared before after (PassSees-more NamesPoint NamesTreeOrPoint shared before after TreeOrPoint-point steps)
+
+-- a node is lowered
+pub PassLowers-tree : (shared : SharedState) (before after : PassState) → PassSees NamesTree shared before after → PassLowers shared before after
+PassLowers-tree shared before after steps =
+    PassLowers-sees shared before after (PassSees-more NamesTree NamesTreeOrPoint shared before after TreeOrPoint-tree steps)
 
 -- ---- what stays
 
@@ -119,14 +130,14 @@ module _ (node : ℕ) (before mid after : View) (to_mid : GoesOn before mid) (go
       ]
 
   -- a node that is within its parent, if that is another than the lowered one, is so at last
-  then : (n : ℕ) → (parent_seen mid n ≢ node → IsWithinSeenParent mid n) → IsWithinIfSeen after n
-  then n was written = elim (cases_eq (sees after (TreeOf n)) (sees mid (TreeOf n))) [
+  at_last : (n : ℕ) → (parent_seen mid n ≢ node → IsWithinSeenParent mid n) → IsWithinIfSeen after n
+  at_last n was written = elim (cases_eq (sees after (TreeOf n)) (sees mid (TreeOf n))) [
     | inl same ↦ unmoved n was (kept.written n written) same
     | inr changed ↦ settled n changed
   ]
 
   pub IsWithinIfSeen-here : IsWithinIfSeen after node
-  IsWithinIfSeen-here = then node (λ apart seen. lowered)
+  IsWithinIfSeen-here = at_last node (λ apart seen. lowered)
 
   pub KeepsWithin-spread : KeepsWithin before after
   KeepsWithin-spread n within written =
@@ -135,7 +146,7 @@ module _ (node : ℕ) (before mid after : View) (to_mid : GoesOn before mid) (go
         | inr other ↦
             let same = only n other in
             let pair = first.written n (kept.written n written) in
-            then n
+            at_last n
             (λ apart.
             IsWithinSeenParent-later before mid n to_mid same (only (parent_seen before n) (λ e. apart (ap parent_in same ∙ e))) (within pair))
             written

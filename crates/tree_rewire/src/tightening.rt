@@ -26,9 +26,9 @@ pub fn tighten(shared: &Shared, pass: &mut Pass)
     ensures kept { KeepsParents pass.old.view pass.new.view }
     ensures within { AllWithinParents pass.new.view }
 {
-    let last = shared.task().marks.len() as u32;
-    'nodes: for node in 1..=last {
-        tighten_node(shared, pass, node);
+    let marks = shared.task().marks.len() as u32;
+    'marks: for mark in 0..marks {
+        tighten_node(shared, pass, mark + 1);
     }
 }
 
