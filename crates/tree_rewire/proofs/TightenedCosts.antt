@@ -1,5 +1,5 @@
 -- Nodes that cost no more than through their parents, while a pass with the whole share lowers another and spreads that.
-use Rattle.std.proofs.Common.{◌≡◌, ◌≢◌, ℕ, ◌+◌, ◌<◌, ◌≤◌, ◌^◌, arith, inl, inr, sym, ap, ◌∙◌, subst}
+use Rattle.std.proofs.Common.{◌≡◌, ◌≢◌, ℕ, ◌<◌, ◌≤◌, ◌^◌, arith, inl, inr, sym, ap, ◌∙◌, subst}
 use Rattle.std.proofs.lemmas.Bool.{cases_eq, cases_lt}
 use Rattle.plan_model.specs.Geometry.Cost.{cost_of}
 use Rattle.plan_model.specs.Trees.PointsByNumber.{IsPresent, point_of}
@@ -8,7 +8,7 @@ use Rattle.plan_words.specs.States.{GoesOn, PassState, SharedState}
 use Rattle.step_core.specs.ViewTrees.{MayLower}
 use Rattle.step_core.specs.Views.{sees, tree_seen}
 use Rattle.step_core.specs.WordNames.{WritesWord}
-use Rattle.step_core.specs.WordNames.Word.{PointOf, TreeOf}
+use Rattle.step_core.specs.WordNames.Word.{TreeOf}
 use Rattle.step_core.specs.Words.{cost_in, parent_in, tree_word}
 use Rattle.step_core.specs.declared.views.View.{View}
 use Rattle.step_core.proofs.PackedWords.{cost_in-tree_word, parent_in-tree_word}
