@@ -24,7 +24,8 @@ pub fn spread(shared: &Shared, pass: &mut Pass, node: u32)
     requires pair { SeesPair pass.old.view node }
     ensures belongs { BelongsTo pass.new shared.now }
     ensures seen { SeesAnew NamesTreeOrPoint pass.old.view pass.new.view }
-    ensures lists { (pass.new.lists.near ≡ pass.old.lists.near) × (pass.new.lists.around ≡ pass.old.lists.around) × (pass.new.lists.search ≡ pass.old.lists.search) }
+    ensures lists { (pass.new.lists.near ≡ pass.old.lists.near) × (pass.new.lists.around ≡ pass.old.lists.around)
+        × (pass.new.lists.search ≡ pass.old.lists.search) }
     // by what is seen then, each child of the node, and of each node whose cost fell, costs no more than through its parent
     ensures spread { HasSpread node pass.old.view pass.new.view }
     // and so does each node that is seen with another parent or cost, if its parent is seen with a cost
