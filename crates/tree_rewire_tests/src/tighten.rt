@@ -69,16 +69,25 @@ fn leave_loose<R: Abort>(rt: &R, shared: &Shared, hall: &Hall, pass: &mut Pass)
     lower_alone(rt, shared, hall, pass, CLOSE, START);
 }
 
+/// Lowers what is loose, by the only pass.
+fn tighten_alone(shared: &Shared, pass: &mut Pass)
+    requires works { IsAtWork shared.now pass.old }
+    requires one { shared.now.workers ≡ 1 }
+    ensures { IsAtWork shared.now pass.new }
+{
+    tighten(shared, pass);
+}
+
 /// Compares the loose nodes, lowers them by the only pass, and compares them again.
 fn expect_tightened<R: Abort>(rt: &R, shared: &Shared, pass: &mut Pass)
     requires works { IsAtWork shared.now pass.old }
     requires one { shared.now.workers ≡ 1 }
 {
     expect_pairs(rt, shared, pass, &LOOSE);
-    tighten(shared, pass);
+    tighten_alone(shared, pass);
     expect_pairs(rt, shared, pass, &TIGHT);
     // what is tight stays so
-    tighten(shared, pass);
+    tighten_alone(shared, pass);
     expect_pairs(rt, shared, pass, &TIGHT);
 }
 

@@ -43,6 +43,12 @@ lower_loose-requires-clause-whole g c =
     c.take_over_all-pass.result takes some_pass
     ∙ c.in_ok-shared.ensures.count ∙ sym c.in_ok-shared.ensures.workers ∙ sym (ap (λ (r : SharedRun). r.workers) takes.may_claim.belongs.run)
 
+pub end-requires-clause-belongs : goal.end-requires-clause-belongs
+end-requires-clause-belongs g c = (c.lower_loose.ensures.taken _ c.take_over_all-pass.ensures.taken).may_claim.belongs
+
+pub end-requires-clause-idle : goal.end-requires-clause-idle
+end-requires-clause-idle g c = (c.lower_loose.ensures.taken _ c.take_over_all-pass.ensures.taken).may_claim.idle
+
 pub end-requires-clause-whole : goal.end-requires-clause-whole
 end-requires-clause-whole g c =
     let shared = c.in_ok-shared.shared in
