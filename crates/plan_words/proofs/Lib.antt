@@ -26,3 +26,5 @@ mod FirstPairs
 mod SeatSteps
 mod ChildCosts
 mod LoweredChains
+pub mod KeptFound
+pub mod RisingNumbers

@@ -1,5 +1,8 @@
 -- What a search keeps in a pass: the nodes that wait, how many were taken off, and those that it found among these.
-use Rattle.std.specs.Prelude.{◌≡◌, ℕ, ◌≤◌, ◌==◌, if◌then◌else◌, List, [], drop, length, map, take}
+use Rattle.std.specs.Prelude.{◌≡◌, ℕ, ◌+◌, ◌≤◌, ◌==◌, if◌then◌else◌, Bool, List, [], drop, length, map, nat_lt, take}
+use Rattle.plan_model.specs.Geometry.Cost.{cost_of}
+use Rattle.plan_model.specs.declared.geometry.Point.{Point}
+use Rattle.step_core.specs.Words.{cost_in}
 use Rattle.plan_words.specs.declared.spots.Cell.{Cell}
 use Rattle.plan_words.specs.declared.spots.Found.{Found}
 use Rattle.plan_words.specs.declared.spots.Spot.{Spot}
@@ -50,3 +53,11 @@ noted spot = record { node = spot.node; edge = 0; point = spot.point }
 
 abbrev pub numbers_of : List Found → List ℕ
 numbers_of found = map (λ (f : Found). f.node) found
+
+-- the nodes with the costs of their edges to p
+abbrev pub weighed : Point → List Found → List Found
+weighed p found = map (λ (f : Found). record f { edge = cost_of f.point p }) found
+
+-- by the words seen, a found node costs more than this and its edge
+abbrev pub is_dearer : (ℕ → ℕ) → ℕ → Found → Bool
+is_dearer words cost found = nat_lt (cost + found.edge) (cost_in (words found.node))

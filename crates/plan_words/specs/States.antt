@@ -75,6 +75,10 @@ with_view pass view = record pass { view = view }
 abbrev pub with_lists : PassState → Lists → PassState
 with_lists pass lists = record pass { lists = lists }
 
+-- the tree word of each node, as it was seen last
+abbrev pub tree_words : View → ℕ → ℕ
+tree_words view n = sees view (TreeOf n)
+
 -- Steps of a pass lead from the one view to the other: what the law says of a view holds of both, and the second is a later one.
 pub record GoesOn (before after : View) : Type 0 where
   pub was_lawful : IsLawfulView before

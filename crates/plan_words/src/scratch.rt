@@ -5,11 +5,11 @@
 //! spot that is not wanted is written, too, and dropped again, so there is room for one more.
 
 ghost use Rattle.std.specs.Prelude.{◌≡◌, ◌⊎◌, ℕ, ◌<◌, ◌≤◌, ◌+◌, ◌^◌, ◌++◌, ◌∷◌, [], if◌then◌else◌};
-ghost use Rattle.std.specs.Prelude.{IfOk, IfSome, IsPermutation, None, Some, length, option_to_list, slice_get};
+ghost use Rattle.std.specs.Prelude.{All, IfOk, IfSome, IsPermutation, None, Some, filter, length, option_to_list, slice_get, slice_set};
 ghost use Rattle.std.specs.List.Sorted.{IsNonDecreasing};
 ghost use Rattle.std.specs.Vec.{vec_capacity};
-ghost use Rattle.plan_words.specs.SearchLists.{no_search, noted, numbers_of};
-ghost use Rattle.plan_words.specs.States.{with_lists};
+ghost use Rattle.plan_words.specs.SearchLists.{is_dearer, no_search, noted, numbers_of};
+ghost use Rattle.plan_words.specs.States.{tree_words, with_lists};
 ghost use Rattle.plan_words.specs.Waiting.{HasSeenParent, IsOn};
 ghost use Rattle.step_core.specs.LaterViews.{IsLawfulView};
 
@@ -136,6 +136,35 @@ impl Pass {
         ensures { slice_get self.now.lists.search.found index ≡ Some result }
     {
         self.lists.search.found(index)
+    }
+
+    /// Puts another record in the place of the one found at this index, which is below their count. O(1).
+    #[inline]
+    pub fn set_found(&mut self, index: usize, found: Found)
+        requires { index < length self.old.lists.search.found }
+        ensures others { self.new ≡ with_lists self.old self.new.lists }
+        ensures set { self.new.lists ≡ record self.old.lists {
+          search = record self.old.lists.search { found = slice_set self.old.lists.search.found index found };
+        } }
+    {
+        self.lists.search.set_found(index, found);
+    }
+
+    /// Keeps of the nodes found those that cost more, as the pass saw them last, than this and their edges, in rising number. A node's
+    /// number is at most that of marks, and the cost is below 2^63. No jump depends on what is kept. O(n) for n found, and
+    /// O(k log k) for k kept.
+    pub fn keep_dearer(&mut self, cost: u64)
+        requires cost { cost < 2 ^ 63 }
+        requires low { All (λ f. f.node ≤ length self.old.view.run.marks) self.old.lists.search.found }
+        ensures others { self.new ≡ with_lists self.old self.new.lists }
+        ensures search { self.new.lists ≡ record self.old.lists { search = self.new.lists.search } }
+        ensures spots { self.new.lists.search.spots ≡ [] }
+        ensures same { IsPermutation (filter (is_dearer (tree_words self.old.view) cost) self.old.lists.search.found) self.new.lists.search.found }
+        ensures rising { IsNonDecreasing (numbers_of self.new.lists.search.found) }
+        // what the law says of a view holds of that of each pass
+        ensures lawful { IsLawfulView self.new.view }
+    {
+        self.lists.search.keep_dearer(&self.pairs, cost);
     }
 
     /// Fills the near list with the nodes that the search found, in rising number. O(n log n) for n nodes.

@@ -1,12 +1,16 @@
 //! What a search keeps: the nodes that wait to be visited, and those that it found.
 
 ghost use Rattle.std.specs.Prelude.{◌≡◌, ◌<◌, ◌≤◌, ◌+◌, ◌++◌, ◌∷◌, [], if◌then◌else◌};
-ghost use Rattle.std.specs.Prelude.{IfOk, IfSome, None, Some, length, option_to_list, slice_get};
-ghost use Rattle.plan_words.specs.SearchLists.{no_search, noted};
+ghost use Rattle.std.specs.Prelude.{◌^◌, All, IfOk, IfSome, IsPermutation, None, Some, filter, length, option_to_list, slice_get, slice_index, slice_set, take};
+ghost use Rattle.std.specs.List.Sorted.{IsNonDecreasing};
+ghost use Rattle.std.specs.Vec.{vec_capacity};
+ghost use Rattle.plan_words.specs.SearchLists.{found_in, is_dearer, no_search, noted, numbers_of};
 
+use crate::seen_pairs::SeenPairs;
 use crate::spots::{Cell, Found, Spot};
 use std::alloc::{AllocError, Global};
 use std::marker::Model;
+use step_core::pair_in;
 
 /// A plain list of cells of which so many were taken off; the rest are the spots that wait. In front, where cells were taken off, stand
 /// the nodes that were found, never more than were taken.
@@ -113,6 +117,32 @@ impl SearchStore {
         self.count += usize::from(wanted);
     }
 
+    /// Puts another record in the place of the one found at this index.
+    #[inline]
+    pub(crate) fn set_found(&mut self, index: usize, found: Found)
+        requires { index < length self.old.lists.found }
+        ensures { self.new ≡ record self.old { lists = record self.old.lists { found = slice_set self.old.lists.found index found } } }
+    {
+        self.cells[index] = Cell::of_found(found);
+    }
+
+    /// Keeps those found that were seen to cost more than this and their edges, in rising number. No jump depends on who does, and none
+    /// waits then.
+    pub(crate) fn keep_dearer(&mut self, pairs: &SeenPairs, cost: u64)
+        requires cost { cost < 2 ^ 63 }
+        requires low { All (λ f. f.node < length pairs.now) self.old.lists.found }
+        ensures room { self.new.room ≡ self.old.room }
+        ensures spots { self.new.lists.spots ≡ [] }
+        ensures same { IsPermutation (filter (is_dearer (slice_index pairs.now) cost) self.old.lists.found) self.new.lists.found }
+        ensures rising { IsNonDecreasing (numbers_of self.new.lists.found) }
+    {
+        let kept = keep_in_front(&mut self.cells, pairs, self.count, cost);
+        self.cells.truncate(kept);
+        self.cells.sort_unstable_by_key(|cell| cell.node);
+        self.taken = kept;
+        self.count = kept;
+    }
+
     /// How many were found.
     pub(crate) fn found_count(&self) -> usize
         ensures { result ≡ length self.now.lists.found }
@@ -127,4 +157,25 @@ impl SearchStore {
     {
         self.cells[index].found()
     }
+}
+
+/// Brings those of the first cells to the front that were seen to cost more than this and their edges, and returns how many they are.
+/// Each is written there, and counted if it is one.
+fn keep_in_front(cells: &mut Vec<Cell>, pairs: &SeenPairs, found: usize, cost: u64) -> usize
+    requires within { found ≤ length cells.old.items }
+    requires cost { cost < 2 ^ 63 }
+    requires low { All (λ cell. cell.node < length pairs.now) (take found cells.old.items) }
+    ensures within { result ≤ length cells.new.items }
+    ensures room { vec_capacity cells.new ≡ vec_capacity cells.old }
+    ensures kept { take result cells.new.items ≡ filter (λ cell. is_dearer (slice_index pairs.now) cost (found_in cell)) (take found cells.old.items) }
+{
+    let mut kept = 0;
+    'founds: for index in 0..found {
+        let cell = cells[index];
+        cells[kept] = cell;
+        let (_, seen) = pair_in(pairs.word(cell.node));
+        let is_dearer = cost + u64::from(cell.found().edge) < seen;
+        kept += usize::from(is_dearer);
+    }
+    kept
 }

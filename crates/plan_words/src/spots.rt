@@ -30,7 +30,7 @@ pub struct Found {
 /// What both are made of: four numbers, and nothing between them.
 #[derive(Clone, Copy)]
 pub(crate) struct Cell {
-    node: u32,
+    pub(crate) node: u32,
     /// 1 for a spot whose children are split by row, 0 for one of the others; the cost of the edge of a found node.
     tag: u32,
     point: Point,
