@@ -18,56 +18,13 @@ use Rattle.plan_model.specs.Geometry.Plane.{squared_distance}
 use Rattle.plan_model.specs.Trees.Nearness.{is_within, near}
 use Rattle.plan_model.specs.Trees.PointsByNumber.{point_at}
 use Rattle.plan_model.specs.Seen.Sights.{Sight}
+use Rattle.plan_words.proofs.RisingNumbers.{Contains-number, eqb-swap, same_numbers}
 use Rattle.plan_words.specs.SearchLists.{numbers_of}
 use Rattle.plan_words.specs.declared.spots.Found.{Found}
 use Rattle.kd_shared.specs.Searches.{AreGathered, AreNearSeen}
 use Rattle.plan_model.proofs.NearNodes.{Contains-near}
 use Rattle.plan_model.proofs.ListMembers.{Contains-after, Contains-first}
 use Rattle.step_core.proofs.DistinctNumbers.{Contains-cases, Contains-none}
-
--- ---- lists in rising order
-
-eqb-swap : (m n : ℕ) → eqb m n ≡ eqb n m
-eqb-swap m n = by_tests (eqb m n) (eqb n m) refl refl
-  where
-    by_tests : (one other : Bool) → eqb m n ≡ one → eqb n m ≡ other → one ≡ other
-    by_tests true true e f = refl
-    by_tests false false e f = refl
-    by_tests true false e f = (let same = eq-eqb n m (sym (eqb-true m n e)) in sym same ∙ f)
-    by_tests false true e f = (let same = eq-eqb m n (sym (eqb-true n m f)) in sym e ∙ same)
-
--- the first number is below the others
-below_others : (m : ℕ) (ns : List ℕ) → IsStrictlySortedBy nat_cmp (m ∷ ns) → (n : ℕ) → Contains ns n → m < n
-below_others m ns rising n (k, below, is) =
-    let less = below_from_sorted (m ∷ ns) 0 (suc k) n rising (omega arith) (omega (arith, below)) in
-    omega (arith, less, is)
-
--- lists that rise and contain the same numbers are the same
-same_numbers : (ms ns : List ℕ) → IsStrictlySortedBy nat_cmp ms → IsStrictlySortedBy nat_cmp ns
-    → ((n : ℕ) → Contains ms n → Contains ns n) → ((n : ℕ) → Contains ns n → Contains ms n) → ms ≡ ns
-same_numbers [] [] one two to back = refl
-same_numbers [] (n ∷ ns) one two to back = absurd (Contains-none n (back n (Contains-first n ns)))
-same_numbers (m ∷ ms) [] one two to back = absurd (Contains-none m (to m (Contains-first m ms)))
-same_numbers (m ∷ ms) (n ∷ ns) one two to back =
-    let first : m ≡ n =
-    elim (Contains-cases n m ns (to m (Contains-first m ms))) [
-      | inl is ↦ sym is
-      | inr later ↦ elim (Contains-cases m n ms (back n (Contains-first n ns))) [
-        | inl is ↦ is
-        | inr other ↦ absurd (omega (arith, below_others n ns two m later, below_others m ms one n other))
-      ]
-    ] in
-    let rest : ms ≡ ns =
-    same_numbers ms ns (sorted_tail nat_cmp m ms one) (sorted_tail nat_cmp n ns two)
-    (λ k own. elim (Contains-cases n k ns (to k (Contains-after m ms k own))) [
-      | inl is ↦ absurd (omega (arith, below_others m ms one k own, first, is))
-      | inr there ↦ there
-    ])
-    (λ k own. elim (Contains-cases m k ms (back k (Contains-after n ns k own))) [
-      | inl is ↦ absurd (omega (arith, below_others n ns two k own, first, is))
-      | inr there ↦ there
-    ]) in
-    ap (λ k. k ∷ ms) first ∙ ap (λ ks. n ∷ ks) rest
 
 -- ---- near nodes
 
@@ -91,10 +48,12 @@ IsStrictlyIncreasing-range n = λ k l.
     omega (arith, get_or-range_with_len 0 n k 0 (omega arith), get_or-range_with_len 0 n (k + 1) 0 (omega arith))
 
 module _ (points : List (Option Point)) (p : Point) (r : ℕ) where
+  pub near-increases : IsStrictlyIncreasing (near points p r)
+  near-increases =
+      IsStrictlyIncreasing-filter (λ n. is_within p r (point_at points n)) (range_with_len 0 (length points)) (IsStrictlyIncreasing-range (length points))
+
   near-rises : IsStrictlySortedBy nat_cmp (near points p r)
-  near-rises =
-      sorted_from_strictly_increasing (near points p r)
-      (IsStrictlyIncreasing-filter (λ n. is_within p r (point_at points n)) (range_with_len 0 (length points)) (IsStrictlyIncreasing-range (length points)))
+  near-rises = sorted_from_strictly_increasing (near points p r) near-increases
 
   pub near-within : (n : ℕ) → Contains (near points p r) n → is_within p r (point_at points n) ≡ true
   near-within n =
@@ -111,14 +70,6 @@ module _ (points : List (Option Point)) (p : Point) (r : ℕ) where
       same_numbers list (near points p r) (sorted_from_strictly_increasing list rising) near-rises
       (λ n own. Contains-near points p r n (only n (Contains-permutation list found n (IsPermutation-sym found list moved) own)))
       (λ n own. Contains-permutation found list n moved (all n (near-within n own)))
-
-Contains-number : (found : List Found) (n : ℕ) → Contains (numbers_of found) n → (f : Found) × Contains found f × (f.node ≡ n)
-Contains-number [] n k = absurd (Contains-none n k)
-Contains-number (f ∷ found) n k =
-    elim (Contains-cases f.node n (numbers_of found) k) [
-      | inl is ↦ (f, Contains-first f found, is)
-      | inr more ↦ (let own = Contains-number found n more in (own.0, Contains-after f found own.0 own.1, own.2))
-    ]
 
 -- The list of what a search gathered, once it is sorted.
 pub AreNearSeen-gathered : (before after : Sight) (p : Point) (r : ℕ) (found : List Found) (list : List ℕ) → AreGathered before after p r found
