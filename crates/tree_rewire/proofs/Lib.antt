@@ -8,6 +8,10 @@ pub mod SpreadFalls
 pub mod WholeShares
 pub mod TightCosts
 pub mod MirroredTrees
+pub mod FoundLists
+pub mod ChosenFound
+pub mod SkippedNodes
+pub mod RewiredFound
 pub mod RewiredTrees
 pub mod LoweredBelow
 pub mod TightenedCosts

@@ -80,7 +80,7 @@ module _ (view : View) (k : ℕ) (from : Point) (hand : Hand) (hand_is : view.ha
       subst (λ p. All (IsInReach view p) near) (sym point_is) (at_hand (λ h. All (IsInReach view h.point) near) view.hand hand hand_is all)
 
   -- it costs at most what it was placed at
-  placed_cost : IsLawfulView view → cost_seen view (k + 1) ≤ hand.cost
+  pub placed_cost : IsLawfulView view → cost_seen view (k + 1) ≤ hand.cost
   placed_cost lawful =
       let far : has_first hand.stage ≡ true = ap has_first own.counted in
       let fits = lawful.pair_fits hand hand_is far in

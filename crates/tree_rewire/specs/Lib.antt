@@ -3,3 +3,4 @@ pub mod Choices
 pub mod Spreads
 pub mod Rewirings
 pub mod Mirrors
+pub mod FoundNodes

@@ -2,8 +2,9 @@
 //!
 //! It is RRT* as Karaman and Frazzoli have it (Sampling-based Algorithms for Optimal Motion Planning, IJRR 2011), over the words
 //! of `plan_words`. [`choose`] finds the near node through which a new one has the least cost-to-come. [`rewire`] takes the new
-//! node as the parent of each near node that is then cheaper, and [`spread`] lowers the nodes of its subtree. What is left loose when all
-//! passes are joined [`tighten`] lowers.
+//! node as the parent of each near node that is then cheaper, and [`spread`] lowers the nodes of its subtree. The first two go by the
+//! near list of the pass; [`choose_found`] and [`rewire_found`] do the same by what its last search found, in whatever order. What is
+//! left loose when all passes are joined [`tighten`] lowers.
 //!
 //! Others lower costs meanwhile, so each promise speaks of costs as the pass has seen them last. A parent that is cheaper than it
 //! was seen to be does no harm: a node then costs more than through it, and never less.
@@ -12,6 +13,7 @@
 #![tactic(auto)]
 
 mod choosing;
+mod choosing_found;
 pub mod fall_laws;
 mod rewiring;
 mod seen_costs;
@@ -19,6 +21,7 @@ mod spreading;
 mod tightening;
 
 pub use choosing::choose;
-pub use rewiring::rewire;
+pub use choosing_found::choose_found;
+pub use rewiring::{rewire, rewire_found};
 pub use spreading::spread;
 pub use tightening::tighten;

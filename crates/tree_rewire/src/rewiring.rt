@@ -1,6 +1,7 @@
 //! The rewiring of nodes near a new one.
 
-ghost use Rattle.std.specs.Prelude.{◌≡◌, ◌≢◌, ℕ, suc, ◌+◌, ◌<◌, ◌≤◌, All, Contains, IfSome, IsSome};
+ghost use Rattle.std.specs.Prelude.{◌≡◌, ◌≢◌, ℕ, suc, ◌+◌, ◌<◌, ◌≤◌, All, Contains, IfSome, IsSome, List};
+ghost use Rattle.std.specs.List.Sorted.{IsStrictlyIncreasing};
 ghost use Rattle.plan_model.specs.Geometry.Bounds.{IsBounded};
 ghost use Rattle.plan_model.specs.Spaces.Clearance.{Clear};
 ghost use Rattle.plan_model.specs.Spaces.ConfigurationSpace.{space_of};
@@ -9,12 +10,14 @@ ghost use Rattle.plan_model.specs.Runs.OrderLaw.{IsAllowedEdge};
 ghost use Rattle.plan_model.specs.Trees.PointsByNumber.{IsPresent, point_of};
 ghost use Rattle.plan_model.specs.Runs.Textbook.{Nodes, Rewires, RewiresOne};
 ghost use Rattle.plan_words.specs.Claims.{SeesAsBefore};
+ghost use Rattle.plan_words.specs.SearchLists.{numbers_of};
 ghost use Rattle.plan_words.specs.States.{BelongsTo, HasWholeShare};
 ghost use Rattle.step_core.specs.ViewTrees.{SeesPoint};
 ghost use Rattle.step_core.specs.Views.{sees, setup_in, share, tree_seen};
 ghost use Rattle.step_core.specs.WordNames.{WritesWord};
 ghost use Rattle.step_core.specs.WordNames.Word.{TreeOf};
 ghost use Rattle.step_core.specs.Words.{tree_word};
+ghost use Rattle.tree_rewire.specs.FoundNodes.{AreOf, IsWeighed};
 ghost use Rattle.tree_rewire.specs.Mirrors.{Mirrors};
 ghost use Rattle.tree_rewire.specs.Rewirings.{HasPlaced, HasSpreadFalls};
 ghost use Rattle.tree_rewire.specs.SeenCosts.{IsInReach, NamesTreeOrPoint, NamesTree, PassLowers, PassSees, SeesAnew, SeesPair, cost_seen};
@@ -60,6 +63,67 @@ pub fn rewire<C: Clearing>(shared: &Shared, pass: &mut Pass, hall: &C, k: u32)
     'nodes: for index in 0..count {
         let node = pass.near_node(index);
         rewire_node(shared, pass, hall, k + 1, from, node);
+    }
+}
+
+/// The same with the nodes that the last search of the pass found, in whatever order, whose records have the costs of their edges to
+/// the new node.
+///
+/// Seen costs only fall: who is not dearer than through the new one now never is. So those that are dearer are picked first, without a
+/// jump on what was seen, and they alone are sorted, and looked at again when their turn comes. O(n) for n found nodes,
+/// O(k log k) for k that are dearer, and what the spreads take.
+pub fn rewire_found<C: Clearing>(shared: &Shared, pass: &mut Pass, hall: &C, k: u32)
+    requires belongs { BelongsTo pass.old shared.now }
+    requires part { 0 < share pass.old.view }
+    requires hall { C.space hall.now ≡ space_of shared.now.task.scene }
+    requires hand { IsSome pass.old.view.hand }
+    requires placed { IfSome pass.old.view.hand (λ hand. HasPlaced pass.old.view k hand) }
+    requires near { IfSome pass.old.view.hand (λ hand. All (IsInReach pass.old.view hand.point) (numbers_of pass.old.lists.search.found)) }
+    requires weighed { IfSome pass.old.view.hand (λ hand. All (IsWeighed pass.old.view hand.point) pass.old.lists.search.found) }
+    ensures belongs { BelongsTo pass.new shared.now }
+    ensures seen { SeesAnew NamesTreeOrPoint pass.old.view pass.new.view }
+    ensures lists { (pass.new.lists.near ≡ pass.old.lists.near) × (pass.new.lists.around ≡ pass.old.lists.around) }
+    ensures pairs { All (SeesPair pass.new.view) (numbers_of pass.old.lists.search.found) }
+    // each found node with a clear edge costs no more than through the new node, by the cost that this was placed at
+    ensures rewired { IfSome pass.old.view.hand (λ hand. (i : ℕ) → Contains (numbers_of pass.old.lists.search.found) i
+        → Clear (space_of shared.now.task.scene) hand.point (point_of (tree_seen pass.old.view).points i)
+        → cost_seen pass.new.view i ≤ hand.cost + cost_of hand.point (point_of (tree_seen pass.old.view).points i)) }
+    // as `rewire` promises it
+    ensures spread { HasSpreadFalls (space_of shared.now.task.scene) (Contains (numbers_of pass.old.lists.search.found)) (suc k) pass.old.view pass.new.view }
+    // a pass with the whole share sees a tree, and then that tree rewired as in the textbook, in rising number
+    ensures whole { HasWholeShare pass.old.view → (tree : Nodes) → Mirrors pass.old.view tree
+        → (near : List ℕ) → IsStrictlyIncreasing near → AreOf pass.old.lists.search.found near
+        → (after : Nodes) × Rewires (space_of shared.now.task.scene) tree (suc k) near after × Mirrors pass.new.view after }
+{
+    let cost = seen_cost(pass, k + 1);
+    pass.keep_dearer(cost);
+    rewire_few(shared, pass, hall, k);
+}
+
+/// Rewires the nodes found, in their order, as [`rewire`] does those on the near list.
+fn rewire_few<C: Clearing>(shared: &Shared, pass: &mut Pass, hall: &C, k: u32)
+    requires belongs { BelongsTo pass.old shared.now }
+    requires part { 0 < share pass.old.view }
+    requires hall { C.space hall.now ≡ space_of shared.now.task.scene }
+    requires hand { IsSome pass.old.view.hand }
+    requires placed { IfSome pass.old.view.hand (λ hand. HasPlaced pass.old.view k hand) }
+    requires near { IfSome pass.old.view.hand (λ hand. All (IsInReach pass.old.view hand.point) (numbers_of pass.old.lists.search.found)) }
+    ensures belongs { BelongsTo pass.new shared.now }
+    ensures seen { SeesAnew NamesTreeOrPoint pass.old.view pass.new.view }
+    ensures lists { (pass.new.lists.near ≡ pass.old.lists.near) × (pass.new.lists.around ≡ pass.old.lists.around) }
+    ensures rewired { IfSome pass.old.view.hand (λ hand. (i : ℕ) → Contains (numbers_of pass.old.lists.search.found) i
+        → Clear (space_of shared.now.task.scene) hand.point (point_of (tree_seen pass.old.view).points i)
+        → cost_seen pass.new.view i ≤ hand.cost + cost_of hand.point (point_of (tree_seen pass.old.view).points i)) }
+    ensures spread { HasSpreadFalls (space_of shared.now.task.scene) (Contains (numbers_of pass.old.lists.search.found)) (suc k) pass.old.view pass.new.view }
+    ensures whole { HasWholeShare pass.old.view → (tree : Nodes) → Mirrors pass.old.view tree
+        → (after : Nodes) × Rewires (space_of shared.now.task.scene) tree (suc k) (numbers_of pass.old.lists.search.found) after
+        × Mirrors pass.new.view after }
+{
+    let count = pass.found_count();
+    let from = pass.hand_point();
+    'few: for index in 0..count {
+        let found = pass.found(index);
+        rewire_node(shared, pass, hall, k + 1, from, found.node);
     }
 }
 
