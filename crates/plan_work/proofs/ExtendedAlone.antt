@@ -117,7 +117,8 @@ module _
     pub IsSteeredWhole-written : IsSteeredWhole written.view k m p
     IsSteeredWhole-written = IsSteeredWhole-still found.view written.view goes_on.later.run (λ n. unshown (PointOf n)) k m p steers_whole
 
-    pub IsFilledWhole-written : (class : ℕ) → IsFilledWhole found.view p class found.lists.near → IsFilledWhole written.view p class written.lists.near
+    pub IsFilledWhole-written : (class : ℕ) → IsFilledWhole found.view p class found.lists.search.found → IsFilledWhole written.view p class
+        written.lists.search.found
     IsFilledWhole-written class filled =
-        subst (IsFilledWhole written.view p class) (sym (ap (λ (x : PassState). x.lists.near) is))
-        (IsFilledWhole-still found.view written.view goes_on.later.run (λ n. unshown (PointOf n)) p class found.lists.near filled)
+        subst (IsFilledWhole written.view p class) (sym (ap (λ (x : PassState). x.lists.search.found) is))
+        (IsFilledWhole-still found.view written.view goes_on.later.run (λ n. unshown (PointOf n)) p class found.lists.search.found filled)

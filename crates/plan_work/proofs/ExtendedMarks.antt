@@ -92,12 +92,12 @@ pub record HasLooked (shared : SharedState) (before steering found : PassState) 
 
 pub HasLooked-looks :
     (shared : SharedState) (before emptied steering found : PassState) (k m : ℕ) (from p : Point)
-    → emptied ≡ record before { lists = record before.lists { near = [] } }
+    → emptied.view ≡ before.view
     → IsSome before.view.hand → IfSome before.view.hand (λ hand. hand.mark ≡ k) → KeepsRecords shared emptied steering
     → steering.view.hand ≡ emptied.view.hand → BelongsTo found shared → OnlyLooks steering.view found.view
     → HasSteered emptied.view steering.view k m from p → HasLooked shared before steering found k m from p
 HasLooked-looks shared before emptied steering found k m from p is some mark one same still two steers =
-    let view = ap (λ (x : PassState). x.view) is in
+    let view = is in
     let own = holding before.view (λ hand. hand.mark ≡ k) some mark in
     let begun = subst (λ v. GoesOn v steering.view) view one.goes_on in
     record {
@@ -237,17 +237,18 @@ module _
     }
 
     -- the near list, filled by the search that steered, is filled still
-    pub IsFilledSince-written : (emptied steering : PassState) (class : ℕ) → emptied ≡ record before { lists = record before.lists { near = [] } }
+    pub IsFilledSince-written : (emptied steering : PassState) (class : ℕ) → emptied.view ≡ before.view
         → KeepsRecords shared emptied steering
-        → HasFilledNear emptied.view steering.view p class steering.lists.near → GoesOn steering.view found.view
-        → sees found.view Count ≡ sees steering.view Count → found.lists.near ≡ steering.lists.near → IsFilledSince shared before written p class
+        → HasFilledNear emptied.view steering.view p class steering.lists.search.found → GoesOn steering.view found.view
+        → sees found.view Count ≡ sees steering.view Count → found.lists.search.found ≡ steering.lists.search.found → IsFilledSince shared before written p
+        class
     unfolding KeepsRecords-written
     IsFilledSince-written emptied steering class empty one filled two count near = record {
       keeps = KeepsRecords-written;
       filled =
-          subst (HasFilledNear before.view written.view p class) (sym (ap (λ (x : PassState). x.lists.near) is ∙ near))
-          (subst (λ v. HasFilledNear v written.view p class steering.lists.near) (ap (λ (x : PassState). x.view) empty)
-          (HasFilledNear-still emptied.view steering.view written.view p class steering.lists.near
+          subst (HasFilledNear before.view written.view p class) (sym (ap (λ (x : PassState). x.lists.search.found) is ∙ near))
+          (subst (λ v. HasFilledNear v written.view p class steering.lists.search.found) empty
+          (HasFilledNear-still emptied.view steering.view written.view p class steering.lists.search.found
           (GoesOn-trans steering.view found.view written.view two goes_on) (ap (λ v. sees v Count) then ∙ count) filled));
     }
 

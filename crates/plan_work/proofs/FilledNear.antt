@@ -2,11 +2,12 @@
 use Rattle.std.proofs.Common.{◌≡◌, ℕ, ◌+◌, ◌-◌, ◌*◌, ◌^◌, ◌<◌, ◌≤◌, List, length, refl, sym, ap, ◌∙◌, subst, inl, inr, arith}
 use Rattle.std.specs.Prelude.{nat_le, slice_index_or}
 use Rattle.std.specs.List.{range_with_len}
-use Rattle.std.proofs.lemmas.List.Elements.{Contains-get_or}
+use Rattle.std.proofs.lemmas.List.Elements.{All-map, Contains-get_or}
 use Rattle.std.proofs.lemmas.Nat.{mul-le}
 use Rattle.std.proofs.lemmas.List.Sums.{length-filter}
-use Rattle.kd_shared.specs.Searches.{AreNearSeen}
-use Rattle.kd_shared.proofs.SearchResults.{AreNearSeen-all, AreNearSeen-only, SweepsWithin-begun}
+use Rattle.kd_shared.specs.Searches.{AreGathered}
+use Rattle.kd_shared.proofs.SearchResults.{SweepsWithin-begun}
+use Rattle.kd_shared.proofs.SortedNear.{is_within-near}
 use Rattle.plan_model.specs.Geometry.Plane.{squared_distance}
 use Rattle.plan_model.specs.Geometry.Radius.{class_of, radius_of_class}
 use Rattle.plan_model.specs.declared.geometry.Point.{Point}
@@ -14,7 +15,11 @@ use Rattle.plan_model.specs.declared.records.Record.{Record}
 use Rattle.plan_model.proofs.RadiusLaws.{greatest-le}
 use Rattle.plan_model.proofs.CountsBelow.{count-some}
 use Rattle.plan_model.proofs.NewNodes.{IsPresent-stands, point_of-stands}
+use Rattle.plan_model.specs.Trees.Nearness.{distance_to, is_within}
+use Rattle.plan_words.proofs.RisingNumbers.{Contains-number}
+use Rattle.plan_words.specs.declared.spots.Found.{Found}
 use Rattle.plan_words.specs.States.{GoesOn, PassState, with_view}
+use Rattle.tree_rewire.specs.SeenCosts.{IsInReach}
 use Rattle.plan_work.proofs.RecordedMarks.{own_count-same}
 use Rattle.plan_work.specs.Extensions.{radius_in}
 use Rattle.plan_work.specs.ExtensionSteps.{HasFilledNear}
@@ -63,47 +68,52 @@ looked_since name steps mid after goes_on since =
 pub looked_still : (steps : ℕ) (mid after : View) → GoesOn mid after → steps < last_look mid Count → steps < last_look after Count
 looked_still = looked_since Count
 
--- The list that a search found after the count was loaded.
+-- What a search found after the count was loaded.
 pub HasFilledNear-found :
-    (before mid after : View) → GoesOn before mid → GoesOn mid after → (p : Point) (nodes class : ℕ) (near : List ℕ)
+    (before mid after : View) → GoesOn before mid → GoesOn mid after → (p : Point) (nodes class : ℕ) (found : List Found)
     → before.steps < last_look mid Count → ((entry : Record) → own_count before entry ≤ nodes) → sees after Count ≡ nodes → class ≡ class_of nodes
-    → AreNearSeen (sight_in mid) (sight_in after) p (radius_in after class) near → HasFilledNear before after p class near
-HasFilledNear-found before mid after one other p nodes class near looked own count is found =
+    → AreGathered (sight_in mid) (sight_in after) p (radius_in after class) found → HasFilledNear before after p class found
+HasFilledNear-found before mid after one other p nodes class found looked own count is gathered =
     let later = IsLaterMoment-later before mid one.later in
     let next = IsLaterMoment-later mid after other.later in
     let r : ℕ = radius_in after class in
+    let points = (tree_seen after).points in
     record {
       class_is = is ∙ ap class_of (sym count);
       looked = looked_still before.steps mid after other looked;
       counted = λ entry. omega (arith, own entry, count);
       all = λ i q stands close.
-          AreNearSeen-all (sight_in mid) (sight_in after) p r near found next i q (stands_later before mid one i q stands) close;
-      in_reach = λ k d below.
-          let n : ℕ = slice_index_or near k d in
-          let own_point = AreNearSeen-only (sight_in mid) (sight_in after) p r near found n (Contains-get_or near k d below) in
-          let points = (tree_seen after).points in
-          let there = point_of-stands points n own_point.0 own_point.1 in
+          gathered.all i (ap (is_within p r) (next.seen.places.nodes i q (stands_later before mid one i q stands)) ∙ is_within-near p r q close);
+      in_reach =
+          All-map (IsInReach after p) (λ (f : Found). f.node) found (λ k d below.
+          let f : Found = slice_index_or found k d in
+          let here = gathered.only f (Contains-get_or found k d below) in
+          let at = point_of-stands points f.node f.point here.0 in
           let bound = square-le r after.run.step (radius-most after.run.step after.run.gamma class) in
           record {
-            present = IsPresent-stands points n own_point.0 own_point.1;
-            short = omega (arith, ap (λ a. squared_distance a p) there, own_point.2, bound);
-          };
+            present = IsPresent-stands points f.node f.point here.0;
+            short = omega (arith, ap (λ a. squared_distance a p) at, here.1, bound);
+          });
+      stands = λ k d below. (gathered.only _ (Contains-get_or found k d below)).0;
       close = λ i among.
-          let own_point = AreNearSeen-only (sight_in mid) (sight_in after) p r near found i among in
-          omega (arith, ap (λ a. squared_distance a p) (point_of-stands (tree_seen after).points i own_point.0 own_point.1), own_point.2);
-      swept = SweepsWithin-begun (sight_in before) (sight_in mid) (sight_in after) p (r * r) later found.swept;
+          let f = Contains-number found i among in
+          let here = gathered.only f.0 f.1 in
+          subst (λ n. distance_to p points n ≤ r * r) f.2
+          (omega (arith, ap (λ a. squared_distance a p) (point_of-stands points f.0.node f.0.point here.0), here.1));
+      swept = SweepsWithin-begun (sight_in before) (sight_in mid) (sight_in after) p (r * r) later gathered.swept;
     }
 
 -- It is filled for a call that began earlier, if no record was seen anew before it was.
 pub HasFilledNear-begun :
     (first before after : View) → GoesOn first before → ((k : ℕ) → sees before (RecordOf k) ≡ sees first (RecordOf k)) → (p : Point) (class : ℕ)
-    (near : List ℕ) → HasFilledNear before after p class near → HasFilledNear first after p class near
-HasFilledNear-begun first before after one records p class near h = record {
+    (found : List Found) → HasFilledNear before after p class found → HasFilledNear first after p class found
+HasFilledNear-begun first before after one records p class found h = record {
   class_is = h.class_is;
   looked = omega (arith, h.looked, one.later.steps);
   counted = λ entry. omega (arith, h.counted entry, own_count-same first before entry one records);
   all = λ i q stands close. h.all i q (stands_later first before one i q stands) close;
   in_reach = h.in_reach;
+  stands = h.stands;
   close = h.close;
   swept =
       SweepsWithin-begun (sight_in first) (sight_in before) (sight_in after) p (radius_in after class * radius_in after class)

@@ -1,6 +1,7 @@
 pub mod HeldMarks
 pub mod KeptSights
 pub mod FilledNear
+pub mod FoundNear
 pub mod KeptRecords
 pub mod HungMarks
 pub mod TriedMarks

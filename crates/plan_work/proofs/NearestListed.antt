@@ -15,7 +15,9 @@ use Rattle.plan_model.specs.declared.geometry.Point.{Point}
 use Rattle.plan_model.proofs.LeastPairLaws.{IsNotAbove-lesser, IsNotAbove-refl, IsNotAbove-trans}
 use Rattle.plan_model.proofs.NewNodes.{StandsAt-present, point_of-stands}
 use Rattle.plan_model.proofs.SteeringLaws.{steered-near}
+use Rattle.plan_words.specs.SearchLists.{numbers_of}
 use Rattle.plan_words.specs.States.{GoesOn}
+use Rattle.plan_words.specs.declared.spots.Found.{Found}
 use Rattle.step_core.specs.MeasuredNodes.{IsNearerOf}
 use Rattle.step_core.specs.declared.measured_nodes.MeasuredNode.{MeasuredNode}
 use Rattle.step_core.specs.ViewTrees.{SeesPoint, sight_in}
@@ -104,8 +106,11 @@ module _ (view : View) (p : Point) (near among more : List ℕ) (best other near
   }
 
 -- The nearest node on a near list of a mark steers to the mark itself.
-module _ (before mid : View) (one : GoesOn before mid) (k m class : ℕ) (from p : Point) (near : List ℕ) (is : p ≡ mark_at mid.run.marks k)
-    (filled : HasFilledNear before mid p class near) (best : IsNearestOf mid p near near m from) where
+module _ (before mid : View) (one : GoesOn before mid) (k m class : ℕ) (from p : Point) (found : List Found) (is : p ≡ mark_at mid.run.marks k)
+    (filled : HasFilledNear before mid p class found) (best : IsNearestOf mid p (numbers_of found) (numbers_of found) m from) where
+  abbrev near : List ℕ
+  near = numbers_of found
+
   abbrev points : List (Option Point)
   points = (tree_seen mid).points
 

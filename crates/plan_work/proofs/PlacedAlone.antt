@@ -1,9 +1,9 @@
 -- A pass that works alone places a node, or finds one at its point: the mark is handled as in the textbook.
 use Rattle.std.proofs.Common.{◌≡◌, ℕ, suc, ◌+◌, ◌<◌, ◌≤◌, Some, None, [], ◌∷◌, ◌++◌, length, arith, refl, sym, ap, ◌∙◌, subst, inl, inr}
-use Rattle.std.specs.Prelude.{All}
+use Rattle.std.specs.Prelude.{All, Contains, List, Option}
 use Rattle.std.proofs.lemmas.Bool.{cases_lt}
 use Rattle.std.proofs.lemmas.List.{get_or_past}
-use Rattle.std.proofs.lemmas.List.Elements.{All-cons}
+use Rattle.std.proofs.lemmas.List.Elements.{All-cons, All-contains, Contains-get_or}
 use Rattle.std.proofs.lemmas.List.FromFn.{length-map-range_with_len}
 use Rattle.kd_shared.specs.declared.placing.Placing.TheVariants.{Placed, Same}
 use Rattle.plan_model.specs.Spaces.Clearance.{Clear, ClearAt}
@@ -22,6 +22,10 @@ use Rattle.plan_model.specs.declared.records.Record.{Record}
 use Rattle.plan_model.proofs.NearNodes.{candidate-reachable}
 use Rattle.plan_model.proofs.NewNodes.{IsPresent-stands}
 use Rattle.plan_model.proofs.TextbookStates.{PlacesNode}
+use Rattle.plan_model.proofs.ListMembers.{Contains-after, Contains-first}
+use Rattle.plan_model.specs.declared.configuration_spaces.ConfigurationSpace.{ConfigurationSpace}
+use Rattle.plan_words.specs.SearchLists.{numbers_of}
+use Rattle.step_core.proofs.DistinctNumbers.{Contains-cases}
 use Rattle.plan_words.specs.States.{PassState, SharedState, turn_of, worker_of}
 use Rattle.plan_work.proofs.AloneMarks.{KeepsRun, SeesTextbook-recorded, WorksAlone-recorded}
 use Rattle.plan_work.proofs.EqualPoints.{count-same, near_new-same}
@@ -70,7 +74,7 @@ point_kept before after run n same =
 module _
     (shared : SharedState) (before tried done : PassState) (k m j : ℕ) (p : Point) (hanging : Hanging) (entry : Record)
     (may : MayPlace shared before k m p) (keeps : KeepsRecords shared before tried) (is_tried : IsTried before tried may.hand (Same j) hanging)
-    (whole : IsTriedWhole (space_of shared.task.scene) before.view tried.view k p m before.lists.near (Same j) hanging)
+    (whole : IsTriedWhole (space_of shared.task.scene) before.view tried.view k p m (numbers_of before.lists.search.found) (Same j) hanging)
     (recorded : HasRecorded shared tried done entry) (is : entry ≡ own_unplaced tried.view m (SameNode j))
     (steers : IsSteeredWhole before.view k m p) (alone : WorksAlone before.view k) (book : SeesTextbook before.view k) where
   same_run : KeepsRun before.view tried.view k
@@ -102,6 +106,21 @@ module _
 
 -- ---- a node that is placed
 
+-- the best of some candidates is the best of a list of the same ones
+IsFirstLeast-of : (space : ConfigurationSpace) (points : List (Option Point)) (p : Point) (key : ℕ → ℕ) (m f : ℕ) (one other : List ℕ)
+    → ((n : ℕ) → Contains one n → Contains other n) → ((n : ℕ) → Contains other n → Contains one n)
+    → IsFirstLeast key (IsOpenTo space points p (m ∷ one)) f → IsFirstLeast key (IsOpenTo space points p (m ∷ other)) f
+IsFirstLeast-of space points p key m f one other to back h = record {
+  member = record { among = moved one other to f h.member.among; clear = h.member.clear };
+  not_above = λ i own. h.not_above i (record { among = moved other one back i own.among; clear = own.clear });
+}
+  where
+    moved : (ms ns : List ℕ) → ((n : ℕ) → Contains ms n → Contains ns n) → (n : ℕ) → Contains (m ∷ ms) n → Contains (m ∷ ns) n
+    moved ms ns within n on = elim (Contains-cases m n ms on) [
+      | inl same ↦ subst (Contains (m ∷ ns)) same (Contains-first m ns)
+      | inr more ↦ Contains-after m ns n (within n more)
+    ]
+
 -- the record of a placed mark by its fields
 abbrev own_by : ℕ → ℕ → ℕ → ℕ → ℕ → ℕ → Record
 own_by nearest parent worker turn cost class =
@@ -119,9 +138,9 @@ own_by nearest parent worker turn cost class =
 module _
     (shared : SharedState) (before tried : PassState) (k m : ℕ) (p : Point) (hanging : Hanging) (may : MayPlace shared before k m p)
     (keeps : KeepsRecords shared before tried) (is_tried : IsTried before tried may.hand Placed hanging)
-    (whole : IsTriedWhole (space_of shared.task.scene) before.view tried.view k p m before.lists.near Placed hanging)
-    (reach : All (IsInReach before.view p) before.lists.near) (steers : IsSteeredWhole before.view k m p)
-    (filled : IsFilledWhole before.view p hanging.class before.lists.near) (book : SeesTextbook before.view k)
+    (whole : IsTriedWhole (space_of shared.task.scene) before.view tried.view k p m (numbers_of before.lists.search.found) Placed hanging)
+    (reach : All (IsInReach before.view p) (numbers_of before.lists.search.found)) (steers : IsSteeredWhole before.view k m p)
+    (filled : IsFilledWhole before.view p hanging.class before.lists.search.found) (book : SeesTextbook before.view k)
     (start_clear : ClearAt (setup_in before.view.run).space before.view.run.start) where
   abbrev tree : Nodes
   tree = book.tree
@@ -157,15 +176,29 @@ module _
   steers_tree : SteersTo setup (points_of tree) (mark_at before.view.run.marks k) m p
   steers_tree = SteersTo-mirrored before.view tree book.nodes (mark_at before.view.run.marks k) p m steers
 
-  near_is : before.lists.near ≡ near_new setup (points_of tree) p
-  near_is = filled.near_is ∙ near_new-same (tree_seen before.view).points (points_of tree) book.nodes.points setup p
+  pub near_is : near_new setup (tree_seen before.view).points p ≡ near_new setup (points_of tree) p
+  near_is = near_new-same (tree_seen before.view).points (points_of tree) book.nodes.points setup p
+
+  -- the best of those found is the best of the near ones
+  least_near : IsFirstLeast (seen_cost_through before.view p) (IsOpenTo setup.space (tree_seen before.view).points p (m ∷ near_new setup (points_of tree) p)) f
+  least_near =
+      subst (λ ns. IsFirstLeast (seen_cost_through before.view p) (IsOpenTo setup.space (tree_seen before.view).points p (m ∷ ns)) f) near_is
+      (IsFirstLeast-of setup.space (tree_seen before.view).points p (seen_cost_through before.view p) m f (numbers_of before.lists.search.found)
+      (near_new setup (tree_seen before.view).points p) filled.found_is.only filled.found_is.all
+      (subst (λ s. IsFirstLeast (seen_cost_through before.view p)
+      (IsOpenTo s (tree_seen before.view).points p (m ∷ numbers_of before.lists.search.found)) f) space whole.best.least))
+
+  near_present : All (IsPresent (tree_seen before.view).points) (near_new setup (points_of tree) p)
+  near_present =
+      subst (All (IsPresent (tree_seen before.view).points)) near_is
+      (λ i d below.
+      (All-contains (IsInReach before.view p) (numbers_of before.lists.search.found) _ reach
+      (filled.found_is.all _ (Contains-get_or (near_new setup (tree_seen before.view).points p) i d below))).present)
 
   parent : IsBestParent setup tree m p f
   parent =
-      IsBestParent-mirrored before.view tree book.nodes p m f before.lists.near near_is
-      (All-cons (IsPresent (tree_seen before.view).points) m before.lists.near steers.nearest.member (λ i d below. (reach i d below).present))
-      (subst (λ s. IsFirstLeast (seen_cost_through before.view p) (IsOpenTo s (tree_seen before.view).points p (m ∷ before.lists.near)) f)
-      space whole.best.least)
+      IsBestParent-mirrored before.view tree book.nodes p m f (near_new setup (points_of tree) p) refl
+      (All-cons (IsPresent (tree_seen before.view).points) m (near_new setup (points_of tree) p) steers.nearest.member near_present) least_near
 
   f_present : IsPresent (points_of tree) f
   f_present = (candidate-reachable setup (points_of tree) (mark_at before.view.run.marks k) m p f steers_tree parent.member).present
@@ -219,7 +252,8 @@ module _
 
   module _
       (after done : PassState) (entry : Record) (seen : SeesAnew NamesTreeOrPoint tried.view after.view) (now : Nodes)
-      (rewired : Rewires (space_of shared.task.scene) (book.tree ++ Some (record { point = p; parent = hanging.parent }) ∷ []) (suc k) tried.lists.near now)
+      (rewired : Rewires (space_of shared.task.scene) (book.tree ++ Some (record { point = p; parent = hanging.parent }) ∷ []) (suc k)
+          (near_new (setup_in before.view.run) (tree_seen before.view).points p) now)
       (mirrors : Mirrors after.view now) (recorded : HasRecorded shared after done entry) (is : entry ≡ own_placed after.view m hanging)
       (alone : WorksAlone before.view k) where
     crew : after.view.crew ≡ record { worker = 0; turn = k } ∷ []
@@ -247,8 +281,9 @@ module _
     handles : Handles (setup_in before.view.run) book.tree k (mark_at before.view.run.marks k) entry now
     handles =
         Handles-placed setup tree k m (mark_at before.view.run.marks k) p entry steers_tree f now free clear_tree parent entry_is
-        (subst (λ ns. Rewires setup.space (tree ++ Some (record { point = p; parent = f }) ∷ []) (suc k) ns now) (is_tried.near ∙ near_is)
-        (subst (λ s. Rewires s (tree ++ Some (record { point = p; parent = f }) ∷ []) (suc k) tried.lists.near now) space rewired))
+        (subst (λ ns. Rewires setup.space (tree ++ Some (record { point = p; parent = f }) ∷ []) (suc k) ns now) near_is
+        (subst (λ s. Rewires s (tree ++ Some (record { point = p; parent = f }) ∷ []) (suc k) (near_new setup (tree_seen before.view).points p) now) space
+        rewired))
 
     held : after.view.hand ≡ Some counted_hand
     held = seen.kept.hand ∙ is_tried.came.counted

@@ -18,6 +18,7 @@ use Rattle.plan_model.proofs.CostLaws.{cost_of-swap}
 use Rattle.plan_model.proofs.NewNodes.{IsPresent-stands, StandsAt-present, point_of-stands}
 use Rattle.plan_model.proofs.RecordLaws.{class_of-le}
 use Rattle.plan_model.proofs.SegmentLaws.{Clear-back}
+use Rattle.plan_words.specs.SearchLists.{numbers_of}
 use Rattle.plan_words.specs.States.{GoesOn, PassState, SharedState}
 use Rattle.plan_words.proofs.GoingOn.{GoesOn-trans}
 use Rattle.step_core.specs.SeenRecords.{IsOwnNeighbour, MayBePlaced, MayRecord, is_own_node, own_count, own_first_cost}
@@ -85,16 +86,16 @@ MayRecord-same shared before after k m p hanging j may keeps tried =
 pub Rewired-hand :
     (shared : SharedState) (before tried after : PassState) (k m : ℕ) (p : Point) (hanging : Hanging) (may : MayPlace shared before k m p)
     → IsTried before tried may.hand Placed hanging
-    → IfSome tried.view.hand (λ hand. (i : ℕ) → Contains tried.lists.near i
+    → IfSome tried.view.hand (λ hand. (i : ℕ) → Contains (numbers_of before.lists.search.found) i
     → Clear (space_of shared.task.scene) hand.point (point_of (tree_seen tried.view).points i)
     → cost_seen after.view i ≤ hand.cost + cost_of hand.point (point_of (tree_seen tried.view).points i))
-    → (i : ℕ) → Contains tried.lists.near i → Clear (space_of shared.task.scene) p (point_of (tree_seen tried.view).points i)
+    → (i : ℕ) → Contains (numbers_of before.lists.search.found) i → Clear (space_of shared.task.scene) p (point_of (tree_seen tried.view).points i)
     → cost_seen after.view i ≤ hanging.cost + cost_of p (point_of (tree_seen tried.view).points i)
 Rewired-hand shared before tried after k m p hanging may is_tried rewired i among clear =
     let points = (tree_seen tried.view).points in
     let all =
     of_held tried.view
-    (λ hand. (n : ℕ) → Contains tried.lists.near n → Clear (space_of shared.task.scene) hand.point (point_of points n)
+    (λ hand. (n : ℕ) → Contains (numbers_of before.lists.search.found) n → Clear (space_of shared.task.scene) hand.point (point_of points n)
     → cost_seen after.view n ≤ hand.cost + cost_of hand.point (point_of points n))
     (record (hung_by may.hand hanging) { stage = Counted }) is_tried.came.counted rewired in
     let most = all i among (subst (λ a. Clear (space_of shared.task.scene) a (point_of points i)) (sym may.pointed.point) clear) in
@@ -104,8 +105,8 @@ module _
     (shared : SharedState) (first before tried after : PassState) (k m : ℕ) (p : Point) (hanging : Hanging) (may : MayPlace shared before k m p)
     (since : IsFilledSince shared first before p hanging.class) (keeps : KeepsRecords shared before tried)
     (is_tried : IsTried before tried may.hand Placed hanging)
-    (seen : SeesAnew NamesTreeOrPoint tried.view after.view) (pairs : All (SeesPair after.view) tried.lists.near)
-    (rewired : (i : ℕ) → Contains tried.lists.near i → Clear (space_of shared.task.scene) p (point_of (tree_seen tried.view).points i)
+    (seen : SeesAnew NamesTreeOrPoint tried.view after.view) (pairs : All (SeesPair after.view) (numbers_of before.lists.search.found))
+    (rewired : (i : ℕ) → Contains (numbers_of before.lists.search.found) i → Clear (space_of shared.task.scene) p (point_of (tree_seen tried.view).points i)
     → cost_seen after.view i ≤ hanging.cost + cost_of p (point_of (tree_seen tried.view).points i)) where
   abbrev mid : View
   mid = is_tried.mid
@@ -113,13 +114,12 @@ module _
   later : GoesOn mid after.view
   later = GoesOn-trans mid tried.view after.view is_tried.ended seen.goes_on
 
-  -- the near list was filled since the first moment
+  -- the near nodes were found since the first moment
   begun : GoesOn first.view mid
   begun = GoesOn-trans first.view before.view mid since.keeps.goes_on is_tried.begun
 
-  filled : HasFilledNear first.view mid p hanging.class tried.lists.near
-  filled = subst (HasFilledNear first.view mid p hanging.class) (sym is_tried.near)
-      (HasFilledNear-still first.view before.view mid p hanging.class before.lists.near is_tried.begun is_tried.counted since.filled)
+  filled : HasFilledNear first.view mid p hanging.class before.lists.search.found
+  filled = HasFilledNear-still first.view before.view mid p hanging.class before.lists.search.found is_tried.begun is_tried.counted since.filled
 
   whole : GoesOn before.view after.view
   whole = GoesOn-trans before.view mid after.view is_tried.begun later
@@ -145,11 +145,11 @@ module _
     clear : Clear (space_of shared.task.scene) q p
 
   module _ (i : ℕ) (q : Point) (close : IsCloseBy i q) where
-    among : Contains tried.lists.near i
+    among : Contains (numbers_of before.lists.search.found) i
     among = filled.all i q close.stood close.near
 
     pair_at_mid : SeesPair mid i
-    pair_at_mid = All-contains (SeesPair mid) tried.lists.near i is_tried.hung.pairs among
+    pair_at_mid = All-contains (SeesPair mid) (numbers_of before.lists.search.found) i is_tried.hung.pairs among
 
     at_mid : point_of (tree_seen mid).points i ≡ q
     at_mid = point_of-stands (tree_seen mid).points i q (stands_later first.view mid begun i q close.stood)
@@ -185,7 +185,7 @@ module _
         )
 
     pair_after : SeesPair after.view i
-    pair_after = All-contains (SeesPair after.view) tried.lists.near i pairs among
+    pair_after = All-contains (SeesPair after.view) (numbers_of before.lists.search.found) i pairs among
 
   -- ---- the record
 
@@ -258,7 +258,8 @@ module _
 
   -- ---- after the record
 
-  module _ (spread : HasSpreadFalls (space_of shared.task.scene) (Contains tried.lists.near) (suc k) tried.view after.view) (done : PassState)
+  module _ (spread : HasSpreadFalls (space_of shared.task.scene) (Contains (numbers_of before.lists.search.found)) (suc k) tried.view after.view)
+      (done : PassState)
       (stored : Record) (recorded : HasRecorded shared after done stored) (is : stored ≡ entry) where
     end : GoesOn first.view done.view
     end = GoesOn-trans first.view after.view done.view since_first recorded.goes_on
@@ -294,10 +295,10 @@ module _
         subst (λ j. SeesPoint tried.view (suc j) p) may.mark
         (subst (SeesPoint tried.view (suc may.hand.mark)) may.pointed.point is_tried.came.stands)
 
-    -- each node of the near list is within the radius
-    within_radius : (i : ℕ) → Contains tried.lists.near i → IsWithinRadius tried.view stored p i
+    -- each of them is within the radius
+    within_radius : (i : ℕ) → Contains (numbers_of before.lists.search.found) i → IsWithinRadius tried.view stored p i
     within_radius i listed =
-        let filled_then = HasFilledNear-still first.view mid tried.view p hanging.class tried.lists.near is_tried.ended is_tried.count filled in
+        let filled_then = HasFilledNear-still first.view mid tried.view p hanging.class before.lists.search.found is_tried.ended is_tried.count filled in
         subst (λ n. distance_to p (tree_seen tried.view).points i ≤ radius_in tried.view n * radius_in tried.view n)
         (sym (ap (λ (x : Record). x.class) is)) (filled_then.close i listed)
 
@@ -305,7 +306,7 @@ module _
     WasChosen-recorded = record {
       since = begun;
       loaded = λ i was.
-          let loaded = All-contains (IsLoadedSince before.view.steps mid) tried.lists.near i is_tried.hung.loaded
+          let loaded = All-contains (IsLoadedSince before.view.steps mid) (numbers_of before.lists.search.found) i is_tried.hung.loaded
           (among i was.at (close_neighbour i was)) in
           omega (arith, loaded, since.keeps.goes_on.later.steps);
       least = λ i was. omega (arith, chosen_by i was.at (close_neighbour i was), ap (λ (x : Record). x.first_cost) is);
@@ -330,7 +331,8 @@ module _
       spread =
           subst (λ s. HasSpreadFalls s (IsWithinRadius tried.view stored p) (suc k) tried.view done.view)
           (sym (ap (λ (x : SharedRun). (setup_in x).space) (recorded.goes_on.later.run ∙ whole.later.run ∙ may.belongs.run)))
-          (HasSpreadFalls-still (space_of shared.task.scene) (Contains tried.lists.near) (IsWithinRadius tried.view stored p) (suc k) tried.view after.view
+          (HasSpreadFalls-still (space_of shared.task.scene) (Contains (numbers_of before.lists.search.found)) (IsWithinRadius tried.view stored p) (suc k)
+          tried.view after.view
           done.view recorded.goes_on (λ n. kept (TreeOf n) (λ e. cc))
           (IsPresent-stands (tree_seen after.view).points (suc k) p (stands_later tried.view after.view seen.goes_on (suc k) p stood)) within_radius
           spread);

@@ -1,6 +1,12 @@
 -- A mark whose point is written is hung by the nodes near it, and comes to its place.
-use Rattle.std.proofs.Common.{◌≡◌, ℕ, ◌*◌, ◌≤◌, List, arith, sym, ap, ◌∙◌, subst}
+use Rattle.std.proofs.Common.{◌≡◌, ℕ, ◌+◌, ◌*◌, ◌≤◌, List, arith, sym, ap, ◌∙◌, subst}
+use Rattle.std.specs.Prelude.{All, Contains, IfSome}
 use Rattle.std.proofs.lemmas.List.Elements.{All-contains}
+use Rattle.plan_model.specs.Geometry.Cost.{cost_of}
+use Rattle.plan_model.specs.Spaces.ConfigurationSpace.{space_of}
+use Rattle.tree_rewire.proofs.FoundLists.{numbers-weighed}
+use Rattle.tree_rewire.proofs.ChosenFound.{AllWeighed-seen}
+use Rattle.tree_rewire.specs.FoundNodes.{IsWeighed, StandsAsFound}
 use Rattle.kd_shared.specs.Placings.{GoesOnPlacing, IsPlacing, KeepsShare}
 use Rattle.kd_shared.specs.declared.placing.Placing.{Placing}
 use Rattle.plan_model.specs.Spaces.Clearance.{Clear}
@@ -16,13 +22,16 @@ use Rattle.step_core.specs.declared.views.SharedRun.{SharedRun}
 use Rattle.plan_model.specs.declared.geometry.Point.{Point}
 use Rattle.plan_model.proofs.NewNodes.{IsPresent-stands, point_of-stands}
 use Rattle.plan_model.proofs.SteeringLaws.{IsStep-steered}
+use Rattle.plan_words.specs.SearchLists.{numbers_of, weighed}
 use Rattle.plan_words.specs.States.{BelongsTo, GoesOn, PassState, SharedState}
+use Rattle.plan_words.specs.declared.spots.Found.{Found}
 use Rattle.step_core.specs.Views.{sees, tree_seen}
 use Rattle.step_core.specs.WordNames.Word.{Count, Counter, RecordOf}
 use Rattle.step_core.specs.declared.views.Hand.{Hand}
 use Rattle.step_core.specs.declared.views.View.{View}
 use Rattle.tree_rewire.proofs.ChosenParents.{IsInReach-later}
-use Rattle.tree_rewire.specs.SeenCosts.{IsInReach}
+use Rattle.tree_rewire.proofs.SeenCosts.{SeesPair-later, stands_later}
+use Rattle.tree_rewire.specs.SeenCosts.{IsInReach, SeesPair, cost_seen}
 use Rattle.plan_work.proofs.FilledNear.{looked_still}
 use Rattle.plan_work.proofs.KeptRecords.{KeepsRecords-trans}
 use Rattle.plan_work.proofs.KeptSights.{SweepsWithin-still, distance_still, point_still}
@@ -68,9 +77,9 @@ KeepsRecords-placing shared before after belongs placing share = record {
 
 -- A near list stays filled while the count that is seen has its class.
 pub HasFilledNear-recounted :
-    (before mid after : View) (p : Point) (class : ℕ) (near : List ℕ) → GoesOn mid after → class ≡ class_of (sees after Count)
-    → HasFilledNear before mid p class near → HasFilledNear before after p class near
-HasFilledNear-recounted before mid after p class near goes_on is filled =
+    (before mid after : View) (p : Point) (class : ℕ) (found : List Found) → GoesOn mid after → class ≡ class_of (sees after Count)
+    → HasFilledNear before mid p class found → HasFilledNear before after p class found
+HasFilledNear-recounted before mid after p class found goes_on is filled =
     let same : radius_in after class ≡ radius_in mid class = ap (λ (run : SharedRun). radius_of_class run.step run.gamma class) goes_on.later.run in
     record {
       class_is = is;
@@ -79,8 +88,9 @@ HasFilledNear-recounted before mid after p class near goes_on is filled =
       all = λ i q stands close.
           filled.all i q stands (subst (λ r. squared_distance q p ≤ r * r) same close);
       in_reach = λ k d below. IsInReach-later mid after p _ goes_on (filled.in_reach k d below);
+      stands = λ k d below. stands_later mid after goes_on _ _ (filled.stands k d below);
       close = λ i among.
-          let present = (All-contains (IsInReach mid p) near i filled.in_reach among).present in
+          let present = (All-contains (IsInReach mid p) (numbers_of found) i filled.in_reach among).present in
           subst (λ r. distance_to p (tree_seen after).points i ≤ r * r) (sym same)
           (omega (arith, distance_still mid after goes_on p i present, filled.close i among));
       swept =
@@ -90,35 +100,56 @@ HasFilledNear-recounted before mid after p class near goes_on is filled =
 
 -- so it does while no count is seen anew
 pub HasFilledNear-still :
-    (before mid after : View) (p : Point) (class : ℕ) (near : List ℕ) → GoesOn mid after → sees after Count ≡ sees mid Count
-    → HasFilledNear before mid p class near → HasFilledNear before after p class near
-HasFilledNear-still before mid after p class near goes_on count filled =
-    HasFilledNear-recounted before mid after p class near goes_on (filled.class_is ∙ ap class_of (sym count)) filled
+    (before mid after : View) (p : Point) (class : ℕ) (found : List Found) → GoesOn mid after → sees after Count ≡ sees mid Count
+    → HasFilledNear before mid p class found → HasFilledNear before after p class found
+HasFilledNear-still before mid after p class found goes_on count filled =
+    HasFilledNear-recounted before mid after p class found goes_on (filled.class_is ∙ ap class_of (sym count)) filled
 
 -- the near list of a pass stays filled while other words are seen anew than records and the count
 pub IsFilledSince-still : (shared : SharedState) (first mid after : PassState) (p : Point) (class : ℕ) → KeepsRecords shared mid after
-    → sees after.view Count ≡ sees mid.view Count → after.lists.near ≡ mid.lists.near → IsFilledSince shared first mid p class
+    → sees after.view Count ≡ sees mid.view Count → after.lists.search.found ≡ mid.lists.search.found → IsFilledSince shared first mid p class
     → IsFilledSince shared first after p class
 IsFilledSince-still shared first mid after p class keeps count near since = record {
   keeps = KeepsRecords-trans shared first mid after since.keeps keeps;
   filled = subst (HasFilledNear first.view after.view p class) (sym near)
-      (HasFilledNear-still first.view mid.view after.view p class mid.lists.near keeps.goes_on count since.filled);
+      (HasFilledNear-still first.view mid.view after.view p class mid.lists.search.found keeps.goes_on count since.filled);
 }
 
--- the node in hand was hung by its near list, and tried to be placed
+-- the node in hand was hung by the nodes found, and tried to be placed
 pub IsTried-placing :
     (shared : SharedState) (before hanging_at after : PassState) (hand : Hand) (placing : Placing) (hanging : Hanging)
-    → KeepsRecords shared before hanging_at → GoesOnPlacing hanging_at.view after.view → hanging_at.lists.near ≡ before.lists.near
-    → after.lists.near ≡ hanging_at.lists.near → sees hanging_at.view Count ≡ sees before.view Count
-    → IsHung before.view.steps hanging_at.view hand (hanging.parent, hanging.cost) before.lists.near → IsPlacing after.view (hung_by hand hanging) placing
-    → IsTried before after hand placing hanging
-IsTried-placing shared before hanging_at after hand placing hanging keeps goes_on near last count hung came = record {
+    → KeepsRecords shared before hanging_at → GoesOnPlacing hanging_at.view after.view
+    → hanging_at.lists.search.found ≡ weighed hand.point before.lists.search.found
+    → after.lists.search.found ≡ hanging_at.lists.search.found → sees hanging_at.view Count ≡ sees before.view Count
+    → IsHung before.view.steps hanging_at.view hand (hanging.parent, hanging.cost) (numbers_of before.lists.search.found)
+    → IsPlacing after.view (hung_by hand hanging) placing → IsTried before after hand placing hanging
+IsTried-placing shared before hanging_at after hand placing hanging keeps goes_on found last count hung came = record {
   mid = hanging_at.view;
   begun = keeps.goes_on;
-  near = last ∙ near;
+  found = last ∙ found;
   counted = count;
-  hung = subst (IsHung before.view.steps hanging_at.view hand (hanging.parent, hanging.cost)) (sym (last ∙ near)) hung;
+  hung = hung;
   ended = goes_on.goes_on;
   count = goes_on.others Count (λ no. no);
   came = came;
 }
+
+module _ (before after : PassState) (hand : Hand) (placing : Placing) (hanging : Hanging) (tried : IsTried before after hand placing hanging) where
+  -- the records are of the same nodes
+  pub numbers-tried : numbers_of after.lists.search.found ≡ numbers_of before.lists.search.found
+  numbers-tried = ap numbers_of tried.found ∙ numbers-weighed hand.point before.lists.search.found
+
+  -- and have the costs of their edges
+  pub AllWeighed-tried : GoesOn before.view after.view → All (StandsAsFound before.view) before.lists.search.found
+      → All (IsWeighed after.view hand.point) after.lists.search.found
+  AllWeighed-tried goes_on stands =
+      let found = before.lists.search.found in
+      subst (All (IsWeighed after.view hand.point)) (sym tried.found)
+      (AllWeighed-seen before.view after.view hand.point found goes_on stands
+      (λ k d below. SeesPair-later tried.mid after.view tried.ended _ (tried.hung.pairs k d below)))
+
+-- each of these nodes with a clear edge costs no more than through the node in hand
+abbrev pub IsRewiredBy : SharedState → View → View → List ℕ → Type 0
+IsRewiredBy shared before after near =
+    IfSome before.hand (λ hand. (i : ℕ) → Contains near i → Clear (space_of shared.task.scene) hand.point (point_of (tree_seen before).points i)
+    → cost_seen after i ≤ hand.cost + cost_of hand.point (point_of (tree_seen before).points i))

@@ -13,6 +13,8 @@ use Rattle.plan_model.specs.Runs.Textbook.{SteersTo, near_new}
 use Rattle.plan_model.specs.declared.geometry.Point.{Point}
 use Rattle.plan_model.proofs.NewNodes.{IsPresent-stands, point_of-stands}
 use Rattle.plan_words.specs.Claims.{SeesAsBefore}
+use Rattle.plan_words.specs.declared.spots.Found.{Found}
+use Rattle.tree_rewire.specs.FoundNodes.{AreOf}
 use Rattle.plan_words.specs.States.{HasWholeShare, PassState, SharedState}
 use Rattle.plan_work.proofs.MirroredTrees.{points_still}
 use Rattle.plan_work.specs.Extensions.{HasSteered}
@@ -55,11 +57,11 @@ SeesButCount-trans before mid after one two = λ name other. two name other ∙ 
 
 -- the list that was found by the number of nodes seen
 pub IsFilledWhole-found :
-    (after : View) (p : Point) (nodes class : ℕ) (found : List ℕ) → class ≡ class_of nodes → nodes ≡ node_count (tree_seen after).points
-    → found ≡ near (tree_seen after).points p (radius_of_class after.run.step after.run.gamma (class_of nodes)) → IsFilledWhole after p class found
+    (after : View) (p : Point) (nodes class : ℕ) (found : List Found) → class ≡ class_of nodes → nodes ≡ node_count (tree_seen after).points
+    → AreOf found (near (tree_seen after).points p (radius_of_class after.run.step after.run.gamma (class_of nodes))) → IsFilledWhole after p class found
 IsFilledWhole-found after p nodes class found is count all = record {
   class_is = is ∙ ap class_of count;
-  near_is = all ∙ ap (λ n. near (tree_seen after).points p (radius_of after.run.step after.run.gamma n)) count;
+  found_is = subst (λ n. AreOf found (near (tree_seen after).points p (radius_of after.run.step after.run.gamma n))) count all;
 }
 
 module _ (before after : View) (run : after.run ≡ before.run) (same : (n : ℕ) → sees after (PointOf n) ≡ sees before (PointOf n)) where
@@ -67,12 +69,14 @@ module _ (before after : View) (run : after.run ≡ before.run) (same : (n : ℕ
   points = points_still before after run same
 
   -- it stays filled
-  pub IsFilledWhole-still : (p : Point) (class : ℕ) (found : List ℕ) → IsFilledWhole before p class found → IsFilledWhole after p class found
+  pub IsFilledWhole-still : (p : Point) (class : ℕ) (found : List Found) → IsFilledWhole before p class found → IsFilledWhole after p class found
   IsFilledWhole-still p class found filled = record {
     class_is = filled.class_is ∙ ap (λ ps. class_of (node_count ps)) (sym points);
-    near_is =
-        filled.near_is ∙ ap (λ (r : SharedRun). near_new (setup_in r) (tree_seen before).points p) (sym run)
-        ∙ ap (λ ps. near_new (setup_in after.run) ps p) (sym points);
+    found_is =
+        subst (AreOf found)
+        (ap (λ (r : SharedRun). near_new (setup_in r) (tree_seen before).points p) (sym run)
+        ∙ ap (λ ps. near_new (setup_in after.run) ps p) (sym points))
+        filled.found_is;
   }
 
   -- the nearest of the nodes seen before is the nearest one

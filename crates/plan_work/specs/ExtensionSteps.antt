@@ -20,6 +20,8 @@ use Rattle.plan_model.specs.declared.records.Outcome.TheVariants.{Blocked, Place
 use Rattle.plan_model.specs.declared.records.Record.{Record}
 use Rattle.plan_model.specs.declared.scenes.Scene.{Scene}
 use Rattle.plan_model.specs.Runs.Textbook.{unplaced_record}
+use Rattle.plan_words.specs.SearchLists.{numbers_of, weighed}
+use Rattle.plan_words.specs.declared.spots.Found.{Found}
 use Rattle.plan_words.specs.States.{BelongsTo, GoesOn, MayClaim, PassState, SharedState, turn_of, with_view, worker_of}
 use Rattle.step_core.specs.SeenRecords.{own_count}
 use Rattle.step_core.specs.GrownWords.{has_node, record_at}
@@ -31,6 +33,7 @@ use Rattle.step_core.specs.Words.{record_word}
 use Rattle.step_core.specs.declared.views.Hand.{Hand}
 use Rattle.step_core.specs.declared.views.Stage.TheVariants.{Pointed, Treed}
 use Rattle.step_core.specs.declared.views.View.{View}
+use Rattle.tree_rewire.specs.FoundNodes.{StandsAsFound}
 use Rattle.tree_rewire.specs.SeenCosts.{IsInReach, IsLoadedSince, SeesPair, seen_cost_through}
 use Rattle.plan_work.specs.declared.mark_placing.Hanging.{Hanging}
 use Rattle.plan_work.specs.Extensions.{IsPlacedAt, radius_in}
@@ -51,28 +54,29 @@ pub record KeepsRecords (shared : SharedState) (before after : PassState) : Type
 
 -- ---- steering
 
--- The class is that of the count seen, which was loaded since, and is no less than how many nodes a worker has placed, by the records seen. The
--- near list has each node that was seen before within the radius of p, and all of it are in reach, and within the radius. All points within it
--- are swept.
-pub record HasFilledNear (before after : View) (p : Point) (class : ℕ) (near : List ℕ) : Type 0 where
+-- The class is that of the count seen, which was loaded since, and is no less than how many nodes a worker has placed, by the records seen. Each
+-- node that was seen before within the radius of p is found, all that are found are in reach, and within the radius, and stand where their
+-- records say. All points within it are swept.
+pub record HasFilledNear (before after : View) (p : Point) (class : ℕ) (found : List Found) : Type 0 where
   pub class_is : class ≡ class_of (sees after Count)
   pub looked : before.steps < last_look after Count
   pub counted : (entry : Record) → own_count before entry ≤ sees after Count
-  pub all : (i : ℕ) (q : Point) → SeesPoint before i q → squared_distance q p ≤ radius_in after class * radius_in after class → Contains near i
-  pub in_reach : All (IsInReach after p) near
-  pub close : (i : ℕ) → Contains near i → distance_to p (tree_seen after).points i ≤ radius_in after class * radius_in after class
+  pub all : (i : ℕ) (q : Point) → SeesPoint before i q → squared_distance q p ≤ radius_in after class * radius_in after class → Contains (numbers_of found) i
+  pub in_reach : All (IsInReach after p) (numbers_of found)
+  pub stands : All (StandsAsFound after) found
+  pub close : (i : ℕ) → Contains (numbers_of found) i → distance_to p (tree_seen after).points i ≤ radius_in after class * radius_in after class
   pub swept : SweepsWithin (sight_in before) (sight_in after) p (radius_in after class * radius_in after class)
 
--- Node m of a near list is seen at this point, and none of those among is nearer to p.
+-- Node m of a list is seen at this point, and none of those among is nearer to p.
 pub record IsNearestOf (view : View) (p : Point) (near among : List ℕ) (m : ℕ) (at : Point) : Type 0 where
   pub listed : Contains near m
   pub stands : SeesPoint view m at
   pub not_above : All (IsNotAbove (distance_to p (tree_seen view).points) m) among
 
--- The near list of a pass was filled for p since this moment, and no record was seen anew.
+-- The near nodes of p were found since this moment, and no record was seen anew.
 pub record IsFilledSince (shared : SharedState) (first pass : PassState) (p : Point) (class : ℕ) : Type 0 where
   pub keeps : KeepsRecords shared first pass
-  pub filled : HasFilledNear first.view pass.view p class pass.lists.near
+  pub filled : HasFilledNear first.view pass.view p class pass.lists.search.found
 
 -- ---- placing
 
@@ -114,13 +118,13 @@ pub record IsHung (steps : ℕ) (after : View) (hand : Hand) (pair : ℕ × ℕ)
 abbrev pub hung_by : Hand → Hanging → Hand
 hung_by hand hanging = record hand { stage = Treed; parent = hanging.parent; cost = hanging.cost }
 
--- The node in hand was hung by the near list, which stays, and came to this place. The count is not seen anew.
+-- The node in hand was hung by the nodes found, whose edges to it are worked out, and came to this place. The count is not seen anew.
 pub record IsTried (before after : PassState) (hand : Hand) (placing : Placing) (hanging : Hanging) : Type 0 where
   pub mid : View
   pub begun : GoesOn before.view mid
-  pub near : after.lists.near ≡ before.lists.near
+  pub found : after.lists.search.found ≡ weighed hand.point before.lists.search.found
   pub counted : sees mid Count ≡ sees before.view Count
-  pub hung : IsHung before.view.steps mid hand (hanging.parent, hanging.cost) after.lists.near
+  pub hung : IsHung before.view.steps mid hand (hanging.parent, hanging.cost) (numbers_of before.lists.search.found)
   pub ended : GoesOn mid after.view
   pub count : sees after.view Count ≡ sees mid Count
   pub came : IsPlacing after.view (hung_by hand hanging) placing

@@ -17,6 +17,8 @@ use Rattle.step_core.specs.WordNames.Word.{Count, FirstOf, PointOf, TreeOf}
 use Rattle.step_core.specs.declared.views.Hand.{Hand}
 use Rattle.step_core.specs.declared.views.Stage.TheVariants.{Linked}
 use Rattle.step_core.specs.declared.views.View.{View}
+use Rattle.plan_words.specs.declared.spots.Found.{Found}
+use Rattle.tree_rewire.specs.FoundNodes.{AreOf}
 use Rattle.tree_rewire.specs.SeenCosts.{seen_cost_through}
 
 -- no node in hand is linked and not counted yet
@@ -27,10 +29,10 @@ HasCounted view = (hand : Hand) → view.hand ≡ Some hand → hand.stage ≢ L
 abbrev pub SeesButCount : View → View → Type 0
 SeesButCount before after = (name : Word) → name ≢ Count → sees after name ≡ sees before name
 
--- The class is that of the number of nodes seen, and the near list is that of the textbook for a new node at p in the tree seen.
-pub record IsFilledWhole (view : View) (p : Point) (class : ℕ) (near : List ℕ) : Type 0 where
+-- The class is that of the number of nodes seen, and the nodes found are those near a new one at p in the textbook, in the tree seen.
+pub record IsFilledWhole (view : View) (p : Point) (class : ℕ) (found : List Found) : Type 0 where
   pub class_is : class ≡ class_of (node_count (tree_seen view).points)
-  pub near_is : near ≡ near_new (setup_in view.run) (tree_seen view).points p
+  pub found_is : AreOf found (near_new (setup_in view.run) (tree_seen view).points p)
 
 -- node m is the nearest one seen to mark k, and steers towards it to p
 abbrev pub IsSteeredWhole : View → ℕ → ℕ → Point → Type 0

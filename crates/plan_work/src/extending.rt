@@ -27,7 +27,6 @@ pub(crate) fn extend_by_radii<C: Clearing>(
     requires hall { C.space hall.now ≡ space_of shared.now.task.scene }
     ensures { Extends shared.now pass.old pass.new k result }
 {
-    pass.clear_near();
     let (steering, class, is_clear) = steer_and_test(shared, pass, radii, hall, k);
     if steering.from == steering.point {
         let outcome = Outcome::Same(steering.nearest);
@@ -53,8 +52,8 @@ pub(crate) fn extend_by_radii<C: Clearing>(
 /// node that was seen with its point, within the radius and with a clear edge. Once it is linked, no such node is seen dearer than
 /// through it, and what fell since is brought to the nodes seen below (`plan_work/specs/Extensions`, `IsPlacedAt`).
 ///
-/// It takes at most five searches of the tree, with the walk to the node's place, tests at most 2 k + 1 segments for k near nodes,
-/// and spreads the costs that fell. No memory.
+/// It takes at most five searches of the tree, with the walk to the node's place, and tests at most 2 k + 1 segments for k near nodes,
+/// mostly two and those of the nodes that it rewires; it spreads the costs that fell. No memory.
 pub fn extend<C: Clearing>(shared: &Shared, pass: &mut Pass, hall: &C, k: u32) -> Record
     requires may { MayExtend shared.now pass.old k }
     requires hall { C.space hall.now ≡ space_of shared.now.task.scene }

@@ -38,9 +38,9 @@ steered : (g : Over) (c : After-steer_and_test-class g)
     c.steer_and_test-class.result.0.from c.steer_and_test-class.result.0.point
 steered g c =
     let steer = c.steer_and_test-class.ensures in
-    HasLooked-looks c.args.shared.now c.args.pass.now c.clear_near.new.self c.steer_and_test-class.new.pass c.steer_and_test-class.new.pass c.args.k
+    HasLooked-looks c.args.shared.now c.args.pass.now c.args.pass.now c.steer_and_test-class.new.pass c.steer_and_test-class.new.pass c.args.k
     c.steer_and_test-class.result.0.nearest c.steer_and_test-class.result.0.from c.steer_and_test-class.result.0.point
-    (c.clear_near.ensures.others ∙ ap (with_lists c.args.pass.now) c.clear_near.ensures.near)
+    refl
     c.requires.may.hand c.requires.may.mark steer.keeps steer.hand steer.keeps.belongs
     (OnlyLooks-refl c.steer_and_test-class.new.pass.view steer.keeps.belongs.lawful) steer.steered
 
@@ -65,9 +65,9 @@ looked : (g : Over) (c : After-find g)
     c.steer_and_test-class.result.0.from c.steer_and_test-class.result.0.point
 looked g c =
     let steer = c.steer_and_test-class.ensures in
-    HasLooked-looks c.args.shared.now c.args.pass.now c.clear_near.new.self c.steer_and_test-class.new.pass c.find.new.pass c.args.k
+    HasLooked-looks c.args.shared.now c.args.pass.now c.args.pass.now c.steer_and_test-class.new.pass c.find.new.pass c.args.k
     c.steer_and_test-class.result.0.nearest c.steer_and_test-class.result.0.from c.steer_and_test-class.result.0.point
-    (c.clear_near.ensures.others ∙ ap (with_lists c.args.pass.now) c.clear_near.ensures.near)
+    refl
     c.requires.may.hand c.requires.may.mark steer.keeps steer.hand c.find.ensures.belongs c.find.ensures.looks steer.steered
 
 blocked : (g : Over) (c : After-find g)
@@ -150,8 +150,8 @@ filled : (g : Over) (c : After-write_point g) → Steered g c
 filled g c looked =
     IsFilledSince-written c.args.shared.now c.args.pass.now c.steer_and_test-class.new.pass looked.hand c.args.k c.steer_and_test-class.result.0.nearest
     c.steer_and_test-class.result.0.from c.steer_and_test-class.result.0.point looked.keeps looked.steers looked.held looked.mark c.write_point.new.pass
-    c.write_point.ensures.goes_on (writes g c looked) c.clear_near.new.self c.steer_and_test-class.new.pass c.steer_and_test-class.result.1
-    (c.clear_near.ensures.others ∙ ap (with_lists c.args.pass.now) c.clear_near.ensures.near)
+    c.write_point.ensures.goes_on (writes g c looked) c.args.pass.now c.steer_and_test-class.new.pass c.steer_and_test-class.result.1
+    refl
     c.steer_and_test-class.ensures.keeps c.steer_and_test-class.ensures.filled looked.goes_on refl refl
 
 pub place_rewire_and_record-requires-clause-may : goal.place_rewire_and_record-requires-clause-may
@@ -176,14 +176,14 @@ abbrev IsWhole : (g : Over) → After-steer_and_test-class g → Type 0
 IsWhole g c =
     SeesButCount c.args.pass.now.view c.steer_and_test-class.new.pass.view
     × IsFilledWhole c.steer_and_test-class.new.pass.view c.steer_and_test-class.result.0.point c.steer_and_test-class.result.1
-    c.steer_and_test-class.new.pass.lists.near
+    c.steer_and_test-class.new.pass.lists.search.found
 
 whole_steered : (g : Over) (c : After-steer_and_test-class g) → WorksAlone c.args.pass.now.view c.args.k → IsWhole g c
 whole_steered g c alone =
     let before = c.args.pass.now.view in
-    let emptied = c.clear_near.new.self.view in
+    let emptied = before in
     let looked = steered g c in
-    let view : emptied ≡ before = ap (λ (x : PassState). x.view) c.clear_near.ensures.others in
+    let view : emptied ≡ before = refl in
     let claimed = HasCounted-claimed before looked.hand looked.was_held
     (of_held before (λ hand. hand.stage ≡ Claimed) looked.hand looked.was_held c.requires.may.claimed) in
     let got = c.steer_and_test-class.ensures.whole (subst HasWholeShare (sym view) alone.whole)

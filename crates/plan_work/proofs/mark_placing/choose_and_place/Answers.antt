@@ -1,5 +1,6 @@
-use Rattle.std.proofs.Common.{ap, subst}
+use Rattle.std.proofs.Common.{ap, subst, sym, ◌∙◌}
 use Rattle.kd_shared.specs.Placings.{IsPlacing}
+use Rattle.plan_words.specs.SearchLists.{numbers_of, weighed}
 use Rattle.plan_words.specs.States.{PassState}
 use Rattle.plan_work.proofs.HeldMarks.{if_held, of_held}
 use Rattle.plan_work.proofs.KeptRecords.{KeepsRecords-trans}
@@ -32,11 +33,13 @@ returns-clause-tried g c =
     let after = c.place-placing.new.pass in
     let may = c.requires.may in
     let hanging : Hanging = record { parent = c.choose_and_write-parent.result.0; cost = c.choose_and_write-parent.result.1; class = c.args.class } in
-    let hung = of_held before.view (λ hand. IsHung before.view.steps hung_at.view hand c.choose_and_write-parent.result before.lists.near) may.hand may.held
+    let hung = of_held before.view (λ hand. IsHung before.view.steps hung_at.view hand c.choose_and_write-parent.result
+    (numbers_of before.lists.search.found)) may.hand may.held
     c.choose_and_write-parent.ensures.hung in
+    let found = c.choose_and_write-parent.ensures.found ∙ ap (λ p. weighed p before.lists.search.found) (sym may.pointed.point) in
     if_held before.view (λ hand. IsTried before after hand c.place-placing.result hanging) may.hand may.held
     (IsTried-placing c.args.shared.now before hung_at after may.hand c.place-placing.result hanging c.choose_and_write-parent.ensures.keeps
-    c.place-placing.ensures.goes_on c.choose_and_write-parent.ensures.near_list (ap (λ (p : PassState). p.lists.near) c.place-placing.ensures.view_alone)
+    c.place-placing.ensures.goes_on found (ap (λ (p : PassState). p.lists.search.found) c.place-placing.ensures.view_alone)
     c.choose_and_write-parent.ensures.count hung
     (of_held hung_at.view (λ hand. IsPlacing after.view hand c.place-placing.result) _ hung.held c.place-placing.ensures.placed))
 
@@ -47,7 +50,8 @@ returns-clause-whole g c = λ whole.
     let after = c.place-placing.new.pass in
     let may = c.requires.may in
     let best = c.choose_and_write-parent.ensures.whole whole in
-    let hung = of_held before.view (λ hand. IsHung before.view.steps hung_at.view hand c.choose_and_write-parent.result before.lists.near) may.hand may.held
+    let hung = of_held before.view (λ hand. IsHung before.view.steps hung_at.view hand c.choose_and_write-parent.result
+    (numbers_of before.lists.search.found)) may.hand may.held
     c.choose_and_write-parent.ensures.hung in
     let placing = of_held hung_at.view (λ hand. SeesPlacing hung_at.view after.view hand c.place-placing.result) _ hung.held
     (c.place-placing.ensures.whole_seen (HasWholeShare-kept c.args.shared.now before hung_at c.choose_and_write-parent.ensures.keeps whole)) in

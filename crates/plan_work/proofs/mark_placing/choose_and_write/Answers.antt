@@ -1,6 +1,7 @@
 use Rattle.std.proofs.Common.{sym, ap, ◌∙◌, subst, arith}
 use Rattle.plan_model.specs.Spaces.Clearance.{Clear}
 use Rattle.plan_model.specs.Spaces.ConfigurationSpace.{space_of}
+use Rattle.plan_words.specs.SearchLists.{numbers_of}
 use Rattle.plan_words.specs.States.{PassState}
 use Rattle.plan_work.proofs.HeldMarks.{holding, if_held, of_held}
 use Rattle.plan_work.proofs.HungMarks.{IsHung-written, KeepsRecords-written, MayHang-chosen, chosen_near}
@@ -20,60 +21,76 @@ pub write_tree-requires-clause-may : goal.write_tree-requires-clause-may
 write_tree-requires-clause-may g c =
     let space = space_of c.args.shared.now.task.scene in
     let before = c.args.pass.now.view in
-    let after = c.choose-parent.new.pass.view in
-    let goes_on = c.choose-parent.ensures.seen.goes_on in
+    let after = c.choose_found-parent.new.pass.view in
+    let goes_on = c.choose_found-parent.ensures.seen.goes_on in
     let own = holding before (λ hand. IsPointed hand c.args.nearest c.args.p) c.requires.hand c.requires.pointed in
     let present = present_still before after goes_on c.args.nearest c.requires.nearest.present in
     let clear = subst (λ q. Clear space q c.args.p) (sym (point_still before after goes_on c.args.nearest c.requires.nearest.present)) c.requires.clear in
-    if_held after (λ hand. MayHang after hand c.choose-parent.result.0 c.choose-parent.result.1) own.hand (c.choose-parent.ensures.seen.kept.hand ∙ own.held)
-    (MayHang-chosen space after own.hand c.args.p c.args.nearest c.choose-parent.result.0 c.choose-parent.result.1 c.args.pass.now.lists.near own.says
-    c.choose-parent.ensures.least c.choose-parent.ensures.cost present (c.choose-parent.ensures.pairs 0 0 (omega arith)) clear c.choose-parent.ensures.below)
+    if_held after (λ hand. MayHang after hand c.choose_found-parent.result.0 c.choose_found-parent.result.1) own.hand
+    (c.choose_found-parent.ensures.seen.kept.hand ∙ own.held)
+    (MayHang-chosen space after own.hand c.args.p c.args.nearest c.choose_found-parent.result.0 c.choose_found-parent.result.1
+    (numbers_of c.args.pass.now.lists.search.found) own.says
+    c.choose_found-parent.ensures.least c.choose_found-parent.ensures.cost present (c.choose_found-parent.ensures.pairs 0 0 (omega arith)) clear
+    c.choose_found-parent.ensures.below)
 
 pub returns-clause-keeps : goal.returns-clause-keeps
 returns-clause-keeps g c =
     let before = c.args.pass.now in
-    let mid = c.choose-parent.new.pass in
+    let mid = c.choose_found-parent.new.pass in
     let own = holding before.view (λ hand. IsPointed hand c.args.nearest c.args.p) c.requires.hand c.requires.pointed in
-    let held = c.choose-parent.ensures.seen.kept.hand ∙ own.held in
+    let held = c.choose_found-parent.ensures.seen.kept.hand ∙ own.held in
     KeepsRecords-trans c.args.shared.now before mid c.write_tree.new.pass
-    (KeepsRecords-anew NamesTree c.args.shared.now before mid (λ k no. no) (λ g no. no) c.choose-parent.ensures.belongs c.choose-parent.ensures.seen)
-    (KeepsRecords-written c.args.shared.now mid c.write_tree.new.pass own.hand c.choose-parent.result.0 c.choose-parent.result.1
-    c.choose-parent.ensures.belongs (of_held mid.view _ own.hand held c.write_tree.ensures.view) c.write_tree.ensures.goes_on)
+    (KeepsRecords-anew NamesTree c.args.shared.now before mid (λ k no. no) (λ g no. no) c.choose_found-parent.ensures.belongs
+    c.choose_found-parent.ensures.seen)
+    (KeepsRecords-written c.args.shared.now mid c.write_tree.new.pass own.hand c.choose_found-parent.result.0 c.choose_found-parent.result.1
+    c.choose_found-parent.ensures.belongs (of_held mid.view _ own.hand held c.write_tree.ensures.view) c.write_tree.ensures.goes_on)
+
+pub returns-clause-found : goal.returns-clause-found
+returns-clause-found g c =
+    let mid = c.choose_found-parent.new.pass in
+    let own = holding c.args.pass.now.view (λ hand. IsPointed hand c.args.nearest c.args.p) c.requires.hand c.requires.pointed in
+    let held = c.choose_found-parent.ensures.seen.kept.hand ∙ own.held in
+    let written = of_held mid.view _ own.hand held c.write_tree.ensures.view in
+    ap (λ (x : PassState). x.lists.search.found) written ∙ ap (λ (x : PassState). x.lists.search.found) c.choose_found-parent.ensures.found_alone
 
 pub returns-clause-count : goal.returns-clause-count
 returns-clause-count g c =
-    let mid = c.choose-parent.new.pass in
+    let mid = c.choose_found-parent.new.pass in
     let own = holding c.args.pass.now.view (λ hand. IsPointed hand c.args.nearest c.args.p) c.requires.hand c.requires.pointed in
-    let held = c.choose-parent.ensures.seen.kept.hand ∙ own.held in
+    let held = c.choose_found-parent.ensures.seen.kept.hand ∙ own.held in
     let written = of_held mid.view _ own.hand held c.write_tree.ensures.view in
-    ap (λ (x : PassState). sees x.view Count) written ∙ c.choose-parent.ensures.seen.others Count (λ no. no)
+    ap (λ (x : PassState). sees x.view Count) written ∙ c.choose_found-parent.ensures.seen.others Count (λ no. no)
 
 pub returns-clause-hung : goal.returns-clause-hung
 returns-clause-hung g c =
     let space = space_of c.args.shared.now.task.scene in
     let before = c.args.pass.now in
-    let mid = c.choose-parent.new.pass in
+    let mid = c.choose_found-parent.new.pass in
     let own = holding before.view (λ hand. IsPointed hand c.args.nearest c.args.p) c.requires.hand c.requires.pointed in
-    let held = c.choose-parent.ensures.seen.kept.hand ∙ own.held in
+    let held = c.choose_found-parent.ensures.seen.kept.hand ∙ own.held in
     let written = of_held mid.view _ own.hand held c.write_tree.ensures.view in
-    let run = ap (λ (r : SharedRun). (setup_in r).space) c.choose-parent.ensures.belongs.run in
-    if_held before.view (λ hand. IsHung before.view.steps c.write_tree.new.pass.view hand c.choose-parent.result c.args.pass.now.lists.near) own.hand own.held
-    (IsHung-written space mid.view own.hand c.args.nearest c.args.p c.choose-parent.result c.args.pass.now.lists.near c.write_tree.new.pass.view own.says
-    (ap (λ (p : PassState). p.view) written) (sym run) c.choose-parent.ensures.pairs before.view.steps c.choose-parent.ensures.loaded
+    let run = ap (λ (r : SharedRun). (setup_in r).space) c.choose_found-parent.ensures.belongs.run in
+    if_held before.view (λ hand. IsHung before.view.steps c.write_tree.new.pass.view hand c.choose_found-parent.result
+    (numbers_of c.args.pass.now.lists.search.found)) own.hand own.held
+    (IsHung-written space mid.view own.hand c.args.nearest c.args.p c.choose_found-parent.result (numbers_of c.args.pass.now.lists.search.found)
+    c.write_tree.new.pass.view own.says
+    (ap (λ (p : PassState). p.view) written) (sym run) c.choose_found-parent.ensures.pairs before.view.steps c.choose_found-parent.ensures.loaded
     c.write_tree.ensures.goes_on
-    (chosen_near space mid.view own.hand c.args.p c.args.nearest c.choose-parent.result.0 c.choose-parent.result.1 c.args.pass.now.lists.near own.says
-    c.choose-parent.ensures.least c.choose-parent.ensures.cost))
+    (chosen_near space mid.view own.hand c.args.p c.args.nearest c.choose_found-parent.result.0 c.choose_found-parent.result.1
+    (numbers_of c.args.pass.now.lists.search.found) own.says
+    c.choose_found-parent.ensures.least c.choose_found-parent.ensures.cost))
 
 -- with the share of all workers, the costs are those that were seen
 pub returns-clause-whole : goal.returns-clause-whole
 returns-clause-whole g c = λ whole.
     let before = c.args.pass.now in
-    let mid = c.choose-parent.new.pass in
+    let mid = c.choose_found-parent.new.pass in
     let own = holding before.view (λ hand. IsPointed hand c.args.nearest c.args.p) c.requires.hand c.requires.pointed in
-    let held = c.choose-parent.ensures.seen.kept.hand ∙ own.held in
+    let held = c.choose_found-parent.ensures.seen.kept.hand ∙ own.held in
     let written = of_held mid.view _ own.hand held c.write_tree.ensures.view in
-    let unshown = c.choose-parent.ensures.whole whole in (
+    let unshown = c.choose_found-parent.ensures.whole whole in (
       λ name. ap (λ (x : PassState). sees x.view name) written ∙ unshown name,
-      IsBestHanging-before (space_of c.args.shared.now.task.scene) before.view mid.view c.args.p c.args.nearest before.lists.near c.choose-parent.result
-          c.choose-parent.ensures.seen.goes_on.later.run unshown c.choose-parent.ensures.least c.choose-parent.ensures.cost,
+      IsBestHanging-before (space_of c.args.shared.now.task.scene) before.view mid.view c.args.p c.args.nearest (numbers_of before.lists.search.found)
+      c.choose_found-parent.result
+          c.choose_found-parent.ensures.seen.goes_on.later.run unshown c.choose_found-parent.ensures.least c.choose_found-parent.ensures.cost,
     )

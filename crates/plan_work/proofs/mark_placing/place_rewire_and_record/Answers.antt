@@ -1,5 +1,5 @@
 use Rattle.std.proofs.Common.{◌≡◌, suc, sym, ap, ◌∙◌, subst}
-use Rattle.std.specs.Prelude.{All}
+use Rattle.std.specs.Prelude.{All, Contains}
 use Rattle.plan_model.specs.declared.records.Record.{Record}
 use Rattle.plan_work.proofs.HeldMarks.{if_held, of_held}
 use Rattle.plan_work.proofs.KeptRecords.{KeepsRecords-anew, KeepsRecords-trans}
@@ -19,10 +19,19 @@ use Rattle.step_core.specs.declared.views.Stage.TheVariants.{Counted}
 use Rattle.tree_rewire.proofs.ChosenParents.{IsInReach-later}
 use Rattle.plan_work.proofs.PlacedHands.{HasPlaced-placed}
 use Rattle.tree_rewire.proofs.SeenCosts.{stands_later}
-use Rattle.tree_rewire.specs.SeenCosts.{IsInReach, NamesTreeOrPoint}
+use Rattle.kd_shared.proofs.SortedNear.{near-increases}
+use Rattle.kd_shared.specs.declared.placing.Placing.TheVariants.{Placed}
+use Rattle.plan_model.specs.Runs.Textbook.{near_new}
+use Rattle.plan_words.specs.SearchLists.{numbers_of}
+use Rattle.step_core.specs.Views.{setup_in, tree_seen}
+use Rattle.tree_rewire.specs.FoundNodes.{AreOf, IsWeighed}
+use Rattle.tree_rewire.specs.Rewirings.{HasSpreadFalls}
+use Rattle.tree_rewire.proofs.FoundLists.{AreOf-weighed}
+use Rattle.plan_work.proofs.TriedMarks.{AllWeighed-tried, IsRewiredBy, numbers-tried}
+use Rattle.tree_rewire.specs.SeenCosts.{IsInReach, NamesTreeOrPoint, SeesPair}
 
-pub rewire-requires-clause-placed : goal.rewire-requires-clause-placed
-rewire-requires-clause-placed g c κs within =
+pub rewire_found-requires-clause-placed : goal.rewire_found-requires-clause-placed
+rewire_found-requires-clause-placed g c κs within =
     let before = c.args.pass.now in
     let after = c.choose_and_place-placing.new.pass in
     let may = c.requires.may in
@@ -31,8 +40,8 @@ rewire-requires-clause-placed g c κs within =
     let placed = subst (λ placing. IsTried before after may.hand placing c.choose_and_place-placing.result.1) c.in-Placed.is tried in
     HasPlaced-placed after.view c.args.k _ placed.came may.mark
 
-pub rewire-requires-clause-near : goal.rewire-requires-clause-near
-rewire-requires-clause-near g c κs within =
+pub rewire_found-requires-clause-near : goal.rewire_found-requires-clause-near
+rewire_found-requires-clause-near g c κs within =
     let before = c.args.pass.now in
     let after = c.choose_and_place-placing.new.pass in
     let may = c.requires.may in
@@ -40,11 +49,23 @@ rewire-requires-clause-near g c κs within =
     may.held c.choose_and_place-placing.ensures.tried in
     let placed = subst (λ placing. IsTried before after may.hand placing c.choose_and_place-placing.result.1) c.in-Placed.is tried in
     let filled = c.requires.filled.1.filled in
-    if_held after.view (λ hand. All (IsInReach after.view hand.point) after.lists.near) _ placed.came.counted
-    (subst (λ q. All (IsInReach after.view q) after.lists.near) (sym may.pointed.point)
-    (subst (All (IsInReach after.view c.args.steering.point)) (sym placed.near)
+    if_held after.view (λ hand. All (IsInReach after.view hand.point) (numbers_of after.lists.search.found)) _ placed.came.counted
+    (subst (λ q. All (IsInReach after.view q) (numbers_of after.lists.search.found)) (sym may.pointed.point)
+    (subst (All (IsInReach after.view c.args.steering.point)) (sym (numbers-tried before after may.hand Placed c.choose_and_place-placing.result.1 placed))
     (λ k d below.
     IsInReach-later before.view after.view c.args.steering.point _ c.choose_and_place-placing.ensures.keeps.goes_on (filled.in_reach k d below))))
+
+pub rewire_found-requires-clause-weighed : goal.rewire_found-requires-clause-weighed
+rewire_found-requires-clause-weighed g c κs within =
+    let before = c.args.pass.now in
+    let after = c.choose_and_place-placing.new.pass in
+    let may = c.requires.may in
+    let tried = of_held before.view (λ hand. IsTried before after hand c.choose_and_place-placing.result.0 c.choose_and_place-placing.result.1) may.hand
+    may.held c.choose_and_place-placing.ensures.tried in
+    let placed = subst (λ placing. IsTried before after may.hand placing c.choose_and_place-placing.result.1) c.in-Placed.is tried in
+    if_held after.view (λ hand. All (IsWeighed after.view hand.point) after.lists.search.found) _ placed.came.counted
+    (AllWeighed-tried before after may.hand Placed c.choose_and_place-placing.result.1 placed c.choose_and_place-placing.ensures.keeps.goes_on
+    c.requires.filled.1.filled.stands)
 
 pub record_placed-requires-clause-may : goal.record_placed-requires-clause-may
 record_placed-requires-clause-may g c =
@@ -56,10 +77,13 @@ record_placed-requires-clause-may g c =
     let placed = subst (λ placing. IsTried before after may.hand placing c.choose_and_place-placing.result.1) c.in-Placed.is tried in
     let since = subst (IsFilledSince c.args.shared.now c.requires.filled.0 before c.args.steering.point) (sym c.choose_and_place-placing.ensures.class)
     c.requires.filled.1 in
-    MayRecord-placed c.args.shared.now c.requires.filled.0 before after c.rewire.new.pass c.args.k c.args.steering.nearest c.args.steering.point
-    c.choose_and_place-placing.result.1 may since c.choose_and_place-placing.ensures.keeps placed c.rewire.ensures.seen c.rewire.ensures.pairs
-    (Rewired-hand c.args.shared.now before after c.rewire.new.pass c.args.k c.args.steering.nearest c.args.steering.point
-    c.choose_and_place-placing.result.1 may placed c.rewire.ensures.rewired)
+    let same = numbers-tried before after may.hand Placed c.choose_and_place-placing.result.1 placed in
+    MayRecord-placed c.args.shared.now c.requires.filled.0 before after c.rewire_found.new.pass c.args.k c.args.steering.nearest c.args.steering.point
+    c.choose_and_place-placing.result.1 may since c.choose_and_place-placing.ensures.keeps placed c.rewire_found.ensures.seen
+    (subst (All (SeesPair c.rewire_found.new.pass.view)) same c.rewire_found.ensures.pairs)
+    (Rewired-hand c.args.shared.now before after c.rewire_found.new.pass c.args.k c.args.steering.nearest c.args.steering.point
+    c.choose_and_place-placing.result.1 may placed
+    (subst (IsRewiredBy c.args.shared.now after.view c.rewire_found.new.pass.view) same c.rewire_found.ensures.rewired))
 
 pub record_placed-requires-clause-first : goal.record_placed-requires-clause-first
 record_placed-requires-clause-first g c =
@@ -69,9 +93,9 @@ record_placed-requires-clause-first g c =
     let tried = of_held before.view (λ hand. IsTried before after hand c.choose_and_place-placing.result.0 c.choose_and_place-placing.result.1) may.hand
     may.held c.choose_and_place-placing.ensures.tried in
     let placed = subst (λ placing. IsTried before after may.hand placing c.choose_and_place-placing.result.1) c.in-Placed.is tried in
-    if_held c.rewire.new.pass.view (λ hand. sees c.rewire.new.pass.view (FirstOf (suc hand.mark)) ≡ pair_in_hand hand) _
-    (c.rewire.ensures.seen.kept.hand ∙ placed.came.counted)
-    (c.rewire.ensures.seen.others (FirstOf (suc may.hand.mark)) (λ no. no) ∙ placed.came.first)
+    if_held c.rewire_found.new.pass.view (λ hand. sees c.rewire_found.new.pass.view (FirstOf (suc hand.mark)) ≡ pair_in_hand hand) _
+    (c.rewire_found.ensures.seen.kept.hand ∙ placed.came.counted)
+    (c.rewire_found.ensures.seen.others (FirstOf (suc may.hand.mark)) (λ no. no) ∙ placed.came.first)
 
 pub record_unplaced-requires-clause-may : goal.record_unplaced-requires-clause-may
 record_unplaced-requires-clause-may g c =
@@ -92,11 +116,12 @@ returns-in-Placed-clause-handled g c =
     let tried = of_held before.view (λ hand. IsTried before after hand c.choose_and_place-placing.result.0 c.choose_and_place-placing.result.1) may.hand
     may.held c.choose_and_place-placing.ensures.tried in
     let placed = subst (λ placing. IsTried before after may.hand placing c.choose_and_place-placing.result.1) c.in-Placed.is tried in
-    HandlesMark-recorded c.args.shared.now before c.rewire.new.pass c.record_placed.new.pass
+    HandlesMark-recorded c.args.shared.now before c.rewire_found.new.pass c.record_placed.new.pass
     (record (hung_by may.hand c.choose_and_place-placing.result.1) { stage = Counted }) c.args.k c.record_placed.result
-    (KeepsRecords-trans c.args.shared.now before after c.rewire.new.pass c.choose_and_place-placing.ensures.keeps
-    (KeepsRecords-anew NamesTreeOrPoint c.args.shared.now after c.rewire.new.pass (λ j no. no) (λ g no. no) c.rewire.ensures.belongs c.rewire.ensures.seen))
-    c.record_placed.ensures.recorded (c.rewire.ensures.seen.kept.hand ∙ placed.came.counted) may.mark
+    (KeepsRecords-trans c.args.shared.now before after c.rewire_found.new.pass c.choose_and_place-placing.ensures.keeps
+    (KeepsRecords-anew NamesTreeOrPoint c.args.shared.now after c.rewire_found.new.pass (λ j no. no) (λ g no. no) c.rewire_found.ensures.belongs
+    c.rewire_found.ensures.seen))
+    c.record_placed.ensures.recorded (c.rewire_found.ensures.seen.kept.hand ∙ placed.came.counted) may.mark
 
 pub returns-in-Placed-clause-ended : goal.returns-in-Placed-clause-ended
 returns-in-Placed-clause-ended g c = λ first filled.
@@ -107,13 +132,17 @@ returns-in-Placed-clause-ended g c = λ first filled.
     may.held c.choose_and_place-placing.ensures.tried in
     let placed = subst (λ placing. IsTried before after may.hand placing c.choose_and_place-placing.result.1) c.in-Placed.is tried in
     let since = subst (IsFilledSince c.args.shared.now first before c.args.steering.point) (sym c.choose_and_place-placing.ensures.class) filled in
+    let same = numbers-tried before after may.hand Placed c.choose_and_place-placing.result.1 placed in
     subst (EndsWritten first.view c.record_placed.new.pass.view c.args.k c.record_placed.result c.args.steering.point)
     (sym (ap (λ (entry : Record). entry.outcome) c.record_placed.ensures.entry))
-    (IsPlacedAt-recorded c.args.shared.now first before after c.rewire.new.pass c.args.k c.args.steering.nearest c.args.steering.point
-    c.choose_and_place-placing.result.1 may since c.choose_and_place-placing.ensures.keeps placed c.rewire.ensures.seen c.rewire.ensures.pairs
-    (Rewired-hand c.args.shared.now before after c.rewire.new.pass c.args.k c.args.steering.nearest c.args.steering.point
-    c.choose_and_place-placing.result.1 may placed c.rewire.ensures.rewired)
-    c.rewire.ensures.spread c.record_placed.new.pass c.record_placed.result c.record_placed.ensures.recorded c.record_placed.ensures.entry)
+    (IsPlacedAt-recorded c.args.shared.now first before after c.rewire_found.new.pass c.args.k c.args.steering.nearest c.args.steering.point
+    c.choose_and_place-placing.result.1 may since c.choose_and_place-placing.ensures.keeps placed c.rewire_found.ensures.seen
+    (subst (All (SeesPair c.rewire_found.new.pass.view)) same c.rewire_found.ensures.pairs)
+    (Rewired-hand c.args.shared.now before after c.rewire_found.new.pass c.args.k c.args.steering.nearest c.args.steering.point
+    c.choose_and_place-placing.result.1 may placed
+    (subst (IsRewiredBy c.args.shared.now after.view c.rewire_found.new.pass.view) same c.rewire_found.ensures.rewired))
+    (subst (λ ns. HasSpreadFalls (space_of c.args.shared.now.task.scene) (Contains ns) (suc c.args.k) after.view c.rewire_found.new.pass.view) same
+    c.rewire_found.ensures.spread) c.record_placed.new.pass c.record_placed.result c.record_placed.ensures.recorded c.record_placed.ensures.entry)
 
 pub returns-in-Same-clause-handled : goal.returns-in-Same-clause-handled
 returns-in-Same-clause-handled g c =
@@ -154,16 +183,20 @@ returns-in-Placed-clause-textbook g c = λ steers filled alone book.
     let tried = of_held before.view (λ hand. IsTried before after hand c.choose_and_place-placing.result.0 hanging) may.hand may.held
     c.choose_and_place-placing.ensures.tried in
     let placed = subst (λ placing. IsTried before after may.hand placing hanging) c.in-Placed.is tried in
-    let whole = subst (λ placing. IsTriedWhole (space_of shared.task.scene) before.view after.view c.args.k p m before.lists.near placing hanging)
+    let whole = subst (λ placing. IsTriedWhole (space_of shared.task.scene) before.view after.view c.args.k p m (numbers_of before.lists.search.found)
+    placing hanging)
     c.in-Placed.is
     (c.choose_and_place-placing.ensures.whole alone.whole) in
     let reach = c.requires.filled.1.filled.in_reach in
-    let filled_class = subst (λ n. IsFilledWhole before.view p n before.lists.near) (sym c.choose_and_place-placing.ensures.class) filled in
+    let filled_class = subst (λ n. IsFilledWhole before.view p n before.lists.search.found) (sym c.choose_and_place-placing.ensures.class) filled in
     let start_clear = (keeps.goes_on.was_lawful.order alone.whole).start_clear in
     let mirrors = Mirrors-tried shared before after c.args.k m p hanging may keeps placed whole reach steers filled_class book start_clear in
-    let rewired = c.rewire.ensures.whole (HasWholeShare-kept shared before after keeps alone.whole) _ mirrors in
-    AloneNext-placed shared before after c.args.k m p hanging may keeps placed whole reach steers filled_class book start_clear c.rewire.new.pass
-    c.record_placed.new.pass c.record_placed.result c.rewire.ensures.seen rewired.0 rewired.1 rewired.2 c.record_placed.ensures.recorded
+    let near = near_new (setup_in before.view.run) (tree_seen before.view).points p in
+    let rises = near-increases (tree_seen before.view).points p _ in
+    let of = subst (λ fs. AreOf fs near) (sym placed.found) (AreOf-weighed may.hand.point before.lists.search.found near filled.found_is) in
+    let rewired = c.rewire_found.ensures.whole (HasWholeShare-kept shared before after keeps alone.whole) _ mirrors near rises of in
+    AloneNext-placed shared before after c.args.k m p hanging may keeps placed whole reach steers filled_class book start_clear c.rewire_found.new.pass
+    c.record_placed.new.pass c.record_placed.result c.rewire_found.ensures.seen rewired.0 rewired.1 rewired.2 c.record_placed.ensures.recorded
     c.record_placed.ensures.entry alone
 
 pub returns-in-Same-clause-textbook : goal.returns-in-Same-clause-textbook
@@ -177,7 +210,8 @@ returns-in-Same-clause-textbook g c = λ steers filled alone book.
     c.choose_and_place-placing.ensures.tried in
     let same = subst (λ placing. IsTried before after may.hand placing hanging) c.in-Same.is tried in
     let whole = subst (λ placing. IsTriedWhole
-    (space_of shared.task.scene) before.view after.view c.args.k c.args.steering.point c.args.steering.nearest before.lists.near placing hanging)
+    (space_of shared.task.scene) before.view after.view c.args.k c.args.steering.point c.args.steering.nearest (numbers_of before.lists.search.found)
+    placing hanging)
     c.in-Same.is (c.choose_and_place-placing.ensures.whole alone.whole) in
     AloneNext-same shared before after c.record_unplaced.new.pass c.args.k c.args.steering.nearest c.in-Same.node c.args.steering.point hanging
     c.record_unplaced.result may c.choose_and_place-placing.ensures.keeps same whole c.record_unplaced.ensures.recorded c.record_unplaced.ensures.entry steers

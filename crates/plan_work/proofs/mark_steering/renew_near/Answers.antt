@@ -24,36 +24,36 @@ returns-then-class-old-clause-filled c = λ first since.
     let after = c.number.new.pass in
     let goes_on = c.number.ensures.goes_on in
     let same : c.class-class.result ≡ c.args.old = omega (arith, c.if-class-old.true) in
-    let was = subst (λ n. HasFilledNear first.view before.view c.args.p n before.lists.near) (sym same) since.filled in
+    let was = subst (λ n. HasFilledNear first.view before.view c.args.p n before.lists.search.found) (sym same) since.filled in
     let is = c.class-class.ensures.value ∙ ap class_of (c.from.ensures ∙ sym c.number.ensures.seen.here) in
-    let near = ap (λ (x : PassState). x.lists.near) c.number.ensures.view in
+    let near = ap (λ (x : PassState). x.lists.search.found) c.number.ensures.view in
     record {
       keeps =
           KeepsRecords-trans c.args.shared.now first before after since.keeps
           (KeepsRecords-number c.args.shared.now before after _ _ c.requires.belongs c.number.ensures.view goes_on c.number.ensures.seen);
       filled =
           subst (HasFilledNear first.view after.view c.args.p c.class-class.result) (sym near)
-          (HasFilledNear-recounted first.view before.view after.view c.args.p c.class-class.result before.lists.near goes_on is was);
+          (HasFilledNear-recounted first.view before.view after.view c.args.p c.class-class.result before.lists.search.found goes_on is was);
     }
 
 pub returns-clause-keeps : goal.returns-clause-keeps
 returns-clause-keeps c =
-    KeepsRecords-trans c.args.shared.now c.args.pass.now c.number.new.pass c.fill_near.new.pass
+    KeepsRecords-trans c.args.shared.now c.args.pass.now c.number.new.pass c.find_near.new.pass
     (KeepsRecords-number c.args.shared.now c.args.pass.now c.number.new.pass _ _ c.requires.belongs c.number.ensures.view c.number.ensures.goes_on
-    c.number.ensures.seen) c.fill_near.ensures.keeps
+    c.number.ensures.seen) c.find_near.ensures.keeps
 
 -- the list was filled anew
 pub returns-clause-filled : goal.returns-clause-filled
 returns-clause-filled c = λ first since.
     let mid = c.number.new.pass in
-    let after = c.fill_near.new.pass in
+    let after = c.find_near.new.pass in
     let counted = KeepsRecords-trans c.args.shared.now first c.args.pass.now mid since.keeps
     (KeepsRecords-number c.args.shared.now c.args.pass.now mid _ _ c.requires.belongs c.number.ensures.view c.number.ensures.goes_on c.number.ensures.seen) in
     record {
-      keeps = KeepsRecords-trans c.args.shared.now first mid after counted c.fill_near.ensures.keeps;
+      keeps = KeepsRecords-trans c.args.shared.now first mid after counted c.find_near.ensures.keeps;
       filled =
-          HasFilledNear-begun first.view mid.view after.view counted.goes_on counted.records c.args.p c.fill_near.result after.lists.near
-          c.fill_near.ensures.filled;
+          HasFilledNear-begun first.view mid.view after.view counted.goes_on counted.records c.args.p c.find_near.result after.lists.search.found
+          c.find_near.ensures.filled;
     }
 
 -- ---- with the share of all workers
@@ -65,10 +65,10 @@ returns-then-class-old-clause-whole c = λ whole counted filled.
     let shown : SeesButCount before.view after.view = λ name other. c.number.ensures.seen.others name other in
     let same : c.class-class.result ≡ c.args.old = omega (arith, c.if-class-old.true) in (
       shown,
-      subst (IsFilledWhole after.view c.args.p c.class-class.result) (sym (ap (λ (x : PassState). x.lists.near) c.number.ensures.view))
-          (subst (λ n. IsFilledWhole after.view c.args.p n before.lists.near) (sym same)
+      subst (IsFilledWhole after.view c.args.p c.class-class.result) (sym (ap (λ (x : PassState). x.lists.search.found) c.number.ensures.view))
+          (subst (λ n. IsFilledWhole after.view c.args.p n before.lists.search.found) (sym same)
           (IsFilledWhole-still before.view after.view c.number.ensures.goes_on.later.run (λ n. shown (PointOf n) (λ e. cc)) c.args.p c.args.old
-          before.lists.near
+          before.lists.search.found
           filled)),
     )
 
@@ -80,5 +80,5 @@ returns-clause-whole c = λ whole counted filled.
     let numbered = KeepsRecords-number shared before mid _ _ c.requires.belongs c.number.ensures.view c.number.ensures.goes_on c.number.ensures.seen in
     let shown : SeesButCount before.view mid.view = λ name other. c.number.ensures.seen.others name other in
     let hand = ap (λ (x : PassState). x.view.hand) c.number.ensures.view in
-    let last = c.fill_near.ensures.whole (HasWholeShare-kept shared before mid numbered whole) (HasCounted-kept before.view mid.view hand counted) in
-    (SeesButCount-trans before.view mid.view c.fill_near.new.pass.view shown last.0, last.1)
+    let last = c.find_near.ensures.whole (HasWholeShare-kept shared before mid numbered whole) (HasCounted-kept before.view mid.view hand counted) in
+    (SeesButCount-trans before.view mid.view c.find_near.new.pass.view shown last.0, last.1)

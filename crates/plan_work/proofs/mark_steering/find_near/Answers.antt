@@ -1,5 +1,7 @@
 use Rattle.std.proofs.Common.{sym, ap, ◌∙◌, subst, arith}
-use Rattle.kd_shared.specs.Searches.{AreNearSeen}
+use Rattle.kd_shared.specs.Searches.{AreGathered}
+use Rattle.plan_work.proofs.FoundNear.{AreOf-gathered}
+use Rattle.tree_rewire.specs.FoundNodes.{AreOf}
 use Rattle.plan_model.specs.Geometry.Radius.{class_of, radius_of_class}
 use Rattle.plan_model.specs.Runs.Textbook.{unplaced_record}
 use Rattle.plan_model.specs.declared.records.Outcome.TheVariants.{Blocked}
@@ -12,7 +14,7 @@ use Rattle.plan_work.proofs.WholeLists.{HasWholeShare-kept, IsFilledWhole-found,
 use Rattle.plan_work.specs.WholeShares.{SeesButCount}
 use Rattle.step_core.specs.Views.{tree_seen}
 use Rattle.step_core.specs.WordNames.Word.{PointOf}
-use Rattle.plan_work.proofs.mark_steering.fill_near.Goals as goal
+use Rattle.plan_work.proofs.mark_steering.find_near.Goals as goal
 use Rattle.step_core.specs.ViewTrees.{sight_in}
 use Rattle.step_core.specs.WordNames.Word.{Count}
 use Rattle.step_core.specs.declared.views.SharedRun.{SharedRun}
@@ -29,28 +31,29 @@ class-requires c =
 
 pub returns-clause-keeps : goal.returns-clause-keeps
 returns-clause-keeps c =
-    KeepsRecords-trans c.args.shared.now c.args.pass.now c.number.new.pass c.near.new.pass
+    KeepsRecords-trans c.args.shared.now c.args.pass.now c.number.new.pass c.gather.new.pass
     (KeepsRecords-number c.args.shared.now c.args.pass.now c.number.new.pass _ _ c.requires.belongs c.number.ensures.view c.number.ensures.goes_on
     c.number.ensures.seen)
-    (KeepsRecords-looks c.args.shared.now c.number.new.pass c.near.new.pass c.near.ensures.belongs c.near.ensures.looks)
+    (KeepsRecords-looks c.args.shared.now c.number.new.pass c.gather.new.pass c.gather.ensures.belongs c.gather.ensures.looks)
 
 pub returns-clause-filled : goal.returns-clause-filled
 returns-clause-filled c =
     let before = c.args.pass.now.view in
     let mid = c.number.new.pass.view in
-    let after = c.near.new.pass.view in
+    let after = c.gather.new.pass.view in
     let nodes = c.number.result in
-    let count = c.near.ensures.looks.looks.others Count (λ no. no) ∙ c.number.ensures.seen.here in
-    let run = c.near.ensures.looks.looks.goes_on.later.run ∙ c.number.ensures.goes_on.later.run ∙ c.requires.belongs.run in
+    let count = c.gather.ensures.looks.looks.others Count (λ no. no) ∙ c.number.ensures.seen.here in
+    let run = c.gather.ensures.looks.looks.goes_on.later.run ∙ c.number.ensures.goes_on.later.run ∙ c.requires.belongs.run in
     let radius =
     c.at.ensures ∙ ap (λ n. radius_of_class n c.args.radii.now.gamma (class_of c.from-nodes.result))
     (c.requires.radii.step ∙ ap (λ (r : SharedRun). r.step) (sym run))
     ∙ ap (λ n. radius_of_class after.run.step n (class_of c.from-nodes.result)) (c.requires.radii.gamma ∙ ap (λ (r : SharedRun). r.gamma) (sym run))
     ∙ ap (radius_of_class after.run.step after.run.gamma) (sym c.class.ensures.value) in
-    HasFilledNear-found before mid after c.number.ensures.goes_on c.near.ensures.looks.looks.goes_on c.args.p nodes c.class.result c.near.new.pass.lists.near
+    HasFilledNear-found before mid after c.number.ensures.goes_on c.gather.ensures.looks.looks.goes_on c.args.p nodes c.class.result
+    c.gather.new.pass.lists.search.found
     (looks_at_count c.args.pass.now c.number.new.pass nodes c.number.ensures.view c.number.ensures.goes_on) c.number.ensures.own count
     (c.class.ensures.value ∙ ap class_of c.from-nodes.ensures)
-    (subst (λ r. AreNearSeen (sight_in mid) (sight_in after) c.args.p r c.near.new.pass.lists.near) radius c.near.ensures.near)
+    (subst (λ r. AreGathered (sight_in mid) (sight_in after) c.args.p r c.gather.new.pass.lists.search.found) radius c.gather.ensures.gathered)
 
 -- by the number of nodes seen, which the count is
 pub returns-clause-whole : goal.returns-clause-whole
@@ -58,12 +61,12 @@ returns-clause-whole c = λ whole counted.
     let shared = c.args.shared.now in
     let before = c.args.pass.now in
     let mid = c.number.new.pass in
-    let after = c.near.new.pass in
+    let after = c.gather.new.pass in
     let numbered = KeepsRecords-number shared before mid _ _ c.requires.belongs c.number.ensures.view c.number.ensures.goes_on c.number.ensures.seen in
     let shown : SeesButCount before.view mid.view = λ name other. c.number.ensures.seen.others name other in
-    let unshown = c.near.ensures.looks.whole (HasWholeShare-kept shared before mid numbered whole) in
+    let unshown = c.gather.ensures.looks.whole (HasWholeShare-kept shared before mid numbered whole) in
     let same = SeesButCount-trans before.view mid.view after.view shown (SeesButCount-all mid.view after.view unshown) in
-    let run = c.near.ensures.looks.looks.goes_on.later.run ∙ c.number.ensures.goes_on.later.run in
+    let run = c.gather.ensures.looks.looks.goes_on.later.run ∙ c.number.ensures.goes_on.later.run in
     let points = points_still before.view after.view run (λ n. same (PointOf n) (λ e. cc)) in
     let nodes = c.from-nodes.ensures ∙ c.number.ensures.whole whole counted ∙ ap node_count (sym points) in
     let own = run ∙ c.requires.belongs.run in
@@ -72,6 +75,7 @@ returns-clause-whole c = λ whole counted.
     (c.requires.radii.step ∙ ap (λ (r : SharedRun). r.step) (sym own))
     ∙ ap (λ n. radius_of_class after.view.run.step n (class_of c.from-nodes.result)) (c.requires.radii.gamma ∙ ap (λ (r : SharedRun). r.gamma) (sym own)) in (
       same,
-      IsFilledWhole-found after.view c.args.p c.from-nodes.result c.class.result after.lists.near c.class.ensures.value nodes
-          (c.near.ensures.near.all ∙ ap (near (tree_seen after.view).points c.args.p) radius),
+      IsFilledWhole-found after.view c.args.p c.from-nodes.result c.class.result after.lists.search.found c.class.ensures.value nodes
+          (subst (λ r. AreOf after.lists.search.found (near (tree_seen after.view).points c.args.p r)) radius
+          (AreOf-gathered (sight_in mid.view) (sight_in after.view) c.args.p c.at.result after.lists.search.found c.gather.ensures.gathered)),
     )

@@ -1,0 +1,25 @@
+-- What a search gathered are the near nodes, each once.
+use Rattle.std.proofs.Common.{◌≡◌, ℕ, ◌∙◌, List, true, ap, sym}
+use Rattle.std.specs.Prelude.{Contains}
+use Rattle.kd_shared.specs.Searches.{AreGathered}
+use Rattle.kd_shared.proofs.SortedNear.{is_within-near, near-within}
+use Rattle.plan_model.proofs.NearNodes.{Contains-near}
+use Rattle.plan_model.specs.Seen.Sights.{Sight}
+use Rattle.plan_model.specs.Trees.Nearness.{is_within, near}
+use Rattle.plan_model.specs.Trees.PointsByNumber.{point_at}
+use Rattle.plan_model.specs.declared.geometry.Point.{Point}
+use Rattle.plan_words.proofs.RisingNumbers.{Contains-number}
+use Rattle.plan_words.specs.declared.spots.Found.{Found}
+use Rattle.tree_rewire.specs.FoundNodes.{AreOf}
+
+pub AreOf-gathered : (before after : Sight) (p : Point) (r : ℕ) (found : List Found) → AreGathered before after p r found
+    → AreOf found (near after.seen.points p r)
+AreOf-gathered before after p r found h = record {
+  once = h.once;
+  all = λ n on. h.all n (near-within after.seen.points p r n on);
+  only = λ n on.
+      let f = Contains-number found n on in
+      let here = h.only f.0 f.1 in
+      Contains-near after.seen.points p r n
+      (ap (λ m. is_within p r (point_at after.seen.points m)) (sym f.2) ∙ ap (is_within p r) here.0 ∙ is_within-near p r f.0.point here.1);
+}
