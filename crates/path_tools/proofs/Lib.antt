@@ -1,0 +1,4 @@
+pub mod RestLaws
+pub mod ClearRests
+pub mod RestEntries
+pub mod Walks

@@ -1,0 +1,2 @@
+pub mod SmoothPaths
+pub mod Rests

@@ -1,0 +1,9 @@
+//! What is made of a path or a report once a run is planned.
+//!
+//! [`smooth`] takes a path over those of its points that make it cheapest.
+#![tactic(auto)]
+
+mod rests;
+mod smoothing;
+
+pub use smoothing::smooth;
